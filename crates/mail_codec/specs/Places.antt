@@ -1,0 +1,40 @@
+-- Places in a list of bytes, counted from 0, and the least place with a property; the project's own words.
+use Rattle.std.specs.Prelude.{◌≡◌, ℕ, suc, ◌+◌, ◌<◌, ◌≤◌, Bool, true, false, ◌&&◌, ◌==◌, nat_lt, List, [], ◌∷◌, length, drop, Option, None, Some, if◌then◌else◌}
+
+-- the least place from which on the rest of the bytes passes the test, or the length where there is none
+abbrev pub first_place : (List ℕ → Bool) → List ℕ → ℕ
+first_place test [] = 0
+first_place test (b ∷ rest) = if test (b ∷ rest) then 0 else suc (first_place test rest)
+
+-- the least such place at or after a start
+abbrev pub first_place_from : (List ℕ → Bool) → ℕ → List ℕ → ℕ
+first_place_from test start bytes = start + first_place test (drop start bytes)
+
+-- the first byte passes the test
+abbrev pub begins : (ℕ → Bool) → List ℕ → Bool
+begins test [] = false
+begins test (b ∷ rest) = test b
+
+-- the bytes begin with that text
+abbrev pub stands : List ℕ → List ℕ → Bool
+stands [] bytes = true
+stands (d ∷ text) [] = false
+stands (d ∷ text) (b ∷ bytes) = d == b && stands text bytes
+
+-- the least place whose rest passes the test, where there is one
+abbrev pub place : (List ℕ → Bool) → List ℕ → Option ℕ
+place test bytes = let p = first_place test bytes in if nat_lt p (length bytes) then Some p else None
+
+-- the first place of a byte
+abbrev pub byte_place : List ℕ → ℕ → Option ℕ
+byte_place bytes byte = place (begins (λ b. b == byte)) bytes
+
+-- the first place where a text stands, and none for the empty text
+abbrev pub text_place : List ℕ → List ℕ → Option ℕ
+text_place bytes text = if length text == 0 then None else place (stands text) bytes
+
+-- p is the least place whose rest passes the test, or the length where no place's rest does
+pub record IsFirstPlace (test : List ℕ → Bool) (bytes : List ℕ) (p : ℕ) : Type 0 where
+  pub within : p ≤ length bytes
+  pub passes : p < length bytes → test (drop p bytes) ≡ true
+  pub before : (k : ℕ) → k < p → test (drop k bytes) ≡ false

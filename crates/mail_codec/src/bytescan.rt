@@ -1,0 +1,35 @@
+//! Searches in bytes. Places are byte numbers counted from 0.
+ghost use Rattle.std.specs.Prelude.{◌≡◌};
+ghost use Rattle.mail_codec.specs.Places.{byte_place, text_place};
+
+/// The first place of `byte` in `haystack`, or `None` where it is absent. Takes no memory.
+///
+/// `find_byte(b"a: b", b':')` is `Some(1)`.
+pub fn find_byte(haystack: &[u8], byte: u8) -> Option<usize>
+    ensures { result ≡ byte_place haystack.now byte }
+{
+    for (place, b) in haystack.iter().enumerate() {
+        if *b == byte {
+            return Some(place);
+        }
+    }
+    None
+}
+
+/// The first place of `haystack` from which on it begins with `needle`, or `None` where there is
+/// none; the empty needle is found nowhere. Takes no memory.
+///
+/// `find(b"hello world", b"o w")` is `Some(4)`.
+pub fn find(haystack: &[u8], needle: &[u8]) -> Option<usize>
+    ensures { result ≡ text_place haystack.now needle.now }
+{
+    if needle.is_empty() {
+        return None;
+    }
+    for place in 0..haystack.len() {
+        if haystack[place..].starts_with(needle) {
+            return Some(place);
+        }
+    }
+    None
+}
