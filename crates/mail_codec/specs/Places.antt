@@ -1,5 +1,5 @@
 -- Places in a list of bytes, counted from 0, and the least place with a property; the project's own words.
-use Rattle.std.specs.Prelude.{◌≡◌, ℕ, suc, ◌+◌, ◌<◌, ◌≤◌, Bool, true, false, ◌&&◌, ◌==◌, nat_lt, List, [], ◌∷◌, length, drop, Option, None, Some, if◌then◌else◌}
+use Rattle.std.specs.Prelude.{◌≡◌, ℕ, zero, suc, ◌+◌, ◌<◌, ◌≤◌, Bool, true, false, ◌&&◌, ◌==◌, nat_lt, List, [], ◌∷◌, length, drop, Option, None, Some, if◌then◌else◌}
 
 -- the least place from which on the rest of the bytes passes the test, or the length where there is none
 abbrev pub first_place : (List ℕ → Bool) → List ℕ → ℕ
@@ -9,6 +9,11 @@ first_place test (b ∷ rest) = if test (b ∷ rest) then 0 else suc (first_plac
 -- the least such place at or after a start
 abbrev pub first_place_from : (List ℕ → Bool) → ℕ → List ℕ → ℕ
 first_place_from test start bytes = start + first_place test (drop start bytes)
+
+-- there are no bytes
+abbrev pub is_empty : List ℕ → Bool
+is_empty [] = true
+is_empty (b ∷ rest) = false
 
 -- the first byte passes the test
 abbrev pub begins : (ℕ → Bool) → List ℕ → Bool
@@ -38,3 +43,8 @@ pub record IsFirstPlace (test : List ℕ → Bool) (bytes : List ℕ) (p : ℕ) 
   pub within : p ≤ length bytes
   pub passes : p < length bytes → test (drop p bytes) ≡ true
   pub before : (k : ℕ) → k < p → test (drop k bytes) ≡ false
+
+-- the least number below the bound that passes the test, or the bound where there is none
+abbrev pub least : (ℕ → Bool) → ℕ → ℕ
+least test zero = 0
+least test (suc bound) = if test 0 then 0 else suc (least (λ n. test (suc n)) bound)

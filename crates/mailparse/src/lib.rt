@@ -1,13 +1,8 @@
-// A library with one function.
+//! Reads mail: headers, the header block and the message.
 #![tactic(auto)]
 
-ghost use Rattle.std.specs.Prelude.{◌≡◌};
-ghost use Rattle.mailparse.specs.Echo.{echo_of};
+mod error;
+mod header;
 
-// The `ensures` clause is the contract: what `echo` returns is `echo_of` of its argument, a definition
-// in `specs/Echo.antt`, which a caller's clause can cite too.
-pub fn echo(x: usize) -> usize
-    ensures { result ≡ echo_of x }
-{
-    x
-}
+pub use error::MailParseError;
+pub use header::{MailHeader, parse_header};

@@ -1,0 +1,45 @@
+-- The block of headers at the front of a message, with the blank line that ends it (RFC 5322, section 2.1).
+use Rattle.std.specs.Prelude.{ℕ, zero, suc, ◌+◌, Bool, ◌&&◌, ◌||◌, not, ◌==◌, nat_lt, List, [], ◌∷◌, length, drop, map, Result, Ok, Err, if◌then◌else◌}
+use Rattle.std.specs.List.{range_with_len}
+use Rattle.mail_codec.specs.Places.{begins, stands, is_empty, least}
+use Rattle.mailparse.specs.Refusal.{Refusal, leading_space, lone_carriage_return}
+use Rattle.mailparse.specs.Header.{Header, header_of, header_length, line_feed, carriage_return, space}
+
+-- the bytes of the blank line that stands here: LF or CR LF, or none
+unfoldable pub blank_line : List ℕ → ℕ
+blank_line bytes = if stands (line_feed ∷ []) bytes then 1 else (if stands (carriage_return ∷ line_feed ∷ []) bytes then 2 else 0)
+
+-- the headers end here: the bytes are at their end or at the blank line
+unfoldable pub headers_end : List ℕ → Bool
+headers_end bytes = is_empty bytes || nat_lt 0 (blank_line bytes)
+
+-- a header stands here
+unfoldable pub has_header : List ℕ → Bool
+has_header bytes = not (headers_end bytes) && (not (begins (λ b. b == carriage_return) bytes) && not (begins (λ b. b == space) bytes))
+
+-- where the header with this number starts: the first at 0, each other where the one before it ends
+unfoldable pub header_place : List ℕ → ℕ → ℕ
+header_place raw zero = 0
+header_place raw (suc j) = header_place raw j + header_length (drop (header_place raw j) raw)
+
+-- the bytes from there on
+abbrev pub rest_at : List ℕ → ℕ → List ℕ
+rest_at raw j = drop (header_place raw j) raw
+
+-- how many headers there are: the least number at whose place none stands
+unfoldable pub header_count : List ℕ → ℕ
+header_count raw = least (λ j. not (has_header (rest_at raw j))) (length raw)
+
+-- the headers, and the place behind the blank line
+pub record Block : Type 0 where
+  pub headers : List Header
+  pub index : ℕ
+
+-- the block at the front of the bytes, or what stands in the place of a header
+unfoldable pub read_block : List ℕ → Result Block Refusal
+read_block raw =
+    let count = header_count raw in
+    let stop = rest_at raw count in
+    if headers_end stop
+    then Ok (record { headers = map (λ j. header_of (rest_at raw j)) (range_with_len 0 count); index = header_place raw count + blank_line stop })
+    else (if begins (λ b. b == carriage_return) stop then Err lone_carriage_return else Err leading_space)

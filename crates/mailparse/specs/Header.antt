@@ -1,0 +1,79 @@
+-- One header at the front of the bytes: where its key, its value and its end stand (RFC 5322, sections 2.2 and
+-- 2.2.3, read as leniently as mail is written). Places are counted from the first of the bytes.
+use Rattle.std.specs.Prelude.{ℕ, suc, ◌+◌, Bool, false, ◌&&◌, ◌||◌, not, ◌==◌, min, List, [], ◌∷◌, length, take, drop, slice_range, Result, Ok, Err, if◌then◌else◌}
+use Rattle.std.specs.List.{list_all}
+use Rattle.mail_codec.specs.Places.{first_place, first_place_from, begins, is_empty}
+use Rattle.mailparse.specs.Refusal.{Refusal, empty_string, leading_space}
+
+abbrev pub tab : ℕ
+tab = 9
+
+abbrev pub line_feed : ℕ
+line_feed = 10
+
+abbrev pub carriage_return : ℕ
+carriage_return = 13
+
+abbrev pub space : ℕ
+space = 32
+
+abbrev pub colon : ℕ
+colon = 58
+
+-- a byte that ends a key
+abbrev pub ends_key : ℕ → Bool
+ends_key b = b == colon || b == line_feed
+
+-- a byte that continues a header on the next line
+abbrev pub is_blank : ℕ → Bool
+is_blank b = b == space || b == tab
+
+-- a byte of a line end
+abbrev pub is_line_end : ℕ → Bool
+is_line_end b = b == carriage_return || b == line_feed
+
+-- a LF stands here that is the last byte or that no blank follows
+abbrev pub ends_header : List ℕ → Bool
+ends_header [] = false
+ends_header (b ∷ rest) = b == line_feed && not (begins is_blank rest)
+
+-- the key ends at the first colon or LF, or at the end
+unfoldable pub key_end : List ℕ → ℕ
+key_end raw = first_place (begins ends_key) raw
+
+-- a colon ends the key
+unfoldable pub has_colon : List ℕ → Bool
+has_colon raw = begins (λ b. b == colon) (drop (key_end raw) raw)
+
+-- the header ends at the first LF behind its colon that no blank follows, without a colon where the key
+-- ends, and at the end where there is no such LF
+unfoldable pub header_end : List ℕ → ℕ
+header_end raw = if has_colon raw then first_place_from ends_header (suc (key_end raw)) raw else key_end raw
+
+-- the bytes that it takes, its LF among them
+unfoldable pub header_length : List ℕ → ℕ
+header_length raw = min (suc (header_end raw)) (length raw)
+
+-- the value starts behind the colon and the spaces there; without a colon it is empty
+unfoldable pub value_start : List ℕ → ℕ
+value_start raw = if has_colon raw then first_place_from (begins (λ b. not (b == space))) (suc (key_end raw)) (take (header_end raw) raw) else key_end raw
+
+-- it ends where nothing but CR and LF is left before the header's end
+unfoldable pub value_end : List ℕ → ℕ
+value_end raw = if has_colon raw then first_place_from (list_all is_line_end) (value_start raw) (take (header_end raw) raw) else key_end raw
+
+-- a header: the bytes of its key and of its value
+pub record Header : Type 0 where
+  pub key : List ℕ
+  pub value : List ℕ
+
+-- the header at the front of the bytes, by those places
+abbrev pub header_of : List ℕ → Header
+header_of raw = record { key = take (key_end raw) raw; value = slice_range raw (value_start raw) (value_end raw) }
+
+-- the header at the front of the bytes and its length, or why there is none
+unfoldable pub read_header : List ℕ → Result (Header × ℕ) Refusal
+read_header raw =
+    if is_empty raw then Err empty_string
+    else (if begins (λ b. b == space) raw then Err leading_space
+    else Ok (header_of raw, header_length raw))

@@ -1,0 +1,18 @@
+-- The refusals of the library, each told from the others by its text; the crate's own rule.
+use Rattle.std.specs.Prelude.{ℕ, List, codes}
+
+-- a refusal that is a plain text
+pub data Refusal : Type 0 where
+  generic : List ℕ → Refusal
+
+-- no bytes where a header was wanted
+abbrev pub empty_string : Refusal
+empty_string = generic (codes "Empty string provided")
+
+-- a space where a header's key was wanted
+abbrev pub leading_space : Refusal
+leading_space = generic (codes "Header cannot start with a space; it is likely an overhanging line from a previous header")
+
+-- a CR that no LF follows where a header or the blank line was wanted
+abbrev pub lone_carriage_return : Refusal
+lone_carriage_return = generic (codes "Headers were followed by an unexpected lone CR character!")

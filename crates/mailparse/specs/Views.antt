@@ -1,0 +1,14 @@
+-- What a contract sees of the types of the library.
+use Rattle.std.specs.Prelude.{ℕ, List, map}
+use Rattle.mailparse.specs.Header.{Header}
+use Rattle.mailparse.specs.Block.{Block}
+use Rattle.mailparse.specs.Mail.{Mail}
+use Rattle.mailparse.specs.declared.header.MailHeader.{MailHeader}
+
+-- a header, as its key and its value
+abbrev pub header : MailHeader → Header
+header h = record { key = h.key.now; value = h.value.now }
+
+-- the headers of a list
+abbrev pub headers : List MailHeader → List Header
+headers list = map header list
