@@ -48,3 +48,8 @@ pub record IsFirstPlace (test : List ℕ → Bool) (bytes : List ℕ) (p : ℕ) 
 abbrev pub least : (ℕ → Bool) → ℕ → ℕ
 least test zero = 0
 least test (suc bound) = if test 0 then 0 else suc (least (λ n. test (suc n)) bound)
+
+-- the values of a function at the numbers below n, in order
+abbrev pub values_below : {X : Type 0} → ℕ → (ℕ → X) → List X
+values_below zero f = []
+values_below (suc n) f = f 0 ∷ values_below n (λ k. f (suc k))

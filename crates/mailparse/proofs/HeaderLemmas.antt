@@ -294,7 +294,7 @@ read_header-space (b ∷ raw) h e = rw e refl
 pub read_header-ok : (raw : List ℕ) → 0 < length raw → (get_or raw 0 0 ≡ 32 → ⊥) → read_header raw ≡ Ok (header_of raw, header_length raw)
 unfolding read_header
 read_header-ok [] h no_space = absurd (omega arith)
-read_header-ok (b ∷ raw) h no_space = let e : eqb b 32 ≡ false = ne_eqb b 32 no_space in rw e refl
+read_header-ok (b ∷ raw) h no_space = let e : eqb 32 b ≡ false = ne_eqb 32 b (λ same. no_space (sym same)) in rw e refl
 
 -- the end of a scan is the header's end
 pub IsScanned-end : (raw : List ℕ) (scan : Scan) (end : ℕ) → IsScanned raw scan end → end ≡ header_end raw

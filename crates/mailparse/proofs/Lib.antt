@@ -1,1 +1,3 @@
 pub mod HeaderLemmas
+pub mod BlockLemmas
+pub mod OutcomeLemmas

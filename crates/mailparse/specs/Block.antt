@@ -1,7 +1,6 @@
 -- The block of headers at the front of a message, with the blank line that ends it (RFC 5322, section 2.1).
-use Rattle.std.specs.Prelude.{ℕ, zero, suc, ◌+◌, Bool, ◌&&◌, ◌||◌, not, ◌==◌, nat_lt, List, [], ◌∷◌, length, drop, map, Result, Ok, Err, if◌then◌else◌}
-use Rattle.std.specs.List.{range_with_len}
-use Rattle.mail_codec.specs.Places.{begins, stands, is_empty, least}
+use Rattle.std.specs.Prelude.{ℕ, zero, suc, ◌+◌, Bool, ◌&&◌, ◌||◌, not, ◌==◌, nat_lt, List, [], ◌∷◌, length, drop, Option, Some, None, Result, Ok, Err, if◌then◌else◌}
+use Rattle.mail_codec.specs.Places.{stands, is_empty, least, values_below}
 use Rattle.mailparse.specs.Refusal.{Refusal, leading_space, lone_carriage_return}
 use Rattle.mailparse.specs.Header.{Header, header_of, header_length, line_feed, carriage_return, space}
 
@@ -15,7 +14,7 @@ headers_end bytes = is_empty bytes || nat_lt 0 (blank_line bytes)
 
 -- a header stands here
 unfoldable pub has_header : List ℕ → Bool
-has_header bytes = not (headers_end bytes) && (not (begins (λ b. b == carriage_return) bytes) && not (begins (λ b. b == space) bytes))
+has_header bytes = not (headers_end bytes) && (not (stands (carriage_return ∷ []) bytes) && not (stands (space ∷ []) bytes))
 
 -- where the header with this number starts: the first at 0, each other where the one before it ends
 unfoldable pub header_place : List ℕ → ℕ → ℕ
@@ -30,6 +29,13 @@ rest_at raw j = drop (header_place raw j) raw
 unfoldable pub header_count : List ℕ → ℕ
 header_count raw = least (λ j. not (has_header (rest_at raw j))) (length raw)
 
+-- what ends the block here: so many bytes of a blank line or of none at the end of the bytes, or a lone CR; nothing
+-- where a header is wanted
+unfoldable pub block_end : List ℕ → Result (Option ℕ) Refusal
+block_end bytes =
+    if headers_end bytes then Ok (Some (blank_line bytes))
+    else (if stands (carriage_return ∷ []) bytes then Err lone_carriage_return else Ok None)
+
 -- the headers, and the place behind the blank line
 pub record Block : Type 0 where
   pub headers : List Header
@@ -41,5 +47,5 @@ read_block raw =
     let count = header_count raw in
     let stop = rest_at raw count in
     if headers_end stop
-    then Ok (record { headers = map (λ j. header_of (rest_at raw j)) (range_with_len 0 count); index = header_place raw count + blank_line stop })
-    else (if begins (λ b. b == carriage_return) stop then Err lone_carriage_return else Err leading_space)
+    then Ok (record { headers = values_below count (λ j. header_of (rest_at raw j)); index = header_place raw count + blank_line stop })
+    else (if stands (carriage_return ∷ []) stop then Err lone_carriage_return else Err leading_space)

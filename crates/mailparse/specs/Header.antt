@@ -2,7 +2,7 @@
 -- 2.2.3, read as leniently as mail is written). Places are counted from the first of the bytes.
 use Rattle.std.specs.Prelude.{ℕ, suc, ◌+◌, Bool, false, ◌&&◌, ◌||◌, not, ◌==◌, min, List, [], ◌∷◌, length, take, drop, slice_range, Result, Ok, Err, if◌then◌else◌}
 use Rattle.std.specs.List.{list_all}
-use Rattle.mail_codec.specs.Places.{first_place, first_place_from, begins, is_empty}
+use Rattle.mail_codec.specs.Places.{first_place, first_place_from, begins, stands, is_empty}
 use Rattle.mailparse.specs.Refusal.{Refusal, empty_string, leading_space}
 
 abbrev pub tab : ℕ
@@ -75,5 +75,5 @@ header_of raw = record { key = take (key_end raw) raw; value = slice_range raw (
 unfoldable pub read_header : List ℕ → Result (Header × ℕ) Refusal
 read_header raw =
     if is_empty raw then Err empty_string
-    else (if begins (λ b. b == space) raw then Err leading_space
+    else (if stands (space ∷ []) raw then Err leading_space
     else Ok (header_of raw, header_length raw))

@@ -1,5 +1,6 @@
 -- What a contract sees of the types of the library.
 use Rattle.std.specs.Prelude.{ℕ, List, map}
+use Rattle.std.specs.Global.{Vec}
 use Rattle.mailparse.specs.Header.{Header}
 use Rattle.mailparse.specs.Block.{Block}
 use Rattle.mailparse.specs.Mail.{Mail}
@@ -12,3 +13,7 @@ header h = record { key = h.key.now; value = h.value.now }
 -- the headers of a list
 abbrev pub headers : List MailHeader → List Header
 headers list = map header list
+
+-- the headers of a block and the place behind it
+abbrev pub block : Vec MailHeader × ℕ → Block
+block found = record { headers = headers found.0.items; index = found.1 }

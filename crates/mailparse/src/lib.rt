@@ -3,6 +3,8 @@
 
 mod error;
 mod header;
+mod header_block;
 
 pub use error::MailParseError;
 pub use header::{MailHeader, parse_header};
+pub use header_block::parse_headers;

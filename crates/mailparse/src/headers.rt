@@ -1,0 +1,41 @@
+//! The header block of a message, to go over its headers and to look them up.
+ghost use Rattle.std.specs.Prelude.{◌≡◌};
+ghost use Rattle.std.specs.Iterator.{SourceItems};
+ghost use Rattle.mailparse.specs.Views.{headers, header_block};
+
+use crate::header::MailHeader;
+use std::slice;
+
+/// The header block of a message: its bytes, and the list of its headers.
+#[derive(Clone, Copy)]
+pub struct Headers<'a> {
+    raw_bytes: &'a [u8],
+    headers: &'a [MailHeader<'a>],
+}
+
+impl<'a> Headers<'a> {
+    /// The headers of a message and the bytes of their block.
+    pub(crate) fn new(raw_bytes: &'a [u8], headers: &'a [MailHeader<'a>]) -> Headers<'a>
+        ensures bytes { (header_block result).bytes ≡ raw_bytes.entry.now }
+        ensures list { (header_block result).headers ≡ headers headers.entry.now }
+    {
+        Headers { raw_bytes, headers }
+    }
+
+    /// The bytes of the header block, the blank line that ends it among them. Takes no memory.
+    pub fn get_raw_bytes(&self) -> &'a [u8]
+        ensures { result.now ≡ (header_block self.now).bytes }
+    {
+        self.raw_bytes
+    }
+}
+
+/// Goes over the headers in the order in which they stand in the message.
+impl<'a> IntoIterator for Headers<'a> {
+    type Item = &'a MailHeader<'a>;
+    type IntoIter = slice::Iter<'a, MailHeader<'a>>;
+
+    fn into_iter(self) -> slice::Iter<'a, MailHeader<'a>> {
+        self.headers.iter()
+    }
+}
