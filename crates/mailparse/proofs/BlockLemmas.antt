@@ -1,23 +1,16 @@
 -- Lemmas on the block of headers: the headers, one after another.
-use Rattle.std.proofs.Common.{◌≡◌, ℕ, zero, suc, ◌+◌, ◌-◌, ◌<◌, ◌≤◌, ◌⊎◌, Bool, true, false, ◌&&◌, ◌||◌, not, cond, eqb, min, nat_eq, Option, Some, None, List, [], ◌∷◌, ◌++◌, length, take, drop, get_or, Result, Ok, Err, refl, sym, ap, subst, ◌∙◌, inl, inr, arith, length-drop, add_assoc, append_assoc, append-nil, zero-add}
+use Rattle.std.proofs.Common.{◌≡◌, ℕ, zero, suc, ◌+◌, ◌-◌, ◌<◌, ◌≤◌, ◌⊎◌, Bool, true, false, ◌&&◌, ◌||◌, not, cond, eqb, min, IsErr, nat_eq, Option, Some, None, List, [], ◌∷◌, ◌++◌, length, take, drop, get_or, Result, Ok, Err, refl, sym, ap, subst, ◌∙◌, inl, inr, arith, length-drop, add_assoc, append_assoc, append-nil, zero-add}
 use Rattle.std.specs.List.{starts_with}
 use Rattle.std.proofs.lemmas.Bool.{cases_lt}
 use Rattle.std.proofs.lemmas.List.{drop-drop}
 use Rattle.std.proofs.Math.ListN.{drop_of_length-le}
 use Rattle.mail_codec.specs.Places.{stands, is_empty, least, values_below}
 use Rattle.mail_codec.proofs.PlaceLemmas.{least-is, least-≤, least-before, least-passes, stands-starts_with}
-use Rattle.mailparse.specs.Refusal.{Refusal, leading_space, lone_carriage_return}
+use Rattle.mailparse.specs.Refusal.{Refusal, empty_string, leading_space, lone_carriage_return}
 use Rattle.mailparse.specs.Header.{Header, header_of, header_end, header_length, read_header}
+use Rattle.mailparse.proofs.HeaderLemmas.{header_length-≤, header_length->}
+use Rattle.mailparse.specs.Mail.{Mail, read_mail}
 use Rattle.mailparse.specs.Block.{Block, blank_line, headers_end, has_header, header_place, rest_at, header_count, block_end, read_block}
-
--- a header takes at least one byte and at most all
-pub header_length-≤ : (raw : List ℕ) → header_length raw ≤ length raw
-unfolding header_length
-header_length-≤ raw = omega arith
-
-pub header_length-> : (raw : List ℕ) → 0 < length raw → 0 < header_length raw
-unfolding header_length
-header_length-> raw h = omega arith
 
 -- where a header stands there are bytes
 pub has_header-nonempty : (bytes : List ℕ) → has_header bytes ≡ true → 0 < length bytes
@@ -366,3 +359,64 @@ pub end_further : (raw : List ℕ) (place taken : ℕ) → place ≤ length raw 
 end_further raw place taken within e =
     let fits = block_end-≤ (drop place raw) taken e in
     omega (arith, length-drop place raw)
+
+length-values_below : {X : Type 0} (n : ℕ) (f : ℕ → X) → length (values_below n f) ≡ n
+length-values_below zero f = refl
+length-values_below (suc n) f = ap suc (length-values_below n (λ k. f (suc k)))
+
+-- the headers and the blank line fit the index, and the index fits the bytes
+pub record Bounded (raw : List ℕ) (block : Block) : Type 0 where
+  pub headers : length block.headers + blank_line (rest_at raw (header_count raw)) ≤ block.index
+  pub index : block.index ≤ length raw
+
+pub read_block-bounded : (raw : List ℕ) (block : Block) → read_block raw ≡ Ok block → Bounded raw block
+read_block-bounded raw block e = by_tests (headers_end (rest_at raw (header_count raw))) (stands (13 ∷ []) (rest_at raw (header_count raw))) refl refl
+  where
+    stop : List ℕ
+    stop = rest_at raw (header_count raw)
+    found : List Header
+    found = values_below (header_count raw) (λ j. header_of (rest_at raw j))
+    at : (h r : Bool) → headers_end stop ≡ h → stands (13 ∷ []) stop ≡ r → cond h (Ok (record { headers = found; index = header_place raw (header_count raw) + blank_line stop })) (cond r (Err lone_carriage_return) (Err leading_space)) ≡ Ok block
+    at h r ends return = sym (read_block-end_at raw ∙ (rw (ends, return) refl)) ∙ e
+    by_tests : (h r : Bool) → headers_end stop ≡ h → stands (13 ∷ []) stop ≡ r → Bounded raw block
+    by_tests true r ends return =
+        let f = at true r ends return in
+        let same : ◌≡◌ {A = Block} (record { headers = found; index = header_place raw (header_count raw) + blank_line stop }) block = cc in
+        let many : length found ≡ header_count raw = length-values_below (header_count raw) (λ j. header_of (rest_at raw j)) in
+        let moved = header_place-≥ raw (header_count raw) (header_count-before raw) in
+        let within = header_place-≤ raw (header_count raw) in
+        let blank = blank_line-≤ stop in
+        subst (λ (b : Block). Bounded raw b) same (record { headers = omega arith; index = omega (arith, length-drop (header_place raw (header_count raw)) raw) })
+    by_tests false true ends return = let f = at false true ends return in absurd (cc)
+    by_tests false false ends return = let f = at false false ends return in absurd (cc)
+
+-- a header that is read takes at least one byte and at most all
+read_header-empty : read_header [] ≡ Err empty_string
+unfolding read_header
+read_header-empty = refl
+
+pub read_header-bounds : (raw : List ℕ) (found : Header × ℕ) → read_header raw ≡ Ok found → (0 < found.1) × (found.1 ≤ length raw)
+read_header-bounds [] found e = let f : ◌≡◌ {A = Result (Header × ℕ) Refusal} (Err empty_string) (Ok found) = sym read_header-empty ∙ e in absurd (cc)
+read_header-bounds (b ∷ raw) found e = by_test (stands (32 ∷ []) (b ∷ raw)) refl
+  where
+    by_test : (s : Bool) → stands (32 ∷ []) (b ∷ raw) ≡ s → (0 < found.1) × (found.1 ≤ suc (length raw))
+    by_test true leads = let f : ◌≡◌ {A = Result (Header × ℕ) Refusal} (Err leading_space) (Ok found) = sym (read_header-at (b ∷ raw) true refl leads) ∙ e in absurd (cc)
+    by_test false leads =
+        let same : found ≡ (header_of (b ∷ raw), header_length (b ∷ raw)) = let f : ◌≡◌ {A = Result (Header × ℕ) Refusal} (Ok (header_of (b ∷ raw), header_length (b ∷ raw))) (Ok found) = sym (read_header-at (b ∷ raw) false refl leads) ∙ e in cc in
+        let size : found.1 ≡ header_length (b ∷ raw) = ap (λ (f : Header × ℕ). f.1) same in
+        let low = header_length-> (b ∷ raw) (omega arith) in
+        let high = header_length-≤ (b ∷ raw) in
+        (omega arith, omega arith)
+
+-- the message whose block is read or refused
+pub read_mail-ok : (raw : List ℕ) (block : Block) → read_block raw ≡ Ok block → read_mail raw ≡ Ok (record { bytes = raw; block = take block.index raw; headers = block.headers; body = drop block.index raw })
+unfolding read_mail
+read_mail-ok raw block e = rw e refl
+
+pub read_mail-err : (raw : List ℕ) (refusal : Refusal) → read_block raw ≡ Err refusal → read_mail raw ≡ Err refusal
+unfolding read_mail
+read_mail-err raw refusal e = rw e refl
+
+-- a refused message is no message
+pub read_mail-not_err : (raw : List ℕ) (block : Block) → read_block raw ≡ Ok block → IsErr (read_mail raw) → ⊥
+read_mail-not_err raw block e refused = let f : false ≡ true = subst (λ (m : Result Mail Refusal). IsErr m) (read_mail-ok raw block e) refused in cc

@@ -307,3 +307,12 @@ unfolding header_length
 header_length-end raw end length_read at cases =
     let within = header_end-≤ raw in
     elim cases [ inl below ↦ (let a = below.0 in let b = below.1 in omega arith) | inr above ↦ (let a = above.0 in let b = above.1 in omega arith) ]
+
+-- a header takes at least one byte and at most all
+pub header_length-≤ : (raw : List ℕ) → header_length raw ≤ length raw
+unfolding header_length
+header_length-≤ raw = omega arith
+
+pub header_length-> : (raw : List ℕ) → 0 < length raw → 0 < header_length raw
+unfolding header_length
+header_length-> raw h = omega arith

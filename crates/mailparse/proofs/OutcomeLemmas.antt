@@ -1,5 +1,5 @@
 -- Lemmas on what a call answered beside what a definition gives.
-use Rattle.std.proofs.Common.{◌≡◌, Result, Ok, Err, alloc_error}
+use Rattle.std.proofs.Common.{◌≡◌, Result, Ok, Err, subst}
 use Rattle.mailparse.specs.Refusal.{Refusal, generic}
 use Rattle.mailparse.specs.Outcome.{IsRefusal, IsRefusalOrMemory, Answers, AnswersInMemory}
 use Rattle.mailparse.specs.declared.error.MailParseError.{MailParseError}
@@ -18,3 +18,7 @@ IsRefusalOrMemory-along (Memory e) x y pass h = tt
 pub IsRefusalOrMemory-from : {Y : Type 0} (e : MailParseError) (x : Result Y Refusal) → IsRefusal e x → IsRefusalOrMemory e x
 IsRefusalOrMemory-from (Generic text) x h = h
 IsRefusalOrMemory-from (Memory e) x h = absurd h
+
+-- what an exact answer that is a value was given by
+pub AnswersInMemory-ok : {X Y : Type 0} (view : X → Y) (result : Result X MailParseError) (given : Result Y Refusal) (x : X) → result ≡ Ok x → AnswersInMemory view result given → given ≡ Ok (view x)
+AnswersInMemory-ok {X = X} {Y = Y} view result given x e h = subst (λ (r : Result X MailParseError). AnswersInMemory view r given) e h

@@ -5,6 +5,11 @@ use Rattle.mailparse.specs.Refusal.{Refusal}
 use Rattle.mailparse.specs.Header.{Header}
 use Rattle.mailparse.specs.Block.{Block, read_block}
 
+-- a header block: its bytes, the blank line among them, and its headers
+pub record HeaderBlock : Type 0 where
+  pub bytes : List ℕ
+  pub headers : List Header
+
 -- a message: all its bytes, those of its block with the blank line, its headers, and the bytes of its body
 pub record Mail : Type 0 where
   pub bytes : List ℕ
@@ -20,3 +25,7 @@ mail_with raw (Err refusal) = Err refusal
 -- the message that the bytes are, or the refusal of its block
 unfoldable pub read_mail : List ℕ → Result Mail Refusal
 read_mail raw = mail_with raw (read_block raw)
+
+-- the header block of a message
+abbrev pub block_of : Mail → HeaderBlock
+block_of mail = record { bytes = mail.block; headers = mail.headers }

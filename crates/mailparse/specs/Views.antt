@@ -3,8 +3,10 @@ use Rattle.std.specs.Prelude.{ℕ, List, map}
 use Rattle.std.specs.Global.{Vec}
 use Rattle.mailparse.specs.Header.{Header}
 use Rattle.mailparse.specs.Block.{Block}
-use Rattle.mailparse.specs.Mail.{Mail}
+use Rattle.mailparse.specs.Mail.{Mail, HeaderBlock}
 use Rattle.mailparse.specs.declared.header.MailHeader.{MailHeader}
+use Rattle.mailparse.specs.declared.headers.Headers.{Headers}
+use Rattle.mailparse.specs.declared.mail.ParsedMail.{ParsedMail}
 
 -- a header, as its key and its value
 abbrev pub header : MailHeader → Header
@@ -17,3 +19,11 @@ headers list = map header list
 -- the headers of a block and the place behind it
 abbrev pub block : Vec MailHeader × ℕ → Block
 block found = record { headers = headers found.0.items; index = found.1 }
+
+-- the bytes of a header block and its headers
+abbrev pub header_block : Headers → HeaderBlock
+header_block block = record { bytes = block.raw_bytes.now; headers = headers block.headers.now }
+
+-- a message: its bytes, its block, the headers that it has now, and its body
+abbrev pub mail : ParsedMail → Mail
+mail m = record { bytes = m.raw_bytes.now; block = m.header_bytes.now; headers = headers m.headers.items; body = m.body_bytes.now }

@@ -1,5 +1,5 @@
 //! One header: where its key, its value and its end stand.
-ghost use Rattle.std.specs.Prelude.{◌≡◌, ◌==◌, not, true, false, take, drop};
+ghost use Rattle.std.specs.Prelude.{◌≡◌, ◌==◌, ◌<◌, ◌≤◌, not, length, take, drop, IfOk};
 ghost use Rattle.std.specs.List.{list_all};
 ghost use Rattle.mail_codec.specs.Places.{first_place, begins};
 ghost use Rattle.mailparse.specs.Header.{space, is_blank, is_line_end, header_of, read_header};
@@ -51,7 +51,8 @@ enum Scan {
 /// `parse_header(b"Subject: Hi\nTo: you")` is a header with the key `Subject` and the value `Hi`,
 /// and 12.
 pub fn parse_header(raw: &[u8]) -> Result<(MailHeader<'_>, usize), MailParseError>
-    ensures { Answers (λ found. (header found.0, found.1)) result (read_header raw.now) }
+    ensures read { Answers (λ found. (header found.0, found.1)) result (read_header raw.now) }
+    ensures bounds { IfOk result (λ found. (0 < found.1) × (found.1 ≤ length raw.now)) }
 {
     let Some(first) = raw.first() else {
         return Err(MailParseError::Generic("Empty string provided"));

@@ -1,5 +1,5 @@
 //! The block of headers at the front of a message.
-ghost use Rattle.std.specs.Prelude.{◌≡◌};
+ghost use Rattle.std.specs.Prelude.{◌≡◌, ◌≤◌, length, vec_len, IfOk};
 ghost use Rattle.mailparse.specs.Block.{block_end, header_count, read_block};
 ghost use Rattle.mailparse.specs.Outcome.{Answers, AnswersInMemory};
 ghost use Rattle.mailparse.specs.Views.{block};
@@ -21,6 +21,7 @@ pub fn parse_headers(
     raw: &[u8],
 ) -> Result<(Vec<MailHeader<'_>>, usize), MailParseError>
     ensures read { AnswersInMemory block result (read_block raw.now) }
+    ensures bounds { IfOk result (λ found. (vec_len found.0 ≤ found.1) × (found.1 ≤ length raw.now)) }
     ensures none { header_count raw.now ≡ 0 → Answers block result (read_block raw.now) }
 {
     let mut headers = Vec::new(alloc);

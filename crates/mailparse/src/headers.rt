@@ -1,7 +1,8 @@
 //! The header block of a message, to go over its headers and to look them up.
 ghost use Rattle.std.specs.Prelude.{◌≡◌};
-ghost use Rattle.std.specs.Iterator.{SourceItems};
-ghost use Rattle.mailparse.specs.Views.{headers, header_block};
+ghost use Rattle.std.specs.Iterator.Runs.{EveryRun, ItemsMapTo};
+ghost use Rattle.std.specs.Slice.Iter.{iter_rest, iter_steps};
+ghost use Rattle.mailparse.specs.Views.{headers as views, header_block};
 
 use crate::header::MailHeader;
 use std::slice;
@@ -17,7 +18,7 @@ impl<'a> Headers<'a> {
     /// The headers of a message and the bytes of their block.
     pub(crate) fn new(raw_bytes: &'a [u8], headers: &'a [MailHeader<'a>]) -> Headers<'a>
         ensures bytes { (header_block result).bytes ≡ raw_bytes.entry.now }
-        ensures list { (header_block result).headers ≡ headers headers.entry.now }
+        ensures list { (header_block result).headers ≡ views headers.entry.now }
     {
         Headers { raw_bytes, headers }
     }
@@ -34,6 +35,9 @@ impl<'a> Headers<'a> {
 impl<'a> IntoIterator for Headers<'a> {
     type Item = &'a MailHeader<'a>;
     type IntoIter = slice::Iter<'a, MailHeader<'a>>;
+
+    ghost use Rattle.mailparse.specs.declared.header.MailHeader.{MailHeader};
+    ghost into_iter_gives = { λ block items. (views (iter_rest items) ≡ (header_block block).headers) × EveryRun (iter_steps {A = MailHeader}) (λ p. ItemsMapTo p (λ y. y.now) (iter_rest p.from)) };
 
     fn into_iter(self) -> slice::Iter<'a, MailHeader<'a>> {
         self.headers.iter()

@@ -1,12 +1,12 @@
 use Rattle.std.proofs.Common.{◌≡◌, suc, ◌+◌, ◌++◌, ◌∷◌, [], Ok, Err, Some, None, Result, Option, ℕ, length, drop, rules, sym, ap, ◌∙◌, arith, length-append}
-use Rattle.std.proofs.lemmas.List.{take_rest, map-append}
+use Rattle.std.proofs.lemmas.List.{take_rest, map-append, length-map}
 use Rattle.std.proofs.lemmas.Result.{err_from_is_err_and}
 use Rattle.mailparse.specs.Refusal.{Refusal}
 use Rattle.mailparse.specs.Header.{Header, read_header}
 use Rattle.mailparse.specs.Block.{read_block, block_end}
 use Rattle.mailparse.specs.Views.{header, headers}
 use Rattle.mailparse.proofs.OutcomeLemmas.{IsRefusal-along, IsRefusalOrMemory-from}
-use Rattle.mailparse.proofs.BlockLemmas.{with_front, refused_further, ended_further, found_further, count_further, place_further, end_further, block_end-err, block_end-header}
+use Rattle.mailparse.proofs.BlockLemmas.{with_front, refused_further, ended_further, found_further, count_further, place_further, end_further, block_end-err, block_end-header, read_block-bounded}
 use Rattle.mailparse.proofs.header_block.parse_headers.Goals as goal
 
 pub returns-in_err-length-clause-none : goal.returns-in_err-length-clause-none
@@ -48,7 +48,7 @@ returns-in_err-header-clause-none c = λ _.
     let p = err_from_is_err_and c.from_residual-in_err-header.result c.from_residual-in_err-header.ensures.1 in
     let raw = c.args.raw.now in
     let rest = drop c.loop-headers.place raw in
-    let refused = rw take_rest at c.in_err-header.ensures in
+    let refused = rw take_rest at c.in_err-header.ensures.read in
     let ends = rw take_rest at c.in_ok-length.ensures in
     rw (p.1, p.2) (IsRefusal-along c.in_err-header.field-0.0 (read_header rest) (read_block raw)
         (λ r e. refused_further raw (headers c.loop-headers.headers.items) c.loop-headers.place c.loop-headers.invariant.all r (block_end-header rest r (ends ∙ ap (λ o. Ok o) c.in_default.is) e)) refused)
@@ -58,14 +58,14 @@ returns-in_err-header-clause-read c =
     let p = err_from_is_err_and c.from_residual-in_err-header.result c.from_residual-in_err-header.ensures.1 in
     let raw = c.args.raw.now in
     let rest = drop c.loop-headers.place raw in
-    let refused = rw take_rest at c.in_err-header.ensures in
+    let refused = rw take_rest at c.in_err-header.ensures.read in
     let ends = rw take_rest at c.in_ok-length.ensures in
     rw (p.1, p.2) (IsRefusalOrMemory-from c.in_err-header.field-0.0 (read_block raw) (IsRefusal-along c.in_err-header.field-0.0 (read_header rest) (read_block raw)
         (λ r e. refused_further raw (headers c.loop-headers.headers.items) c.loop-headers.place c.loop-headers.invariant.all r (block_end-header rest r (ends ∙ ap (λ o. Ok o) c.in_default.is) e)) refused))
 
 pub returns-in_err-push-clause-none : goal.returns-in_err-push-clause-none
 returns-in_err-push-clause-none c = λ none.
-    let found = rw take_rest at c.in_ok-header.ensures in
+    let found = rw take_rest at c.in_ok-header.ensures.read in
     let ends = rw take_rest at c.in_ok-length.ensures in
     let more = count_further c.args.raw.now c.loop-headers.place (header c.in_ok-header.header, c.in_ok-header.length) (ends ∙ ap (λ o. Ok o) c.in_default.is) found in
     let count = c.loop-headers.invariant.count in
@@ -73,14 +73,14 @@ returns-in_err-push-clause-none c = λ none.
 
 pub overflow_add-place : goal.overflow_add-place
 overflow_add-place c =
-    let found = rw take_rest at c.in_ok-header.ensures in
+    let found = rw take_rest at c.in_ok-header.ensures.read in
     let ends = rw take_rest at c.in_ok-length.ensures in
     let fits = (place_further c.args.raw.now c.loop-headers.place (header c.in_ok-header.header, c.in_ok-header.length) c.loop-headers.invariant.within (ends ∙ ap (λ o. Ok o) c.in_default.is) found).1 in
     search rules
 
 pub loop-headers-smaller : goal.loop-headers-smaller
 loop-headers-smaller c =
-    let found = rw take_rest at c.in_ok-header.ensures in
+    let found = rw take_rest at c.in_ok-header.ensures.read in
     let ends = rw take_rest at c.in_ok-length.ensures in
     let moves = place_further c.args.raw.now c.loop-headers.place (header c.in_ok-header.header, c.in_ok-header.length) c.loop-headers.invariant.within (ends ∙ ap (λ o. Ok o) c.in_default.is) found in
     let low = moves.0 in
@@ -91,7 +91,7 @@ pub loop-headers-preserved : goal.loop-headers-preserved
 loop-headers-preserved c =
     let raw = c.args.raw.now in
     let place = c.loop-headers.place in
-    let found = rw take_rest at c.in_ok-header.ensures in
+    let found = rw take_rest at c.in_ok-header.ensures.read in
     let ends = rw take_rest at c.in_ok-length.ensures in
     let none = ends ∙ ap (λ o. Ok o) c.in_default.is in
     let moves = place_further raw place (header c.in_ok-header.header, c.in_ok-header.length) c.loop-headers.invariant.within none found in
@@ -105,3 +105,12 @@ loop-headers-preserved c =
       all = rw pushed (found_further raw (headers c.loop-headers.headers.items) place c.loop-headers.invariant.all (header c.in_ok-header.header, c.in_ok-header.length) none found);
       count = omega arith;
     }
+
+pub returns-in-Some-clause-bounds : goal.returns-in-Some-clause-bounds
+returns-in-Some-clause-bounds c =
+    let ends = rw take_rest at c.in_ok-length.ensures in
+    let bounded = read_block-bounded c.args.raw.now _ (ended_further c.args.raw.now (headers c.loop-headers.headers.items) c.loop-headers.place c.loop-headers.invariant.all c.in-Some.length (ends ∙ ap (λ o. Ok o) c.in-Some.is)) in
+    let many = bounded.headers in
+    let fits = bounded.index in
+    let size : length (headers c.loop-headers.headers.items) ≡ length c.loop-headers.headers.items = length-map c.loop-headers.headers.items header in
+    (omega (arith, c.loop-headers.headers.ok.0), fits)
