@@ -1,1 +1,5 @@
 pub mod PlaceLemmas
+pub mod LabelLemmas
+pub mod MarkLemmas
+pub mod OneByte
+pub mod UnitLemmas

@@ -1,1 +1,3 @@
 pub mod Places
+pub mod Latin1
+pub mod Charset

@@ -1,5 +1,6 @@
-//! Byte searches for reading mail: the lowest layer, over lists of bytes alone.
+//! Codecs of mail: byte searches, charsets and transfer encodings, over lists of bytes alone.
 #![tactic(auto)]
 
 pub mod bytescan;
+pub mod charset;
 pub mod laws;

@@ -1,0 +1,6 @@
+use Rattle.std.proofs.Common.{sym, eqb-true}
+use Rattle.mail_codec.proofs.UnitLemmas.{chars_done}
+use Rattle.mail_codec.proofs.charset.utf16.decode.Goals as goal
+
+pub returns : goal.returns
+returns c = chars_done c.args.order _ c.rest.rest.now _ (eqb-true _ _ (sym c.rest-test.ensures)) c.rest.invariant

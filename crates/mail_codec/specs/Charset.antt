@@ -1,0 +1,137 @@
+-- The charsets that are read, their labels and the text of bytes in each (the WHATWG Encoding
+-- Standard, sections 4.2, 6, 8.1.1, 9.1 and 14), and the text of bytes under no known label, which
+-- is the crate's own rule.
+use Rattle.std.specs.Prelude.{ℕ, ◌+◌, ◌-◌, ◌*◌, Bool, true, false, cond, not, ◌&&◌, List, [], ◌∷◌, ◌++◌, map, take, drop, length, slice_index, nat_eq, nat_lt, Option, Some, None, option_map, find, codes, encode_utf8_all, if◌then◌else◌}
+use Rattle.std.specs.Int.{is_in_range}
+use Rattle.std.specs.List.{list_any, starts_with, prefix_len, suffix_len}
+use Rattle.std.specs.Option.{option_map_or}
+use Rattle.std.specs.Char.{is_ascii_whitespace}
+use Rattle.std.specs.Char.Utf16.{is_high_surrogate, utf16_lossy_chars}
+use Rattle.std.specs.Str.{str_eq_ignore_ascii_case}
+use Rattle.std.specs.Str.Lossy.{utf8_lossy}
+use Rattle.mail_codec.specs.declared.charset.Charset.{Charset}
+use Rattle.mail_codec.specs.declared.charset.Charset.TheVariants.{Utf8, Windows1252, Utf16Le, Utf16Be}
+use Rattle.mail_codec.specs.declared.charset.utf16.ByteOrder.{ByteOrder}
+use Rattle.mail_codec.specs.declared.charset.utf16.ByteOrder.TheVariants.{Little, Big}
+
+-- the character that stands for what is no character
+abbrev pub replacement : ℕ
+replacement = 0xFFFD
+
+-- Labels (section 4.2).
+
+-- the labels of each charset
+abbrev pub utf_8_labels : List (List ℕ)
+utf_8_labels = codes "unicode-1-1-utf-8" ∷ codes "unicode11utf8" ∷ codes "unicode20utf8" ∷ codes "utf-8" ∷ codes "utf8" ∷ codes "x-unicode20utf8" ∷ []
+
+abbrev pub windows_1252_labels : List (List ℕ)
+windows_1252_labels = codes "ansi_x3.4-1968" ∷ codes "ascii" ∷ codes "cp1252" ∷ codes "cp819" ∷ codes "csisolatin1" ∷ codes "ibm819"
+    ∷ codes "iso-8859-1" ∷ codes "iso-ir-100" ∷ codes "iso8859-1" ∷ codes "iso88591" ∷ codes "iso_8859-1" ∷ codes "iso_8859-1:1987"
+    ∷ codes "l1" ∷ codes "latin1" ∷ codes "us-ascii" ∷ codes "windows-1252" ∷ codes "x-cp1252" ∷ []
+
+abbrev pub utf_16be_labels : List (List ℕ)
+utf_16be_labels = codes "unicodefffe" ∷ codes "utf-16be" ∷ []
+
+abbrev pub utf_16le_labels : List (List ℕ)
+utf_16le_labels = codes "csunicode" ∷ codes "iso-10646-ucs-2" ∷ codes "ucs-2" ∷ codes "unicode" ∷ codes "unicodefeff" ∷ codes "utf-16" ∷ codes "utf-16le" ∷ []
+
+-- each charset with its labels
+abbrev pub labels_by_charset : List (Charset × List (List ℕ))
+labels_by_charset = (Utf8, utf_8_labels) ∷ (Windows1252, windows_1252_labels) ∷ (Utf16Be, utf_16be_labels) ∷ (Utf16Le, utf_16le_labels) ∷ []
+
+-- the label without the ASCII white space (space, tab, LF, FF, CR) at its start
+abbrev pub trimmed_at_start : List ℕ → List ℕ
+trimmed_at_start label = drop (prefix_len is_ascii_whitespace label) label
+
+-- the label without it at its end
+abbrev pub trimmed_at_end : List ℕ → List ℕ
+trimmed_at_end label = take (length label - suffix_len is_ascii_whitespace label) label
+
+-- one of the labels is this one, ignoring ASCII case
+unfoldable pub is_among_labels : List (List ℕ) → List ℕ → Bool
+is_among_labels labels label = list_any (λ known. str_eq_ignore_ascii_case label known) labels
+
+-- the charset that has the label, once that is trimmed at both ends
+unfoldable pub charset_of_label : List ℕ → Option Charset
+charset_of_label label =
+    option_map (λ row. row.0) (find (λ row. is_among_labels row.1 (trimmed_at_end (trimmed_at_start label))) labels_by_charset)
+
+-- One byte, one character (section 9.1).
+
+-- the characters of the bytes 80 to 9F in windows-1252
+abbrev pub windows_1252_row : List ℕ
+windows_1252_row =
+    0x20AC ∷ 0x0081 ∷ 0x201A ∷ 0x0192 ∷ 0x201E ∷ 0x2026 ∷ 0x2020 ∷ 0x2021
+    ∷ 0x02C6 ∷ 0x2030 ∷ 0x0160 ∷ 0x2039 ∷ 0x0152 ∷ 0x008D ∷ 0x017D ∷ 0x008F
+    ∷ 0x0090 ∷ 0x2018 ∷ 0x2019 ∷ 0x201C ∷ 0x201D ∷ 0x2022 ∷ 0x2013 ∷ 0x2014
+    ∷ 0x02DC ∷ 0x2122 ∷ 0x0161 ∷ 0x203A ∷ 0x0153 ∷ 0x009D ∷ 0x017E ∷ 0x0178 ∷ []
+
+-- the character of a byte in windows-1252: any other byte is the character of its number
+abbrev pub windows_1252_char : ℕ → ℕ
+windows_1252_char byte = if is_in_range 0x80 0x9F byte then slice_index windows_1252_row (byte - 0x80) else byte
+
+-- the character of a byte below 80 is that of its number, and of the byte 80 + n the n-th of these
+abbrev pub single_byte_char : List ℕ → ℕ → ℕ
+single_byte_char high byte = if nat_lt byte 0x80 then byte else slice_index high (byte - 0x80)
+
+-- the character of a byte in ASCII, and U+FFFD for a byte that is none
+abbrev pub ascii_char : ℕ → ℕ
+ascii_char byte = if nat_lt byte 0x80 then byte else replacement
+
+-- UTF-16 (section 14).
+
+-- the number of two bytes, the first the low or the high one
+abbrev pub unit_of : ByteOrder → ℕ → ℕ → ℕ
+unit_of Little first second = second * 256 + first
+unit_of Big first second = first * 256 + second
+
+-- the units that the bytes make, two by two, without an odd last byte
+abbrev pub units : ByteOrder → List ℕ → List ℕ
+units order [] = []
+units order (first ∷ []) = []
+units order (first ∷ second ∷ bytes) = unit_of order first second ∷ units order bytes
+
+-- the bytes end in one that has no partner
+abbrev pub has_odd_end : List ℕ → Bool
+has_odd_end [] = false
+has_odd_end (first ∷ []) = true
+has_odd_end (first ∷ second ∷ bytes) = has_odd_end bytes
+
+-- the last unit is the first of a pair
+abbrev pub ends_in_high : List ℕ → Bool
+ends_in_high [] = false
+ends_in_high (unit ∷ []) = is_high_surrogate unit
+ends_in_high (unit ∷ next ∷ units) = ends_in_high (next ∷ units)
+
+-- the characters of UTF-16: those of the units, with U+FFFD for each surrogate that has no partner,
+-- and then U+FFFD for an odd last byte, unless a high surrogate stands directly before it, whose
+-- U+FFFD stands for both
+abbrev pub utf_16_chars : ByteOrder → List ℕ → List ℕ
+utf_16_chars order bytes = utf16_lossy_chars (units order bytes)
+    ++ (if has_odd_end bytes && not (ends_in_high (units order bytes)) then replacement ∷ [] else [])
+
+-- The text of bytes, in UTF-8.
+
+-- the text of bytes in a charset; a byte order mark is read as any other bytes are
+unfoldable pub text_of : Charset → List ℕ → List ℕ
+text_of Utf8 bytes = utf8_lossy bytes
+text_of Windows1252 bytes = encode_utf8_all (map windows_1252_char bytes)
+text_of Utf16Le bytes = encode_utf8_all (utf_16_chars Little bytes)
+text_of Utf16Be bytes = encode_utf8_all (utf_16_chars Big bytes)
+
+-- each charset that has a byte order mark, with the mark (section 6)
+abbrev pub byte_order_marks : List (Charset × List ℕ)
+byte_order_marks = (Utf8, 0xEF ∷ 0xBB ∷ 0xBF ∷ []) ∷ (Utf16Be, 0xFE ∷ 0xFF ∷ []) ∷ (Utf16Le, 0xFF ∷ 0xFE ∷ []) ∷ []
+
+-- the mark that the bytes begin with, and its charset
+abbrev pub mark_at_start : List ℕ → Option (Charset × List ℕ)
+mark_at_start bytes = find (λ mark. starts_with nat_eq bytes mark.1) byte_order_marks
+
+-- the text of bytes in a charset, where a byte order mark is removed and overrules the charset
+unfoldable pub marked_text_of : Charset → List ℕ → List ℕ
+marked_text_of charset bytes =
+    option_map_or (λ mark. text_of mark.0 (drop (length mark.1) bytes)) (mark_at_start bytes) (text_of charset bytes)
+
+-- the text of bytes under no known label: ASCII, with U+FFFD for each other byte
+abbrev pub ascii_text : List ℕ → List ℕ
+ascii_text bytes = encode_utf8_all (map ascii_char bytes)

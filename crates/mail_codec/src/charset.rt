@@ -1,0 +1,115 @@
+//! The charsets of mail text: their labels, and the text of bytes in each.
+ghost use Rattle.std.specs.Prelude.{◌≡◌, ◌↔◌, length, option_map, IfOk, IsOk, IsAscii, string_bytes};
+ghost use Rattle.std.specs.Cow.{cow_str_bytes, IsBorrowedStr};
+ghost use Rattle.mail_codec.specs.Charset.{ascii_text, charset_of_label, mark_at_start, marked_text_of, text_of};
+ghost use Rattle.mail_codec.specs.Latin1.{latin1_text};
+
+mod labels;
+mod single_byte;
+#[cfg(test)]
+mod tests;
+mod utf16;
+
+use self::utf16::ByteOrder;
+use bstr::ByteSlice;
+use std::alloc::{AllocError, Global};
+use std::borrow::CowStr;
+
+/// A charset whose bytes can be read.
+#[derive(Clone, Copy, Debug, PartialEq, Eq)]
+pub enum Charset {
+    /// UTF-8.
+    Utf8,
+    /// windows-1252, which the labels of ASCII and Latin-1 mean too.
+    Windows1252,
+    /// UTF-16, the low byte of each unit first.
+    Utf16Le,
+    /// UTF-16, the high byte of each unit first.
+    Utf16Be,
+}
+
+impl Charset {
+    /// The charset that has the label: trimmed of ASCII white space (space, tab, LF, FF, CR) at both
+    /// ends, and ignoring ASCII case (the WHATWG Encoding Standard, section 4.2).
+    ///
+    /// `None` where no charset here has it. It takes no memory.
+    pub fn for_label(label: &[u8]) -> Option<Charset>
+        ensures { result ≡ charset_of_label label.now }
+    {
+        labels::charset_of(label.trim_ascii())
+    }
+
+    /// The text of the bytes in this charset, or in the one whose byte order mark they begin with: a
+    /// mark is removed, and overrules the charset (the WHATWG Encoding Standard, section 6).
+    ///
+    /// What is no character reads as U+FFFD. The error is want of memory.
+    pub fn decode(self, alloc: Global, bytes: &[u8]) -> Result<String, AllocError>
+        ensures { IfOk result (λ t. string_bytes t ≡ marked_text_of self bytes.now) }
+    {
+        match marked(bytes) {
+            Some((charset, length)) => {
+                charset.decode_without_bom_handling(alloc, &bytes[length..])
+            }
+            None => self.decode_without_bom_handling(alloc, bytes),
+        }
+    }
+
+    /// The text of the bytes in this charset, a byte order mark read as any other bytes are (the WHATWG
+    /// Encoding Standard, sections 8, 9.1 and 14).
+    ///
+    /// What is no character reads as U+FFFD. The error is want of memory.
+    pub fn decode_without_bom_handling(
+        self,
+        alloc: Global,
+        bytes: &[u8],
+    ) -> Result<String, AllocError>
+        ensures { IfOk result (λ t. string_bytes t ≡ text_of self bytes.now) }
+    {
+        match self {
+            Charset::Utf8 => bytes.to_str_lossy(alloc)?.into_owned(alloc),
+            Charset::Windows1252 => single_byte::decode_windows_1252(alloc, bytes),
+            Charset::Utf16Le => utf16::decode(alloc, ByteOrder::Little, bytes),
+            Charset::Utf16Be => utf16::decode(alloc, ByteOrder::Big, bytes),
+        }
+    }
+}
+
+/// The charset whose byte order mark the bytes begin with, and the length of the mark.
+fn marked(bytes: &[u8]) -> Option<(Charset, usize)>
+    ensures { result ≡ option_map (λ mark. (mark.0, length mark.1)) (mark_at_start bytes.now) }
+{
+    if bytes.starts_with(b"\xEF\xBB\xBF") {
+        Some((Charset::Utf8, 3))
+    } else if bytes.starts_with(b"\xFE\xFF") {
+        Some((Charset::Utf16Be, 2))
+    } else if bytes.starts_with(b"\xFF\xFE") {
+        Some((Charset::Utf16Le, 2))
+    } else {
+        None
+    }
+}
+
+/// The Latin-1 text of the bytes: one character for each byte, the one of its number, from U+0000 to
+/// U+00FF (ISO/IEC 8859-1).
+///
+/// Where all bytes are ASCII, and only there, it borrows them; then it takes no memory and succeeds.
+/// The error is want of memory.
+pub fn decode_latin1(alloc: Global, bytes: &[u8]) -> Result<CowStr<'_>, AllocError>
+    ensures text { IfOk result (λ t. cow_str_bytes t ≡ latin1_text bytes.now) }
+    ensures borrowed { IfOk result (λ t. IsBorrowedStr t ↔ IsAscii bytes.now) }
+    ensures succeeds { IsAscii bytes.now → IsOk result }
+{
+    single_byte::decode(alloc, &single_byte::LATIN_1, bytes)
+}
+
+/// The ASCII text of the bytes, with U+FFFD for each byte at or above 0x80.
+///
+/// Where all bytes are ASCII, and only there, it borrows them; then it takes no memory and succeeds.
+/// The error is want of memory.
+pub fn decode_ascii(alloc: Global, bytes: &[u8]) -> Result<CowStr<'_>, AllocError>
+    ensures text { IfOk result (λ t. cow_str_bytes t ≡ ascii_text bytes.now) }
+    ensures borrowed { IfOk result (λ t. IsBorrowedStr t ↔ IsAscii bytes.now) }
+    ensures succeeds { IsAscii bytes.now → IsOk result }
+{
+    single_byte::decode(alloc, &single_byte::ASCII, bytes)
+}

@@ -1,0 +1,81 @@
+//! UTF-16, two bytes a unit (the WHATWG Encoding Standard, section 14).
+ghost use Rattle.std.specs.Prelude.{◌≡◌, ◌<◌, ◌≤◌, ◌∷◌, length, drop, if◌then◌else◌, IsTrue, IfOk, encode_utf8_all, string_bytes};
+ghost use Rattle.std.specs.Char.Utf16.{is_high_surrogate, is_low_surrogate, surrogate_pair_char};
+ghost use Rattle.mail_codec.specs.Charset.{unit_of, utf_16_chars};
+
+use std::alloc::{AllocError, Global};
+
+/// Which byte of a unit comes first.
+#[derive(Clone, Copy)]
+pub(crate) enum ByteOrder {
+    /// The low one.
+    Little,
+    /// The high one.
+    Big,
+}
+
+impl ByteOrder {
+    /// The unit of two bytes.
+    fn unit(self, first: u8, second: u8) -> u16
+        ensures { result ≡ unit_of self first second }
+    {
+        match self {
+            ByteOrder::Little => u16::from(second) * 256 + u16::from(first),
+            ByteOrder::Big => u16::from(first) * 256 + u16::from(second),
+        }
+    }
+}
+
+/// The text of the bytes.
+pub(crate) fn decode(alloc: Global, order: ByteOrder, bytes: &[u8]) -> Result<String, AllocError>
+    ensures { IfOk result (λ t. string_bytes t ≡ encode_utf8_all (utf_16_chars order bytes.now)) }
+{
+    let mut text = String::with_capacity(alloc, bytes.len() / 2)?;
+    let mut rest = bytes;
+    'rest: while !rest.is_empty() {
+        let (character, length) = first_char(order, rest);
+        text.push(character)?;
+        rest = &rest[length..];
+    }
+    Ok(text)
+}
+
+/// The character at the front, and how many bytes it takes.
+fn first_char(order: ByteOrder, bytes: &[u8]) -> (char, usize)
+    requires { 0 < length bytes.now }
+    ensures chars { utf_16_chars order bytes.now ≡ result.0 ∷ utf_16_chars order (drop result.1 bytes.now) }
+    ensures takes_some { 0 < result.1 }
+    ensures takes_within { result.1 ≤ length bytes.now }
+{
+    let count = bytes.len();
+    if count < 2 {
+        return (char::REPLACEMENT_CHARACTER, 1);
+    }
+    let unit = order.unit(bytes[0], bytes[1]);
+    if let Some(character) = char::from_u32(u32::from(unit)) {
+        return (character, 2);
+    }
+    if 0xDC00 <= unit {
+        return (char::REPLACEMENT_CHARACTER, 2);
+    }
+    // A high surrogate at the end, with an odd byte after it or with none.
+    if count < 4 {
+        return (char::REPLACEMENT_CHARACTER, count);
+    }
+    match pair(unit, order.unit(bytes[2], bytes[3])) {
+        Some(character) => (character, 4),
+        None => (char::REPLACEMENT_CHARACTER, 2),
+    }
+}
+
+/// The character of a high surrogate and the unit after it, where that is a low one.
+fn pair(high: u16, low: u16) -> Option<char>
+    requires { IsTrue (is_high_surrogate high) }
+    ensures { result ≡ (if is_low_surrogate low then Some (surrogate_pair_char high low) else None) }
+{
+    if low < 0xDC00 || 0xE000 <= low {
+        return None;
+    }
+    let above = (u32::from(high) - 0xD800) * 0x400 + (u32::from(low) - 0xDC00);
+    char::from_u32(0x1_0000 + above)
+}

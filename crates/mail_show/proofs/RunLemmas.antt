@@ -1,0 +1,47 @@
+-- Lemmas on what a run does to its reader and its writer.
+use Rattle.std.proofs.Common.{◌≡◌, ℕ, false, List, Option, Some, None, Result, Ok, Err, IfSome, OnOk, is_err, refl, sym, ap, ◌∙◌, subst}
+use Rattle.std.specs.Io.KnownBytes.{Keeps, Appends, IsAtEnd}
+use Rattle.std.proofs.KnownBytes.{Keeps-refl, Appends-kept}
+use Rattle.mailparse.specs.Mail.{Mail, read_mail}
+use Rattle.mailparse.specs.Refusal.{Refusal, generic}
+use Rattle.mailparse.specs.Outcome.{IsRefusalOrMemory}
+use Rattle.mailparse.specs.declared.error.MailParseError.{MailParseError}
+use Rattle.mailparse.specs.declared.error.MailParseError.TheVariants.{Generic, Memory}
+use Rattle.mail_show.specs.Shown.{mail_text, shown}
+use Rattle.mail_show.specs.Run.{HasShown, RefusesInput}
+
+-- what is shown of an input that is a message, and of one that is refused
+shown-ok : (input : List ℕ) (mail : Mail) → read_mail input ≡ Ok mail → shown input ≡ Ok (mail_text mail)
+unfolding shown
+shown-ok input mail e = rw e refl
+
+shown-err : (input : List ℕ) (refusal : Refusal) → read_mail input ≡ Err refusal → shown input ≡ Err refusal
+unfolding shown
+shown-err input refusal e = rw e refl
+
+-- a message that is refused is the whole input
+pub run-refused : (left_before left held : Option (List ℕ)) (input : List ℕ) (e : MailParseError)
+    → IsAtEnd left × IfSome left_before (λ all. input ≡ all) → IsRefusalOrMemory e (read_mail input)
+    → Keeps held held × RefusesInput left_before left e
+run-refused None left held input (Generic text) read refused = (Keeps-refl held, (read.0, tt))
+run-refused (Some all) left held input (Generic text) read refused =
+    let same : read_mail all ≡ Err (generic text.now) = ap read_mail (sym read.1) ∙ refused in
+    (Keeps-refl held, (read.0, shown-err all (generic text.now) same))
+run-refused left_before left held input (Memory e) read refused = (Keeps-refl held, tt)
+
+-- a text that is written is that of the whole input
+pub run-shown : (left_before left held_before held_written held : Option (List ℕ)) (input text : List ℕ) (mail : Mail)
+    → IsAtEnd left × IfSome left_before (λ all. input ≡ all) → read_mail input ≡ Ok mail → text ≡ mail_text mail
+    → Appends held_before held_written text → Keeps held_written held → HasShown left_before left held_before held
+run-shown None left held_before held_written held input text mail read e is_text wrote kept = record { read = read.0; wrote = tt }
+run-shown (Some all) left held_before held_written held input text mail read e is_text wrote kept =
+    let same : shown all ≡ Ok text = shown-ok all mail (ap read_mail (sym read.1) ∙ e) ∙ ap (λ t. Ok t) (sym is_text) in
+    record { read = read.0; wrote = (text, same, Appends-kept held_before held_written held text wrote kept) }
+
+-- what holds of a result that is no error
+pub OnOk-at : {T E : Type 0} (P : Type 0) (r : Result T E) → is_err r ≡ false → OnOk r P → P
+OnOk-at P (Ok x) e h = h
+OnOk-at P (Err d) e h = absurd (differ e)
+  where
+    differ : is_err {T = Unit {0}} (Err (tt {0})) ≡ false → ⊥
+    differ f = cc

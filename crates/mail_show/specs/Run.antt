@@ -1,0 +1,37 @@
+-- What a run of the program does to its reader and its writer, where these tell their bytes.
+use Rattle.std.specs.Prelude.{◌≡◌, ℕ, List, Option, Some, Result, Ok, Err, IfSome}
+use Rattle.std.specs.Global.{Vec}
+use Rattle.std.specs.Io.KnownBytes.{Keeps, Appends, IsAtEnd}
+use Rattle.mailparse.specs.Outcome.{IsRefusalOrMemory}
+use Rattle.mailparse.specs.Refusal.{Refusal}
+use Rattle.mailparse.specs.declared.error.MailParseError.{MailParseError}
+use Rattle.mailparse.specs.declared.error.MailParseError.TheVariants.{Generic, Memory}
+use Rattle.mail_show.specs.Shown.{shown}
+use Rattle.mail_show.specs.declared.run.ShowFault.{ShowFault}
+use Rattle.mail_show.specs.declared.run.ShowFault.TheVariants.{Mail, Input, Output}
+
+-- all was read, and the text of the input was written and nothing else
+pub record HasShown (left_before left held_before held : Option (List ℕ)) : Type 0 where
+  pub read : IsAtEnd left
+  pub wrote : IfSome left_before (λ input. (text : List ℕ) × (shown input ≡ Ok text) × Appends held_before held text)
+
+-- memory ran out; or all was read, and the input is refused so
+abbrev pub RefusesInput : Option (List ℕ) → Option (List ℕ) → MailParseError → Type 0
+RefusesInput left_before left (Memory e) = Unit {0}
+RefusesInput left_before left (Generic text) = IsAtEnd left × IfSome left_before (λ input. IsRefusalOrMemory (Generic text) (shown input))
+
+-- what reading to the end gives: all that the reader had left; a fault is want of memory or of the input
+abbrev pub IsRead : (left_before left : Option (List ℕ)) → Result (Vec ℕ) ShowFault → Type 0
+IsRead left_before left (Ok input) = IsAtEnd left × IfSome left_before (λ all. input.items ≡ all)
+IsRead left_before left (Err (Mail (Memory e))) = Unit {0}
+IsRead left_before left (Err (Mail (Generic text))) = ⊥
+IsRead left_before left (Err Input) = Unit {0}
+IsRead left_before left (Err Output) = ⊥
+
+-- what a run leaves: after a fault of the mail or of the input nothing is written, and a fault of the mail is that of the
+-- whole input
+abbrev pub Runs : (left_before left held_before held : Option (List ℕ)) → Result (Unit {0}) ShowFault → Type 0
+Runs left_before left held_before held (Ok done) = HasShown left_before left held_before held
+Runs left_before left held_before held (Err (Mail e)) = Keeps held_before held × RefusesInput left_before left e
+Runs left_before left held_before held (Err Input) = Keeps held_before held
+Runs left_before left held_before held (Err Output) = Unit {0}
