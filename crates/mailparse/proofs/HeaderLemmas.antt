@@ -10,8 +10,8 @@ use Rattle.mail_codec.proofs.PlaceLemmas.{first_place-≤, first_place-here, fir
 use Rattle.mailparse.specs.Header.{ends_key, Header, is_blank, is_line_end, ends_header, key_end, has_colon, header_end, value_start, value_end, header_of, header_length, read_header}
 use Rattle.mailparse.specs.Refusal.{empty_string, leading_space}
 use Rattle.mailparse.specs.Scan.{IsScanned}
-use Rattle.mailparse.specs.declared.header.Scan.{Scan}
-use Rattle.mailparse.specs.declared.header.Scan.TheVariants.{Key, Value}
+use Rattle.mailparse.specs.declared.mail_header.Scan.{Scan}
+use Rattle.mailparse.specs.declared.mail_header.Scan.TheVariants.{Key, Value}
 
 -- the scan has come to place i: in the key, or behind the colon that ends it
 abbrev pub Scanning : List ℕ → Scan → ℕ → Type 0

@@ -4,7 +4,7 @@ use Rattle.std.specs.Global.{Vec}
 use Rattle.mailparse.specs.Header.{Header}
 use Rattle.mailparse.specs.Block.{Block}
 use Rattle.mailparse.specs.Mail.{Mail, HeaderBlock}
-use Rattle.mailparse.specs.declared.header.MailHeader.{MailHeader}
+use Rattle.mailparse.specs.declared.mail_header.MailHeader.{MailHeader}
 use Rattle.mailparse.specs.declared.headers.Headers.{Headers}
 use Rattle.mailparse.specs.declared.mail.ParsedMail.{ParsedMail}
 

@@ -5,7 +5,7 @@ ghost use Rattle.mailparse.specs.Outcome.{Answers, AnswersInMemory};
 ghost use Rattle.mailparse.specs.Views.{block};
 
 use crate::error::MailParseError;
-use crate::header::{MailHeader, parse_header};
+use crate::mail_header::{MailHeader, parse_header};
 use std::alloc::Global;
 
 /// Reads the headers at the front of `raw` up to the blank line that ends them, or to the end of

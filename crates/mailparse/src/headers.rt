@@ -4,7 +4,7 @@ ghost use Rattle.std.specs.Iterator.Runs.{EveryRun, ItemsMapTo};
 ghost use Rattle.std.specs.Slice.Iter.{iter_rest, iter_steps};
 ghost use Rattle.mailparse.specs.Views.{headers as views, header_block};
 
-use crate::header::MailHeader;
+use crate::mail_header::MailHeader;
 use std::slice;
 
 /// The header block of a message: its bytes, and the list of its headers.
@@ -36,7 +36,7 @@ impl<'a> IntoIterator for Headers<'a> {
     type Item = &'a MailHeader<'a>;
     type IntoIter = slice::Iter<'a, MailHeader<'a>>;
 
-    ghost use Rattle.mailparse.specs.declared.header.MailHeader.{MailHeader};
+    ghost use Rattle.mailparse.specs.declared.mail_header.MailHeader.{MailHeader};
     ghost into_iter_gives = { λ block items. (views (iter_rest items) ≡ (header_block block).headers) × EveryRun (iter_steps {A = MailHeader}) (λ p. ItemsMapTo p (λ y. y.now) (iter_rest p.from)) };
 
     fn into_iter(self) -> slice::Iter<'a, MailHeader<'a>> {

@@ -6,7 +6,7 @@ ghost use Rattle.mailparse.specs.Outcome.{Answers, AnswersInMemory};
 ghost use Rattle.mailparse.specs.Views.{header_block, mail};
 
 use crate::error::MailParseError;
-use crate::header::MailHeader;
+use crate::mail_header::MailHeader;
 use crate::header_block::parse_headers;
 use crate::headers::Headers;
 use std::alloc::Global;

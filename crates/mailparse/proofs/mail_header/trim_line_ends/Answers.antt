@@ -1,5 +1,5 @@
 use Rattle.mailparse.proofs.HeaderLemmas.{TrimmedTo-last, is_line_end-false}
-use Rattle.mailparse.proofs.header.trim_line_ends.Goals as goal
+use Rattle.mailparse.proofs.mail_header.trim_line_ends.Goals as goal
 
 pub returns-then-last-ne10 : goal.returns-then-last-ne10
 returns-then-last-ne10 c =

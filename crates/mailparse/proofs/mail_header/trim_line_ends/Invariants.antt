@@ -1,6 +1,6 @@
 use Rattle.std.proofs.Common.{length}
 use Rattle.mailparse.proofs.HeaderLemmas.{TrimmedTo}
-use Rattle.mailparse.proofs.header.trim_line_ends.Given as goal
+use Rattle.mailparse.proofs.mail_header.trim_line_ends.Given as goal
 
 abbrev pub invariant-loop-last : goal.invariant-loop-last
 invariant-loop-last l = TrimmedTo l.bytes l.rest

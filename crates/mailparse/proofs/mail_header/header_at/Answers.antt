@@ -1,6 +1,6 @@
 use Rattle.std.proofs.Common.{rules, refl, sym, arith}
 use Rattle.mailparse.proofs.HeaderLemmas.{IsScanned-key, IsScanned-value, IsScanned-≤, IsScanned-<, header_of-key, header_of-value}
-use Rattle.mailparse.proofs.header.header_at.Goals as goal
+use Rattle.mailparse.proofs.mail_header.header_at.Goals as goal
 
 pub slice_bounds-result-end : goal.slice_bounds-result-end
 slice_bounds-result-end c = let within = IsScanned-≤ c.args.raw.now c.args.scan c.args.end c.requires in search rules

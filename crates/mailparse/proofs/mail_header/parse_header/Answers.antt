@@ -2,8 +2,8 @@ use Rattle.std.proofs.Common.{◌≡◌, ◌<◌, length, arith, Ok, inl, inr, r
 use Rattle.mailparse.proofs.HeaderLemmas.{read_header-empty, read_header-space, read_header-ok, IsScanned-end, header_length-end, header_length-≤, header_length->}
 use Rattle.mailparse.specs.Header.{header_length}
 use Rattle.mailparse.specs.Views.{header}
-use Rattle.mailparse.proofs.header.parse_header.Goals as goal
-use Rattle.mailparse.proofs.header.parse_header.Goals.{then-end-raw, else-end-raw}
+use Rattle.mailparse.proofs.mail_header.parse_header.Goals as goal
+use Rattle.mailparse.proofs.mail_header.parse_header.Goals.{then-end-raw, else-end-raw}
 
 pub returns-in_default-clause-read : goal.returns-in_default-clause-read
 returns-in_default-clause-read c = read_header-empty c.args.raw.now (search rules)
