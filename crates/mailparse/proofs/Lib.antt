@@ -1,3 +1,4 @@
 pub mod HeaderLemmas
 pub mod BlockLemmas
 pub mod OutcomeLemmas
+pub mod KeyLemmas

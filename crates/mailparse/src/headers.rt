@@ -29,6 +29,13 @@ impl<'a> Headers<'a> {
     {
         self.raw_bytes
     }
+
+    /// The headers.
+    pub(crate) fn list(&self) -> &[MailHeader<'a>]
+        ensures { result.now ≡ self.now.headers.now }
+    {
+        self.headers
+    }
 }
 
 /// Goes over the headers in the order in which they stand in the message.

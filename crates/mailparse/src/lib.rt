@@ -2,12 +2,14 @@
 #![tactic(auto)]
 
 mod error;
-mod mail_header;
 mod header_block;
+mod header_map;
 pub mod headers;
 mod mail;
+mod mail_header;
 
 pub use error::MailParseError;
-pub use mail_header::{MailHeader, parse_header};
 pub use header_block::parse_headers;
+pub use header_map::MailHeaderMap;
 pub use mail::{ParsedMail, parse_mail};
+pub use mail_header::{MailHeader, parse_header};

@@ -1,13 +1,18 @@
 //! One header: where its key, its value and its end stand.
-ghost use Rattle.std.specs.Prelude.{◌≡◌, ◌==◌, ◌<◌, ◌≤◌, not, length, take, drop, IfOk};
+ghost use Rattle.std.specs.Prelude.{◌≡◌, ◌↔◌, ◌==◌, ◌<◌, ◌≤◌, not, length, take, drop, IfOk, IsOk, IsAscii, string_bytes};
+ghost use Rattle.std.specs.Cow.{cow_str_bytes, IsBorrowedStr};
 ghost use Rattle.std.specs.List.{list_all};
 ghost use Rattle.mail_codec.specs.Places.{first_place, begins};
 ghost use Rattle.mailparse.specs.Header.{space, is_blank, is_line_end, header_of, read_header};
-ghost use Rattle.mailparse.specs.Outcome.{Answers};
+ghost use Rattle.mailparse.specs.Keys.{key_text};
+ghost use Rattle.mailparse.specs.Outcome.{Answers, AnswersInMemory};
 ghost use Rattle.mailparse.specs.Scan.{IsScanned};
 ghost use Rattle.mailparse.specs.Views.{header};
 
 use crate::error::MailParseError;
+use mail_codec::charset::decode_latin1;
+use std::alloc::Global;
+use std::borrow::CowStr;
 
 /// A header of a message: the bytes of its key and of its value, as they stand in the message.
 #[derive(Drop)]
@@ -17,6 +22,25 @@ pub struct MailHeader<'a> {
 }
 
 impl<'a> MailHeader<'a> {
+    /// The text of the key: one character for each byte, the one of its number (ISO/IEC 8859-1).
+    /// The error is want of memory.
+    pub fn get_key(&self, alloc: Global) -> Result<String, MailParseError>
+        ensures { AnswersInMemory (λ text. string_bytes text) result (Ok (key_text (header self.now))) }
+    {
+        let text = decode_latin1(alloc, self.key)?;
+        Ok(text.into_owned(alloc)?)
+    }
+
+    /// The text of the key, borrowed exactly where all its bytes are ASCII: then it takes no memory
+    /// and succeeds. Else the error is want of memory.
+    pub fn get_key_ref(&self, alloc: Global) -> Result<CowStr<'_>, MailParseError>
+        ensures text { AnswersInMemory (λ text. cow_str_bytes text) result (Ok (key_text (header self.now))) }
+        ensures borrowed { IfOk result (λ text. IsBorrowedStr text ↔ IsAscii (header self.now).key) }
+        ensures succeeds { IsAscii (header self.now).key → IsOk result }
+    {
+        Ok(decode_latin1(alloc, self.key)?)
+    }
+
     /// The bytes of the key, as they stand in the message, spaces before the colon among them.
     /// Takes no memory.
     pub fn get_key_raw(&self) -> &[u8]

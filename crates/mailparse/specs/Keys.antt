@@ -1,0 +1,24 @@
+-- The keys of headers as text, and looking a header up by its name (RFC 5322, section 2.2, where names ignore case).
+use Rattle.std.specs.Prelude.{ℕ, Bool, List, Option, filter, find}
+use Rattle.std.specs.Char.{eq_ignore_ascii_case}
+use Rattle.std.specs.Str.{chars}
+use lib.Pointwise.{pointwise}
+use Rattle.mail_codec.specs.Latin1.{latin1_text}
+use Rattle.mailparse.specs.Header.{Header}
+
+-- the text of a key: one character for each byte
+abbrev pub key_text : Header → List ℕ
+key_text h = latin1_text h.key
+
+-- the key is this name: each of its bytes is the character of the name at the same place, ignoring ASCII case, and neither
+-- has more
+abbrev pub has_key : List ℕ → Header → Bool
+has_key name h = pointwise eq_ignore_ascii_case h.key (chars name)
+
+-- the headers whose key is this name, in the order of the message
+abbrev pub all_with_key : List ℕ → List Header → List Header
+all_with_key name headers = filter (has_key name) headers
+
+-- the first of them
+abbrev pub first_with_key : List ℕ → List Header → Option Header
+first_with_key name headers = find (has_key name) headers

@@ -1,0 +1,117 @@
+//! Looking headers up by their names.
+ghost use Rattle.std.specs.Prelude.{◌≡◌, map, List, IsOk, IsNone, option_map};
+ghost use Rattle.std.specs.Char.{eq_ignore_ascii_case};
+ghost use Rattle.std.specs.Option.{option_copied};
+ghost use Rattle.std.specs.Str.{chars};
+ghost use lib.Pointwise.{pointwise};
+ghost use Rattle.mailparse.specs.Keys.{has_key, first_with_key, all_with_key};
+ghost use Rattle.mailparse.specs.Outcome.{AnswersInMemory};
+ghost use Rattle.mailparse.specs.Views.{header, headers as views, header_block};
+
+use crate::error::MailParseError;
+use crate::headers::Headers;
+use crate::mail_header::MailHeader;
+use std::alloc::Global;
+
+/// A list of headers, in the order of the message, that is looked up by name.
+///
+/// A name is compared with the text of a whole key, one character for each byte, ignoring ASCII
+/// case and nothing else: a space before the colon belongs to the key (RFC 5322, section 2.2).
+pub trait MailHeaderMap {
+    ghost use Rattle.mailparse.specs.declared.mail_header.MailHeader.{MailHeader};
+    // The headers that the map has now.
+    ghost present: { Self → List MailHeader };
+
+    /// The first header with this name, or `None` where there is none. Takes no memory.
+    fn get_first_header(&self, key: &str) -> Option<&MailHeader<'_>>
+        ensures { option_map header (option_copied result) ≡ first_with_key key.now (views (present self.now)) };
+
+    /// All headers with this name, in the order of the message. Without one it takes no memory and
+    /// succeeds; else the one error is want of memory.
+    fn get_all_headers(
+        &self,
+        alloc: Global,
+        key: &str,
+    ) -> Result<Vec<&MailHeader<'_>>, MailParseError>
+        ensures found { AnswersInMemory (λ v. map (λ h. header h.now) v.items) result (Ok (all_with_key key.now (views (present self.now)))) }
+        ensures none { IsNone (first_with_key key.now (views (present self.now))) → IsOk result };
+}
+
+impl MailHeaderMap for Vec<MailHeader<'_>> {
+    ghost present = { λ v. v.items };
+
+    fn get_first_header(&self, key: &str) -> Option<&MailHeader<'_>> {
+        first_header(self.as_slice(), key)
+    }
+
+    fn get_all_headers(
+        &self,
+        alloc: Global,
+        key: &str,
+    ) -> Result<Vec<&MailHeader<'_>>, MailParseError> {
+        all_headers(alloc, self.as_slice(), key)
+    }
+}
+
+impl MailHeaderMap for Headers<'_> {
+    ghost present = { λ block. block.headers.now };
+
+    fn get_first_header(&self, key: &str) -> Option<&MailHeader<'_>> {
+        first_header(self.list(), key)
+    }
+
+    fn get_all_headers(
+        &self,
+        alloc: Global,
+        key: &str,
+    ) -> Result<Vec<&MailHeader<'_>>, MailParseError> {
+        all_headers(alloc, self.list(), key)
+    }
+}
+
+/// The first header of a list with this name.
+fn first_header<'h>(list: &'h [MailHeader<'h>], key: &str) -> Option<&'h MailHeader<'h>>
+    ensures { option_map header (option_copied result) ≡ first_with_key key.now (views list.now) }
+{
+    for h in list {
+        if is_key(h.get_key_raw(), key) {
+            return Some(h);
+        }
+    }
+    None
+}
+
+/// All headers of a list with this name.
+fn all_headers<'h>(
+    alloc: Global,
+    list: &'h [MailHeader<'h>],
+    key: &str,
+) -> Result<Vec<&'h MailHeader<'h>>, MailParseError>
+    ensures found { AnswersInMemory (λ v. map (λ h. header h.now) v.items) result (Ok (all_with_key key.now (views list.now))) }
+    ensures none { IsNone (first_with_key key.now (views list.now)) → IsOk result }
+{
+    let mut found = Vec::new(alloc);
+    for h in list {
+        if is_key(h.get_key_raw(), key) {
+            found.push(h)?;
+        }
+    }
+    Ok(found)
+}
+
+/// Whether the bytes of a key are the characters of the name, ignoring ASCII case.
+fn is_key(key: &[u8], name: &str) -> bool
+    ensures { result ≡ pointwise eq_ignore_ascii_case key.now (chars name.now) }
+{
+    let mut rest = key;
+    for character in name.chars() {
+        let Some((byte, behind)) = rest.split_first() else {
+            return false;
+        };
+        if !char::from(*byte).eq_ignore_ascii_case(&character) {
+            return false;
+        }
+        rest = behind;
+    }
+    rest.is_empty()
+}
