@@ -95,7 +95,7 @@ rest_at-more raw j =
     let n = header_length raw in
     ap (λ p. drop p raw) (header_place-more raw j) ∙ sym (drop-drop (header_place (drop n raw) j) n raw)
 
-rest_at-first : (raw : List ℕ) → rest_at raw 0 ≡ raw
+pub rest_at-first : (raw : List ℕ) → rest_at raw 0 ≡ raw
 unfolding header_place
 rest_at-first raw = refl
 
@@ -113,7 +113,7 @@ pub header_count-none : (raw : List ℕ) → has_header raw ≡ false → header
 header_count-none raw h = header_count-is raw 0 (λ k low. absurd (omega arith)) (rw rest_at-first h)
 
 -- values at the same numbers
-values_below-same : {X : Type 0} (n : ℕ) (f g : ℕ → X) → ((k : ℕ) → f k ≡ g k) → values_below n f ≡ values_below n g
+pub values_below-same : {X : Type 0} (n : ℕ) (f g : ℕ → X) → ((k : ℕ) → f k ≡ g k) → values_below n f ≡ values_below n g
 values_below-same {X = X} zero f g h = refl
 values_below-same {X = X} (suc n) f g h = ap (λ x. x ∷ values_below n (λ k. f (suc k))) (h 0) ∙ ap (λ (xs : List X). g 0 ∷ xs) (values_below-same n (λ k. f (suc k)) (λ k. g (suc k)) (λ k. h (suc k)))
 
@@ -420,3 +420,25 @@ read_mail-err raw refusal e = rw e refl
 -- a refused message is no message
 pub read_mail-not_err : (raw : List ℕ) (block : Block) → read_block raw ≡ Ok block → IsErr (read_mail raw) → ⊥
 read_mail-not_err raw block e refused = let f : false ≡ true = subst (λ (m : Result Mail Refusal). IsErr m) (read_mail-ok raw block e) refused in cc
+
+-- the index of a block is the place where its headers stop, and the blank line behind it
+pub read_block-index : (raw : List ℕ) (block : Block) → read_block raw ≡ Ok block → block.index ≡ header_place raw (header_count raw) + blank_line (rest_at raw (header_count raw))
+read_block-index raw block e = by_tests (headers_end (rest_at raw (header_count raw))) (stands (13 ∷ []) (rest_at raw (header_count raw))) refl refl
+  where
+    stop : List ℕ
+    stop = rest_at raw (header_count raw)
+    found : List Header
+    found = values_below (header_count raw) (λ j. header_of (rest_at raw j))
+    at : (h r : Bool) → headers_end stop ≡ h → stands (13 ∷ []) stop ≡ r → cond h (Ok (record { headers = found; index = header_place raw (header_count raw) + blank_line stop })) (cond r (Err lone_carriage_return) (Err leading_space)) ≡ Ok block
+    at h r ends return = sym (read_block-end_at raw ∙ (rw (ends, return) refl)) ∙ e
+    by_tests : (h r : Bool) → headers_end stop ≡ h → stands (13 ∷ []) stop ≡ r → block.index ≡ header_place raw (header_count raw) + blank_line stop
+    by_tests true r ends return =
+        let f = at true r ends return in
+        let same : ◌≡◌ {A = Block} (record { headers = found; index = header_place raw (header_count raw) + blank_line stop }) block = cc in
+        sym (ap (λ (b : Block). b.index) same)
+    by_tests false true ends return = let f = at false true ends return in absurd (cc)
+    by_tests false false ends return = let f = at false false ends return in absurd (cc)
+
+pub header_place-first : (raw : List ℕ) → header_place raw 0 ≡ 0
+unfolding header_place
+header_place-first raw = refl

@@ -5,6 +5,7 @@ ghost use Rattle.std.specs.Slice.Iter.{iter_rest, iter_steps};
 ghost use Rattle.mailparse.specs.Views.{headers as views, header_block};
 
 use crate::mail_header::MailHeader;
+use std::fmt;
 use std::slice;
 
 /// The header block of a message: its bytes, and the list of its headers.
@@ -48,5 +49,14 @@ impl<'a> IntoIterator for Headers<'a> {
 
     fn into_iter(self) -> slice::Iter<'a, MailHeader<'a>> {
         self.headers.iter()
+    }
+}
+
+/// Shows the list of headers.
+impl fmt::Debug for Headers<'_> {
+    fn fmt<W: fmt::Write>(&self, f: &mut fmt::Formatter<W>) -> fmt::Result {
+        f.debug_struct("Headers")
+            .field("headers", &self.headers)
+            .finish()
     }
 }

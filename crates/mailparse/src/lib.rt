@@ -5,6 +5,7 @@ mod error;
 mod header_block;
 mod header_map;
 pub mod headers;
+mod lossy_text;
 mod mail;
 mod mail_header;
 

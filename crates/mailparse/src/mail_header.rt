@@ -10,9 +10,11 @@ ghost use Rattle.mailparse.specs.Scan.{IsScanned};
 ghost use Rattle.mailparse.specs.Views.{header};
 
 use crate::error::MailParseError;
+use crate::lossy_text::LossyText;
 use mail_codec::charset::decode_latin1;
 use std::alloc::Global;
 use std::borrow::CowStr;
+use std::fmt;
 
 /// A header of a message: the bytes of its key and of its value, as they stand in the message.
 #[derive(Drop)]
@@ -55,6 +57,16 @@ impl<'a> MailHeader<'a> {
         ensures { result.now ≡ (header self.now).value }
     {
         self.value
+    }
+}
+
+/// Shows the key and the value, bytes that are no UTF-8 as U+FFFD.
+impl fmt::Debug for MailHeader<'_> {
+    fn fmt<W: fmt::Write>(&self, f: &mut fmt::Formatter<W>) -> fmt::Result {
+        f.debug_struct("MailHeader")
+            .field("key", &LossyText(self.key))
+            .field("value", &LossyText(self.value))
+            .finish()
     }
 }
 

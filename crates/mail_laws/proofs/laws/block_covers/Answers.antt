@@ -1,0 +1,5 @@
+use Rattle.mail_laws.proofs.SpanLemmas.{spans-cover}
+use Rattle.mail_laws.proofs.laws.block_covers.Goals as goal
+
+pub returns : goal.returns
+returns c = spans-cover

@@ -1,0 +1,43 @@
+//! Bytes shown as text, for Debug.
+
+use std::fmt;
+use std::fmt::Write;
+
+/// Bytes that show as the Debug text of their lossy UTF-8 text.
+#[derive(Clone, Copy)]
+pub(crate) struct LossyText<'a>(pub &'a [u8]);
+
+impl fmt::Debug for LossyText<'_> {
+    fn fmt<W: fmt::Write>(&self, f: &mut fmt::Formatter<W>) -> fmt::Result {
+        f.write_char('"')?;
+        for chunk in self.0.utf8_chunks() {
+            write_escaped(chunk.valid(), f)?;
+            if !chunk.invalid().is_empty() {
+                f.write_char(char::REPLACEMENT_CHARACTER)?;
+            }
+        }
+        f.write_char('"')
+    }
+}
+
+/// Writes the text as it stands between the quotes of its Debug text.
+fn write_escaped<W: fmt::Write>(text: &str, f: &mut fmt::Formatter<W>) -> fmt::Result {
+    for character in text.chars() {
+        write_escaped_character(character, f)?;
+    }
+    Ok(())
+}
+
+/// Writes one character so: a quotation mark is escaped and an apostrophe is not.
+fn write_escaped_character<W: fmt::Write>(
+    character: char,
+    f: &mut fmt::Formatter<W>,
+) -> fmt::Result {
+    if character == '\'' {
+        return f.write_char(character);
+    }
+    for part in character.escape_debug() {
+        f.write_char(part)?;
+    }
+    Ok(())
+}
