@@ -1,5 +1,14 @@
 pub mod PlaceLemmas
+pub mod EncodeLemmas
 pub mod LabelLemmas
 pub mod MarkLemmas
 pub mod OneByte
 pub mod UnitLemmas
+pub mod Base64Letters
+pub mod Base64Engine
+pub mod Base64Groups
+pub mod Base64Steps
+pub mod Base64Law
+pub mod QuotedPrintableRuns
+pub mod QuotedPrintableLines
+pub mod QuotedPrintableLaw

@@ -1,5 +1,5 @@
 -- The text of bytes with a byte order mark, and with none.
-use Rattle.std.proofs.Common.{◌≡◌, ℕ, List, length, drop, refl, sym, ap, ◌∙◌, Option, None, Some, option_map}
+use Rattle.std.proofs.Common.{◌≡◌, ℕ, List, length, drop, refl, sym, ap, Option, None, Some, option_map}
 use Rattle.std.specs.Option.{option_map_or}
 use Rattle.mail_codec.specs.Charset.{text_of, marked_text_of, mark_at_start}
 use Rattle.mail_codec.specs.declared.charset.Charset.{Charset}

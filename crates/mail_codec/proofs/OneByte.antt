@@ -1,13 +1,9 @@
 -- Texts in which each byte is one character: what a run of ASCII bytes and one other byte add.
-use Rattle.std.proofs.Common.{◌≡◌, ℕ, ◌+◌, ◌-◌, ◌<◌, ◌≤◌, Bool, true, false, cond, List, [], ◌∷◌, ◌++◌, map, take, drop, length, get_or, nat_lt, slice_index, IsAscii, refl, sym, ap, ◌∙◌, encode_utf8, encode_utf8_all, append_assoc, add-one, one-add, arith, get_or-take, lt-ltb, suc-le-suc, le_of_eq, Fits, w8, map-id, ap₂, zero, suc, ◌==◌, ◌&&◌}
-use Rattle.std.specs.Char.{is_ascii}
-use Rattle.std.specs.List.{prefix_len}
+use Rattle.std.proofs.Common.{◌≡◌, ℕ, ◌+◌, ◌-◌, ◌<◌, Bool, true, List, [], ◌∷◌, ◌++◌, map, take, drop, length, get_or, IsAscii, refl, sym, ap, append-nil, take-append-drop, ◌∙◌, encode_utf8, encode_utf8_all, append_assoc, arith, suc-le-suc, Fits, w8, map-id, ap₂, zero, suc, ◌==◌, ◌&&◌}
 use Rattle.std.proofs.lemmas.Bool.Decides.{nat_tests, Decides-below_and, Decides-eqb}
 use Rattle.std.proofs.Math.Seq.{take-add}
-use Rattle.std.proofs.lemmas.Str.{encode_ascii, IsAscii-append, encodes-IsAscii}
-use Rattle.std.proofs.lemmas.Str.Ascii.{IsAscii-from_reads}
-use Rattle.std.proofs.lemmas.List.Sums.{prefix_len_is, prefix_len_passes}
-use Rattle.std.proofs.lemmas.List.Folds.{length-prefix_len}
+use Rattle.std.proofs.lemmas.Str.{IsAscii-append, encodes-IsAscii, encodes-append}
+use Rattle.std.proofs.lemmas.List.{map-append, take_more}
 use Rattle.mail_codec.specs.Charset.{single_byte_char, windows_1252_char, ascii_char, ascii_text}
 use Rattle.mail_codec.specs.Latin1.{latin1_text}
 use Rattle.mail_codec.specs.declared.charset.single_byte.TheConstants.{LATIN_1, WINDOWS_1252, ASCII}
@@ -16,42 +12,9 @@ use Rattle.mail_codec.specs.declared.charset.single_byte.TheConstants.{LATIN_1, 
 abbrev pub spelled : List ℕ → List ℕ → List ℕ
 spelled high bytes = encode_utf8_all (map (single_byte_char high) bytes)
 
-below_low : (b : ℕ) → nat_lt b 128 ≡ true → b < 128
-below_low b e = grind (arith, nat_tests)
-
-run_at : (high bs : List ℕ) (b : ℕ) (t : Bool) → nat_lt b 128 ≡ t
-    → spelled high bs ≡ take (prefix_len is_ascii bs) bs ++ spelled high (drop (prefix_len is_ascii bs) bs)
-    → encode_utf8 (cond t b (slice_index high (b - 128))) ++ spelled high bs
-    ≡ take (cond t (1 + prefix_len is_ascii bs) 0) (b ∷ bs) ++ spelled high (drop (cond t (1 + prefix_len is_ascii bs) 0) (b ∷ bs))
-run_at high bs b true e h = rw (one-add (prefix_len is_ascii bs), encode_ascii b (below_low b e)) (ap (λ x. b ∷ x) h)
-run_at high bs b false e h = rw e refl
-
--- a text begins with its run of ASCII bytes
-pub spelled_run : (high bs : List ℕ) → spelled high bs ≡ take (prefix_len is_ascii bs) bs ++ spelled high (drop (prefix_len is_ascii bs) bs)
-spelled_run high [] = refl
-spelled_run high (b ∷ bs) = run_at high bs b (nat_lt b 128) refl (spelled_run high bs)
-
--- the run is ASCII
-pub IsAscii-run : (bs : List ℕ) → IsAscii (take (prefix_len is_ascii bs) bs)
-IsAscii-run bs = IsAscii-from_reads (take (prefix_len is_ascii bs) bs) (prefix_len is_ascii bs)
-    (le_of_eq (length-prefix_len is_ascii bs))
-    (λ k h. let low : get_or bs k 0 < 128 = below_low (get_or bs k 0) (prefix_len_passes is_ascii bs k 0 h) in rw get_or-take low)
-
--- ASCII bytes that no ASCII byte follows are the run
-pub run_length_is : (bs : List ℕ) (n : ℕ) → n ≤ length bs → IsAscii (take n bs) → (n < length bs → 128 ≤ get_or bs n 0) → prefix_len is_ascii bs ≡ n
-run_length_is bs n within low stops = prefix_len_is is_ascii bs n 0 within
-    (λ k h. lt-ltb _ _ (rw get_or-take at (low k)))
-    (λ h. let high : 128 ≤ get_or bs n 0 = stops h in grind (arith, nat_tests))
-
 -- ASCII bytes and then a block of ASCII bytes are ASCII bytes
 pub IsAscii-block : (bs : List ℕ) (n k : ℕ) → IsAscii (take n bs) → IsAscii (take ((n + k) - n) (drop n bs)) → IsAscii (take (n + k) bs)
 IsAscii-block bs n k front block = let e : (n + k) - n ≡ k = omega arith in rw take-add (IsAscii-append (take n bs) (take k (drop n bs)) front (rw e at block))
-
--- a run is pushed
-pub run_pushed : (high rest made total run others : List ℕ) (n : ℕ) → made ++ spelled high rest ≡ total → n ≡ prefix_len is_ascii rest
-    → run ≡ take n rest → others ≡ drop n rest → (made ++ run) ++ spelled high others ≡ total
-run_pushed high rest made total run others n h at front back =
-    rw (back, front, at, append_assoc) (rw (← spelled_run high rest) h)
 
 -- whether the two give the same of each number below n
 abbrev pub agree_below : (ℕ → ℕ) → (ℕ → ℕ) → ℕ → Bool
@@ -100,3 +63,23 @@ single_byte_char_low high b h = grind (arith, nat_tests)
 
 pub spelled_low : (high bs : List ℕ) → IsAscii bs → spelled high bs ≡ bs
 spelled_low high bs low = ap encode_utf8_all (map_agree (single_byte_char high) (λ b. b) 128 (single_byte_char_low high) bs (λ k _. low k) ∙ map-id bs) ∙ encodes-IsAscii bs low
+
+-- the text of bytes in a row
+pub spelled-append : (high xs ys : List ℕ) → spelled high (xs ++ ys) ≡ spelled high xs ++ spelled high ys
+spelled-append high xs ys = ap encode_utf8_all (map-append (single_byte_char high) xs ys) ∙ encodes-append (map (single_byte_char high) xs) (map (single_byte_char high) ys)
+
+-- some bytes at the front, and then the others
+spelled_cut : (high bs : List ℕ) (n : ℕ) → spelled high bs ≡ spelled high (take n bs) ++ spelled high (drop n bs)
+spelled_cut high bs n = ap (spelled high) (sym (take-append-drop n bs)) ∙ spelled-append high (take n bs) (drop n bs)
+
+-- what was made, and then the text of the rest, stays all when the text of some bytes at the front is added
+pub front_pushed : (high rest made total pushed others : List ℕ) (n : ℕ) → made ++ spelled high rest ≡ total
+    → pushed ≡ spelled high (take n rest) → others ≡ drop n rest → (made ++ pushed) ++ spelled high others ≡ total
+front_pushed high rest made total pushed others n h front back =
+    rw (front, back, append_assoc) (rw (← spelled_cut high rest n) h)
+
+-- the text of one byte more
+pub spelled_more : (high bs made character : List ℕ) (i : ℕ) → i < length bs → made ≡ spelled high (take i bs) → character ≡ encode_utf8 (single_byte_char high (get_or bs i 0))
+    → made ++ character ≡ spelled high (take (i + 1) bs)
+spelled_more high bs made character i below h one =
+    rw (h, one, take_more bs i 0, spelled-append) (ap (λ x. spelled high (take i bs) ++ x) (sym (append-nil (encode_utf8 (single_byte_char high (get_or bs i 0))))))

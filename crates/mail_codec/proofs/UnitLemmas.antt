@@ -1,7 +1,7 @@
 -- UTF-16, a character at a time.
-use Rattle.std.proofs.Common.{◌≡◌, ℕ, suc, ◌+◌, ◌-◌, ◌*◌, ◌<◌, ◌≤◌, Bool, true, false, cond, not, ◌&&◌, List, [], ◌∷◌, ◌++◌, map, drop, length, get_or, refl, sym, ap, ◌∙◌, arith, unwrap_or, Option, None, Some, true≢false, inl, inr, append-nil, encode_utf8_all}
+use Rattle.std.proofs.Common.{◌≡◌, ℕ, ◌+◌, ◌<◌, ◌≤◌, Bool, true, false, cond, not, ◌&&◌, List, [], ◌∷◌, ◌++◌, drop, length, get_or, refl, sym, ap, ◌∙◌, arith, unwrap_or, Option, None, Some, true≢false, inl, inr, append-nil, append_assoc, drop-drop, encode_utf8, encode_utf8_all}
 use Rattle.std.specs.Char.{InScalarRange, OutOfScalarRange}
-use Rattle.std.specs.Char.Utf16.{is_high_surrogate, is_low_surrogate, surrogate_pair_char, lone_unit_char, utf16_chars, utf16_lossy_chars}
+use Rattle.std.specs.Char.Utf16.{is_high_surrogate, is_low_surrogate, surrogate_pair_char, lone_unit_char, utf16_lossy_chars}
 use Rattle.std.proofs.lemmas.Bool.Decides.{nat_tests}
 use Rattle.std.proofs.lemmas.Str.{utf16_chars-nil, utf16_chars_lone, utf16_chars_pair}
 use Rattle.std.proofs.str.Utf16.{IsPair}
@@ -163,3 +163,16 @@ chars_no_pair order bs four range below found =
 pub chars_done : (order : ByteOrder) (made rest total : List ℕ) → length rest ≡ 0 → made ++ encode_utf8_all (utf_16_chars order rest) ≡ total → made ≡ total
 chars_done order made [] total none h = sym (append-nil made) ∙ (rw utf16_chars-nil at h)
 chars_done order made (b ∷ rest) total none h = absurd (omega (arith, none))
+
+-- one character more is written
+pub chars_written : (order : ByteOrder) (bs made pushed total : List ℕ) (taken n character : ℕ)
+    → total ≡ made ++ encode_utf8_all (utf_16_chars order (drop taken bs)) → pushed ≡ made ++ encode_utf8 character
+    → utf_16_chars order (drop taken bs) ≡ character ∷ utf_16_chars order (drop n (drop taken bs))
+    → total ≡ pushed ++ encode_utf8_all (utf_16_chars order (drop (taken + n) bs))
+chars_written order bs made pushed total taken n character all one first = rw (all, one, first, drop-drop, append_assoc) refl
+
+-- the characters that were written, after what was made before
+pub front_written : (order : ByteOrder) (made rest front others total : List ℕ)
+    → made ++ encode_utf8_all (utf_16_chars order rest) ≡ total → encode_utf8_all (utf_16_chars order rest) ≡ front ++ encode_utf8_all (utf_16_chars order others)
+    → (made ++ front) ++ encode_utf8_all (utf_16_chars order others) ≡ total
+front_written order made rest front others total h written = rw append_assoc (rw (← written) h)

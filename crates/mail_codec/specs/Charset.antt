@@ -1,7 +1,7 @@
 -- The charsets that are read, their labels and the text of bytes in each (the WHATWG Encoding
 -- Standard, sections 4.2, 6, 8.1.1, 9.1 and 14), and the text of bytes under no known label, which
 -- is the crate's own rule.
-use Rattle.std.specs.Prelude.{ℕ, ◌+◌, ◌-◌, ◌*◌, Bool, true, false, cond, not, ◌&&◌, List, [], ◌∷◌, ◌++◌, map, take, drop, length, slice_index, nat_eq, nat_lt, Option, Some, None, option_map, find, codes, encode_utf8_all, if◌then◌else◌}
+use Rattle.std.specs.Prelude.{ℕ, ◌+◌, ◌-◌, ◌*◌, Bool, true, false, not, ◌&&◌, List, [], ◌∷◌, ◌++◌, map, take, drop, length, slice_index, nat_eq, nat_lt, Option, option_map, find, codes, encode_utf8_all, if◌then◌else◌}
 use Rattle.std.specs.Int.{is_in_range}
 use Rattle.std.specs.List.{list_any, starts_with, prefix_len, suffix_len}
 use Rattle.std.specs.Option.{option_map_or}

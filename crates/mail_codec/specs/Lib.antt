@@ -1,3 +1,6 @@
 pub mod Places
 pub mod Latin1
 pub mod Charset
+pub mod Base64
+pub mod QuotedPrintable
+pub mod Searches

@@ -1,5 +1,6 @@
 -- Places in a list of bytes, counted from 0, and the least place with a property; the project's own words.
-use Rattle.std.specs.Prelude.{◌≡◌, ℕ, zero, suc, ◌+◌, ◌<◌, ◌≤◌, Bool, true, false, ◌&&◌, ◌==◌, nat_lt, List, [], ◌∷◌, length, drop, Option, None, Some, if◌then◌else◌}
+use Rattle.std.specs.Prelude.{◌≡◌, ℕ, zero, suc, ◌+◌, ◌<◌, ◌≤◌, Bool, true, false, ◌&&◌, not, ◌==◌, nat_lt, filter, List, [], ◌∷◌, length, drop, Option, None, Some, if◌then◌else◌}
+use Rattle.std.specs.Char.{is_ascii_whitespace}
 
 -- the least place from which on the rest of the bytes passes the test, or the length where there is none
 abbrev pub first_place : (List ℕ → Bool) → List ℕ → ℕ
@@ -53,3 +54,7 @@ least test (suc bound) = if test 0 then 0 else suc (least (λ n. test (suc n)) b
 abbrev pub values_below : {X : Type 0} → ℕ → (ℕ → X) → List X
 values_below zero f = []
 values_below (suc n) f = f 0 ∷ values_below n (λ k. f (suc k))
+
+-- the bytes that are no ASCII white space (space, tab, LF, FF, CR), in order
+abbrev pub without_ascii_whitespace : List ℕ → List ℕ
+without_ascii_whitespace bytes = filter (λ b. not (is_ascii_whitespace b)) bytes

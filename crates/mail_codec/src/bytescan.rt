@@ -1,6 +1,8 @@
 //! Searches in bytes. Places are byte numbers counted from 0.
-ghost use Rattle.std.specs.Prelude.{◌≡◌};
-ghost use Rattle.mail_codec.specs.Places.{byte_place, text_place};
+ghost use Rattle.std.specs.Prelude.{◌≡◌, IfOk};
+ghost use Rattle.mail_codec.specs.Places.{byte_place, text_place, without_ascii_whitespace};
+
+use std::alloc::{AllocError, Global};
 
 /// The first place of `byte` in `haystack`, or `None` where it is absent. Takes no memory.
 ///
@@ -32,4 +34,20 @@ pub fn find(haystack: &[u8], needle: &[u8]) -> Option<usize>
         }
     }
     None
+}
+
+/// The bytes without those that are ASCII white space: space, tab, LF, FF and CR (0x0B is none). The
+/// error is want of memory.
+///
+/// `strip_ascii_whitespace(alloc, b"a \x0bb\tc\r\n")` is `a\x0bbc`.
+pub fn strip_ascii_whitespace(alloc: Global, bytes: &[u8]) -> Result<Vec<u8>, AllocError>
+    ensures { IfOk result (λ kept. kept.items ≡ without_ascii_whitespace bytes.now) }
+{
+    let mut kept = Vec::with_capacity(alloc, bytes.len())?;
+    for b in bytes {
+        if !b.is_ascii_whitespace() {
+            kept.push(*b)?;
+        }
+    }
+    Ok(kept)
 }

@@ -4,6 +4,7 @@ ghost use Rattle.std.specs.Cow.{cow_str_bytes, IsBorrowedStr};
 ghost use Rattle.mail_codec.specs.Charset.{ascii_text, charset_of_label, mark_at_start, marked_text_of, text_of};
 ghost use Rattle.mail_codec.specs.Latin1.{latin1_text};
 
+mod encode;
 mod labels;
 mod single_byte;
 #[cfg(test)]

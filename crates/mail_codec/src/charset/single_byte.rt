@@ -1,10 +1,9 @@
 //! Charsets in which each byte is one character.
-ghost use Rattle.std.specs.Prelude.{◌≡◌, ◌≤◌, ◌↔◌, ◌++◌, length, take, map, IfOk, OnOk, IsOk, IsAscii, encode_utf8_all, string_bytes};
-ghost use Rattle.std.specs.Char.{is_ascii};
-ghost use Rattle.std.specs.List.{prefix_len};
+ghost use Rattle.std.specs.Prelude.{◌≡◌, ◌*◌, ◌≤◌, ◌↔◌, ◌++◌, length, take, map, IfOk, OnOk, IsOk, IsAscii, IsUtf8, encode_utf8_all, string_bytes};
 ghost use Rattle.std.specs.Cow.{cow_str_bytes, IsBorrowedStr};
 ghost use Rattle.mail_codec.specs.Charset.{single_byte_char, windows_1252_char};
 
+use super::encode::put_char;
 use std::alloc::{AllocError, Global};
 use std::borrow::CowStr;
 use std::str;
@@ -12,8 +11,11 @@ use std::str;
 /// The characters of the bytes from 0x80 on, in order.
 pub(crate) type HighHalf = [char; 128];
 
-/// How many bytes are looked at together.
+/// How many bytes are tested for ASCII together.
 const BLOCK: usize = 16;
+
+/// How many bytes at most are mapped together, where some are not ASCII.
+const MIXED: usize = 64;
 
 /// Those of windows-1252 (the WHATWG Encoding Standard, section 9.1).
 static WINDOWS_1252: HighHalf = [
@@ -90,29 +92,46 @@ fn push_text(text: &mut String, high: &HighHalf, bytes: &[u8]) -> Result<(), All
     ensures { OnOk result (string_bytes text.new
         ≡ string_bytes text.old ++ encode_utf8_all (map (single_byte_char high.now) bytes.now)) }
 {
+    let mut buffer = [0; 4 * MIXED];
     let mut rest = bytes;
-    'rest: while let Some((first, after)) = rest.split_first() {
-        if *first < 0x80 {
-            let (run, others) = rest.split_at(ascii_run_length(rest));
-            text.push_str(unsafe { str::from_utf8_unchecked(run) })?;
-            rest = others;
+    'rest: while !rest.is_empty() {
+        let run = ascii_blocks_length(rest);
+        if run > 0 {
+            text.push_str(unsafe { str::from_utf8_unchecked(&rest[..run]) })?;
+            rest = &rest[run..];
         } else {
-            text.push(high[*first as usize - 0x80])?;
-            rest = after;
+            let (block, others) = rest.split_at(rest.len().min(MIXED));
+            let length = encode_block(&mut buffer, high, block);
+            text.push_str(unsafe { str::from_utf8_unchecked(&buffer[..length]) })?;
+            rest = others;
         }
     }
     Ok(())
 }
 
-/// How many ASCII bytes stand at the front.
-fn ascii_run_length(bytes: &[u8]) -> usize
-    ensures { result ≡ prefix_len is_ascii bytes.now }
+/// Writes the text of the bytes to the front of the buffer, and answers its length.
+fn encode_block(buffer: &mut [u8], high: &HighHalf, bytes: &[u8]) -> usize
+    requires { 4 * length bytes.now ≤ length buffer.old }
+    ensures text { take result buffer.new ≡ encode_utf8_all (map (single_byte_char high.now) bytes.now) }
+    ensures utf8 { IsUtf8 (take result buffer.new) }
+    ensures within { result ≤ length buffer.old }
 {
-    let mut at = ascii_blocks_length(bytes);
-    while at < bytes.len() && bytes[at] < 0x80 {
-        at += 1;
+    let mut at = 0;
+    for byte in bytes {
+        at = put_char(buffer, at, character(high, *byte));
     }
     at
+}
+
+/// The character of a byte.
+fn character(high: &HighHalf, byte: u8) -> char
+    ensures { result ≡ single_byte_char high.now byte }
+{
+    if byte < 0x80 {
+        byte as char
+    } else {
+        high[byte as usize - 0x80]
+    }
 }
 
 /// How many bytes the whole blocks at the front have that are all ASCII.

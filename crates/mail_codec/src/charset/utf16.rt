@@ -1,9 +1,14 @@
 //! UTF-16, two bytes a unit (the WHATWG Encoding Standard, section 14).
-ghost use Rattle.std.specs.Prelude.{◌≡◌, ◌<◌, ◌≤◌, ◌∷◌, length, drop, if◌then◌else◌, IsTrue, IfOk, encode_utf8_all, string_bytes};
+ghost use Rattle.std.specs.Prelude.{◌≡◌, ◌<◌, ◌≤◌, ◌∷◌, ◌++◌, length, take, drop, IsUtf8, if◌then◌else◌, IsTrue, IfOk, encode_utf8_all, string_bytes};
 ghost use Rattle.std.specs.Char.Utf16.{is_high_surrogate, is_low_surrogate, surrogate_pair_char};
 ghost use Rattle.mail_codec.specs.Charset.{unit_of, utf_16_chars};
 
+use super::encode::put_char;
 use std::alloc::{AllocError, Global};
+use std::str;
+
+/// How many bytes of text are made together.
+const BUFFER: usize = 256;
 
 /// Which byte of a unit comes first.
 #[derive(Clone, Copy)]
@@ -31,13 +36,35 @@ pub(crate) fn decode(alloc: Global, order: ByteOrder, bytes: &[u8]) -> Result<St
     ensures { IfOk result (λ t. string_bytes t ≡ encode_utf8_all (utf_16_chars order bytes.now)) }
 {
     let mut text = String::with_capacity(alloc, bytes.len() / 2)?;
+    let mut buffer = [0; BUFFER];
     let mut rest = bytes;
     'rest: while !rest.is_empty() {
-        let (character, length) = first_char(order, rest);
-        text.push(character)?;
-        rest = &rest[length..];
+        let (taken, length) = encode_front(&mut buffer, order, rest);
+        text.push_str(unsafe { str::from_utf8_unchecked(&buffer[..length]) })?;
+        rest = &rest[taken..];
     }
     Ok(text)
+}
+
+/// Writes as many characters as there is room for, and answers how many bytes they take here and there.
+fn encode_front(buffer: &mut [u8], order: ByteOrder, bytes: &[u8]) -> (usize, usize)
+    requires room { 4 ≤ length buffer.old }
+    requires some { 0 < length bytes.now }
+    ensures text { encode_utf8_all (utf_16_chars order bytes.now)
+        ≡ take result.1 buffer.new ++ encode_utf8_all (utf_16_chars order (drop result.0 bytes.now)) }
+    ensures utf8 { IsUtf8 (take result.1 buffer.new) }
+    ensures takes_some { 0 < result.0 }
+    ensures takes_within { result.0 ≤ length bytes.now }
+    ensures within { result.1 ≤ length buffer.old }
+{
+    let mut taken = 0;
+    let mut at = 0;
+    while taken < bytes.len() && 4 <= buffer.len() - at {
+        let (character, length) = first_char(order, &bytes[taken..]);
+        at = put_char(buffer, at, character);
+        taken += length;
+    }
+    (taken, at)
 }
 
 /// The character at the front, and how many bytes it takes.

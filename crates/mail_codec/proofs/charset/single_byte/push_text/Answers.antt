@@ -1,17 +1,22 @@
-use Rattle.std.proofs.Common.{string_bytes}
-use Rattle.std.proofs.lemmas.List.Sums.{prefix_len-le-length}
+use Rattle.std.proofs.Common.{refl, sym, ap, ◌∙◌}
+use Rattle.std.proofs.lemmas.List.{take_rest}
 use Rattle.std.proofs.lemmas.Str.{IsUtf8-from_ascii}
-use Rattle.std.specs.Char.{is_ascii}
-use Rattle.mail_codec.proofs.OneByte.{IsAscii-run, run_pushed}
+use Rattle.mail_codec.proofs.OneByte.{spelled, front_pushed, spelled_low}
 use Rattle.mail_codec.proofs.charset.single_byte.push_text.Goals as goal
 
-pub split_at-requires : goal.split_at-requires
-split_at-requires c = rw c.ascii_run_length.ensures (prefix_len-le-length is_ascii c.rest.rest.now)
-
 pub from_utf8_unchecked-requires : goal.from_utf8_unchecked-requires
-from_utf8_unchecked-requires c =
-    rw (c.split_at.ensures.front, c.ascii_run_length.ensures) (IsUtf8-from_ascii _ (IsAscii-run c.rest.rest.now))
+from_utf8_unchecked-requires c = IsUtf8-from_ascii _ c.ascii_blocks_length-run.ensures.ascii
 
-pub rest-preserved-then-first-lt128 : goal.rest-preserved-then-first-lt128
-rest-preserved-then-first-lt128 c =
-    rw (c.in_ok-push_str.ensures.bytes, c.from_utf8_unchecked.ensures) (run_pushed c.args.high.now c.rest.rest.now _ _ _ _ _ c.rest.invariant c.ascii_run_length.ensures c.split_at.ensures.front c.split_at.ensures.back)
+pub rest-preserved-then-run-gt0 : goal.rest-preserved-then-run-gt0
+rest-preserved-then-run-gt0 c =
+    rw (c.in_ok-push_str.ensures.bytes, c.from_utf8_unchecked.ensures, take_rest) (front_pushed c.args.high.now c.rest.rest.now _ _ _ _ c.ascii_blocks_length-run.result c.rest.invariant (sym (spelled_low _ _ c.ascii_blocks_length-run.ensures.ascii)) refl)
+
+pub from_utf8_unchecked-requires-else-run-gt0 : goal.from_utf8_unchecked-requires-else-run-gt0
+from_utf8_unchecked-requires-else-run-gt0 c = c.encode_block-length.ensures.utf8
+
+pub rest-preserved : goal.rest-preserved
+rest-preserved c =
+    rw c.in_ok-push_str-2.ensures.bytes
+    (front_pushed c.args.high.now c.rest.rest.now _ _ _ _ c.min.result c.rest.invariant
+    (c.from_utf8_unchecked-else-run-gt0.ensures ∙ c.encode_block-length.ensures.text ∙ ap (spelled c.args.high.now) c.split_at.ensures.front)
+    c.split_at.ensures.back)

@@ -1,0 +1,43 @@
+-- A character written into a buffer byte by byte.
+use Rattle.std.proofs.Common.{◌≡◌, ℕ, ◌+◌, ◌/◌, ◌%◌, ◌<◌, ◌≤◌, List, [], ◌∷◌, ◌++◌, take, set, length, refl, append_assoc, arith, ltb, true, false, length-set}
+use Rattle.std.specs.Char.{encode_utf8}
+use Rattle.std.proofs.lemmas.Bool.Decides.{nat_tests}
+use Rattle.std.proofs.lemmas.List.{take_more_set}
+
+no_less : (c n : ℕ) → n ≤ c → ltb c n ≡ false
+no_less c n h = grind (arith, nat_tests)
+
+less : (c n : ℕ) → c < n → ltb c n ≡ true
+less c n h = grind (arith, nat_tests)
+
+pub encode_two : (c : ℕ) → 128 ≤ c → c < 2048 → encode_utf8 c ≡ (192 + c / 64) ∷ (128 + c % 64) ∷ []
+unfolding encode_utf8
+encode_two c from to = rw (no_less c 128 from, less c 2048 to) refl
+
+pub encode_three : (c : ℕ) → 2048 ≤ c → c < 65536 → encode_utf8 c ≡ (224 + c / 4096) ∷ (128 + c / 64 % 64) ∷ (128 + c % 64) ∷ []
+unfolding encode_utf8
+encode_three c from to = let more : 128 ≤ c = omega arith in rw (no_less c 128 more, no_less c 2048 from, less c 65536 to) refl
+
+pub encode_four : (c : ℕ) → 65536 ≤ c → encode_utf8 c ≡ (240 + c / 262144) ∷ (128 + c / 4096 % 64) ∷ (128 + c / 64 % 64) ∷ (128 + c % 64) ∷ []
+unfolding encode_utf8
+encode_four c from = let more : 128 ≤ c = omega arith in let most : 2048 ≤ c = omega arith in rw (no_less c 128 more, no_less c 2048 most, no_less c 65536 from) refl
+
+-- what stands at the front once some bytes are written in a row
+pub stored_two : (xs : List ℕ) (n a b : ℕ) → n + 4 ≤ length xs → take (n + 2) (set (set xs n a) (n + 1) b) ≡ take n xs ++ a ∷ b ∷ []
+stored_two xs n a b h =
+    let e : n + 2 ≡ (n + 1) + 1 = omega arith in
+    let room : n + 1 < length (set xs n a) = rw length-set (omega arith) in
+    let first : n < length xs = omega arith in
+    rw (e, take_more_set (set xs n a) (n + 1) b room, take_more_set xs n a first, append_assoc) refl
+
+pub stored_three : (xs : List ℕ) (n a b c : ℕ) → n + 4 ≤ length xs → take (n + 3) (set (set (set xs n a) (n + 1) b) (n + 2) c) ≡ take n xs ++ a ∷ b ∷ c ∷ []
+stored_three xs n a b c h =
+    let e : n + 3 ≡ (n + 2) + 1 = omega arith in
+    let room : n + 2 < length (set (set xs n a) (n + 1) b) = simp length-set (omega arith) in
+    rw (e, take_more_set (set (set xs n a) (n + 1) b) (n + 2) c room, stored_two xs n a b h, append_assoc) refl
+
+pub stored_four : (xs : List ℕ) (n a b c d : ℕ) → n + 4 ≤ length xs → take (n + 4) (set (set (set (set xs n a) (n + 1) b) (n + 2) c) (n + 3) d) ≡ take n xs ++ a ∷ b ∷ c ∷ d ∷ []
+stored_four xs n a b c d h =
+    let e : n + 4 ≡ (n + 3) + 1 = omega arith in
+    let room : n + 3 < length (set (set (set xs n a) (n + 1) b) (n + 2) c) = simp length-set (omega arith) in
+    rw (e, take_more_set (set (set (set xs n a) (n + 1) b) (n + 2) c) (n + 3) d room, stored_three xs n a b c h, append_assoc) refl

@@ -1,0 +1,8 @@
+use Rattle.mail_codec.proofs.QuotedPrintableLaw.{lines_once, quoted_printable_reads}
+use Rattle.mail_codec.proofs.laws.quoted_printable_is_lines.Goals as goal
+
+pub returns-clause-once : goal.returns-clause-once
+returns-clause-once c = lines_once
+
+pub returns-clause-reads : goal.returns-clause-reads
+returns-clause-reads c = quoted_printable_reads

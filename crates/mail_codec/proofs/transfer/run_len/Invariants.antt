@@ -1,0 +1,12 @@
+use Rattle.std.proofs.Common.{length, ◌-◌, ◌≤◌}
+use Rattle.mail_codec.specs.Searches.{AllFree}
+use Rattle.mail_codec.proofs.transfer.run_len.Given as goal
+
+abbrev pub invariant-bytes : goal.invariant-bytes
+invariant-bytes l = record {
+  within : l.at ≤ length l.bytes;
+  free : AllFree 13 10 l.at l.bytes;
+}
+
+abbrev pub decreases-bytes : goal.decreases-bytes
+decreases-bytes l = length l.bytes - l.at

@@ -1,0 +1,122 @@
+-- Quoted-printable (RFC 2045, section 6.7), read so that no text is refused: what is no escape
+-- stays as it is, which is this crate's own rule.
+use Rattle.std.specs.Prelude.{◌≡◌, ℕ, ◌+◌, ◌-◌, ◌*◌, ◌==◌, nat_le, Bool, false, ◌&&◌, ◌||◌, if◌then◌else◌, ◌⊎◌, ◌≢◌, List, [], ◌∷◌, ◌++◌, length, take, All, Option, Some, None}
+use Rattle.std.specs.List.{flat_map, slice_split, suffix_len}
+
+-- A line of a text: what stands in it, and the bytes that end it.
+pub record Line : Type 0 where
+  pub content : List ℕ
+  pub ending : List ℕ
+
+-- The bytes end in b.
+abbrev pub ends_in : ℕ → List ℕ → Bool
+ends_in b [] = false
+ends_in b (x ∷ []) = x == b
+ends_in b (x ∷ y ∷ xs) = ends_in b (y ∷ xs)
+
+-- Bytes without the last of them.
+abbrev pub without_last : List ℕ → List ℕ
+without_last bytes = take (length bytes - 1) bytes
+
+-- LF, and CR LF.
+abbrev pub lf : List ℕ
+lf = 10 ∷ []
+
+abbrev pub cr_lf : List ℕ
+cr_lf = 13 ∷ 10 ∷ []
+
+-- A line that ends at a CR LF, or at an LF without a CR before it.
+abbrev pub IsEndedLine : Line → Type 0
+IsEndedLine line = All (λ b. b ≢ 10) line.content
+    × ((line.ending ≡ cr_lf) ⊎ ((line.ending ≡ lf) × (ends_in 13 line.content ≡ false)))
+
+-- A line that the end of the text ends.
+abbrev pub IsLastLine : Line → Type 0
+IsLastLine line = All (λ b. b ≢ 10) line.content × (line.ending ≡ [])
+
+-- The lines of a text: each but the last ends at its line end, and the last, which may be empty, at
+-- the end of the text.
+abbrev pub AreEnded : List Line → Type 0
+AreEnded [] = ⊥
+AreEnded (line ∷ []) = IsLastLine line
+AreEnded (line ∷ next ∷ lines) = IsEndedLine line × AreEnded (next ∷ lines)
+
+-- These are the lines of the text.
+abbrev pub AreLines : List ℕ → List Line → Type 0
+AreLines text lines = AreEnded lines × (text ≡ flat_map (λ line. line.content ++ line.ending) lines)
+
+-- A space or a tab.
+abbrev pub is_blank : ℕ → Bool
+is_blank b = b == 32 || b == 9
+
+-- What stands before the spaces and tabs at the end.
+abbrev pub trimmed : List ℕ → List ℕ
+trimmed content = take (length content - suffix_len is_blank content) content
+
+-- The value of a hexadecimal digit, of either case.
+abbrev pub digit_value : ℕ → Option ℕ
+digit_value b =
+    if nat_le 48 b && nat_le b 57 then Some (b - 48)
+    else if nat_le 65 b && nat_le b 70 then Some (b - 55)
+    else if nat_le 97 b && nat_le b 102 then Some (b - 87)
+    else None
+
+-- The byte of two digits' values, if both are there.
+abbrev pub byte_of_values : Option ℕ → Option ℕ → Option ℕ
+byte_of_values (Some high) (Some low) = Some (high * 16 + low)
+byte_of_values _ _ = None
+
+-- The byte of the escape that the bytes begin with: `=` and two hexadecimal digits.
+abbrev pub first_escape : List ℕ → Option ℕ
+first_escape [] = None
+first_escape (b ∷ []) = None
+first_escape (b ∷ c ∷ []) = None
+first_escape (b ∷ c ∷ d ∷ rest) =
+    if b == 61 then byte_of_values (digit_value c) (digit_value d) else None
+
+-- An escape's byte and what follows the escape; where there is none, what stays.
+abbrev pub after_escape : Option ℕ → List ℕ → List ℕ → List ℕ
+after_escape (Some byte) following stays = byte ∷ following
+after_escape None following stays = stays
+
+-- Each escape, from the left, is one byte, and every other byte stays.
+unfoldable pub unescaped : List ℕ → List ℕ
+unescaped [] = []
+unescaped (b ∷ []) = b ∷ []
+unescaped (b ∷ c ∷ []) = b ∷ c ∷ []
+unescaped (b ∷ c ∷ d ∷ rest) =
+    after_escape (first_escape (b ∷ c ∷ d ∷ rest)) (unescaped rest) (b ∷ unescaped (c ∷ d ∷ rest))
+
+-- The bytes of a line: without blanks at its end, and with its escapes read. A `=` at the end goes,
+-- and takes the line end with it.
+unfoldable pub line_bytes : Line → List ℕ
+line_bytes line =
+    if ends_in 61 (trimmed line.content) then unescaped (without_last (trimmed line.content))
+    else unescaped (trimmed line.content) ++ line.ending
+
+-- The text stands for the bytes: they are those of its lines, in order.
+abbrev pub IsQuotedPrintable : List ℕ → List ℕ → Type 0
+IsQuotedPrintable text bytes = (lines : List Line) × AreLines text lines
+    × (bytes ≡ flat_map line_bytes lines)
+
+-- ---- the same as functions, which contracts cite
+
+-- The line of a piece that an LF follows.
+abbrev pub ended_line : List ℕ → Line
+ended_line piece =
+    if ends_in 13 piece then record { content = without_last piece; ending = cr_lf }
+    else record { content = piece; ending = lf }
+
+-- The lines of the pieces between the LFs of a text.
+abbrev pub lines_of_pieces : List (List ℕ) → List Line
+lines_of_pieces [] = []
+lines_of_pieces (piece ∷ []) = record { content = piece; ending = [] } ∷ []
+lines_of_pieces (piece ∷ next ∷ pieces) = ended_line piece ∷ lines_of_pieces (next ∷ pieces)
+
+-- The lines of a text.
+unfoldable pub lines_of : List ℕ → List Line
+lines_of text = lines_of_pieces (slice_split (λ b. b == 10) text)
+
+-- The bytes that a text stands for.
+unfoldable pub quoted_printable : List ℕ → List ℕ
+quoted_printable text = flat_map line_bytes (lines_of text)

@@ -1,0 +1,384 @@
+//! The transfer codings Base64 and quoted-printable, over bytes.
+
+ghost use Rattle.std.specs.Prelude.{◌≡◌, ℕ, ◌+◌, ◌*◌, ◌/◌, ◌%◌, ◌^◌, ◌<◌, ◌≤◌, ◌≢◌, ◌++◌, length, drop, slice_index, vec_len, IfOk, OnOk, OnSome, IfSome, option_map, if◌then◌else◌, ◌==◌, ◌-◌, false};
+ghost use Rattle.std.specs.List.{position_or_len, prefix_len, suffix_len};
+ghost use Rattle.mail_codec.specs.Searches.{AllFree};
+ghost use Rattle.mail_codec.specs.QuotedPrintable.{digit_value, ended_line, first_escape, is_blank, line_bytes, quoted_printable, unescaped};
+ghost use Rattle.mail_codec.specs.Base64.{answer_over, base64, bytes_of_values, group_bytes, groups_from, is_kept, items_or_fault, letter_value, prepend, without_line_ends};
+
+use base64::DecodeAllocError;
+use base64::engine::general_purpose::STANDARD;
+use std::alloc::{AllocError, Global};
+
+/// How many bytes of a text lose their line ends at a time.
+const WINDOW: usize = 4096;
+
+/// How many bytes a search tests at a time.
+const BLOCK: usize = 16;
+
+/// The bytes that a Base64 text stands for (RFC 4648, section 4). CR and LF count as absent wherever
+/// they stand, groups with padding may stand anywhere, and bits that make no whole byte are ignored.
+///
+/// The inner error is the number, from 0, of the first group of four that is none; a short last
+/// group counts. The outer error comes where memory runs out: the answer takes memory, and so do a
+/// few kilobytes of letters on the way.
+pub fn decode_base64(alloc: Global, text: &[u8]) -> Result<Result<Vec<u8>, usize>, AllocError>
+    ensures { IfOk result (λ answer. items_or_fault answer ≡ base64 text.now) }
+{
+    let mut bytes = Vec::new(alloc);
+    let mut letters = Vec::with_capacity(alloc, text.len().min(WINDOW + 3))?;
+    let mut groups = 0;
+    let mut at = 0;
+    'windows: while at < text.len() {
+        let end = (text.len() - at).min(WINDOW) + at;
+        push_letters(&mut letters, &text[at..end])?;
+        let whole = letters.len() / 4;
+        if let Err(group) = decode_groups(&mut bytes, &letters[..4 * whole], groups)? {
+            return Ok(Err(group));
+        }
+        keep_from(&mut letters, 4 * whole);
+        groups += whole;
+        at = end;
+    }
+    if letters.is_empty() {
+        Ok(Ok(bytes))
+    } else {
+        Ok(Err(groups))
+    }
+}
+
+// Appends the window's bytes other than CR and LF.
+fn push_letters(letters: &mut Vec<u8>, window: &[u8]) -> Result<(), AllocError>
+    ensures { OnOk result (letters.new.items ≡ letters.old.items ++ without_line_ends window.now) }
+{
+    let mut at = 0;
+    'runs: while at < window.len() {
+        let end = at + run_len(&window[at..]);
+        letters.extend_from_slice(&window[at..end])?;
+        if end == window.len() {
+            return Ok(());
+        }
+        at = end + 1;
+    }
+    Ok(())
+}
+
+// How many bytes stand before the first CR or LF.
+fn run_len(bytes: &[u8]) -> usize
+    ensures len { result ≡ prefix_len is_kept bytes.now }
+    ensures within { result ≤ length bytes.now }
+{
+    let mut at = free_len(bytes, b'\r', b'\n');
+    'bytes: while at < bytes.len() {
+        let byte = bytes[at];
+        if byte == b'\r' || byte == b'\n' {
+            return at;
+        }
+        at += 1;
+    }
+    at
+}
+
+// Drops the letters before place `at`.
+fn keep_from(letters: &mut Vec<u8>, at: usize)
+    requires { at ≤ vec_len letters.old }
+    ensures { letters.new.items ≡ drop at letters.old.items }
+{
+    let left = letters.len() - at;
+    letters.as_mut_slice().copy_within(at.., 0);
+    letters.truncate(left);
+}
+
+// Appends the bytes of whole groups, of which the first has number `first`.
+fn decode_groups(
+    bytes: &mut Vec<u8>,
+    letters: &[u8],
+    first: usize,
+) -> Result<Result<(), usize>, AllocError>
+    requires whole { length letters.now % 4 ≡ 0 }
+    requires few { first + length letters.now / 4 < 2 ^ 64 }
+    ensures { IfOk result (λ answer. prepend bytes.old.items (groups_from first letters.now)
+        ≡ answer_over answer bytes.new.items) }
+{
+    match STANDARD.decode_vec(letters, bytes) {
+        Ok(()) => Ok(Ok(())),
+        Err(DecodeAllocError::OutOfMemory) => Err(AllocError),
+        Err(DecodeAllocError::DecodeError(_)) => decode_each_group(bytes, letters, first),
+    }
+}
+
+// The same, a group at a time: the engine takes padding in the last group alone, and no unused bits.
+fn decode_each_group(
+    bytes: &mut Vec<u8>,
+    letters: &[u8],
+    first: usize,
+) -> Result<Result<(), usize>, AllocError>
+    requires whole { length letters.now % 4 ≡ 0 }
+    requires few { first + length letters.now / 4 < 2 ^ 64 }
+    ensures { IfOk result (λ answer. prepend bytes.old.items (groups_from first letters.now)
+        ≡ answer_over answer bytes.new.items) }
+{
+    'groups: for number in 0..letters.len() / 4 {
+        let at = 4 * number;
+        if !push_group(
+            bytes,
+            letters[at],
+            letters[at + 1],
+            letters[at + 2],
+            letters[at + 3],
+        )? {
+            return Ok(Err(first + number));
+        }
+    }
+    Ok(Ok(()))
+}
+
+// Appends the bytes of a group and answers true, or answers false where it is none. The missing
+// letters of a group with padding are filled up with `A`, whose value is 0, and their bytes cut off.
+fn push_group(bytes: &mut Vec<u8>, p: u8, q: u8, r: u8, s: u8) -> Result<bool, AllocError>
+    ensures { IfOk result (λ is_group. option_map (λ decoded. bytes.old.items ++ decoded)
+        (group_bytes p q r s)
+        ≡ (if is_group then Some bytes.new.items else None)) }
+{
+    if s != b'=' {
+        return push_bytes(bytes, p, q, r, s, 3);
+    }
+    if r != b'=' {
+        return push_bytes(bytes, p, q, r, b'A', 2);
+    }
+    push_bytes(bytes, p, q, b'A', b'A', 1)
+}
+
+// Appends the first `len` bytes of four letters and answers true, or answers false where not all
+// four are letters.
+fn push_bytes(
+    bytes: &mut Vec<u8>,
+    p: u8,
+    q: u8,
+    r: u8,
+    s: u8,
+    len: usize,
+) -> Result<bool, AllocError>
+    requires unpadded { s ≢ 61 }
+    requires short { len ≤ 3 }
+    ensures { IfOk result (λ are_letters. option_map (λ decoded. bytes.old.items ++ decoded)
+        (bytes_of_values len (letter_value p) (letter_value q) (letter_value r) (letter_value s))
+        ≡ (if are_letters then Some bytes.new.items else None)) }
+{
+    let mut decoded = [0u8; 3];
+    if STANDARD.decode_slice(&[p, q, r, s], &mut decoded).is_err() {
+        return Ok(false);
+    }
+    bytes.extend_from_slice(&decoded[..len])?;
+    Ok(true)
+}
+
+/// The bytes that a quoted-printable text stands for (RFC 2045, section 6.7). Of each line the spaces
+/// and tabs at its end go, then a final `=` together with the line end, which is LF or CR LF; then
+/// each `=` with two hexadecimal digits of either case, from the left, is one byte. Every other byte
+/// stays, so no text is refused.
+///
+/// The error comes where memory runs out: the answer takes memory.
+pub fn decode_quoted_printable(alloc: Global, text: &[u8]) -> Result<Vec<u8>, AllocError>
+    ensures { IfOk result (λ bytes. bytes.items ≡ quoted_printable text.now) }
+{
+    let mut bytes = Vec::new(alloc);
+    let mut at = 0;
+    'lines: while at < text.len() {
+        let line = at + place_of(b'\n', &text[at..]);
+        if line == text.len() {
+            push_line(&mut bytes, &text[at..line], b"")?;
+            return Ok(bytes);
+        }
+        push_ended_line(&mut bytes, &text[at..line])?;
+        at = line + 1;
+    }
+    Ok(bytes)
+}
+
+// Appends the bytes of a line whose LF follows the piece: a CR at its end is part of the line end.
+fn push_ended_line(bytes: &mut Vec<u8>, piece: &[u8]) -> Result<(), AllocError>
+    ensures { OnOk result
+        (bytes.new.items ≡ bytes.old.items ++ line_bytes (ended_line piece.now)) }
+{
+    let len = piece.len();
+    if len > 0 && piece[len - 1] == b'\r' {
+        return push_line(bytes, &piece[..len - 1], b"\r\n");
+    }
+    push_line(bytes, piece, b"\n")
+}
+
+// Appends the bytes of a line.
+fn push_line(bytes: &mut Vec<u8>, content: &[u8], ending: &[u8]) -> Result<(), AllocError>
+    ensures { OnOk result (bytes.new.items
+        ≡ bytes.old.items ++ line_bytes (record { content = content.now; ending = ending.now })) }
+{
+    let end = trimmed_len(content);
+    if end > 0 && content[end - 1] == b'=' {
+        return push_unescaped(bytes, &content[..end - 1]);
+    }
+    push_unescaped(bytes, &content[..end])?;
+    bytes.extend_from_slice(ending)
+}
+
+// How many bytes stand before the spaces and tabs at the end.
+fn trimmed_len(content: &[u8]) -> usize
+    ensures len { result ≡ length content.now - suffix_len is_blank content.now }
+    ensures within { result ≤ length content.now }
+{
+    let mut end = content.len();
+    'blanks: while end > 0 {
+        let last = content[end - 1];
+        if last != b' ' && last != b'\t' {
+            return end;
+        }
+        end -= 1;
+    }
+    0
+}
+
+// Appends the bytes with each escape read.
+fn push_unescaped(bytes: &mut Vec<u8>, kept: &[u8]) -> Result<(), AllocError>
+    ensures { OnOk result (bytes.new.items ≡ bytes.old.items ++ unescaped kept.now) }
+{
+    let mut at = 0;
+    'runs: while at < kept.len() {
+        if kept[at] != b'=' {
+            let sign = at + place_of(b'=', &kept[at..]);
+            bytes.extend_from_slice(&kept[at..sign])?;
+            at = sign;
+        } else if let Some(byte) = escape_at(kept, at) {
+            bytes.push(byte)?;
+            at += 3;
+        } else {
+            bytes.push(b'=')?;
+            at += 1;
+        }
+    }
+    Ok(())
+}
+
+// The byte of the escape at a place that holds `=`.
+fn escape_at(kept: &[u8], at: usize) -> Option<u8>
+    requires within { at < length kept.now }
+    requires sign { slice_index kept.now at ≡ 61 }
+    ensures value { result ≡ first_escape (drop at kept.now) }
+    ensures whole { OnSome result (at + 3 ≤ length kept.now) }
+{
+    if kept.len() - at < 3 {
+        return None;
+    }
+    let high = digit_value(kept[at + 1])?;
+    let low = digit_value(kept[at + 2])?;
+    Some(high * 16 + low)
+}
+
+// The value of a hexadecimal digit, of either case.
+fn digit_value(digit: u8) -> Option<u8>
+    ensures value { result ≡ digit_value digit }
+    ensures small { IfSome result (λ value. value < 16) }
+{
+    match digit {
+        b'0'..=b'9' => Some(digit - b'0'),
+        b'A'..=b'F' => Some(digit - b'A' + 10),
+        b'a'..=b'f' => Some(digit - b'a' + 10),
+        _ => None,
+    }
+}
+
+// The least place of a byte, or the length where it stands nowhere.
+fn place_of(wanted: u8, bytes: &[u8]) -> usize
+    ensures least { result ≡ position_or_len (λ b. b == wanted) bytes.now }
+    ensures within { result ≤ length bytes.now }
+{
+    let mut at = free_len(bytes, wanted, wanted);
+    'bytes: while at < bytes.len() {
+        if bytes[at] == wanted {
+            return at;
+        }
+        at += 1;
+    }
+    at
+}
+
+// The length of the blocks at the front that hold neither byte. A block is tested as a whole, with
+// no way out before its end, which the compiler turns into few instructions.
+#[inline(always)]
+fn free_len(bytes: &[u8], one: u8, other: u8) -> usize
+    ensures within { result ≤ length bytes.now }
+    ensures free { AllFree one other result bytes.now }
+{
+    let mut at = 0;
+    'skips: while bytes.len() - at >= BLOCK {
+        if holds_either(&bytes[at..at + BLOCK], one, other) {
+            return at;
+        }
+        at += BLOCK;
+    }
+    at
+}
+
+// Whether one of two bytes is among the bytes.
+#[inline(always)]
+fn holds_either(bytes: &[u8], one: u8, other: u8) -> bool
+    ensures { result ≡ false → AllFree one other (length bytes.now) bytes.now }
+{
+    let mut holds = false;
+    for byte in bytes {
+        holds |= *byte == one;
+        holds |= *byte == other;
+    }
+    holds
+}
+
+#[cfg(test)]
+mod tests {
+    use super::*;
+    use std::test::Fail;
+
+    // What a text decodes to, as the bytes or the number of its fault.
+    fn is_base64(alloc: Global, text: &[u8], expected: Result<&[u8], usize>) -> Result<bool, Fail> {
+        let answer = decode_base64(alloc, text)?;
+        Ok(match answer {
+            Ok(bytes) => expected == Ok(bytes.as_slice()),
+            Err(group) => expected == Err(group),
+        })
+    }
+
+    #[test]
+    fn base64_rows(rt: HostRuntime) -> Result<(), Fail> {
+        let alloc = rt.alloc();
+        assert!(rt; is_base64(alloc, b"", Ok(b""))?);
+        assert!(rt; is_base64(alloc, b"aGVsbG8gd\r\n29ybGQ=", Ok(b"hello world"))?);
+        assert!(rt; is_base64(alloc, b"aGk=aGk=", Ok(b"hihi"))?);
+        assert!(rt; is_base64(alloc, b"aGl=", Ok(b"hi"))?);
+        assert!(rt; is_base64(alloc, b"aGk", Err(0))?);
+        assert!(rt; is_base64(alloc, b"aGk=a", Err(1))?);
+        assert!(rt; is_base64(alloc, b"aGVs=Gk=", Err(1))?);
+        assert!(rt; is_base64(alloc, b"aG\x0bk=", Err(0))?);
+        assert!(rt; is_base64(alloc, b"Zg==", Ok(b"f"))?);
+        assert!(rt; is_base64(alloc, b"Zm8=", Ok(b"fo"))?);
+        assert!(rt; is_base64(alloc, b"Zm9vYmFy", Ok(b"foobar"))?);
+        Ok(())
+    }
+
+    // Whether a text decodes to these bytes.
+    fn is_quoted(alloc: Global, text: &[u8], expected: &[u8]) -> Result<bool, Fail> {
+        let bytes = decode_quoted_printable(alloc, text)?;
+        Ok(bytes.as_slice() == expected)
+    }
+
+    #[test]
+    fn quoted_printable_rows(rt: HostRuntime) -> Result<(), Fail> {
+        let alloc = rt.alloc();
+        assert!(rt; is_quoted(alloc, b"", b"")?);
+        assert!(rt; is_quoted(alloc, b"a =\r\nb=C3=A9=zz \nc=", b"a b\xc3\xa9=zz\nc")?);
+        assert!(rt; is_quoted(alloc, b"a= \r\nb", b"ab")?);
+        assert!(rt; is_quoted(alloc, b"a==\nb", b"a=b")?);
+        assert!(rt; is_quoted(alloc, b"=3d=C3=A", b"=\xc3=A")?);
+        assert!(rt; is_quoted(alloc, b"a=\rb", b"a=\rb")?);
+        assert!(rt; is_quoted(alloc, b"a \r\n b\t\n", b"a\r\n b\n")?);
+        assert!(rt; is_quoted(alloc, b"a \r\r\nb\r", b"a \r\r\nb\r")?);
+        Ok(())
+    }
+}
