@@ -1,18 +1,34 @@
 -- What a call answered, set beside what a definition gives; the crate's own words.
-use Rattle.std.specs.Prelude.{◌≡◌, Result, Ok, Err}
-use Rattle.mailparse.specs.Refusal.{Refusal, generic}
+use Rattle.std.specs.Prelude.{◌≡◌, ℕ, Option, Some, None, Result, Ok, Err}
+use Rattle.std.specs.Cow.{cow_str_bytes}
+use Rattle.mailparse.specs.Refusal.{Refusal, generic, encoding, base64_fault}
 use Rattle.mailparse.specs.declared.error.MailParseError.{MailParseError}
-use Rattle.mailparse.specs.declared.error.MailParseError.TheVariants.{Generic, Memory}
+use Rattle.mailparse.specs.declared.error.MailParseError.TheVariants.{QuotedPrintableDecodeError, Base64DecodeError, EncodingError, Generic, Memory}
+
+-- the refusal that an error is; want of memory is none, nor is a fault of quoted-printable, which refuses nothing
+abbrev pub refusal_of : MailParseError → Option Refusal
+refusal_of (QuotedPrintableDecodeError fault) = None
+refusal_of (Base64DecodeError fault) = Some (base64_fault fault.group)
+refusal_of (EncodingError text) = Some (encoding (cow_str_bytes text))
+refusal_of (Generic text) = Some (generic text.now)
+refusal_of (Memory e) = None
+
+-- the definition refuses with that refusal
+abbrev pub Refuses : {Y : Type 0} → Option Refusal → Result Y Refusal → Type 0
+Refuses None given = ⊥
+Refuses (Some refusal) given = given ≡ Err refusal
 
 -- the error is what the definition refuses with
 abbrev pub IsRefusal : {Y : Type 0} → MailParseError → Result Y Refusal → Type 0
-IsRefusal (Generic text) given = given ≡ Err (generic text.now)
-IsRefusal (Memory e) given = ⊥
+IsRefusal e given = Refuses (refusal_of e) given
 
 -- the same, or memory ran out
 abbrev pub IsRefusalOrMemory : {Y : Type 0} → MailParseError → Result Y Refusal → Type 0
-IsRefusalOrMemory (Generic text) given = given ≡ Err (generic text.now)
 IsRefusalOrMemory (Memory e) given = Unit {0}
+IsRefusalOrMemory (QuotedPrintableDecodeError fault) given = ⊥
+IsRefusalOrMemory (Base64DecodeError fault) given = given ≡ Err (base64_fault fault.group)
+IsRefusalOrMemory (EncodingError text) given = given ≡ Err (encoding (cow_str_bytes text))
+IsRefusalOrMemory (Generic text) given = given ≡ Err (generic text.now)
 
 -- the call answered, seen by the view, exactly what the definition gives
 abbrev pub Answers : {X Y : Type 0} → (X → Y) → Result X MailParseError → Result Y Refusal → Type 0

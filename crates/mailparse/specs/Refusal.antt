@@ -1,9 +1,11 @@
--- The refusals of the library, each told from the others by its text; the crate's own rule.
+-- The refusals of the library, each told from the others; the crate's own rule.
 use Rattle.std.specs.Prelude.{ℕ, List, codes}
 
--- a refusal that is a plain text
+-- a refusal that is a plain text, one of an encoding that is a text, or the number of the Base64 group that is none
 pub data Refusal : Type 0 where
   generic : List ℕ → Refusal
+  encoding : List ℕ → Refusal
+  base64_fault : ℕ → Refusal
 
 -- no bytes where a header was wanted
 abbrev pub empty_string : Refusal
@@ -16,3 +18,7 @@ leading_space = generic (codes "Header cannot start with a space; it is likely a
 -- a CR that no LF follows where a header or the blank line was wanted
 abbrev pub lone_carriage_return : Refusal
 lone_carriage_return = generic (codes "Headers were followed by an unexpected lone CR character!")
+
+-- a value that is no UTF-8 where only UTF-8 is taken
+abbrev pub value_not_utf8 : Refusal
+value_not_utf8 = encoding (codes "Invalid UTF-8 in header value")

@@ -1,18 +1,93 @@
 //! What the library refuses.
 ghost use Rattle.std.specs.Prelude.{◌≡◌};
+ghost use Rattle.mailparse.specs.Wrapped.{HasSource};
 
 use std::alloc::{AllocError, AllocFailed};
+use std::borrow::CowStr;
 use thiserror::Error;
 
 /// Why a call gave no answer.
 #[derive(Debug, Drop, Error)]
 pub enum MailParseError {
+    /// A body that is no quoted-printable text. No call answers it: every text is read.
+    #[error("QuotedPrintable decode error: {0}")]
+    QuotedPrintableDecodeError(QuotedPrintableFault),
+    /// A body that is no Base64.
+    #[error("Base64 decode error: {0}")]
+    Base64DecodeError(Base64Fault),
+    /// Bytes that are no text in the encoding that was asked for; the text says which.
+    #[error("Encoding error: {0}")]
+    EncodingError(CowStr<'static>),
     /// The input is not what the call reads; the text says what is wrong with it.
     #[error("{0}")]
     Generic(&'static str),
     /// Memory ran out.
     #[error("out of memory")]
     Memory(AllocError),
+}
+
+/// Where a text stops being quoted-printable. No call answers it.
+#[derive(Clone, Copy, Debug, PartialEq, Eq, Error)]
+#[error("no quoted-printable text")]
+pub struct QuotedPrintableFault;
+
+/// Where a text stops being Base64.
+#[derive(Clone, Copy, Debug, PartialEq, Eq, Error)]
+#[error("group {group} is no Base64 group")]
+pub struct Base64Fault {
+    /// The number, from 0, of the first group of four that is none.
+    pub group: usize,
+}
+
+/// The fault that an error wraps.
+#[derive(Clone, Copy, Debug)]
+pub enum Wrapped<'a> {
+    /// The fault of a quoted-printable text.
+    QuotedPrintable(&'a QuotedPrintableFault),
+    /// The fault of a Base64 text.
+    Base64(&'a Base64Fault),
+}
+
+impl MailParseError {
+    /// The fault that the error wraps: that of the two decode errors, else `None`.
+    pub fn source(&self) -> Option<Wrapped<'_>>
+        ensures { HasSource self.now result }
+    {
+        match self {
+            MailParseError::QuotedPrintableDecodeError(fault) => {
+                Some(Wrapped::QuotedPrintable(fault))
+            }
+            MailParseError::Base64DecodeError(fault) => Some(Wrapped::Base64(fault)),
+            _ => None,
+        }
+    }
+}
+
+impl From<QuotedPrintableFault> for MailParseError {
+    ghost use Rattle.mailparse.specs.declared.error.MailParseError.TheVariants.{QuotedPrintableDecodeError};
+    ghost from_gives = { λ fault error. error ≡ QuotedPrintableDecodeError fault };
+
+    fn from(fault: QuotedPrintableFault) -> MailParseError {
+        MailParseError::QuotedPrintableDecodeError(fault)
+    }
+}
+
+impl From<Base64Fault> for MailParseError {
+    ghost use Rattle.mailparse.specs.declared.error.MailParseError.TheVariants.{Base64DecodeError};
+    ghost from_gives = { λ fault error. error ≡ Base64DecodeError fault };
+
+    fn from(fault: Base64Fault) -> MailParseError {
+        MailParseError::Base64DecodeError(fault)
+    }
+}
+
+impl From<CowStr<'static>> for MailParseError {
+    ghost use Rattle.mailparse.specs.declared.error.MailParseError.TheVariants.{EncodingError};
+    ghost from_gives = { λ text error. error ≡ EncodingError text };
+
+    fn from(text: CowStr<'static>) -> MailParseError {
+        MailParseError::EncodingError(text)
+    }
 }
 
 impl From<AllocError> for MailParseError {
