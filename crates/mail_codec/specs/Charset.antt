@@ -20,18 +20,21 @@ replacement = 0xFFFD
 
 -- Labels (section 4.2).
 
--- the labels of each charset
+-- the labels of UTF-8
 abbrev pub utf_8_labels : List (List ℕ)
 utf_8_labels = codes "unicode-1-1-utf-8" ∷ codes "unicode11utf8" ∷ codes "unicode20utf8" ∷ codes "utf-8" ∷ codes "utf8" ∷ codes "x-unicode20utf8" ∷ []
 
+-- the labels of windows-1252
 abbrev pub windows_1252_labels : List (List ℕ)
 windows_1252_labels = codes "ansi_x3.4-1968" ∷ codes "ascii" ∷ codes "cp1252" ∷ codes "cp819" ∷ codes "csisolatin1" ∷ codes "ibm819"
     ∷ codes "iso-8859-1" ∷ codes "iso-ir-100" ∷ codes "iso8859-1" ∷ codes "iso88591" ∷ codes "iso_8859-1" ∷ codes "iso_8859-1:1987"
     ∷ codes "l1" ∷ codes "latin1" ∷ codes "us-ascii" ∷ codes "windows-1252" ∷ codes "x-cp1252" ∷ []
 
+-- the labels of UTF-16, the high byte first
 abbrev pub utf_16be_labels : List (List ℕ)
 utf_16be_labels = codes "unicodefffe" ∷ codes "utf-16be" ∷ []
 
+-- the labels of UTF-16, the low byte first
 abbrev pub utf_16le_labels : List (List ℕ)
 utf_16le_labels = codes "csunicode" ∷ codes "iso-10646-ucs-2" ∷ codes "ucs-2" ∷ codes "unicode" ∷ codes "unicodefeff" ∷ codes "utf-16" ∷ codes "utf-16le" ∷ []
 
@@ -70,7 +73,8 @@ windows_1252_row =
 abbrev pub windows_1252_char : ℕ → ℕ
 windows_1252_char byte = if is_in_range 0x80 0x9F byte then slice_index windows_1252_row (byte - 0x80) else byte
 
--- the character of a byte below 80 is that of its number, and of the byte 80 + n the n-th of these
+-- the character of a byte, where these are those of the bytes 80 to FF and every other byte is the
+-- character of its number
 abbrev pub single_byte_char : List ℕ → ℕ → ℕ
 single_byte_char high byte = if nat_lt byte 0x80 then byte else slice_index high (byte - 0x80)
 
@@ -101,7 +105,7 @@ has_odd_end (first ∷ second ∷ bytes) = has_odd_end bytes
 abbrev pub ends_in_high : List ℕ → Bool
 ends_in_high [] = false
 ends_in_high (unit ∷ []) = is_high_surrogate unit
-ends_in_high (unit ∷ next ∷ units) = ends_in_high (next ∷ units)
+ends_in_high (unit ∷ next ∷ more) = ends_in_high (next ∷ more)
 
 -- the characters of UTF-16: those of the units, with U+FFFD for each surrogate that has no partner,
 -- and then U+FFFD for an odd last byte, unless a high surrogate stands directly before it, whose

@@ -39,3 +39,8 @@ Answers view (Err e) given = IsRefusal e given
 abbrev pub AnswersInMemory : {X Y : Type 0} → (X → Y) → Result X MailParseError → Result Y Refusal → Type 0
 AnswersInMemory view (Ok x) given = given ≡ Ok (view x)
 AnswersInMemory view (Err e) given = IsRefusalOrMemory e given
+
+-- memory ran out
+abbrev pub IsMemory : MailParseError → Type 0
+IsMemory (Memory e) = Unit {0}
+IsMemory _ = ⊥

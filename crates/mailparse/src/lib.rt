@@ -1,6 +1,8 @@
-//! Reads mail: headers, the header block and the message.
+//! Reads mail: headers, the header block, the message, and bodies.
 #![tactic(auto)]
 
+pub mod body;
+mod content_type;
 mod error;
 mod header_block;
 mod header_map;
@@ -9,7 +11,8 @@ mod lossy_text;
 mod mail;
 mod mail_header;
 
-pub use error::MailParseError;
+pub use content_type::ParsedContentType;
+pub use error::{Base64Fault, MailParseError, QuotedPrintableFault, Wrapped};
 pub use header_block::parse_headers;
 pub use header_map::MailHeaderMap;
 pub use mail::{ParsedMail, parse_mail};

@@ -1,0 +1,49 @@
+-- The body of a message: the transfer coding that it is in (RFC 2045, section 6), its bytes and its text.
+use Rattle.std.specs.Prelude.{ℕ, List, codes, Option, Some, None, Result, Ok, Err, if◌then◌else◌}
+use Rattle.std.specs.Option.{option_map_or}
+use Rattle.std.specs.Str.{bytes_eq}
+use Rattle.mail_codec.specs.Places.{without_ascii_whitespace}
+use Rattle.mail_codec.specs.Charset.{charset_of_label, marked_text_of, ascii_text}
+use Rattle.mail_codec.specs.Base64.{base64}
+use Rattle.mail_codec.specs.QuotedPrintable.{quoted_printable}
+use Rattle.mailparse.specs.Refusal.{Refusal, base64_fault}
+
+-- the transfer codings of a body
+pub data BodyKind : Type 0 where
+  in_base64 in_quoted_printable in_7bit in_8bit in_binary : BodyKind
+
+-- the coding that a text names, exactly so and in lower case; any other text, and none, means 7bit
+unfoldable pub kind_named : Option (List ℕ) → BodyKind
+kind_named None = in_7bit
+kind_named (Some name) =
+    if bytes_eq name (codes "base64") then in_base64
+    else (if bytes_eq name (codes "quoted-printable") then in_quoted_printable
+    else (if bytes_eq name (codes "8bit") then in_8bit
+    else (if bytes_eq name (codes "binary") then in_binary
+    else in_7bit)))
+
+-- what is read or refused as Base64
+abbrev pub base64_bytes : Result (List ℕ) ℕ → Result (List ℕ) Refusal
+base64_bytes (Ok bytes) = Ok bytes
+base64_bytes (Err group) = Err (base64_fault group)
+
+-- the bytes that a body stands for: in Base64, where all white space counts as absent, in quoted-printable, or as it is
+unfoldable pub decoded : BodyKind → List ℕ → Result (List ℕ) Refusal
+decoded in_base64 body = base64_bytes (base64 (without_ascii_whitespace body))
+decoded in_quoted_printable body = Ok (quoted_printable body)
+decoded in_7bit body = Ok body
+decoded in_8bit body = Ok body
+decoded in_binary body = Ok body
+
+-- the text of bytes under the label of a charset: a byte order mark decides first; under an unknown label they are ASCII
+unfoldable pub text_under : List ℕ → List ℕ → List ℕ
+text_under label bytes = option_map_or (λ charset. marked_text_of charset bytes) (charset_of_label label) (ascii_text bytes)
+
+-- the text of what was decoded, or its refusal
+abbrev pub text_of_decoded : List ℕ → Result (List ℕ) Refusal → Result (List ℕ) Refusal
+text_of_decoded label (Ok bytes) = Ok (text_under label bytes)
+text_of_decoded label (Err refusal) = Err refusal
+
+-- the text of a body under the label of a charset
+unfoldable pub decoded_text : BodyKind → List ℕ → List ℕ → Result (List ℕ) Refusal
+decoded_text kind label body = text_of_decoded label (decoded kind body)
