@@ -6,7 +6,9 @@ use std::io;
 use std::io::{ErrorKind, Read, Write};
 use std::test::Fail;
 
-const LEADING_SPACE: &str = "Header cannot start with a space; it is likely an overhanging line from a previous header";
+const LEADING_SPACE: &str =
+    "Header cannot start with a space; it is likely an overhanging line from a previous header";
+
 const LONE_CR: &str = "Headers were followed by an unexpected lone CR character!";
 
 /// What a call of a reader or a writer answers in place of bytes.
@@ -125,7 +127,10 @@ const SHOWN: [(&[u8], &str); 9] = [
     (b"\xE9: 1", "part 0: 1 headers, 0 body bytes\n  \u{E9}: 1\n"),
     (b"\n\nbody", "part 0: 0 headers, 5 body bytes\n"),
     (b"A : b", "part 0: 1 headers, 0 body bytes\n  A : b\n"),
-    (b":x\nKey", "part 0: 2 headers, 0 body bytes\n  : x\n  Key: \n"),
+    (
+        b":x\nKey",
+        "part 0: 2 headers, 0 body bytes\n  : x\n  Key: \n",
+    ),
     (b"\r\n\xFF\0", "part 0: 0 headers, 2 body bytes\n"),
 ];
 
@@ -136,7 +141,10 @@ fn however_little_comes_and_goes(rt: HostRuntime) -> Result<(), Fail> {
             for trouble in [Trouble::Never, Trouble::Interrupts] {
                 let mut reader = TestReader::new(input, step, trouble);
                 let mut writer = TestWriter::new(rt.alloc(), step, trouble);
-                assert!(rt; run(rt.alloc(), &mut reader, &mut writer).is_ok(), "{input:?}");
+                assert!(rt;
+                    run(rt.alloc(), &mut reader, &mut writer).is_ok(),
+                    "{input:?}"
+                );
                 assert_eq!(rt; writer.held.as_slice(), text.as_bytes(), "{input:?}");
                 assert!(rt; reader.left.is_empty(), "{input:?}");
                 assert_eq!(rt; writer.flushes, 1, "{input:?}");
@@ -193,6 +201,7 @@ fn input_that_is_refused(rt: HostRuntime) -> Result<(), Fail> {
 }
 
 const INPUT: &[u8] = b"A: 1\r\nB:2\r\n\r\nxyz";
+
 const TEXT: &[u8] = b"part 0: 2 headers, 3 body bytes\n  A: 1\n  B: 2\n";
 
 #[test]

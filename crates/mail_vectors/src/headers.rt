@@ -115,8 +115,16 @@ fn a_block(rt: HostRuntime) -> Result<(), Fail> {
         (b"A:1\n B:2\nC", 2, 10),
         (b"\tA: 1\n", 1, 6),
         (b":\n:\n:", 3, 5),
-        (b"Subject: foo\nAnother header: bar\n\nBody starts here", 2, 34),
-        (b"Subject: Test\nFrom: me@myself.com\nTo: you@yourself.com", 3, 54),
+        (
+            b"Subject: foo\nAnother header: bar\n\nBody starts here",
+            2,
+            34,
+        ),
+        (
+            b"Subject: Test\nFrom: me@myself.com\nTo: you@yourself.com",
+            3,
+            54,
+        ),
     ];
     for (raw, count, end) in rows {
         let (headers, index) = parse_headers(rt.alloc(), raw)?;

@@ -11,9 +11,17 @@ fn a_message(rt: HostRuntime) -> Result<(), Fail> {
         (b"\n", b"\n", 0),
         (b"\r\nbody", b"\r\n", 0),
         (b"A: 1\r\nB:2\r\n\r\nxyz", b"A: 1\r\nB:2\r\n\r\n", 2),
-        (b"SubJECT : foo\n\nBody starts here", b"SubJECT : foo\n\n", 1),
+        (
+            b"SubJECT : foo\n\nBody starts here",
+            b"SubJECT : foo\n\n",
+            1,
+        ),
         (b"Key: Value1\nKey: Value2", b"Key: Value1\nKey: Value2", 2),
-        (b"Subject: test\n\nThis is the body", b"Subject: test\n\n", 1),
+        (
+            b"Subject: test\n\nThis is the body",
+            b"Subject: test\n\n",
+            1,
+        ),
         (b"A: b\n\n\n x\n\r", b"A: b\n\n", 1),
     ];
     for (raw, block, count) in rows {
@@ -52,7 +60,11 @@ fn a_message_of_each_byte_alone(rt: HostRuntime) -> Result<(), Fail> {
                 let mail = read?;
                 let count = if byte == b'\n' { 0 } else { 1 };
                 assert_eq!(rt; mail.headers.len(), count, "{byte}");
-                assert_eq!(rt; mail.get_headers().get_raw_bytes(), raw.as_slice(), "{byte}");
+                assert_eq!(rt;
+                    mail.get_headers().get_raw_bytes(),
+                    raw.as_slice(),
+                    "{byte}"
+                );
             }
         }
     }
@@ -80,7 +92,10 @@ fn the_headers_that_are_there_now(rt: HostRuntime) -> Result<(), Fail> {
     let mut mail = parse_mail(rt.alloc(), b"A: 1\nB: 2\n\nbody")?;
     mail.headers.clear();
     assert_eq!(rt; mail.get_headers().into_iter().count(), 0);
-    assert_eq!(rt; mail.get_headers().get_raw_bytes(), b"A: 1\nB: 2\n\n".as_slice());
+    assert_eq!(rt;
+        mail.get_headers().get_raw_bytes(),
+        b"A: 1\nB: 2\n\n".as_slice()
+    );
     Ok(())
 }
 

@@ -6,20 +6,20 @@ use std::test::Fail;
 #[test]
 fn a_byte(rt: HostRuntime) -> Result<(), Fail> {
     // how many times the first byte comes, what follows, and where `:` is
-    let rows: [(u8, usize, &[u8], Option<usize>); 10] = [
-        (b'a', 60, b";:;;", Some(61)),
-        (b'a', 64, b"", None),
-        (b';', 63, b":", Some(63)),
-        (b';', 64, b":", Some(64)),
-        (b';', 0, b"", None),
-        (b';', 0, b":", Some(0)),
-        (b';', 0, b"a::", Some(1)),
-        (b'\xBA', 70, b"\xBA:", Some(71)),
-        (b'\0', 9, b":", Some(9)),
-        (b'9', 200, b";", None),
+    let rows: [(&[u8], usize, &[u8], Option<usize>); 10] = [
+        (b"a", 60, b";:;;", Some(61)),
+        (b"a", 64, b"", None),
+        (b";", 63, b":", Some(63)),
+        (b";", 64, b":", Some(64)),
+        (b";", 0, b"", None),
+        (b";", 0, b":", Some(0)),
+        (b";", 0, b"a::", Some(1)),
+        (b"\xBA", 70, b"\xBA:", Some(71)),
+        (b"\0", 9, b":", Some(9)),
+        (b"9", 200, b";", None),
     ];
     for (first, times, rest, place) in rows {
-        let run = repeated(rt.alloc(), &[first], times)?;
+        let run = repeated(rt.alloc(), first, times)?;
         let bytes = joined(rt.alloc(), &[run.as_slice(), rest])?;
         assert_eq!(rt; find_byte(bytes.as_slice(), b':'), place, "{bytes:?}");
     }
@@ -33,7 +33,11 @@ fn a_byte_at_each_place(rt: HostRuntime) -> Result<(), Fail> {
         assert_eq!(rt; find_byte(bytes.as_slice(), b':'), None);
         for place in 0..bytes.len() {
             bytes[place] = b':';
-            assert_eq!(rt; find_byte(bytes.as_slice(), b':'), Some(place), "of {length}");
+            assert_eq!(rt;
+                find_byte(bytes.as_slice(), b':'),
+                Some(place),
+                "of {length}"
+            );
             bytes[place] = b';';
         }
     }

@@ -3,7 +3,8 @@ use mailparse::MailParseError;
 use std::alloc::{AllocError, Global};
 
 /// What a first byte that is a space is refused with.
-pub const LEADING_SPACE: &str = "Header cannot start with a space; it is likely an overhanging line from a previous header";
+pub const LEADING_SPACE: &str =
+    "Header cannot start with a space; it is likely an overhanging line from a previous header";
 
 /// What a CR without LF is refused with where a header is wanted.
 pub const LONE_CR: &str = "Headers were followed by an unexpected lone CR character!";
