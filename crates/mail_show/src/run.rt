@@ -24,7 +24,6 @@ pub enum ShowFault {
 
 impl From<MailParseError> for ShowFault {
     ghost use Rattle.mail_show.specs.declared.run.ShowFault.TheVariants.{Mail};
-
     ghost from_gives = { λ e fault. fault ≡ Mail e };
 
     fn from(e: MailParseError) -> ShowFault {
@@ -35,7 +34,6 @@ impl From<MailParseError> for ShowFault {
 impl From<AllocError> for ShowFault {
     ghost use Rattle.mail_show.specs.declared.run.ShowFault.TheVariants.{Mail};
     ghost use Rattle.mailparse.specs.declared.error.MailParseError.TheVariants.{Memory};
-
     ghost from_gives = { λ e fault. fault ≡ Mail (Memory e) };
 
     fn from(e: AllocError) -> ShowFault {
