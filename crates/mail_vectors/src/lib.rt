@@ -3,6 +3,10 @@
 #![tactic(auto)]
 
 #[cfg(test)]
+mod bodies;
+#[cfg(test)]
+mod charsets;
+#[cfg(test)]
 mod debug_texts;
 #[cfg(test)]
 mod errors;
@@ -16,3 +20,5 @@ mod messages;
 mod searches;
 #[cfg(test)]
 mod texts;
+#[cfg(test)]
+mod transfer;

@@ -1,6 +1,6 @@
 //! Searches in bytes.
-use crate::texts::{joined, repeated};
-use mail_codec::bytescan::{find, find_byte};
+use crate::texts::repeated;
+use mail_codec::bytescan::{find, find_byte, strip_ascii_whitespace};
 use std::test::Fail;
 
 #[test]
@@ -19,8 +19,8 @@ fn a_byte(rt: HostRuntime) -> Result<(), Fail> {
         (b"9", 200, b";", None),
     ];
     for (first, times, rest, place) in rows {
-        let run = repeated(rt.alloc(), first, times)?;
-        let bytes = joined(rt.alloc(), &[run.as_slice(), rest])?;
+        let mut bytes = repeated(rt.alloc(), first, times)?;
+        bytes.extend_from_slice(rest)?;
         assert_eq!(rt; find_byte(bytes.as_slice(), b':'), place, "{bytes:?}");
     }
     Ok(())
@@ -74,4 +74,48 @@ fn a_text(rt: HostRuntime) {
     for (bytes, key, place) in rows {
         assert_eq!(rt; find(bytes, key), place, "{key:?} in {bytes:?}");
     }
+}
+
+#[test]
+fn without_white(rt: HostRuntime) -> Result<(), Fail> {
+    let rows: [(&[u8], &[u8]); 6] = [
+        (b"a \x0Bb\tc\r\n", b"a\x0Bbc"),
+        (b" !!!!!!!", b"!!!!!!!"),
+        (b"", b""),
+        (b" \t\n\x0C\r", b""),
+        (b"\x0B\x85\xA0", b"\x0B\x85\xA0"),
+        (b"\xC2\xA0 \xE2\x80\x83", b"\xC2\xA0\xE2\x80\x83"),
+    ];
+    for (bytes, kept) in rows {
+        let answer = strip_ascii_whitespace(rt.alloc(), bytes)?;
+        assert_eq!(rt; answer.as_slice(), kept, "{bytes:?}");
+    }
+    Ok(())
+}
+
+#[test]
+fn each_byte_white_or_not(rt: HostRuntime) -> Result<(), Fail> {
+    for byte in 0..=255u8 {
+        let bytes = [b'a', byte, b'b'];
+        let answer = strip_ascii_whitespace(rt.alloc(), &bytes)?;
+        let is_white = byte == 9 || byte == 10 || byte == 12 || byte == 13 || byte == 32;
+        let kept = if is_white { b"ab" } else { bytes.as_slice() };
+        assert_eq!(rt; answer.as_slice(), kept, "{byte}");
+    }
+    Ok(())
+}
+
+#[test]
+fn a_space_at_each_place(rt: HostRuntime) -> Result<(), Fail> {
+    for length in 1..=200usize {
+        let mut bytes = repeated(rt.alloc(), b"!", length)?;
+        let kept = repeated(rt.alloc(), b"!", length - 1)?;
+        for place in 0..bytes.len() {
+            bytes[place] = b' ';
+            let answer = strip_ascii_whitespace(rt.alloc(), bytes.as_slice())?;
+            assert!(rt; answer.as_slice() == kept.as_slice(), "{place} of {length}");
+            bytes[place] = b'!';
+        }
+    }
+    Ok(())
 }
