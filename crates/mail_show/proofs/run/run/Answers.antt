@@ -10,7 +10,7 @@ pub returns-in_err-parsed : goal.returns-in_err-parsed
 returns-in_err-parsed g c =
     let p = err_from_is_err_and c.from_residual-in_err-parsed.result c.from_residual-in_err-parsed.ensures.1 in
     rw (p.1, p.2) (run-refused _ _ _ c.in_ok-input.input.items c.in_err-parsed.field-0.0 c.in_ok-input.ensures
-        (subst (λ (input : List ℕ). IsRefusalOrMemory c.in_err-parsed.field-0.0 (read_mail input)) c.as_slice.ensures.value c.in_err-parsed.ensures.read))
+    (subst (λ (input : List ℕ). IsRefusalOrMemory c.in_err-parsed.field-0.0 (read_mail input)) c.as_slice.ensures.value c.in_err-parsed.ensures.read))
 
 pub returns : goal.returns
 returns g c =
