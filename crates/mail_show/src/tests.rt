@@ -113,7 +113,7 @@ impl Write for TestWriter {
 }
 
 /// Messages and the text that shows each.
-const SHOWN: [(&[u8], &str); 9] = [
+const SHOWN: [(&[u8], &str); 12] = [
     (
         b"A: 1\r\nB:2\r\n\r\nxyz",
         "part 0: 2 headers, 3 body bytes\n  A: 1\n  B: 2\n",
@@ -130,6 +130,18 @@ const SHOWN: [(&[u8], &str); 9] = [
     (
         b":x\nKey",
         "part 0: 2 headers, 0 body bytes\n  : x\n  Key: \n",
+    ),
+    (
+        b"Subject: =?utf-8?Q?a?=\n =?utf-8?Q?b?=\n\nHi",
+        "part 0: 1 headers, 2 body bytes\n  Subject: ab\n",
+    ),
+    (
+        b"\xC3\xA9: \xC3\xA9\n",
+        "part 0: 1 headers, 0 body bytes\n  \u{C3}\u{A9}: \u{E9}\n",
+    ),
+    (
+        b"A: x\r\n\ty =?latin1?q?=E9?=",
+        "part 0: 1 headers, 0 body bytes\n  A: x y \u{E9}\n",
     ),
     (b"\r\n\xFF\0", "part 0: 0 headers, 2 body bytes\n"),
 ];

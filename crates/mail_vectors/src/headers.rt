@@ -6,7 +6,7 @@ use std::test::Fail;
 #[test]
 fn one_header(rt: HostRuntime) -> Result<(), Fail> {
     // the input, its key, its value, and how many bytes it takes
-    let rows: [(&[u8], &[u8], &[u8], usize); 29] = [
+    let rows: [(&[u8], &[u8], &[u8], usize); 30] = [
         (b"Key", b"Key", b"", 3),
         (b"Key\nA: b", b"Key", b"", 4),
         (b"\tx: y", b"\tx", b"y", 5),
@@ -36,6 +36,12 @@ fn one_header(rt: HostRuntime) -> Result<(), Fail> {
         (b"\r\n", b"\r", b"", 2),
         (b"\rX: y", b"\rX", b"y", 5),
         (b"\0:\0\xFF", b"\0", b"\0\xFF", 4),
+        (
+            b"SuBJect : =?iso-8859-1?Q?=A1Hola,_se=F1or!?=",
+            b"SuBJect ",
+            b"=?iso-8859-1?Q?=A1Hola,_se=F1or!?=",
+            44,
+        ),
     ];
     for (raw, key, value, length) in rows {
         let (header, end) = parse_header(raw)?;

@@ -22,3 +22,5 @@ mod searches;
 mod texts;
 #[cfg(test)]
 mod transfer;
+#[cfg(test)]
+mod values;
