@@ -75,6 +75,7 @@ fn times_of(
 }
 
 /// Nanoseconds for each byte, in thousandths.
+#[derive(Clone, Copy)]
 struct PerByte(u64);
 
 impl PerByte {
