@@ -36,7 +36,7 @@ pub same-reading : (kind : BodyKind) (label other_label body other_body name oth
     → label ≡ other_label → body ≡ other_body → name ≡ other_name → bytes ≡ other_bytes → text ≡ other_text
     → IsReading kind label body name bytes text → IsReading kind other_label other_body other_name other_bytes other_text
 same-reading kind label other_label body other_body name other_name bytes other_bytes text other_text l b n y t reading = record {
-    named = reading.named ∙ n;
-    decoded_bytes = rw (sym b) (reading.decoded_bytes ∙ y);
-    shown_text = rw (sym l, sym b) (reading.shown_text ∙ t);
-  }
+  named = reading.named ∙ n;
+  decoded_bytes = rw (sym b) (reading.decoded_bytes ∙ y);
+  shown_text = rw (sym l, sym b) (reading.shown_text ∙ t);
+}

@@ -82,7 +82,11 @@ impl PerByte {
     /// The time shared out among so many bytes; 0 where there is no time or no byte.
     fn of(time: Option<&u64>, bytes: usize) -> PerByte {
         let time = time.copied().unwrap_or(0);
-        PerByte(time.saturating_mul(1000).checked_div(bytes as u64).unwrap_or(0))
+        PerByte(
+            time.saturating_mul(1000)
+                .checked_div(bytes as u64)
+                .unwrap_or(0),
+        )
     }
 }
 
