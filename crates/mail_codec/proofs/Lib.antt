@@ -1,4 +1,5 @@
 pub mod PlaceLemmas
+pub mod PlaceFromLemmas
 pub mod EncodeLemmas
 pub mod LabelLemmas
 pub mod MarkLemmas

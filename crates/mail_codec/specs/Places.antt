@@ -1,6 +1,7 @@
 -- Places in a list of bytes, counted from 0, and the least place with a property; the project's own words.
-use Rattle.std.specs.Prelude.{◌≡◌, ℕ, zero, suc, ◌+◌, ◌<◌, ◌≤◌, Bool, true, false, ◌&&◌, not, ◌==◌, nat_lt, filter, List, [], ◌∷◌, length, drop, Option, None, Some, if◌then◌else◌}
+use Rattle.std.specs.Prelude.{◌≡◌, ℕ, zero, suc, ◌+◌, ◌<◌, ◌≤◌, Bool, true, false, ◌&&◌, not, ◌==◌, nat_eq, nat_lt, filter, List, [], ◌∷◌, length, drop, Option, None, Some, if◌then◌else◌}
 use Rattle.std.specs.Char.{is_ascii_whitespace}
+use Rattle.std.specs.List.{starts_with}
 
 -- the least place from which on the rest of the bytes passes the test, or the length where there is none
 abbrev pub first_place : (List ℕ → Bool) → List ℕ → ℕ
@@ -8,8 +9,8 @@ first_place test [] = 0
 first_place test (b ∷ rest) = if test (b ∷ rest) then 0 else suc (first_place test rest)
 
 -- the least such place at or after a start
-abbrev pub first_place_from : (List ℕ → Bool) → ℕ → List ℕ → ℕ
-first_place_from test start bytes = start + first_place test (drop start bytes)
+abbrev pub place_from : (List ℕ → Bool) → List ℕ → ℕ → ℕ
+place_from test bytes start = start + first_place test (drop start bytes)
 
 -- there are no bytes
 abbrev pub is_empty : List ℕ → Bool
@@ -23,9 +24,7 @@ begins test (b ∷ rest) = test b
 
 -- the bytes begin with that text
 abbrev pub stands : List ℕ → List ℕ → Bool
-stands [] bytes = true
-stands (d ∷ text) [] = false
-stands (d ∷ text) (b ∷ bytes) = d == b && stands text bytes
+stands text bytes = starts_with nat_eq bytes text
 
 -- the least place whose rest passes the test, where there is one
 abbrev pub place : (List ℕ → Bool) → List ℕ → Option ℕ

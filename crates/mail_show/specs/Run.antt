@@ -2,10 +2,10 @@
 use Rattle.std.specs.Prelude.{◌≡◌, ℕ, List, Option, Some, Result, Ok, Err, IfSome}
 use Rattle.std.specs.Global.{Vec}
 use Rattle.std.specs.Io.KnownBytes.{Keeps, Appends, IsAtEnd}
-use Rattle.mailparse.specs.Outcome.{IsRefusalOrMemory}
+use Rattle.mailparse.specs.Outcome.{IsRefusal}
 use Rattle.mailparse.specs.Refusal.{Refusal}
 use Rattle.mailparse.specs.declared.error.MailParseError.{MailParseError}
-use Rattle.mailparse.specs.declared.error.MailParseError.TheVariants.{Generic, Memory}
+use Rattle.mailparse.specs.declared.error.MailParseError.TheVariants.{Memory}
 use Rattle.mail_show.specs.Shown.{shown}
 use Rattle.mail_show.specs.declared.run.ShowFault.{ShowFault}
 use Rattle.mail_show.specs.declared.run.ShowFault.TheVariants.{Mail, Input, Output}
@@ -18,13 +18,13 @@ pub record HasShown (left_before left held_before held : Option (List ℕ)) : Ty
 -- memory ran out; or all was read, and the input is refused so
 abbrev pub RefusesInput : Option (List ℕ) → Option (List ℕ) → MailParseError → Type 0
 RefusesInput left_before left (Memory e) = Unit {0}
-RefusesInput left_before left (Generic text) = IsAtEnd left × IfSome left_before (λ input. IsRefusalOrMemory (Generic text) (shown input))
+RefusesInput left_before left e = IsAtEnd left × IfSome left_before (λ input. IsRefusal e (shown input))
 
 -- what reading to the end gives: all that the reader had left; a fault is want of memory or of the input
 abbrev pub IsRead : (left_before left : Option (List ℕ)) → Result (Vec ℕ) ShowFault → Type 0
 IsRead left_before left (Ok input) = IsAtEnd left × IfSome left_before (λ all. input.items ≡ all)
 IsRead left_before left (Err (Mail (Memory e))) = Unit {0}
-IsRead left_before left (Err (Mail (Generic text))) = ⊥
+IsRead left_before left (Err (Mail e)) = ⊥
 IsRead left_before left (Err Input) = Unit {0}
 IsRead left_before left (Err Output) = ⊥
 

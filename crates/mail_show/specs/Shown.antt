@@ -1,14 +1,15 @@
 -- The text that shows a message; the program's own form.
 use Rattle.std.specs.Prelude.{ℕ, ◌-◌, List, [], ◌∷◌, ◌++◌, length, codes, decimal, Result, Ok, Err}
 use Rattle.std.specs.List.{flat_map}
-use Rattle.mail_codec.specs.Latin1.{latin1_text}
 use Rattle.mailparse.specs.Refusal.{Refusal}
 use Rattle.mailparse.specs.Header.{Header}
+use Rattle.mailparse.specs.Keys.{key_text}
 use Rattle.mailparse.specs.Mail.{Mail, read_mail}
+use Rattle.mailparse.specs.Value.{lenient_value}
 
--- the line of a header: two spaces, its key, a colon and a space, its value
+-- the line of a header: two spaces, the text of its key, a colon and a space, the text that its value shows
 unfoldable pub header_line : Header → List ℕ
-header_line header = codes "  " ++ latin1_text header.key ++ codes ": " ++ latin1_text header.value ++ codes "\n"
+header_line header = codes "  " ++ key_text header ++ codes ": " ++ lenient_value header.value ++ codes "\n"
 
 -- the line of the message: how many headers it has, and how many bytes stand behind its block
 unfoldable pub mail_line : Mail → List ℕ

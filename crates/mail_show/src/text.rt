@@ -1,15 +1,15 @@
 //! The text that shows a message.
-ghost use Rattle.std.specs.Prelude.{◌≡◌, ◌++◌, string_bytes, IfOk, OnOk};
+ghost use Rattle.std.specs.Prelude.{◌≡◌, ◌++◌, string_bytes, Ok, IfErr, OnOk};
 ghost use Rattle.mail_show.specs.Shown.{header_line, mail_line, mail_text};
+ghost use Rattle.mailparse.specs.Outcome.{AnswersInMemory, IsMemory};
 ghost use Rattle.mailparse.specs.Views.{header, mail};
 
-use mail_codec::charset::decode_latin1;
 use mailparse::{MailHeader, MailParseError, ParsedMail};
 use std::alloc::{AllocError, Global};
 
 /// The text of a message: a line for the message, and one for each of its headers.
-pub fn text_of(alloc: Global, parsed: &ParsedMail<'_>) -> Result<String, AllocError>
-    ensures { IfOk result (λ text. string_bytes text ≡ mail_text (mail parsed.now)) }
+pub fn text_of(alloc: Global, parsed: &ParsedMail<'_>) -> Result<String, MailParseError>
+    ensures { AnswersInMemory (λ text. string_bytes text) result (Ok (mail_text (mail parsed.now))) }
 {
     let mut text = String::new(alloc);
     push_mail_line(&mut text, parsed)?;
@@ -32,18 +32,20 @@ fn push_mail_line(text: &mut String, parsed: &ParsedMail<'_>) -> Result<(), Allo
     write!(text, "part 0: {headers} headers, {body} body bytes\n")
 }
 
-/// Writes the line of a header: its key and its value, one character for each byte.
+/// Writes the line of a header: the texts of its key and of its value.
 #[tactic(auto, unfolding(crate::specs::Shown::header_line))]
 fn push_header_line(
     alloc: Global,
     text: &mut String,
     field: &MailHeader<'_>,
-) -> Result<(), AllocError>
-    ensures { OnOk result (string_bytes text.new ≡ string_bytes text.old ++ header_line (header field.now)) }
+) -> Result<(), MailParseError>
+    ensures ok { OnOk result (string_bytes text.new ≡ string_bytes text.old ++ header_line (header field.now)) }
+    ensures fault { IfErr result IsMemory }
 {
     text.push_str("  ")?;
-    text.push_str(decode_latin1(alloc, field.get_key_raw())?.as_str())?;
+    text.push_str(field.get_key_ref(alloc)?.as_str())?;
     text.push_str(": ")?;
-    text.push_str(decode_latin1(alloc, field.get_value_raw())?.as_str())?;
-    text.push('\n')
+    text.push_str(field.get_value(alloc)?.as_str())?;
+    text.push('\n')?;
+    Ok(())
 }

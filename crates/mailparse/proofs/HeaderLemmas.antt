@@ -5,7 +5,7 @@ use Rattle.std.proofs.lemmas.Bool.{cases_lt}
 use Rattle.std.proofs.lemmas.List.{drop_more, drop-take, drop-drop, take-take}
 use Rattle.std.proofs.Math.ListN.{drop_of_length-le}
 use Rattle.std.proofs.Math.Seq.{drop-length, take-append_seam}
-use Rattle.mail_codec.specs.Places.{first_place, first_place_from, begins}
+use Rattle.mail_codec.specs.Places.{first_place, place_from, begins}
 use Rattle.mail_codec.proofs.PlaceLemmas.{first_place-≤, first_place-here, first_place-past, PassedTo, PassedTo-more, PassedTo-first, PassedTo-all, begins-at}
 use Rattle.mailparse.specs.Header.{ends_key, Header, is_blank, is_line_end, ends_header, key_end, has_colon, header_end, value_start, value_end, header_of, header_length, read_header}
 use Rattle.mailparse.specs.Refusal.{empty_string, leading_space}
@@ -167,7 +167,7 @@ pub header_end-≤ : (raw : List ℕ) → header_end raw ≤ length raw
 unfolding header_end
 header_end-≤ raw = by_colon (has_colon raw) refl
   where
-    by_colon : (v : Bool) → has_colon raw ≡ v → cond (has_colon raw) (first_place_from ends_header (suc (key_end raw)) raw) (key_end raw) ≤ length raw
+    by_colon : (v : Bool) → has_colon raw ≡ v → cond (has_colon raw) (place_from ends_header raw (suc (key_end raw))) (key_end raw) ≤ length raw
     by_colon true e =
         let low = key_end-< raw e in
         let place = first_place-≤ ends_header (drop (suc (key_end raw)) raw) in

@@ -2,3 +2,10 @@ pub mod HeaderLemmas
 pub mod BlockLemmas
 pub mod OutcomeLemmas
 pub mod KeyLemmas
+pub mod TokenLemmas
+pub mod LineLemmas
+pub mod LinesLemmas
+pub mod StepLemmas
+pub mod WordLemmas
+pub mod PlainLemmas
+pub mod ValueLemmas

@@ -2,7 +2,7 @@
 -- 2.2.3, read as leniently as mail is written). Places are counted from the first of the bytes.
 use Rattle.std.specs.Prelude.{ℕ, suc, ◌+◌, Bool, false, ◌&&◌, ◌||◌, not, ◌==◌, min, List, [], ◌∷◌, length, take, drop, slice_range, Result, Ok, Err, if◌then◌else◌}
 use Rattle.std.specs.List.{list_all}
-use Rattle.mail_codec.specs.Places.{first_place, first_place_from, begins, stands, is_empty}
+use Rattle.mail_codec.specs.Places.{first_place, place_from, begins, stands, is_empty}
 use Rattle.mailparse.specs.Refusal.{Refusal, empty_string, leading_space}
 
 abbrev pub tab : ℕ
@@ -48,7 +48,7 @@ has_colon raw = begins (λ b. b == colon) (drop (key_end raw) raw)
 -- the header ends at the first LF behind its colon that no blank follows, without a colon where the key
 -- ends, and at the end where there is no such LF
 unfoldable pub header_end : List ℕ → ℕ
-header_end raw = if has_colon raw then first_place_from ends_header (suc (key_end raw)) raw else key_end raw
+header_end raw = if has_colon raw then place_from ends_header raw (suc (key_end raw)) else key_end raw
 
 -- the bytes that it takes, its LF among them
 unfoldable pub header_length : List ℕ → ℕ
@@ -56,11 +56,11 @@ header_length raw = min (suc (header_end raw)) (length raw)
 
 -- the value starts behind the colon and the spaces there; without a colon it is empty
 unfoldable pub value_start : List ℕ → ℕ
-value_start raw = if has_colon raw then first_place_from (begins (λ b. not (b == space))) (suc (key_end raw)) (take (header_end raw) raw) else key_end raw
+value_start raw = if has_colon raw then place_from (begins (λ b. not (b == space))) (take (header_end raw) raw) (suc (key_end raw)) else key_end raw
 
 -- it ends where nothing but CR and LF is left before the header's end
 unfoldable pub value_end : List ℕ → ℕ
-value_end raw = if has_colon raw then first_place_from (list_all is_line_end) (value_start raw) (take (header_end raw) raw) else key_end raw
+value_end raw = if has_colon raw then place_from (list_all is_line_end) (take (header_end raw) raw) (value_start raw) else key_end raw
 
 -- a header: the bytes of its key and of its value
 pub record Header : Type 0 where

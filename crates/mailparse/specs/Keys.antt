@@ -1,10 +1,12 @@
 -- The keys of headers as text, and looking a header up by its name (RFC 5322, section 2.2, where names ignore case).
-use Rattle.std.specs.Prelude.{ℕ, Bool, List, Option, filter, find}
+use Rattle.std.specs.Prelude.{ℕ, Bool, List, Option, String, filter, find, map, option_map, string_bytes}
+use Rattle.std.specs.Global.{Global}
 use Rattle.std.specs.Char.{eq_ignore_ascii_case}
 use Rattle.std.specs.Str.{chars}
 use lib.Pointwise.{pointwise}
 use Rattle.mail_codec.specs.Latin1.{latin1_text}
 use Rattle.mailparse.specs.Header.{Header}
+use Rattle.mailparse.specs.Value.{lenient_value}
 
 -- the text of a key: one character for each byte
 abbrev pub key_text : Header → List ℕ
@@ -22,3 +24,15 @@ all_with_key name headers = filter (has_key name) headers
 -- the first of them
 abbrev pub first_with_key : List ℕ → List Header → Option Header
 first_with_key name headers = find (has_key name) headers
+
+-- the value of the first of them, if there is one
+abbrev pub first_value : List ℕ → List Header → Option (List ℕ)
+first_value name headers = option_map (λ h. lenient_value h.value) (first_with_key name headers)
+
+-- the values of all of them, in the order of the message
+abbrev pub all_values : List ℕ → List Header → List (List ℕ)
+all_values name headers = map (λ h. lenient_value h.value) (all_with_key name headers)
+
+-- the text that was found, if one was
+abbrev pub text_found : Option (String Global) → Option (List ℕ)
+text_found found = option_map (λ t. string_bytes t) found

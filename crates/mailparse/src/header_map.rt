@@ -1,10 +1,10 @@
 //! Looking headers up by their names.
-ghost use Rattle.std.specs.Prelude.{◌≡◌, map, List, IsOk, IsNone, option_map};
+ghost use Rattle.std.specs.Prelude.{◌≡◌, map, List, IsOk, IsNone, Ok, option_map, string_bytes};
 ghost use Rattle.std.specs.Char.{eq_ignore_ascii_case};
 ghost use Rattle.std.specs.Option.{option_copied};
 ghost use Rattle.std.specs.Str.{chars};
 ghost use lib.Pointwise.{pointwise};
-ghost use Rattle.mailparse.specs.Keys.{has_key, first_with_key, all_with_key};
+ghost use Rattle.mailparse.specs.Keys.{first_with_key, all_with_key, first_value, all_values, text_found};
 ghost use Rattle.mailparse.specs.Outcome.{AnswersInMemory};
 ghost use Rattle.mailparse.specs.Views.{header, headers as views, header_block};
 
@@ -26,6 +26,18 @@ pub trait MailHeaderMap {
     fn get_first_header(&self, key: &str) -> Option<&MailHeader<'_>>
         ensures { option_map header (option_copied result) ≡ first_with_key key.now (views (present self.now)) };
 
+    /// The value of the first header with this name, by `get_value`, or `None` where there is none;
+    /// then it takes no memory and succeeds. Else the one error is want of memory.
+    fn get_first_value(&self, alloc: Global, key: &str) -> Result<Option<String>, MailParseError>
+        ensures found { AnswersInMemory text_found result (Ok (first_value key.now (views (present self.now)))) }
+        ensures none { IsNone (first_with_key key.now (views (present self.now))) → IsOk result };
+
+    /// The values of all headers with this name, by `get_value`, in the order of the message. Without
+    /// one it takes no memory and succeeds; else the one error is want of memory.
+    fn get_all_values(&self, alloc: Global, key: &str) -> Result<Vec<String>, MailParseError>
+        ensures found { AnswersInMemory (λ v. map (λ t. string_bytes t) v.items) result (Ok (all_values key.now (views (present self.now)))) }
+        ensures none { IsNone (first_with_key key.now (views (present self.now))) → IsOk result };
+
     /// All headers with this name, in the order of the message. Without one it takes no memory and
     /// succeeds; else the one error is want of memory.
     fn get_all_headers(
@@ -44,6 +56,14 @@ impl MailHeaderMap for Vec<MailHeader<'_>> {
         first_header(self.as_slice(), key)
     }
 
+    fn get_first_value(&self, alloc: Global, key: &str) -> Result<Option<String>, MailParseError> {
+        first_value(alloc, self.as_slice(), key)
+    }
+
+    fn get_all_values(&self, alloc: Global, key: &str) -> Result<Vec<String>, MailParseError> {
+        all_values(alloc, self.as_slice(), key)
+    }
+
     fn get_all_headers(
         &self,
         alloc: Global,
@@ -58,6 +78,14 @@ impl MailHeaderMap for Headers<'_> {
 
     fn get_first_header(&self, key: &str) -> Option<&MailHeader<'_>> {
         first_header(self.list(), key)
+    }
+
+    fn get_first_value(&self, alloc: Global, key: &str) -> Result<Option<String>, MailParseError> {
+        first_value(alloc, self.list(), key)
+    }
+
+    fn get_all_values(&self, alloc: Global, key: &str) -> Result<Vec<String>, MailParseError> {
+        all_values(alloc, self.list(), key)
     }
 
     fn get_all_headers(
@@ -79,6 +107,39 @@ fn first_header<'h>(list: &'h [MailHeader<'h>], key: &str) -> Option<&'h MailHea
         }
     }
     None
+}
+
+/// The value of the first header of a list with this name.
+fn first_value<'h>(
+    alloc: Global,
+    list: &'h [MailHeader<'h>],
+    key: &str,
+) -> Result<Option<String>, MailParseError>
+    ensures found { AnswersInMemory text_found result (Ok (first_value key.now (views list.now))) }
+    ensures none { IsNone (first_with_key key.now (views list.now)) → IsOk result }
+{
+    match first_header(list, key) {
+        None => Ok(None),
+        Some(h) => Ok(Some(h.get_value(alloc)?)),
+    }
+}
+
+/// The values of all headers of a list with this name.
+fn all_values<'h>(
+    alloc: Global,
+    list: &'h [MailHeader<'h>],
+    key: &str,
+) -> Result<Vec<String>, MailParseError>
+    ensures found { AnswersInMemory (λ v. map (λ t. string_bytes t) v.items) result (Ok (all_values key.now (views list.now))) }
+    ensures none { IsNone (first_with_key key.now (views list.now)) → IsOk result }
+{
+    let mut found = Vec::new(alloc);
+    for h in list {
+        if is_key(h.get_key_raw(), key) {
+            found.push(h.get_value(alloc)?)?;
+        }
+    }
+    Ok(found)
 }
 
 /// All headers of a list with this name.

@@ -4,6 +4,7 @@
 pub mod body;
 mod content_type;
 mod error;
+mod header;
 mod header_block;
 mod header_map;
 pub mod headers;

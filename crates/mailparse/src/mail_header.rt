@@ -1,5 +1,5 @@
 //! One header: where its key, its value and its end stand.
-ghost use Rattle.std.specs.Prelude.{◌≡◌, ◌↔◌, ◌==◌, ◌<◌, ◌≤◌, not, length, take, drop, IfOk, IsOk, IsAscii, string_bytes};
+ghost use Rattle.std.specs.Prelude.{◌≡◌, ◌↔◌, ◌==◌, ◌<◌, ◌≤◌, not, length, take, drop, Ok, IfOk, IsOk, IsErr, IsAscii, string_bytes};
 ghost use Rattle.std.specs.Cow.{cow_str_bytes, IsBorrowedStr};
 ghost use Rattle.std.specs.List.{list_all};
 ghost use Rattle.mail_codec.specs.Places.{first_place, begins};
@@ -7,14 +7,17 @@ ghost use Rattle.mailparse.specs.Header.{space, is_blank, is_line_end, header_of
 ghost use Rattle.mailparse.specs.Keys.{key_text};
 ghost use Rattle.mailparse.specs.Outcome.{Answers, AnswersInMemory};
 ghost use Rattle.mailparse.specs.Scan.{IsScanned};
+ghost use Rattle.mailparse.specs.Value.{lenient_value, strict_value};
 ghost use Rattle.mailparse.specs.Views.{header};
 
 use crate::error::MailParseError;
+use crate::header::unfolded_value;
 use crate::lossy_text::LossyText;
 use mail_codec::charset::decode_latin1;
 use std::alloc::Global;
 use std::borrow::CowStr;
 use std::fmt;
+use std::str;
 
 /// A header of a message: the bytes of its key and of its value, as they stand in the message.
 #[derive(Drop)]
@@ -41,6 +44,39 @@ impl<'a> MailHeader<'a> {
         ensures succeeds { IsAscii (header self.now).key → IsOk result }
     {
         Ok(decode_latin1(alloc, self.key)?)
+    }
+
+    /// The text of the value: its lines are joined, a space for each line end that shows, and its
+    /// encoded words decoded (RFC 5322, section 2.2.3; RFC 2047, sections 2, 4 and 6.2). Bytes that
+    /// are no UTF-8 are read as Latin-1, one character for each byte. The error is want of memory.
+    ///
+    /// The value `=?utf-8?Q?caf=C3=A9?=` reads as `café`.
+    #[tactic(auto, unfolding(crate::specs::Value::lenient_value))]
+    pub fn get_value(&self, alloc: Global) -> Result<String, MailParseError>
+        ensures { AnswersInMemory (λ text. string_bytes text) result (Ok (lenient_value (header self.now).value)) }
+    {
+        match str::from_utf8(self.value) {
+            Ok(text) => Ok(unfolded_value(alloc, text)?),
+            Err(_) => {
+                let text = decode_latin1(alloc, self.value)?;
+                Ok(unfolded_value(alloc, text.as_str())?)
+            }
+        }
+    }
+
+    /// The text of the value as `get_value` reads it, where its bytes are UTF-8; other bytes are
+    /// refused before any memory is taken. Else the error is want of memory.
+    #[tactic(auto, unfolding(crate::specs::Value::strict_value))]
+    pub fn get_value_utf8(&self, alloc: Global) -> Result<String, MailParseError>
+        ensures read { AnswersInMemory (λ text. string_bytes text) result (strict_value (header self.now).value) }
+        ensures refused { IsErr (strict_value (header self.now).value) → Answers (λ text. string_bytes text) result (strict_value (header self.now).value) }
+    {
+        match str::from_utf8(self.value) {
+            Ok(text) => Ok(unfolded_value(alloc, text)?),
+            Err(_) => Err(MailParseError::EncodingError(CowStr::Borrowed(
+                "Invalid UTF-8 in header value",
+            ))),
+        }
     }
 
     /// The bytes of the key, as they stand in the message, spaces before the colon among them.

@@ -1,0 +1,110 @@
+-- A plain value shows itself; the strict and the lenient reading agree.
+use Rattle.std.proofs.Common.{◌≡◌, ◌≢◌, ◌⊎◌, ℕ, zero, suc, ◌+◌, ◌<◌, ◌≤◌, Bool, true, false, cond, eqb, ltb, ◌&&◌, codes, Result, List, [], ◌∷◌, ◌++◌, length, map, take, drop, slice_range, get_or, Option, Some, None, Ok, Err, refl, sym, ap, ◌∙◌, subst, inl, inr, ⊎_elim, arith}
+use Rattle.std.proofs.Math.Nat.{sub-zero}
+use Rattle.std.proofs.lemmas.Bool.{cond-true, cond-false, false≢true, eqb-true, eqb-false, eq-eqb, ne_eqb, cases_lt, or_from, and_left, and_right, le-ltb}
+use Rattle.std.proofs.lemmas.List.{append-nil, take_all}
+use Rattle.std.proofs.lemmas.List.Elements.{All-head, All-tail}
+use Rattle.std.proofs.lemmas.List.Splits.{slice_split_none}
+use Rattle.std.proofs.lemmas.Str.{chars-IsAscii, encodes-IsAscii, is_utf8-from_IsUtf8, IsUtf8-from_is_utf8}
+use Rattle.std.specs.Char.{is_whitespace}
+use Rattle.std.specs.List.{All, slice_split}
+use Rattle.std.specs.Str.{chars, trim_start, skip_leading_whitespace, encode_utf8_all, IsAscii, IsUtf8, is_utf8}
+use Rattle.std.specs.Str.Lines.{lines, lines_of_parts}
+use Rattle.mail_codec.specs.Latin1.{latin1_text}
+use Rattle.mail_codec.specs.Places.{stands, first_place}
+use Rattle.mailparse.specs.Tokens.{Piece, begins_opening, is_white, opening, plain, line_pieces, last_group, no_opening}
+use Rattle.mailparse.specs.Refusal.{value_not_utf8}
+use Rattle.mailparse.proofs.ValueLemmas.{lenient-utf8}
+use Rattle.std.proofs.lemmas.Str.{IsUtf8-from_ascii}
+use Rattle.mailparse.specs.Value.{Token, IsPlain, token_of, plain_token, line_tokens, tokens_of_lines, value_tokens, shown_tokens, shown_behind, shown_value, value_text, lenient_value, strict_value}
+use Rattle.mailparse.specs.declared.header.TokenKind.TheVariants.{Text, Whitespace}
+use Rattle.mail_codec.proofs.PlaceLemmas.{first_place-≤, first_place-passes}
+use Rattle.mailparse.proofs.StepLemmas.{token_of-plain}
+use Rattle.mailparse.proofs.TokenLemmas.{line_pieces_only}
+
+-- ---- printable ASCII
+
+abbrev Printable : List ℕ → Type 0
+Printable value = All (λ b. (32 ≤ b) × (b ≤ 126)) value
+
+printable_ascii : (value : List ℕ) → Printable value → IsAscii value
+printable_ascii value h i =
+    ⊎_elim (λ lt. omega (arith, (h i 0 lt).1)) (λ past. omega (arith, get_or_past value i 0 past)) (cases_lt i (length value))
+
+graphic_no_white : (b : ℕ) → 33 ≤ b → b ≤ 126 → is_whitespace b ≡ false
+graphic_no_white b low high =
+    let other : (n : ℕ) → (b < n) ⊎ (n < b) → eqb b n ≡ false = λ n h. ne_eqb b n (λ e. ⊎_elim (λ l. absurd (omega arith)) (λ l. absurd (omega arith)) h) in
+    or_from _ _ (or_from _ _ (or_from _ _ (or_from _ _ (or_from _ _ (or_from _ _ (or_from _ _ (or_from _ _ (or_from _ _ (or_from _ _
+    (and_right (ltb 8 b) (ltb b 14) (le-ltb b 14 (omega arith)))
+    (other 32 (inr (omega arith)))) (other 133 (inl (omega arith)))) (other 160 (inl (omega arith)))) (other 5760 (inl (omega arith))))
+    (and_left (ltb 8191 b) (ltb b 8203) (le-ltb 8191 b (omega arith))))
+    (other 8232 (inl (omega arith)))) (other 8233 (inl (omega arith)))) (other 8239 (inl (omega arith)))) (other 8287 (inl (omega arith))))
+    (other 12288 (inl (omega arith)))
+
+-- such a value is one line
+lines_of_plain : (b : ℕ) (value : List ℕ) → Printable (b ∷ value) → lines (b ∷ value) ≡ (b ∷ value) ∷ []
+lines_of_plain b value h =
+    ap lines_of_parts (slice_split_none (λ b. eqb b 10) (b ∷ value) (λ k d lt. ne_eqb _ _ (λ e. absurd (omega (arith, (h k d lt).0)))))
+    ∙ cond-false _ _ _ (ne_eqb (suc (length value)) 0 (λ e. absurd (omega arith)))
+
+-- and loses nothing at its start
+trim_start-plain : (b : ℕ) (value : List ℕ) → Printable (b ∷ value) → b ≢ 32 → trim_start (b ∷ value) ≡ b ∷ value
+unfolding trim_start
+trim_start-plain b value h some =
+    let ascii = printable_ascii (b ∷ value) h in
+    let first = All-head (λ b. (32 ≤ b) × (b ≤ 126)) b value h in
+    ap (λ cs. encode_utf8_all (skip_leading_whitespace cs)) (chars-IsAscii (b ∷ value) ascii)
+    ∙ ap encode_utf8_all (cond-false _ _ _ (graphic_no_white b (omega arith) first.1))
+    ∙ encodes-IsAscii (b ∷ value) ascii
+
+-- ---- its one token
+
+no_opening_found : (line : List ℕ) → ((k : ℕ) → begins_opening (drop k line) ≡ false) → opening line 0 ≡ length line
+no_opening_found line none =
+    let le = first_place-≤ begins_opening line in
+    ⊎_elim (λ h. absurd (false≢true (sym (none _) ∙ first_place-passes begins_opening line h))) (λ h. omega arith)
+    (cases_lt (first_place begins_opening line) (length line))
+
+line_tokens-plain : (line : List ℕ) → ((k : ℕ) → begins_opening (drop k line) ≡ false) → line_tokens line ≡ plain_token line ∷ []
+line_tokens-plain line none =
+    ap (map (token_of line)) (sym (line_pieces_only line (plain line 0 (length line) ∷ []) (last_group (no_opening (no_opening_found line none)))))
+    ∙ ap (λ t. t ∷ []) (token_of-plain line 0 (length line)
+    ∙ ap plain_token (ap (λ n. take n line) (sub-zero (length line)) ∙ take_all (length line) line (omega arith)))
+
+shown_alone : (line : List ℕ) → shown_tokens (plain_token line ∷ []) ≡ line
+shown_alone line = go (is_white line)
+  where
+    go : (t : Bool) → shown_behind None None (record { kind = cond t Whitespace Text; shown = line } ∷ []) ≡ line
+    go true = append-nil line
+    go false = append-nil line
+
+pub shown_value-plain : (value : List ℕ) → IsPlain value → shown_value value ≡ value
+unfolding shown_value value_tokens
+shown_value-plain [] plain = refl
+shown_value-plain (b ∷ value) plain =
+    let some : b ≢ 32 = λ e. absurd (false≢true (sym plain.no_space ∙ ap (λ t. t && true) (eq-eqb 32 b (sym e)))) in
+    ap (λ ls. shown_tokens (tokens_of_lines (map trim_start ls))) (lines_of_plain b value plain.printable)
+    ∙ ap (λ l. shown_tokens (line_tokens l)) (trim_start-plain b value plain.printable some)
+    ∙ ap shown_tokens (line_tokens-plain (b ∷ value) plain.no_opening)
+    ∙ shown_alone (b ∷ value)
+
+-- ---- the strict reading
+
+pub strict_agrees : (bytes : List ℕ) → IsUtf8 bytes → strict_value bytes ≡ Ok (lenient_value bytes)
+unfolding strict_value lenient_value
+strict_agrees bytes utf8 =
+    let test = is_utf8-from_IsUtf8 bytes utf8 in
+    cond-true _ _ _ test ∙ ap (λ t. Ok (shown_value t)) (sym (cond-true _ _ (latin1_text bytes) test))
+
+pub strict_succeeds : (bytes value : List ℕ) → strict_value bytes ≡ Ok value → lenient_value bytes ≡ value
+unfolding strict_value lenient_value
+strict_succeeds bytes value h = go (is_utf8 bytes) h
+  where
+    go : (t : Bool) → cond t (Ok (shown_value bytes)) (Err value_not_utf8) ≡ Ok value
+        → shown_value (cond t bytes (latin1_text bytes)) ≡ value
+    go true e = cc
+    go false e = cc
+
+-- so the value reads as itself too
+pub lenient_value-plain : (value : List ℕ) → IsPlain value → lenient_value value ≡ value
+lenient_value-plain value plain = lenient-utf8 value (IsUtf8-from_ascii value (printable_ascii value plain.printable)) ∙ shown_value-plain value plain

@@ -1,0 +1,101 @@
+use Rattle.std.proofs.Common.{◌≡◌, ◌≢◌, ◌≤◌, ◌+◌, [], ◌∷◌, ◌++◌, true, false, Some, None, length, map, slice_range, sym, ap, ◌∙◌, refl, arith}
+use Rattle.std.proofs.lemmas.List.{take_rest}
+use Rattle.std.proofs.lemmas.Str.{IsCharBoundary-start}
+use Rattle.std.specs.Option.{option_map}
+use Rattle.std.specs.String.{string_bytes}
+use Rattle.mailparse.specs.EncodedWord.{word_text}
+use Rattle.mailparse.specs.HeaderToken.{token_view}
+use Rattle.mailparse.specs.Tokens.{boundary_before, closing}
+use Rattle.mailparse.proofs.LineLemmas.{Completes_first, KeepsClosing_none, KeepsClosing_found, KeepsClosing_later}
+use Rattle.mailparse.proofs.TokenLemmas.{closing_stands}
+use Rattle.mailparse.proofs.StepLemmas.{pushed, boundary_of_front, step_no_boundary, step_no_closing, step_decoded, step_undecoded, step_last}
+use Rattle.mailparse.proofs.header.line.tokenize_header_line.Goals as goal
+use Rattle.mailparse.proofs.header.line.tokenize_header_line.Goals.{in-Some-2+in_ok-push-in-Some-2, in-None+in_ok-push-in-None}
+
+pub loop-open-init : goal.loop-open-init
+loop-open-init c = record {
+  in_line = omega arith;
+  boundary = IsCharBoundary-start c.args.line.now c.utf8.line;
+  completes = Completes_first c.args.line.now (map token_view c.args.tokens.now.items);
+  keeps = KeepsClosing_none c.args.line.now;
+}
+
+pub loop-open-preserved-then-not-ends_with_boundary : goal.loop-open-preserved-then-not-ends_with_boundary
+loop-open-preserved-then-not-ends_with_boundary c =
+    let line = c.args.line.now in
+    let s = c.loop-open.start in
+    let v = c.in-Some.open in
+    let at = c.in-Some.ensures in
+    let out : boundary_before line v ≡ false =
+    boundary_of_front line c.range.result.now v false c.range.ensures.value
+    (sym c.if-not-ends_with_boundary.true ∙ c.ends_with_boundary.ensures) in
+    let new = pushed c.loop-open.tokens.items c.push.new.self.items _ c.in_ok-push.ensures.items in
+    record {
+      in_line = at.cut.fits;
+      boundary = at.cut.behind;
+      completes = step_no_boundary line s v _ _ _ c.range-then-not-ends_with_boundary.result.now at.least at.some out new
+          c.range-then-not-ends_with_boundary.ensures.value c.loop-open.invariant.completes;
+      keeps = KeepsClosing_later line (s + 2) (v + 2 + 2) c.loop-open.close (omega (arith, at.after)) c.loop-open.invariant.keeps;
+    }
+
+pub loop-open-preserved-then-close-line : goal.loop-open-preserved-then-close-line
+loop-open-preserved-then-close-line c =
+    let line = c.args.line.now in
+    let s = c.loop-open.start in
+    let v = c.in-Some.open in
+    let at = c.in-Some.ensures in
+    let beside : boundary_before line v ≡ true =
+    boundary_of_front line c.range.result.now v true c.range.ensures.value
+    (sym c.if-not-ends_with_boundary.false ∙ c.ends_with_boundary.ensures) in
+    let close : closing line (v + 2) ≡ length line = sym c.find_closing_or_keep-close.ensures.least ∙ omega arith in
+    let middle = pushed c.loop-open.tokens.items c.push-in-Some.new.self.items _ c.in_ok-push-2.ensures.items in
+    let new = pushed c.push-in-Some.new.self.items c.push-then-close-line.new.self.items _ c.in_ok-push-3.ensures.items in
+    record {
+      in_line = at.cut.fits;
+      boundary = at.cut.behind;
+      completes = step_no_closing line s v _ _ _ _ _ c.range-in-Some.result.now c.range-then-close-line.result.now at.least at.some beside close
+          c.plain_token.ensures c.range-in-Some.ensures.value c.range-then-close-line.ensures.value middle new c.loop-open.invariant.completes;
+      keeps = KeepsClosing_later line (v + 2) (v + 2 + 2) c.find_closing_or_keep-close.result (omega arith)
+          (KeepsClosing_found line (v + 2) c.find_closing_or_keep-close.result (sym c.find_closing_or_keep-close.ensures.least));
+    }
+
+pub loop-open-preserved : goal.loop-open-preserved
+loop-open-preserved c =
+    let line = c.args.line.now in
+    let s = c.loop-open.start in
+    let v = c.in-Some.open in
+    let e = c.find_closing_or_keep-close.result in
+    let at = c.in-Some.ensures in
+    let beside : boundary_before line v ≡ true =
+    boundary_of_front line c.range.result.now v true c.range.ensures.value
+    (sym c.if-not-ends_with_boundary.false ∙ c.ends_with_boundary.ensures) in
+    let close : closing line (v + 2) ≡ e = sym c.find_closing_or_keep-close.ensures.least in
+    let more : e ≢ length line = omega arith in
+    let cut = c.find_closing_or_keep-close.ensures.cut more in
+    let middle = pushed c.loop-open.tokens.items c.push-in-Some.new.self.items _ c.in_ok-push-2.ensures.items in
+    record {
+      in_line = cut.fits;
+      boundary = cut.behind;
+      completes = elim c.match-branch-5.branch [
+        | in-Some-2+in_ok-push-in-Some-2 w ↦
+            let same : c.match-branch-5.tokens.items ≡ w.push-in-Some-2.new.self.items = cc in
+            let new = pushed c.push-in-Some.new.self.items c.match-branch-5.tokens.items _ (same ∙ w.in_ok-push-in-Some-2.ensures.items) in
+            step_decoded line s v e _ _ _ _ _ c.range-in-Some.result.now c.range-in-Some-2.result.now (string_bytes w.in-Some-2.decoded) at.least at.some
+            beside close more c.plain_token.ensures c.range-in-Some.ensures.value c.range-in-Some-2.ensures.value
+            (sym c.in_ok-decoded.ensures ∙ ap (option_map string_bytes) w.in-Some-2.is) middle new c.loop-open.invariant.completes
+        | in-None+in_ok-push-in-None w ↦
+            let same : c.match-branch-5.tokens.items ≡ w.push-in-None.new.self.items = cc in
+            let new = pushed c.push-in-Some.new.self.items c.match-branch-5.tokens.items _ (same ∙ w.in_ok-push-in-None.ensures.items) in
+            step_undecoded line s v e _ _ _ _ _ c.range-in-Some.result.now c.range-in-Some-2.result.now w.range-in-None.result.now at.least at.some
+            beside close more c.plain_token.ensures c.range-in-Some.ensures.value c.range-in-Some-2.ensures.value
+            (sym c.in_ok-decoded.ensures ∙ ap (option_map string_bytes) w.in-None.is) w.range-in-None.ensures.value middle new c.loop-open.invariant.completes
+      ];
+      keeps = KeepsClosing_later line (v + 2) (e + 2 + 2) e (omega (arith, (closing_stands line (v + 2) e at.cut.fits close more).0))
+          (KeepsClosing_found line (v + 2) e close);
+    }
+
+pub returns : goal.returns
+returns c =
+    let new = pushed c.loop-open.tokens.items c.push-2.new.self.items _ c.in_ok-push-4.ensures.items in
+    step_last c.args.line.now c.loop-open.start _ _ _ _ c.range_from.result.now c.in_default.ensures c.plain_token-2.ensures
+    (c.range_from.ensures.value ∙ sym (take_rest c.args.line.now c.loop-open.start)) new c.loop-open.invariant.completes
