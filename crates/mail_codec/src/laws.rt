@@ -10,21 +10,18 @@ pub fn first_place_is_least()
     ensures least { (test : List ℕ → Bool) (bytes : List ℕ) → IsFirstPlace test bytes (first_place test bytes) }
     ensures only { (test : List ℕ → Bool) (bytes : List ℕ) (p : ℕ) →
         IsFirstPlace test bytes p → p ≡ first_place test bytes }
-{
-}
+{}
 
 /// The function that reads Base64 gives the bytes that a text stands for in groups, and no others;
 /// and its fault is the number of the first group of no known form, and no other number.
 pub fn base64_is_groups()
     ensures reads { (text : List ℕ) → (bytes : List ℕ) → (base64 text ≡ Ok bytes) ↔ IsBase64 text bytes }
     ensures faults { (text : List ℕ) → (n : ℕ) → (base64 text ≡ Err n) ↔ IsBase64Fault text n }
-{
-}
+{}
 
 /// Exactly one list of lines fits a text, and the function that reads quoted-printable gives the bytes
 /// of these lines, and no others.
 pub fn quoted_printable_is_lines()
     ensures once { (text : List ℕ) → (lines : List Line) → AreLines text lines ↔ (lines ≡ lines_of text) }
     ensures reads { (text : List ℕ) → (bytes : List ℕ) → IsQuotedPrintable text bytes ↔ (bytes ≡ quoted_printable text) }
-{
-}
+{}

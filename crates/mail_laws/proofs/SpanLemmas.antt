@@ -23,7 +23,7 @@ spans-below (suc n) raw =
     let rest = drop size raw in
     ap (λ (x : List ℕ). take (header_length x) x ++ flat_map (λ (span : List ℕ). span) (values_below n (λ j. header_span raw (suc j)))) (rest_at-first raw)
     ∙ ap (λ (x : List (List ℕ)). take size raw ++ flat_map (λ (span : List ℕ). span) x)
-        (values_below-same n (λ j. header_span raw (suc j)) (header_span rest) (λ j. ap (λ (x : List ℕ). take (header_length x) x) (rest_at-more raw j)))
+    (values_below-same n (λ j. header_span raw (suc j)) (header_span rest) (λ j. ap (λ (x : List ℕ). take (header_length x) x) (rest_at-more raw j)))
     ∙ ap (λ (x : List ℕ). take size raw ++ x) (spans-below n rest)
     ∙ take-take-drop size (header_place rest n) raw
     ∙ ap (λ k. take k raw) (sym (header_place-more raw n))

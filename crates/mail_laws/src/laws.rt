@@ -12,43 +12,37 @@ ghost use Rattle.mail_laws.specs.Spans.{header_spans, blank_span};
 pub fn header_consumes()
     ensures { (raw : List ℕ) (header : Header) (taken : ℕ) → read_header raw ≡ Ok (header, taken) →
         (0 < taken) × (taken ≤ length raw) }
-{
-}
+{}
 
 /// The bytes of the headers, one after another, and those of the blank line behind them, where there
 /// is one, are exactly the input up to the index of the block.
 pub fn block_covers()
     ensures { (raw : List ℕ) (block : Block) → read_block raw ≡ Ok block →
         header_spans raw ++ blank_span raw ≡ take block.index raw }
-{
-}
+{}
 
 /// Exactly one list of pieces fits a line of a value, the one that is computed.
 pub fn one_list_of_pieces_fits()
     ensures fits { (line : List ℕ) → ArePiecesOf line (line_pieces line) }
     ensures only { (line : List ℕ) (pieces : List Piece)
         → ArePiecesOf line pieces → pieces ≡ line_pieces line }
-{
-}
+{}
 
 /// The pieces of a line stand one behind the other from its start to its end, so that their bytes
 /// make up the line.
 pub fn pieces_make_up_line()
     ensures adjoin { (line : List ℕ) → Adjoin 0 (line_pieces line) (length line) }
     ensures bytes { (line : List ℕ) → flat_map (piece_source line) (line_pieces line) ≡ line }
-{
-}
+{}
 
 /// A value of printable ASCII that does not begin with a space and holds no `=?` reads as itself.
 pub fn plain_value_reads_as_itself()
     ensures { (value : List ℕ) → IsPlain value → lenient_value value ≡ value }
-{
-}
+{}
 
 /// Where the bytes of a value are UTF-8, the strict reading succeeds and agrees with the lenient one;
 /// and where the strict reading succeeds, it agrees with the lenient one.
 pub fn utf8_value_agrees()
     ensures agrees { (bytes : List ℕ) → IsUtf8 bytes → strict_value bytes ≡ Ok (lenient_value bytes) }
     ensures succeeds { (bytes value : List ℕ) → strict_value bytes ≡ Ok value → lenient_value bytes ≡ value }
-{
-}
+{}

@@ -3,10 +3,11 @@ use Rattle.std.proofs.Common.{◌≡◌, ℕ, false, List, Option, Some, None, R
 use Rattle.std.specs.Io.KnownBytes.{Keeps, Appends, IsAtEnd}
 use Rattle.std.proofs.KnownBytes.{Keeps-refl, Appends-kept}
 use Rattle.mailparse.specs.Mail.{Mail, read_mail}
-use Rattle.mailparse.specs.Refusal.{Refusal, generic}
-use Rattle.mailparse.specs.Outcome.{IsRefusalOrMemory}
+use Rattle.mailparse.specs.Refusal.{Refusal}
+use Rattle.mailparse.specs.Outcome.{IsRefusal, IsRefusalOrMemory}
+use Rattle.mailparse.proofs.OutcomeLemmas.{IsRefusal-along}
 use Rattle.mailparse.specs.declared.error.MailParseError.{MailParseError}
-use Rattle.mailparse.specs.declared.error.MailParseError.TheVariants.{Generic, Memory}
+use Rattle.mailparse.specs.declared.error.MailParseError.TheVariants.{QuotedPrintableDecodeError, Base64DecodeError, EncodingError, Generic, Memory}
 use Rattle.mail_show.specs.Shown.{mail_text, shown}
 use Rattle.mail_show.specs.Run.{HasShown, RefusesInput}
 
@@ -20,14 +21,26 @@ unfolding shown
 shown-err input refusal e = rw e refl
 
 -- a message that is refused is the whole input
+refused-shown : (e : MailParseError) (input all : List ℕ) → input ≡ all → IsRefusal e (read_mail input) → IsRefusal e (shown all)
+refused-shown e input all same refused = IsRefusal-along e (read_mail input) (shown all) (λ r f. shown-err all r (ap read_mail (sym same) ∙ f)) refused
+
+refused-input : (left_before left : Option (List ℕ)) (input : List ℕ) (e : MailParseError)
+    → IsAtEnd left × IfSome left_before (λ all. input ≡ all) → IsRefusal e (read_mail input) → IsAtEnd left × IfSome left_before (λ all. IsRefusal e (shown all))
+refused-input None left input e read refused = (read.0, tt)
+refused-input (Some all) left input e read refused = (read.0, refused-shown e input all read.1 refused)
+
 pub run-refused : (left_before left held : Option (List ℕ)) (input : List ℕ) (e : MailParseError)
     → IsAtEnd left × IfSome left_before (λ all. input ≡ all) → IsRefusalOrMemory e (read_mail input)
     → Keeps held held × RefusesInput left_before left e
-run-refused None left held input (Generic text) read refused = (Keeps-refl held, (read.0, tt))
-run-refused (Some all) left held input (Generic text) read refused =
-    let same : read_mail all ≡ Err (generic text.now) = ap read_mail (sym read.1) ∙ refused in
-    (Keeps-refl held, (read.0, shown-err all (generic text.now) same))
+run-refused left_before left held input (QuotedPrintableDecodeError fault) read refused = absurd refused
+run-refused left_before left held input (Base64DecodeError fault) read refused = (Keeps-refl held, refused-input left_before left input (Base64DecodeError fault) read refused)
+run-refused left_before left held input (EncodingError text) read refused = (Keeps-refl held, refused-input left_before left input (EncodingError text) read refused)
+run-refused left_before left held input (Generic text) read refused = (Keeps-refl held, refused-input left_before left input (Generic text) read refused)
 run-refused left_before left held input (Memory e) read refused = (Keeps-refl held, tt)
+
+-- the text that an exact answer shows
+pub text-of_ok : (text given : List ℕ) → ◌≡◌ {A = Result (List ℕ) Refusal} (Ok given) (Ok text) → text ≡ given
+text-of_ok text given e = cc
 
 -- a text that is written is that of the whole input
 pub run-shown : (left_before left held_before held_written held : Option (List ℕ)) (input text : List ℕ) (mail : Mail)

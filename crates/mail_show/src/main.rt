@@ -2,6 +2,8 @@
 #![tactic(auto)]
 
 mod run;
+#[cfg(test)]
+mod tests;
 mod text;
 
 use run::run;

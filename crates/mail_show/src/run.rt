@@ -24,6 +24,7 @@ pub enum ShowFault {
 
 impl From<MailParseError> for ShowFault {
     ghost use Rattle.mail_show.specs.declared.run.ShowFault.TheVariants.{Mail};
+
     ghost from_gives = { λ e fault. fault ≡ Mail e };
 
     fn from(e: MailParseError) -> ShowFault {
@@ -34,6 +35,7 @@ impl From<MailParseError> for ShowFault {
 impl From<AllocError> for ShowFault {
     ghost use Rattle.mail_show.specs.declared.run.ShowFault.TheVariants.{Mail};
     ghost use Rattle.mailparse.specs.declared.error.MailParseError.TheVariants.{Memory};
+
     ghost from_gives = { λ e fault. fault ≡ Mail (Memory e) };
 
     fn from(e: AllocError) -> ShowFault {

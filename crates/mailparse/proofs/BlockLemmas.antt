@@ -149,8 +149,8 @@ read_block-more raw h =
     let rest = drop n raw in
     let count : header_count raw ≡ suc (header_count rest) = header_count-more raw h in
     let found : values_below (suc (header_count rest)) (λ j. header_of (rest_at raw j)) ≡ header_of raw ∷ values_below (header_count rest) (λ j. header_of (rest_at rest j)) =
-        ap (λ (x : List ℕ). header_of x ∷ values_below (header_count rest) (λ j. header_of (rest_at raw (suc j)))) (rest_at-first raw)
-        ∙ ap (λ (xs : List Header). header_of raw ∷ xs) (values_below-same (header_count rest) (λ j. header_of (rest_at raw (suc j))) (λ j. header_of (rest_at rest j)) (λ j. ap header_of (rest_at-more raw j))) in
+    ap (λ (x : List ℕ). header_of x ∷ values_below (header_count rest) (λ j. header_of (rest_at raw (suc j)))) (rest_at-first raw)
+    ∙ ap (λ (xs : List Header). header_of raw ∷ xs) (values_below-same (header_count rest) (λ j. header_of (rest_at raw (suc j))) (λ j. header_of (rest_at rest j)) (λ j. ap header_of (rest_at-more raw j))) in
     read_block-end_at raw
     ∙ ap (λ c. end_at (values_below c (λ j. header_of (rest_at raw j))) (header_place raw c) (rest_at raw c)) count
     ∙ ap (λ (xs : List Header). end_at xs (header_place raw (suc (header_count rest))) (rest_at raw (suc (header_count rest)))) found
@@ -374,10 +374,13 @@ read_block-bounded raw block e = by_tests (headers_end (rest_at raw (header_coun
   where
     stop : List ℕ
     stop = rest_at raw (header_count raw)
+
     found : List Header
     found = values_below (header_count raw) (λ j. header_of (rest_at raw j))
+
     at : (h r : Bool) → headers_end stop ≡ h → stands (13 ∷ []) stop ≡ r → cond h (Ok (record { headers = found; index = header_place raw (header_count raw) + blank_line stop })) (cond r (Err lone_carriage_return) (Err leading_space)) ≡ Ok block
     at h r ends return = sym (read_block-end_at raw ∙ (rw (ends, return) refl)) ∙ e
+
     by_tests : (h r : Bool) → headers_end stop ≡ h → stands (13 ∷ []) stop ≡ r → Bounded raw block
     by_tests true r ends return =
         let f = at true r ends return in
@@ -427,10 +430,13 @@ read_block-index raw block e = by_tests (headers_end (rest_at raw (header_count 
   where
     stop : List ℕ
     stop = rest_at raw (header_count raw)
+
     found : List Header
     found = values_below (header_count raw) (λ j. header_of (rest_at raw j))
+
     at : (h r : Bool) → headers_end stop ≡ h → stands (13 ∷ []) stop ≡ r → cond h (Ok (record { headers = found; index = header_place raw (header_count raw) + blank_line stop })) (cond r (Err lone_carriage_return) (Err leading_space)) ≡ Ok block
     at h r ends return = sym (read_block-end_at raw ∙ (rw (ends, return) refl)) ∙ e
+
     by_tests : (h r : Bool) → headers_end stop ≡ h → stands (13 ∷ []) stop ≡ r → block.index ≡ header_place raw (header_count raw) + blank_line stop
     by_tests true r ends return =
         let f = at true r ends return in

@@ -116,10 +116,10 @@ TrimmedTo-start bytes = record { tail = []; whole = sym (append-nil bytes); behi
 -- one more byte goes
 pub TrimmedTo-more : (bytes rest front : List ℕ) (b : ℕ) → TrimmedTo bytes rest → rest ≡ front ++ b ∷ [] → is_line_end b ≡ true → TrimmedTo bytes front
 TrimmedTo-more bytes rest front b h cut e = record {
-    tail = b ∷ h.tail;
-    whole = h.whole ∙ ap (λ (xs : List ℕ). xs ++ h.tail) cut ∙ append_assoc front (b ∷ []) h.tail;
-    behind = rw e h.behind;
-  }
+  tail = b ∷ h.tail;
+  whole = h.whole ∙ ap (λ (xs : List ℕ). xs ++ h.tail) cut ∙ append_assoc front (b ∷ []) h.tail;
+  behind = rw e h.behind;
+}
 
 list_all-none : (front tail : List ℕ) (b : ℕ) → is_line_end b ≡ false → list_all is_line_end (front ++ b ∷ tail) ≡ false
 list_all-none [] tail b e = rw e refl
@@ -213,7 +213,7 @@ trimmed_slice raw a e p q order within p_fits q_fits =
     let rest : length (drop p (slice_range raw a e)) ≡ (e - a) - p = length-drop p (slice_range raw a e) ∙ omega arith in
     let sum : e - a ≡ p + ((e - a) - p) = omega arith in
     let seam : drop p (slice_range raw a e) ≡ take ((e - a) - p) (drop (a + p) raw) =
-        ap (λ n. drop p (take n (drop a raw))) sum ∙ drop-take p ((e - a) - p) (drop a raw) ∙ ap (take ((e - a) - p)) (drop-drop p a raw) in
+    ap (λ n. drop p (take n (drop a raw))) sum ∙ drop-take p ((e - a) - p) (drop a raw) ∙ ap (take ((e - a) - p)) (drop-drop p a raw) in
     let size : ((a + p) + q) - (a + p) ≡ q = omega arith in
     ap (take q) seam ∙ take-take q ((e - a) - p) (drop (a + p) raw) (omega arith) ∙ ap (λ n. take n (drop (a + p) raw)) (sym size)
 
@@ -255,7 +255,7 @@ module _ (raw : List ℕ) (colon : has_colon raw ≡ true) where
       let a = suc (key_end raw) in
       let e = header_end raw in
       let rest : drop (a + spaces raw) (take e raw) ≡ drop (spaces raw) (cut raw) =
-          sym (drop-drop (spaces raw) a (take e raw)) ∙ ap (drop (spaces raw)) (between raw a e (omega arith)) in
+      sym (drop-drop (spaces raw) a (take e raw)) ∙ ap (drop (spaces raw)) (between raw a e (omega arith)) in
       rw (colon, value_start-colon) (ap (λ (xs : List ℕ). (a + spaces raw) + first_place (list_all is_line_end) xs) rest)
 
   value-colon : take (kept raw) (drop (spaces raw) (cut raw)) ≡ slice_range raw (value_start raw) (value_end raw)
@@ -274,7 +274,7 @@ header_of-value raw colon end has at ends behind spaceless trimmed is_behind is_
     let is_cut : behind ≡ cut raw = is_behind ∙ ap (λ n. slice_range raw (n + 1) end) at ∙ ap (λ n. slice_range raw (key_end raw + 1) n) ends ∙ (rw add-one refl) in
     let is_left : spaceless ≡ drop (spaces raw) (cut raw) = is_spaceless ∙ ap (λ (xs : List ℕ). drop (first_place (begins (λ b. not (eqb b 32))) xs) xs) is_cut in
     let is_value : trimmed ≡ slice_range raw (value_start raw) (value_end raw) =
-        is_trimmed ∙ ap (λ (xs : List ℕ). take (first_place (list_all is_line_end) xs) xs) is_left ∙ value-colon raw has in
+    is_trimmed ∙ ap (λ (xs : List ℕ). take (first_place (list_all is_line_end) xs) xs) is_left ∙ value-colon raw has in
     ap (λ n. parts (take n raw) (slice_range raw (value_start raw) (value_end raw))) (sym at) ∙ ap (parts (take colon raw)) (sym is_value)
   where
     parts : List ℕ → List ℕ → Header

@@ -12,6 +12,7 @@ use mail_codec::transfer::{decode_base64, decode_quoted_printable};
 use std::alloc::Global;
 
 /// A body by its transfer coding (RFC 2045, section 6).
+#[derive(Drop)]
 pub enum Body<'a> {
     /// A body in Base64.
     Base64(EncodedBody<'a>),

@@ -65,6 +65,7 @@ impl MailParseError {
 
 impl From<QuotedPrintableFault> for MailParseError {
     ghost use Rattle.mailparse.specs.declared.error.MailParseError.TheVariants.{QuotedPrintableDecodeError};
+
     ghost from_gives = { λ fault error. error ≡ QuotedPrintableDecodeError fault };
 
     fn from(fault: QuotedPrintableFault) -> MailParseError {
@@ -74,6 +75,7 @@ impl From<QuotedPrintableFault> for MailParseError {
 
 impl From<Base64Fault> for MailParseError {
     ghost use Rattle.mailparse.specs.declared.error.MailParseError.TheVariants.{Base64DecodeError};
+
     ghost from_gives = { λ fault error. error ≡ Base64DecodeError fault };
 
     fn from(fault: Base64Fault) -> MailParseError {
@@ -83,6 +85,7 @@ impl From<Base64Fault> for MailParseError {
 
 impl From<CowStr<'static>> for MailParseError {
     ghost use Rattle.mailparse.specs.declared.error.MailParseError.TheVariants.{EncodingError};
+
     ghost from_gives = { λ text error. error ≡ EncodingError text };
 
     fn from(text: CowStr<'static>) -> MailParseError {
@@ -92,6 +95,7 @@ impl From<CowStr<'static>> for MailParseError {
 
 impl From<AllocError> for MailParseError {
     ghost use Rattle.mailparse.specs.declared.error.MailParseError.TheVariants.{Memory};
+
     ghost from_gives = { λ e error. error ≡ Memory e };
 
     fn from(e: AllocError) -> MailParseError {
@@ -102,6 +106,7 @@ impl From<AllocError> for MailParseError {
 impl<T: Drop> From<AllocFailed<T>> for MailParseError {
     ghost use Rattle.mailparse.specs.declared.error.MailParseError.TheVariants.{Memory};
     ghost use Rattle.std.specs.Prelude.{alloc_error};
+
     ghost from_gives = { λ _ error. error ≡ Memory alloc_error };
 
     fn from(e: AllocFailed<T>) -> MailParseError {

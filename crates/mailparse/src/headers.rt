@@ -5,8 +5,7 @@ ghost use Rattle.std.specs.Slice.Iter.{iter_rest, iter_steps};
 ghost use Rattle.mailparse.specs.Views.{headers as views, header_block};
 
 use crate::mail_header::MailHeader;
-use std::fmt;
-use std::slice;
+use std::{fmt, slice};
 
 /// The header block of a message: its bytes, and the list of its headers.
 #[derive(Clone, Copy)]
@@ -42,9 +41,11 @@ impl<'a> Headers<'a> {
 /// Goes over the headers in the order in which they stand in the message.
 impl<'a> IntoIterator for Headers<'a> {
     type Item = &'a MailHeader<'a>;
+
     type IntoIter = slice::Iter<'a, MailHeader<'a>>;
 
     ghost use Rattle.mailparse.specs.declared.mail_header.MailHeader.{MailHeader};
+
     ghost into_iter_gives = { λ block items. (views (iter_rest items) ≡ (header_block block).headers) × EveryRun (iter_steps {A = MailHeader}) (λ p. ItemsMapTo p (λ y. y.now) (iter_rest p.from)) };
 
     fn into_iter(self) -> slice::Iter<'a, MailHeader<'a>> {

@@ -6,9 +6,9 @@ ghost use Rattle.mailparse.specs.Outcome.{Answers, AnswersInMemory};
 ghost use Rattle.mailparse.specs.Views.{header_block, mail};
 
 use crate::error::MailParseError;
-use crate::mail_header::MailHeader;
 use crate::header_block::parse_headers;
 use crate::headers::Headers;
+use crate::mail_header::MailHeader;
 use std::alloc::Global;
 
 /// A message that was read. The fields that are public may be changed; what the methods answer

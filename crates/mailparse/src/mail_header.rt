@@ -16,8 +16,7 @@ use crate::lossy_text::LossyText;
 use mail_codec::charset::decode_latin1;
 use std::alloc::Global;
 use std::borrow::CowStr;
-use std::fmt;
-use std::str;
+use std::{fmt, str};
 
 /// A header of a message: the bytes of its key and of its value, as they stand in the message.
 #[derive(Drop)]

@@ -16,7 +16,7 @@ returns-in_err-length-clause-none c = λ _.
     let rest = drop c.loop-headers.place raw in
     let refused = rw take_rest at c.in_err-length.ensures in
     rw (p.1, p.2) (IsRefusal-along c.in_err-length.field-0.0 (block_end rest) (read_block raw)
-        (λ r e. refused_further raw (headers c.loop-headers.headers.items) c.loop-headers.place c.loop-headers.invariant.all r (block_end-err rest r e)) refused)
+    (λ r e. refused_further raw (headers c.loop-headers.headers.items) c.loop-headers.place c.loop-headers.invariant.all r (block_end-err rest r e)) refused)
 
 pub returns-in_err-length-clause-read : goal.returns-in_err-length-clause-read
 returns-in_err-length-clause-read c =
@@ -25,7 +25,7 @@ returns-in_err-length-clause-read c =
     let rest = drop c.loop-headers.place raw in
     let refused = rw take_rest at c.in_err-length.ensures in
     rw (p.1, p.2) (IsRefusalOrMemory-from c.in_err-length.field-0.0 (read_block raw) (IsRefusal-along c.in_err-length.field-0.0 (block_end rest) (read_block raw)
-        (λ r e. refused_further raw (headers c.loop-headers.headers.items) c.loop-headers.place c.loop-headers.invariant.all r (block_end-err rest r e)) refused))
+    (λ r e. refused_further raw (headers c.loop-headers.headers.items) c.loop-headers.place c.loop-headers.invariant.all r (block_end-err rest r e)) refused))
 
 pub overflow_add-result : goal.overflow_add-result
 overflow_add-result c =
@@ -51,7 +51,7 @@ returns-in_err-header-clause-none c = λ _.
     let refused = rw take_rest at c.in_err-header.ensures.read in
     let ends = rw take_rest at c.in_ok-length.ensures in
     rw (p.1, p.2) (IsRefusal-along c.in_err-header.field-0.0 (read_header rest) (read_block raw)
-        (λ r e. refused_further raw (headers c.loop-headers.headers.items) c.loop-headers.place c.loop-headers.invariant.all r (block_end-header rest r (ends ∙ ap (λ o. Ok o) c.in_default.is) e)) refused)
+    (λ r e. refused_further raw (headers c.loop-headers.headers.items) c.loop-headers.place c.loop-headers.invariant.all r (block_end-header rest r (ends ∙ ap (λ o. Ok o) c.in_default.is) e)) refused)
 
 pub returns-in_err-header-clause-read : goal.returns-in_err-header-clause-read
 returns-in_err-header-clause-read c =
@@ -61,7 +61,7 @@ returns-in_err-header-clause-read c =
     let refused = rw take_rest at c.in_err-header.ensures.read in
     let ends = rw take_rest at c.in_ok-length.ensures in
     rw (p.1, p.2) (IsRefusalOrMemory-from c.in_err-header.field-0.0 (read_block raw) (IsRefusal-along c.in_err-header.field-0.0 (read_header rest) (read_block raw)
-        (λ r e. refused_further raw (headers c.loop-headers.headers.items) c.loop-headers.place c.loop-headers.invariant.all r (block_end-header rest r (ends ∙ ap (λ o. Ok o) c.in_default.is) e)) refused))
+    (λ r e. refused_further raw (headers c.loop-headers.headers.items) c.loop-headers.place c.loop-headers.invariant.all r (block_end-header rest r (ends ∙ ap (λ o. Ok o) c.in_default.is) e)) refused))
 
 pub returns-in_err-push-clause-none : goal.returns-in_err-push-clause-none
 returns-in_err-push-clause-none c = λ none.
@@ -96,7 +96,7 @@ loop-headers-preserved c =
     let none = ends ∙ ap (λ o. Ok o) c.in_default.is in
     let moves = place_further raw place (header c.in_ok-header.header, c.in_ok-header.length) c.loop-headers.invariant.within none found in
     let pushed : headers c.push.new.self.items ≡ headers c.loop-headers.headers.items ++ header c.in_ok-header.header ∷ [] =
-        ap headers c.in_ok-push.ensures.items ∙ map-append header c.loop-headers.headers.items (c.in_ok-header.header ∷ []) in
+    ap headers c.in_ok-push.ensures.items ∙ map-append header c.loop-headers.headers.items (c.in_ok-header.header ∷ []) in
     let size : length c.push.new.self.items ≡ length c.loop-headers.headers.items + 1 = ap length c.in_ok-push.ensures.items ∙ length-append c.loop-headers.headers.items (c.in_ok-header.header ∷ []) in
     let fewer = count_further raw place (header c.in_ok-header.header, c.in_ok-header.length) none found in
     let count = c.loop-headers.invariant.count in

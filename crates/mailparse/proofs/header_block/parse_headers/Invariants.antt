@@ -7,10 +7,10 @@ use Rattle.mailparse.proofs.header_block.parse_headers.Given as goal
 -- the headers so far, and then what the rest gives, is all
 abbrev pub invariant-loop-headers : goal.invariant-loop-headers
 invariant-loop-headers l = record {
-    within : l.place ≤ length l.raw;
-    all : with_front (headers l.headers.items) l.place (read_block (drop l.place l.raw)) ≡ read_block l.raw;
-    count : length l.headers.items + header_count (drop l.place l.raw) ≡ header_count l.raw;
-  }
+  within : l.place ≤ length l.raw;
+  all : with_front (headers l.headers.items) l.place (read_block (drop l.place l.raw)) ≡ read_block l.raw;
+  count : length l.headers.items + header_count (drop l.place l.raw) ≡ header_count l.raw;
+}
 
 abbrev pub decreases-loop-headers : goal.decreases-loop-headers
 decreases-loop-headers l = length l.raw - l.place

@@ -6,6 +6,6 @@ use Rattle.mailparse.proofs.header_map.all_values.Given as goal
 -- those that were found, and then those of the rest, are all; where none is in the list, none is in the rest
 abbrev pub invariant-loop-h : goal.invariant-loop-h
 invariant-loop-h l = record {
-    all : map (λ t. string_bytes t) l.found.items ++ all_values l.key (headers (drop l.h-index l.list)) ≡ all_values l.key (headers l.list);
-    none : IsNone (first_with_key l.key (headers l.list)) → IsNone (first_with_key l.key (headers (drop l.h-index l.list)));
-  }
+  all : map (λ t. string_bytes t) l.found.items ++ all_values l.key (headers (drop l.h-index l.list)) ≡ all_values l.key (headers l.list);
+  none : IsNone (first_with_key l.key (headers l.list)) → IsNone (first_with_key l.key (headers (drop l.h-index l.list)));
+}

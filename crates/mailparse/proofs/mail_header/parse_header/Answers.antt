@@ -16,7 +16,7 @@ returns-clause-read c =
     let raw = c.args.raw.now in
     let end = IsScanned-end raw c.scan_header-scan.result.0 c.scan_header-scan.result.1 c.scan_header-scan.ensures in
     let size : c.if-end-raw.length ≡ header_length raw = header_length-end raw c.scan_header-scan.result.1 c.if-end-raw.length end
-        (elim c.if-end-raw.branch [ then-end-raw w ↦ inl (search rules) | else-end-raw w ↦ inr (search rules) ]) in
+    (elim c.if-end-raw.branch [ then-end-raw w ↦ inl (search rules) | else-end-raw w ↦ inr (search rules) ]) in
     read_header-ok raw (search rules) (search rules) ∙ ap (λ h. Ok (h, header_length raw)) (sym c.header_at.ensures) ∙ ap (λ n. Ok (header c.header_at.result, n)) (sym size)
 
 pub returns-clause-bounds : goal.returns-clause-bounds
@@ -24,7 +24,7 @@ returns-clause-bounds c =
     let raw = c.args.raw.now in
     let end = IsScanned-end raw c.scan_header-scan.result.0 c.scan_header-scan.result.1 c.scan_header-scan.ensures in
     let size : c.if-end-raw.length ≡ header_length raw = header_length-end raw c.scan_header-scan.result.1 c.if-end-raw.length end
-        (elim c.if-end-raw.branch [ then-end-raw w ↦ inl (search rules) | else-end-raw w ↦ inr (search rules) ]) in
+    (elim c.if-end-raw.branch [ then-end-raw w ↦ inl (search rules) | else-end-raw w ↦ inr (search rules) ]) in
     let low : 0 < length raw = search rules in
     let more = header_length-> raw low in
     let fits = header_length-≤ raw in

@@ -18,13 +18,13 @@ loop-place-preserved c =
     let h = c.loop-place.invariant in
     let low = c.loop-place-test.true in
     elim c.match-scan.branch [
-      in-Key+else-byte-eq10+then-byte-eq58 w ↦ step_colon c.args.raw.now c.loop-place.scan c.match-scan.scan c.loop-place.place w.in-Key.is w.scan-is h low (search rules)
-    | in-Key+else-byte-eq10+else-byte-eq58 w ↦ step_key c.args.raw.now c.loop-place.scan c.match-scan.scan c.loop-place.place _ w.in-Key.is w.scan-is h low refl (search rules) (search rules)
-    | in-Value+else-byte-eq10-2 w ↦
-        elim w.else-byte-eq10-2.branch [
-          else-byte-eq10-2-via-then-byte-eq10-2+else-not-is_continued v ↦ step_folded c.args.raw.now c.loop-place.scan c.match-scan.scan _ c.loop-place.place w.in-Value.is w.scan-is h low (search rules) (search rules)
-        | else-byte-eq10-2-via-else-byte-eq10-2 v ↦ step_value c.args.raw.now c.loop-place.scan c.match-scan.scan _ c.loop-place.place _ w.in-Value.is w.scan-is h low refl (search rules)
-        ]
+      | in-Key+else-byte-eq10+then-byte-eq58 w ↦ step_colon c.args.raw.now c.loop-place.scan c.match-scan.scan c.loop-place.place w.in-Key.is w.scan-is h low (search rules)
+      | in-Key+else-byte-eq10+else-byte-eq58 w ↦ step_key c.args.raw.now c.loop-place.scan c.match-scan.scan c.loop-place.place _ w.in-Key.is w.scan-is h low refl (search rules) (search rules)
+      | in-Value+else-byte-eq10-2 w ↦
+          elim w.else-byte-eq10-2.branch [
+            | else-byte-eq10-2-via-then-byte-eq10-2+else-not-is_continued v ↦ step_folded c.args.raw.now c.loop-place.scan c.match-scan.scan _ c.loop-place.place w.in-Value.is w.scan-is h low (search rules) (search rules)
+            | else-byte-eq10-2-via-else-byte-eq10-2 v ↦ step_value c.args.raw.now c.loop-place.scan c.match-scan.scan _ c.loop-place.place _ w.in-Value.is w.scan-is h low refl (search rules)
+          ]
     ]
 
 pub returns : goal.returns

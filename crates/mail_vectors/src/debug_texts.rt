@@ -1,0 +1,109 @@
+//! The Debug texts of headers.
+//!
+//! The expected texts were printed by a Rust program (rustc 1.95) that shows a key and a value as
+//! `format!("{:?}", String::from_utf8_lossy(bytes))` in a `debug_struct` of these names.
+use mailparse::{parse_header, parse_mail};
+use std::test::Fail;
+
+#[test]
+fn one_header(rt: HostRuntime) -> Result<(), Fail> {
+    let rows: [(&[u8], &str); 14] = [
+        (
+            b"Subject:foo",
+            r#"MailHeader { key: "Subject", value: "foo" }"#,
+        ),
+        (b":", r#"MailHeader { key: "", value: "" }"#),
+        (
+            b"k\"q\":say \"hi\"",
+            r#"MailHeader { key: "k\"q\"", value: "say \"hi\"" }"#,
+        ),
+        (b"it's:'a'", r#"MailHeader { key: "it's", value: "'a'" }"#),
+        (
+            b"back\\slash:C:\\x\\n",
+            r#"MailHeader { key: "back\\slash", value: "C:\\x\\n" }"#,
+        ),
+        (
+            b"\0\x01\x1F:\x7F\x1B[0m\x08\x0C\x0B",
+            r#"MailHeader { key: "\0\u{1}\u{1f}", value: "\u{7f}\u{1b}[0m\u{8}\u{c}\u{b}" }"#,
+        ),
+        (
+            b"\xE9:Andr\xE9 \xC3\xA9",
+            r#"MailHeader { key: "�", value: "Andr� é" }"#,
+        ),
+        (
+            b"tab\tkey:a\r\n\tb\n c",
+            r#"MailHeader { key: "tab\tkey", value: "a\r\n\tb\n c" }"#,
+        ),
+        (
+            b"\xF0\x9F\x98\x80:\xF0\x9F\x98",
+            r#"MailHeader { key: "😀", value: "�" }"#,
+        ),
+        (
+            b"\xC0\xAF:\xED\xA0\x80\xFF\xFE",
+            r#"MailHeader { key: "��", value: "�����" }"#,
+        ),
+        (
+            b"e\xCC\x81:\xCC\x81",
+            r#"MailHeader { key: "e\u{301}", value: "\u{301}" }"#,
+        ),
+        (
+            b"\xE2\x80\x8B:\xC2\xA0\xE2\x80\xA8\xEF\xBB\xBF",
+            r#"MailHeader { key: "\u{200b}", value: "\u{a0}\u{2028}\u{feff}" }"#,
+        ),
+        (
+            b"\xC2\x85:\xC2\xAD\xEF\xBF\xBD\xEE\x80\x80",
+            r#"MailHeader { key: "\u{85}", value: "\u{ad}�\u{e000}" }"#,
+        ),
+        (
+            b"\xE2\x82\xAC:\xE2\x82",
+            r#"MailHeader { key: "€", value: "�" }"#,
+        ),
+    ];
+    for (raw, text) in rows {
+        let (header, _) = parse_header(raw)?;
+        assert_eq!(rt; format!(in rt.alloc(); "{header:?}")?.as_str(), text);
+    }
+    Ok(())
+}
+
+/// The bytes 00 to 7F as a key, without LF and the colon, as they are shown.
+const SHOWN_ASCII: &str =
+    r##"MailHeader { key: "\0\u{1}\u{2}\u{3}\u{4}\u{5}\u{6}\u{7}\u{8}\t\u{b}\u{c}\r\u{e}\u{f}\u{10}\u{11}\u{12}\u{13}\u{14}\u{15}\u{16}\u{17}\u{18}\u{19}\u{1a}\u{1b}\u{1c}\u{1d}\u{1e}\u{1f} !\"#$%&'()*+,-./0123456789;<=>?@ABCDEFGHIJKLMNOPQRSTUVWXYZ[\\]^_`abcdefghijklmnopqrstuvwxyz{|}~\u{7f}"##;
+
+#[test]
+fn a_key_of_all_bytes(rt: HostRuntime) -> Result<(), Fail> {
+    let mut raw = Vec::new(rt.alloc());
+    let mut wanted = String::from_str(rt.alloc(), SHOWN_ASCII)?;
+    for byte in 0..=255u8 {
+        if byte != b':' && byte != b'\n' {
+            raw.push(byte)?;
+        }
+        if byte >= 0x80 {
+            wanted.push('\u{FFFD}')?;
+        }
+    }
+    wanted.push_str("\", value: \"\" }")?;
+    let (header, _) = parse_header(raw.as_slice())?;
+    assert_eq!(rt;
+        format!(in rt.alloc(); "{header:?}")?.as_str(),
+        wanted.as_str()
+    );
+    Ok(())
+}
+
+#[test]
+fn a_block(rt: HostRuntime) -> Result<(), Fail> {
+    let rows: [(&[u8], &str); 2] = [
+        (
+            b"Subject: foo\nAnother header: bar\n\nBody starts here",
+            r#"Headers { headers: [MailHeader { key: "Subject", value: "foo" }, MailHeader { key: "Another header", value: "bar" }] }"#,
+        ),
+        (b"\nbody", "Headers { headers: [] }"),
+    ];
+    for (raw, text) in rows {
+        let mail = parse_mail(rt.alloc(), raw)?;
+        let block = mail.get_headers();
+        assert_eq!(rt; format!(in rt.alloc(); "{block:?}")?.as_str(), text);
+    }
+    Ok(())
+}

@@ -1,0 +1,101 @@
+//! The texts of the errors, and what they wrap.
+use mailparse::{Base64Fault, MailParseError, QuotedPrintableFault, Wrapped};
+use std::alloc::AllocError;
+use std::borrow::CowStr;
+use std::test::Fail;
+
+#[test]
+fn shown_texts(rt: HostRuntime) -> Result<(), Fail> {
+    let fault = Base64Fault {
+        group: 18_446_744_073_709_551_615,
+    };
+    let text = String::from_str(rt.alloc(), "an owned text")?;
+    let rows = [
+        (MailParseError::Generic("a text"), "a text"),
+        (MailParseError::Memory(AllocError), "out of memory"),
+        (MailParseError::from(AllocError), "out of memory"),
+        (
+            MailParseError::from(QuotedPrintableFault),
+            "QuotedPrintable decode error: no quoted-printable text",
+        ),
+        (
+            MailParseError::from(fault),
+            "Base64 decode error: group 18446744073709551615 is no Base64 group",
+        ),
+        (
+            MailParseError::from(CowStr::Borrowed("a text")),
+            "Encoding error: a text",
+        ),
+        (
+            MailParseError::EncodingError(CowStr::Owned(text)),
+            "Encoding error: an owned text",
+        ),
+    ];
+    for (error, text) in rows {
+        assert_eq!(rt; format!(in rt.alloc(); "{error}")?.as_str(), text);
+    }
+    Ok(())
+}
+
+#[test]
+fn debug_texts(rt: HostRuntime) -> Result<(), Fail> {
+    let rows = [
+        (MailParseError::Generic("a \"b\""), r#"Generic("a \"b\"")"#),
+        (MailParseError::Memory(AllocError), "Memory(AllocError)"),
+        (
+            MailParseError::QuotedPrintableDecodeError(QuotedPrintableFault),
+            "QuotedPrintableDecodeError(QuotedPrintableFault)",
+        ),
+        (
+            MailParseError::Base64DecodeError(Base64Fault { group: 7 }),
+            "Base64DecodeError(Base64Fault { group: 7 })",
+        ),
+        (
+            MailParseError::EncodingError(CowStr::Borrowed("x")),
+            r#"EncodingError("x")"#,
+        ),
+    ];
+    for (error, text) in rows {
+        assert_eq!(rt; format!(in rt.alloc(); "{error:?}")?.as_str(), text);
+    }
+    Ok(())
+}
+
+#[test]
+fn the_faults_alone(rt: HostRuntime) -> Result<(), Fail> {
+    let fault = Base64Fault { group: 3 };
+    let text = format!(in rt.alloc(); "{fault}, {QuotedPrintableFault}")?;
+    assert_eq!(rt;
+        text.as_str(),
+        "group 3 is no Base64 group, no quoted-printable text"
+    );
+    let text = format!(in rt.alloc(); "{fault:?}, {QuotedPrintableFault:?}")?;
+    assert_eq!(rt;
+        text.as_str(),
+        "Base64Fault { group: 3 }, QuotedPrintableFault"
+    );
+    Ok(())
+}
+
+#[test]
+fn the_fault_that_an_error_wraps(rt: HostRuntime) -> Result<(), Fail> {
+    let error = MailParseError::Base64DecodeError(Base64Fault { group: 5 });
+    let source = error.source().ok_or("none")?;
+    assert!(rt; matches!(source, Wrapped::Base64(fault) if fault.group == 5));
+    assert_eq!(rt;
+        format!(in rt.alloc(); "{source:?}")?.as_str(),
+        "Base64(Base64Fault { group: 5 })"
+    );
+    let error = MailParseError::QuotedPrintableDecodeError(QuotedPrintableFault);
+    let source = error.source().ok_or("none")?;
+    assert!(rt; matches!(source, Wrapped::QuotedPrintable(_)));
+    let rows = [
+        MailParseError::Generic("a text"),
+        MailParseError::Memory(AllocError),
+        MailParseError::EncodingError(CowStr::Borrowed("x")),
+    ];
+    for error in rows {
+        assert!(rt; error.source().is_none());
+    }
+    Ok(())
+}
