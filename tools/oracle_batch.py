@@ -1,0 +1,28 @@
+"""Asks an oracle program many questions in one run.
+
+The program, called with the argument `batch`, reads records from standard input: a line
+`COMMAND LENGTH`, then LENGTH bytes. For each record it writes lines, and then a line `.`.
+"""
+import subprocess
+
+
+def answers(program, command, inputs):
+    """The lines that the program answers for each input."""
+    records = b"".join(
+        b"%s %d\n%s" % (command.encode("ascii"), len(data), data) for data in inputs
+    )
+    run = subprocess.run([program, "batch"], input=records, stdout=subprocess.PIPE, check=True)
+    blocks = [[]]
+    for line in run.stdout.decode("ascii").splitlines():
+        if line == ".":
+            blocks.append([])
+        else:
+            blocks[-1].append(line)
+    if blocks.pop() or len(blocks) != len(inputs):
+        raise SystemExit("the program did not answer each record")
+    return blocks
+
+
+def hex_or_dash(data):
+    """Two hexadecimal digits for each byte, or `-` for no bytes."""
+    return data.hex() or "-"

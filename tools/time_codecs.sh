@@ -1,0 +1,36 @@
+#!/bin/sh
+# time_codecs.sh [ORACLE]: builds codec_speed and prints the nanoseconds that the decoders take for
+# each byte of large bodies, the least and the median of the rounds.
+#
+# With ORACLE, a program whose command `bench N` reads a mail from standard input and prints a line
+# `full ..`, the time of reading it and decoding its body, its times on the same bodies stand beside.
+set -eu
+here=$(cd "$(dirname "$0")" && pwd)
+oracle=${1:-}
+rounds=${ROUNDS:-15}
+cd "$here/../crates/codec_speed"
+rt run -- base64 1 < /dev/null > /dev/null 2>&1
+work=$(mktemp -d)
+trap 'rm -rf "$work"' EXIT
+python3 "$here/make_speed_bodies.py" "$work"
+
+# row BODY ENCODING WORK..: the times of each work on a body, and the oracle's on a mail with it
+row() {
+    body=$1
+    encoding=$2
+    shift 2
+    for name; do
+        printf '%-8s ' "$body"
+        out/codec_speed "$name" "$rounds" < "$work/$body" 2>&1 > /dev/null
+    done
+    if [ -n "$oracle" ]; then
+        { printf 'Content-Transfer-Encoding: %s\r\n\r\n' "$encoding"; cat "$work/$body"; } > "$work/mail"
+        printf '%-8s oracle: ' "$body"
+        "$oracle" bench "$rounds" < "$work/mail" | grep '^full '
+    fi
+}
+
+row base64 base64 white base64 base64-body
+row padded base64 base64-body
+row text quoted-printable quoted-printable
+row escapes quoted-printable quoted-printable
