@@ -17,6 +17,8 @@ mod looking_up;
 #[cfg(test)]
 mod messages;
 #[cfg(test)]
+mod readme;
+#[cfg(test)]
 mod searches;
 #[cfg(test)]
 mod texts;
