@@ -30,12 +30,18 @@ fn worked_values(rt: HostRuntime) -> Result<(), Fail> {
         (b"=?utf-8?Q?a?= =?x?Q?b?=", "a =?x?Q?b?="),
         (b"=?utf-8?Q?a?= \n b", "a  b"),
         (b"b \r\n\tc", "b  c"),
-        (b"=?iso-8859-1?Q?=A1Hola,_se=F1or!?=", "\u{A1}Hola, se\u{F1}or!"),
+        (
+            b"=?iso-8859-1?Q?=A1Hola,_se=F1or!?=",
+            "\u{A1}Hola, se\u{F1}or!",
+        ),
         (b"=?utf-8?Q?a?= =?utf-8?Q?b?=", "ab"),
         (b"=?utf-8?Q?a?=\n b", "a b"),
         (b"=?utf-8?Q?a?=\n =?x?Q?b?=", "a=?x?Q?b?="),
         (b"\xC3\xA9\xC3\xA9 =?utf-8?Q?a?=", "\u{E9}\u{E9} a"),
-        (b"Hello, sir,\n   I am multiline", "Hello, sir, I am multiline"),
+        (
+            b"Hello, sir,\n   I am multiline",
+            "Hello, sir, I am multiline",
+        ),
         (b"=?utf-8?Q?a?=,", "a,"),
         (b",=?utf-8?Q?a?=", ",a"),
         (b"x,=?utf-8?Q?a?=,y", "x,a,y"),
@@ -208,45 +214,15 @@ fn values_in_other_bytes(rt: HostRuntime) -> Result<(), Fail> {
 
 /// White space of Unicode (the property White_Space) other than LF.
 const WHITE: [char; 24] = [
-    '\u{9}',
-    '\u{B}',
-    '\u{C}',
-    '\u{D}',
-    '\u{20}',
-    '\u{85}',
-    '\u{A0}',
-    '\u{1680}',
-    '\u{2000}',
-    '\u{2001}',
-    '\u{2002}',
-    '\u{2003}',
-    '\u{2004}',
-    '\u{2005}',
-    '\u{2006}',
-    '\u{2007}',
-    '\u{2008}',
-    '\u{2009}',
-    '\u{200A}',
-    '\u{2028}',
-    '\u{2029}',
-    '\u{202F}',
-    '\u{205F}',
-    '\u{3000}',
+    '\u{9}', '\u{B}', '\u{C}', '\u{D}', '\u{20}', '\u{85}', '\u{A0}', '\u{1680}', '\u{2000}',
+    '\u{2001}', '\u{2002}', '\u{2003}', '\u{2004}', '\u{2005}', '\u{2006}', '\u{2007}', '\u{2008}',
+    '\u{2009}', '\u{200A}', '\u{2028}', '\u{2029}', '\u{202F}', '\u{205F}', '\u{3000}',
 ];
 
 /// Characters that look like white space and are none.
 const NO_WHITE: [char; 11] = [
-    '\u{1C}',
-    '\u{1F}',
-    '\u{7F}',
-    '\u{80}',
-    '\u{180E}',
-    '\u{200B}',
-    '\u{200C}',
-    '\u{200D}',
-    '\u{2060}',
-    '\u{FEFF}',
-    '\u{303F}',
+    '\u{1C}', '\u{1F}', '\u{7F}', '\u{80}', '\u{180E}', '\u{200B}', '\u{200C}', '\u{200D}',
+    '\u{2060}', '\u{FEFF}', '\u{303F}',
 ];
 
 const WORD: &str = "=?utf-8?Q?a?=";
@@ -256,15 +232,28 @@ fn each_white_beside_a_word(rt: HostRuntime) -> Result<(), Fail> {
     for c in WHITE {
         let beside = format!(in rt.alloc(); "x{c}{WORD}{c}y")?;
         let wanted = format!(in rt.alloc(); "x{c}a{c}y")?;
-        assert_eq!(rt; read(rt.alloc(), beside.as_bytes())?.as_str(), wanted.as_str());
+        assert_eq!(rt;
+            read(rt.alloc(), beside.as_bytes())?.as_str(),
+            wanted.as_str()
+        );
         let between = format!(in rt.alloc(); "{c}{WORD}{c}{WORD}{c}")?;
-        assert_eq!(rt; read(rt.alloc(), between.as_bytes())?.as_str(), "aa", "{between:?}");
+        assert_eq!(rt;
+            read(rt.alloc(), between.as_bytes())?.as_str(),
+            "aa",
+            "{between:?}"
+        );
     }
     for c in NO_WHITE {
         let beside = format!(in rt.alloc(); "x{c}{WORD}{c}y")?;
-        assert_eq!(rt; read(rt.alloc(), beside.as_bytes())?.as_str(), beside.as_str());
+        assert_eq!(rt;
+            read(rt.alloc(), beside.as_bytes())?.as_str(),
+            beside.as_str()
+        );
         let front = format!(in rt.alloc(); "{c}{WORD}")?;
-        assert_eq!(rt; read(rt.alloc(), front.as_bytes())?.as_str(), front.as_str());
+        assert_eq!(rt;
+            read(rt.alloc(), front.as_bytes())?.as_str(),
+            front.as_str()
+        );
         let back = format!(in rt.alloc(); "{WORD}{c}")?;
         assert_eq!(rt; read(rt.alloc(), back.as_bytes())?.as_str(), back.as_str());
     }
@@ -278,10 +267,17 @@ fn each_ascii_character_beside_a_word(rt: HostRuntime) -> Result<(), Fail> {
             continue;
         }
         let c = char::from(byte);
-        let is_boundary = matches!(byte, 9 | 11 | 12 | 13 | b' ' | b'"' | b'(' | b')' | b'<' | b'>' | b',');
+        let is_boundary = matches!(
+            byte,
+            9 | 11 | 12 | 13 | b' ' | b'"' | b'(' | b')' | b'<' | b'>' | b','
+        );
         let beside = format!(in rt.alloc(); "x{c}{WORD}{c}y")?;
         let decoded = format!(in rt.alloc(); "x{c}a{c}y")?;
-        let wanted = if is_boundary { decoded.as_str() } else { beside.as_str() };
+        let wanted = if is_boundary {
+            decoded.as_str()
+        } else {
+            beside.as_str()
+        };
         assert_eq!(rt; read(rt.alloc(), beside.as_bytes())?.as_str(), wanted);
     }
     Ok(())
@@ -291,14 +287,21 @@ fn each_ascii_character_beside_a_word(rt: HostRuntime) -> Result<(), Fail> {
 fn strict_values(rt: HostRuntime) -> Result<(), Fail> {
     // UTF-8, and its value
     let rows: [(&[u8], &str); 4] = [
-        (b"Subject: \xC2\xA1Hola, se\xC3\xB1or!", "\u{A1}Hola, se\u{F1}or!"),
+        (
+            b"Subject: \xC2\xA1Hola, se\xC3\xB1or!",
+            "\u{A1}Hola, se\u{F1}or!",
+        ),
         (b"A: =?latin1?Q?=E9?=\n b", "\u{E9} b"),
         (b"\xE9: b", "b"),
         (b"A:", ""),
     ];
     for (raw, text) in rows {
         let (header, _) = parse_header(raw)?;
-        assert_eq!(rt; header.get_value_utf8(rt.alloc())?.as_str(), text, "{raw:?}");
+        assert_eq!(rt;
+            header.get_value_utf8(rt.alloc())?.as_str(),
+            text,
+            "{raw:?}"
+        );
         assert_eq!(rt; header.get_value(rt.alloc())?.as_str(), text, "{raw:?}");
     }
     // bytes that are none, and their lenient value
@@ -313,9 +316,15 @@ fn strict_values(rt: HostRuntime) -> Result<(), Fail> {
         let Err(fault) = header.get_value_utf8(rt.alloc()) else {
             return Err(Fail::from("a value"));
         };
-        assert!(rt; matches!(fault, MailParseError::EncodingError(_)), "{raw:?}");
+        assert!(rt;
+            matches!(fault, MailParseError::EncodingError(_)),
+            "{raw:?}"
+        );
         let shown = format!(in rt.alloc(); "{fault}")?;
-        assert_eq!(rt; shown.as_str(), "Encoding error: Invalid UTF-8 in header value");
+        assert_eq!(rt;
+            shown.as_str(),
+            "Encoding error: Invalid UTF-8 in header value"
+        );
         assert_eq!(rt; header.get_value(rt.alloc())?.as_str(), text, "{raw:?}");
     }
     Ok(())
@@ -366,11 +375,26 @@ fn first_value<M: MailHeaderMap>(alloc: Global, map: &M, name: &str) -> Result<S
 fn values_by_name(rt: HostRuntime) -> Result<(), Fail> {
     // the headers, a name, the first value, and all values with `;` behind each
     let rows: [(&[u8], &str, &str, &str); 8] = [
-        (b"Key: Value1\nKey: Value2", "Key", "Value1", "Value1;Value2;"),
-        (b"Subject: Test\nFrom: me@myself.com\nTo: you@yourself.com", "To", "you@yourself.com", "you@yourself.com;"),
+        (
+            b"Key: Value1\nKey: Value2",
+            "Key",
+            "Value1",
+            "Value1;Value2;",
+        ),
+        (
+            b"Subject: Test\nFrom: me@myself.com\nTo: you@yourself.com",
+            "To",
+            "you@yourself.com",
+            "you@yourself.com;",
+        ),
         (b"Key: 1\nX: 2\nkEY: 3", "key", "1", "1;3;"),
         (b"A: =?utf-8?Q?a?=\n =?utf-8?Q?b?=\nB: c", "a", "ab", "ab;"),
-        (b"SuBJect : =?iso-8859-1?Q?=A1Hola,_se=F1or!?=", "Subject", "none", ""),
+        (
+            b"SuBJect : =?iso-8859-1?Q?=A1Hola,_se=F1or!?=",
+            "Subject",
+            "none",
+            "",
+        ),
         (b"\xE9: =?latin1?q?=E9?=", "\u{E9}", "\u{E9}", "\u{E9};"),
         (b":x\n:y\n", "", "x", "x;y;"),
         (b"", "A", "none", ""),
@@ -378,10 +402,26 @@ fn values_by_name(rt: HostRuntime) -> Result<(), Fail> {
     for (raw, name, first, all) in rows {
         let mail = parse_mail(rt.alloc(), raw)?;
         let (list, _) = parse_headers(rt.alloc(), raw)?;
-        assert_eq!(rt; first_value(rt.alloc(), &list, name)?.as_str(), first, "{name:?} in {raw:?}");
-        assert_eq!(rt; all_values(rt.alloc(), &list, name)?.as_str(), all, "{name:?} in {raw:?}");
-        assert_eq!(rt; first_value(rt.alloc(), &mail.get_headers(), name)?.as_str(), first, "{name:?} in {raw:?}");
-        assert_eq!(rt; all_values(rt.alloc(), &mail.get_headers(), name)?.as_str(), all, "{name:?} in {raw:?}");
+        assert_eq!(rt;
+            first_value(rt.alloc(), &list, name)?.as_str(),
+            first,
+            "{name:?} in {raw:?}"
+        );
+        assert_eq!(rt;
+            all_values(rt.alloc(), &list, name)?.as_str(),
+            all,
+            "{name:?} in {raw:?}"
+        );
+        assert_eq!(rt;
+            first_value(rt.alloc(), &mail.get_headers(), name)?.as_str(),
+            first,
+            "{name:?} in {raw:?}"
+        );
+        assert_eq!(rt;
+            all_values(rt.alloc(), &mail.get_headers(), name)?.as_str(),
+            all,
+            "{name:?} in {raw:?}"
+        );
     }
     Ok(())
 }
