@@ -5,7 +5,8 @@
 //! body, the kind of the body, what it decodes to and the text of that. The last two are `d` and
 //! bytes, or `e` and the number of the Base64 group that is refused. Bytes, and texts as their
 //! UTF-8, are in hexadecimal, `-` for an empty field. tools/make_body_answers.py made the list in the
-//! file `stdin`, with the Rust crate mailparse 0.18.0.
+//! file `stdin`, with the code of the Rust crate mailparse 0.18.0 changed where docs/DIFFERENCES.md
+//! says that this port differs; quoted-printable came from a stand-in.
 #![tactic(auto)]
 
 mod answer;

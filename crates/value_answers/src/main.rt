@@ -4,7 +4,8 @@
 //! Each line of the list is one answer: the bytes of a value, as they stand behind `X:`, the text
 //! that `get_value` reads and the text that `get_value_utf8` reads, `!` where it refuses. Bytes, and
 //! texts as their UTF-8, are in hexadecimal, `-` for none. tools/make_value_answers.py made the list
-//! in the file `stdin`, with the Rust crate mailparse 0.18.0.
+//! in the file `stdin`, with the code of the Rust crate mailparse 0.18.0 changed where
+//! docs/DIFFERENCES.md says that this port differs; quoted-printable came from a stand-in.
 #![tactic(auto)]
 
 mod answer;
