@@ -7,11 +7,11 @@ use Rattle.mailparse.specs.Body.{BodyKind, in_base64, in_quoted_printable, in_7b
 use Rattle.mailparse.specs.declared.content_type.ParsedContentType.{ParsedContentType}
 use Rattle.mailparse.specs.declared.body.Body.{Body}
 use Rattle.mailparse.specs.declared.body.Body.TheVariants.{Base64, QuotedPrintable, SevenBit, EightBit, Binary}
-use Rattle.mailparse.specs.declared.body.Encoding.{Encoding}
-use Rattle.mailparse.specs.declared.body.Encoding.TheVariants as encoding
-use Rattle.mailparse.specs.declared.body.EncodedBody.{EncodedBody}
-use Rattle.mailparse.specs.declared.body.TextBody.{TextBody}
-use Rattle.mailparse.specs.declared.body.BinaryBody.{BinaryBody}
+use Rattle.mailparse.specs.declared.body.encoded.Encoding.{Encoding}
+use Rattle.mailparse.specs.declared.body.encoded.Encoding.TheVariants as encoding
+use Rattle.mailparse.specs.declared.body.encoded.EncodedBody.{EncodedBody}
+use Rattle.mailparse.specs.declared.body.text.TextBody.{TextBody}
+use Rattle.mailparse.specs.declared.body.binary.BinaryBody.{BinaryBody}
 
 -- the type of a message's content
 pub record Content : Type 0 where

@@ -1,0 +1,80 @@
+//! A body that is encoded (RFC 2045, sections 6.7 and 6.8).
+ghost use Rattle.std.specs.Prelude.{◌≡◌, string_bytes};
+ghost use Rattle.mailparse.specs.Body.{in_base64, decoded, decoded_text};
+ghost use Rattle.mailparse.specs.BodyViews.{encoded_kind, encoded_content};
+ghost use Rattle.mailparse.specs.Outcome.{AnswersInMemory};
+
+use super::body_text;
+use crate::content_type::ParsedContentType;
+use crate::error::{Base64Fault, MailParseError};
+use mail_codec::bytescan::strip_ascii_whitespace;
+use mail_codec::transfer::{decode_base64, decode_quoted_printable};
+use std::alloc::Global;
+
+/// What an encoded body is in.
+#[derive(Clone, Copy)]
+pub(super) enum Encoding {
+    Base64,
+    QuotedPrintable,
+}
+
+/// A body in Base64 or quoted-printable.
+#[derive(Clone, Copy)]
+pub struct EncodedBody<'a> {
+    pub(super) encoding: Encoding,
+    pub(super) body: &'a [u8],
+    pub(super) ctype: &'a ParsedContentType,
+}
+
+impl<'a> EncodedBody<'a> {
+    /// The content type that the body was made with. Takes no memory.
+    pub fn get_content_type(&self) -> &'a ParsedContentType
+        ensures { result.now ≡ (encoded_content self.now).ctype }
+    {
+        self.ctype
+    }
+
+    /// The bytes of the body as they stand in the message. Takes no memory.
+    pub fn get_raw(&self) -> &'a [u8]
+        ensures { result.now ≡ (encoded_content self.now).raw }
+    {
+        self.body
+    }
+
+    /// The bytes that the body stands for (RFC 2045, sections 6.7 and 6.8). Base64 is refused by the
+    /// number of the first group that is none, white space counting as absent; quoted-printable
+    /// never is. Takes memory for the answer and, in Base64, for the body without white space.
+    #[tactic(auto, unfolding(crate::specs::Body::decoded))]
+    pub fn get_decoded(&self, alloc: Global) -> Result<Vec<u8>, MailParseError>
+        ensures { AnswersInMemory (λ bytes. bytes.items) result (decoded (encoded_kind self.now) (encoded_content self.now).raw) }
+    {
+        match self.encoding {
+            Encoding::Base64 => base64_body(alloc, self.body),
+            Encoding::QuotedPrintable => Ok(decode_quoted_printable(alloc, self.body)?),
+        }
+    }
+
+    /// The text that the body stands for, under the charset of its content type: a byte order mark
+    /// decides first, and under an unknown label each byte that is no ASCII is U+FFFD. Refused as
+    /// `get_decoded` is.
+    #[tactic(auto, unfolding(crate::specs::Body::decoded_text))]
+    pub fn get_decoded_as_string(&self, alloc: Global) -> Result<String, MailParseError>
+        ensures { AnswersInMemory (λ text. string_bytes text) result
+            (decoded_text (encoded_kind self.now) (string_bytes (encoded_content self.now).ctype.charset) (encoded_content self.now).raw) }
+    {
+        let bytes = self.get_decoded(alloc)?;
+        body_text(alloc, bytes.as_slice(), self.ctype)
+    }
+}
+
+/// The bytes of a body in Base64, its white space counting as absent.
+#[tactic(auto, unfolding(crate::specs::Body::decoded))]
+fn base64_body(alloc: Global, body: &[u8]) -> Result<Vec<u8>, MailParseError>
+    ensures { AnswersInMemory (λ bytes. bytes.items) result (decoded in_base64 body.now) }
+{
+    let letters = strip_ascii_whitespace(alloc, body)?;
+    match decode_base64(alloc, letters.as_slice())? {
+        Ok(bytes) => Ok(bytes),
+        Err(group) => Err(MailParseError::Base64DecodeError(Base64Fault { group })),
+    }
+}
