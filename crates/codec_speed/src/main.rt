@@ -1,9 +1,9 @@
 //! Times the decoders on the bytes of standard input: `codec_speed WORK ROUNDS`.
 //!
-//! WORK is `white` (ASCII white space goes), `base64`, `base64-body` (first the one and then the
-//! other, as for the body of a message) or `quoted-printable`. What came out goes to standard
-//! output, and the nanoseconds for each byte of the input, the least and the median of the rounds,
-//! to standard error. tools/time_codecs.sh runs it on large bodies.
+//! WORK is `white` (ASCII white space goes), `base64`, `base64-body` (Base64 in which white space
+//! counts as absent, as in the body of a message) or `quoted-printable`. What came out goes to
+//! standard output, and the nanoseconds for each byte of the input, the least and the median of the
+//! rounds, to standard error. tools/time_codecs.sh runs it on large bodies.
 #![tactic(auto)]
 
 mod work;

@@ -1,11 +1,11 @@
 //! What is timed.
 
 use mail_codec::bytescan::strip_ascii_whitespace;
-use mail_codec::transfer::{decode_base64, decode_quoted_printable};
+use mail_codec::transfer::{decode_base64, decode_base64_body, decode_quoted_printable};
 use std::alloc::{AllocError, Global};
 use std::fmt;
 
-/// A decoder, or the two that the body of a message goes through.
+/// A decoder, or the search for white space.
 #[derive(Clone, Copy, Debug, PartialEq, Eq)]
 pub enum Work {
     White,
@@ -31,10 +31,7 @@ impl Work {
         match self {
             Work::White => Ok(Some(strip_ascii_whitespace(alloc, input)?)),
             Work::Base64 => Ok(decode_base64(alloc, input)?.ok()),
-            Work::Base64Body => {
-                let letters = strip_ascii_whitespace(alloc, input)?;
-                Ok(decode_base64(alloc, letters.as_slice())?.ok())
-            }
+            Work::Base64Body => Ok(decode_base64_body(alloc, input)?.ok()),
             Work::QuotedPrintable => Ok(Some(decode_quoted_printable(alloc, input)?)),
         }
     }

@@ -1,11 +1,14 @@
--- Groups read in parts, and line ends dropped in parts.
-use Rattle.std.proofs.Common.{◌≡◌, ℕ, suc, ◌+◌, ◌-◌, ◌*◌, ◌/◌, ◌%◌, ◌<◌, ◌≤◌, Bool, List, [], ◌∷◌, ◌++◌, length, take, drop, slice_index, Option, Some, None, Result, Ok, Err, refl, sym, ap, ◌∙◌, arith, inl, inr, filter}
-use Rattle.std.specs.List.{prefix_len}
+-- Groups read in parts, and what is absent left out in parts.
+use Rattle.std.proofs.Common.{◌≡◌, ◌≢◌, true, false, ℕ, suc, ◌+◌, ◌-◌, ◌*◌, ◌/◌, ◌%◌, ◌<◌, ◌≤◌, List, [], ◌∷◌, ◌++◌, length, take, drop, slice_index, Option, Some, None, Result, Ok, Err, refl, sym, ap, ◌∙◌, arith, inl, inr, not}
 use Rattle.std.proofs.lemmas.List.{append_assoc, drop_more, length-append, length-take-le, length-drop, take-append-drop, drop-drop}
-use Rattle.std.proofs.lemmas.Bool.{cases_Bool}
+use Rattle.std.proofs.lemmas.Bool.{cases_Bool, ne_eqb}
 use Rattle.std.proofs.lemmas.List.Elements.{filter-append}
 use Rattle.std.proofs.lemmas.List.Sums.{length-filter, count_by-le-length}
-use Rattle.mail_codec.specs.Base64.{is_kept, without_line_ends, group_bytes, groups_from, after_group, prepend}
+use Rattle.mail_codec.specs.Base64.{base64, is_kept, without_line_ends, group_bytes, groups_from, after_group, prepend}
+use Rattle.mail_codec.specs.Places.{without_ascii_whitespace}
+use Rattle.std.specs.Char.{is_ascii_whitespace}
+use Rattle.mail_codec.specs.Runs.{ends_run, without_ends}
+use Rattle.mail_codec.specs.declared.bytescan.runs.RunEnd.{RunEnd}
 
 pub prepend-prepend : (a b : List ℕ) (r : Result (List ℕ) ℕ) → prepend a (prepend b r) ≡ prepend (a ++ b) r
 prepend-prepend a b (Ok c) = ap Ok (sym (append_assoc a b c))
@@ -101,74 +104,62 @@ groups_from-drop n at xs h =
     let next : suc n ≡ n + 1 = omega arith in
     rw (a, b, c, d, four, three, two, next) refl
 
--- ---- line ends
+-- ---- bytes that are left out
 
-pub without_line_ends-append : (xs ys : List ℕ) → without_line_ends (xs ++ ys) ≡ without_line_ends xs ++ without_line_ends ys
-without_line_ends-append xs ys = filter-append is_kept xs ys
+pub without_ends-append : (absent : RunEnd) (xs ys : List ℕ) → without_ends absent (xs ++ ys) ≡ without_ends absent xs ++ without_ends absent ys
+without_ends-append absent xs ys = filter-append (λ b. not (ends_run absent b)) xs ys
 
-pub length-without_line_ends : (xs : List ℕ) → length (without_line_ends xs) ≤ length xs
-length-without_line_ends xs = omega (arith, length-filter is_kept xs, count_by-le-length is_kept xs)
+pub length-without_ends : (absent : RunEnd) (xs : List ℕ) → length (without_ends absent xs) ≤ length xs
+length-without_ends absent xs =
+    omega (arith, length-filter (λ b. not (ends_run absent b)) xs, count_by-le-length (λ b. not (ends_run absent b)) xs)
 
--- a filter is what passes first, and then the filter of what stands behind the first that fails
-filter_first : (p : ℕ → Bool) (xs : List ℕ) → filter p xs ≡ take (prefix_len p xs) xs ++ filter p (drop (prefix_len p xs + 1) xs)
-filter_first p [] = refl
-filter_first p (x ∷ xs) = elim (cases_Bool (p x)) [
-  | inl passes ↦
-      let n : ℕ = prefix_len p xs in
-      let one : 1 + n ≡ suc n = omega arith in
-      let more : suc n + 1 ≡ suc (n + 1) = omega arith in
-      rw (passes, one, more) (ap (λ (r : List ℕ). x ∷ r) (filter_first p xs))
-  | inr fails ↦ rw fails refl
+-- no line end is left where no white is
+kept_of : (b : ℕ) → is_ascii_whitespace b ≡ false → is_kept b ≡ true
+kept_of b h =
+    let no_13 : b ≢ 13 = λ (e : b ≡ 13). let bad : is_ascii_whitespace 13 ≡ false = rw e at h in cc bad in
+    let no_10 : b ≢ 10 = λ (e : b ≡ 10). let bad : is_ascii_whitespace 10 ≡ false = rw e at h in cc bad in
+    rw (ne_eqb b 13 no_13, ne_eqb b 10 no_10) refl
+
+without_line_ends-white : (xs : List ℕ) → without_line_ends (without_ascii_whitespace xs) ≡ without_ascii_whitespace xs
+without_line_ends-white [] = refl
+without_line_ends-white (x ∷ xs) = elim (cases_Bool (is_ascii_whitespace x)) [
+  | inl white ↦ rw white (without_line_ends-white xs)
+  | inr other ↦ rw (other, kept_of x other) (ap (λ (r : List ℕ). x ∷ r) (without_line_ends-white xs))
 ]
 
--- the bytes before the first line end stay, and it goes
-pub without_line_ends_first : (xs : List ℕ)
-    → without_line_ends xs ≡ take (prefix_len is_kept xs) xs ++ without_line_ends (drop (prefix_len is_kept xs + 1) xs)
-without_line_ends_first xs = filter_first is_kept xs
-
--- one run of a loop that appends what it keeps
-pub runs_step : (xs letters next : List ℕ) (at end : ℕ) → at ≤ length xs → end ≡ at + prefix_len is_kept (drop at xs)
-    → next ≡ letters ++ take (end - at) (drop at xs)
-    → letters ++ without_line_ends (drop at xs) ≡ next ++ without_line_ends (drop (end + 1) xs)
-runs_step xs letters next at end within end_is next_is =
-    let n : ℕ = prefix_len is_kept (drop at xs) in
-    let len : end - at ≡ n = omega arith in
-    let behind : drop (n + 1) (drop at xs) ≡ drop (end + 1) xs =
-    drop-drop (n + 1) at xs ∙ ap (λ (k : ℕ). drop k xs) (omega arith) in
-    let here : next ≡ letters ++ take n (drop at xs) = next_is ∙ ap (λ (k : ℕ). letters ++ take k (drop at xs)) len in
-    ap (λ (r : List ℕ). letters ++ r) (without_line_ends_first (drop at xs))
-    ∙ sym (append_assoc letters (take n (drop at xs)) (without_line_ends (drop (n + 1) (drop at xs))))
-    ∙ ap (λ (r : List ℕ). r ++ without_line_ends (drop (n + 1) (drop at xs))) (sym here)
-    ∙ ap (λ (r : List ℕ). next ++ without_line_ends r) behind
+-- so a body without its white is read in groups at once
+pub base64_without_white : (body : List ℕ) → base64 (without_ascii_whitespace body) ≡ groups_from 0 (without_ascii_whitespace body)
+unfolding base64
+base64_without_white body = ap (groups_from 0) (without_line_ends-white body)
 
 -- ---- windows of a text
 
 -- the whole groups of the letters so far and of a window
-module _ (text letters all : List ℕ) (at end n whole : ℕ) (ordered : at ≤ end) (within : end ≤ length text)
-    (all_is : all ≡ letters ++ without_line_ends (take (end - at) (drop at text))) (whole_is : whole ≡ length all / 4) where
-  window_rest : letters ++ without_line_ends (drop at text)
-      ≡ take (4 * whole) all ++ (drop (4 * whole) all ++ without_line_ends (drop end text))
+module _ (absent : RunEnd) (text letters all : List ℕ) (at end n whole : ℕ) (ordered : at ≤ end) (within : end ≤ length text)
+    (all_is : all ≡ letters ++ without_ends absent (take (end - at) (drop at text))) (whole_is : whole ≡ length all / 4) where
+  window_rest : letters ++ without_ends absent (drop at text)
+      ≡ take (4 * whole) all ++ (drop (4 * whole) all ++ without_ends absent (drop end text))
   window_rest =
       let k : ℕ = end - at in
       let behind : drop k (drop at text) ≡ drop end text = drop-drop k at text ∙ ap (λ (i : ℕ). drop i text) (omega arith) in
-      let split : without_line_ends (drop at text) ≡ without_line_ends (take k (drop at text)) ++ without_line_ends (drop end text) =
-      ap without_line_ends (sym (take-append-drop k (drop at text)))
-      ∙ without_line_ends-append (take k (drop at text)) (drop k (drop at text))
-      ∙ ap (λ (r : List ℕ). without_line_ends (take k (drop at text)) ++ without_line_ends r) behind in
+      let split : without_ends absent (drop at text) ≡ without_ends absent (take k (drop at text)) ++ without_ends absent (drop end text) =
+      ap (without_ends absent) (sym (take-append-drop k (drop at text)))
+      ∙ without_ends-append absent (take k (drop at text)) (drop k (drop at text))
+      ∙ ap (λ (r : List ℕ). without_ends absent (take k (drop at text)) ++ without_ends absent r) behind in
       ap (λ (r : List ℕ). letters ++ r) split
-      ∙ sym (append_assoc letters (without_line_ends (take k (drop at text))) (without_line_ends (drop end text)))
-      ∙ ap (λ (r : List ℕ). r ++ without_line_ends (drop end text)) (sym all_is)
-      ∙ ap (λ (r : List ℕ). r ++ without_line_ends (drop end text)) (sym (take-append-drop (4 * whole) all))
-      ∙ append_assoc (take (4 * whole) all) (drop (4 * whole) all) (without_line_ends (drop end text))
+      ∙ sym (append_assoc letters (without_ends absent (take k (drop at text))) (without_ends absent (drop end text)))
+      ∙ ap (λ (r : List ℕ). r ++ without_ends absent (drop end text)) (sym all_is)
+      ∙ ap (λ (r : List ℕ). r ++ without_ends absent (drop end text)) (sym (take-append-drop (4 * whole) all))
+      ∙ append_assoc (take (4 * whole) all) (drop (4 * whole) all) (without_ends absent (drop end text))
 
   length_whole : length (take (4 * whole) all) ≡ 4 * whole
   length_whole = length-take-le (4 * whole) all (omega arith)
 
   pub window_read : (old new : List ℕ) → prepend old (groups_from n (take (4 * whole) all)) ≡ Ok new
-      → prepend old (groups_from n (letters ++ without_line_ends (drop at text)))
-      ≡ prepend new (groups_from (n + whole) (drop (4 * whole) all ++ without_line_ends (drop end text)))
+      → prepend old (groups_from n (letters ++ without_ends absent (drop at text)))
+      ≡ prepend new (groups_from (n + whole) (drop (4 * whole) all ++ without_ends absent (drop end text)))
   window_read old new h =
-      let rest : List ℕ = drop (4 * whole) all ++ without_line_ends (drop end text) in
+      let rest : List ℕ = drop (4 * whole) all ++ without_ends absent (drop end text) in
       let parts = prepend_ok old new (groups_from n (take (4 * whole) all)) h in
       let b : List ℕ = parts.0 in
       let len = length_whole in
@@ -182,7 +173,7 @@ module _ (text letters all : List ℕ) (at end n whole : ℕ) (ordered : at ≤ 
       ∙ ap (λ (c : List ℕ). prepend c (groups_from (n + whole) rest)) parts.2
 
   pub window_fault : (old : List ℕ) (fault : ℕ) → prepend old (groups_from n (take (4 * whole) all)) ≡ Err fault
-      → prepend old (groups_from n (letters ++ without_line_ends (drop at text))) ≡ Err fault
+      → prepend old (groups_from n (letters ++ without_ends absent (drop at text))) ≡ Err fault
   window_fault old fault h =
       let len = length_whole in
       let err : groups_from n (take (4 * whole) all) ≡ Err fault = prepend_err old fault _ h in
@@ -192,7 +183,7 @@ module _ (text letters all : List ℕ) (at end n whole : ℕ) (ordered : at ≤ 
   -- the letters of a window are no more than its bytes
   pub window_length : length all ≤ length letters + (end - at)
   window_length =
-      let len : length all ≡ length letters + length (without_line_ends (take (end - at) (drop at text))) =
+      let len : length all ≡ length letters + length (without_ends absent (take (end - at) (drop at text))) =
       ap length all_is ∙ length-append letters _ in
       let short : end - at ≤ length (drop at text) = omega (arith, length-drop at text) in
-      omega (arith, len, length-without_line_ends (take (end - at) (drop at text)), length-take-le (end - at) (drop at text) short)
+      omega (arith, len, length-without_ends absent (take (end - at) (drop at text)), length-take-le (end - at) (drop at text) short)

@@ -7,7 +7,9 @@ use Rattle.std.proofs.lemmas.List.{append-nil, drop_all, take-append-drop}
 use Rattle.base64.specs.Engines.{standard}
 use Rattle.base64.specs.declared.decode.DecodeSliceError.{DecodeSliceError}
 use Rattle.base64.specs.GeneralPurpose.{IsBytes, decode_of, decode_slice_of, decoded_bytes_of}
-use Rattle.mail_codec.specs.Base64.{base64, letter_value, padding, bytes_of_values, group_bytes, groups_from, after_group, prepend, without_line_ends}
+use Rattle.mail_codec.specs.Base64.{letter_value, padding, bytes_of_values, group_bytes, groups_from, after_group, prepend}
+use Rattle.mail_codec.specs.Runs.{without_ends}
+use Rattle.mail_codec.specs.declared.bytescan.runs.RunEnd.{RunEnd}
 use Rattle.mail_codec.proofs.Base64Engine.{slice_letters, slice_no_letters, groups_from-decode_of}
 use Rattle.mail_codec.proofs.Base64Groups.{prepend-prepend, prepend-nil, groups_from-drop, groups_from-nil, groups_from-short}
 
@@ -108,24 +110,24 @@ group_end letters cur n number h =
 
 -- ---- the whole text
 
-pub base64_start : (text bytes letters : List ℕ) → bytes ≡ [] → letters ≡ [] → prepend bytes (groups_from 0 (letters ++ without_line_ends text)) ≡ base64 text
-unfolding base64
-base64_start text bytes letters eb el = rw (eb, el) (prepend-nil (groups_from 0 (without_line_ends text)))
+pub groups_start : (absent : RunEnd) (text bytes letters : List ℕ) → bytes ≡ [] → letters ≡ []
+    → prepend bytes (groups_from 0 (letters ++ without_ends absent text)) ≡ groups_from 0 (without_ends absent text)
+groups_start absent text bytes letters eb el = rw (eb, el) (prepend-nil (groups_from 0 (without_ends absent text)))
 
 -- at the end of the text nothing but the letters is left
-rest_at_end : (text letters : List ℕ) (at : ℕ) → length text ≤ at → letters ++ without_line_ends (drop at text) ≡ letters
-rest_at_end text letters at h =
-    ap (λ (x : List ℕ). letters ++ without_line_ends x) (drop_all at text h) ∙ append-nil letters
+rest_at_end : (absent : RunEnd) (text letters : List ℕ) (at : ℕ) → length text ≤ at → letters ++ without_ends absent (drop at text) ≡ letters
+rest_at_end absent text letters at h =
+    ap (λ (x : List ℕ). letters ++ without_ends absent x) (drop_all at text h) ∙ append-nil letters
 
-pub base64_end : (text bytes letters : List ℕ) (at n : ℕ) → length text ≤ at → length letters ≡ 0
-    → prepend bytes (groups_from n (letters ++ without_line_ends (drop at text))) ≡ Ok bytes
-base64_end text bytes [] at n h none =
-    ap (λ (x : List ℕ). prepend bytes (groups_from n x)) (rest_at_end text [] at h)
+pub groups_end : (absent : RunEnd) (text bytes letters : List ℕ) (at n : ℕ) → length text ≤ at → length letters ≡ 0
+    → prepend bytes (groups_from n (letters ++ without_ends absent (drop at text))) ≡ Ok bytes
+groups_end absent text bytes [] at n h none =
+    ap (λ (x : List ℕ). prepend bytes (groups_from n x)) (rest_at_end absent text [] at h)
     ∙ ap (prepend bytes) (groups_from-nil n) ∙ ap Ok (append-nil bytes)
-base64_end text bytes (x ∷ letters) at n h none = absurd (omega arith)
+groups_end absent text bytes (x ∷ letters) at n h none = absurd (omega arith)
 
-pub base64_short : (text bytes letters : List ℕ) (at n : ℕ) → length text ≤ at → 0 < length letters → length letters < 4
-    → prepend bytes (groups_from n (letters ++ without_line_ends (drop at text))) ≡ Err n
-base64_short text bytes letters at n h some few =
-    ap (λ (x : List ℕ). prepend bytes (groups_from n x)) (rest_at_end text letters at h)
+pub groups_short : (absent : RunEnd) (text bytes letters : List ℕ) (at n : ℕ) → length text ≤ at → 0 < length letters → length letters < 4
+    → prepend bytes (groups_from n (letters ++ without_ends absent (drop at text))) ≡ Err n
+groups_short absent text bytes letters at n h some few =
+    ap (λ (x : List ℕ). prepend bytes (groups_from n x)) (rest_at_end absent text letters at h)
     ∙ ap (prepend bytes) (groups_from-short n letters some few)

@@ -1,5 +1,6 @@
 pub mod PlaceLemmas
 pub mod PlaceFromLemmas
+pub mod RunLemmas
 pub mod EncodeLemmas
 pub mod LabelLemmas
 pub mod MarkLemmas

@@ -1,9 +1,9 @@
 -- Lemmas on the least place at or after a start.
-use Rattle.std.proofs.Common.{◌≡◌, ◌≢◌, ℕ, zero, suc, ◌+◌, ◌-◌, ◌<◌, ◌≤◌, Bool, true, false, cond, List, [], ◌∷◌, length, drop, get_or, refl, sym, ap, ◌∙◌, subst, arith, add-one, length-drop}
-use Rattle.std.proofs.lemmas.Bool.{cond-true, cond-false, false≢true}
+use Rattle.std.proofs.Common.{◌≡◌, ◌≢◌, ℕ, zero, suc, ◌+◌, ◌-◌, ◌<◌, ◌≤◌, Bool, true, false, List, [], ◌∷◌, length, drop, get_or, refl, sym, ap, ◌∙◌, subst, arith, length-drop}
+use Rattle.std.proofs.lemmas.Bool.{false≢true}
 use Rattle.std.proofs.lemmas.List.{drop-drop, drop_all, drop_more}
 use Rattle.mail_codec.specs.Places.{first_place, place_from}
-use Rattle.mail_codec.proofs.PlaceLemmas.{first_place-≤, first_place-passes, first_place-before}
+use Rattle.mail_codec.proofs.PlaceLemmas.{first_place-≤, first_place-passes}
 
 first_place_here : (test : List ℕ → Bool) (b : ℕ) (bytes : List ℕ) → test (b ∷ bytes) ≡ true → first_place test (b ∷ bytes) ≡ 0
 first_place_here test b bytes e = rw e refl

@@ -3,4 +3,4 @@ pub mod Latin1
 pub mod Charset
 pub mod Base64
 pub mod QuotedPrintable
-pub mod Searches
+pub mod Runs

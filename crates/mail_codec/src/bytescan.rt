@@ -2,6 +2,9 @@
 ghost use Rattle.std.specs.Prelude.{◌≡◌, IfOk};
 ghost use Rattle.mail_codec.specs.Places.{byte_place, text_place, without_ascii_whitespace};
 
+pub(crate) mod runs;
+
+use runs::{RunEnd, push_runs};
 use std::alloc::{AllocError, Global};
 
 /// The first place of `byte` in `haystack`, or `None` where it is absent. Takes no memory.
@@ -44,10 +47,6 @@ pub fn strip_ascii_whitespace(alloc: Global, bytes: &[u8]) -> Result<Vec<u8>, Al
     ensures { IfOk result (λ kept. kept.items ≡ without_ascii_whitespace bytes.now) }
 {
     let mut kept = Vec::with_capacity(alloc, bytes.len())?;
-    for b in bytes {
-        if !b.is_ascii_whitespace() {
-            kept.push(*b)?;
-        }
-    }
+    push_runs(&mut kept, bytes, RunEnd::White)?;
     Ok(kept)
 }

@@ -1,20 +1,19 @@
 //! The transfer codings Base64 and quoted-printable, over bytes.
 
 ghost use Rattle.std.specs.Prelude.{◌≡◌, ℕ, ◌+◌, ◌*◌, ◌/◌, ◌%◌, ◌^◌, ◌<◌, ◌≤◌, ◌≢◌, ◌++◌, length, drop, slice_index, vec_len, IfOk, OnOk, OnSome, IfSome, option_map, if◌then◌else◌, ◌==◌, ◌-◌, false};
-ghost use Rattle.std.specs.List.{position_or_len, prefix_len, suffix_len};
-ghost use Rattle.mail_codec.specs.Searches.{AllFree};
+ghost use Rattle.std.specs.List.{suffix_len};
 ghost use Rattle.mail_codec.specs.QuotedPrintable.{digit_value, ended_line, first_escape, is_blank, line_bytes, quoted_printable, unescaped};
-ghost use Rattle.mail_codec.specs.Base64.{answer_over, base64, bytes_of_values, group_bytes, groups_from, is_kept, items_or_fault, letter_value, prepend, without_line_ends};
+ghost use Rattle.mail_codec.specs.Base64.{answer_over, base64, bytes_of_values, group_bytes, groups_from, items_or_fault, letter_value, prepend};
+ghost use Rattle.mail_codec.specs.Places.{without_ascii_whitespace};
+ghost use Rattle.mail_codec.specs.Runs.{without_ends};
 
+use crate::bytescan::runs::{RunEnd, push_runs, run_len};
 use base64::DecodeAllocError;
 use base64::engine::general_purpose::STANDARD;
 use std::alloc::{AllocError, Global};
 
-/// How many bytes of a text lose their line ends at a time.
+/// How many bytes of a text are read at a time.
 const WINDOW: usize = 4096;
-
-/// How many bytes a search tests at a time.
-const BLOCK: usize = 16;
 
 /// The bytes that a Base64 text stands for (RFC 4648, section 4). CR and LF count as absent wherever
 /// they stand, groups with padding may stand anywhere, and bits that make no whole byte are ignored.
@@ -22,8 +21,30 @@ const BLOCK: usize = 16;
 /// The inner error is the number, from 0, of the first group of four that is none; a short last
 /// group counts. The outer error comes where memory runs out: the answer takes memory, and so do a
 /// few kilobytes of letters on the way.
+#[tactic(auto, unfolding(crate::specs::Base64::base64))]
 pub fn decode_base64(alloc: Global, text: &[u8]) -> Result<Result<Vec<u8>, usize>, AllocError>
     ensures { IfOk result (λ answer. items_or_fault answer ≡ base64 text.now) }
+{
+    decode_without(alloc, text, RunEnd::LineEnd)
+}
+
+/// The bytes that the body of a message in Base64 stands for (RFC 2045, section 6.8): the same as
+/// `decode_base64`, errors and memory too, of the body without its ASCII white space (space, tab, LF,
+/// FF and CR; 0x0B is none), of which it makes no copy.
+pub fn decode_base64_body(alloc: Global, body: &[u8]) -> Result<Result<Vec<u8>, usize>, AllocError>
+    ensures { IfOk result (λ answer. items_or_fault answer ≡ base64 (without_ascii_whitespace body.now)) }
+{
+    decode_without(alloc, body, RunEnd::White)
+}
+
+// The bytes of the groups of a text without what counts as absent, a window of the text at a time.
+#[inline(always)]
+fn decode_without(
+    alloc: Global,
+    text: &[u8],
+    absent: RunEnd,
+) -> Result<Result<Vec<u8>, usize>, AllocError>
+    ensures { IfOk result (λ answer. items_or_fault answer ≡ groups_from 0 (without_ends absent text.now)) }
 {
     let mut bytes = Vec::new(alloc);
     let mut letters = Vec::with_capacity(alloc, text.len().min(WINDOW + 3))?;
@@ -31,7 +52,7 @@ pub fn decode_base64(alloc: Global, text: &[u8]) -> Result<Result<Vec<u8>, usize
     let mut at = 0;
     'windows: while at < text.len() {
         let end = (text.len() - at).min(WINDOW) + at;
-        push_letters(&mut letters, &text[at..end])?;
+        push_runs(&mut letters, &text[at..end], absent)?;
         let whole = letters.len() / 4;
         if let Err(group) = decode_groups(&mut bytes, &letters[..4 * whole], groups)? {
             return Ok(Err(group));
@@ -45,38 +66,6 @@ pub fn decode_base64(alloc: Global, text: &[u8]) -> Result<Result<Vec<u8>, usize
     } else {
         Ok(Err(groups))
     }
-}
-
-// Appends the window's bytes other than CR and LF.
-fn push_letters(letters: &mut Vec<u8>, window: &[u8]) -> Result<(), AllocError>
-    ensures { OnOk result (letters.new.items ≡ letters.old.items ++ without_line_ends window.now) }
-{
-    let mut at = 0;
-    'runs: while at < window.len() {
-        let end = at + run_len(&window[at..]);
-        letters.extend_from_slice(&window[at..end])?;
-        if end == window.len() {
-            return Ok(());
-        }
-        at = end + 1;
-    }
-    Ok(())
-}
-
-// How many bytes stand before the first CR or LF.
-fn run_len(bytes: &[u8]) -> usize
-    ensures len { result ≡ prefix_len is_kept bytes.now }
-    ensures within { result ≤ length bytes.now }
-{
-    let mut at = free_len(bytes, b'\r', b'\n');
-    'bytes: while at < bytes.len() {
-        let byte = bytes[at];
-        if byte == b'\r' || byte == b'\n' {
-            return at;
-        }
-        at += 1;
-    }
-    at
 }
 
 // Drops the letters before place `at`.
@@ -185,7 +174,7 @@ pub fn decode_quoted_printable(alloc: Global, text: &[u8]) -> Result<Vec<u8>, Al
     let mut bytes = Vec::new(alloc);
     let mut at = 0;
     'lines: while at < text.len() {
-        let line = at + place_of(b'\n', &text[at..]);
+        let line = at + run_len(&text[at..], RunEnd::Byte(b'\n'));
         if line == text.len() {
             push_line(&mut bytes, &text[at..line], b"")?;
             return Ok(bytes);
@@ -244,7 +233,7 @@ fn push_unescaped(bytes: &mut Vec<u8>, kept: &[u8]) -> Result<(), AllocError>
     let mut at = 0;
     'runs: while at < kept.len() {
         if kept[at] != b'=' {
-            let sign = at + place_of(b'=', &kept[at..]);
+            let sign = at + run_len(&kept[at..], RunEnd::Byte(b'='));
             bytes.extend_from_slice(&kept[at..sign])?;
             at = sign;
         } else if let Some(byte) = escape_at(kept, at) {
@@ -284,51 +273,6 @@ fn digit_value(digit: u8) -> Option<u8>
         b'a'..=b'f' => Some(digit - b'a' + 10),
         _ => None,
     }
-}
-
-// The least place of a byte, or the length where it stands nowhere.
-fn place_of(wanted: u8, bytes: &[u8]) -> usize
-    ensures least { result ≡ position_or_len (λ b. b == wanted) bytes.now }
-    ensures within { result ≤ length bytes.now }
-{
-    let mut at = free_len(bytes, wanted, wanted);
-    'bytes: while at < bytes.len() {
-        if bytes[at] == wanted {
-            return at;
-        }
-        at += 1;
-    }
-    at
-}
-
-// The length of the blocks at the front that hold neither byte. A block is tested as a whole, with
-// no way out before its end, which the compiler turns into few instructions.
-#[inline(always)]
-fn free_len(bytes: &[u8], one: u8, other: u8) -> usize
-    ensures within { result ≤ length bytes.now }
-    ensures free { AllFree one other result bytes.now }
-{
-    let mut at = 0;
-    'skips: while bytes.len() - at >= BLOCK {
-        if holds_either(&bytes[at..at + BLOCK], one, other) {
-            return at;
-        }
-        at += BLOCK;
-    }
-    at
-}
-
-// Whether one of two bytes is among the bytes.
-#[inline(always)]
-fn holds_either(bytes: &[u8], one: u8, other: u8) -> bool
-    ensures { result ≡ false → AllFree one other (length bytes.now) bytes.now }
-{
-    let mut holds = false;
-    for byte in bytes {
-        holds |= *byte == one;
-        holds |= *byte == other;
-    }
-    holds
 }
 
 #[cfg(test)]

@@ -7,8 +7,7 @@ ghost use Rattle.mailparse.specs.Outcome.{AnswersInMemory};
 use super::body_text;
 use crate::content_type::ParsedContentType;
 use crate::error::{Base64Fault, MailParseError};
-use mail_codec::bytescan::strip_ascii_whitespace;
-use mail_codec::transfer::{decode_base64, decode_quoted_printable};
+use mail_codec::transfer::{decode_base64_body, decode_quoted_printable};
 use std::alloc::Global;
 
 /// What an encoded body is in.
@@ -43,7 +42,7 @@ impl<'a> EncodedBody<'a> {
 
     /// The bytes that the body stands for (RFC 2045, sections 6.7 and 6.8). Base64 is refused by the
     /// number of the first group that is none, white space counting as absent; quoted-printable
-    /// never is. Takes memory for the answer and, in Base64, for the body without white space.
+    /// never is. Takes memory for the answer and, in Base64, a few kilobytes more.
     #[tactic(auto, unfolding(crate::specs::Body::decoded))]
     pub fn get_decoded(&self, alloc: Global) -> Result<Vec<u8>, MailParseError>
         ensures { AnswersInMemory (λ bytes. bytes.items) result (decoded (encoded_kind self.now) (encoded_content self.now).raw) }
@@ -67,13 +66,12 @@ impl<'a> EncodedBody<'a> {
     }
 }
 
-/// The bytes of a body in Base64, its white space counting as absent.
+/// The bytes of a body in Base64.
 #[tactic(auto, unfolding(crate::specs::Body::decoded))]
 fn base64_body(alloc: Global, body: &[u8]) -> Result<Vec<u8>, MailParseError>
     ensures { AnswersInMemory (λ bytes. bytes.items) result (decoded in_base64 body.now) }
 {
-    let letters = strip_ascii_whitespace(alloc, body)?;
-    match decode_base64(alloc, letters.as_slice())? {
+    match decode_base64_body(alloc, body)? {
         Ok(bytes) => Ok(bytes),
         Err(group) => Err(MailParseError::Base64DecodeError(Base64Fault { group })),
     }

@@ -1,4 +1,4 @@
-use Rattle.std.proofs.Common.{arith, ◌≡◌, true, false, length, drop, sym, ◌∙◌, rules}
+use Rattle.std.proofs.Common.{arith, drop, sym, ◌∙◌}
 use Rattle.std.proofs.lemmas.List.{take_rest}
 use Rattle.std.proofs.lemmas.Grind.{common_steps}
 use Rattle.mail_codec.specs.Places.{first_place, stands}

@@ -7,11 +7,11 @@ use Rattle.mail_codec.proofs.transfer.push_unescaped.Goals as goal
 
 pub runs-preserved-then-kept-at-ne61 : goal.runs-preserved-then-kept-at-ne61
 runs-preserved-then-kept-at-ne61 c =
-    let found = c.place_of.ensures.least ∙ ap (position_or_len (λ b. b == 61)) (take_rest c.args.kept.now c.runs.at) in
+    let found = c.run_len.ensures.least ∙ ap (position_or_len (λ b. b == 61)) (take_rest c.args.kept.now c.runs.at) in
     record {
-      within = omega (arith, c.place_of.ensures.within, length-drop c.runs.at c.args.kept.now);
+      within = omega (arith, c.run_len.ensures.within, length-drop c.runs.at c.args.kept.now);
       so_far =
-          sym (run_read c.args.kept.now c.runs.bytes.items c.extend_from_slice.new.self.items c.runs.at (c.runs.at + c.place_of.result) c.runs.invariant.within
+          sym (run_read c.args.kept.now c.runs.bytes.items c.extend_from_slice.new.self.items c.runs.at (c.runs.at + c.run_len.result) c.runs.invariant.within
           (ap (λ n. c.runs.at + n) found) c.in_ok-extend_from_slice.ensures.items)
           ∙ c.runs.invariant.so_far;
     }

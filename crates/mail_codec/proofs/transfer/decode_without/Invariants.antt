@@ -1,6 +1,7 @@
 use Rattle.std.proofs.Common.{length, drop, ◌-◌, ◌≡◌, ◌+◌, ◌*◌, ◌<◌, ◌≤◌, ◌++◌, vec_len}
-use Rattle.mail_codec.specs.Base64.{base64, groups_from, prepend, without_line_ends}
-use Rattle.mail_codec.proofs.transfer.decode_base64.Given as goal
+use Rattle.mail_codec.specs.Base64.{groups_from, prepend}
+use Rattle.mail_codec.specs.Runs.{without_ends}
+use Rattle.mail_codec.proofs.transfer.decode_without.Given as goal
 
 -- the bytes so far, then the letters that are left over and the rest of the text, give the answer
 abbrev pub invariant-windows : goal.invariant-windows
@@ -8,7 +9,8 @@ invariant-windows l = record {
   within : l.at ≤ length l.text;
   few_left : vec_len l.letters < 4;
   counted : 4 * l.groups + vec_len l.letters ≤ l.at;
-  so_far : prepend l.bytes.items (groups_from l.groups (l.letters.items ++ without_line_ends (drop l.at l.text))) ≡ base64 l.text;
+  so_far : prepend l.bytes.items (groups_from l.groups (l.letters.items ++ without_ends l.absent (drop l.at l.text)))
+      ≡ groups_from 0 (without_ends l.absent l.text);
 }
 
 abbrev pub decreases-windows : goal.decreases-windows

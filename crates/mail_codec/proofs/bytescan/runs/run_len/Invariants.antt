@@ -1,11 +1,11 @@
 use Rattle.std.proofs.Common.{length, ◌-◌, ◌≤◌}
-use Rattle.mail_codec.specs.Searches.{AllFree}
-use Rattle.mail_codec.proofs.transfer.run_len.Given as goal
+use Rattle.mail_codec.specs.Runs.{NoneEnds}
+use Rattle.mail_codec.proofs.bytescan.runs.run_len.Given as goal
 
 abbrev pub invariant-bytes : goal.invariant-bytes
 invariant-bytes l = record {
   within : l.at ≤ length l.bytes;
-  free : AllFree 13 10 l.at l.bytes;
+  free : NoneEnds l.end l.at l.bytes;
 }
 
 abbrev pub decreases-bytes : goal.decreases-bytes
