@@ -1,5 +1,5 @@
 -- Where the headers of a block stand in the bytes; the project's own words.
-use Rattle.std.specs.Prelude.{ℕ, List, ◌++◌, take}
+use Rattle.std.specs.Prelude.{ℕ, List, take}
 use Rattle.std.specs.List.{flat_map}
 use Rattle.mail_codec.specs.Places.{values_below}
 use Rattle.mailparse.specs.Header.{header_length}

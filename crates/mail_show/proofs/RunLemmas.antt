@@ -1,5 +1,5 @@
 -- Lemmas on what a run does to its reader and its writer.
-use Rattle.std.proofs.Common.{◌≡◌, ℕ, false, List, Option, Some, None, Result, Ok, Err, IfSome, OnOk, is_err, refl, sym, ap, ◌∙◌, subst}
+use Rattle.std.proofs.Common.{◌≡◌, ℕ, false, List, Option, Some, None, Result, Ok, Err, IfSome, OnOk, is_err, refl, sym, ap, ◌∙◌}
 use Rattle.std.specs.Io.KnownBytes.{Keeps, Appends, IsAtEnd}
 use Rattle.std.proofs.KnownBytes.{Keeps-refl, Appends-kept}
 use Rattle.mailparse.specs.Mail.{Mail, read_mail}

@@ -1,13 +1,13 @@
 -- Lemmas on the block of headers: the headers, one after another.
-use Rattle.std.proofs.Common.{◌≡◌, ℕ, zero, suc, ◌+◌, ◌-◌, ◌<◌, ◌≤◌, ◌⊎◌, Bool, true, false, ◌&&◌, ◌||◌, not, cond, eqb, min, IsErr, nat_eq, Option, Some, None, List, [], ◌∷◌, ◌++◌, length, take, drop, get_or, Result, Ok, Err, refl, sym, ap, subst, ◌∙◌, inl, inr, arith, length-drop, add_assoc, append_assoc, append-nil, zero-add}
+use Rattle.std.proofs.Common.{◌≡◌, ℕ, zero, suc, ◌+◌, ◌<◌, ◌≤◌, Bool, true, false, ◌&&◌, ◌||◌, not, cond, eqb, IsErr, nat_eq, Option, Some, None, List, [], ◌∷◌, ◌++◌, length, take, drop, Result, Ok, Err, refl, sym, ap, subst, ◌∙◌, inl, inr, arith, length-drop, add_assoc, append_assoc, append-nil, zero-add}
 use Rattle.std.specs.List.{starts_with}
 use Rattle.std.proofs.lemmas.Bool.{cases_lt}
 use Rattle.std.proofs.lemmas.List.{drop-drop}
 use Rattle.std.proofs.Math.ListN.{drop_of_length-le}
-use Rattle.mail_codec.specs.Places.{stands, is_empty, least, values_below}
-use Rattle.mail_codec.proofs.PlaceLemmas.{least-is, least-≤, least-before, least-passes, stands-starts_with}
+use Rattle.mail_codec.specs.Places.{stands, is_empty, values_below}
+use Rattle.mail_codec.proofs.PlaceLemmas.{least-is, least-before, least-passes, stands-starts_with}
 use Rattle.mailparse.specs.Refusal.{Refusal, empty_string, leading_space, lone_carriage_return}
-use Rattle.mailparse.specs.Header.{Header, header_of, header_end, header_length, read_header}
+use Rattle.mailparse.specs.Header.{Header, header_of, header_length, read_header}
 use Rattle.mailparse.proofs.HeaderLemmas.{header_length-≤, header_length->}
 use Rattle.mailparse.specs.Mail.{Mail, read_mail}
 use Rattle.mailparse.specs.Block.{Block, blank_line, headers_end, has_header, header_place, rest_at, header_count, block_end, read_block}

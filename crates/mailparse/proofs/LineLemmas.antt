@@ -1,5 +1,5 @@
 -- The steps of cutting one line into tokens.
-use Rattle.std.proofs.Common.{◌≡◌, ◌≢◌, ◌⊎◌, ℕ, zero, suc, ◌+◌, ◌-◌, ◌<◌, ◌≤◌, Bool, true, false, cond, eqb, List, [], ◌∷◌, ◌++◌, ◌&&◌, length, map, take, drop, reverse, slice_range, get_or, Option, Some, None, is_some, refl, sym, ap, ◌∙◌, subst, ⊎_elim, arith, lit<, length-append, length-drop, append_assoc}
+use Rattle.std.proofs.Common.{◌≡◌, ◌≢◌, ℕ, ◌+◌, ◌-◌, ◌<◌, ◌≤◌, Bool, true, false, cond, eqb, List, [], ◌∷◌, ◌++◌, ◌&&◌, length, map, take, drop, reverse, get_or, Some, None, refl, sym, ap, ◌∙◌, subst, ⊎_elim, arith, lit<, length-append, append_assoc}
 use Rattle.std.proofs.lemmas.List.{map-append, drop-drop, reverse-append, take_at, append-nil}
 use Rattle.std.proofs.lemmas.Bool.{cond-true, cond-false, and_from, and_parts, and_right, cases_eq, ne_eqb}
 use Rattle.std.proofs.lemmas.Str.{IsCharBoundary-after_ascii, IsCharBoundary-before_ascii, chars-append, chars-encodes, chars-nil, length-encode, len_utf8_bounds, IsUtf8-encode, IsUtf8-take, IsCharBoundary-at_seam}
@@ -7,9 +7,8 @@ use Rattle.std.specs.Char.{IsScalar, encode_utf8, is_whitespace}
 use Rattle.std.specs.List.{list_all}
 use Rattle.std.specs.Str.{chars, trim_start, encode_utf8_all, skip_leading_whitespace, IsUtf8, IsCharBoundary}
 use Rattle.mailparse.specs.Cuts.{IsCut, IsOpening, KeepsClosing}
-use Rattle.mailparse.specs.EncodedWord.{word_text}
 use Rattle.mail_codec.specs.Places.{stands, place_from}
-use Rattle.mailparse.specs.Tokens.{Piece, IsGroup, ArePieces, last_group, next_group, opening, closing, begins_closing, begins_with_boundary, is_boundary, line_pieces, is_white}
+use Rattle.mailparse.specs.Tokens.{Piece, IsGroup, ArePieces, last_group, next_group, opening, closing, begins_closing, begins_with_boundary, is_boundary, is_white}
 use Rattle.mailparse.specs.Value.{Token, token_of, line_tokens, plain_token}
 use Rattle.mailparse.specs.declared.header.TokenKind.TheVariants.{Text, Whitespace}
 use Rattle.mail_codec.proofs.PlaceFromLemmas.{place_from_same, place_from_bounds, place_from_weaker, place_from_here, place_from_next, place_from_passes}

@@ -1,22 +1,22 @@
 -- A plain value shows itself; the strict and the lenient reading agree.
-use Rattle.std.proofs.Common.{◌≡◌, ◌≢◌, ◌⊎◌, ℕ, zero, suc, ◌+◌, ◌<◌, ◌≤◌, Bool, true, false, cond, eqb, ltb, ◌&&◌, codes, Result, List, [], ◌∷◌, ◌++◌, length, map, take, drop, slice_range, get_or, Option, Some, None, Ok, Err, refl, sym, ap, ◌∙◌, subst, inl, inr, ⊎_elim, arith}
+use Rattle.std.proofs.Common.{◌≡◌, ◌≢◌, ◌⊎◌, ℕ, suc, ◌<◌, ◌≤◌, Bool, true, false, cond, eqb, ltb, ◌&&◌, List, [], ◌∷◌, length, map, take, drop, None, Ok, Err, refl, sym, ap, ◌∙◌, inl, inr, ⊎_elim, arith}
 use Rattle.std.proofs.Math.Nat.{sub-zero}
-use Rattle.std.proofs.lemmas.Bool.{cond-true, cond-false, false≢true, eqb-true, eqb-false, eq-eqb, ne_eqb, cases_lt, or_from, and_left, and_right, le-ltb}
+use Rattle.std.proofs.lemmas.Bool.{cond-true, cond-false, false≢true, eq-eqb, ne_eqb, cases_lt, or_from, and_left, and_right, le-ltb}
 use Rattle.std.proofs.lemmas.List.{append-nil, take_all, get_or_past}
-use Rattle.std.proofs.lemmas.List.Elements.{All-head, All-tail}
+use Rattle.std.proofs.lemmas.List.Elements.{All-head}
 use Rattle.std.proofs.lemmas.List.Splits.{slice_split_none}
-use Rattle.std.proofs.lemmas.Str.{chars-IsAscii, encodes-IsAscii, is_utf8-from_IsUtf8, IsUtf8-from_is_utf8}
+use Rattle.std.proofs.lemmas.Str.{chars-IsAscii, encodes-IsAscii, is_utf8-from_IsUtf8}
 use Rattle.std.specs.Char.{is_whitespace}
-use Rattle.std.specs.List.{All, slice_split}
-use Rattle.std.specs.Str.{chars, trim_start, skip_leading_whitespace, encode_utf8_all, IsAscii, IsUtf8, is_utf8}
+use Rattle.std.specs.List.{All}
+use Rattle.std.specs.Str.{trim_start, skip_leading_whitespace, encode_utf8_all, IsAscii, IsUtf8, is_utf8}
 use Rattle.std.specs.Str.Lines.{lines, lines_of_parts}
 use Rattle.mail_codec.specs.Latin1.{latin1_text}
-use Rattle.mail_codec.specs.Places.{stands, first_place}
-use Rattle.mailparse.specs.Tokens.{Piece, begins_opening, is_white, opening, plain, line_pieces, last_group, no_opening}
+use Rattle.mail_codec.specs.Places.{first_place}
+use Rattle.mailparse.specs.Tokens.{begins_opening, is_white, opening, plain, last_group, no_opening}
 use Rattle.mailparse.specs.Refusal.{value_not_utf8}
 use Rattle.mailparse.proofs.ValueLemmas.{lenient-utf8}
 use Rattle.std.proofs.lemmas.Str.{IsUtf8-from_ascii}
-use Rattle.mailparse.specs.Value.{Token, IsPlain, token_of, plain_token, line_tokens, tokens_of_lines, value_tokens, shown_tokens, shown_behind, shown_value, value_text, lenient_value, strict_value}
+use Rattle.mailparse.specs.Value.{IsPlain, token_of, plain_token, line_tokens, tokens_of_lines, value_tokens, shown_tokens, shown_behind, shown_value, lenient_value, strict_value}
 use Rattle.mailparse.specs.declared.header.TokenKind.TheVariants.{Text, Whitespace}
 use Rattle.mail_codec.proofs.PlaceLemmas.{first_place-≤, first_place-passes}
 use Rattle.mailparse.proofs.StepLemmas.{token_of-plain}

@@ -1,16 +1,14 @@
 -- The steps of the loop that cuts a line into tokens: what was appended, followed by the tokens of any pieces that fit the rest of
 -- the line, stays what the whole line gives.
-use Rattle.std.proofs.Common.{◌≡◌, ◌≢◌, ℕ, ◌+◌, ◌-◌, ◌<◌, ◌≤◌, Bool, true, false, cond, List, [], ◌∷◌, ◌++◌, length, map, take, drop, reverse, slice_range, Option, Some, None, is_some, unwrap_or, refl, sym, ap, ◌∙◌, subst, arith, append_assoc}
+use Rattle.std.proofs.Common.{◌≡◌, ◌≢◌, ℕ, ◌+◌, ◌-◌, Bool, true, false, cond, List, [], ◌∷◌, ◌++◌, length, map, take, reverse, slice_range, Some, None, is_some, unwrap_or, refl, sym, ap, ◌∙◌, subst, arith, append_assoc}
 use Rattle.std.proofs.Math.Nat.{sub-zero}
 use Rattle.std.proofs.lemmas.List.{map_push}
-use Rattle.std.specs.Option.{option_map}
 use Rattle.std.specs.Str.{chars}
 use Rattle.mailparse.specs.EncodedWord.{word_text}
 use Rattle.mailparse.specs.HeaderToken.{token_view}
 use Rattle.mailparse.specs.Tokens.{Piece, IsGroup, no_opening, no_boundary, no_closing, decoded, undecoded, opening, closing, begins_with_boundary, boundary_before, is_white, plain, text, word, inside}
 use Rattle.mailparse.specs.Value.{Token, token_of, piece_text, plain_token}
 use Rattle.mailparse.specs.declared.header.HeaderToken.{HeaderToken}
-use Rattle.mailparse.specs.declared.header.TokenKind.{TokenKind}
 use Rattle.mailparse.specs.declared.header.TokenKind.TheVariants.{Text, Whitespace, DecodedWord}
 use Rattle.mailparse.proofs.LineLemmas.{Completes, Completes_next, Completes_last}
 

@@ -1,5 +1,5 @@
 -- The pieces of a line: the computed list is in the relation, and nothing else is.
-use Rattle.std.proofs.Common.{◌≡◌, ◌≢◌, ◌⊎◌, ℕ, zero, suc, ◌+◌, ◌-◌, ◌<◌, ◌≤◌, Bool, true, false, cond, eqb, List, [], ◌∷◌, ◌++◌, ◌&&◌, length, take, drop, slice_range, get_or, Option, Some, None, is_some, codes, refl, sym, ap, ◌∙◌, subst, inl, inr, ⊎_elim, arith, length-drop, append_assoc, get_or-drop}
+use Rattle.std.proofs.Common.{◌≡◌, ◌≢◌, ◌⊎◌, ℕ, zero, suc, ◌+◌, ◌-◌, ◌<◌, ◌≤◌, Bool, true, false, cond, eqb, List, [], ◌∷◌, ◌++◌, ◌&&◌, length, take, drop, slice_range, get_or, Option, Some, None, is_some, refl, sym, ap, ◌∙◌, subst, ⊎_elim, arith, length-drop, get_or-drop}
 use Rattle.std.proofs.lemmas.Bool.{cond-true, cond-false, eq-eqb, ne_eqb, and_parts, and_right, eqb-true, false≢true}
 use Rattle.std.proofs.lemmas.Bool.Decides.{eqb_tells}
 use Rattle.std.proofs.lemmas.List.{append-nil, take-append-drop, take-take, take_all, drop-take, drop-drop}
@@ -8,8 +8,8 @@ use Rattle.std.specs.Option.{option_map_or}
 use Rattle.std.proofs.Math.Nat.{sub-zero}
 use Rattle.mailparse.specs.EncodedWord.{word_text}
 use Rattle.mail_codec.specs.Places.{stands, place_from}
-use Rattle.mailparse.specs.Tokens.{Piece, Group, IsGroup, no_opening, no_boundary, no_closing, decoded, undecoded, ArePieces, last_group, next_group, ArePiecesOf, begins_opening, begins_closing, opening, closing, boundary_before, plain, text, word, inside, group_at, group_of_opening, group_of_word, pieces_within, line_pieces, Adjoin, piece_source}
-use Rattle.mail_codec.proofs.PlaceFromLemmas.{place_from_bounds, place_from_passes, place_from_same}
+use Rattle.mailparse.specs.Tokens.{Piece, Group, IsGroup, no_opening, no_boundary, no_closing, decoded, undecoded, ArePieces, last_group, next_group, ArePiecesOf, begins_closing, opening, closing, boundary_before, plain, text, inside, group_at, group_of_opening, group_of_word, pieces_within, line_pieces, Adjoin, piece_source}
+use Rattle.mail_codec.proofs.PlaceFromLemmas.{place_from_bounds, place_from_passes}
 
 -- ---- the computed group
 

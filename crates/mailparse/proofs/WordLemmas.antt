@@ -1,5 +1,5 @@
 -- The inside of an encoded word.
-use Rattle.std.proofs.Common.{◌≡◌, ◌≢◌, ℕ, suc, ◌+◌, ◌<◌, ◌≤◌, Bool, true, false, cond, eqb, ltb, List, [], ◌∷◌, ◌++◌, length, map, Option, Some, None, refl, sym, ap, ◌∙◌, subst, ⊎_elim, arith, append_assoc, not, ◌||◌}
+use Rattle.std.proofs.Common.{◌≡◌, ◌≢◌, ℕ, suc, ◌+◌, ◌<◌, Bool, true, false, cond, eqb, ltb, List, [], ◌∷◌, ◌++◌, length, map, Option, Some, None, refl, sym, ap, ◌∙◌, ⊎_elim, arith, append_assoc, not, ◌||◌}
 use Rattle.std.specs.List.{join_with_byte, slice_split, onto_first, list_any, position_or_len, before_first, after_first}
 use Rattle.std.proofs.lemmas.Bool.{cond-true, cond-false, lt-ltb, le-ltb, ltb-false, eqb-true, eqb-false, cases_lt}
 use Rattle.std.proofs.lemmas.List.{drop_all, map_push, length-map}
@@ -7,7 +7,7 @@ use Rattle.std.specs.Borrow.{Bor}
 use Rattle.std.specs.Option.{MatchOption, option_and_then, option_map}
 use Rattle.mail_codec.specs.Charset.{charset_of_label, text_of}
 use Rattle.mail_codec.specs.declared.charset.Charset.{Charset}
-use Rattle.mailparse.specs.EncodedWord.{spaced, bytes_of_rest, is_question_mark, has_question_mark, IsCutAtMark, Parts, parts_of, text_of_parts, word_text}
+use Rattle.mailparse.specs.EncodedWord.{spaced, bytes_of_rest, is_question_mark, has_question_mark, IsCutAtMark, text_of_parts, word_text}
 
 -- ---- a space for each `_`
 

@@ -1,5 +1,5 @@
 -- What stands inside an encoded word, between its `=?` and its `?=`: RFC 2047 sections 2 and 4, as this crate reads them.
-use Rattle.std.specs.Prelude.{◌≡◌, ℕ, Bool, true, ◌||◌, List, [], ◌∷◌, ◌++◌, length, drop, map, Option, Some, None, option_and_then, option_map, nat_eq, codes, if◌then◌else◌, ◌==◌}
+use Rattle.std.specs.Prelude.{◌≡◌, ℕ, Bool, true, ◌||◌, List, ◌++◌, length, drop, map, Option, Some, None, option_and_then, option_map, codes, if◌then◌else◌, ◌==◌}
 use Rattle.std.specs.List.{before_first, after_first, list_any}
 use Rattle.std.specs.Result.{result_ok}
 use Rattle.std.specs.Str.{bytes_eq, trim_end}

@@ -1,6 +1,6 @@
 -- One header at the front of the bytes: where its key, its value and its end stand (RFC 5322, sections 2.2 and
 -- 2.2.3, read as leniently as mail is written). Places are counted from the first of the bytes.
-use Rattle.std.specs.Prelude.{ℕ, suc, ◌+◌, Bool, false, ◌&&◌, ◌||◌, not, ◌==◌, min, List, [], ◌∷◌, length, take, drop, slice_range, Result, Ok, Err, if◌then◌else◌}
+use Rattle.std.specs.Prelude.{ℕ, suc, Bool, false, ◌&&◌, ◌||◌, not, ◌==◌, min, List, [], ◌∷◌, length, take, drop, slice_range, Result, Ok, Err, if◌then◌else◌}
 use Rattle.std.specs.List.{list_all}
 use Rattle.mail_codec.specs.Places.{first_place, place_from, begins, stands, is_empty}
 use Rattle.mailparse.specs.Refusal.{Refusal, empty_string, leading_space}

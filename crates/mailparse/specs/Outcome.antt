@@ -1,5 +1,5 @@
 -- What a call answered, set beside what a definition gives; the crate's own words.
-use Rattle.std.specs.Prelude.{◌≡◌, ℕ, Option, Some, None, Result, Ok, Err}
+use Rattle.std.specs.Prelude.{◌≡◌, Option, Some, None, Result, Ok, Err}
 use Rattle.std.specs.Cow.{cow_str_bytes}
 use Rattle.mailparse.specs.Refusal.{Refusal, generic, encoding, base64_fault}
 use Rattle.mailparse.specs.declared.error.MailParseError.{MailParseError}

@@ -1,7 +1,7 @@
 -- The tokens of one line of a header's value: RFC 2047 sections 2 and 4, as this crate reads them.
 -- A line is the UTF-8 of a text. An encoded word is found by its two ends, `=?` and `?=`, which are ASCII, so the places of a
 -- line are those of its bytes; only what stands directly beside a word is looked at as a character.
-use Rattle.std.specs.Prelude.{◌≡◌, ◌≢◌, ℕ, zero, suc, ◌+◌, ◌-◌, ◌≤◌, Bool, true, false, ◌&&◌, ◌||◌, List, [], ◌∷◌, ◌++◌, length, take, drop, reverse, slice_range, Option, Some, None, is_some, unwrap_or, codes, IsTrue, if◌then◌else◌, ◌==◌}
+use Rattle.std.specs.Prelude.{◌≡◌, ◌≢◌, ℕ, zero, suc, ◌+◌, ◌≤◌, Bool, true, false, ◌&&◌, ◌||◌, List, [], ◌∷◌, ◌++◌, length, take, drop, reverse, slice_range, Option, Some, None, is_some, codes, if◌then◌else◌, ◌==◌}
 use Rattle.std.specs.Char.{is_whitespace}
 use Rattle.std.specs.List.{list_all, list_any}
 use Rattle.std.specs.Option.{option_map_or}
@@ -9,7 +9,7 @@ use Rattle.std.specs.Str.{chars}
 use Rattle.mailparse.specs.EncodedWord.{word_text}
 use Rattle.mail_codec.specs.Places.{stands, place_from}
 use Rattle.mailparse.specs.declared.header.TokenKind.{TokenKind}
-use Rattle.mailparse.specs.declared.header.TokenKind.TheVariants.{Text, Whitespace, Newline, DecodedWord}
+use Rattle.mailparse.specs.declared.header.TokenKind.TheVariants.{Text, Whitespace, DecodedWord}
 
 -- a piece of a line: what it is, and the place where it begins and the one where it ends
 pub record Piece : Type 0 where

@@ -1,6 +1,6 @@
 -- The text that a header's value shows: RFC 5322 section 2.2.3 (unfolding) and RFC 2047 sections 2, 4 and 6.2, as this crate
 -- reads them.
-use Rattle.std.specs.Prelude.{◌≡◌, ℕ, ◌+◌, ◌-◌, Bool, true, false, ◌||◌, not, List, [], ◌∷◌, ◌++◌, map, slice_range, drop, Option, Some, None, Result, Ok, Err, unwrap_or, codes, All, ◌≤◌, if◌then◌else◌}
+use Rattle.std.specs.Prelude.{◌≡◌, ℕ, ◌-◌, Bool, true, false, ◌||◌, not, List, [], ◌∷◌, ◌++◌, map, slice_range, drop, Option, Some, None, Result, Ok, Err, unwrap_or, codes, All, ◌≤◌, if◌then◌else◌}
 use Rattle.mail_codec.specs.Latin1.{latin1_text}
 use Rattle.mail_codec.specs.Places.{stands}
 use Rattle.std.specs.Str.{is_utf8, trim_start}

@@ -8,15 +8,14 @@ mod binary;
 mod encoded;
 mod text;
 
-pub use binary::BinaryBody;
-pub use encoded::EncodedBody;
-pub use text::TextBody;
-
 use crate::content_type::ParsedContentType;
 use crate::error::MailParseError;
+pub use binary::BinaryBody;
+pub use encoded::EncodedBody;
 use encoded::Encoding;
 use mail_codec::charset::{Charset, decode_ascii};
 use std::alloc::Global;
+pub use text::TextBody;
 
 /// A body by its transfer coding (RFC 2045, section 6).
 #[derive(Drop)]

@@ -1,5 +1,5 @@
 -- What the tokens before `i` show, followed by what the others show behind them, is what all show.
-use Rattle.std.proofs.Common.{◌≡◌, ◌≤◌, ◌++◌, map, take, drop, vec_len}
+use Rattle.std.proofs.Common.{◌≡◌, ◌++◌, map, take, drop, vec_len}
 use Rattle.std.specs.List.{flat_map}
 use Rattle.mailparse.specs.HeaderToken.{token_view, shown_by}
 use Rattle.mailparse.specs.Value.{shown_behind, shown_tokens}

@@ -1,8 +1,8 @@
-use Rattle.std.proofs.Common.{◌≡◌, [], ◌∷◌, ◌++◌, true, false, eqb, length, map, sym, ap, ◌∙◌}
+use Rattle.std.proofs.Common.{◌≡◌, true, false, eqb, length, map, ap, ◌∙◌}
 use Rattle.std.proofs.lemmas.Iterator.Consumers.{YieldsList-end}
 use Rattle.std.proofs.lemmas.Iterator.Splits.{YieldsList-from_lines}
 use Rattle.mailparse.specs.HeaderToken.{token_view}
-use Rattle.mailparse.specs.Value.{newline, tokens_of_lines, value_tokens}
+use Rattle.mailparse.specs.Value.{tokens_of_lines, value_tokens}
 use Rattle.mailparse.proofs.LinesLemmas.{first_line, next_line, more_is_some, trimmed, trimmed_all}
 use Rattle.mailparse.proofs.StepLemmas.{pushed}
 use Rattle.mailparse.proofs.header.tokenize_header.Goals as goal

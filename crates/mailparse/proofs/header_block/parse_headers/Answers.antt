@@ -1,12 +1,11 @@
-use Rattle.std.proofs.Common.{◌≡◌, suc, ◌+◌, ◌++◌, ◌∷◌, [], Ok, Err, Some, None, Result, Option, ℕ, length, drop, rules, sym, ap, ◌∙◌, arith, length-append}
+use Rattle.std.proofs.Common.{◌≡◌, ◌+◌, ◌++◌, ◌∷◌, [], Ok, length, drop, rules, ap, ◌∙◌, arith, length-append}
 use Rattle.std.proofs.lemmas.List.{take_rest, map-append, length-map}
 use Rattle.std.proofs.lemmas.Result.{err_from_is_err_and}
-use Rattle.mailparse.specs.Refusal.{Refusal}
-use Rattle.mailparse.specs.Header.{Header, read_header}
+use Rattle.mailparse.specs.Header.{read_header}
 use Rattle.mailparse.specs.Block.{read_block, block_end}
 use Rattle.mailparse.specs.Views.{header, headers}
 use Rattle.mailparse.proofs.OutcomeLemmas.{IsRefusal-along, IsRefusalOrMemory-from}
-use Rattle.mailparse.proofs.BlockLemmas.{with_front, refused_further, ended_further, found_further, count_further, place_further, end_further, block_end-err, block_end-header, read_block-bounded}
+use Rattle.mailparse.proofs.BlockLemmas.{refused_further, ended_further, found_further, count_further, place_further, end_further, block_end-err, block_end-header, read_block-bounded}
 use Rattle.mailparse.proofs.header_block.parse_headers.Goals as goal
 
 pub returns-in_err-length-clause-none : goal.returns-in_err-length-clause-none

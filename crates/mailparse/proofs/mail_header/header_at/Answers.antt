@@ -1,4 +1,4 @@
-use Rattle.std.proofs.Common.{rules, refl, sym, arith}
+use Rattle.std.proofs.Common.{rules, refl, sym}
 use Rattle.mailparse.proofs.HeaderLemmas.{IsScanned-key, IsScanned-value, IsScanned-≤, IsScanned-<, header_of-key, header_of-value}
 use Rattle.mailparse.proofs.mail_header.header_at.Goals as goal
 

@@ -1,8 +1,8 @@
-use Rattle.std.proofs.Common.{◌≡◌, false, true, refl, sym, eqb, arith, rules}
+use Rattle.std.proofs.Common.{refl, arith, rules}
 use Rattle.mail_codec.specs.Places.{begins}
 use Rattle.mail_codec.proofs.PlaceLemmas.{PassedTo-start}
 use Rattle.mailparse.specs.Header.{ends_key, key_end}
-use Rattle.mailparse.proofs.HeaderLemmas.{step_colon, step_key, step_folded, step_value, stop_key, stop_value, scan_all}
+use Rattle.mailparse.proofs.HeaderLemmas.{step_colon, step_key, step_folded, step_value, stop_key, scan_all}
 use Rattle.mailparse.proofs.mail_header.scan_header.Goals as goal
 use Rattle.mailparse.proofs.mail_header.scan_header.Goals.{in-Key+else-byte-eq10+then-byte-eq58, in-Key+else-byte-eq10+else-byte-eq58, in-Value+else-byte-eq10-2, else-byte-eq10-2-via-then-byte-eq10-2+else-not-is_continued, else-byte-eq10-2-via-else-byte-eq10-2}
 

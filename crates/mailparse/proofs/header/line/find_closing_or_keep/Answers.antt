@@ -1,4 +1,4 @@
-use Rattle.std.proofs.Common.{sym, refl, arith}
+use Rattle.std.proofs.Common.{sym, arith}
 use Rattle.mailparse.proofs.LineLemmas.{closing_cut}
 use Rattle.mailparse.proofs.header.line.find_closing_or_keep.Goals as goal
 

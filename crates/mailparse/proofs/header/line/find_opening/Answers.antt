@@ -1,4 +1,4 @@
-use Rattle.std.proofs.Common.{◌≡◌, ◌≢◌, length, sym, ◌∙◌, arith, refl}
+use Rattle.std.proofs.Common.{◌≡◌, ◌≢◌, length, arith}
 use Rattle.mailparse.specs.Tokens.{opening}
 use Rattle.mailparse.proofs.LineLemmas.{opening_found}
 use Rattle.mailparse.proofs.header.line.find_opening.Goals as goal

@@ -1,4 +1,4 @@
-use Rattle.std.proofs.Common.{◌≡◌, true, false, eqb, length, ap, sym, ◌∙◌}
+use Rattle.std.proofs.Common.{◌≡◌, true, false, eqb, length}
 use Rattle.std.specs.Str.{trim_start}
 use Rattle.mailparse.proofs.LineLemmas.{plain_token-white, plain_token-text}
 use Rattle.mailparse.proofs.header.line.plain_token.Goals as goal

@@ -1,9 +1,8 @@
-use Rattle.std.proofs.Common.{◌≡◌, ◌≢◌, ◌≤◌, ◌+◌, [], ◌∷◌, ◌++◌, true, false, Some, None, length, map, slice_range, sym, ap, ◌∙◌, refl, arith}
+use Rattle.std.proofs.Common.{◌≡◌, ◌≢◌, ◌+◌, true, false, length, map, sym, ap, ◌∙◌, arith}
 use Rattle.std.proofs.lemmas.List.{take_rest}
 use Rattle.std.proofs.lemmas.Str.{IsCharBoundary-start}
 use Rattle.std.specs.Option.{option_map}
 use Rattle.std.specs.String.{string_bytes}
-use Rattle.mailparse.specs.EncodedWord.{word_text}
 use Rattle.mailparse.specs.HeaderToken.{token_view}
 use Rattle.mailparse.specs.Tokens.{boundary_before, closing}
 use Rattle.mailparse.proofs.LineLemmas.{Completes_first, KeepsClosing_none, KeepsClosing_found, KeepsClosing_later}

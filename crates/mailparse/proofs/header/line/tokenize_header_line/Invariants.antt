@@ -1,5 +1,5 @@
 -- What was appended, followed by the tokens of any pieces that fit the line from `start` on, is what the whole line gives.
-use Rattle.std.proofs.Common.{◌≡◌, ◌≤◌, ◌-◌, ◌+◌, ◌++◌, ℕ, length, map}
+use Rattle.std.proofs.Common.{◌≤◌, ◌-◌, ◌+◌, ◌++◌, length, map}
 use Rattle.std.specs.Str.{IsCharBoundary}
 use Rattle.mailparse.specs.Cuts.{KeepsClosing}
 use Rattle.mailparse.specs.HeaderToken.{token_view}

@@ -2,7 +2,6 @@ use Rattle.std.proofs.Common.{◌≡◌, ℕ, Some, None, Vec, sym, ap, ◌∙�
 use Rattle.std.specs.Option.{option_map}
 use Rattle.std.specs.Global.{Global}
 use Rattle.mail_codec.specs.Charset.{charset_of_label, text_of}
-use Rattle.mailparse.specs.EncodedWord.{bytes_of_rest}
 use Rattle.mailparse.proofs.WordLemmas.{word_unmarked, word_half, word_no_charset, word_no_bytes, word_whole}
 use Rattle.mailparse.proofs.header.word.decode_word.Goals as goal
 

@@ -1,4 +1,4 @@
-use Rattle.std.proofs.Common.{◌≡◌, [], ◌∷◌, ◌++◌, true, false, eqb, length, map, sym, ap, ◌∙◌, lit<}
+use Rattle.std.proofs.Common.{◌≡◌, ◌++◌, true, false, eqb, length, map, ap, ◌∙◌, lit<}
 use Rattle.std.proofs.lemmas.Iterator.Consumers.{YieldsList-end}
 use Rattle.std.proofs.lemmas.Iterator.Splits.{YieldsList-from_str_split}
 use Rattle.std.proofs.lemmas.Str.{encode_ascii}
