@@ -7,8 +7,6 @@ ghost use Rattle.mail_codec.specs.Latin1.{latin1_text};
 mod encode;
 mod labels;
 mod single_byte;
-#[cfg(test)]
-mod tests;
 mod utf16;
 
 use self::utf16::ByteOrder;

@@ -2,66 +2,75 @@
 //!
 //! The expected texts were printed by a Rust program (rustc 1.95) that shows a key and a value as
 //! `format!("{:?}", String::from_utf8_lossy(bytes))` in a `debug_struct` of these names.
-use mailparse::{parse_header, parse_mail};
+use mailparse::{MailParseError, parse_header, parse_mail};
+use std::alloc::{AllocError, Global};
 use std::test::Fail;
+
+/// A header, and its Debug text.
+static HEADERS: [(&[u8], &str); 14] = [
+    (
+        b"Subject:foo",
+        r#"MailHeader { key: "Subject", value: "foo" }"#,
+    ),
+    (b":", r#"MailHeader { key: "", value: "" }"#),
+    (
+        b"k\"q\":say \"hi\"",
+        r#"MailHeader { key: "k\"q\"", value: "say \"hi\"" }"#,
+    ),
+    (b"it's:'a'", r#"MailHeader { key: "it's", value: "'a'" }"#),
+    (
+        b"back\\slash:C:\\x\\n",
+        r#"MailHeader { key: "back\\slash", value: "C:\\x\\n" }"#,
+    ),
+    (
+        b"\0\x01\x1F:\x7F\x1B[0m\x08\x0C\x0B",
+        r#"MailHeader { key: "\0\u{1}\u{1f}", value: "\u{7f}\u{1b}[0m\u{8}\u{c}\u{b}" }"#,
+    ),
+    (
+        b"\xE9:Andr\xE9 \xC3\xA9",
+        r#"MailHeader { key: "�", value: "Andr� é" }"#,
+    ),
+    (
+        b"tab\tkey:a\r\n\tb\n c",
+        r#"MailHeader { key: "tab\tkey", value: "a\r\n\tb\n c" }"#,
+    ),
+    (
+        b"\xF0\x9F\x98\x80:\xF0\x9F\x98",
+        r#"MailHeader { key: "😀", value: "�" }"#,
+    ),
+    (
+        b"\xC0\xAF:\xED\xA0\x80\xFF\xFE",
+        r#"MailHeader { key: "��", value: "�����" }"#,
+    ),
+    (
+        b"e\xCC\x81:\xCC\x81",
+        r#"MailHeader { key: "e\u{301}", value: "\u{301}" }"#,
+    ),
+    (
+        b"\xE2\x80\x8B:\xC2\xA0\xE2\x80\xA8\xEF\xBB\xBF",
+        r#"MailHeader { key: "\u{200b}", value: "\u{a0}\u{2028}\u{feff}" }"#,
+    ),
+    (
+        b"\xC2\x85:\xC2\xAD\xEF\xBF\xBD\xEE\x80\x80",
+        r#"MailHeader { key: "\u{85}", value: "\u{ad}�\u{e000}" }"#,
+    ),
+    (
+        b"\xE2\x82\xAC:\xE2\x82",
+        r#"MailHeader { key: "€", value: "�" }"#,
+    ),
+];
+
+/// Whether a header is shown as this text.
+fn is_shown(alloc: Global, raw: &[u8], text: &str) -> Result<bool, MailParseError> {
+    let (header, _) = parse_header(raw)?;
+    let shown = format!(in alloc; "{header:?}")?;
+    Ok(shown.as_str() == text)
+}
 
 #[test]
 fn one_header(rt: HostRuntime) -> Result<(), Fail> {
-    let rows: [(&[u8], &str); 14] = [
-        (
-            b"Subject:foo",
-            r#"MailHeader { key: "Subject", value: "foo" }"#,
-        ),
-        (b":", r#"MailHeader { key: "", value: "" }"#),
-        (
-            b"k\"q\":say \"hi\"",
-            r#"MailHeader { key: "k\"q\"", value: "say \"hi\"" }"#,
-        ),
-        (b"it's:'a'", r#"MailHeader { key: "it's", value: "'a'" }"#),
-        (
-            b"back\\slash:C:\\x\\n",
-            r#"MailHeader { key: "back\\slash", value: "C:\\x\\n" }"#,
-        ),
-        (
-            b"\0\x01\x1F:\x7F\x1B[0m\x08\x0C\x0B",
-            r#"MailHeader { key: "\0\u{1}\u{1f}", value: "\u{7f}\u{1b}[0m\u{8}\u{c}\u{b}" }"#,
-        ),
-        (
-            b"\xE9:Andr\xE9 \xC3\xA9",
-            r#"MailHeader { key: "�", value: "Andr� é" }"#,
-        ),
-        (
-            b"tab\tkey:a\r\n\tb\n c",
-            r#"MailHeader { key: "tab\tkey", value: "a\r\n\tb\n c" }"#,
-        ),
-        (
-            b"\xF0\x9F\x98\x80:\xF0\x9F\x98",
-            r#"MailHeader { key: "😀", value: "�" }"#,
-        ),
-        (
-            b"\xC0\xAF:\xED\xA0\x80\xFF\xFE",
-            r#"MailHeader { key: "��", value: "�����" }"#,
-        ),
-        (
-            b"e\xCC\x81:\xCC\x81",
-            r#"MailHeader { key: "e\u{301}", value: "\u{301}" }"#,
-        ),
-        (
-            b"\xE2\x80\x8B:\xC2\xA0\xE2\x80\xA8\xEF\xBB\xBF",
-            r#"MailHeader { key: "\u{200b}", value: "\u{a0}\u{2028}\u{feff}" }"#,
-        ),
-        (
-            b"\xC2\x85:\xC2\xAD\xEF\xBF\xBD\xEE\x80\x80",
-            r#"MailHeader { key: "\u{85}", value: "\u{ad}�\u{e000}" }"#,
-        ),
-        (
-            b"\xE2\x82\xAC:\xE2\x82",
-            r#"MailHeader { key: "€", value: "�" }"#,
-        ),
-    ];
-    for (raw, text) in rows {
-        let (header, _) = parse_header(raw)?;
-        assert_eq!(rt; format!(in rt.alloc(); "{header:?}")?.as_str(), text);
+    for row in &HEADERS {
+        assert!(rt; is_shown(rt.alloc(), row.0, row.1)?, "{row:?}");
     }
     Ok(())
 }
@@ -70,40 +79,56 @@ fn one_header(rt: HostRuntime) -> Result<(), Fail> {
 const SHOWN_ASCII: &str =
     r##"MailHeader { key: "\0\u{1}\u{2}\u{3}\u{4}\u{5}\u{6}\u{7}\u{8}\t\u{b}\u{c}\r\u{e}\u{f}\u{10}\u{11}\u{12}\u{13}\u{14}\u{15}\u{16}\u{17}\u{18}\u{19}\u{1a}\u{1b}\u{1c}\u{1d}\u{1e}\u{1f} !\"#$%&'()*+,-./0123456789;<=>?@ABCDEFGHIJKLMNOPQRSTUVWXYZ[\\]^_`abcdefghijklmnopqrstuvwxyz{|}~\u{7f}"##;
 
-#[test]
-fn a_key_of_all_bytes(rt: HostRuntime) -> Result<(), Fail> {
-    let mut raw = Vec::new(rt.alloc());
-    let mut wanted = String::from_str(rt.alloc(), SHOWN_ASCII)?;
+/// A key of all bytes but LF and the colon.
+fn key_of_all_bytes(alloc: Global) -> Result<Vec<u8>, AllocError> {
+    let mut raw = Vec::new(alloc);
     for byte in 0..=255u8 {
         if byte != b':' && byte != b'\n' {
             raw.push(byte)?;
         }
-        if byte >= 0x80 {
-            wanted.push('\u{FFFD}')?;
-        }
     }
-    wanted.push_str("\", value: \"\" }")?;
-    let (header, _) = parse_header(raw.as_slice())?;
-    assert_eq!(rt;
-        format!(in rt.alloc(); "{header:?}")?.as_str(),
-        wanted.as_str()
-    );
+    Ok(raw)
+}
+
+/// How a header with that key is shown.
+fn shown_key_of_all_bytes(alloc: Global) -> Result<String, AllocError> {
+    let mut shown = String::from_str(alloc, SHOWN_ASCII)?;
+    for _ in 0x80..=255u8 {
+        shown.push('\u{FFFD}')?;
+    }
+    shown.push_str("\", value: \"\" }")?;
+    Ok(shown)
+}
+
+#[test]
+fn a_key_of_all_bytes(rt: HostRuntime) -> Result<(), Fail> {
+    let raw = key_of_all_bytes(rt.alloc())?;
+    let wanted = shown_key_of_all_bytes(rt.alloc())?;
+    assert!(rt; is_shown(rt.alloc(), raw.as_slice(), wanted.as_str())?);
     Ok(())
+}
+
+/// A mail, and the Debug text of its block.
+static BLOCKS: [(&[u8], &str); 2] = [
+    (
+        b"Subject: foo\nAnother header: bar\n\nBody starts here",
+        r#"Headers { headers: [MailHeader { key: "Subject", value: "foo" }, MailHeader { key: "Another header", value: "bar" }] }"#,
+    ),
+    (b"\nbody", "Headers { headers: [] }"),
+];
+
+/// Whether the block of a mail is shown as this text.
+fn is_block_shown(alloc: Global, raw: &[u8], text: &str) -> Result<bool, MailParseError> {
+    let mail = parse_mail(alloc, raw)?;
+    let block = mail.get_headers();
+    let shown = format!(in alloc; "{block:?}")?;
+    Ok(shown.as_str() == text)
 }
 
 #[test]
 fn a_block(rt: HostRuntime) -> Result<(), Fail> {
-    let rows: [(&[u8], &str); 2] = [
-        (
-            b"Subject: foo\nAnother header: bar\n\nBody starts here",
-            r#"Headers { headers: [MailHeader { key: "Subject", value: "foo" }, MailHeader { key: "Another header", value: "bar" }] }"#,
-        ),
-        (b"\nbody", "Headers { headers: [] }"),
-    ];
-    for (raw, text) in rows {
-        let mail = parse_mail(rt.alloc(), raw)?;
-        let block = mail.get_headers();
-        assert_eq!(rt; format!(in rt.alloc(); "{block:?}")?.as_str(), text);
+    for row in &BLOCKS {
+        assert!(rt; is_block_shown(rt.alloc(), row.0, row.1)?, "{row:?}");
     }
     Ok(())
 }

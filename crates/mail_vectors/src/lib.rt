@@ -1,11 +1,9 @@
-//! Tests of the libraries on their public calls, with answers from outside: the worked examples and
-//! vectors of the documents, published test vectors, and texts that other programs gave.
+//! Tests of `mailparse` on its public calls, with answers from outside: the worked examples of the
+//! documents, and texts that other programs gave.
 #![tactic(auto)]
 
 #[cfg(test)]
 mod bodies;
-#[cfg(test)]
-mod charsets;
 #[cfg(test)]
 mod debug_texts;
 #[cfg(test)]
@@ -19,10 +17,6 @@ mod messages;
 #[cfg(test)]
 mod readme;
 #[cfg(test)]
-mod searches;
-#[cfg(test)]
 mod texts;
-#[cfg(test)]
-mod transfer;
 #[cfg(test)]
 mod values;

@@ -1,7 +1,9 @@
 //! Keys as text, and looking headers up by their names.
 use crate::texts::{joined, repeated};
-use mailparse::{MailHeaderMap, parse_header, parse_headers, parse_mail};
-use std::alloc::Global;
+use mailparse::{
+    MailHeader, MailHeaderMap, MailParseError, parse_header, parse_headers, parse_mail,
+};
+use std::alloc::{AllocError, Global};
 use std::borrow::CowStr;
 use std::test::Fail;
 
@@ -21,161 +23,253 @@ fn all_values<M: MailHeaderMap>(alloc: Global, map: &M, name: &str) -> Result<Ve
     Ok(values)
 }
 
+/// Headers, a name, and the raw values of the headers that have it, `;` behind each.
+type NameRow = (&'static [u8], &'static str, &'static [u8]);
+
+static NAMES: [NameRow; 22] = [
+    (b"\xE9: 1", "\u{E9}", b"1;"),
+    (b"\xE9: 1", "\u{C9}", b""),
+    (b"\xC9: 1", "\u{E9}", b""),
+    (b"\xC3\xA9: 1", "\u{E9}", b""),
+    (b"\xC3\xA9: 1", "\u{C3}\u{A9}", b"1;"),
+    (b"Key: 1\nX: 2\nkEY: 3", "key", b"1;3;"),
+    (b"Key: 1\nX: 2\nkEY: 3", "KEY", b"1;3;"),
+    (b"Key: 1\nX: 2\nkEY: 3", "x", b"2;"),
+    (b"Key: 1\nX: 2\nkEY: 3", "", b""),
+    (b"Key: 1", "Ke", b""),
+    (b"Key: 1", "Keys", b""),
+    (b"Key: 1", " Key", b""),
+    (b"Subject : 1", "Subject", b""),
+    (b"Subject : 1", "subject ", b"1;"),
+    (
+        b"SuBJect : =?iso-8859-1?Q?=A1Hola,_se=F1or!?=",
+        "Subject",
+        b"",
+    ),
+    (b":x", "", b"x;"),
+    (b":x\nA: 1\n: y", "", b"x;y;"),
+    (b"", "", b""),
+    (b"\n", "", b""),
+    (b"A", "a", b";"),
+    (b"A\0: 1", "a\0", b"1;"),
+    (b"\tA: 1", "\ta", b"1;"),
+];
+
+/// Whether the headers with the name of such a row have its values, and the first has the first.
+fn has_values<M: MailHeaderMap>(
+    alloc: Global,
+    map: &M,
+    (_, name, values): &NameRow,
+) -> Result<bool, Fail> {
+    let found = all_values(alloc, map, name)?;
+    let first = values.split(|b| *b == b';').next();
+    let wanted = if values.is_empty() { None } else { first };
+    Ok(found.as_slice() == *values && first_value(map, name) == wanted)
+}
+
+/// Whether that is so in the list of a mail's headers.
+fn is_in_list(alloc: Global, row: &NameRow) -> Result<bool, Fail> {
+    let mail = parse_mail(alloc, row.0)?;
+    has_values(alloc, &mail.headers, row)
+}
+
+/// Whether that is so in its block.
+fn is_in_block(alloc: Global, row: &NameRow) -> Result<bool, Fail> {
+    let mail = parse_mail(alloc, row.0)?;
+    has_values(alloc, &mail.get_headers(), row)
+}
+
 #[test]
 fn headers_by_name(rt: HostRuntime) -> Result<(), Fail> {
-    // the headers, a name, and the raw values of the headers that have it, `;` behind each
-    let rows: [(&[u8], &str, &[u8]); 22] = [
-        (b"\xE9: 1", "\u{E9}", b"1;"),
-        (b"\xE9: 1", "\u{C9}", b""),
-        (b"\xC9: 1", "\u{E9}", b""),
-        (b"\xC3\xA9: 1", "\u{E9}", b""),
-        (b"\xC3\xA9: 1", "\u{C3}\u{A9}", b"1;"),
-        (b"Key: 1\nX: 2\nkEY: 3", "key", b"1;3;"),
-        (b"Key: 1\nX: 2\nkEY: 3", "KEY", b"1;3;"),
-        (b"Key: 1\nX: 2\nkEY: 3", "x", b"2;"),
-        (b"Key: 1\nX: 2\nkEY: 3", "", b""),
-        (b"Key: 1", "Ke", b""),
-        (b"Key: 1", "Keys", b""),
-        (b"Key: 1", " Key", b""),
-        (b"Subject : 1", "Subject", b""),
-        (b"Subject : 1", "subject ", b"1;"),
-        (
-            b"SuBJect : =?iso-8859-1?Q?=A1Hola,_se=F1or!?=",
-            "Subject",
-            b"",
-        ),
-        (b":x", "", b"x;"),
-        (b":x\nA: 1\n: y", "", b"x;y;"),
-        (b"", "", b""),
-        (b"\n", "", b""),
-        (b"A", "a", b";"),
-        (b"A\0: 1", "a\0", b"1;"),
-        (b"\tA: 1", "\ta", b"1;"),
-    ];
-    for (raw, name, values) in rows {
-        let mail = parse_mail(rt.alloc(), raw)?;
-        let in_list = all_values(rt.alloc(), &mail.headers, name)?;
-        let in_block = all_values(rt.alloc(), &mail.get_headers(), name)?;
-        assert_eq!(rt; in_list.as_slice(), values, "{name:?} in {raw:?}");
-        assert_eq!(rt; in_block.as_slice(), values, "{name:?} in {raw:?}");
-        let first = values.split(|b| *b == b';').next();
-        let wanted = if values.is_empty() { None } else { first };
-        assert_eq!(rt;
-            first_value(&mail.headers, name),
-            wanted,
-            "{name:?} in {raw:?}"
-        );
-        assert_eq!(rt;
-            first_value(&mail.get_headers(), name),
-            wanted,
-            "{name:?} in {raw:?}"
-        );
+    for row in &NAMES {
+        assert!(rt; is_in_list(rt.alloc(), row)?, "list {row:?}");
+        assert!(rt; is_in_block(rt.alloc(), row)?, "block {row:?}");
     }
     Ok(())
+}
+
+/// Whether two bytes are the same letter of ASCII in either case, or the same byte.
+fn is_same(byte: u8, other: u8) -> bool {
+    byte == other
+        || byte.is_ascii_alphabetic() && other.is_ascii_alphabetic() && byte | 32 == other | 32
+}
+
+/// Whether the name `K` and the character of this number is a key among the headers.
+fn is_key<M: MailHeaderMap>(alloc: Global, map: &M, number: u8) -> Result<bool, AllocError> {
+    let name = format!(in alloc; "K{}", char::from(number))?;
+    Ok(map.get_first_header(name.as_str()).is_some())
+}
+
+/// The first number whose character is taken for a key's byte that it is not, or is not taken for
+/// the one that it is.
+fn first_wrong(alloc: Global, byte: u8) -> Result<Option<u8>, MailParseError> {
+    let raw = [b'k', byte, b':', b'v'];
+    let (headers, _) = parse_headers(alloc, &raw)?;
+    for other in 0..=255u8 {
+        if is_key(alloc, &headers, other)? != is_same(byte, other) {
+            return Ok(Some(other));
+        }
+    }
+    Ok(None)
 }
 
 #[test]
 fn each_key_byte_and_each_character(rt: HostRuntime) -> Result<(), Fail> {
     for byte in 0..=255u8 {
-        if byte == b':' || byte == b'\n' {
-            continue;
-        }
-        let raw = [b'k', byte, b':', b'v'];
-        let (headers, _) = parse_headers(rt.alloc(), &raw)?;
-        for other in 0..=255u8 {
-            let name = format!(in rt.alloc(); "K{}", char::from(other))?;
-            let is_same = byte == other
-                || byte.is_ascii_alphabetic()
-                    && other.is_ascii_alphabetic()
-                    && byte | 32 == other | 32;
-            assert_eq!(rt;
-                headers.get_first_header(name.as_str()).is_some(),
-                is_same,
-                "{byte} {other}"
-            );
+        if byte != b':' && byte != b'\n' {
+            assert_eq!(rt; first_wrong(rt.alloc(), byte)?, None, "{byte}");
         }
     }
     Ok(())
 }
 
+/// Headers, and characters whose number ends in that of a letter, or that Unicode folds to one.
+static NO_BYTES: [(&[u8], &str); 8] = [
+    (b"k: 1", "\u{212A}"),
+    (b"s: 1", "\u{17F}"),
+    (b"e: 1", "\u{165}"),
+    (b"A: 1", "\u{141}"),
+    (b"\xFF: 1", "\u{178}"),
+    (b"\xB5: 1", "\u{3BC}"),
+    (b"\xE5: 1", "\u{212B}"),
+    (b"A: 1", "\u{10041}"),
+];
+
+/// Whether no header has the name.
+fn is_no_name(alloc: Global, raw: &[u8], name: &str) -> Result<bool, MailParseError> {
+    let (headers, _) = parse_headers(alloc, raw)?;
+    let found = headers.get_all_headers(alloc, name)?;
+    Ok(headers.get_first_header(name).is_none() && found.is_empty())
+}
+
 #[test]
 fn characters_that_no_byte_is(rt: HostRuntime) -> Result<(), Fail> {
-    // characters whose number ends in that of a letter, or that Unicode folds to one
-    let rows: [(&[u8], &str); 8] = [
-        (b"k: 1", "\u{212A}"),
-        (b"s: 1", "\u{17F}"),
-        (b"e: 1", "\u{165}"),
-        (b"A: 1", "\u{141}"),
-        (b"\xFF: 1", "\u{178}"),
-        (b"\xB5: 1", "\u{3BC}"),
-        (b"\xE5: 1", "\u{212B}"),
-        (b"A: 1", "\u{10041}"),
-    ];
-    for (raw, name) in rows {
-        let (headers, _) = parse_headers(rt.alloc(), raw)?;
-        assert!(rt; headers.get_first_header(name).is_none(), "{name}");
-        assert_eq!(rt;
-            headers.get_all_headers(rt.alloc(), name)?.len(),
-            0,
-            "{name}"
-        );
+    for row in &NO_BYTES {
+        assert!(rt; is_no_name(rt.alloc(), row.0, row.1)?, "{row:?}");
     }
     Ok(())
+}
+
+/// Whether a header's key is this text, and borrowed or not.
+fn is_key_text(
+    alloc: Global,
+    header: &MailHeader<'_>,
+    wanted: &str,
+    is_borrowed: bool,
+) -> Result<bool, MailParseError> {
+    let text = header.get_key_ref(alloc)?;
+    let owned = header.get_key(alloc)?;
+    Ok(
+        text.as_str() == wanted
+            && owned.as_str() == wanted
+            && matches!(text, CowStr::Borrowed(_)) == is_borrowed,
+    )
+}
+
+/// Whether a key of this byte is the character of its number, borrowed where it is ASCII.
+fn is_key_of(alloc: Global, byte: u8) -> Result<bool, MailParseError> {
+    let raw = [b'k', byte, b':', b'v'];
+    let (header, _) = parse_header(&raw)?;
+    let wanted = format!(in alloc; "k{}", char::from(byte))?;
+    is_key_text(alloc, &header, wanted.as_str(), byte < 0x80)
 }
 
 #[test]
 fn each_byte_in_a_key(rt: HostRuntime) -> Result<(), Fail> {
     for byte in 0..=255u8 {
-        if byte == b':' || byte == b'\n' {
-            continue;
+        if byte != b':' && byte != b'\n' {
+            assert!(rt; is_key_of(rt.alloc(), byte)?, "{byte}");
         }
-        let raw = [b'k', byte, b':', b'v'];
-        let (header, _) = parse_header(&raw)?;
-        let wanted = format!(in rt.alloc(); "k{}", char::from(byte))?;
-        let text = header.get_key_ref(rt.alloc())?;
-        assert_eq!(rt; text.as_str(), wanted.as_str(), "{byte}");
-        assert_eq!(rt; matches!(text, CowStr::Borrowed(_)), byte < 0x80, "{byte}");
-        assert_eq!(rt;
-            header.get_key(rt.alloc())?.as_str(),
-            wanted.as_str(),
-            "{byte}"
-        );
     }
     Ok(())
+}
+
+/// A header whose key is all bytes that a key may have.
+fn header_of_all_bytes(alloc: Global) -> Result<Vec<u8>, AllocError> {
+    let mut raw = Vec::new(alloc);
+    for byte in 0..=255u8 {
+        if byte != b':' && byte != b'\n' {
+            raw.push(byte)?;
+        }
+    }
+    raw.extend_from_slice(b": v")?;
+    Ok(raw)
+}
+
+/// The characters of the numbers of those bytes.
+fn text_of_all_bytes(alloc: Global) -> Result<String, AllocError> {
+    let mut text = String::new(alloc);
+    for byte in 0..=255u8 {
+        if byte != b':' && byte != b'\n' {
+            text.push(char::from(byte))?;
+        }
+    }
+    Ok(text)
+}
+
+/// Whether there is one header, found by this name, which is its key.
+fn is_found_by(alloc: Global, raw: &[u8], name: &str) -> Result<bool, MailParseError> {
+    let (headers, _) = parse_headers(alloc, raw)?;
+    match headers.as_slice() {
+        [header] => Ok(
+            first_value(&headers, name) == Some(b"v".as_slice())
+                && is_key_text(alloc, header, name, false)?,
+        ),
+        _ => Ok(false),
+    }
 }
 
 #[test]
 fn a_key_of_all_bytes(rt: HostRuntime) -> Result<(), Fail> {
-    let mut raw = Vec::new(rt.alloc());
-    let mut wanted = String::new(rt.alloc());
-    for byte in 0..=255u8 {
-        if byte != b':' && byte != b'\n' {
-            raw.push(byte)?;
-            wanted.push(char::from(byte))?;
-        }
-    }
-    raw.extend_from_slice(b": v")?;
-    let (headers, _) = parse_headers(rt.alloc(), raw.as_slice())?;
-    assert_eq!(rt; headers.len(), 1);
-    assert_eq!(rt; headers[0].get_key(rt.alloc())?.as_str(), wanted.as_str());
-    assert_eq!(rt;
-        first_value(&headers, wanted.as_str()),
-        Some(b"v".as_slice())
-    );
+    let raw = header_of_all_bytes(rt.alloc())?;
+    let name = text_of_all_bytes(rt.alloc())?;
+    assert!(rt; is_found_by(rt.alloc(), raw.as_slice(), name.as_str())?);
     Ok(())
+}
+
+/// Ten thousand headers, of which the last is another.
+fn many_and_last(alloc: Global) -> Result<Vec<u8>, AllocError> {
+    let lines = repeated(alloc, b"Las: b\n", 9_999)?;
+    joined(alloc, &[lines.as_slice(), b"Last: here\n"])
+}
+
+/// Whether so many headers have the name.
+fn is_count<M: MailHeaderMap>(
+    alloc: Global,
+    map: &M,
+    name: &str,
+    count: usize,
+) -> Result<bool, MailParseError> {
+    let found = map.get_all_headers(alloc, name)?;
+    Ok(found.len() == count)
+}
+
+/// Whether one header has the name, and this value.
+fn is_only<M: MailHeaderMap>(
+    alloc: Global,
+    map: &M,
+    name: &str,
+    value: &[u8],
+) -> Result<bool, MailParseError> {
+    let found = map.get_all_headers(alloc, name)?;
+    Ok(found.len() == 1 && found[0].get_value_raw() == value)
+}
+
+/// Whether the last of the headers is found, and all the others.
+fn are_found<M: MailHeaderMap>(alloc: Global, map: &M) -> Result<bool, MailParseError> {
+    Ok(
+        first_value(map, "LAST") == Some(b"here".as_slice())
+            && is_only(alloc, map, "last", b"here")?
+            && is_count(alloc, map, "las", 9_999)?
+            && is_count(alloc, map, "lastly", 0)?,
+    )
 }
 
 #[test]
 fn the_last_of_ten_thousand(rt: HostRuntime) -> Result<(), Fail> {
-    let lines = repeated(rt.alloc(), b"Las: b\n", 9_999)?;
-    let raw = joined(rt.alloc(), &[lines.as_slice(), b"Last: here\n"])?;
+    let raw = many_and_last(rt.alloc())?;
     let (headers, _) = parse_headers(rt.alloc(), raw.as_slice())?;
     assert_eq!(rt; headers.len(), 10_000);
-    assert_eq!(rt; first_value(&headers, "LAST"), Some(b"here".as_slice()));
-    let found = headers.get_all_headers(rt.alloc(), "last")?;
-    assert_eq!(rt; found.len(), 1);
-    assert_eq!(rt; found[0].get_value_raw(), b"here".as_slice());
-    assert_eq!(rt; headers.get_all_headers(rt.alloc(), "las")?.len(), 9_999);
-    assert_eq!(rt; headers.get_all_headers(rt.alloc(), "lastly")?.len(), 0);
+    assert!(rt; are_found(rt.alloc(), &headers)?);
     Ok(())
 }

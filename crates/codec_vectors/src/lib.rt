@@ -1,0 +1,12 @@
+//! Tests of `mail_codec` on its public calls, with answers from outside: published test vectors, the
+//! tables of the standards, and texts that other programs gave.
+#![tactic(auto)]
+
+#[cfg(test)]
+mod charsets;
+#[cfg(test)]
+mod searches;
+#[cfg(test)]
+mod texts;
+#[cfg(test)]
+mod transfer;
