@@ -1,6 +1,6 @@
 //! The transfer codings Base64 and quoted-printable, over bytes.
 
-ghost use Rattle.std.specs.Prelude.{◌≡◌, ℕ, ◌+◌, ◌*◌, ◌/◌, ◌%◌, ◌^◌, ◌<◌, ◌≤◌, ◌≢◌, ◌++◌, length, drop, slice_index, vec_len, IfOk, OnOk, OnSome, IfSome, option_map, if◌then◌else◌, ◌==◌, ◌-◌, false};
+ghost use Rattle.std.specs.Prelude.{◌≡◌, ◌+◌, ◌/◌, ◌%◌, ◌^◌, ◌<◌, ◌≤◌, ◌≢◌, ◌++◌, length, drop, slice_index, vec_len, IfOk, OnOk, OnSome, IfSome, option_map, if◌then◌else◌, ◌-◌};
 ghost use Rattle.std.specs.List.{suffix_len};
 ghost use Rattle.mail_codec.specs.QuotedPrintable.{digit_value, ended_line, first_escape, is_blank, line_bytes, quoted_printable, unescaped};
 ghost use Rattle.mail_codec.specs.Base64.{answer_over, base64, bytes_of_values, group_bytes, groups_from, items_or_fault, letter_value, prepend};

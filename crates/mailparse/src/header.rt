@@ -1,6 +1,6 @@
 //! The text that a header's value shows: its lines are unfolded (RFC 5322, section 2.2.3) and its
 //! encoded words decoded (RFC 2047, sections 2 and 4).
-ghost use Rattle.std.specs.Prelude.{◌≡◌, ◌++◌, map, IfOk};
+ghost use Rattle.std.specs.Prelude.{◌≡◌, map, IfOk};
 ghost use Rattle.std.specs.List.{flat_map};
 ghost use Rattle.std.specs.String.{string_bytes};
 ghost use Rattle.mailparse.specs.HeaderToken.{token_view, shown_by, kinds_of};
