@@ -5,7 +5,7 @@ use mail_codec::transfer::{decode_base64, decode_base64_body, decode_quoted_prin
 use std::alloc::{AllocError, Global};
 use std::fmt;
 
-/// A decoder, or the search for white space.
+/// A decoder, or the removal of ASCII white space.
 #[derive(Clone, Copy, Debug, PartialEq, Eq)]
 pub enum Work {
     White,

@@ -108,7 +108,7 @@ fn labels_with_a_byte_more_or_less(rt: HostRuntime) -> Result<(), Fail> {
     Ok(())
 }
 
-/// What is no white of ASCII, and no part of a label.
+/// What is no ASCII white, and makes no label of another.
 static BESIDE: [&str; 8] = [
     "\u{B}", "\0", "\u{A0}", "\u{85}", "\u{2003}", "\"", ";", "x",
 ];
@@ -240,12 +240,12 @@ fn high_texts(alloc: Global) -> Result<(String, String), AllocError> {
 }
 
 /// Whether the bytes have this text in Latin-1.
-fn is_latin1(alloc: Global, bytes: &[u8], wanted: &str) -> Result<bool, AllocError> {
+fn is_latin1_text(alloc: Global, bytes: &[u8], wanted: &str) -> Result<bool, AllocError> {
     Ok(decode_latin1(alloc, bytes)?.as_str() == wanted)
 }
 
 /// Whether the bytes have this text in ASCII.
-fn is_ascii(alloc: Global, bytes: &[u8], wanted: &str) -> Result<bool, AllocError> {
+fn is_ascii_text(alloc: Global, bytes: &[u8], wanted: &str) -> Result<bool, AllocError> {
     Ok(decode_ascii(alloc, bytes)?.as_str() == wanted)
 }
 
@@ -254,9 +254,9 @@ fn all_bytes_of_latin1_and_of_ascii(rt: HostRuntime) -> Result<(), Fail> {
     let bytes = all_bytes();
     let (latin1, ascii) = high_texts(rt.alloc())?;
     let wanted = ascii_and(rt.alloc(), latin1.as_str())?;
-    assert!(rt; is_latin1(rt.alloc(), &bytes, wanted.as_str())?);
+    assert!(rt; is_latin1_text(rt.alloc(), &bytes, wanted.as_str())?);
     let wanted = ascii_and(rt.alloc(), ascii.as_str())?;
-    assert!(rt; is_ascii(rt.alloc(), &bytes, wanted.as_str())?);
+    assert!(rt; is_ascii_text(rt.alloc(), &bytes, wanted.as_str())?);
     Ok(())
 }
 
@@ -295,13 +295,13 @@ fn texts_borrowed_and_owned(rt: HostRuntime) -> Result<(), Fail> {
     let other = b"Andr\xE9 and a long enough text behind the letter";
     assert!(rt; are_borrowed(rt.alloc(), other, false)?);
     let wanted = "Andr\u{E9} and a long enough text behind the letter";
-    assert!(rt; is_latin1(rt.alloc(), other, wanted)?);
+    assert!(rt; is_latin1_text(rt.alloc(), other, wanted)?);
     let wanted = "Andr\u{FFFD} and a long enough text behind the letter";
-    assert!(rt; is_ascii(rt.alloc(), other, wanted)?);
+    assert!(rt; is_ascii_text(rt.alloc(), other, wanted)?);
     Ok(())
 }
 
-/// A charset, bytes, their text after a look for a mark, and without one.
+/// A charset, bytes, their text with a look for a mark, and their text without a look.
 type MarkRow = (Charset, &'static [u8], &'static str, &'static str);
 
 static MARKS: [MarkRow; 15] = [
@@ -538,7 +538,12 @@ fn letter_text(alloc: Global, letters: &str) -> Result<String, AllocError> {
 }
 
 /// Whether such a row of letters reads as it says, with a look for a mark and without.
-fn is_unit_row(alloc: Global, units: &str, letters: &str, big: bool) -> Result<bool, AllocError> {
+fn reads_in_order(
+    alloc: Global,
+    units: &str,
+    letters: &str,
+    big: bool,
+) -> Result<bool, AllocError> {
     let bytes = letter_bytes(alloc, units, big)?;
     let wanted = letter_text(alloc, letters)?;
     let (bytes, wanted) = (bytes.as_slice(), wanted.as_str());
@@ -558,10 +563,11 @@ fn utf_16(big: bool) -> Charset {
 }
 
 /// Whether such a row reads as it says in either order of the bytes.
-fn is_row_of_units(alloc: Global, row: &str) -> Result<bool, AllocError> {
+fn reads_in_either_order(alloc: Global, row: &str) -> Result<bool, AllocError> {
     match row.split_once('=') {
         Some((units, letters)) => Ok(
-            is_unit_row(alloc, units, letters, true)? && is_unit_row(alloc, units, letters, false)?,
+            reads_in_order(alloc, units, letters, true)?
+                && reads_in_order(alloc, units, letters, false)?,
         ),
         None => Ok(false),
     }
@@ -571,7 +577,7 @@ fn is_row_of_units(alloc: Global, row: &str) -> Result<bool, AllocError> {
 fn rows_of_units(rt: HostRuntime) -> Result<(), Fail> {
     let mut count = 0usize;
     for row in UNIT_ROWS.split_ascii_whitespace() {
-        assert!(rt; is_row_of_units(rt.alloc(), row)?, "{row}");
+        assert!(rt; reads_in_either_order(rt.alloc(), row)?, "{row}");
         count = count.saturating_add(1);
     }
     assert_eq!(rt; count, 242);
@@ -602,18 +608,23 @@ fn number_text(alloc: Global, numbers: &str) -> Result<String, Fail> {
 }
 
 /// Whether such a row of numbers reads as it says, without a look for a mark.
-fn is_edge_row(alloc: Global, units: &str, characters: &str, big: bool) -> Result<bool, Fail> {
+fn reads_numbers_in_order(
+    alloc: Global,
+    units: &str,
+    characters: &str,
+    big: bool,
+) -> Result<bool, Fail> {
     let bytes = number_bytes(alloc, units, big)?;
     let wanted = number_text(alloc, characters)?;
     Ok(is_plain(alloc, utf_16(big), bytes.as_slice(), wanted.as_str())?)
 }
 
 /// Whether such a row reads as it says in either order of the bytes.
-fn is_row_at_the_edges(alloc: Global, row: &str) -> Result<bool, Fail> {
+fn reads_numbers_in_either_order(alloc: Global, row: &str) -> Result<bool, Fail> {
     match row.split_once('=') {
         Some((units, characters)) => Ok(
-            is_edge_row(alloc, units, characters, true)?
-                && is_edge_row(alloc, units, characters, false)?,
+            reads_numbers_in_order(alloc, units, characters, true)?
+                && reads_numbers_in_order(alloc, units, characters, false)?,
         ),
         None => Ok(false),
     }
@@ -623,7 +634,7 @@ fn is_row_at_the_edges(alloc: Global, row: &str) -> Result<bool, Fail> {
 fn rows_at_the_edges(rt: HostRuntime) -> Result<(), Fail> {
     let mut count = 0usize;
     for row in EDGE_ROWS.split_ascii_whitespace() {
-        assert!(rt; is_row_at_the_edges(rt.alloc(), row)?, "{row}");
+        assert!(rt; reads_numbers_in_either_order(rt.alloc(), row)?, "{row}");
         count = count.saturating_add(1);
     }
     assert_eq!(rt; count, 94);

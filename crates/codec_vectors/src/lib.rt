@@ -1,4 +1,5 @@
-//! Tests of `mail_codec` on its public calls, with answers from outside: published test vectors, the
+//! Tests of `mail_codec` on its public calls, and of the letters of the engine that it decodes with,
+//! with answers from outside: published test vectors, the
 //! tables of the standards, and texts that other programs gave.
 #![tactic(auto)]
 

@@ -272,14 +272,15 @@ fn is_fault_of_joined(
     is_fault(alloc, call, text.as_slice(), group)
 }
 
-/// Whether the group that is none is found behind the piece, 3000 times: at a faulty end, with the
-/// groups in between cut at other letters, and at a short end.
+/// Whether the group that is none is found behind the piece, 3000 times: one with a byte that is no
+/// letter, a short end, and one behind groups that are cut at other letters.
 fn is_long_fault(alloc: Global, call: Call, piece: &[u8]) -> Result<bool, AllocError> {
     let text = repeated(alloc, piece, 3000)?;
     let text = text.as_slice();
     Ok(
-        is_fault_of_joined(alloc, call, &[text, b"QU", text, b"QUJD!"], 12_001)?
-            && is_fault_of_joined(alloc, call, &[text, b"QUJ"], 6000)?,
+        is_fault_of_joined(alloc, call, &[text, b"QU!D", text], 6000)?
+            && is_fault_of_joined(alloc, call, &[text, b"QUJ"], 6000)?
+            && is_fault_of_joined(alloc, call, &[text, b"QU", text, b"QU!DJD"], 12_001)?,
     )
 }
 

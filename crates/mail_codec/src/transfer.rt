@@ -12,7 +12,7 @@ use base64::DecodeAllocError;
 use base64::engine::general_purpose::STANDARD;
 use std::alloc::{AllocError, Global};
 
-/// How many bytes of a text are read at a time.
+/// How many bytes of a Base64 text are read at a time.
 const WINDOW: usize = 4096;
 
 /// The bytes that a Base64 text stands for (RFC 4648, section 4). CR and LF count as absent wherever
@@ -25,21 +25,21 @@ const WINDOW: usize = 4096;
 pub fn decode_base64(alloc: Global, text: &[u8]) -> Result<Result<Vec<u8>, usize>, AllocError>
     ensures { IfOk result (λ answer. items_or_fault answer ≡ base64 text.now) }
 {
-    decode_without(alloc, text, RunEnd::LineEnd)
+    decode_base64_without(alloc, text, RunEnd::LineEnd)
 }
 
-/// The bytes that the body of a message in Base64 stands for (RFC 2045, section 6.8): the same as
-/// `decode_base64`, errors and memory too, of the body without its ASCII white space (space, tab, LF,
-/// FF and CR; 0x0B is none), of which it makes no copy.
+/// The bytes that a Base64 body stands for (RFC 2045, section 6.8), in which all ASCII white space
+/// counts as absent: space, tab, LF, FF and CR (0x0B is none). Errors and memory are as for
+/// `decode_base64`; no copy of the body is made.
 pub fn decode_base64_body(alloc: Global, body: &[u8]) -> Result<Result<Vec<u8>, usize>, AllocError>
     ensures { IfOk result (λ answer. items_or_fault answer ≡ base64 (without_ascii_whitespace body.now)) }
 {
-    decode_without(alloc, body, RunEnd::White)
+    decode_base64_without(alloc, body, RunEnd::White)
 }
 
 // The bytes of the groups of a text without what counts as absent, a window of the text at a time.
 #[inline(always)]
-fn decode_without(
+fn decode_base64_without(
     alloc: Global,
     text: &[u8],
     absent: RunEnd,

@@ -1,4 +1,4 @@
-//! Texts that several tests need.
+//! What several tests need.
 use mailparse::MailParseError;
 use std::alloc::{AllocError, Global};
 

@@ -1,7 +1,7 @@
 //! What values read as: encoded words and unfolding.
 //!
 //! Where nothing else is said, the answers are those of the Rust crate, built with the rules of this
-//! one for charsets and transfer codings.
+//! one where docs/DIFFERENCES.md says that the two differ.
 use crate::texts::{joined, repeated};
 use mailparse::{MailHeaderMap, MailParseError, parse_header, parse_headers, parse_mail};
 use std::alloc::{AllocError, Global};

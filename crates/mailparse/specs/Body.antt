@@ -27,7 +27,7 @@ abbrev pub base64_bytes : Result (List ℕ) ℕ → Result (List ℕ) Refusal
 base64_bytes (Ok bytes) = Ok bytes
 base64_bytes (Err group) = Err (base64_fault group)
 
--- the bytes that a body stands for: in Base64, where all white space counts as absent, in quoted-printable, or as it is
+-- the bytes that a body stands for: in Base64, where ASCII white space counts as absent, in quoted-printable, or as it is
 unfoldable pub decoded : BodyKind → List ℕ → Result (List ℕ) Refusal
 decoded in_base64 body = base64_bytes (base64 (without_ascii_whitespace body))
 decoded in_quoted_printable body = Ok (quoted_printable body)

@@ -20,9 +20,13 @@ headers list = map header list
 abbrev pub block : Vec MailHeader × ℕ → Block
 block found = record { headers = headers found.0.items; index = found.1 }
 
+-- the list that a header block holds
+abbrev pub listed : Headers → List MailHeader
+listed block = block.headers.now
+
 -- the bytes of a header block and its headers
 abbrev pub header_block : Headers → HeaderBlock
-header_block block = record { bytes = block.raw_bytes.now; headers = headers block.headers.now }
+header_block block = record { bytes = block.raw_bytes.now; headers = headers (listed block) }
 
 -- a message: its bytes, its block, the headers that it has now, and its body
 abbrev pub mail : ParsedMail → Mail

@@ -6,7 +6,7 @@ ghost use Rattle.std.specs.Str.{chars};
 ghost use lib.Pointwise.{pointwise};
 ghost use Rattle.mailparse.specs.Keys.{first_with_key, all_with_key, first_value, all_values, text_found};
 ghost use Rattle.mailparse.specs.Outcome.{AnswersInMemory};
-ghost use Rattle.mailparse.specs.Views.{header, headers as views, header_block};
+ghost use Rattle.mailparse.specs.Views.{header, headers as views, listed};
 
 use crate::error::MailParseError;
 use crate::headers::Headers;
@@ -74,7 +74,7 @@ impl MailHeaderMap for Vec<MailHeader<'_>> {
 }
 
 impl MailHeaderMap for Headers<'_> {
-    ghost present = { λ block. block.headers.now };
+    ghost present = { λ block. listed block };
 
     fn get_first_header(&self, key: &str) -> Option<&MailHeader<'_>> {
         first_header(self.list(), key)

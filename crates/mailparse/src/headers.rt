@@ -2,7 +2,7 @@
 ghost use Rattle.std.specs.Prelude.{◌≡◌};
 ghost use Rattle.std.specs.Iterator.Runs.{EveryRun, ItemsMapTo};
 ghost use Rattle.std.specs.Slice.Iter.{iter_rest, iter_steps};
-ghost use Rattle.mailparse.specs.Views.{headers as views, header_block};
+ghost use Rattle.mailparse.specs.Views.{headers as views, header_block, listed};
 
 use crate::mail_header::MailHeader;
 use std::{fmt, slice};
@@ -32,7 +32,7 @@ impl<'a> Headers<'a> {
 
     /// The headers.
     pub(crate) fn list(&self) -> &[MailHeader<'a>]
-        ensures { result.now ≡ self.now.headers.now }
+        ensures { result.now ≡ listed self.now }
     {
         self.headers
     }

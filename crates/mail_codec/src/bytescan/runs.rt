@@ -1,4 +1,6 @@
-//! Runs of bytes: how far the first reaches, and what is left of bytes without those between the runs.
+//! Runs of bytes, which end at certain bytes: how long the first is, and all of them put together.
+//!
+//! What is small is inlined: the searches are fast where the compiler knows what ends a run.
 ghost use Rattle.std.specs.Prelude.{◌≡◌, ◌≤◌, ◌++◌, length, OnOk, false};
 ghost use Rattle.std.specs.List.{position_or_len};
 ghost use Rattle.mail_codec.specs.Runs.{ends_run, NoneEnds, without_ends};
@@ -22,7 +24,7 @@ pub(crate) enum RunEnd {
 impl RunEnd {
     // Whether the byte ends a run.
     #[inline(always)]
-    fn is(self, byte: u8) -> bool
+    fn is_met_by(self, byte: u8) -> bool
         ensures { result ≡ ends_run self byte }
     {
         match self {
@@ -35,7 +37,7 @@ impl RunEnd {
     // Whether the byte may end a run: no byte that ends one is passed over, and a block of bytes is
     // tested in few instructions.
     #[inline(always)]
-    fn may_be(self, byte: u8) -> bool
+    fn may_be_met_by(self, byte: u8) -> bool
         ensures { result ≡ false → ends_run self byte ≡ false }
     {
         match self {
@@ -63,7 +65,8 @@ pub(crate) fn push_runs(kept: &mut Vec<u8>, bytes: &[u8], end: RunEnd) -> Result
     Ok(())
 }
 
-/// The least place of a byte that ends a run, or the length where there is none.
+/// The least place of a byte that ends a run, or the length where there is none. Goes by blocks, and
+/// byte by byte from the first block that may hold such a byte.
 #[inline(always)]
 pub(crate) fn run_len(bytes: &[u8], end: RunEnd) -> usize
     ensures least { result ≡ position_or_len (ends_run end) bytes.now }
@@ -71,7 +74,7 @@ pub(crate) fn run_len(bytes: &[u8], end: RunEnd) -> usize
 {
     let mut at = free_len(bytes, end);
     'bytes: while at < bytes.len() {
-        if end.is(bytes[at]) {
+        if end.is_met_by(bytes[at]) {
             return at;
         }
         at += 1;
@@ -103,7 +106,7 @@ fn may_hold_end(bytes: &[u8], end: RunEnd) -> bool
 {
     let mut holds = false;
     for byte in bytes {
-        holds |= end.may_be(*byte);
+        holds |= end.may_be_met_by(*byte);
     }
     holds
 }

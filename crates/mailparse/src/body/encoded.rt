@@ -10,7 +10,7 @@ use crate::error::{Base64Fault, MailParseError};
 use mail_codec::transfer::{decode_base64_body, decode_quoted_printable};
 use std::alloc::Global;
 
-/// What an encoded body is in.
+/// The transfer coding of an encoded body.
 #[derive(Clone, Copy)]
 pub(super) enum Encoding {
     Base64,
@@ -41,7 +41,7 @@ impl<'a> EncodedBody<'a> {
     }
 
     /// The bytes that the body stands for (RFC 2045, sections 6.7 and 6.8). Base64 is refused by the
-    /// number of the first group that is none, white space counting as absent; quoted-printable
+    /// number of the first group that is none, ASCII white space counting as absent; quoted-printable
     /// never is. Takes memory for the answer and, in Base64, a few kilobytes more.
     #[tactic(auto, unfolding(crate::specs::Body::decoded))]
     pub fn get_decoded(&self, alloc: Global) -> Result<Vec<u8>, MailParseError>

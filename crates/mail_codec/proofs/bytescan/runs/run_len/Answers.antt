@@ -3,10 +3,10 @@ use Rattle.std.proofs.lemmas.List.Sums.{position_or_len_is}
 use Rattle.mail_codec.specs.Runs.{ends_run}
 use Rattle.mail_codec.proofs.bytescan.runs.run_len.Goals as goal
 
-pub returns-then-is-clause-least : goal.returns-then-is-clause-least
-returns-then-is-clause-least c =
+pub returns-then-is_met_by-clause-least : goal.returns-then-is_met_by-clause-least
+returns-then-is_met_by-clause-least c =
     sym (position_or_len_is (ends_run c.args.end) c.args.bytes.now c.bytes.at 0 c.bytes.invariant.within
-    c.bytes.invariant.free (λ _. sym c.is.ensures ∙ c.if-is.true))
+    c.bytes.invariant.free (λ _. sym c.is_met_by.ensures ∙ c.if-is_met_by.true))
 
 pub returns-clause-least : goal.returns-clause-least
 returns-clause-least c =

@@ -1,7 +1,7 @@
 use Rattle.std.proofs.Common.{length, drop, ◌-◌, ◌≡◌, ◌+◌, ◌*◌, ◌<◌, ◌≤◌, ◌++◌, vec_len}
 use Rattle.mail_codec.specs.Base64.{groups_from, prepend}
 use Rattle.mail_codec.specs.Runs.{without_ends}
-use Rattle.mail_codec.proofs.transfer.decode_without.Given as goal
+use Rattle.mail_codec.proofs.transfer.decode_base64_without.Given as goal
 
 -- the bytes so far, then the letters that are left over and the rest of the text, give the answer
 abbrev pub invariant-windows : goal.invariant-windows

@@ -5,7 +5,7 @@ use Rattle.mail_codec.specs.Base64.{prepend, groups_from}
 use Rattle.mail_codec.specs.Runs.{without_ends}
 use Rattle.mail_codec.proofs.Base64Groups.{window_read, window_fault, window_length}
 use Rattle.mail_codec.proofs.Base64Steps.{groups_start, groups_end, groups_short}
-use Rattle.mail_codec.proofs.transfer.decode_without.Goals as goal
+use Rattle.mail_codec.proofs.transfer.decode_base64_without.Goals as goal
 
 pub windows-init : goal.windows-init
 windows-init c = record {
