@@ -37,7 +37,7 @@ pub fn decode_base64_body(alloc: Global, body: &[u8]) -> Result<Result<Vec<u8>, 
     decode_base64_without(alloc, body, RunEnd::White)
 }
 
-// The bytes of the groups of a text without what counts as absent, a window of the text at a time.
+/// The bytes of the groups of a text without what counts as absent, a window of the text at a time.
 #[inline(always)]
 fn decode_base64_without(
     alloc: Global,
@@ -68,7 +68,7 @@ fn decode_base64_without(
     }
 }
 
-// Drops the letters before place `at`.
+/// Drops the letters before place `at`.
 fn keep_from(letters: &mut Vec<u8>, at: usize)
     requires { at ≤ vec_len letters.old }
     ensures { letters.new.items ≡ drop at letters.old.items }
@@ -78,7 +78,7 @@ fn keep_from(letters: &mut Vec<u8>, at: usize)
     letters.truncate(left);
 }
 
-// Appends the bytes of whole groups, of which the first has number `first`.
+/// Appends the bytes of whole groups, of which the first has number `first`.
 fn decode_groups(
     bytes: &mut Vec<u8>,
     letters: &[u8],
@@ -96,7 +96,7 @@ fn decode_groups(
     }
 }
 
-// The same, a group at a time: the engine takes padding in the last group alone, and no unused bits.
+/// The same, a group at a time: the engine takes padding in the last group alone, and no unused bits.
 fn decode_each_group(
     bytes: &mut Vec<u8>,
     letters: &[u8],
@@ -122,8 +122,8 @@ fn decode_each_group(
     Ok(Ok(()))
 }
 
-// Appends the bytes of a group and answers true, or answers false where it is none. The missing
-// letters of a group with padding are filled up with `A`, whose value is 0, and their bytes cut off.
+/// Appends the bytes of a group and answers true, or answers false where it is none. The missing
+/// letters of a group with padding are filled up with `A`, whose value is 0, and their bytes cut off.
 fn push_group(bytes: &mut Vec<u8>, p: u8, q: u8, r: u8, s: u8) -> Result<bool, AllocError>
     ensures { IfOk result (λ is_group. option_map (λ decoded. bytes.old.items ++ decoded)
         (group_bytes p q r s)
@@ -138,8 +138,8 @@ fn push_group(bytes: &mut Vec<u8>, p: u8, q: u8, r: u8, s: u8) -> Result<bool, A
     push_bytes(bytes, p, q, b'A', b'A', 1)
 }
 
-// Appends the first `len` bytes of four letters and answers true, or answers false where not all
-// four are letters.
+/// Appends the first `len` bytes of four letters and answers true, or answers false where not all
+/// four are letters.
 fn push_bytes(
     bytes: &mut Vec<u8>,
     p: u8,
@@ -185,7 +185,7 @@ pub fn decode_quoted_printable(alloc: Global, text: &[u8]) -> Result<Vec<u8>, Al
     Ok(bytes)
 }
 
-// Appends the bytes of a line whose LF follows the piece: a CR at its end is part of the line end.
+/// Appends the bytes of a line whose LF follows the piece: a CR at its end is part of the line end.
 fn push_ended_line(bytes: &mut Vec<u8>, piece: &[u8]) -> Result<(), AllocError>
     ensures { OnOk result
         (bytes.new.items ≡ bytes.old.items ++ line_bytes (ended_line piece.now)) }
@@ -197,7 +197,7 @@ fn push_ended_line(bytes: &mut Vec<u8>, piece: &[u8]) -> Result<(), AllocError>
     push_line(bytes, piece, b"\n")
 }
 
-// Appends the bytes of a line.
+/// Appends the bytes of a line.
 fn push_line(bytes: &mut Vec<u8>, content: &[u8], ending: &[u8]) -> Result<(), AllocError>
     ensures { OnOk result (bytes.new.items
         ≡ bytes.old.items ++ line_bytes (record { content = content.now; ending = ending.now })) }
@@ -210,7 +210,7 @@ fn push_line(bytes: &mut Vec<u8>, content: &[u8], ending: &[u8]) -> Result<(), A
     bytes.extend_from_slice(ending)
 }
 
-// How many bytes stand before the spaces and tabs at the end.
+/// How many bytes stand before the spaces and tabs at the end.
 fn trimmed_len(content: &[u8]) -> usize
     ensures len { result ≡ length content.now - suffix_len is_blank content.now }
     ensures within { result ≤ length content.now }
@@ -226,7 +226,7 @@ fn trimmed_len(content: &[u8]) -> usize
     0
 }
 
-// Appends the bytes with each escape read.
+/// Appends the bytes with each escape read.
 fn push_unescaped(bytes: &mut Vec<u8>, kept: &[u8]) -> Result<(), AllocError>
     ensures { OnOk result (bytes.new.items ≡ bytes.old.items ++ unescaped kept.now) }
 {
@@ -247,7 +247,7 @@ fn push_unescaped(bytes: &mut Vec<u8>, kept: &[u8]) -> Result<(), AllocError>
     Ok(())
 }
 
-// The byte of the escape at a place that holds `=`.
+/// The byte of the escape at a place that holds `=`.
 fn escape_at(kept: &[u8], at: usize) -> Option<u8>
     requires within { at < length kept.now }
     requires sign { slice_index kept.now at ≡ 61 }
@@ -262,7 +262,7 @@ fn escape_at(kept: &[u8], at: usize) -> Option<u8>
     Some(high * 16 + low)
 }
 
-// The value of a hexadecimal digit, of either case.
+/// The value of a hexadecimal digit, of either case.
 fn digit_value(digit: u8) -> Option<u8>
     ensures value { result ≡ digit_value digit }
     ensures small { IfSome result (λ value. value < 16) }

@@ -1,5 +1,5 @@
-//! Tests of `mailparse` on its public calls, with answers from outside: the worked examples of the
-//! documents, and texts that other programs gave.
+//! Tests of `mailparse` on its public calls, with answers from outside: worked examples, and texts
+//! that other programs gave.
 #![tactic(auto)]
 
 #[cfg(test)]

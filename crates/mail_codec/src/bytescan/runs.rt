@@ -22,7 +22,7 @@ pub(crate) enum RunEnd {
 }
 
 impl RunEnd {
-    // Whether the byte ends a run.
+    /// Whether the byte ends a run.
     #[inline(always)]
     fn is_met_by(self, byte: u8) -> bool
         ensures { result ≡ ends_run self byte }
@@ -34,8 +34,8 @@ impl RunEnd {
         }
     }
 
-    // Whether the byte may end a run: no byte that ends one is passed over, and a block of bytes is
-    // tested in few instructions.
+    /// Whether the byte may end a run: no byte that ends one is passed over, and a block of bytes is
+    /// tested in few instructions.
     #[inline(always)]
     fn may_be_met_by(self, byte: u8) -> bool
         ensures { result ≡ false → ends_run self byte ≡ false }
@@ -82,8 +82,8 @@ pub(crate) fn run_len(bytes: &[u8], end: RunEnd) -> usize
     at
 }
 
-// The length of the blocks at the front in which no run ends. A block is tested as a whole, with no
-// way out before its end, which the compiler turns into few instructions.
+/// The length of the blocks at the front in which no run ends. A block is tested as a whole, with no
+/// way out before its end, which the compiler turns into few instructions.
 #[inline(always)]
 fn free_len(bytes: &[u8], end: RunEnd) -> usize
     ensures within { result ≤ length bytes.now }
@@ -99,7 +99,7 @@ fn free_len(bytes: &[u8], end: RunEnd) -> usize
     at
 }
 
-// Whether a byte that may end a run is among the bytes.
+/// Whether a byte that may end a run is among the bytes.
 #[inline(always)]
 fn may_hold_end(bytes: &[u8], end: RunEnd) -> bool
     ensures { result ≡ false → NoneEnds end (length bytes.now) bytes.now }
