@@ -10,6 +10,7 @@ pub mod Base64Letters
 pub mod Base64Engine
 pub mod Base64Groups
 pub mod Base64Steps
+pub mod PaddingLemmas
 pub mod Base64Law
 pub mod QuotedPrintableRuns
 pub mod QuotedPrintableLines

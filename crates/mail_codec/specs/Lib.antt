@@ -4,3 +4,4 @@ pub mod Charset
 pub mod Base64
 pub mod QuotedPrintable
 pub mod Runs
+pub mod Padding
