@@ -20,7 +20,7 @@ import random
 import re
 import sys
 
-from oracle_batch import answers, hex_or_dash
+from oracle_batch import add_new, answers, hex_or_dash
 
 MADE = 240
 MUTATED = 160
@@ -125,13 +125,9 @@ def questions(seed):
     """All questions of the list, each once."""
     rng = random.Random(seed)
     found = dict.fromkeys(chosen_bodies())
-    wanted = len(found) + MADE
-    while len(found) < wanted:
-        found[made_body(rng)] = None
+    add_new(found, MADE, lambda: made_body(rng))
     sources = [question for question in found if len(question[2]) <= 100]
-    wanted = len(found) + MUTATED
-    while len(found) < wanted:
-        found[mutated(rng, rng.choice(sources))] = None
+    add_new(found, MUTATED, lambda: mutated(rng, rng.choice(sources)))
     return list(found)
 
 

@@ -17,7 +17,7 @@ import base64
 import random
 import sys
 
-from oracle_batch import answers, hex_or_dash
+from oracle_batch import add_new, answers, hex_or_dash
 
 MADE = 360
 MUTATED = 300
@@ -203,13 +203,9 @@ def values(seed):
     """All values of the list, each once."""
     rng = random.Random(seed)
     found = dict.fromkeys(chosen_values())
-    wanted = len(found) + MADE
-    while len(found) < wanted:
-        found[made_value(rng)] = None
+    add_new(found, MADE, lambda: made_value(rng))
     sources = short(found)
-    wanted = len(found) + MUTATED
-    while len(found) < wanted:
-        found[mutated(rng, rng.choice(sources), rng.choice(sources))] = None
+    add_new(found, MUTATED, lambda: mutated(rng, rng.choice(sources), rng.choice(sources)))
     return list(found)
 
 

@@ -1,4 +1,4 @@
-"""Asks an oracle program many questions in one run.
+"""Asks an oracle program many questions in one run; and what else the makers of lists share.
 
 The program, called with the argument `batch`, reads records from standard input: a line
 `COMMAND LENGTH`, then LENGTH bytes. For each record it writes lines, and then a line `.`.
@@ -26,3 +26,10 @@ def answers(program, command, inputs):
 def hex_or_dash(data):
     """Two hexadecimal digits for each byte, or `-` for no bytes."""
     return data.hex() or "-"
+
+
+def add_new(found, count, make):
+    """Adds so many more keys to the dict, each a new one that `make` gives."""
+    wanted = len(found) + count
+    while len(found) < wanted:
+        found[make()] = None
