@@ -139,3 +139,11 @@ marked_text_of charset bytes =
 -- the text of bytes under no known label: ASCII, with U+FFFD for each other byte
 abbrev pub ascii_text : List ℕ → List ℕ
 ascii_text bytes = encode_utf8_all (map ascii_char bytes)
+
+-- The charsets that a reader knows, by label: the text of bytes in the charset that has the label, if one has. No mark is looked for.
+abbrev pub Charsets : Type 0
+Charsets = List ℕ → Option (List ℕ → List ℕ)
+
+-- the four charsets above
+abbrev pub four_charsets : Charsets
+four_charsets label = option_map text_of (charset_of_label label)

@@ -3,8 +3,9 @@ ghost use Rattle.std.specs.Prelude.{◌≡◌, ◌<◌, ◌≤◌, ◌++◌, ℕ
 ghost use Rattle.std.specs.List.{flat_map};
 ghost use Rattle.std.specs.Str.{IsUtf8};
 ghost use Rattle.mailparse.specs.Header.{Header, read_header};
-ghost use Rattle.mailparse.specs.Block.{Block, read_block};
-ghost use Rattle.mailparse.specs.Tokens.{Adjoin, ArePiecesOf, Piece, line_pieces, piece_source};
+ghost use Rattle.mailparse.specs.Block.{HeaderList, read_headers};
+ghost use Rattle.mail_codec.specs.Charset.{Charsets};
+ghost use Rattle.mailparse.specs.Tokens.{Adjoin, AreTokens, TokenRange, token_ranges, token_source};
 ghost use Rattle.mailparse.specs.Value.{IsPlain, lenient_value, strict_value};
 ghost use Rattle.mail_laws.specs.Spans.{header_spans, blank_span};
 
@@ -14,25 +15,27 @@ pub fn header_consumes()
         (0 < taken) × (taken ≤ length raw) }
 {}
 
-/// The bytes of the headers, one after another, and those of the blank line behind them, where there
+/// The bytes of the headers, one after another, and those of the blank line after them, where there
 /// is one, are exactly the input up to the index of the block.
 pub fn block_covers()
-    ensures { (raw : List ℕ) (block : Block) → read_block raw ≡ Ok block →
+    ensures { (raw : List ℕ) (block : HeaderList) → read_headers raw ≡ Ok block →
         header_spans raw ++ blank_span raw ≡ take block.index raw }
 {}
 
-/// Exactly one list of pieces fits a line of a value, the one that is computed.
-pub fn one_list_of_pieces_fits()
-    ensures fits { (line : List ℕ) → ArePiecesOf line (line_pieces line) }
-    ensures only { (line : List ℕ) (pieces : List Piece)
-        → ArePiecesOf line pieces → pieces ≡ line_pieces line }
+/// Exactly one list of tokens fits a line of a value, the one that is computed, whatever charsets are
+/// known.
+pub fn one_list_of_tokens_fits()
+    ensures fits { (known : Charsets) (line : List ℕ) → AreTokens known line (token_ranges known line) }
+    ensures only { (known : Charsets) (line : List ℕ) (tokens : List TokenRange)
+        → AreTokens known line tokens → tokens ≡ token_ranges known line }
 {}
 
-/// The pieces of a line stand one behind the other from its start to its end, so that their bytes
-/// make up the line.
-pub fn pieces_make_up_line()
-    ensures adjoin { (line : List ℕ) → Adjoin 0 (line_pieces line) (length line) }
-    ensures bytes { (line : List ℕ) → flat_map (piece_source line) (line_pieces line) ≡ line }
+/// The tokens of a line stand one after another from its start to its end, so that their bytes make up
+/// the line.
+pub fn tokens_make_up_line()
+    ensures adjoin { (known : Charsets) (line : List ℕ) → Adjoin 0 (token_ranges known line) (length line) }
+    ensures bytes { (known : Charsets) (line : List ℕ)
+        → flat_map (token_source line) (token_ranges known line) ≡ line }
 {}
 
 /// A value of printable ASCII that does not begin with a space and holds no `=?` reads as itself.

@@ -5,7 +5,7 @@ use Rattle.std.proofs.KnownBytes.{Keeps-refl, Appends-kept}
 use Rattle.mailparse.specs.Mail.{Mail, read_mail}
 use Rattle.mailparse.specs.Refusal.{Refusal}
 use Rattle.mailparse.specs.Outcome.{IsRefusal, IsRefusalOrMemory}
-use Rattle.mailparse.proofs.OutcomeLemmas.{IsRefusal-along}
+use Rattle.mailparse.proofs.lemmas.Outcome.{IsRefusal-along}
 use Rattle.mailparse.specs.declared.error.MailParseError.{MailParseError}
 use Rattle.mailparse.specs.declared.error.MailParseError.TheVariants.{QuotedPrintableDecodeError, Base64DecodeError, EncodingError, Generic, Memory}
 use Rattle.mail_show.specs.Shown.{mail_text, shown}

@@ -1,15 +1,15 @@
 //! The text that shows a message.
-ghost use Rattle.std.specs.Prelude.{◌≡◌, ◌++◌, string_bytes, Ok, IfErr, OnOk};
+ghost use Rattle.std.specs.Prelude.{◌≡◌, ◌++◌, string_bytes, IfErr, OnOk};
 ghost use Rattle.mail_show.specs.Shown.{header_line, mail_line, mail_text};
-ghost use Rattle.mailparse.specs.Outcome.{AnswersInMemory, IsMemory};
-ghost use Rattle.mailparse.specs.Views.{header, mail};
+ghost use Rattle.mailparse.specs.Outcome.{GivesText, IsMemory};
+ghost use Rattle.mailparse.specs.Views.{mail};
 
 use mailparse::{MailHeader, MailParseError, ParsedMail};
 use std::alloc::{AllocError, Global};
 
 /// The text of a message: a line for the message, and one for each of its headers.
 pub fn text_of(alloc: Global, parsed: &ParsedMail<'_>) -> Result<String, MailParseError>
-    ensures { AnswersInMemory (λ text. string_bytes text) result (Ok (mail_text (mail parsed.now))) }
+    ensures { GivesText result (mail_text (mail parsed.now)) }
 {
     let mut text = String::new(alloc);
     push_mail_line(&mut text, parsed)?;
@@ -39,7 +39,7 @@ fn push_header_line(
     text: &mut String,
     field: &MailHeader<'_>,
 ) -> Result<(), MailParseError>
-    ensures ok { OnOk result (string_bytes text.new ≡ string_bytes text.old ++ header_line (header field.now)) }
+    ensures ok { OnOk result (string_bytes text.new ≡ string_bytes text.old ++ header_line field.now) }
     ensures fault { IfErr result IsMemory }
 {
     text.push_str("  ")?;

@@ -36,14 +36,14 @@ block_end bytes =
     if headers_end bytes then Ok (Some (blank_line bytes))
     else (if stands (carriage_return ∷ []) bytes then Err lone_carriage_return else Ok None)
 
--- the headers, and the place behind the blank line
-pub record Block : Type 0 where
+-- a list of headers, and the offset just after the blank line that ends it
+pub record HeaderList : Type 0 where
   pub headers : List Header
   pub index : ℕ
 
--- the block at the front of the bytes, or what stands in the place of a header
-unfoldable pub read_block : List ℕ → Result Block Refusal
-read_block raw =
+-- the headers at the front of the bytes, or what stands in the place of one
+unfoldable pub read_headers : List ℕ → Result HeaderList Refusal
+read_headers raw =
     let count = header_count raw in
     let stop = rest_at raw count in
     if headers_end stop

@@ -1,13 +1,13 @@
--- What stands inside an encoded word, between its `=?` and its `?=`: RFC 2047 sections 2 and 4, as this crate reads them.
+-- What stands inside an encoded word, between its `=?` and its `?=`: RFC 2047, sections 2 and 4, as this crate reads them.
 use Rattle.std.specs.Prelude.{◌≡◌, ℕ, Bool, true, ◌||◌, List, ◌++◌, length, drop, map, Option, Some, None, option_and_then, option_map, codes, if◌then◌else◌, ◌==◌}
 use Rattle.std.specs.List.{before_first, after_first, list_any}
 use Rattle.std.specs.Result.{result_ok}
 use Rattle.std.specs.Str.{bytes_eq, trim_end}
 use Rattle.mail_codec.specs.Base64.{base64}
-use Rattle.mail_codec.specs.Charset.{charset_of_label, text_of}
+use Rattle.mail_codec.specs.Charset.{Charsets}
 use Rattle.mail_codec.specs.QuotedPrintable.{quoted_printable}
 
--- a question mark, which cuts the inside into its parts
+-- a question mark, which cuts the inside of a word
 abbrev pub is_question_mark : ℕ → Bool
 is_question_mark b = b == 63
 
@@ -15,53 +15,54 @@ is_question_mark b = b == 63
 abbrev pub has_question_mark : List ℕ → Bool
 has_question_mark bytes = list_any is_question_mark bytes
 
--- the parts of an inside
-pub record Parts : Type 0 where
+-- an encoded word: the label of its charset, its encoding and its encoded text
+pub record EncodedWord : Type 0 where
   pub charset : List ℕ
-  pub coding : List ℕ
-  pub rest : List ℕ
+  pub encoding : List ℕ
+  pub encoded_text : List ℕ
 
--- the parts of an inside that is cut at its first two question marks, if both are there
-abbrev pub parts_of : List ℕ → Option Parts
-parts_of inside =
-    let behind = after_first is_question_mark inside in
-    if has_question_mark behind
+-- the word whose inside is this: it is cut at its first two question marks, if both are there
+abbrev pub word_inside : List ℕ → Option EncodedWord
+word_inside inside =
+    let rest = after_first is_question_mark inside in
+    if has_question_mark rest
     then Some (record {
       charset = before_first is_question_mark inside;
-      coding = before_first is_question_mark behind;
-      rest = after_first is_question_mark behind;
+      encoding = before_first is_question_mark rest;
+      encoded_text = after_first is_question_mark rest;
     })
     else None
 
 -- a space for each `_`
 abbrev pub spaced : List ℕ → List ℕ
-spaced rest = map (λ b. if b == 95 then 32 else b) rest
+spaced encoded = map (λ b. if b == 95 then 32 else b) encoded
 
--- the bytes of a rest under Q: a space stands for each `_`; white at the end is set aside, what stands before it is read as
--- quoted-printable, and the white is put back
+-- the bytes of an encoded text under Q: a space stands for each `_`; white at the end is set aside, what stands before it is read
+-- as quoted-printable, and the white is put back
 abbrev pub bytes_of_q : List ℕ → List ℕ
-bytes_of_q rest =
-    let kept = trim_end (spaced rest) in
-    quoted_printable kept ++ drop (length kept) (spaced rest)
+bytes_of_q encoded =
+    let kept = trim_end (spaced encoded) in
+    quoted_printable kept ++ drop (length kept) (spaced encoded)
 
--- the bytes of a rest under a coding, which is exactly one of `B`, `b`, `Q` and `q`; under B they are there if the rest is Base64
-abbrev pub bytes_of_rest : List ℕ → List ℕ → Option (List ℕ)
-bytes_of_rest coding rest =
-    if bytes_eq coding (codes "B") || bytes_eq coding (codes "b") then result_ok (base64 rest)
-    else if bytes_eq coding (codes "Q") || bytes_eq coding (codes "q") then Some (bytes_of_q rest)
+-- the bytes of an encoded text under an encoding, which is exactly one of `B`, `b`, `Q` and `q`; under B they are there if it is Base64
+abbrev pub encoded_bytes : List ℕ → List ℕ → Option (List ℕ)
+encoded_bytes encoding encoded =
+    if bytes_eq encoding (codes "B") || bytes_eq encoding (codes "b") then result_ok (base64 encoded)
+    else if bytes_eq encoding (codes "Q") || bytes_eq encoding (codes "q") then Some (bytes_of_q encoded)
     else None
 
--- the text of parts, if their charset is known and their rest has bytes; no byte order mark is looked for
-abbrev pub text_of_parts : Parts → Option (List ℕ)
-text_of_parts parts =
-    option_and_then (λ charset. option_map (text_of charset) (bytes_of_rest parts.coding parts.rest)) (charset_of_label parts.charset)
-
--- the text of an inside, if it decodes
-unfoldable pub word_text : List ℕ → Option (List ℕ)
-word_text inside = option_and_then text_of_parts (parts_of inside)
-
--- bytes that hold a question mark, and what stands before and behind their first
+-- bytes that hold a question mark, and what stands before and after their first
 pub record IsCutAtMark (bytes front rest : List ℕ) : Type 0 where
   pub marked : has_question_mark bytes ≡ true
   pub before : front ≡ before_first is_question_mark bytes
-  pub behind : rest ≡ after_first is_question_mark bytes
+  pub after : rest ≡ after_first is_question_mark bytes
+
+-- Under the charsets that are known.
+module _ (known : Charsets) where
+  -- the text of a word, if its charset is known and its encoded text has bytes; no byte order mark is looked for
+  abbrev pub text_of_word : EncodedWord → Option (List ℕ)
+  text_of_word word = option_and_then (λ text. option_map text (encoded_bytes word.encoding word.encoded_text)) (known word.charset)
+
+  -- the text of an inside, if it decodes
+  unfoldable pub word_text : List ℕ → Option (List ℕ)
+  word_text inside = option_and_then text_of_word (word_inside inside)

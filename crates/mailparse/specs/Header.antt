@@ -28,6 +28,10 @@ ends_key b = b == colon || b == line_feed
 abbrev pub is_blank : ℕ → Bool
 is_blank b = b == space || b == tab
 
+-- a LF
+abbrev pub is_line_feed : ℕ → Bool
+is_line_feed b = b == line_feed
+
 -- a byte of a line end
 abbrev pub is_line_end : ℕ → Bool
 is_line_end b = b == carriage_return || b == line_feed

@@ -1,9 +1,7 @@
 -- The keys of headers as text, and looking a header up by its name (RFC 5322, section 2.2, where names ignore case).
 use Rattle.std.specs.Prelude.{ℕ, Bool, List, Option, String, filter, find, map, option_map, string_bytes}
 use Rattle.std.specs.Global.{Global}
-use Rattle.std.specs.Char.{eq_ignore_ascii_case}
-use Rattle.std.specs.Str.{chars}
-use lib.Pointwise.{pointwise}
+use Rattle.std.specs.Str.{str_eq_ignore_ascii_case}
 use Rattle.mail_codec.specs.Latin1.{latin1_text}
 use Rattle.mailparse.specs.Header.{Header}
 use Rattle.mailparse.specs.Value.{lenient_value}
@@ -12,12 +10,11 @@ use Rattle.mailparse.specs.Value.{lenient_value}
 abbrev pub key_text : Header → List ℕ
 key_text h = latin1_text h.key
 
--- the key is this name: each of its bytes is the character of the name at the same place, ignoring ASCII case, and neither
--- has more
+-- a header has that name: the text of its key and the name are equal, ignoring ASCII case
 abbrev pub has_key : List ℕ → Header → Bool
-has_key name h = pointwise eq_ignore_ascii_case h.key (chars name)
+has_key name h = str_eq_ignore_ascii_case (key_text h) name
 
--- the headers whose key is this name, in the order of the message
+-- the headers that have that name, in the order of the message
 abbrev pub all_with_key : List ℕ → List Header → List Header
 all_with_key name headers = filter (has_key name) headers
 

@@ -1,5 +1,6 @@
 -- What a call answered, set beside what a definition gives; the crate's own words.
-use Rattle.std.specs.Prelude.{◌≡◌, Option, Some, None, Result, Ok, Err}
+use Rattle.std.specs.Prelude.{◌≡◌, ℕ, List, Option, Some, None, Result, Ok, Err, String, string_bytes}
+use Rattle.std.specs.Global.{Global, Vec}
 use Rattle.std.specs.Cow.{cow_str_bytes}
 use Rattle.mailparse.specs.Refusal.{Refusal, generic, encoding, base64_fault}
 use Rattle.mailparse.specs.declared.error.MailParseError.{MailParseError}
@@ -36,11 +37,23 @@ Answers view (Ok x) given = given ≡ Ok (view x)
 Answers view (Err e) given = IsRefusal e given
 
 -- the same, unless memory ran out
-abbrev pub AnswersInMemory : {X Y : Type 0} → (X → Y) → Result X MailParseError → Result Y Refusal → Type 0
-AnswersInMemory view (Ok x) given = given ≡ Ok (view x)
-AnswersInMemory view (Err e) given = IsRefusalOrMemory e given
+abbrev pub AnswersOrMemory : {X Y : Type 0} → (X → Y) → Result X MailParseError → Result Y Refusal → Type 0
+AnswersOrMemory view (Ok x) given = given ≡ Ok (view x)
+AnswersOrMemory view (Err e) given = IsRefusalOrMemory e given
 
 -- memory ran out
 abbrev pub IsMemory : MailParseError → Type 0
 IsMemory (Memory e) = Unit {0}
 IsMemory _ = ⊥
+
+-- the call gave that text, or memory ran out
+abbrev pub GivesText : Result (String Global) MailParseError → List ℕ → Type 0
+GivesText result text = AnswersOrMemory (λ t. string_bytes t) result (Ok text)
+
+-- the call read the text that a definition gives, or answered its refusal, unless memory ran out
+abbrev pub ReadsText : Result (String Global) MailParseError → Result (List ℕ) Refusal → Type 0
+ReadsText result given = AnswersOrMemory (λ t. string_bytes t) result given
+
+-- the same of bytes
+abbrev pub ReadsBytes : Result (Vec ℕ) MailParseError → Result (List ℕ) Refusal → Type 0
+ReadsBytes result given = AnswersOrMemory (λ v. v.items) result given

@@ -1,63 +1,49 @@
--- The text that a header's value shows: RFC 5322 section 2.2.3 (unfolding) and RFC 2047 sections 2, 4 and 6.2, as this crate
+-- The text that a header's value shows: RFC 5322, section 2.2.3 (unfolding), and RFC 2047, sections 2, 4 and 6.2, as this crate
 -- reads them.
-use Rattle.std.specs.Prelude.{◌≡◌, ℕ, ◌-◌, Bool, true, false, ◌||◌, not, List, [], ◌∷◌, ◌++◌, map, slice_range, drop, Option, Some, None, Result, Ok, Err, unwrap_or, codes, All, ◌≤◌, if◌then◌else◌}
-use Rattle.mail_codec.specs.Latin1.{latin1_text}
-use Rattle.mail_codec.specs.Places.{stands}
+use Rattle.std.specs.Prelude.{◌≡◌, ℕ, ◌-◌, Bool, true, false, ◌||◌, ◌&&◌, not, List, [], ◌∷◌, ◌++◌, map, slice_range, drop, Option, Some, None, Result, Ok, Err, unwrap_or, codes, All, ◌≤◌, if◌then◌else◌}
 use Rattle.std.specs.Str.{is_utf8, trim_start}
 use Rattle.std.specs.Str.Lines.{lines}
+use Rattle.mail_codec.specs.Charset.{Charsets, four_charsets}
+use Rattle.mail_codec.specs.Latin1.{latin1_text}
+use Rattle.mail_codec.specs.Places.{stands}
 use Rattle.mailparse.specs.EncodedWord.{word_text}
 use Rattle.mailparse.specs.Refusal.{Refusal, value_not_utf8}
-use Rattle.mailparse.specs.Tokens.{Piece, inside, is_white, line_pieces}
-use Rattle.mailparse.specs.declared.header.TokenKind.{TokenKind}
-use Rattle.mailparse.specs.declared.header.TokenKind.TheVariants.{Text, Whitespace, Newline, DecodedWord}
+use Rattle.mailparse.specs.Tokens.{TokenKind, plain_text, white_space, line_end, decoded_word, TokenRange, inside, is_white, token_ranges}
 
 -- a token of a value: what it is, and the text that it shows where it shows
 pub record Token : Type 0 where
   pub kind : TokenKind
   pub shown : List ℕ
 
--- what a piece of a line shows: a decoded word its text, any other piece the bytes where it stands
-abbrev pub piece_text : TokenKind → List ℕ → ℕ → ℕ → List ℕ
-piece_text DecodedWord line from to = unwrap_or (word_text (inside line from (to - 2))) []
-piece_text _ line from to = slice_range line from to
-
-abbrev pub token_of : List ℕ → Piece → Token
-token_of line piece = record { kind = piece.kind; shown = piece_text piece.kind line piece.from piece.to }
-
 -- the token of what stands outside of all words
-abbrev pub plain_token : List ℕ → Token
-plain_token bytes = record { kind = if is_white bytes then Whitespace else Text; shown = bytes }
-
--- the tokens of one line
-abbrev pub line_tokens : List ℕ → List Token
-line_tokens line = map (token_of line) (line_pieces line)
+abbrev pub outside_token : List ℕ → Token
+outside_token bytes = record { kind = if is_white bytes then white_space else plain_text; shown = bytes }
 
 -- the token of a line's end: where it shows, it shows one space
 abbrev pub newline : Token
-newline = record { kind = Newline; shown = 32 ∷ [] }
+newline = record { kind = line_end; shown = 32 ∷ [] }
 
--- the tokens of lines, with a line's end between two of them
-abbrev pub tokens_of_lines : List (List ℕ) → List Token
-tokens_of_lines [] = []
-tokens_of_lines (line ∷ []) = line_tokens line
-tokens_of_lines (line ∷ next ∷ more) = line_tokens line ++ (newline ∷ tokens_of_lines (next ∷ more))
+-- whether the token is a decoded word, or white
+abbrev pub is_word : Option TokenKind → Bool
+is_word (Some decoded_word) = true
+is_word _ = false
 
--- the tokens of a value's text: each of its lines first loses the white before its text
-unfoldable pub value_tokens : List ℕ → List Token
-value_tokens text = tokens_of_lines (map trim_start (lines text))
+abbrev pub is_white_space : Option TokenKind → Bool
+is_white_space (Some white_space) = true
+is_white_space _ = false
 
--- whether a token is held: white with a decoded word directly before it, and a line's end with a decoded word directly before
--- it or with such white. The first two arguments are the kinds of the two tokens before it, the nearer one last
+-- whether a token is held, by the kinds of the two tokens before it, the nearer one last: white with a decoded word directly
+-- before it, and a line's end with a decoded word, or with such white, directly before it
 abbrev pub is_held : Option TokenKind → Option TokenKind → TokenKind → Bool
-is_held _ (Some DecodedWord) Whitespace = true
-is_held _ (Some DecodedWord) Newline = true
-is_held (Some DecodedWord) (Some Whitespace) Newline = true
-is_held _ _ _ = false
+is_held earlier before white_space = is_word before
+is_held earlier before line_end = is_word before || (is_white_space before && is_word earlier)
+is_held earlier before plain_text = false
+is_held earlier before decoded_word = false
 
--- whether a held token shows, by the tokens after it: text follows, or, behind white, a line's end and then text
+-- whether a held token shows, by the tokens after it: text follows, or, after white, a line's end and then text
 abbrev pub is_released : TokenKind → List TokenKind → Bool
-is_released _ (Text ∷ _) = true
-is_released Whitespace (Newline ∷ Text ∷ _) = true
+is_released _ (plain_text ∷ _) = true
+is_released white_space (line_end ∷ plain_text ∷ _) = true
 is_released _ _ = false
 
 -- whether a token shows
@@ -67,32 +53,60 @@ shows earlier before kind after = not (is_held earlier before kind) || is_releas
 abbrev pub kinds : List Token → List TokenKind
 kinds tokens = map (λ t. t.kind) tokens
 
--- what the tokens show, in order, behind two tokens of these kinds
-abbrev pub shown_behind : Option TokenKind → Option TokenKind → List Token → List ℕ
-shown_behind earlier before [] = []
-shown_behind earlier before (token ∷ after) =
+-- what the tokens show, in order, after two tokens of these kinds
+abbrev pub shown_after : Option TokenKind → Option TokenKind → List Token → List ℕ
+shown_after earlier before [] = []
+shown_after earlier before (token ∷ after) =
     (if shows earlier before token.kind (kinds after) then token.shown else [])
-    ++ shown_behind before (Some token.kind) after
+    ++ shown_after before (Some token.kind) after
 
 -- what the tokens of a value show
 abbrev pub shown_tokens : List Token → List ℕ
-shown_tokens tokens = shown_behind None None tokens
+shown_tokens tokens = shown_after None None tokens
 
--- the text that a value shows, whose own text is this
-unfoldable pub shown_value : List ℕ → List ℕ
-shown_value text = shown_tokens (value_tokens text)
-
--- the text of a value's bytes: UTF-8 where they are that, and else Latin-1
+-- the text of a value's bytes: UTF-8 where they are that, otherwise Latin-1
 abbrev pub value_text : List ℕ → List ℕ
 value_text bytes = if is_utf8 bytes then bytes else latin1_text bytes
 
+-- Under the charsets that are known.
+module _ (known : Charsets) where
+  -- what a token of a line shows: a decoded word its text, any other token the bytes where it stands
+  abbrev pub token_text : TokenKind → List ℕ → ℕ → ℕ → List ℕ
+  token_text decoded_word line from to = unwrap_or (word_text known (inside line from (to - 2))) []
+  token_text _ line from to = slice_range line from to
+
+  abbrev pub token_of : List ℕ → TokenRange → Token
+  token_of line range = record { kind = range.kind; shown = token_text range.kind line range.from range.to }
+
+  -- the tokens of one line
+  abbrev pub line_tokens : List ℕ → List Token
+  line_tokens line = map (token_of line) (token_ranges known line)
+
+  -- the tokens of lines, with a line's end between two of them
+  abbrev pub tokens_of_lines : List (List ℕ) → List Token
+  tokens_of_lines [] = []
+  tokens_of_lines (line ∷ []) = line_tokens line
+  tokens_of_lines (line ∷ next ∷ more) = line_tokens line ++ (newline ∷ tokens_of_lines (next ∷ more))
+
+  -- the tokens of a value's text: each of its lines first loses the white before its text
+  unfoldable pub value_tokens : List ℕ → List Token
+  value_tokens text = tokens_of_lines (map trim_start (lines text))
+
+  -- the text that a value shows, whose own text is this
+  unfoldable pub shown_value : List ℕ → List ℕ
+  shown_value text = shown_tokens (value_tokens text)
+
+  -- what a value shows, whatever its bytes are
+  abbrev pub lenient_value_with : List ℕ → List ℕ
+  lenient_value_with bytes = shown_value (value_text bytes)
+
 -- what a value shows, whatever its bytes are
 unfoldable pub lenient_value : List ℕ → List ℕ
-lenient_value bytes = shown_value (value_text bytes)
+lenient_value bytes = lenient_value_with four_charsets bytes
 
 -- what a value shows whose bytes are UTF-8, or the refusal of other bytes
 unfoldable pub strict_value : List ℕ → Result (List ℕ) Refusal
-strict_value bytes = if is_utf8 bytes then Ok (shown_value bytes) else Err value_not_utf8
+strict_value bytes = if is_utf8 bytes then Ok (shown_value four_charsets bytes) else Err value_not_utf8
 
 -- a value that is plain: printable ASCII that does not begin with a space and holds no `=?`
 pub record IsPlain (value : List ℕ) : Type 0 where

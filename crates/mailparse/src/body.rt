@@ -2,7 +2,7 @@
 ghost use Rattle.std.specs.Prelude.{Ok, string_bytes};
 ghost use Rattle.mailparse.specs.Body.{kind_named, text_under};
 ghost use Rattle.mailparse.specs.BodyViews.{IsBody, name_of};
-ghost use Rattle.mailparse.specs.Outcome.{AnswersInMemory};
+ghost use Rattle.mailparse.specs.Outcome.{AnswersOrMemory};
 
 mod binary;
 mod encoded;
@@ -72,7 +72,7 @@ fn body_text(
     bytes: &[u8],
     ctype: &ParsedContentType,
 ) -> Result<String, MailParseError>
-    ensures { AnswersInMemory (λ text. string_bytes text) result (Ok (text_under (string_bytes ctype.now.charset) bytes.now)) }
+    ensures { AnswersOrMemory (λ text. string_bytes text) result (Ok (text_under (string_bytes ctype.now.charset) bytes.now)) }
 {
     match Charset::for_label(ctype.charset.as_bytes()) {
         Some(charset) => Ok(charset.decode(alloc, bytes)?),

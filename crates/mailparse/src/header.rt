@@ -1,164 +1,116 @@
-//! The text that a header's value shows: its lines are unfolded (RFC 5322, section 2.2.3) and its
-//! encoded words decoded (RFC 2047, sections 2 and 4).
-ghost use Rattle.std.specs.Prelude.{◌≡◌, map, IfOk};
-ghost use Rattle.std.specs.List.{flat_map};
-ghost use Rattle.std.specs.String.{string_bytes};
-ghost use Rattle.mailparse.specs.HeaderToken.{token_view, shown_by, kinds_of};
-ghost use Rattle.mailparse.specs.Value.{is_held, is_released, shows, shown_tokens, shown_value, value_tokens};
+//! One header of a message: its key and its value, as bytes and as text.
+ghost use Rattle.std.specs.Prelude.{◌≡◌, ◌↔◌, Ok, IfOk, IsOk, IsErr, IsAscii, string_bytes};
+ghost use Rattle.std.specs.Cow.{cow_str_bytes, IsBorrowedStr};
+ghost use Rattle.mailparse.specs.Header.{Header};
+ghost use Rattle.mailparse.specs.Keys.{key_text};
+ghost use Rattle.mailparse.specs.Outcome.{Answers, AnswersOrMemory, GivesText, ReadsText};
+ghost use Rattle.mailparse.specs.Value.{lenient_value, strict_value};
 
 mod line;
+pub(crate) mod parse;
+mod value;
 mod word;
 
-use line::tokenize_header_line;
-use std::alloc::{AllocError, Global};
+use crate::error::MailParseError;
+use crate::lossy_text::LossyText;
+use mail_codec::charset::decode_latin1;
+use std::alloc::Global;
+use std::borrow::CowStr;
+use std::marker::Model;
+use std::{fmt, str};
+use value::unfolded_value;
 
-/// What a token of a value is.
-#[derive(Clone, Copy)]
-pub(crate) enum TokenKind {
-    /// Text that is not encoded, white or not.
-    Text,
-    /// White throughout, or empty.
-    Whitespace,
-    /// The end of a line.
-    Newline,
-    /// An encoded word that decodes.
-    DecodedWord,
-}
-
-/// A token of a value.
+/// A header of a message: the bytes of its key and of its value, as they stand in the message.
 #[derive(Drop)]
-pub(crate) enum HeaderToken<'a> {
-    /// Text that is not encoded, white or not.
-    Text(&'a str),
-    /// White throughout, or empty.
-    Whitespace(&'a str),
-    /// The end of a line, which shows one space.
-    Newline,
-    /// The text of an encoded word.
-    DecodedWord(String),
+pub struct MailHeader<'a> {
+    key: &'a [u8],
+    value: &'a [u8],
 }
 
-impl HeaderToken<'_> {
-    /// What the token is.
-    fn kind(&self) -> TokenKind
-        ensures { result ≡ (token_view self.now).kind }
+/// A contract sees the bytes of its key and of its value.
+impl<'a> Model for MailHeader<'a> {
+    ghost Value = { Header };
+
+    ghost view = { λ h. record { key = h.key.now; value = h.value.now } };
+}
+
+impl<'a> MailHeader<'a> {
+    /// The text of the key: one character for each byte, the one of its number (ISO/IEC 8859-1).
+    /// The error is want of memory.
+    pub fn get_key(&self, alloc: Global) -> Result<String, MailParseError>
+        ensures { GivesText result (key_text self.now) }
     {
-        match self {
-            HeaderToken::Text(_) => TokenKind::Text,
-            HeaderToken::Whitespace(_) => TokenKind::Whitespace,
-            HeaderToken::Newline => TokenKind::Newline,
-            HeaderToken::DecodedWord(_) => TokenKind::DecodedWord,
-        }
+        let text = decode_latin1(alloc, self.get_key_raw())?;
+        Ok(text.into_owned(alloc)?)
     }
 
-    /// The text that the token shows.
-    fn text(&self) -> &str
-        ensures { result.now ≡ shown_by self.now }
+    /// The text of the key, borrowed exactly where all its bytes are ASCII: then it takes no memory
+    /// and succeeds. Else the error is want of memory.
+    pub fn get_key_ref(&self, alloc: Global) -> Result<CowStr<'_>, MailParseError>
+        ensures text { AnswersOrMemory (λ text. cow_str_bytes text) result (Ok (key_text self.now)) }
+        ensures borrowed { IfOk result (λ text. IsBorrowedStr text ↔ IsAscii self.now.key) }
+        ensures no_memory { IsAscii self.now.key → IsOk result }
     {
-        match self {
-            HeaderToken::Text(text) => text,
-            HeaderToken::Whitespace(white) => white,
-            HeaderToken::Newline => " ",
-            HeaderToken::DecodedWord(decoded) => decoded.as_str(),
+        Ok(decode_latin1(alloc, self.get_key_raw())?)
+    }
+
+    /// The text of the value: its lines are joined, a space for each line end that shows, and its
+    /// encoded words decoded (RFC 5322, section 2.2.3; RFC 2047, sections 2, 4 and 6.2). Bytes that
+    /// are no UTF-8 are read as Latin-1, one character for each byte. The error is want of memory.
+    ///
+    /// The value `=?utf-8?Q?caf=C3=A9?=` reads as `café`.
+    #[tactic(auto, unfolding(crate::specs::Value::lenient_value))]
+    pub fn get_value(&self, alloc: Global) -> Result<String, MailParseError>
+        ensures { GivesText result (lenient_value self.now.value) }
+    {
+        match str::from_utf8(self.get_value_raw()) {
+            Ok(text) => Ok(unfolded_value(alloc, text)?),
+            Err(_) => {
+                let text = decode_latin1(alloc, self.get_value_raw())?;
+                Ok(unfolded_value(alloc, text.as_str())?)
+            }
         }
     }
-}
 
-/// Whether a token is held, behind tokens of these two kinds: white behind an encoded word, and a
-/// line's end behind such a word or such white.
-fn is_held(earlier: Option<TokenKind>, before: Option<TokenKind>, kind: TokenKind) -> bool
-    ensures { result ≡ is_held earlier before kind }
-{
-    match (before, kind) {
-        (Some(TokenKind::DecodedWord), TokenKind::Whitespace | TokenKind::Newline) => true,
-        (Some(TokenKind::Whitespace), TokenKind::Newline) => {
-            matches!(earlier, Some(TokenKind::DecodedWord))
+    /// The text of the value as `get_value` reads it, where its bytes are UTF-8; other bytes are
+    /// refused before any memory is taken. Else the error is want of memory.
+    #[tactic(auto, unfolding(crate::specs::Value::strict_value))]
+    pub fn get_value_utf8(&self, alloc: Global) -> Result<String, MailParseError>
+        ensures read { ReadsText result (strict_value self.now.value) }
+        ensures no_memory { IsErr (strict_value self.now.value) →
+            Answers (λ text. string_bytes text) result (strict_value self.now.value) }
+    {
+        match str::from_utf8(self.get_value_raw()) {
+            Ok(text) => Ok(unfolded_value(alloc, text)?),
+            Err(_) => Err(MailParseError::EncodingError(CowStr::Borrowed(
+                "Invalid UTF-8 in header value",
+            ))),
         }
-        _ => false,
+    }
+
+    /// The bytes of the key, as they stand in the message, spaces before the colon among them.
+    /// Takes no memory.
+    pub fn get_key_raw(&self) -> &[u8]
+        ensures { result.now ≡ self.now.key }
+    {
+        self.key
+    }
+
+    /// The bytes of the value, as they stand in the message: without the spaces at its front and
+    /// the line end behind it, with the line ends inside it. Takes no memory.
+    pub fn get_value_raw(&self) -> &[u8]
+        ensures { result.now ≡ self.now.value }
+    {
+        self.value
     }
 }
 
-/// Whether a held token shows all the same: before text, and white also before a line's end and text.
-fn is_released(kind: TokenKind, after: &[HeaderToken<'_>]) -> bool
-    ensures { result ≡ is_released kind (kinds_of after.now) }
-{
-    match after {
-        [HeaderToken::Text(_), ..] => true,
-        [HeaderToken::Newline, HeaderToken::Text(_), ..] => matches!(kind, TokenKind::Whitespace),
-        _ => false,
+/// Shows the key and the value, bytes that are no UTF-8 as U+FFFD.
+impl fmt::Debug for MailHeader<'_> {
+    fn fmt<W: fmt::Write>(&self, f: &mut fmt::Formatter<W>) -> fmt::Result {
+        f.debug_struct("MailHeader")
+            .field("key", &LossyText(self.key))
+            .field("value", &LossyText(self.value))
+            .finish()
     }
 }
-
-/// Whether a token shows, with tokens of these kinds before it and these tokens after it. White
-/// between two encoded words does not (RFC 2047, section 6.2).
-fn is_shown(
-    earlier: Option<TokenKind>,
-    before: Option<TokenKind>,
-    kind: TokenKind,
-    after: &[HeaderToken<'_>],
-) -> bool
-    ensures { result ≡ shows earlier before kind (kinds_of after.now) }
-{
-    !is_held(earlier, before, kind) || is_released(kind, after)
-}
-
-/// All tokens of a value with this text, in order.
-fn tokenize_header<'a>(alloc: Global, text: &'a str) -> Result<Vec<HeaderToken<'a>>, AllocError>
-    ensures { IfOk result (λ tokens. map token_view tokens.items ≡ value_tokens text.now) }
-{
-    let mut tokens = Vec::new(alloc);
-    let mut is_first = true;
-    for line in text.lines() {
-        if is_first {
-            is_first = false;
-        } else {
-            tokens.push(HeaderToken::Newline)?;
-        }
-        tokenize_header_line(alloc, line.trim_start(), &mut tokens)?;
-    }
-    Ok(tokens)
-}
-
-/// Puts an empty token in the place of each token that does not show.
-fn hide_held(tokens: &mut Vec<HeaderToken<'_>>)
-    ensures { flat_map shown_by tokens.new.items ≡ shown_tokens (map token_view tokens.old.items) }
-{
-    let mut earlier = None;
-    let mut before = None;
-    for i in 0..tokens.len() {
-        let kind = tokens[i].kind();
-        if !is_shown(earlier, before, kind, &tokens[i + 1..]) {
-            tokens[i] = HeaderToken::Whitespace("");
-        }
-        earlier = before;
-        before = Some(kind);
-    }
-}
-
-/// The tokens of a value with this text, in order. A token that does not show is an empty
-/// `Whitespace`.
-pub(crate) fn normalized_tokens<'a>(
-    alloc: Global,
-    text: &'a str,
-) -> Result<Vec<HeaderToken<'a>>, AllocError>
-    ensures { IfOk result (λ tokens. flat_map shown_by tokens.items ≡ shown_value text.now) }
-{
-    let mut tokens = tokenize_header(alloc, text)?;
-    hide_held(&mut tokens);
-    Ok(tokens)
-}
-
-/// The text that a value shows, whose own text is this.
-pub(crate) fn unfolded_value(alloc: Global, text: &str) -> Result<String, AllocError>
-    ensures { IfOk result (λ value. string_bytes value ≡ shown_value text.now) }
-{
-    let tokens = normalized_tokens(alloc, text)?;
-    let mut value = String::with_capacity(alloc, text.len())?;
-    for token in &tokens {
-        value.push_str(token.text())?;
-    }
-    Ok(value)
-}
-
-#[cfg(test)]
-mod tests;

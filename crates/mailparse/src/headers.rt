@@ -2,37 +2,47 @@
 ghost use Rattle.std.specs.Prelude.{◌≡◌};
 ghost use Rattle.std.specs.Iterator.Runs.{EveryRun, ItemsMapTo};
 ghost use Rattle.std.specs.Slice.Iter.{iter_rest, iter_steps};
-ghost use Rattle.mailparse.specs.Views.{headers as views, header_block, listed};
+ghost use Rattle.mailparse.specs.Mail.{HeaderBlock};
 
-use crate::mail_header::MailHeader;
+pub(crate) mod block;
+pub(crate) mod map;
+
+use crate::header::MailHeader;
+use std::marker::Model;
 use std::{fmt, slice};
 
 /// The header block of a message: its bytes, and the list of its headers.
-#[derive(Clone, Copy)]
+#[derive(Drop)]
 pub struct Headers<'a> {
     raw_bytes: &'a [u8],
     headers: &'a [MailHeader<'a>],
 }
 
+/// A contract sees the bytes of the block and the headers.
+impl<'a> Model for Headers<'a> {
+    ghost Value = { HeaderBlock };
+
+    ghost view = { λ block. record { bytes = block.raw_bytes.now; headers = block.headers.now } };
+}
+
 impl<'a> Headers<'a> {
     /// The headers of a message and the bytes of their block.
     pub(crate) fn new(raw_bytes: &'a [u8], headers: &'a [MailHeader<'a>]) -> Headers<'a>
-        ensures bytes { (header_block result).bytes ≡ raw_bytes.entry.now }
-        ensures list { (header_block result).headers ≡ views headers.entry.now }
+        ensures { result ≡ record { bytes = raw_bytes.entry.now; headers = headers.entry.now } }
     {
         Headers { raw_bytes, headers }
     }
 
     /// The bytes of the header block, the blank line that ends it among them. Takes no memory.
     pub fn get_raw_bytes(&self) -> &'a [u8]
-        ensures { result.now ≡ (header_block self.now).bytes }
+        ensures { result.now ≡ self.now.bytes }
     {
         self.raw_bytes
     }
 
     /// The headers.
     pub(crate) fn list(&self) -> &[MailHeader<'a>]
-        ensures { result.now ≡ listed self.now }
+        ensures { result.now ≡ self.now.headers }
     {
         self.headers
     }
@@ -44,9 +54,10 @@ impl<'a> IntoIterator for Headers<'a> {
 
     type IntoIter = slice::Iter<'a, MailHeader<'a>>;
 
-    ghost use Rattle.mailparse.specs.declared.mail_header.MailHeader.{MailHeader};
+    ghost use Rattle.mailparse.specs.Header.{Header};
 
-    ghost into_iter_gives = { λ block items. (views (iter_rest items) ≡ (header_block block).headers) × EveryRun (iter_steps {A = MailHeader}) (λ p. ItemsMapTo p (λ y. y.now) (iter_rest p.from)) };
+    ghost into_iter_gives = { λ block items. (iter_rest items ≡ block.headers)
+        × EveryRun (iter_steps {A = Header}) (λ p. ItemsMapTo p (λ y. y.now) (iter_rest p.from)) };
 
     fn into_iter(self) -> slice::Iter<'a, MailHeader<'a>> {
         self.headers.iter()

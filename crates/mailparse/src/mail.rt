@@ -2,13 +2,13 @@
 ghost use Rattle.std.specs.Prelude.{◌≡◌, IsErr};
 ghost use Rattle.mailparse.specs.Block.{header_count};
 ghost use Rattle.mailparse.specs.Mail.{block_of, read_mail};
-ghost use Rattle.mailparse.specs.Outcome.{Answers, AnswersInMemory};
-ghost use Rattle.mailparse.specs.Views.{header_block, mail};
+ghost use Rattle.mailparse.specs.Outcome.{Answers, AnswersOrMemory};
+ghost use Rattle.mailparse.specs.Views.{mail};
 
 use crate::error::MailParseError;
-use crate::header_block::parse_headers;
+use crate::header::MailHeader;
 use crate::headers::Headers;
-use crate::mail_header::MailHeader;
+use crate::headers::block::parse_headers;
 use std::alloc::Global;
 
 /// A message that was read. The fields that are public may be changed; what the methods answer
@@ -28,7 +28,7 @@ pub struct ParsedMail<'a> {
 impl<'a> ParsedMail<'a> {
     /// The header block: its bytes, and the headers that `headers` holds now. Takes no memory.
     pub fn get_headers(&self) -> Headers<'_>
-        ensures { header_block result ≡ block_of (mail self.now) }
+        ensures { result ≡ block_of (mail self.now) }
     {
         Headers::new(self.header_bytes, self.headers.as_slice())
     }
@@ -42,8 +42,8 @@ impl<'a> ParsedMail<'a> {
 ///
 /// `parse_mail(alloc, b"Subject: Hi\n\nbody")` has one header and the body `body`.
 pub fn parse_mail(alloc: Global, raw: &[u8]) -> Result<ParsedMail<'_>, MailParseError>
-    ensures read { AnswersInMemory mail result (read_mail raw.now) }
-    ensures none { header_count raw.now ≡ 0 → IsErr (read_mail raw.now) → Answers mail result (read_mail raw.now) }
+    ensures read { AnswersOrMemory mail result (read_mail raw.now) }
+    ensures no_memory { header_count raw.now ≡ 0 → IsErr (read_mail raw.now) → Answers mail result (read_mail raw.now) }
 {
     let (headers, index) = parse_headers(alloc, raw)?;
     let (header_bytes, body_bytes) = raw.split_at(index);

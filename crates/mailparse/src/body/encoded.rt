@@ -2,7 +2,7 @@
 ghost use Rattle.std.specs.Prelude.{◌≡◌, string_bytes};
 ghost use Rattle.mailparse.specs.Body.{in_base64, decoded, decoded_text};
 ghost use Rattle.mailparse.specs.BodyViews.{encoded_kind, encoded_content};
-ghost use Rattle.mailparse.specs.Outcome.{AnswersInMemory};
+ghost use Rattle.mailparse.specs.Outcome.{AnswersOrMemory};
 
 use super::body_text;
 use crate::content_type::ParsedContentType;
@@ -45,7 +45,7 @@ impl<'a> EncodedBody<'a> {
     /// never is. Takes memory for the answer and, in Base64, a few kilobytes more.
     #[tactic(auto, unfolding(crate::specs::Body::decoded))]
     pub fn get_decoded(&self, alloc: Global) -> Result<Vec<u8>, MailParseError>
-        ensures { AnswersInMemory (λ bytes. bytes.items) result (decoded (encoded_kind self.now) (encoded_content self.now).raw) }
+        ensures { AnswersOrMemory (λ bytes. bytes.items) result (decoded (encoded_kind self.now) (encoded_content self.now).raw) }
     {
         match self.encoding {
             Encoding::Base64 => base64_body(alloc, self.body),
@@ -58,7 +58,7 @@ impl<'a> EncodedBody<'a> {
     /// `get_decoded` is.
     #[tactic(auto, unfolding(crate::specs::Body::decoded_text))]
     pub fn get_decoded_as_string(&self, alloc: Global) -> Result<String, MailParseError>
-        ensures { AnswersInMemory (λ text. string_bytes text) result
+        ensures { AnswersOrMemory (λ text. string_bytes text) result
             (decoded_text (encoded_kind self.now) (string_bytes (encoded_content self.now).ctype.charset) (encoded_content self.now).raw) }
     {
         let bytes = self.get_decoded(alloc)?;
@@ -69,7 +69,7 @@ impl<'a> EncodedBody<'a> {
 /// The bytes of a body in Base64.
 #[tactic(auto, unfolding(crate::specs::Body::decoded))]
 fn base64_body(alloc: Global, body: &[u8]) -> Result<Vec<u8>, MailParseError>
-    ensures { AnswersInMemory (λ bytes. bytes.items) result (decoded in_base64 body.now) }
+    ensures { AnswersOrMemory (λ bytes. bytes.items) result (decoded in_base64 body.now) }
 {
     match decode_base64_body(alloc, body)? {
         Ok(bytes) => Ok(bytes),

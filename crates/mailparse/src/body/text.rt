@@ -2,7 +2,7 @@
 ghost use Rattle.std.specs.Prelude.{◌≡◌, Ok, string_bytes};
 ghost use Rattle.mailparse.specs.Body.{text_under};
 ghost use Rattle.mailparse.specs.BodyViews.{text_content};
-ghost use Rattle.mailparse.specs.Outcome.{AnswersInMemory};
+ghost use Rattle.mailparse.specs.Outcome.{AnswersOrMemory};
 
 use super::body_text;
 use crate::content_type::ParsedContentType;
@@ -34,7 +34,7 @@ impl<'a> TextBody<'a> {
     /// The text of the body under the charset of its content type: a byte order mark decides first,
     /// and under an unknown label each byte that is no ASCII is U+FFFD. The error is want of memory.
     pub fn get_as_string(&self, alloc: Global) -> Result<String, MailParseError>
-        ensures { AnswersInMemory (λ text. string_bytes text) result
+        ensures { AnswersOrMemory (λ text. string_bytes text) result
             (Ok (text_under (string_bytes (text_content self.now).ctype.charset) (text_content self.now).raw)) }
     {
         body_text(alloc, self.body, self.ctype)

@@ -1,14 +1,16 @@
 //! The tokens of one line of a header's value (RFC 2047, sections 2 and 4).
-ghost use Rattle.std.specs.Prelude.{◌≡◌, ◌≢◌, ◌≤◌, ◌++◌, [], ◌∷◌, length, map, reverse, MatchOption, OnOk};
+ghost use Rattle.std.specs.Prelude.{◌≡◌, ◌≢◌, ◌≤◌, [], ◌∷◌, length, reverse, MatchOption, OnOk};
 ghost use Rattle.std.specs.Str.{chars};
-ghost use Rattle.mailparse.specs.Cuts.{IsCut, IsOpening, KeepsClosing};
-ghost use Rattle.mailparse.specs.HeaderToken.{token_view};
+ghost use Rattle.mail_codec.specs.Charset.{four_charsets};
 ghost use Rattle.mail_codec.specs.Places.{stands, place_from};
 ghost use Rattle.mailparse.specs.Tokens.{begins_with_boundary, closing, is_boundary, opening};
-ghost use Rattle.mailparse.specs.Value.{line_tokens, plain_token};
+ghost use Rattle.mailparse.specs.Value.{line_tokens, outside_token};
+ghost use Rattle.mailparse.specs.private.Cuts.{IsCut, IsOpening, KeepsClosing};
+ghost use Rattle.mailparse.specs.private.Unfolding.{Shows, token_view};
 
-use crate::header::HeaderToken;
-use crate::header::word::decode_word;
+use super::value::{HeaderToken, ShownValue};
+use super::word::decode_word;
+use mail_codec::bytescan::find;
 use std::alloc::{AllocError, Global};
 
 /// Whether a character may stand directly beside an encoded word.
@@ -39,8 +41,8 @@ fn ends_with_boundary(text: &str) -> bool
 }
 
 /// The token of what stands outside of all encoded words.
-fn plain_token(text: &str) -> HeaderToken<'_>
-    ensures { token_view result ≡ plain_token text.now }
+fn outside_token(text: &str) -> HeaderToken<'_>
+    ensures { token_view result ≡ outside_token text.now }
 {
     if text.trim_start().is_empty() {
         HeaderToken::Whitespace(text)
@@ -54,14 +56,10 @@ fn find_pair(bytes: &[u8], from: usize, first: u8, second: u8) -> usize
     requires { from ≤ length bytes.now }
     ensures { result ≡ place_from (stands (first ∷ second ∷ [])) bytes.now from }
 {
-    let mut at = from;
-    while bytes.len() - at > 1 {
-        if bytes[at] == first && bytes[at + 1] == second {
-            return at;
-        }
-        at += 1;
+    match find(&bytes[from..], &[first, second]) {
+        Some(place) => from + place,
+        None => bytes.len(),
     }
-    bytes.len()
 }
 
 /// The least place at or after `from` where `=?` stands.
@@ -78,7 +76,7 @@ fn find_opening(line: &str, from: usize) -> Option<usize>
     }
 }
 
-/// The least place at or after `from` where `?=` stands with a boundary behind it, or the length.
+/// The least place at or after `from` where `?=` stands with a boundary after it, or the length.
 fn find_closing(line: &str, from: usize) -> usize
     requires { from ≤ length line.now }
     ensures { result ≡ closing line.now from }
@@ -94,7 +92,7 @@ fn find_closing(line: &str, from: usize) -> usize
     at
 }
 
-/// The least place at or after `from` where `?=` stands with a boundary behind it, or the length,
+/// The least place at or after `from` where `?=` stands with a boundary after it, or the length,
 /// where `kept` was found from some place before and is kept until the search is past it.
 fn find_closing_or_keep(line: &str, from: usize, kept: usize) -> usize
     requires fits { from ≤ length line.now }
@@ -109,39 +107,38 @@ fn find_closing_or_keep(line: &str, from: usize, kept: usize) -> usize
     }
 }
 
-/// Appends the tokens of one line.
+/// Takes the tokens of one line, in order.
 ///
 /// It takes time in the line's length alone: the end of a word that was found is kept until the
 /// search is past it, and so is that there is none.
-pub(crate) fn tokenize_header_line<'a>(
+pub(crate) fn push_line<'a>(
     alloc: Global,
     line: &'a str,
-    tokens: &mut Vec<HeaderToken<'a>>,
+    shown: &mut ShownValue<'a>,
 ) -> Result<(), AllocError>
-    ensures { OnOk result (map token_view tokens.new.items ≡ map token_view tokens.old.items ++ line_tokens line.now) }
+    ensures { OnOk result (Shows shown.old (line_tokens four_charsets line.now) shown.new) }
 {
     let mut start = 0;
     let mut close = 0;
     while let Some(open) = find_opening(line, start) {
         let inside = open + 2;
         if !ends_with_boundary(&line[..open]) {
-            tokens.push(HeaderToken::Text(&line[start..inside]))?;
+            shown.push(HeaderToken::Text(&line[start..inside]))?;
             start = inside;
             continue;
         }
-        tokens.push(plain_token(&line[start..open]))?;
+        shown.push(outside_token(&line[start..open]))?;
         close = find_closing_or_keep(line, inside, close);
         if close == line.len() {
-            tokens.push(HeaderToken::Text(&line[open..inside]))?;
+            shown.push(HeaderToken::Text(&line[open..inside]))?;
             start = inside;
             continue;
         }
         match decode_word(alloc, &line[inside..close])? {
-            Some(decoded) => tokens.push(HeaderToken::DecodedWord(decoded))?,
-            None => tokens.push(HeaderToken::Text(&line[open..close + 2]))?,
+            Some(decoded) => shown.push(HeaderToken::DecodedWord(decoded))?,
+            None => shown.push(HeaderToken::Text(&line[open..close + 2]))?,
         }
         start = close + 2;
     }
-    tokens.push(plain_token(&line[start..]))?;
-    Ok(())
+    shown.push(outside_token(&line[start..]))
 }

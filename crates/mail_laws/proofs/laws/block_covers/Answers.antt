@@ -1,4 +1,4 @@
-use Rattle.mail_laws.proofs.SpanLemmas.{spans-cover}
+use Rattle.mail_laws.proofs.lemmas.Spans.{spans-cover}
 use Rattle.mail_laws.proofs.laws.block_covers.Goals as goal
 
 pub returns : goal.returns

@@ -1,4 +1,4 @@
-use Rattle.mailparse.proofs.BlockLemmas.{read_header-bounds}
+use Rattle.mailparse.proofs.lemmas.Block.{read_header-bounds}
 use Rattle.mail_laws.proofs.laws.header_consumes.Goals as goal
 
 pub returns : goal.returns

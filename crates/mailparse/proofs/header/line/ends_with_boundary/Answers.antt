@@ -1,7 +1,7 @@
 use Rattle.std.proofs.Common.{◌≡◌, [], ◌++◌, sym, ◌∙◌}
 use Rattle.std.proofs.lemmas.List.{nil_from_length}
 use Rattle.std.specs.Char.{IsScalar, encode_utf8}
-use Rattle.mailparse.proofs.LineLemmas.{boundary_at_end, boundary_of_empty}
+use Rattle.mailparse.proofs.lemmas.Cuts.{boundary_at_end, boundary_of_empty}
 use Rattle.mailparse.proofs.header.line.ends_with_boundary.Goals as goal
 
 pub returns-in-Some : goal.returns-in-Some

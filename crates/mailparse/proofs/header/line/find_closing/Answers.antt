@@ -2,8 +2,8 @@ use Rattle.std.proofs.Common.{◌≡◌, ◌≢◌, ◌<◌, ◌≤◌, ◌+◌,
 use Rattle.std.specs.Str.{chars}
 use Rattle.mail_codec.specs.Places.{stands, place_from}
 use Rattle.mailparse.specs.Tokens.{begins_with_boundary}
-use Rattle.mailparse.proofs.LineLemmas.{closing_from_pair, closing_here, closing_next, boundary_behind}
-use Rattle.mailparse.proofs.TokenLemmas.{pair_stands}
+use Rattle.mailparse.proofs.lemmas.Cuts.{closing_from_pair, closing_here, closing_next, boundary_after}
+use Rattle.mailparse.proofs.lemmas.Tokens.{pair_stands}
 use Rattle.mailparse.proofs.header.line.find_closing.Goals as goal
 
 pub loop-at-init : goal.loop-at-init
@@ -16,7 +16,7 @@ pub range_from-requires : goal.range_from-requires
 range_from-requires c = λ _.
     let some : c.loop-at.at ≢ length c.args.line.now = omega arith in
     let stands = pair_stands 63 61 c.args.line.now c.loop-at.at c.loop-at.at c.loop-at.invariant.in_line c.loop-at.invariant.found some in
-    boundary_behind c.args.line.now c.loop-at.at 61 c.utf8.line stands.1 stands.3 (omega arith)
+    boundary_after c.args.line.now c.loop-at.at 61 c.utf8.line stands.1 stands.3 (omega arith)
 
 pub returns-then-begins_with_boundary : goal.returns-then-begins_with_boundary
 returns-then-begins_with_boundary c =

@@ -1,5 +1,5 @@
 use Rattle.std.proofs.Common.{sym, arith}
-use Rattle.mailparse.proofs.LineLemmas.{closing_cut}
+use Rattle.mailparse.proofs.lemmas.Cuts.{closing_cut}
 use Rattle.mailparse.proofs.header.line.find_closing_or_keep.Goals as goal
 
 pub returns-then-kept-from-clause-cut : goal.returns-then-kept-from-clause-cut

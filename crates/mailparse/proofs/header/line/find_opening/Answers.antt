@@ -1,6 +1,6 @@
 use Rattle.std.proofs.Common.{◌≡◌, ◌≢◌, length, arith}
 use Rattle.mailparse.specs.Tokens.{opening}
-use Rattle.mailparse.proofs.LineLemmas.{opening_found}
+use Rattle.mailparse.proofs.lemmas.Cuts.{opening_found}
 use Rattle.mailparse.proofs.header.line.find_opening.Goals as goal
 
 pub returns-else-open-bytes : goal.returns-else-open-bytes

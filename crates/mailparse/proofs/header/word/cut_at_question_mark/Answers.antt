@@ -1,6 +1,6 @@
 use Rattle.std.proofs.Common.{lit<}
 use Rattle.std.proofs.lemmas.Str.Pattern.{split_once_first}
-use Rattle.mailparse.proofs.WordLemmas.{cut_from_split}
+use Rattle.mailparse.proofs.lemmas.EncodedWord.{cut_from_split}
 use Rattle.mailparse.proofs.header.word.cut_at_question_mark.Goals as goal
 
 pub returns : goal.returns

@@ -4,8 +4,8 @@ use Rattle.std.proofs.lemmas.Iterator.Splits.{YieldsList-from_str_split}
 use Rattle.std.proofs.lemmas.Str.{encode_ascii}
 use Rattle.std.specs.List.{join_with_byte}
 use Rattle.std.specs.String.{string_bytes}
-use Rattle.mailparse.proofs.LinesLemmas.{more_is_some}
-use Rattle.mailparse.proofs.WordLemmas.{first_piece, next_piece, join-spaced}
+use Rattle.mailparse.proofs.lemmas.Lines.{more_is_some}
+use Rattle.mailparse.proofs.lemmas.EncodedWord.{first_piece, next_piece, join-spaced}
 use Rattle.mailparse.proofs.header.word.with_spaces.Goals as goal
 use Rattle.mailparse.proofs.header.word.with_spaces.Goals.{then-is_first, else-is_first+in_ok-push}
 
@@ -32,5 +32,5 @@ loop-piece-preserved c =
 
 pub returns : goal.returns
 returns c =
-    let all = YieldsList-end (YieldsList-from_str_split 95 c.args.rest.now (lit< tt) (cc) (cc) (cc)) c.loop-piece.yielded _ c.loop-piece.yielded_by _ _ c.in-None.is c.next.ensures.steps in
-    c.loop-piece.invariant.joined ∙ ap (join_with_byte 32) all.0 ∙ join-spaced c.args.rest.now
+    let all = YieldsList-end (YieldsList-from_str_split 95 c.args.encoded.now (lit< tt) (cc) (cc) (cc)) c.loop-piece.yielded _ c.loop-piece.yielded_by _ _ c.in-None.is c.next.ensures.steps in
+    c.loop-piece.invariant.joined ∙ ap (join_with_byte 32) all.0 ∙ join-spaced c.args.encoded.now

@@ -1,0 +1,51 @@
+use Rattle.std.proofs.Common.{◌≡◌, true, false, eqb, length, List, [], ◌++◌, ap, sym, subst, ◌∙◌, refl}
+use Rattle.std.proofs.lemmas.List.{append-nil}
+use Rattle.std.proofs.lemmas.Iterator.Consumers.{YieldsList-end}
+use Rattle.std.proofs.lemmas.Iterator.Splits.{YieldsList-from_lines}
+use Rattle.std.specs.String.{string_bytes}
+use Rattle.mail_codec.specs.Charset.{four_charsets}
+use Rattle.mailparse.specs.Value.{shown_tokens, shown_value, value_tokens, tokens_of_lines, line_tokens}
+use Rattle.mailparse.specs.declared.header.value.Held.TheVariants as held
+use Rattle.mailparse.specs.declared.header.value.ShownValue.{ShownValue}
+use Rattle.mailparse.specs.private.Unfolding.{Shows}
+use Rattle.mailparse.proofs.lemmas.Lines.{first_line, next_line, more_is_some, trimmed, trimmed_all}
+use Rattle.mailparse.proofs.lemmas.Unfolding.{starts_here, ends_here}
+use Rattle.mailparse.proofs.header.value.unfolded_value.Goals as goal
+use Rattle.mailparse.proofs.header.value.unfolded_value.Goals.{then-is_first, else-is_first+in_ok-push}
+
+pub loop-line-preserved : goal.loop-line-preserved
+loop-line-preserved c =
+    let start : ShownValue = record { text = c.in_ok-with_capacity.field-0; held = held.Nothing } in
+    let items = c.loop-line.yielded in
+    let line = c.in-Some-line.line in
+    let now = c.trim_start.result.now in
+    let new = c.push_line.new.shown in
+    let value = c.loop-line.shown in
+    elim c.if-is_first.branch [
+      | then-is_first w ↦
+          let none : eqb (length items) 0 ≡ true = cc in
+          record {
+            first = w.is_first-is ∙ more_is_some items line;
+            shown = first_line four_charsets items line now start value new none c.loop-line.invariant.shown c.trim_start.ensures.trim
+                (subst (λ v. Shows v (line_tokens four_charsets now) new) w.shown-is c.in_ok-push_line.ensures);
+          }
+      | else-is_first+in_ok-push w ↦
+          let some : eqb (length items) 0 ≡ false = cc in
+          let is : c.if-is_first.is_first ≡ false = cc in
+          record {
+            first = is ∙ more_is_some items line;
+            shown = next_line four_charsets items line now start value w.push.new.self new some c.loop-line.invariant.shown c.trim_start.ensures.trim
+                w.in_ok-push.ensures
+                (subst (λ v. Shows v (line_tokens four_charsets now) new) w.shown-is c.in_ok-push_line.ensures);
+          }
+    ]
+
+pub returns : goal.returns
+unfolding shown_value value_tokens
+returns c =
+    let start : ShownValue = record { text = c.in_ok-with_capacity.field-0; held = held.Nothing } in
+    let tokens = tokens_of_lines four_charsets (trimmed c.loop-line.yielded) in
+    let all = YieldsList-end (YieldsList-from_lines c.args.text.now cc) c.loop-line.yielded _ c.loop-line.yielded_by _ _ c.in-None.is c.next.ensures.steps in
+    sym (ends_here c.loop-line.shown) ∙ sym (c.loop-line.invariant.shown [])
+    ∙ starts_here start (tokens ++ []) c.in_ok-with_capacity.ensures.bytes refl
+    ∙ ap shown_tokens (append-nil tokens ∙ ap (tokens_of_lines four_charsets) (trimmed_all c.loop-line.yielded _ all.0))

@@ -1,8 +1,0 @@
-use Rattle.std.proofs.Common.{◌≡◌, drop}
-use Rattle.mailparse.specs.Keys.{first_with_key}
-use Rattle.mailparse.specs.Views.{headers}
-use Rattle.mailparse.proofs.header_map.first_header.Given as goal
-
--- none was found so far
-abbrev pub invariant-loop-h : goal.invariant-loop-h
-invariant-loop-h l = first_with_key l.key (headers l.list) ≡ first_with_key l.key (headers (drop l.h-index l.list))

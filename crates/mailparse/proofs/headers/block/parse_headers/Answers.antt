@@ -1,0 +1,111 @@
+use Rattle.std.proofs.Common.{◌≡◌, ◌+◌, ◌++◌, ◌∷◌, [], Ok, length, drop, rules, ap, ◌∙◌, arith, length-append}
+use Rattle.std.proofs.lemmas.List.{take_rest, map-append, length-map}
+use Rattle.std.proofs.lemmas.Result.{err_from_is_err_and}
+use Rattle.mailparse.specs.Header.{read_header}
+use Rattle.mailparse.specs.Block.{read_headers, block_end}
+use Rattle.mailparse.proofs.lemmas.Outcome.{IsRefusal-along, IsRefusalOrMemory-from}
+use Rattle.mailparse.proofs.lemmas.Block.{refused_further, ended_further, found_further, count_further, place_further, end_further, block_end-err, block_end-header, read_headers-bounded}
+use Rattle.mailparse.proofs.headers.block.parse_headers.Goals as goal
+
+pub returns-in_err-length-clause-no_memory : goal.returns-in_err-length-clause-no_memory
+returns-in_err-length-clause-no_memory c = λ _.
+    let p = err_from_is_err_and c.from_residual.result c.from_residual.ensures.1 in
+    let raw = c.args.raw.now in
+    let rest = drop c.loop-headers.place raw in
+    let refused = rw take_rest at c.in_err-length.ensures in
+    rw (p.1, p.2) (IsRefusal-along c.in_err-length.field-0.0 (block_end rest) (read_headers raw)
+    (λ r e. refused_further raw c.loop-headers.headers.items c.loop-headers.place c.loop-headers.invariant.all r (block_end-err rest r e)) refused)
+
+pub returns-in_err-length-clause-read : goal.returns-in_err-length-clause-read
+returns-in_err-length-clause-read c =
+    let p = err_from_is_err_and c.from_residual.result c.from_residual.ensures.1 in
+    let raw = c.args.raw.now in
+    let rest = drop c.loop-headers.place raw in
+    let refused = rw take_rest at c.in_err-length.ensures in
+    rw (p.1, p.2) (IsRefusalOrMemory-from c.in_err-length.field-0.0 (read_headers raw) (IsRefusal-along c.in_err-length.field-0.0 (block_end rest) (read_headers raw)
+    (λ r e. refused_further raw c.loop-headers.headers.items c.loop-headers.place c.loop-headers.invariant.all r (block_end-err rest r e)) refused))
+
+pub overflow_add-result : goal.overflow_add-result
+overflow_add-result c =
+    let ends = rw take_rest at c.in_ok-length.ensures in
+    let fits = end_further c.args.raw.now c.loop-headers.place c.in-Some.length c.loop-headers.invariant.within (ends ∙ ap (λ o. Ok o) c.in-Some.is) in
+    search rules
+
+pub returns-in-Some-clause-no_memory : goal.returns-in-Some-clause-no_memory
+returns-in-Some-clause-no_memory c = λ _.
+    let ends = rw take_rest at c.in_ok-length.ensures in
+    ended_further c.args.raw.now c.loop-headers.headers.items c.loop-headers.place c.loop-headers.invariant.all c.in-Some.length (ends ∙ ap (λ o. Ok o) c.in-Some.is)
+
+pub returns-in-Some-clause-read : goal.returns-in-Some-clause-read
+returns-in-Some-clause-read c =
+    let ends = rw take_rest at c.in_ok-length.ensures in
+    ended_further c.args.raw.now c.loop-headers.headers.items c.loop-headers.place c.loop-headers.invariant.all c.in-Some.length (ends ∙ ap (λ o. Ok o) c.in-Some.is)
+
+pub returns-in_err-header-clause-no_memory : goal.returns-in_err-header-clause-no_memory
+returns-in_err-header-clause-no_memory c = λ _.
+    let p = err_from_is_err_and c.from_residual-in_err-header.result c.from_residual-in_err-header.ensures.1 in
+    let raw = c.args.raw.now in
+    let rest = drop c.loop-headers.place raw in
+    let refused = rw take_rest at c.in_err-header.ensures.read in
+    let ends = rw take_rest at c.in_ok-length.ensures in
+    rw (p.1, p.2) (IsRefusal-along c.in_err-header.field-0.0 (read_header rest) (read_headers raw)
+    (λ r e. refused_further raw c.loop-headers.headers.items c.loop-headers.place c.loop-headers.invariant.all r (block_end-header rest r (ends ∙ ap (λ o. Ok o) c.in_default.is) e)) refused)
+
+pub returns-in_err-header-clause-read : goal.returns-in_err-header-clause-read
+returns-in_err-header-clause-read c =
+    let p = err_from_is_err_and c.from_residual-in_err-header.result c.from_residual-in_err-header.ensures.1 in
+    let raw = c.args.raw.now in
+    let rest = drop c.loop-headers.place raw in
+    let refused = rw take_rest at c.in_err-header.ensures.read in
+    let ends = rw take_rest at c.in_ok-length.ensures in
+    rw (p.1, p.2) (IsRefusalOrMemory-from c.in_err-header.field-0.0 (read_headers raw) (IsRefusal-along c.in_err-header.field-0.0 (read_header rest) (read_headers raw)
+    (λ r e. refused_further raw c.loop-headers.headers.items c.loop-headers.place c.loop-headers.invariant.all r (block_end-header rest r (ends ∙ ap (λ o. Ok o) c.in_default.is) e)) refused))
+
+pub returns-in_err-push-clause-no_memory : goal.returns-in_err-push-clause-no_memory
+returns-in_err-push-clause-no_memory c = λ none.
+    let found = rw take_rest at c.in_ok-header.ensures.read in
+    let ends = rw take_rest at c.in_ok-length.ensures in
+    let more = count_further c.args.raw.now c.loop-headers.place (c.in_ok-header.header, c.in_ok-header.length) (ends ∙ ap (λ o. Ok o) c.in_default.is) found in
+    let count = c.loop-headers.invariant.count in
+    absurd (omega arith)
+
+pub overflow_add-place : goal.overflow_add-place
+overflow_add-place c =
+    let found = rw take_rest at c.in_ok-header.ensures.read in
+    let ends = rw take_rest at c.in_ok-length.ensures in
+    let fits = (place_further c.args.raw.now c.loop-headers.place (c.in_ok-header.header, c.in_ok-header.length) c.loop-headers.invariant.within (ends ∙ ap (λ o. Ok o) c.in_default.is) found).1 in
+    search rules
+
+pub loop-headers-smaller : goal.loop-headers-smaller
+loop-headers-smaller c =
+    let found = rw take_rest at c.in_ok-header.ensures.read in
+    let ends = rw take_rest at c.in_ok-length.ensures in
+    let moves = place_further c.args.raw.now c.loop-headers.place (c.in_ok-header.header, c.in_ok-header.length) c.loop-headers.invariant.within (ends ∙ ap (λ o. Ok o) c.in_default.is) found in
+    let low = moves.0 in
+    let high = moves.1 in
+    omega arith
+
+pub loop-headers-preserved : goal.loop-headers-preserved
+loop-headers-preserved c =
+    let raw = c.args.raw.now in
+    let place = c.loop-headers.place in
+    let found = rw take_rest at c.in_ok-header.ensures.read in
+    let ends = rw take_rest at c.in_ok-length.ensures in
+    let none = ends ∙ ap (λ o. Ok o) c.in_default.is in
+    let moves = place_further raw place (c.in_ok-header.header, c.in_ok-header.length) c.loop-headers.invariant.within none found in
+    let size : length c.push.new.self.items ≡ length c.loop-headers.headers.items + 1 = ap length c.in_ok-push.ensures.items ∙ length-append c.loop-headers.headers.items (c.in_ok-header.header ∷ []) in
+    let fewer = count_further raw place (c.in_ok-header.header, c.in_ok-header.length) none found in
+    let count = c.loop-headers.invariant.count in
+    record {
+      within = moves.1;
+      all = rw c.in_ok-push.ensures.items (found_further raw c.loop-headers.headers.items place c.loop-headers.invariant.all (c.in_ok-header.header, c.in_ok-header.length) none found);
+      count = omega arith;
+    }
+
+pub returns-in-Some-clause-bounds : goal.returns-in-Some-clause-bounds
+returns-in-Some-clause-bounds c =
+    let ends = rw take_rest at c.in_ok-length.ensures in
+    let bounded = read_headers-bounded c.args.raw.now _ (ended_further c.args.raw.now c.loop-headers.headers.items c.loop-headers.place c.loop-headers.invariant.all c.in-Some.length (ends ∙ ap (λ o. Ok o) c.in-Some.is)) in
+    let many = bounded.headers in
+    let fits = bounded.index in
+    (omega (arith, c.loop-headers.headers.ok.0), fits)

@@ -1,0 +1,12 @@
+pub mod Places
+pub mod Header
+pub mod Block
+pub mod Outcome
+pub mod Keys
+pub mod Tokens
+pub mod Cuts
+pub mod EncodedWord
+pub mod Unfolding
+pub mod Value
+pub mod Plain
+pub mod Lines

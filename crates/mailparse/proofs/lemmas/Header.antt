@@ -1,0 +1,340 @@
+-- Lemmas on the places of one header, for the searches that find them.
+use Rattle.std.proofs.Common.{◌≡◌, ◌≢◌, ℕ, suc, ◌+◌, ◌-◌, ◌<◌, ◌≤◌, ◌⊎◌, Bool, true, false, ◌&&◌, ◌||◌, not, cond, eqb, min, Option, Some, None, List, [], ◌∷◌, ◌++◌, length, take, drop, get_or, Ok, Err, refl, sym, ap, subst, ◌∙◌, inl, inr, ⊎_elim, arith, ne_eqb, add-one, add-zero, zero-add, slice_range, append_assoc, append-nil, length-append, length-drop, length-take}
+use Rattle.std.specs.List.{list_all}
+use Rattle.std.proofs.lemmas.Bool.{cases_lt, eqb-true, false≢true}
+use Rattle.std.proofs.lemmas.List.{drop_more, drop-take, drop-drop, take-take, get_or-take}
+use Rattle.std.proofs.Math.ListN.{drop_of_length-le}
+use Rattle.std.proofs.Math.Seq.{drop-length, take-append_seam}
+use Rattle.mail_codec.specs.Places.{first_place, place, place_from, begins, IsFirstPlace}
+use Rattle.mail_codec.proofs.PlaceLemmas.{first_place-≤, first_place-here, first_place-past, first_place-passes, first_place-before, first_place-is_first, IsFirstPlace-unique, begins-at}
+use Rattle.mail_codec.proofs.PlaceFromLemmas.{place_from_same, place_from_here, place_from_next, place_from_passes}
+use Rattle.mailparse.specs.Header.{colon, ends_key, Header, is_blank, is_line_end, is_line_feed, ends_header, key_end, has_colon, header_end, value_start, value_end, header_of, header_length, read_header}
+use Rattle.mailparse.specs.Refusal.{empty_string, leading_space}
+use Rattle.mailparse.proofs.lemmas.Places.{place_none, place_some, place_from_via}
+
+-- ---- the first LF and the first colon before it
+
+abbrev pub first_feed : List ℕ → ℕ
+first_feed raw = first_place (begins is_line_feed) raw
+
+abbrev pub is_colon : ℕ → Bool
+is_colon b = eqb b 58
+
+-- no byte before the first LF is one
+before_feed : (raw : List ℕ) (k : ℕ) → k < first_feed raw → eqb (get_or raw k 0) 10 ≡ false
+before_feed raw k low =
+    let within = first_place-≤ (begins is_line_feed) raw in
+    sym (begins-at is_line_feed raw k (omega arith)) ∙ first_place-before (begins is_line_feed) raw k low
+
+-- the same of colons before a place up to which the bytes hold none
+before_colon : (raw : List ℕ) (e p k : ℕ) → e ≤ length raw → first_place (begins is_colon) (take e raw) ≡ p → k < p → eqb (get_or raw k 0) 58 ≡ false
+before_colon raw e p k fits at low =
+    let len = length-take e raw in
+    let within = first_place-≤ (begins is_colon) (take e raw) in
+    ap is_colon (sym (get_or-take e raw k 0 (omega arith)))
+    ∙ sym (begins-at is_colon (take e raw) k (omega arith))
+    ∙ first_place-before (begins is_colon) (take e raw) k (omega arith)
+
+passed_key : (raw : List ℕ) (k : ℕ) → k < length raw → eqb (get_or raw k 0) 58 ≡ false → eqb (get_or raw k 0) 10 ≡ false → begins ends_key (drop k raw) ≡ false
+passed_key raw k low no_colon no_feed = begins-at ends_key raw k low ∙ ap (λ t. t || eqb (get_or raw k 0) 10) no_colon ∙ no_feed
+
+key_end-is : (raw : List ℕ) (p : ℕ) → IsFirstPlace (begins ends_key) raw p → key_end raw ≡ p
+unfolding key_end
+key_end-is raw p first = IsFirstPlace-unique (begins ends_key) raw (key_end raw) p (first_place-is_first (begins ends_key) raw) first
+
+-- without a colon before the first LF, the key ends there
+pub key_of_line : (raw : List ℕ) → None ≡ place (begins is_colon) (take (first_feed raw) raw) → (key_end raw ≡ first_feed raw) × (has_colon raw ≡ false)
+unfolding has_colon
+key_of_line raw e = (key, colonless)
+  where
+    fits : first_feed raw ≤ length raw
+    fits = first_place-≤ (begins is_line_feed) raw
+
+    len : length (take (first_feed raw) raw) ≡ first_feed raw
+    len = length-take (first_feed raw) raw ∙ omega (arith, fits)
+
+    none : first_place (begins is_colon) (take (first_feed raw) raw) ≡ first_feed raw
+    none = place_none (begins is_colon) (take (first_feed raw) raw) e ∙ len
+
+    feed : first_feed raw < length raw → get_or raw (first_feed raw) 0 ≡ 10
+    feed low = eqb-true _ _ (sym (begins-at is_line_feed raw (first_feed raw) low) ∙ first_place-passes (begins is_line_feed) raw low)
+
+    key : key_end raw ≡ first_feed raw
+    key = key_end-is raw (first_feed raw) (record {
+      within = fits;
+      passes = λ low. begins-at ends_key raw (first_feed raw) low ∙ ap ends_key (feed low);
+      before = λ k low. passed_key raw k (omega (arith, fits)) (before_colon raw (first_feed raw) (first_feed raw) k fits none low) (before_feed raw k low);
+    })
+
+    at_feed : begins is_colon (drop (first_feed raw) raw) ≡ false
+    at_feed = ⊎_elim (λ low. begins-at is_colon raw (first_feed raw) low ∙ ap is_colon (feed low)) (λ past. ap (begins is_colon) (drop_of_length-le raw past)) (cases_lt (first_feed raw) (length raw))
+
+    colonless : begins is_colon (drop (key_end raw) raw) ≡ false
+    colonless = ap (λ n. begins is_colon (drop n raw)) key ∙ at_feed
+
+-- a colon before the first LF ends the key
+pub key_of_colon : (raw : List ℕ) (p : ℕ) → Some p ≡ place (begins is_colon) (take (first_feed raw) raw)
+    → (key_end raw ≡ p) × (has_colon raw ≡ true) × (p < first_feed raw)
+unfolding has_colon
+key_of_colon raw p e = (key, ap (λ n. begins is_colon (drop n raw)) key ∙ at_colon, low)
+  where
+    fits : first_feed raw ≤ length raw
+    fits = first_place-≤ (begins is_line_feed) raw
+
+    some : (first_place (begins is_colon) (take (first_feed raw) raw) ≡ p) × (p < length (take (first_feed raw) raw))
+    some = place_some (begins is_colon) (take (first_feed raw) raw) p e
+
+    low : p < first_feed raw
+    low = let len = length-take (first_feed raw) raw in let below = some.1 in omega arith
+
+    at_colon : begins is_colon (drop p raw) ≡ true
+    at_colon =
+        begins-at is_colon raw p (omega (arith, low, fits)) ∙ ap is_colon (sym (get_or-take (first_feed raw) raw p 0 low))
+        ∙ sym (begins-at is_colon (take (first_feed raw) raw) p some.1)
+        ∙ ap (λ n. begins is_colon (drop n (take (first_feed raw) raw))) (sym some.0)
+        ∙ first_place-passes (begins is_colon) (take (first_feed raw) raw) (let below = some.1 in let at = some.0 in omega arith)
+
+    is_58 : eqb (get_or raw p 0) 58 ≡ true
+    is_58 = sym (begins-at is_colon raw p (omega (arith, low, fits))) ∙ at_colon
+
+    key : key_end raw ≡ p
+    key = key_end-is raw p (record {
+      within = omega (arith, low, fits);
+      passes = λ within. begins-at ends_key raw p within ∙ ap (λ t. t || eqb (get_or raw p 0) 10) is_58;
+      before = λ k below. passed_key raw k (omega (arith, low, fits)) (before_colon raw (first_feed raw) p k fits some.0 below) (before_feed raw k (omega (arith, low)));
+    })
+
+-- ---- the end of a header
+
+pub header_end-key : (raw : List ℕ) → has_colon raw ≡ false → header_end raw ≡ key_end raw
+unfolding header_end
+header_end-key raw without = (rw without refl)
+
+pub header_length-at : (raw : List ℕ) (end : ℕ) → end ≡ header_end raw → min (suc end) (length raw) ≡ header_length raw
+unfolding header_length
+header_length-at raw end at = ap (λ n. min (suc n) (length raw)) at
+
+pub ends_header_is_feed : (rest : List ℕ) → ends_header rest ≡ true → begins is_line_feed rest ≡ true
+ends_header_is_feed [] h = h
+ends_header_is_feed (b ∷ rest) h = go (eqb b 10) h
+  where
+    go : (t : Bool) → (t && not (begins is_blank rest)) ≡ true → t ≡ true
+    go true h = refl
+    go false h = h
+
+-- it is sought from the first LF after the colon on
+pub header_end-from_feed : (raw : List ℕ) → has_colon raw ≡ true → key_end raw < first_feed raw → header_end raw ≡ place_from ends_header raw (first_feed raw)
+unfolding header_end
+header_end-from_feed raw has low =
+    let fits = first_place-≤ (begins is_line_feed) raw in
+    let at : place_from (begins is_line_feed) raw (suc (key_end raw)) ≡ first_feed raw =
+    place_from_same (begins is_line_feed) raw 0 (suc (key_end raw)) (omega arith) (omega arith) ∙ zero-add (first_feed raw) in
+    let via = place_from_via (begins is_line_feed) ends_header ends_header_is_feed raw (suc (key_end raw)) (first_feed raw) (omega arith) at in
+    (rw has (sym via.2))
+
+-- a LF that a blank follows is passed over
+pub header_end-continued : (raw : List ℕ) (end : ℕ) → end < length raw → begins is_blank (drop (end + 1) raw) ≡ true
+    → place_from ends_header raw end ≡ place_from ends_header raw (end + 1)
+header_end-continued raw end low blank =
+    place_from_next ends_header raw end low (ap ends_header (drop_more raw end 0 low) ∙ last (eqb (get_or raw end 0) 10))
+  where
+    last : (t : Bool) → (t && not (begins is_blank (drop (end + 1) raw))) ≡ false
+    last true = ap not blank
+    last false = refl
+
+-- and any other ends it
+pub header_end-here : (raw : List ℕ) (end : ℕ) → end < length raw → place_from (begins is_line_feed) raw end ≡ end → begins is_blank (drop (end + 1) raw) ≡ false
+    → place_from ends_header raw end ≡ end
+header_end-here raw end low found blank =
+    let feed : begins is_line_feed (drop end raw) ≡ true =
+    subst (λ v. begins is_line_feed (drop v raw) ≡ true) found (place_from_passes (begins is_line_feed) raw end (omega arith) (λ e. absurd (omega arith))) in
+    place_from_here ends_header raw end low
+    (ap ends_header (drop_more raw end 0 low) ∙ ap (λ t. t && not (begins is_blank (drop (end + 1) raw))) (sym (begins-at is_line_feed raw end low) ∙ feed) ∙ ap not blank)
+
+-- where no LF is left the header ends with the bytes
+pub header_end-past : (raw : List ℕ) (end : ℕ) → length raw ≤ end → place_from ends_header raw end ≡ end
+header_end-past raw end past = ap (λ rest. end + first_place ends_header rest) (drop_of_length-le raw past) ∙ add-zero end
+
+-- what the right trim has cut off so far
+pub record TrimmedTo (bytes rest : List ℕ) : Type 0 where
+  pub tail : List ℕ
+  pub whole : bytes ≡ rest ++ tail
+  pub after : list_all is_line_end tail ≡ true
+
+pub TrimmedTo-start : (bytes : List ℕ) → TrimmedTo bytes bytes
+TrimmedTo-start bytes = record { tail = []; whole = sym (append-nil bytes); after = refl }
+
+-- one more byte goes
+pub TrimmedTo-more : (bytes rest front : List ℕ) (b : ℕ) → TrimmedTo bytes rest → rest ≡ front ++ b ∷ [] → is_line_end b ≡ true → TrimmedTo bytes front
+TrimmedTo-more bytes rest front b h cut e = record {
+  tail = b ∷ h.tail;
+  whole = h.whole ∙ ap (λ (xs : List ℕ). xs ++ h.tail) cut ∙ append_assoc front (b ∷ []) h.tail;
+  after = rw e h.after;
+}
+
+list_all-none : (front tail : List ℕ) (b : ℕ) → is_line_end b ≡ false → list_all is_line_end (front ++ b ∷ tail) ≡ false
+list_all-none [] tail b e = rw e refl
+list_all-none (x ∷ front) tail b e = rw (list_all-none front tail b e) (elim (is_line_end x) as (λ v. (v && false) ≡ false) [ true ↦ refl | false ↦ refl ])
+
+-- the trim cuts after the last byte that it keeps
+trimmed_place : (front tail : List ℕ) (b : ℕ) → is_line_end b ≡ false → list_all is_line_end tail ≡ true → first_place (list_all is_line_end) (front ++ b ∷ tail) ≡ suc (length front)
+trimmed_place [] tail b e all = first_place-past (list_all is_line_end) b tail (list_all-none [] tail b e) ∙ ap suc (first_place-here (list_all is_line_end) tail all)
+trimmed_place (x ∷ front) tail b e all =
+    first_place-past (list_all is_line_end) x (front ++ b ∷ tail) (list_all-none (x ∷ front) tail b e) ∙ ap suc (trimmed_place front tail b e all)
+
+-- the trim is done where a byte is left that it keeps
+pub TrimmedTo-last : (bytes rest front : List ℕ) (b : ℕ) → TrimmedTo bytes rest → rest ≡ front ++ b ∷ [] → is_line_end b ≡ false → rest ≡ take (first_place (list_all is_line_end) bytes) bytes
+TrimmedTo-last bytes rest front b h cut e =
+    let whole : bytes ≡ front ++ b ∷ h.tail = h.whole ∙ ap (λ (xs : List ℕ). xs ++ h.tail) cut ∙ append_assoc front (b ∷ []) h.tail in
+    let place : first_place (list_all is_line_end) bytes ≡ suc (length front) = ap (first_place (list_all is_line_end)) whole ∙ trimmed_place front h.tail b e h.after in
+    let size : length rest ≡ suc (length front) = ap length cut ∙ length-append front (b ∷ []) ∙ omega arith in
+    sym (ap (λ n. take n bytes) (place ∙ sym size) ∙ ap (take (length rest)) h.whole ∙ take-append_seam rest h.tail)
+
+-- or where none is left
+pub TrimmedTo-all : (bytes rest : List ℕ) → TrimmedTo bytes rest → length rest ≡ 0 → rest ≡ take (first_place (list_all is_line_end) bytes) bytes
+TrimmedTo-all bytes [] h e =
+    let all : list_all is_line_end bytes ≡ true = rw h.whole h.after in
+    rw (first_place-here (list_all is_line_end) bytes all) refl
+TrimmedTo-all bytes (b ∷ rest) h e = absurd (omega arith)
+
+-- the key ends within the bytes
+pub key_end-≤ : (raw : List ℕ) → key_end raw ≤ length raw
+unfolding key_end
+key_end-≤ raw = first_place-≤ (begins ends_key) raw
+
+begins-within : (test : ℕ → Bool) (raw : List ℕ) (i : ℕ) → begins test (drop i raw) ≡ true → i < length raw
+begins-within test raw i e = elim (cases_lt i (length raw)) [ inl below ↦ below | inr above ↦ absurd (nothing (drop_of_length-le raw above)) ]
+  where
+    nothing : drop i raw ≡ [] → ⊥
+    nothing none = let f : false ≡ true = subst (λ (xs : List ℕ). begins test xs ≡ true) none e in cc
+
+-- a colon that ends the key stands within the bytes
+pub key_end-< : (raw : List ℕ) → has_colon raw ≡ true → key_end raw < length raw
+unfolding has_colon
+key_end-< raw e = begins-within (λ b. eqb b 58) raw (key_end raw) e
+
+-- the header ends within the bytes
+pub header_end-≤ : (raw : List ℕ) → header_end raw ≤ length raw
+unfolding header_end
+header_end-≤ raw = by_colon (has_colon raw) refl
+  where
+    by_colon : (v : Bool) → has_colon raw ≡ v → cond (has_colon raw) (place_from ends_header raw (suc (key_end raw))) (key_end raw) ≤ length raw
+    by_colon true e =
+        let low = key_end-< raw e in
+        let place = first_place-≤ ends_header (drop (suc (key_end raw)) raw) in
+        rw e (omega (arith, length-drop (suc (key_end raw)) raw))
+    by_colon false e = rw e (key_end-≤ raw)
+
+-- and after its colon
+pub header_end-> : (raw : List ℕ) → has_colon raw ≡ true → key_end raw < header_end raw
+unfolding header_end
+header_end-> raw e = rw e (omega arith)
+
+pub is_line_end-false : (b : ℕ) → (b ≡ 13 → ⊥) → (b ≡ 10 → ⊥) → is_line_end b ≡ false
+is_line_end-false b no_return no_feed = rw (ne_eqb b 13 no_return, ne_eqb b 10 no_feed) refl
+
+-- a header without a colon is a key alone
+pub header_of-key : (raw : List ℕ) (end : ℕ) → has_colon raw ≡ false → end ≡ header_end raw → header_of raw ≡ record { key = take end raw; value = slice_range raw end end }
+unfolding header_end value_start value_end
+header_of-key raw end without at =
+    let key : key_end raw ≡ end = sym (at ∙ (rw without refl)) in
+    rw (without, key) refl
+
+-- a part of a part
+trimmed_slice : (raw : List ℕ) (a e p q : ℕ) → a ≤ e → e ≤ length raw → p ≤ length (slice_range raw a e) → q ≤ length (drop p (slice_range raw a e)) → take q (drop p (slice_range raw a e)) ≡ slice_range raw (a + p) ((a + p) + q)
+trimmed_slice raw a e p q order within p_fits q_fits =
+    let whole : length (slice_range raw a e) ≡ e - a = length-take (e - a) (drop a raw) ∙ omega (arith, length-drop a raw) in
+    let rest : length (drop p (slice_range raw a e)) ≡ (e - a) - p = length-drop p (slice_range raw a e) ∙ omega arith in
+    let sum : e - a ≡ p + ((e - a) - p) = omega arith in
+    let seam : drop p (slice_range raw a e) ≡ take ((e - a) - p) (drop (a + p) raw) =
+    ap (λ n. drop p (take n (drop a raw))) sum ∙ drop-take p ((e - a) - p) (drop a raw) ∙ ap (take ((e - a) - p)) (drop-drop p a raw) in
+    let size : ((a + p) + q) - (a + p) ≡ q = omega arith in
+    ap (take q) seam ∙ take-take q ((e - a) - p) (drop (a + p) raw) (omega arith) ∙ ap (λ n. take n (drop (a + p) raw)) (sym size)
+
+-- the front of the bytes up to e, from a on
+between : (raw : List ℕ) (a e : ℕ) → a ≤ e → drop a (take e raw) ≡ slice_range raw a e
+between raw a e order =
+    let sum : e ≡ a + (e - a) = omega arith in
+    ap (λ n. drop a (take n raw)) sum ∙ drop-take a (e - a) raw
+
+-- the bytes between the colon and the header's end
+abbrev cut : List ℕ → List ℕ
+cut raw = slice_range raw (suc (key_end raw)) (header_end raw)
+
+-- how many spaces they begin with
+abbrev spaces : List ℕ → ℕ
+spaces raw = first_place (begins (λ b. not (eqb b 32))) (cut raw)
+
+-- how many bytes after those stay
+abbrev kept : List ℕ → ℕ
+kept raw = first_place (list_all is_line_end) (drop (spaces raw) (cut raw))
+
+-- the value of a header with a colon is what stays
+module _ (raw : List ℕ) (colon : has_colon raw ≡ true) where
+  value_start-colon : value_start raw ≡ suc (key_end raw) + spaces raw
+  unfolding value_start
+  value_start-colon =
+      let order = header_end-> raw colon in
+      rw colon (ap (λ (xs : List ℕ). suc (key_end raw) + first_place (begins (λ b. not (eqb b 32))) xs) (between raw (suc (key_end raw)) (header_end raw) (omega arith)))
+
+  length-cut : length (cut raw) ≡ header_end raw - suc (key_end raw)
+  length-cut =
+      let within = header_end-≤ raw in
+      length-take (header_end raw - suc (key_end raw)) (drop (suc (key_end raw)) raw) ∙ omega (arith, length-drop (suc (key_end raw)) raw)
+
+  value_end-colon : value_end raw ≡ (suc (key_end raw) + spaces raw) + kept raw
+  unfolding value_end
+  value_end-colon =
+      let order = header_end-> raw colon in
+      let a = suc (key_end raw) in
+      let e = header_end raw in
+      let rest : drop (a + spaces raw) (take e raw) ≡ drop (spaces raw) (cut raw) =
+      sym (drop-drop (spaces raw) a (take e raw)) ∙ ap (drop (spaces raw)) (between raw a e (omega arith)) in
+      rw (colon, value_start-colon) (ap (λ (xs : List ℕ). (a + spaces raw) + first_place (list_all is_line_end) xs) rest)
+
+  value-colon : take (kept raw) (drop (spaces raw) (cut raw)) ≡ slice_range raw (value_start raw) (value_end raw)
+  value-colon =
+      let order = header_end-> raw colon in
+      trimmed_slice raw (suc (key_end raw)) (header_end raw) (spaces raw) (kept raw) (omega arith) (header_end-≤ raw) (first_place-≤ (begins (λ b. not (eqb b 32))) (cut raw)) (first_place-≤ (list_all is_line_end) (drop (spaces raw) (cut raw)))
+      ∙ ap (λ n. slice_range raw n ((suc (key_end raw) + spaces raw) + kept raw)) (sym value_start-colon) ∙ ap (slice_range raw (value_start raw)) (sym value_end-colon)
+
+-- a header with a colon, from its parts as they are cut
+pub header_of-value : (raw : List ℕ) (colon end : ℕ) → has_colon raw ≡ true → colon ≡ key_end raw → end ≡ header_end raw
+    → (after spaceless trimmed : List ℕ) → after ≡ slice_range raw (colon + 1) end
+    → spaceless ≡ drop (first_place (begins (λ b. not (eqb b 32))) after) after
+    → trimmed ≡ take (first_place (list_all is_line_end) spaceless) spaceless
+    → header_of raw ≡ record { key = take colon raw; value = trimmed }
+header_of-value raw colon end has at ends after spaceless trimmed is_after is_spaceless is_trimmed =
+    let is_cut : after ≡ cut raw = is_after ∙ ap (λ n. slice_range raw (n + 1) end) at ∙ ap (λ n. slice_range raw (key_end raw + 1) n) ends ∙ (rw add-one refl) in
+    let is_left : spaceless ≡ drop (spaces raw) (cut raw) = is_spaceless ∙ ap (λ (xs : List ℕ). drop (first_place (begins (λ b. not (eqb b 32))) xs) xs) is_cut in
+    let is_value : trimmed ≡ slice_range raw (value_start raw) (value_end raw) =
+    is_trimmed ∙ ap (λ (xs : List ℕ). take (first_place (list_all is_line_end) xs) xs) is_left ∙ value-colon raw has in
+    ap (λ n. parts (take n raw) (slice_range raw (value_start raw) (value_end raw))) (sym at) ∙ ap (parts (take colon raw)) (sym is_value)
+  where
+    parts : List ℕ → List ℕ → Header
+    parts key value = record { key = key; value = value }
+
+-- the header is read unless the bytes are none or begin with a space
+pub read_header-empty : (raw : List ℕ) → length raw ≡ 0 → read_header raw ≡ Err empty_string
+unfolding read_header
+read_header-empty [] e = refl
+read_header-empty (b ∷ raw) e = absurd (omega arith)
+
+pub read_header-space : (raw : List ℕ) → 0 < length raw → get_or raw 0 0 ≡ 32 → read_header raw ≡ Err leading_space
+unfolding read_header
+read_header-space [] h e = absurd (omega arith)
+read_header-space (b ∷ raw) h e = rw e refl
+
+pub read_header-ok : (raw : List ℕ) → 0 < length raw → (get_or raw 0 0 ≡ 32 → ⊥) → read_header raw ≡ Ok (header_of raw, header_length raw)
+unfolding read_header
+read_header-ok [] h no_space = absurd (omega arith)
+read_header-ok (b ∷ raw) h no_space = let e : eqb 32 b ≡ false = ne_eqb 32 b (λ same. no_space (sym same)) in rw e refl
+
+-- a header takes at least one byte and at most all
+pub header_length-≤ : (raw : List ℕ) → header_length raw ≤ length raw
+unfolding header_length
+header_length-≤ raw = omega arith
+
+pub header_length-> : (raw : List ℕ) → 0 < length raw → 0 < header_length raw
+unfolding header_length
+header_length-> raw h = omega arith

@@ -1,0 +1,140 @@
+-- A plain value shows itself; the strict and the lenient reading agree.
+use Rattle.std.proofs.Common.{◌≡◌, ◌≢◌, ◌⊎◌, ℕ, suc, ◌<◌, ◌≤◌, Bool, true, false, cond, eqb, ltb, ◌&&◌, List, [], ◌∷◌, length, map, take, drop, get_or, None, Ok, Err, refl, zero-add, sym, ap, ◌∙◌, inl, inr, ⊎_elim, arith}
+use Rattle.std.proofs.Math.Nat.{sub-zero}
+use Rattle.std.proofs.lemmas.Bool.{cond-true, cond-false, false≢true, eq-eqb, ne_eqb, cases_lt, or_from, and_left, and_right, le-ltb}
+use Rattle.std.proofs.lemmas.List.{append-nil, take_all, get_or_past, get_or_default}
+use Rattle.std.proofs.lemmas.List.Elements.{All-head}
+use Rattle.std.proofs.lemmas.List.Splits.{slice_split_none}
+use Rattle.std.proofs.lemmas.Str.{chars-nil, chars-IsAscii, encodes-IsAscii, is_utf8-from_IsUtf8}
+use Rattle.std.specs.Char.{is_whitespace}
+use Rattle.std.specs.List.{All}
+use Rattle.std.specs.Str.{trim_start, skip_leading_whitespace, encode_utf8_all, IsAscii, IsUtf8, is_utf8}
+use Rattle.std.specs.Str.Lines.{lines, lines_of_parts}
+use Rattle.mail_codec.specs.Charset.{Charsets, four_charsets}
+use Rattle.mail_codec.specs.Latin1.{latin1_text}
+use Rattle.mail_codec.specs.Places.{first_place, begins, place}
+use Rattle.mailparse.specs.Tokens.{white_space, plain_text, begins_opening, is_white, opening, outside, last_group, no_opening}
+use Rattle.mailparse.specs.Refusal.{value_not_utf8}
+use Rattle.mailparse.proofs.lemmas.Value.{lenient-utf8}
+use Rattle.std.proofs.lemmas.Str.{IsUtf8-from_ascii}
+use Rattle.mailparse.specs.Value.{IsPlain, Token, token_of, outside_token, line_tokens, tokens_of_lines, value_tokens, shown_tokens, shown_after, shown_value, lenient_value, strict_value}
+use Rattle.mail_codec.proofs.PlaceLemmas.{first_place-≤, first_place-passes, first_place-before, begins-at}
+use Rattle.mailparse.proofs.lemmas.Places.{place_none}
+use Rattle.mailparse.proofs.lemmas.Unfolding.{token_of-outside}
+use Rattle.mailparse.proofs.lemmas.Tokens.{token_ranges_only}
+
+-- ---- printable ASCII
+
+abbrev Printable : List ℕ → Type 0
+Printable value = All (λ b. (32 ≤ b) × (b ≤ 126)) value
+
+printable_ascii : (value : List ℕ) → Printable value → IsAscii value
+printable_ascii value h i =
+    ⊎_elim (λ lt. omega (arith, (h i 0 lt).1)) (λ past. omega (arith, get_or_past value i 0 past)) (cases_lt i (length value))
+
+graphic_no_white : (b : ℕ) → 33 ≤ b → b ≤ 126 → is_whitespace b ≡ false
+graphic_no_white b low high =
+    let other : (n : ℕ) → (b < n) ⊎ (n < b) → eqb b n ≡ false = λ n h. ne_eqb b n (λ e. ⊎_elim (λ l. absurd (omega arith)) (λ l. absurd (omega arith)) h) in
+    or_from _ _ (or_from _ _ (or_from _ _ (or_from _ _ (or_from _ _ (or_from _ _ (or_from _ _ (or_from _ _ (or_from _ _ (or_from _ _
+    (and_right (ltb 8 b) (ltb b 14) (le-ltb b 14 (omega arith)))
+    (other 32 (inr (omega arith)))) (other 133 (inl (omega arith)))) (other 160 (inl (omega arith)))) (other 5760 (inl (omega arith))))
+    (and_left (ltb 8191 b) (ltb b 8203) (le-ltb 8191 b (omega arith))))
+    (other 8232 (inl (omega arith)))) (other 8233 (inl (omega arith)))) (other 8239 (inl (omega arith)))) (other 8287 (inl (omega arith))))
+    (other 12288 (inl (omega arith)))
+
+-- such a value is one line
+lines_of_plain : (b : ℕ) (value : List ℕ) → Printable (b ∷ value) → lines (b ∷ value) ≡ (b ∷ value) ∷ []
+lines_of_plain b value h =
+    ap lines_of_parts (slice_split_none (λ b. eqb b 10) (b ∷ value) (λ k d lt. ne_eqb _ _ (λ e. absurd (omega (arith, (h k d lt).0)))))
+    ∙ cond-false _ _ _ (ne_eqb (suc (length value)) 0 (λ e. absurd (omega arith)))
+
+-- and loses nothing at its start
+trim_start-plain : (b : ℕ) (value : List ℕ) → Printable (b ∷ value) → b ≢ 32 → trim_start (b ∷ value) ≡ b ∷ value
+unfolding trim_start
+trim_start-plain b value h some =
+    let ascii = printable_ascii (b ∷ value) h in
+    let first = All-head (λ b. (32 ≤ b) × (b ≤ 126)) b value h in
+    ap (λ cs. encode_utf8_all (skip_leading_whitespace cs)) (chars-IsAscii (b ∷ value) ascii)
+    ∙ ap encode_utf8_all (cond-false _ _ _ (graphic_no_white b (omega arith) first.1))
+    ∙ encodes-IsAscii (b ∷ value) ascii
+
+trim_start-nil : trim_start [] ≡ []
+unfolding trim_start
+trim_start-nil = ap (λ cs. encode_utf8_all (skip_leading_whitespace cs)) chars-nil
+
+-- ---- its one token
+
+no_line_feed : (text : List ℕ) → first_place (begins (λ b. eqb b 10)) text ≡ length text → (k : ℕ) (d : ℕ) → k < length text → eqb (get_or text k d) 10 ≡ false
+no_line_feed text whole k d lt =
+    ap (λ v. eqb v 10) (get_or_default text k d 0 lt) ∙ sym (begins-at (λ b. eqb b 10) text k lt)
+    ∙ first_place-before (begins (λ b. eqb b 10)) text k (omega arith)
+
+no_opening_found : (line : List ℕ) → ((k : ℕ) → begins_opening (drop k line) ≡ false) → opening line 0 ≡ length line
+no_opening_found line none =
+    let le = first_place-≤ begins_opening line in
+    ⊎_elim (λ h. absurd (false≢true (sym (none _) ∙ first_place-passes begins_opening line h))) (λ h. omega arith)
+    (cases_lt (first_place begins_opening line) (length line))
+
+shown_alone : (line : List ℕ) → shown_tokens (outside_token line ∷ []) ≡ line
+shown_alone line = go (is_white line)
+  where
+    go : (t : Bool) → shown_after None None (record { kind = cond t white_space plain_text; shown = line } ∷ []) ≡ line
+    go true = append-nil line
+    go false = append-nil line
+
+module _ (known : Charsets) where
+  -- a line without `=?` is one token
+  line_tokens-first : (line : List ℕ) → opening line 0 ≡ length line → line_tokens known line ≡ outside_token line ∷ []
+  line_tokens-first line none =
+      ap (map (token_of known line)) (sym (token_ranges_only known line (outside line 0 (length line) ∷ []) (last_group (no_opening none))))
+      ∙ ap (λ t. t ∷ []) (token_of-outside known line 0 (length line)
+      ∙ ap outside_token (ap (λ n. take n line) (sub-zero (length line)) ∙ take_all (length line) line (omega arith)))
+
+  pub line_tokens-plain : (line : List ℕ) → ((k : ℕ) → begins_opening (drop k line) ≡ false) → line_tokens known line ≡ outside_token line ∷ []
+  line_tokens-plain line none = line_tokens-first line (no_opening_found line none)
+
+  pub shown_value-plain : (value : List ℕ) → IsPlain value → shown_value known value ≡ value
+  unfolding shown_value value_tokens
+  shown_value-plain [] plain = refl
+  shown_value-plain (b ∷ value) plain =
+      let some : b ≢ 32 = λ e. absurd (false≢true (sym plain.no_space ∙ ap (λ t. t && true) (eq-eqb 32 b (sym e)))) in
+      ap (λ ls. shown_tokens (tokens_of_lines known (map trim_start ls))) (lines_of_plain b value plain.printable)
+      ∙ ap (λ l. shown_tokens (line_tokens known l)) (trim_start-plain b value plain.printable some)
+      ∙ ap shown_tokens (line_tokens-plain (b ∷ value) plain.no_opening)
+      ∙ shown_alone (b ∷ value)
+
+  -- a text of one line without `=?` shows itself, but for the white at its start
+  pub shown_value-line : (text line : List ℕ) → None ≡ place (begins (λ b. eqb b 10)) text → line ≡ trim_start text → None ≡ place begins_opening line
+      → line ≡ shown_value known text
+  unfolding shown_value value_tokens
+  shown_value-line [] line no_line e no_word = e ∙ trim_start-nil
+  shown_value-line (b ∷ text) line no_line e no_word =
+      let whole = place_none (begins (λ b. eqb b 10)) (b ∷ text) no_line in
+      let none = place_none begins_opening line no_word in
+      sym (ap (λ ls. shown_tokens (tokens_of_lines known (map trim_start ls)))
+      (ap lines_of_parts (slice_split_none (λ b. eqb b 10) (b ∷ text) (λ k d lt. no_line_feed (b ∷ text) whole k d lt))
+      ∙ cond-false _ _ _ (ne_eqb (suc (length text)) 0 (λ e. absurd (omega arith))))
+      ∙ ap (λ l. shown_tokens (line_tokens known l)) (sym e)
+      ∙ ap shown_tokens (line_tokens-first line (zero-add (first_place begins_opening line) ∙ none))
+      ∙ shown_alone line)
+
+-- ---- the strict reading
+
+pub strict_agrees : (bytes : List ℕ) → IsUtf8 bytes → strict_value bytes ≡ Ok (lenient_value bytes)
+unfolding strict_value lenient_value
+strict_agrees bytes utf8 =
+    let test = is_utf8-from_IsUtf8 bytes utf8 in
+    cond-true _ _ _ test ∙ ap (λ t. Ok (shown_value four_charsets t)) (sym (cond-true _ _ (latin1_text bytes) test))
+
+pub strict_succeeds : (bytes value : List ℕ) → strict_value bytes ≡ Ok value → lenient_value bytes ≡ value
+unfolding strict_value lenient_value
+strict_succeeds bytes value h = go (is_utf8 bytes) h
+  where
+    go : (t : Bool) → cond t (Ok (shown_value four_charsets bytes)) (Err value_not_utf8) ≡ Ok value
+        → shown_value four_charsets (cond t bytes (latin1_text bytes)) ≡ value
+    go true e = cc
+    go false e = cc
+
+-- so the value reads as itself too
+pub lenient_value-plain : (value : List ℕ) → IsPlain value → lenient_value value ≡ value
+lenient_value-plain value plain = lenient-utf8 value (IsUtf8-from_ascii value (printable_ascii value plain.printable)) ∙ shown_value-plain four_charsets value plain

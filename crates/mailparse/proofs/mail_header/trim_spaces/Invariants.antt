@@ -1,9 +1,0 @@
-use Rattle.std.proofs.Common.{not, eqb}
-use Rattle.mail_codec.specs.Places.{first_place, begins}
-use Rattle.mail_codec.proofs.PlaceLemmas.{PassedTo}
-use Rattle.mailparse.proofs.mail_header.trim_spaces.Given as goal
-
-abbrev pub invariant-loop-place : goal.invariant-loop-place
-invariant-loop-place l =
-    let test = begins (λ b. not (eqb b 32)) in
-    PassedTo test l.bytes (first_place test l.bytes) l.place

@@ -1,0 +1,47 @@
+-- What a reader of a value has made of the tokens so far, and what it holds back until it has seen the next ones; private to the
+-- reader of values.
+use Rattle.std.specs.Prelude.{◌≡◌, ℕ, Bool, true, false, List, [], ◌∷◌, ◌++◌, Some, None, string_bytes, if◌then◌else◌}
+use Rattle.mailparse.specs.Tokens.{TokenKind, plain_text, white_space, line_end, decoded_word}
+use Rattle.mailparse.specs.Value.{Token, kinds, is_released, newline, shown_after}
+use Rattle.mailparse.specs.declared.header.value.Held.{Held}
+use Rattle.mailparse.specs.declared.header.value.Held.TheVariants as held
+use Rattle.mailparse.specs.declared.header.value.HeaderToken.{HeaderToken}
+use Rattle.mailparse.specs.declared.header.value.HeaderToken.TheVariants as code
+use Rattle.mailparse.specs.declared.header.value.ShownValue.{ShownValue}
+
+-- a token that is white
+abbrev pub white_token : List ℕ → Token
+white_token white = record { kind = white_space; shown = white }
+
+-- a token of the code, as the definitions have it
+abbrev pub token_view : HeaderToken → Token
+token_view (code.Text text) = record { kind = plain_text; shown = text.now }
+token_view (code.Whitespace white) = white_token white.now
+token_view code.Newline = newline
+token_view (code.DecodedWord decoded) = record { kind = decoded_word; shown = string_bytes decoded }
+
+-- what is shown of what was held back, where text comes next
+abbrev pub released : Held → List ℕ
+released held.Nothing = []
+released held.Word = []
+released (held.White white) = white.now
+released (held.LineEnd white) = white.now ++ 32 ∷ []
+
+-- what is shown when these tokens follow: what was held back, where they release it, and what they show themselves
+abbrev pub shown_behind : Held → List Token → List ℕ
+shown_behind held.Nothing tokens = shown_after None None tokens
+shown_behind held.Word tokens = shown_after None (Some decoded_word) tokens
+shown_behind (held.White white) tokens =
+    (if is_released white_space (kinds tokens) then white.now else [])
+    ++ shown_after (Some decoded_word) (Some white_space) tokens
+shown_behind (held.LineEnd white) tokens =
+    (if is_released line_end (kinds tokens) then white.now ++ 32 ∷ [] else [])
+    ++ shown_after None None tokens
+
+-- what a value shows whose tokens so far made this, when these follow
+abbrev pub shown_with : ShownValue → List Token → List ℕ
+shown_with value tokens = string_bytes value.text ++ shown_behind value.held tokens
+
+-- a reader went on over these tokens
+abbrev pub Shows : ShownValue → List Token → ShownValue → Type 0
+Shows before tokens after = (rest : List Token) → shown_with before (tokens ++ rest) ≡ shown_with after rest

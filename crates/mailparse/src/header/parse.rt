@@ -1,0 +1,119 @@
+//! Cutting the header at the front of the bytes: where its key, its value and its end stand.
+ghost use Rattle.std.specs.Prelude.{◌≡◌, ◌==◌, ◌<◌, ◌≤◌, suc, min, not, length, take, drop, IfOk};
+ghost use Rattle.std.specs.List.{list_all};
+ghost use Rattle.mail_codec.specs.Places.{first_place, place_from, begins};
+ghost use Rattle.mailparse.specs.Header.{space, is_blank, is_line_end, is_line_feed, ends_header};
+ghost use Rattle.mailparse.specs.Header.{header_of, header_length, read_header};
+ghost use Rattle.mailparse.specs.Outcome.{Answers};
+
+use super::MailHeader;
+use crate::error::MailParseError;
+use mail_codec::bytescan::find_byte;
+
+/// Reads the header at the front of `raw`, and tells how many bytes it takes, its line end among
+/// them (RFC 5322, sections 2.2 and 2.2.3).
+///
+/// The key ends at the first colon; a line without one is a key alone. The value goes on over each
+/// line that begins with a space or a tab. Refuses the empty input and a first byte that is a
+/// space, and nothing else; takes no memory.
+///
+/// `parse_header(b"Subject: Hi\nTo: you")` is a header with the key `Subject` and the value `Hi`,
+/// and 12.
+pub fn parse_header(raw: &[u8]) -> Result<(MailHeader<'_>, usize), MailParseError>
+    ensures read { Answers (λ found. (found.0, found.1)) result (read_header raw.now) }
+    ensures bounds { IfOk result (λ found. (0 < found.1) × (found.1 ≤ length raw.now)) }
+{
+    let Some(first) = raw.first() else {
+        return Err(MailParseError::Generic("Empty string provided"));
+    };
+    if *first == b' ' {
+        return Err(MailParseError::Generic(
+            "Header cannot start with a space; it is likely an overhanging line from a previous header",
+        ));
+    }
+    Ok(cut_header(raw))
+}
+
+/// The header at the front of the bytes, and how many bytes it takes.
+fn cut_header(raw: &[u8]) -> (MailHeader<'_>, usize)
+    ensures { result ≡ (header_of raw.now, header_length raw.now) }
+{
+    let line_end = line_feed_from(raw, 0);
+    let Some(colon) = find_byte(&raw[..line_end], b':') else {
+        let key = &raw[..line_end];
+        let value = &raw[line_end..line_end];
+        return (MailHeader { key, value }, length_to(raw, line_end));
+    };
+    let end = header_end(raw, line_end);
+    let key = &raw[..colon];
+    let value = trim_line_ends(trim_spaces(&raw[colon + 1..end]));
+    (MailHeader { key, value }, length_to(raw, end))
+}
+
+/// The least place of an LF at or after `from`, or the length where there is none.
+fn line_feed_from(raw: &[u8], from: usize) -> usize
+    requires { from ≤ length raw.now }
+    ensures least { result ≡ place_from (begins is_line_feed) raw.now from }
+    ensures within { result ≤ length raw.now }
+{
+    match find_byte(&raw[from..], b'\n') {
+        Some(place) => from + place,
+        None => raw.len(),
+    }
+}
+
+/// Where a header ends whose first LF after its colon is at `first`: at the first LF from there on
+/// that no space or tab follows, or at the end.
+fn header_end(raw: &[u8], first: usize) -> usize
+    requires fits { first ≤ length raw.now }
+    requires found { place_from (begins is_line_feed) raw.now first ≡ first }
+    ensures least { result ≡ place_from ends_header raw.now first }
+    ensures within { result ≤ length raw.now }
+{
+    let mut end = first;
+    while end < raw.len() && is_continued(raw, end + 1) {
+        end = line_feed_from(raw, end + 1);
+    }
+    end
+}
+
+/// Whether the line that begins at `place` continues the header before it.
+fn is_continued(raw: &[u8], place: usize) -> bool
+    ensures { result ≡ begins is_blank (drop place raw.now) }
+{
+    matches!(raw.get(place), Some(b' ' | b'\t'))
+}
+
+/// How many bytes a header takes that ends at `end`, its LF among them.
+fn length_to(raw: &[u8], end: usize) -> usize
+    requires { end ≤ length raw.now }
+    ensures { result ≡ min (suc end) (length raw.now) }
+{
+    if end < raw.len() { end + 1 } else { end }
+}
+
+/// The bytes without the spaces at their front.
+fn trim_spaces(bytes: &[u8]) -> &[u8]
+    ensures { result.now ≡ drop (first_place (begins (λ b. not (b == space))) bytes.now) bytes.now }
+{
+    for (place, byte) in bytes.iter().enumerate() {
+        if *byte != b' ' {
+            return &bytes[place..];
+        }
+    }
+    &bytes[bytes.len()..]
+}
+
+/// The bytes without the CR and LF at their end.
+fn trim_line_ends(bytes: &[u8]) -> &[u8]
+    ensures { result.now ≡ take (first_place (list_all is_line_end) bytes.now) bytes.now }
+{
+    let mut rest = bytes;
+    while let Some((last, front)) = rest.split_last() {
+        if *last != b'\r' && *last != b'\n' {
+            break;
+        }
+        rest = front;
+    }
+    rest
+}

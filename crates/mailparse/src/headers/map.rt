@@ -1,0 +1,176 @@
+//! Looking headers up by their names.
+ghost use Rattle.std.specs.Prelude.{◌≡◌, map, List, IsOk, IsNone, Ok, string_bytes};
+ghost use Rattle.std.specs.Option.{option_copied};
+ghost use Rattle.std.specs.Str.{str_eq_ignore_ascii_case};
+ghost use Rattle.mail_codec.specs.Latin1.{latin1_text};
+ghost use Rattle.mailparse.specs.Keys.{first_with_key, all_with_key, first_value, all_values, text_found};
+ghost use Rattle.mailparse.specs.Outcome.{AnswersOrMemory};
+
+use super::Headers;
+use crate::error::MailParseError;
+use crate::header::MailHeader;
+use std::alloc::Global;
+
+/// A list of headers, in the order of the message, that is looked up by name.
+///
+/// A name is compared with the text of a whole key, one character for each byte, ignoring ASCII
+/// case and nothing else: a space before the colon belongs to the key (RFC 5322, section 2.2).
+pub trait MailHeaderMap {
+    ghost use Rattle.mailparse.specs.Header.{Header};
+    // The headers that the map has now.
+    ghost present: { Self → List Header };
+
+    /// The first header with this name, or `None` where there is none. Takes no memory.
+    fn get_first_header(&self, key: &str) -> Option<&MailHeader<'_>>
+        ensures { option_copied result ≡ first_with_key key.now (present self.now) };
+
+    /// The value of the first header with this name, by `get_value`, or `None` where there is none;
+    /// then it takes no memory and succeeds. Else the one error is want of memory.
+    fn get_first_value(&self, alloc: Global, key: &str) -> Result<Option<String>, MailParseError>
+        ensures found { AnswersOrMemory text_found result (Ok (first_value key.now (present self.now))) }
+        ensures no_memory { IsNone (first_with_key key.now (present self.now)) → IsOk result };
+
+    /// The values of all headers with this name, by `get_value`, in the order of the message. Without
+    /// one it takes no memory and succeeds; else the one error is want of memory.
+    fn get_all_values(&self, alloc: Global, key: &str) -> Result<Vec<String>, MailParseError>
+        ensures found { AnswersOrMemory (λ v. map (λ t. string_bytes t) v.items) result (Ok (all_values key.now (present self.now))) }
+        ensures no_memory { IsNone (first_with_key key.now (present self.now)) → IsOk result };
+
+    /// All headers with this name, in the order of the message. Without one it takes no memory and
+    /// succeeds; else the one error is want of memory.
+    fn get_all_headers(
+        &self,
+        alloc: Global,
+        key: &str,
+    ) -> Result<Vec<&MailHeader<'_>>, MailParseError>
+        ensures found { AnswersOrMemory (λ v. map (λ h. h.now) v.items) result (Ok (all_with_key key.now (present self.now))) }
+        ensures no_memory { IsNone (first_with_key key.now (present self.now)) → IsOk result };
+}
+
+impl MailHeaderMap for Vec<MailHeader<'_>> {
+    ghost present = { λ v. v.items };
+
+    fn get_first_header(&self, key: &str) -> Option<&MailHeader<'_>> {
+        first_header(self.as_slice(), key)
+    }
+
+    fn get_first_value(&self, alloc: Global, key: &str) -> Result<Option<String>, MailParseError> {
+        first_value(alloc, self.as_slice(), key)
+    }
+
+    fn get_all_values(&self, alloc: Global, key: &str) -> Result<Vec<String>, MailParseError> {
+        all_values(alloc, self.as_slice(), key)
+    }
+
+    fn get_all_headers(
+        &self,
+        alloc: Global,
+        key: &str,
+    ) -> Result<Vec<&MailHeader<'_>>, MailParseError> {
+        all_headers(alloc, self.as_slice(), key)
+    }
+}
+
+impl MailHeaderMap for Headers<'_> {
+    ghost present = { λ block. block.headers };
+
+    fn get_first_header(&self, key: &str) -> Option<&MailHeader<'_>> {
+        first_header(self.list(), key)
+    }
+
+    fn get_first_value(&self, alloc: Global, key: &str) -> Result<Option<String>, MailParseError> {
+        first_value(alloc, self.list(), key)
+    }
+
+    fn get_all_values(&self, alloc: Global, key: &str) -> Result<Vec<String>, MailParseError> {
+        all_values(alloc, self.list(), key)
+    }
+
+    fn get_all_headers(
+        &self,
+        alloc: Global,
+        key: &str,
+    ) -> Result<Vec<&MailHeader<'_>>, MailParseError> {
+        all_headers(alloc, self.list(), key)
+    }
+}
+
+/// The first header of a list with this name.
+fn first_header<'h>(list: &'h [MailHeader<'h>], key: &str) -> Option<&'h MailHeader<'h>>
+    ensures { option_copied result ≡ first_with_key key.now list.now }
+{
+    for h in list {
+        if is_key(h.get_key_raw(), key) {
+            return Some(h);
+        }
+    }
+    None
+}
+
+/// The value of the first header of a list with this name.
+fn first_value<'h>(
+    alloc: Global,
+    list: &'h [MailHeader<'h>],
+    key: &str,
+) -> Result<Option<String>, MailParseError>
+    ensures found { AnswersOrMemory text_found result (Ok (first_value key.now list.now)) }
+    ensures no_memory { IsNone (first_with_key key.now list.now) → IsOk result }
+{
+    match first_header(list, key) {
+        None => Ok(None),
+        Some(h) => Ok(Some(h.get_value(alloc)?)),
+    }
+}
+
+/// The values of all headers of a list with this name.
+fn all_values<'h>(
+    alloc: Global,
+    list: &'h [MailHeader<'h>],
+    key: &str,
+) -> Result<Vec<String>, MailParseError>
+    ensures found { AnswersOrMemory (λ v. map (λ t. string_bytes t) v.items) result (Ok (all_values key.now list.now)) }
+    ensures no_memory { IsNone (first_with_key key.now list.now) → IsOk result }
+{
+    let mut found = Vec::new(alloc);
+    for h in list {
+        if is_key(h.get_key_raw(), key) {
+            found.push(h.get_value(alloc)?)?;
+        }
+    }
+    Ok(found)
+}
+
+/// All headers of a list with this name.
+fn all_headers<'h>(
+    alloc: Global,
+    list: &'h [MailHeader<'h>],
+    key: &str,
+) -> Result<Vec<&'h MailHeader<'h>>, MailParseError>
+    ensures found { AnswersOrMemory (λ v. map (λ h. h.now) v.items) result (Ok (all_with_key key.now list.now)) }
+    ensures no_memory { IsNone (first_with_key key.now list.now) → IsOk result }
+{
+    let mut found = Vec::new(alloc);
+    for h in list {
+        if is_key(h.get_key_raw(), key) {
+            found.push(h)?;
+        }
+    }
+    Ok(found)
+}
+
+/// Whether the bytes of a key are the characters of the name, ignoring ASCII case.
+fn is_key(key: &[u8], name: &str) -> bool
+    ensures { result ≡ str_eq_ignore_ascii_case (latin1_text key.now) name.now }
+{
+    let mut rest = key;
+    for character in name.chars() {
+        let Some((byte, others)) = rest.split_first() else {
+            return false;
+        };
+        if !char::from(*byte).eq_ignore_ascii_case(&character) {
+            return false;
+        }
+        rest = others;
+    }
+    rest.is_empty()
+}
