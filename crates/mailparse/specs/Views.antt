@@ -1,9 +1,16 @@
 -- What a contract sees of the types of the library.
-use Rattle.std.specs.Prelude.{ℕ}
+use Rattle.std.specs.Prelude.{ℕ, string_bytes}
 use Rattle.std.specs.Global.{Vec}
 use Rattle.mailparse.specs.Header.{Header}
 use Rattle.mailparse.specs.Block.{HeaderList}
 use Rattle.mailparse.specs.Mail.{Mail}
+use Rattle.mailparse.specs.ContentType.{ContentType}
+use Rattle.mailparse.specs.Disposition.{Disposition, Kind, inline, attachment, form_data, extension}
+use Rattle.mailparse.specs.Pairs.{text_at}
+use Rattle.mailparse.specs.declared.content_type.ParsedContentType.{ParsedContentType}
+use Rattle.mailparse.specs.declared.disposition.DispositionType.{DispositionType}
+use Rattle.mailparse.specs.declared.disposition.DispositionType.TheVariants as code
+use Rattle.mailparse.specs.declared.disposition.ParsedContentDisposition.{ParsedContentDisposition}
 use Rattle.mailparse.specs.declared.mail.ParsedMail.{ParsedMail}
 
 -- the headers of a list and the offset just after their blank line
@@ -13,3 +20,18 @@ header_list found = record { headers = found.0.items; index = found.1 }
 -- a message: its bytes, its block, the headers that it has now, and its body
 abbrev pub mail : ParsedMail → Mail
 mail m = record { bytes = m.raw_bytes.now; block = m.header_bytes.now; headers = m.headers.items; body = m.body_bytes.now }
+
+-- the type of a message's content
+abbrev pub content_type : ParsedContentType → ContentType
+content_type c = record { mimetype = string_bytes c.mimetype; charset = string_bytes c.charset; params = text_at c.params }
+
+-- the kind of a disposition
+abbrev pub kind : DispositionType → Kind
+kind code.Inline = inline
+kind code.Attachment = attachment
+kind code.FormData = form_data
+kind (code.Extension name) = extension (string_bytes name)
+
+-- how a part is to be shown
+abbrev pub disposition : ParsedContentDisposition → Disposition
+disposition d = record { kind = kind d.disposition; params = text_at d.params }
