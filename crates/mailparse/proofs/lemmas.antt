@@ -10,3 +10,6 @@ pub mod Unfolding
 pub mod Value
 pub mod Plain
 pub mod Lines
+pub mod Pieces
+pub mod Quoted
+pub mod Pairs

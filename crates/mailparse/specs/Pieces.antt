@@ -1,7 +1,7 @@
 -- The pieces of a value that has parameters, and the text that a quoted one stands for: RFC 2045, section 5.1, as this crate
 -- reads it. The text is cut at each `;` that stands outside of all quoted runs. A quoted run goes from a `"` to the next `"`
 -- that no `\` escapes, or to the end of the text.
-use Rattle.std.specs.Prelude.{ℕ, zero, suc, ◌-◌, Bool, true, false, not, ◌&&◌, ◌==◌, nat_lt, List, [], ◌∷◌, ◌++◌, length, slice_index, slice_range, codes, if◌then◌else◌}
+use Rattle.std.specs.Prelude.{◌≡◌, ◌≢◌, ℕ, zero, suc, ◌-◌, Bool, true, false, not, ◌&&◌, ◌==◌, nat_lt, List, [], ◌∷◌, ◌++◌, length, slice_index, slice_range, codes, if◌then◌else◌}
 use Rattle.std.specs.Str.{chars, encode_utf8_all}
 
 abbrev pub quote : ℕ
@@ -12,6 +12,43 @@ semicolon = 59
 
 abbrev pub backslash : ℕ
 backslash = 92
+
+-- ---- the grammar
+
+-- the bytes of a quoted run after the quote that opens it, and whether a quote ends it (true) or the end of the text (false)
+pub data IsRunAfter : Bool → List ℕ → Type 0 where
+  -- the quote that ends the run
+  closing_quote : IsRunAfter true (quote ∷ [])
+  -- the text ends here
+  text_ends : IsRunAfter false []
+  -- a backslash at the very end of the text
+  lone_backslash : IsRunAfter false (backslash ∷ [])
+  -- a backslash with any byte
+  escaped_byte : {closed : Bool} {b : ℕ} {rest : List ℕ} → IsRunAfter closed rest → IsRunAfter closed (backslash ∷ b ∷ rest)
+  -- a byte other than a quote and a backslash
+  plain_byte : {closed : Bool} {b : ℕ} {rest : List ℕ} → b ≢ quote → b ≢ backslash → IsRunAfter closed rest
+      → IsRunAfter closed (b ∷ rest)
+
+-- a piece, and whether all of its quoted runs are closed; one that is not goes up to the end of the text
+pub data IsPiece : Bool → List ℕ → Type 0 where
+  -- nothing more
+  piece_ends : IsPiece true []
+  -- a byte other than a quote and a semicolon
+  other_byte : {closed : Bool} {b : ℕ} {rest : List ℕ} → b ≢ quote → b ≢ semicolon → IsPiece closed rest
+      → IsPiece closed (b ∷ rest)
+  -- a quoted run that a quote ends
+  closed_run : {closed : Bool} {run rest piece : List ℕ} → IsRunAfter true run → IsPiece closed rest
+      → piece ≡ quote ∷ (run ++ rest) → IsPiece closed piece
+  -- a quoted run that the end of the text ends
+  open_run : {run : List ℕ} → IsRunAfter false run → IsPiece false (quote ∷ run)
+
+-- a text is these pieces, joined by semicolons
+pub data ArePieces : List ℕ → List (List ℕ) → Type 0 where
+  last_piece : {closed : Bool} {piece : List ℕ} → IsPiece closed piece → ArePieces piece (piece ∷ [])
+  more_pieces : {piece rest text : List ℕ} {more : List (List ℕ)} → IsPiece true piece → ArePieces rest more
+      → text ≡ piece ++ semicolon ∷ rest → ArePieces text (piece ∷ more)
+
+-- ---- the same as a function, which contracts cite
 
 -- how a byte stands: outside of quoted runs, within one, or within one directly after a `\` that escapes it
 pub data Within : Type 0 where
@@ -44,6 +81,8 @@ pieces_from within (b ∷ bytes) =
 -- the pieces of a text, in order; without a semicolon it is one
 unfoldable pub pieces : List ℕ → List (List ℕ)
 pieces text = pieces_from outside text
+
+-- ---- quoted texts
 
 -- whether a number is odd
 abbrev pub is_odd : ℕ → Bool

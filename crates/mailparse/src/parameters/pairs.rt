@@ -25,7 +25,7 @@ pub(crate) fn pairs(
     alloc: Global,
     text: Option<&str>,
 ) -> Result<BTreeMap<String, String>, AllocError>
-    ensures { IfOk result (λ m. (name : List ℕ) → text_at m name ≡ last_of (pairs_in (pieces_of_rest text)) name) }
+    ensures { IfOk result (λ m. (name : List ℕ) → text_at m name ≡ last_of (pairs_in (pieces_of_rest text.entry)) name) }
 {
     let mut found = BTreeMap::new(alloc);
     let mut left = text;

@@ -1,7 +1,8 @@
 //! The pieces of a text that has parameters, and quoted texts (RFC 2045, section 5.1).
 ghost use Rattle.std.specs.Prelude.{◌≡◌, ◌∷◌, ◌<◌, false, true, length, IfOk, IfSome, MatchOption};
+ghost use Rattle.std.specs.Str.{chars, encode_utf8_all};
 ghost use Rattle.std.specs.String.{string_bytes};
-ghost use Rattle.mailparse.specs.Pieces.{after, ends, inside_quotes, is_quoted, pieces, unescape};
+ghost use Rattle.mailparse.specs.Pieces.{after, ends, inside_quotes, is_quoted, pieces, unescape, without_escapes};
 ghost use Rattle.mailparse.specs.private.Pieces.{pieces_of_rest, within};
 
 use std::alloc::{AllocError, Global};
@@ -89,15 +90,23 @@ fn inside_quotes(text: &str) -> Option<&str>
 
 /// The text that a text stands for: a quoted one for what stands between its quotes, without the
 /// backslashes that escape, any other text for itself.
+#[tactic(auto, unfolding(crate::specs::Pieces::unescape))]
 pub(crate) fn unescape(alloc: Global, text: &str) -> Result<String, AllocError>
     ensures { IfOk result (λ plain. string_bytes plain ≡ unescape text.now) }
 {
-    let Some(inside) = inside_quotes(text) else {
-        return String::from_str(alloc, text);
-    };
-    let mut plain = String::with_capacity(alloc, inside.len())?;
+    match inside_quotes(text) {
+        Some(inside) => without_escapes(alloc, inside),
+        None => String::from_str(alloc, text),
+    }
+}
+
+/// A text without the backslashes that no backslash escapes.
+fn without_escapes(alloc: Global, text: &str) -> Result<String, AllocError>
+    ensures { IfOk result (λ plain. string_bytes plain ≡ encode_utf8_all (without_escapes 0 (chars text.now))) }
+{
+    let mut plain = String::with_capacity(alloc, text.len())?;
     let mut is_escaped = false;
-    for c in inside.chars() {
+    for c in text.chars() {
         if c == '\\' && !is_escaped {
             is_escaped = true;
             continue;
