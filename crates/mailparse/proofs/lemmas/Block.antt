@@ -424,26 +424,32 @@ read_mail-err raw refusal e = rw e refl
 pub read_mail-not_err : (raw : List ℕ) (block : HeaderList) → read_headers raw ≡ Ok block → IsErr (read_mail raw) → ⊥
 read_mail-not_err raw block e refused = let f : false ≡ true = subst (λ (m : Result Mail Refusal). IsErr m) (read_mail-ok raw block e) refused in cc
 
--- the index of a block is the place where its headers stop, and the blank line behind it
-pub read_headers-index : (raw : List ℕ) (block : HeaderList) → read_headers raw ≡ Ok block → block.index ≡ header_place raw (header_count raw) + blank_line (rest_at raw (header_count raw))
-read_headers-index raw block e = by_tests (headers_end (rest_at raw (header_count raw))) (stands (13 ∷ []) (rest_at raw (header_count raw))) refl refl
+-- what a block is that is read: the headers at its places, and the place after the blank line
+abbrev block_read : List ℕ → HeaderList
+block_read raw = record {
+  headers = values_below (header_count raw) (λ j. header_of (rest_at raw j));
+  index = header_place raw (header_count raw) + blank_line (rest_at raw (header_count raw));
+}
+
+read_headers-is : (raw : List ℕ) (block : HeaderList) → read_headers raw ≡ Ok block → block_read raw ≡ block
+read_headers-is raw block e = by_tests (headers_end stop) (stands (13 ∷ []) stop) refl refl
   where
     stop : List ℕ
     stop = rest_at raw (header_count raw)
 
-    found : List Header
-    found = values_below (header_count raw) (λ j. header_of (rest_at raw j))
-
-    at : (h r : Bool) → headers_end stop ≡ h → stands (13 ∷ []) stop ≡ r → cond h (Ok (record { headers = found; index = header_place raw (header_count raw) + blank_line stop })) (cond r (Err lone_carriage_return) (Err leading_space)) ≡ Ok block
+    at : (h r : Bool) → headers_end stop ≡ h → stands (13 ∷ []) stop ≡ r → cond h (Ok (block_read raw)) (cond r (Err lone_carriage_return) (Err leading_space)) ≡ Ok block
     at h r ends return = sym (read_headers-end_at raw ∙ (rw (ends, return) refl)) ∙ e
 
-    by_tests : (h r : Bool) → headers_end stop ≡ h → stands (13 ∷ []) stop ≡ r → block.index ≡ header_place raw (header_count raw) + blank_line stop
-    by_tests true r ends return =
-        let f = at true r ends return in
-        let same : ◌≡◌ {A = HeaderList} (record { headers = found; index = header_place raw (header_count raw) + blank_line stop }) block = cc in
-        sym (ap (λ (b : HeaderList). b.index) same)
+    by_tests : (h r : Bool) → headers_end stop ≡ h → stands (13 ∷ []) stop ≡ r → block_read raw ≡ block
+    by_tests true r ends return = let f = at true r ends return in cc
     by_tests false true ends return = let f = at false true ends return in absurd (cc)
     by_tests false false ends return = let f = at false false ends return in absurd (cc)
+
+pub read_headers-index : (raw : List ℕ) (block : HeaderList) → read_headers raw ≡ Ok block → block.index ≡ header_place raw (header_count raw) + blank_line (rest_at raw (header_count raw))
+read_headers-index raw block e = sym (ap (λ (b : HeaderList). b.index) (read_headers-is raw block e))
+
+pub read_headers-list : (raw : List ℕ) (block : HeaderList) → read_headers raw ≡ Ok block → block.headers ≡ values_below (header_count raw) (λ j. header_of (rest_at raw j))
+read_headers-list raw block e = sym (ap (λ (b : HeaderList). b.headers) (read_headers-is raw block e))
 
 pub header_place-first : (raw : List ℕ) → header_place raw 0 ≡ 0
 unfolding header_place

@@ -338,3 +338,37 @@ header_length-≤ raw = omega arith
 pub header_length-> : (raw : List ℕ) → 0 < length raw → 0 < header_length raw
 unfolding header_length
 header_length-> raw h = omega arith
+
+-- without a colon the value stands, empty, where the key ends
+no_start : (raw : List ℕ) → has_colon raw ≡ false → value_start raw ≡ key_end raw
+unfolding value_start
+no_start raw e = rw e refl
+
+no_end : (raw : List ℕ) → has_colon raw ≡ false → value_end raw ≡ key_end raw
+unfolding value_end
+no_end raw e = rw e refl
+
+-- a header's key, value and end stand in this order
+pub value-in_order : (raw : List ℕ) → (key_end raw ≤ value_start raw) × (value_start raw ≤ value_end raw) × (value_end raw ≤ header_length raw)
+unfolding header_length
+value-in_order raw = by_colon (has_colon raw) refl
+  where
+    without : has_colon raw ≡ false → (value_start raw ≡ key_end raw) × (value_end raw ≡ key_end raw)
+    without e = (no_start raw e, no_end raw e)
+
+    by_colon : (v : Bool) → has_colon raw ≡ v → (key_end raw ≤ value_start raw) × (value_start raw ≤ value_end raw) × (value_end raw ≤ min (suc (header_end raw)) (length raw))
+    by_colon true e =
+        let starts = value_start-colon raw e in
+        let ends = value_end-colon raw e in
+        let size = length-cut raw e in
+        let order = header_end-> raw e in
+        let within = header_end-≤ raw in
+        let front = first_place-≤ (begins (λ b. not (eqb b 32))) (cut raw) in
+        let back = first_place-≤ (list_all is_line_end) (drop (spaces raw) (cut raw)) in
+        let rest = length-drop (spaces raw) (cut raw) in
+        (omega arith, omega arith, omega arith)
+    by_colon false e =
+        let same = without e in
+        let at = header_end-key raw e in
+        let within = key_end-≤ raw in
+        (omega arith, omega arith, omega arith)
