@@ -109,11 +109,6 @@ takes_word text t h rest = ap (λ r. text ++ r) (go h) ∙ sym (append_assoc tex
     go (held.White white) = ap (λ r. t ++ r) (word_alike (Some white_space) rest)
     go (held.LineEnd white) = refl
 
--- white after a decoded word is held back
-pub holds_white : (text : List ℕ) (white : Bor (List ℕ)) (rest : List Token)
-    → shown_of text held.Word (white_token white.now ∷ rest) ≡ shown_of text (held.White white) rest
-holds_white text white rest = refl
-
 -- and other white shows
 pub takes_white : (text t : List ℕ) (h : Held) (rest : List Token) → h ≢ held.Word
     → shown_of text h (white_token t ∷ rest) ≡ shown_of (text ++ t) held.Nothing rest
