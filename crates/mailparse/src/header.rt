@@ -80,12 +80,12 @@ impl<'a> MailHeader<'a> {
         ensures no_memory { IsErr (strict_value self.now.value) →
             Answers (λ text. string_bytes text) result (strict_value self.now.value) }
     {
-        match str::from_utf8(self.get_value_raw()) {
-            Ok(text) => Ok(unfolded_value(alloc, text)?),
-            Err(_) => Err(MailParseError::EncodingError(CowStr::Borrowed(
+        let Ok(text) = str::from_utf8(self.get_value_raw()) else {
+            return Err(MailParseError::EncodingError(CowStr::Borrowed(
                 "Invalid UTF-8 in header value",
-            ))),
-        }
+            )));
+        };
+        Ok(unfolded_value(alloc, text)?)
     }
 
     /// The bytes of the key, as they stand in the message, spaces before the colon among them.
