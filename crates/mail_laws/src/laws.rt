@@ -39,7 +39,8 @@ pub fn keys_and_values_stand_apart()
 /// Exactly one list of tokens fits a line of a value, the one that is computed, whatever charsets are
 /// known.
 pub fn one_list_of_tokens_fits()
-    ensures fits { (known : Charsets) (line : List ℕ) → AreTokens known line (token_ranges known line) }
+    ensures fits { (known : Charsets) (line : List ℕ)
+        → AreTokens known line (token_ranges known line) }
     ensures only { (known : Charsets) (line : List ℕ) (tokens : List TokenRange)
         → AreTokens known line tokens → tokens ≡ token_ranges known line }
 {}
@@ -47,7 +48,8 @@ pub fn one_list_of_tokens_fits()
 /// The tokens of a line stand one after another from its start to its end, so that their bytes make up
 /// the line.
 pub fn tokens_make_up_line()
-    ensures adjoin { (known : Charsets) (line : List ℕ) → Adjoin 0 (token_ranges known line) (length line) }
+    ensures adjoin { (known : Charsets) (line : List ℕ)
+        → Adjoin 0 (token_ranges known line) (length line) }
     ensures bytes { (known : Charsets) (line : List ℕ)
         → flat_map (token_source line) (token_ranges known line) ≡ line }
 {}
@@ -72,6 +74,8 @@ pub fn plain_value_reads_as_itself()
 /// Where the bytes of a value are UTF-8, the strict reading succeeds and agrees with the lenient one;
 /// and where the strict reading succeeds, it agrees with the lenient one.
 pub fn utf8_value_agrees()
-    ensures agrees { (bytes : List ℕ) → IsUtf8 bytes → strict_value bytes ≡ Ok (lenient_value bytes) }
-    ensures succeeds { (bytes value : List ℕ) → strict_value bytes ≡ Ok value → lenient_value bytes ≡ value }
+    ensures agrees { (bytes : List ℕ) → IsUtf8 bytes →
+        strict_value bytes ≡ Ok (lenient_value bytes) }
+    ensures succeeds { (bytes value : List ℕ) → strict_value bytes ≡ Ok value →
+        lenient_value bytes ≡ value }
 {}

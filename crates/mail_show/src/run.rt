@@ -59,7 +59,8 @@ pub fn run<R: Read, W: Write>(
 ) -> Result<(), ShowFault>
     ensures shown { IfOk result (λ done. HasShown (R.remaining reader.old) (R.remaining reader.new)
         (W.contents writer.old) (W.contents writer.new)) }
-    ensures refused { IfErr result (IfMail (λ e. Keeps (W.contents writer.old) (W.contents writer.new)
+    ensures refused { IfErr result (IfMail (λ e.
+        Keeps (W.contents writer.old) (W.contents writer.new)
         × RefusesInput (R.remaining reader.old) (R.remaining reader.new) e)) }
     ensures input_failed { IfErr result (IfInput
         (Keeps (W.contents writer.old) (W.contents writer.new))) }

@@ -47,7 +47,8 @@ impl<'a> MailHeader<'a> {
     /// The text of the key, borrowed exactly where all its bytes are ASCII: then it takes no memory
     /// and succeeds. Else the error is want of memory.
     pub fn get_key_ref(&self, alloc: Global) -> Result<CowStr<'_>, MailParseError>
-        ensures text { AnswersOrMemory (λ text. cow_str_bytes text) result (Ok (key_text self.now)) }
+        ensures text { AnswersOrMemory (λ text. cow_str_bytes text) result
+            (Ok (key_text self.now)) }
         ensures borrowed { IfOk result (λ text. IsBorrowedStr text ↔ IsAscii self.now.key) }
         ensures no_memory { IsAscii self.now.key → IsOk result }
     {

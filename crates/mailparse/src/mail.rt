@@ -43,7 +43,8 @@ impl<'a> ParsedMail<'a> {
 /// `parse_mail(alloc, b"Subject: Hi\n\nbody")` has one header and the body `body`.
 pub fn parse_mail(alloc: Global, raw: &[u8]) -> Result<ParsedMail<'_>, MailParseError>
     ensures read { AnswersOrMemory mail result (read_mail raw.now) }
-    ensures no_memory { header_count raw.now ≡ 0 → IsErr (read_mail raw.now) → Answers mail result (read_mail raw.now) }
+    ensures no_memory { header_count raw.now ≡ 0 → IsErr (read_mail raw.now) →
+        Answers mail result (read_mail raw.now) }
 {
     let (headers, index) = parse_headers(alloc, raw)?;
     let (header_bytes, body_bytes) = raw.split_at(index);
