@@ -56,7 +56,7 @@ pub fn tokens_make_up_line()
 
 /// Between two adjacent decoded words neither white nor the end of a line ever shows: a value shows
 /// what it would show if the second word stood directly after the first. (White at the start of a
-/// line is no part of it, so the token before a word there is empty.)
+/// line is not part of it, so the token before a word there is empty.)
 pub fn adjacent_words_join()
     ensures white_between { (before rest : List Token) (first gap second : List ℕ) →
         shown_tokens (before ++ word first ∷ white gap ∷ word second ∷ rest)

@@ -34,7 +34,7 @@ impl<'a> ParsedMail<'a> {
     }
 }
 
-/// Reads a message: its header block, and behind the blank line its body (RFC 5322, section 2.1).
+/// Reads a message: its header block, and after the blank line its body (RFC 5322, section 2.1).
 ///
 /// Any bytes are a message, the empty input too, but for a header that begins with a space and a CR
 /// without LF where a header or the blank line is wanted, which are refused. It takes memory for

@@ -49,7 +49,7 @@ pub closing_here : (line : List ℕ) (at : ℕ) → at < length line → place_f
 closing_here line at some found beside =
     place_from_here begins_closing line at some (and_from _ _ (pair_here line at some found) (closing_beside line at ∙ beside))
 
--- and one without is none
+-- and a text without one has none
 pub closing_next : (line : List ℕ) (at : ℕ) → at < length line → begins_with_boundary (chars (drop (at + 2) line)) ≡ false
     → closing line at ≡ closing line (at + 1)
 closing_next line at some beside =

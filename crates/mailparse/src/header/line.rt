@@ -111,7 +111,7 @@ fn find_closing_or_keep(line: &str, from: usize, kept: usize) -> usize
 /// Takes the tokens of one line, in order.
 ///
 /// It takes time in the line's length alone: the end of a word that was found is kept until the
-/// search is past it, and so is that there is none.
+/// search is past it; that there is none is kept too.
 pub(crate) fn push_line<'a>(
     alloc: Global,
     line: &'a str,

@@ -25,20 +25,20 @@ pub trait MailHeaderMap {
         ensures { option_copied result ≡ first_with_key key.now (present self.now) };
 
     /// The value of the first header with this name, by `get_value`, or `None` where there is none;
-    /// then it takes no memory and succeeds. Else the one error is want of memory.
+    /// then it takes no memory and succeeds. Otherwise the one error is that memory ran out.
     fn get_first_value(&self, alloc: Global, key: &str) -> Result<Option<String>, MailParseError>
         ensures found { AnswersOrMemory text_found result
             (Ok (first_value key.now (present self.now))) }
         ensures no_memory { IsNone (first_with_key key.now (present self.now)) → IsOk result };
 
     /// The values of all headers with this name, by `get_value`, in the order of the message. Without
-    /// one it takes no memory and succeeds; else the one error is want of memory.
+    /// one it takes no memory and succeeds; otherwise the one error is that memory ran out.
     fn get_all_values(&self, alloc: Global, key: &str) -> Result<Vec<String>, MailParseError>
         ensures found { GivesTexts result (all_values key.now (present self.now)) }
         ensures no_memory { IsNone (first_with_key key.now (present self.now)) → IsOk result };
 
     /// All headers with this name, in the order of the message. Without one it takes no memory and
-    /// succeeds; else the one error is want of memory.
+    /// succeeds; otherwise the one error is that memory ran out.
     fn get_all_headers(
         &self,
         alloc: Global,
