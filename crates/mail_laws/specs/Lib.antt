@@ -1,1 +1,9 @@
 pub mod Spans
+pub mod WordTokens
+pub use Rattle.mailparse.specs.Refusal
+pub use Rattle.mailparse.specs.Outcome
+pub use Rattle.mailparse.specs.Ranges
+pub use Rattle.mailparse.specs.Header
+pub use Rattle.mailparse.specs.Block
+pub use Rattle.mailparse.specs.Tokens
+pub use Rattle.mailparse.specs.Value
