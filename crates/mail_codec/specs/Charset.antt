@@ -131,10 +131,14 @@ byte_order_marks = (Utf8, 0xEF ∷ 0xBB ∷ 0xBF ∷ []) ∷ (Utf16Be, 0xFE ∷ 
 abbrev pub mark_at_start : List ℕ → Option (Charset × List ℕ)
 mark_at_start bytes = find (λ mark. starts_with nat_eq bytes mark.1) byte_order_marks
 
--- the text of bytes in a charset, where a byte order mark is removed and overrules the charset
+-- the text of bytes in a charset that is read so, where a byte order mark is removed and overrules the charset
+abbrev pub marked : (List ℕ → List ℕ) → List ℕ → List ℕ
+marked reading bytes =
+    option_map_or (λ mark. text_of mark.0 (drop (length mark.1) bytes)) (mark_at_start bytes) (reading bytes)
+
+-- the same for one of the four charsets
 unfoldable pub marked_text_of : Charset → List ℕ → List ℕ
-marked_text_of charset bytes =
-    option_map_or (λ mark. text_of mark.0 (drop (length mark.1) bytes)) (mark_at_start bytes) (text_of charset bytes)
+marked_text_of charset bytes = marked (text_of charset) bytes
 
 -- the text of bytes under no known label: ASCII, with U+FFFD for each other byte
 abbrev pub ascii_text : List ℕ → List ℕ

@@ -3,7 +3,7 @@ use Rattle.std.specs.Prelude.{ℕ, List, codes, Option, Some, None, Result, Ok, 
 use Rattle.std.specs.Option.{option_map_or}
 use Rattle.std.specs.Str.{bytes_eq}
 use Rattle.mail_codec.specs.Places.{without_ascii_whitespace}
-use Rattle.mail_codec.specs.Charset.{charset_of_label, marked_text_of, ascii_text}
+use Rattle.mail_codec.specs.Charset.{Charsets, four_charsets, marked, ascii_text}
 use Rattle.mail_codec.specs.Base64.{base64}
 use Rattle.mail_codec.specs.QuotedPrintable.{quoted_printable}
 use Rattle.mailparse.specs.Refusal.{Refusal, base64_fault}
@@ -27,7 +27,7 @@ abbrev pub base64_bytes : Result (List ℕ) ℕ → Result (List ℕ) Refusal
 base64_bytes (Ok bytes) = Ok bytes
 base64_bytes (Err group) = Err (base64_fault group)
 
--- the bytes that a body stands for: in Base64, where ASCII white space counts as absent, in quoted-printable, or as it is
+-- the bytes that a body stands for: in Base64, where ASCII white space is ignored, in quoted-printable, or as it is
 unfoldable pub decoded : BodyKind → List ℕ → Result (List ℕ) Refusal
 decoded in_base64 body = base64_bytes (base64 (without_ascii_whitespace body))
 decoded in_quoted_printable body = Ok (quoted_printable body)
@@ -35,15 +35,25 @@ decoded in_7bit body = Ok body
 decoded in_8bit body = Ok body
 decoded in_binary body = Ok body
 
--- the text of bytes under the label of a charset: a byte order mark decides first; under an unknown label they are ASCII
-unfoldable pub text_under : List ℕ → List ℕ → List ℕ
-text_under label bytes = option_map_or (λ charset. marked_text_of charset bytes) (charset_of_label label) (ascii_text bytes)
+-- Under the charsets that are known.
+module _ (known : Charsets) where
+  -- the text of bytes under the label of a charset: a byte order mark decides first; under an unknown label they are ASCII
+  abbrev pub text_under_in : List ℕ → List ℕ → List ℕ
+  text_under_in label bytes = option_map_or (λ reading. marked reading bytes) (known label) (ascii_text bytes)
 
--- the text of what was decoded, or its refusal
-abbrev pub text_of_decoded : List ℕ → Result (List ℕ) Refusal → Result (List ℕ) Refusal
-text_of_decoded label (Ok bytes) = Ok (text_under label bytes)
-text_of_decoded label (Err refusal) = Err refusal
+  -- the text of what was decoded, or its refusal
+  abbrev pub text_of_decoded : List ℕ → Result (List ℕ) Refusal → Result (List ℕ) Refusal
+  text_of_decoded label (Ok bytes) = Ok (text_under_in label bytes)
+  text_of_decoded label (Err refusal) = Err refusal
+
+  -- the text of a body under the label of a charset
+  abbrev pub decoded_text_in : BodyKind → List ℕ → List ℕ → Result (List ℕ) Refusal
+  decoded_text_in kind label body = text_of_decoded label (decoded kind body)
+
+-- the text of bytes under the label of a charset
+unfoldable pub text_under : List ℕ → List ℕ → List ℕ
+text_under label bytes = text_under_in four_charsets label bytes
 
 -- the text of a body under the label of a charset
 unfoldable pub decoded_text : BodyKind → List ℕ → List ℕ → Result (List ℕ) Refusal
-decoded_text kind label body = text_of_decoded label (decoded kind body)
+decoded_text kind label body = decoded_text_in four_charsets kind label body

@@ -1,13 +1,13 @@
 -- What a contract sees of the bodies of the library.
-use Rattle.std.specs.Prelude.{◌≡◌, ℕ, List, Option, Some, None}
+use Rattle.std.specs.Prelude.{◌≡◌, ℕ, List, Option, Some, None, String}
 use Rattle.std.specs.String.{string_bytes}
-use Rattle.std.specs.Prelude.{String}
 use Rattle.std.specs.Global.{Global}
 use Rattle.mailparse.specs.Body.{BodyKind, in_base64, in_quoted_printable, in_7bit, in_8bit, in_binary}
 use Rattle.mailparse.specs.ContentType.{ContentType}
 use Rattle.mailparse.specs.Views.{content_type}
 use Rattle.mailparse.specs.declared.body.Body.{Body}
 use Rattle.mailparse.specs.declared.body.Body.TheVariants.{Base64, QuotedPrintable, SevenBit, EightBit, Binary}
+use Rattle.mailparse.specs.declared.body.content.BodyContent.{BodyContent}
 use Rattle.mailparse.specs.declared.body.encoded.Encoding.{Encoding}
 use Rattle.mailparse.specs.declared.body.encoded.Encoding.TheVariants as encoding
 use Rattle.mailparse.specs.declared.body.encoded.EncodedBody.{EncodedBody}
@@ -19,6 +19,10 @@ pub record Content : Type 0 where
   pub raw : List ℕ
   pub ctype : ContentType
 
+-- what is the same in all bodies
+abbrev pub content : BodyContent → Content
+content c = record { raw = c.raw.now; ctype = content_type c.ctype.now }
+
 -- what an encoded body is in
 abbrev pub encoding_kind : Encoding → BodyKind
 encoding_kind encoding.Base64 = in_base64
@@ -27,15 +31,15 @@ encoding_kind encoding.QuotedPrintable = in_quoted_printable
 abbrev pub encoded_kind : EncodedBody → BodyKind
 encoded_kind b = encoding_kind b.encoding
 
--- the bytes of a body as they stand, and the type that was handed in with them
+-- the content of each kind of body
 abbrev pub encoded_content : EncodedBody → Content
-encoded_content b = record { raw = b.body.now; ctype = content_type b.ctype.now }
+encoded_content b = content b.content
 
 abbrev pub text_content : TextBody → Content
-text_content b = record { raw = b.body.now; ctype = content_type b.ctype.now }
+text_content b = content b.content
 
 abbrev pub binary_content : BinaryBody → Content
-binary_content b = record { raw = b.body.now; ctype = content_type b.ctype.now }
+binary_content b = content b.content
 
 -- the text that names a transfer coding, if there is one
 abbrev pub name_of : Option (String Global) → Option (List ℕ)
@@ -44,8 +48,8 @@ name_of (Some name) = Some (string_bytes name)
 
 -- a body is of this kind and has this content
 abbrev pub IsBody : BodyKind → Content → Body → Type 0
-IsBody kind content (Base64 b) = (kind ≡ in_base64) × (encoded_kind b ≡ in_base64) × (encoded_content b ≡ content)
-IsBody kind content (QuotedPrintable b) = (kind ≡ in_quoted_printable) × (encoded_kind b ≡ in_quoted_printable) × (encoded_content b ≡ content)
-IsBody kind content (SevenBit b) = (kind ≡ in_7bit) × (text_content b ≡ content)
-IsBody kind content (EightBit b) = (kind ≡ in_8bit) × (text_content b ≡ content)
-IsBody kind content (Binary b) = (kind ≡ in_binary) × (binary_content b ≡ content)
+IsBody kind given (Base64 b) = (kind ≡ in_base64) × (encoded_kind b ≡ in_base64) × (encoded_content b ≡ given)
+IsBody kind given (QuotedPrintable b) = (kind ≡ in_quoted_printable) × (encoded_kind b ≡ in_quoted_printable) × (encoded_content b ≡ given)
+IsBody kind given (SevenBit b) = (kind ≡ in_7bit) × (text_content b ≡ given)
+IsBody kind given (EightBit b) = (kind ≡ in_8bit) × (text_content b ≡ given)
+IsBody kind given (Binary b) = (kind ≡ in_binary) × (binary_content b ≡ given)

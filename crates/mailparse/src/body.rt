@@ -1,21 +1,18 @@
 //! The body of a message: its transfer coding, its bytes and its text.
-ghost use Rattle.std.specs.Prelude.{Ok, string_bytes};
-ghost use Rattle.mailparse.specs.Body.{kind_named, text_under};
+ghost use Rattle.mailparse.specs.Body.{kind_named};
 ghost use Rattle.mailparse.specs.BodyViews.{IsBody, name_of};
-ghost use Rattle.mailparse.specs.Outcome.{AnswersOrMemory};
 ghost use Rattle.mailparse.specs.Views.{content_type};
 
 mod binary;
+mod content;
 mod encoded;
 mod text;
 
 use crate::content_type::ParsedContentType;
-use crate::error::MailParseError;
 pub use binary::BinaryBody;
+use content::BodyContent;
 pub use encoded::EncodedBody;
 use encoded::Encoding;
-use mail_codec::charset::{Charset, decode_ascii};
-use std::alloc::Global;
 pub use text::TextBody;
 
 /// A body by its transfer coding (RFC 2045, section 6).
@@ -43,40 +40,25 @@ impl<'a> Body<'a> {
         ctype: &'a ParsedContentType,
         transfer_encoding: &Option<String>,
     ) -> Body<'a>
-        ensures { IsBody (kind_named (name_of transfer_encoding.now)) (record { raw = body.entry.now; ctype = content_type ctype.entry.now }) result }
+        ensures { IsBody (kind_named (name_of transfer_encoding.now))
+            (record { raw = body.entry.now; ctype = content_type ctype.entry.now }) result }
     {
+        let content = BodyContent { raw: body, ctype };
         let Some(name) = transfer_encoding else {
-            return Body::SevenBit(TextBody { body, ctype });
+            return Body::SevenBit(TextBody { content });
         };
         match name.as_str() {
             "base64" => Body::Base64(EncodedBody {
                 encoding: Encoding::Base64,
-                body,
-                ctype,
+                content,
             }),
             "quoted-printable" => Body::QuotedPrintable(EncodedBody {
                 encoding: Encoding::QuotedPrintable,
-                body,
-                ctype,
+                content,
             }),
-            "8bit" => Body::EightBit(TextBody { body, ctype }),
-            "binary" => Body::Binary(BinaryBody { body, ctype }),
-            _ => Body::SevenBit(TextBody { body, ctype }),
+            "8bit" => Body::EightBit(TextBody { content }),
+            "binary" => Body::Binary(BinaryBody { content }),
+            _ => Body::SevenBit(TextBody { content }),
         }
-    }
-}
-
-/// The text of bytes under the charset of a content type.
-#[tactic(auto, unfolding(crate::specs::Body::text_under))]
-fn body_text(
-    alloc: Global,
-    bytes: &[u8],
-    ctype: &ParsedContentType,
-) -> Result<String, MailParseError>
-    ensures { AnswersOrMemory (λ text. string_bytes text) result (Ok (text_under (content_type ctype.now).charset bytes.now)) }
-{
-    match Charset::for_label(ctype.charset.as_bytes()) {
-        Some(charset) => Ok(charset.decode(alloc, bytes)?),
-        None => Ok(decode_ascii(alloc, bytes)?.into_owned(alloc)?),
     }
 }

@@ -1,11 +1,11 @@
 //! A body that is encoded (RFC 2045, sections 6.7 and 6.8).
-ghost use Rattle.std.specs.Prelude.{◌≡◌, string_bytes};
+ghost use Rattle.std.specs.Prelude.{◌≡◌};
 ghost use Rattle.mailparse.specs.Body.{in_base64, decoded, decoded_text};
-ghost use Rattle.mailparse.specs.BodyViews.{encoded_kind, encoded_content};
-ghost use Rattle.mailparse.specs.Outcome.{AnswersOrMemory};
+ghost use Rattle.mailparse.specs.BodyViews.{encoded_content, encoded_kind};
+ghost use Rattle.mailparse.specs.Outcome.{ReadsBytes, ReadsText};
 ghost use Rattle.mailparse.specs.Views.{content_type};
 
-use super::body_text;
+use super::content::BodyContent;
 use crate::content_type::ParsedContentType;
 use crate::error::{Base64Fault, MailParseError};
 use mail_codec::transfer::{decode_base64_body, decode_quoted_printable};
@@ -22,8 +22,7 @@ pub(super) enum Encoding {
 #[derive(Clone, Copy)]
 pub struct EncodedBody<'a> {
     pub(super) encoding: Encoding,
-    pub(super) body: &'a [u8],
-    pub(super) ctype: &'a ParsedContentType,
+    pub(super) content: BodyContent<'a>,
 }
 
 impl<'a> EncodedBody<'a> {
@@ -31,46 +30,47 @@ impl<'a> EncodedBody<'a> {
     pub fn get_content_type(&self) -> &'a ParsedContentType
         ensures { content_type result.now ≡ (encoded_content self.now).ctype }
     {
-        self.ctype
+        self.content.ctype
     }
 
     /// The bytes of the body as they stand in the message. Takes no memory.
     pub fn get_raw(&self) -> &'a [u8]
         ensures { result.now ≡ (encoded_content self.now).raw }
     {
-        self.body
+        self.content.raw
     }
 
-    /// The bytes that the body stands for (RFC 2045, sections 6.7 and 6.8). Base64 is refused by the
-    /// number of the first group that is none, ASCII white space counting as absent; quoted-printable
+    /// The bytes that the body stands for (RFC 2045, sections 6.7 and 6.8). Base64, in which ASCII
+    /// white space is ignored, is refused by the index of the first invalid group; quoted-printable
     /// never is. Takes memory for the answer and, in Base64, a few kilobytes more.
     #[tactic(auto, unfolding(crate::specs::Body::decoded))]
     pub fn get_decoded(&self, alloc: Global) -> Result<Vec<u8>, MailParseError>
-        ensures { AnswersOrMemory (λ bytes. bytes.items) result (decoded (encoded_kind self.now) (encoded_content self.now).raw) }
+        ensures { ReadsBytes result
+            (decoded (encoded_kind self.now) (encoded_content self.now).raw) }
     {
         match self.encoding {
-            Encoding::Base64 => base64_body(alloc, self.body),
-            Encoding::QuotedPrintable => Ok(decode_quoted_printable(alloc, self.body)?),
+            Encoding::Base64 => base64_body(alloc, self.get_raw()),
+            Encoding::QuotedPrintable => Ok(decode_quoted_printable(alloc, self.get_raw())?),
         }
     }
 
     /// The text that the body stands for, under the charset of its content type: a byte order mark
-    /// decides first, and under an unknown label each byte that is no ASCII is U+FFFD. Refused as
+    /// decides first, and under an unknown label each byte that is not ASCII is U+FFFD. Refused as
     /// `get_decoded` is.
-    #[tactic(auto, unfolding(crate::specs::Body::decoded_text))]
+    #[tactic(auto, unfolding(crate::specs::Body::decoded_text, crate::specs::Body::text_under))]
     pub fn get_decoded_as_string(&self, alloc: Global) -> Result<String, MailParseError>
-        ensures { AnswersOrMemory (λ text. string_bytes text) result
-            (decoded_text (encoded_kind self.now) (encoded_content self.now).ctype.charset (encoded_content self.now).raw) }
+        ensures { ReadsText result (decoded_text (encoded_kind self.now)
+            (encoded_content self.now).ctype.charset (encoded_content self.now).raw) }
     {
         let bytes = self.get_decoded(alloc)?;
-        body_text(alloc, bytes.as_slice(), self.ctype)
+        self.content.text_of(alloc, bytes.as_slice())
     }
 }
 
 /// The bytes of a body in Base64.
 #[tactic(auto, unfolding(crate::specs::Body::decoded))]
 fn base64_body(alloc: Global, body: &[u8]) -> Result<Vec<u8>, MailParseError>
-    ensures { AnswersOrMemory (λ bytes. bytes.items) result (decoded in_base64 body.now) }
+    ensures { ReadsBytes result (decoded in_base64 body.now) }
 {
     match decode_base64_body(alloc, body)? {
         Ok(bytes) => Ok(bytes),
