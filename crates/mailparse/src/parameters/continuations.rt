@@ -18,12 +18,5 @@ pub(crate) fn resolve(
         → IfOk result (λ m. (name : List ℕ) → text_at m name ≡ parameters_in four_charsets all name) }
     ensures fault { IfErr result IsMemory }
 {
-    let mut params = BTreeMap::new(alloc);
-    for (key, value) in pairs {
-        params.insert(
-            String::from_str(alloc, key.as_str())?,
-            String::from_str(alloc, value.as_str())?,
-        )?;
-    }
-    Ok(params)
+    Ok(pairs.clone()?)
 }
