@@ -47,10 +47,7 @@ impl ParsedContentType {
 /// want of memory.
 ///
 /// `text/html; charset=utf-8` is the type `text/html` in the charset `utf-8`, with one parameter.
-pub fn parse_content_type(
-    alloc: Global,
-    text: &str,
-) -> Result<ParsedContentType, MailParseError>
+pub fn parse_content_type(alloc: Global, text: &str) -> Result<ParsedContentType, MailParseError>
     ensures { AnswersOrMemory content_type result (Ok (content_type_of text.now)) }
 {
     let (value, params) = parameters(alloc, text)?;

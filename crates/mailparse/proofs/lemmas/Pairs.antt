@@ -52,7 +52,7 @@ pair_of-none piece e = cond-false _ _ _ (ap (λ n. ltb n (length piece)) e ∙ l
 
 -- ---- the walk over the pieces
 
-pairs_in-some : (piece : List ℕ) (more : List (List ℕ)) (key value : List ℕ) → pair_of piece ≡ Some (key, value)
+pub pairs_in-some : (piece : List ℕ) (more : List (List ℕ)) (key value : List ℕ) → pair_of piece ≡ Some (key, value)
     → pairs_in (piece ∷ more) ≡ (key, value) ∷ pairs_in more
 pairs_in-some piece more key value e = ap (λ p. option_to_list p ++ pairs_in more) e
 

@@ -16,7 +16,7 @@ at_end w b bytes e = cond-true _ _ _ e
 at_byte : (w : Within) (b : ℕ) (bytes : List ℕ) → ends w b ≡ false → pieces_from w (b ∷ bytes) ≡ with_front (b ∷ []) (pieces_from (after w b) bytes)
 at_byte w b bytes e = cond-false _ _ _ e
 
-at_other : (b : ℕ) (bytes : List ℕ) → b ≢ quote → b ≢ semicolon
+pub at_other : (b : ℕ) (bytes : List ℕ) → b ≢ quote → b ≢ semicolon
     → pieces_from outside (b ∷ bytes) ≡ with_front (b ∷ []) (pieces_from outside bytes)
 at_other b bytes no_quote no_semicolon =
     at_byte outside b bytes (ne_eqb b semicolon no_semicolon)
@@ -144,16 +144,18 @@ backslash_or P b here other = go (eqb b backslash) refl
 both : (bytes : List ℕ) → ArePieces bytes (pieces_from outside bytes) × RunThen bytes (pieces_from quoted bytes)
 both [] = (last_piece piece_ends, run_ends text_ends)
 both (b ∷ []) =
-    let next = both [] in
-    (outside_by b [] _ refl _ refl next.0 next.1,
-    backslash_or (λ b. RunThen (b ∷ []) (pieces_from quoted (b ∷ []))) b (run_ends lone_backslash)
-    (λ s. quoted_by b [] s _ refl next.0 next.1))
+    let next = both [] in (
+      outside_by b [] _ refl _ refl next.0 next.1,
+      backslash_or (λ b. RunThen (b ∷ []) (pieces_from quoted (b ∷ []))) b (run_ends lone_backslash)
+          (λ s. quoted_by b [] s _ refl next.0 next.1),
+    )
 both (b ∷ c ∷ bytes) =
     let next = both (c ∷ bytes) in
-    let later = both bytes in
-    (outside_by b (c ∷ bytes) _ refl _ refl next.0 next.1,
-    backslash_or (λ b. RunThen (b ∷ c ∷ bytes) (pieces_from quoted (b ∷ c ∷ bytes))) b (then_escaped c later.1)
-    (λ s. quoted_by b (c ∷ bytes) s _ refl next.0 next.1))
+    let later = both bytes in (
+      outside_by b (c ∷ bytes) _ refl _ refl next.0 next.1,
+      backslash_or (λ b. RunThen (b ∷ c ∷ bytes) (pieces_from quoted (b ∷ c ∷ bytes))) b (then_escaped c later.1)
+          (λ s. quoted_by b (c ∷ bytes) s _ refl next.0 next.1),
+    )
 
 pub pieces_fit : (text : List ℕ) → ArePieces text (pieces text)
 unfolding pieces

@@ -30,8 +30,8 @@ loop-c-preserved c =
     let rest = c.loop-c.c-iterator.rest.now in
     let next = c.next.new.self.rest.now in
     let stays : (eqb c.in-Some.c backslash && not c.loop-c.is_escaped) ≡ false = elim c.else-c-eq92.branch [
-        | else-c-eq92-via-then-c-eq92+else-not-is_escaped w ↦ stays_escaped c.in-Some.c c.loop-c.is_escaped w.if-not-is_escaped.false
-        | else-c-eq92-via-else-c-eq92 w ↦ stays_plain c.in-Some.c c.loop-c.is_escaped w.if-c-eq92.false
+      | else-c-eq92-via-then-c-eq92+else-not-is_escaped w ↦ stays_escaped c.in-Some.c c.loop-c.is_escaped w.if-not-is_escaped.false
+      | else-c-eq92-via-else-c-eq92 w ↦ stays_plain c.in-Some.c c.loop-c.is_escaped w.if-c-eq92.false
     ] in
     record {
       utf8 = IsUtf8-past_char rest next c.in-Some.c c.loop-c.invariant.utf8 c.in-Some.ensures.steps.0;
