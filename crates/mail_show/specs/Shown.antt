@@ -11,7 +11,7 @@ use Rattle.mailparse.specs.Value.{lenient_value}
 unfoldable pub header_line : Header → List ℕ
 header_line header = codes "  " ++ key_text header ++ codes ": " ++ lenient_value header.value ++ codes "\n"
 
--- the line of the message: how many headers it has, and how many bytes stand behind its block
+-- the line of the message: how many headers it has, and how many bytes stand after its block
 unfoldable pub mail_line : Mail → List ℕ
 mail_line mail = codes "part 0: " ++ decimal (length mail.headers) ++ codes " headers, " ++ decimal (length mail.bytes - length mail.block) ++ codes " body bytes\n"
 

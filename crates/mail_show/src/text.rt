@@ -22,7 +22,8 @@ pub fn text_of(alloc: Global, parsed: &ParsedMail<'_>) -> Result<String, MailPar
 /// Writes the line of the message itself.
 #[tactic(auto, unfolding(crate::specs::Shown::mail_line))]
 fn push_mail_line(text: &mut String, parsed: &ParsedMail<'_>) -> Result<(), AllocError>
-    ensures { OnOk result (string_bytes text.new ≡ string_bytes text.old ++ mail_line (mail parsed.now)) }
+    ensures { OnOk result
+        (string_bytes text.new ≡ string_bytes text.old ++ mail_line (mail parsed.now)) }
 {
     let headers = parsed.headers.len();
     let body = parsed
@@ -39,7 +40,8 @@ fn push_header_line(
     text: &mut String,
     field: &MailHeader<'_>,
 ) -> Result<(), MailParseError>
-    ensures ok { OnOk result (string_bytes text.new ≡ string_bytes text.old ++ header_line field.now) }
+    ensures ok { OnOk result
+        (string_bytes text.new ≡ string_bytes text.old ++ header_line field.now) }
     ensures fault { IfErr result IsMemory }
 {
     text.push_str("  ")?;

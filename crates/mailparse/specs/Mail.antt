@@ -1,4 +1,4 @@
--- The reading of a message whose body is kept whole: its block of headers, and everything behind it (RFC 5322,
+-- The reading of a message whose body is kept whole: its block of headers, and everything after it (RFC 5322,
 -- section 2.1).
 use Rattle.std.specs.Prelude.{ℕ, List, take, drop, Result, Ok, Err}
 use Rattle.mailparse.specs.Refusal.{Refusal}

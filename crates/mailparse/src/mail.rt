@@ -34,7 +34,7 @@ impl<'a> ParsedMail<'a> {
     }
 }
 
-/// Reads a message: its header block, and behind the blank line its body (RFC 5322, section 2.1).
+/// Reads a message: its header block, and after the blank line its body (RFC 5322, section 2.1).
 ///
 /// Any bytes are a message, the empty input too, but for a header that begins with a space and a CR
 /// without LF where a header or the blank line is wanted, which are refused. It takes memory for
@@ -43,7 +43,8 @@ impl<'a> ParsedMail<'a> {
 /// `parse_mail(alloc, b"Subject: Hi\n\nbody")` has one header and the body `body`.
 pub fn parse_mail(alloc: Global, raw: &[u8]) -> Result<ParsedMail<'_>, MailParseError>
     ensures read { AnswersOrMemory mail result (read_mail raw.now) }
-    ensures no_memory { header_count raw.now ≡ 0 → IsErr (read_mail raw.now) → Answers mail result (read_mail raw.now) }
+    ensures no_memory { header_count raw.now ≡ 0 → IsErr (read_mail raw.now) →
+        Answers mail result (read_mail raw.now) }
 {
     let (headers, index) = parse_headers(alloc, raw)?;
     let (header_bytes, body_bytes) = raw.split_at(index);
