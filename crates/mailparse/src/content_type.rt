@@ -6,7 +6,7 @@ ghost use Rattle.mailparse.specs.Pairs.{text_at};
 ghost use Rattle.mailparse.specs.Views.{content_type};
 
 use crate::error::MailParseError;
-use crate::parameters::parameters;
+use crate::parameters::{lower_case, parameters};
 use std::alloc::{AllocError, Global};
 use std::collections::BTreeMap;
 
@@ -51,8 +51,7 @@ pub fn parse_content_type(alloc: Global, text: &str) -> Result<ParsedContentType
     ensures { AnswersOrMemory content_type result (Ok (content_type_of text.now)) }
 {
     let (value, params) = parameters(alloc, text)?;
-    let mut mimetype = String::from_str(alloc, value)?;
-    mimetype.make_ascii_lowercase();
+    let mimetype = lower_case(alloc, value)?;
     let charset = charset_of(alloc, &params)?;
     Ok(ParsedContentType {
         mimetype,

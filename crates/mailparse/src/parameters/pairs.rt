@@ -4,6 +4,7 @@ ghost use Rattle.mailparse.specs.Pairs.{HasTexts, last_of, pair_of, pairs_in};
 ghost use Rattle.mailparse.specs.private.Pairs.{pair};
 ghost use Rattle.mailparse.specs.private.Pieces.{pieces_of_rest};
 
+use super::lower_case;
 use super::pieces::{cut_piece, unescape};
 use std::alloc::{AllocError, Global};
 use std::collections::BTreeMap;
@@ -15,8 +16,7 @@ fn pair(alloc: Global, piece: &str) -> Result<Option<(String, String)>, AllocErr
     let Some((key, value)) = piece.split_once('=') else {
         return Ok(None);
     };
-    let mut key = String::from_str(alloc, key.trim())?;
-    key.make_ascii_lowercase();
+    let key = lower_case(alloc, key.trim())?;
     Ok(Some((key, unescape(alloc, value.trim())?)))
 }
 
