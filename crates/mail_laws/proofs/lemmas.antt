@@ -1,2 +1,4 @@
 pub mod Spans
+pub mod Dispositions
+pub mod Boundaries
 pub mod WordTokens

@@ -1,5 +1,6 @@
 pub mod Spans
 pub mod WordTokens
+pub mod Boundaries
 pub use Rattle.mailparse.specs.Refusal
 pub use Rattle.mailparse.specs.Outcome
 pub use Rattle.mailparse.specs.Ranges
@@ -7,3 +8,6 @@ pub use Rattle.mailparse.specs.Header
 pub use Rattle.mailparse.specs.Block
 pub use Rattle.mailparse.specs.Tokens
 pub use Rattle.mailparse.specs.Value
+pub use Rattle.mailparse.specs.Pieces
+pub use Rattle.mailparse.specs.Pairs
+pub use Rattle.mailparse.specs.Disposition

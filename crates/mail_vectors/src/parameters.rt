@@ -61,16 +61,41 @@ static TYPES: [TypeRow; 35] = [
     ("a=1; b=2", "a=1", "us-ascii", &[("b", "2")]),
     // Keys are compared in ASCII lower case, and the last one counts.
     ("x; a=1; A=2", "x", "us-ascii", &[("a", "2")]),
-    ("x; A =1;a= 2 ;b=3", "x", "us-ascii", &[("a", "2"), ("b", "3")]),
-    ("x; \u{C9}=1; \u{E9}=2", "x", "us-ascii", &[("\u{C9}", "1"), ("\u{E9}", "2")]),
-    ("x; charset=\"UTF-8\"", "x", "UTF-8", &[("charset", "UTF-8")]),
+    (
+        "x; A =1;a= 2 ;b=3",
+        "x",
+        "us-ascii",
+        &[("a", "2"), ("b", "3")],
+    ),
+    (
+        "x; \u{C9}=1; \u{E9}=2",
+        "x",
+        "us-ascii",
+        &[("\u{C9}", "1"), ("\u{E9}", "2")],
+    ),
+    (
+        "x; charset=\"UTF-8\"",
+        "x",
+        "UTF-8",
+        &[("charset", "UTF-8")],
+    ),
     ("x; charset=a; CHARSET=b", "x", "b", &[("charset", "b")]),
     ("x; charset=", "x", "", &[("charset", "")]),
     // Semicolons in quoted runs.
     ("x; a=\"b;c\\\"d\"", "x", "us-ascii", &[("a", "b;c\"d")]),
     ("x; a=\"b;c", "x", "us-ascii", &[("a", "\"b;c")]),
-    ("x; a=\"b\\\"; c=1", "x", "us-ascii", &[("a", "\"b\\\"; c=1")]),
-    ("x; a=b\";c=d\";e=f", "x", "us-ascii", &[("a", "b\";c=d\""), ("e", "f")]),
+    (
+        "x; a=\"b\\\"; c=1",
+        "x",
+        "us-ascii",
+        &[("a", "\"b\\\"; c=1")],
+    ),
+    (
+        "x; a=b\";c=d\";e=f",
+        "x",
+        "us-ascii",
+        &[("a", "b\";c=d\""), ("e", "f")],
+    ),
     ("x; a\\\";b=1", "x", "us-ascii", &[("a\\\";b", "1")]),
     // Quoted values.
     ("x; a=\"", "x", "us-ascii", &[("a", "\"")]),
@@ -125,7 +150,8 @@ fn is_text(found: Option<&String>, text: &str) -> bool {
 
 #[test]
 fn a_name_in_an_encoded_word(rt: HostRuntime) -> Result<(), Fail> {
-    let header = b"Content-Type: application/octet-stream;name=\"=?utf8?B?6L+O5ai255m95a+M576O?=\";charset=\"utf8\"";
+    let header =
+        b"Content-Type: application/octet-stream;name=\"=?utf8?B?6L+O5ai255m95a+M576O?=\";charset=\"utf8\"";
     let name = "\u{8FCE}\u{5A36}\u{767D}\u{5BCC}\u{7F8E}";
     assert!(rt; is_named(rt.alloc(), header, name)?);
     Ok(())
@@ -139,8 +165,16 @@ static DISPOSITIONS: [DispositionRow; 12] = [
     (" \t", "Inline", &[]),
     ("; a=1", "Inline", &[("a", "1")]),
     ("inline", "Inline", &[]),
-    (" INLINE ;FileName=\"a;b", "Inline", &[("filename", "\"a;b")]),
-    ("attachment; filename=\"yummy dummy\"", "Attachment", &[("filename", "yummy dummy")]),
+    (
+        " INLINE ;FileName=\"a;b",
+        "Inline",
+        &[("filename", "\"a;b")],
+    ),
+    (
+        "attachment; filename=\"yummy dummy\"",
+        "Attachment",
+        &[("filename", "yummy dummy")],
+    ),
     ("ATTACHMENT", "Attachment", &[]),
     ("Form-Data; name=x", "FormData", &[("name", "x")]),
     ("formdata", "Extension(\"formdata\")", &[]),

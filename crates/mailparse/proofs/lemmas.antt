@@ -13,3 +13,5 @@ pub mod Lines
 pub mod Pieces
 pub mod Quoted
 pub mod Pairs
+pub mod Copied
+pub mod Types

@@ -6,7 +6,7 @@ ghost use Rattle.mailparse.specs.Outcome.{AnswersOrMemory};
 ghost use Rattle.mailparse.specs.Views.{disposition, kind};
 
 use crate::error::MailParseError;
-use crate::parameters::parameters;
+use crate::parameters::{lower_case, parameters};
 use std::alloc::{AllocError, Global};
 use std::collections::BTreeMap;
 
@@ -102,8 +102,7 @@ pub fn parse_content_disposition(
 fn kind_named(alloc: Global, value: &str) -> Result<DispositionType, AllocError>
     ensures { IfOk result (λ d. kind d ≡ kind_named (str_to_ascii_lowercase value.now)) }
 {
-    let mut name = String::from_str(alloc, value)?;
-    name.make_ascii_lowercase();
+    let name = lower_case(alloc, value)?;
     match name.as_str() {
         "" | "inline" => Ok(DispositionType::Inline),
         "attachment" => Ok(DispositionType::Attachment),

@@ -1,5 +1,5 @@
 -- Lemmas on the pairs of a text, and on the map that holds them.
-use Rattle.std.proofs.Common.{◌≡◌, ◌≢◌, ℕ, suc, ◌+◌, ◌<◌, ◌≤◌, Bool, true, false, cond, eqb, ltb, List, [], ◌∷◌, ◌++◌, length, map, Option, Some, None, refl, sym, ap, ◌∙◌, arith}
+use Rattle.std.proofs.Common.{◌≡◌, ◌≢◌, ℕ, suc, ◌+◌, ◌<◌, ◌≤◌, Bool, true, false, cond, eqb, ltb, List, [], ◌∷◌, ◌++◌, length, drop, Option, Some, None, refl, sym, ap, ◌∙◌, arith}
 use Rattle.std.proofs.lemmas.Bool.{cond-true, cond-false, lt-ltb, le-ltb}
 use Rattle.std.proofs.lemmas.Map.Text.{btree_map_updates_text}
 use Rattle.std.specs.Borrow.{Bor}
@@ -11,7 +11,7 @@ use Rattle.std.specs.Option.{option_map, option_to_list}
 use Rattle.std.specs.Prelude.{String, string_bytes}
 use Rattle.std.specs.Str.{bytes_eq, str_to_ascii_lowercase, trim}
 use Rattle.std.specs.String.{string_cmp}
-use Rattle.mailparse.specs.Pairs.{Texts, text_at, last_of, is_equals, pair_of, pairs_in, pairs_of}
+use Rattle.mailparse.specs.Pairs.{Texts, text_at, last_of, is_equals, pair_of, pairs_in, pairs_of, first_piece, value_of}
 use Rattle.mailparse.specs.Pieces.{pieces, unescape}
 use Rattle.mailparse.specs.private.Pairs.{pair}
 use Rattle.mailparse.specs.private.Pieces.{pieces_of_rest}
@@ -52,7 +52,7 @@ pair_of-none piece e = cond-false _ _ _ (ap (λ n. ltb n (length piece)) e ∙ l
 
 -- ---- the walk over the pieces
 
-pairs_in-some : (piece : List ℕ) (more : List (List ℕ)) (key value : List ℕ) → pair_of piece ≡ Some (key, value)
+pub pairs_in-some : (piece : List ℕ) (more : List (List ℕ)) (key value : List ℕ) → pair_of piece ≡ Some (key, value)
     → pairs_in (piece ∷ more) ≡ (key, value) ∷ pairs_in more
 pairs_in-some piece more key value e = ap (λ p. option_to_list p ++ pairs_in more) e
 
@@ -77,3 +77,13 @@ stores_none texts all found piece more cut e here =
 pub pair_is : (found : String Global × String Global) (given : List ℕ × List ℕ) → string_bytes found.0 ≡ given.0 → string_bytes found.1 ≡ given.1
     → Some (pair found) ≡ Some given
 pair_is found given key value = λ i. Some (key i, value i)
+
+-- ---- a whole text
+
+pub value_of-first : (text piece : List ℕ) (more : List (List ℕ)) → pieces text ≡ piece ∷ more → value_of text ≡ trim piece
+unfolding value_of
+value_of-first text piece more e = ap (λ ps. trim (first_piece ps)) e
+
+pub pairs_of-later : (text piece : List ℕ) (more : List (List ℕ)) → pieces text ≡ piece ∷ more → pairs_of text ≡ pairs_in more
+unfolding pairs_of
+pairs_of-later text piece more e = ap (λ ps. pairs_in (drop 1 ps)) e

@@ -16,7 +16,7 @@ at_end w b bytes e = cond-true _ _ _ e
 at_byte : (w : Within) (b : ℕ) (bytes : List ℕ) → ends w b ≡ false → pieces_from w (b ∷ bytes) ≡ with_front (b ∷ []) (pieces_from (after w b) bytes)
 at_byte w b bytes e = cond-false _ _ _ e
 
-at_other : (b : ℕ) (bytes : List ℕ) → b ≢ quote → b ≢ semicolon
+pub at_other : (b : ℕ) (bytes : List ℕ) → b ≢ quote → b ≢ semicolon
     → pieces_from outside (b ∷ bytes) ≡ with_front (b ∷ []) (pieces_from outside bytes)
 at_other b bytes no_quote no_semicolon =
     at_byte outside b bytes (ne_eqb b semicolon no_semicolon)
