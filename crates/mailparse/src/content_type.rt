@@ -1,6 +1,7 @@
 //! The type of a message's content.
-ghost use Rattle.std.specs.Prelude.{IfOk, IfErr};
-ghost use Rattle.mailparse.specs.ContentType.{IsDefaultType};
+ghost use Rattle.std.specs.Prelude.{◌≡◌, IfOk, IfErr};
+ghost use Rattle.mail_codec.specs.Charset.{four_charsets};
+ghost use Rattle.mailparse.specs.ContentType.{IsDefaultType, content_type, content_type_in};
 ghost use Rattle.mailparse.specs.Outcome.{IsMemory};
 
 use crate::error::MailParseError;
@@ -31,4 +32,16 @@ impl ParsedContentType {
             params: BTreeMap::new(alloc),
         })
     }
+}
+
+/// The type that a text says. A stub.
+pub fn parse_content_type(
+    alloc: Global,
+    content: &str,
+) -> Result<ParsedContentType, MailParseError>
+    ensures ok { IfOk result (λ t. content_type t ≡ content_type_in four_charsets content.now) }
+    ensures fault { IfErr result IsMemory }
+{
+    let _ = content;
+    ParsedContentType::default(alloc)
 }

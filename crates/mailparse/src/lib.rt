@@ -9,7 +9,7 @@ pub mod headers;
 mod lossy_text;
 mod mail;
 
-pub use content_type::ParsedContentType;
+pub use content_type::{ParsedContentType, parse_content_type};
 pub use error::{Base64Fault, MailParseError, QuotedPrintableFault, Wrapped};
 pub use header::MailHeader;
 pub use header::parse::parse_header;
