@@ -96,7 +96,10 @@ fn find_from_u8_line_prefix(line: &[u8], ix_start: usize, key: &[u8]) -> Option<
         if is_line_prefix(line, ix_start, at, key) {
             return Some(at);
         }
-        from = line_after(line, at)?;
+        let Some(next) = line_after(line, at) else {
+            return None;
+        };
+        from = next;
     }
     None
 }
