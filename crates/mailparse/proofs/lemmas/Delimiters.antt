@@ -3,6 +3,7 @@ use Rattle.std.proofs.Common.{◌≡◌, ◌≢◌, ◌⊎◌, ℕ, zero, suc, �
 use Rattle.std.specs.Prelude.{nat_lt}
 use Rattle.std.proofs.lemmas.Bool.{cond-true, cond-false, cases_lt, cases_eq, lt-ltb, le-ltb, eq-eqb, eqb-true, ne_eqb, and_parts, and_from, and_left, and_right, false≢true}
 use Rattle.std.proofs.lemmas.List.{drop-drop}
+use Rattle.bstr.specs.Find.{OccursAt, FindsNeedle}
 use Rattle.mail_codec.specs.Places.{stands, begins, first_place, least, place, text_place, byte_place}
 use Rattle.mail_codec.proofs.PlaceLemmas.{least-is, least-≤, least-before, least-passes, first_place-≤, first_place-before}
 use Rattle.mailparse.specs.Header.{is_line_feed}
@@ -193,3 +194,83 @@ no_delimiter_to_line key bytes start at next after none here e =
     let there = somewhere (λ k. suc (at + k)) next (byte_place (drop at bytes) 10) e in
     subst (NoDelimiter key bytes start) (sym there.2)
     (no_delimiter_on_line key bytes start at there.0 after none here (place_some (begins is_line_feed) (drop at bytes) there.0 there.1).0)
+
+-- ---- a search for the LF and the delimiter after it
+
+eqb_swap : (a b : ℕ) → eqb a b ≡ eqb b a
+eqb_swap a b = ⊎_elim (λ e. ap (λ x. eqb x b) e ∙ ap (λ x. eqb b x) (sym e)) (λ n. ne_eqb a b n ∙ sym (ne_eqb b a (λ e. n (sym e)))) (cases_eq a b)
+
+feed_and : (d rest : List ℕ) → stands (10 ∷ d) rest ≡ (begins is_line_feed rest && stands d (drop 1 rest))
+feed_and d [] = refl
+feed_and d (b ∷ rest) = ap (λ t. t && stands d rest) (eqb_swap 10 b)
+
+-- past the start a delimiter stands where a LF and the delimiter stand one place before
+is_delimiter-line : (d bytes : List ℕ) (start p : ℕ) → start < p → is_delimiter d bytes start p ≡ stands (10 ∷ d) (drop (p - 1) bytes)
+is_delimiter-line d bytes start p later =
+    let other : eqb p start ≡ false = ne_eqb p start (λ e. absurd (omega (arith, later))) in
+    let there : drop 1 (drop (p - 1) bytes) ≡ drop p bytes = drop-drop 1 (p - 1) bytes ∙ ap (λ n. drop n bytes) (omega arith) in
+    ap (λ t. (t || begins is_line_feed (drop (p - 1) bytes)) && stands d (drop p bytes)) other
+    ∙ ap (λ rest. begins is_line_feed (drop (p - 1) bytes) && stands d rest) (sym there)
+    ∙ sym (feed_and d (drop (p - 1) bytes))
+
+stands_occurs : (text bytes : List ℕ) (k : ℕ) → k ≤ length bytes → stands text (drop k bytes) ≡ true → OccursAt bytes text k
+stands_occurs text bytes k within h =
+    let reads = stands_reads text (drop k bytes) h in
+    let len = length-drop k bytes in
+    record { fits = omega (arith, reads.0); reads = λ j low. sym (get_or-drop k bytes j 0) ∙ reads.1 j low }
+
+occurs_stands : (text bytes : List ℕ) (k : ℕ) → OccursAt bytes text k → stands text (drop k bytes) ≡ true
+occurs_stands text bytes k h =
+    let fits = h.fits in
+    let len = length-drop k bytes in
+    reads_stands text (drop k bytes) (omega arith) (λ j low. get_or-drop k bytes j 0 ∙ h.reads j low)
+
+-- the start itself is one where the delimiter stands
+pub is_delimiter-start : (d bytes : List ℕ) (start : ℕ) → is_delimiter d bytes start start ≡ stands d (drop start bytes)
+is_delimiter-start d bytes start = ap (λ t. (t || begins is_line_feed (drop (start - 1) bytes)) && stands d (drop start bytes)) (eq-eqb start start refl)
+
+-- none stands up to a place before which the LF and the delimiter occur nowhere
+none_to : (d bytes : List ℕ) (start to : ℕ) → start ≤ length bytes → to ≤ length (drop start bytes) → stands d (drop start bytes) ≡ false
+    → ((k : ℕ) → 0 ≤ k → k < to → OccursAt (drop start bytes) (10 ∷ d) k → ⊥) → NoDelimiter d bytes start (suc (start + to))
+none_to d bytes start to within fits first none k low high =
+    ⊎_elim (λ same. subst (λ p. is_delimiter d bytes start p ≡ false) (sym same) (is_delimiter-start d bytes start ∙ first))
+    (λ other.
+        let i = k - 1 - start in
+        let there : drop i (drop start bytes) ≡ drop (k - 1) bytes = drop-drop i start bytes ∙ ap (λ n. drop n bytes) (omega (arith, other)) in
+        is_delimiter-line d bytes start k (omega (arith, other)) ∙ ap (stands (10 ∷ d)) (sym there)
+        ∙ by_test i (omega (arith, other)) (stands (10 ∷ d) (drop i (drop start bytes))) refl)
+    (cases_eq k start)
+  where
+    by_test : (i : ℕ) → i < to → (t : Bool) → stands (10 ∷ d) (drop i (drop start bytes)) ≡ t → t ≡ false
+    by_test i low true e = absurd (none i (omega arith) low (stands_occurs (10 ∷ d) (drop start bytes) i (omega arith) e))
+    by_test i low false e = refl
+
+-- where the search found nothing
+pub found_nowhere : (d bytes : List ℕ) (start : ℕ) → start ≤ length bytes → stands d (drop start bytes) ≡ false → FindsNeedle (drop start bytes) (10 ∷ d) 0 None
+    → None ≡ delimiter_from d bytes start
+found_nowhere d bytes start within first none =
+    let len = length-drop start bytes in
+    delimiter_from-none d bytes start (λ k low high.
+        none_to d bytes start (length (drop start bytes)) within (omega arith) first (λ j least small occurs. none j least (omega arith) occurs) k low (omega arith))
+
+-- where it found a place
+pub found_line : (d bytes : List ℕ) (start k : ℕ) → 0 < length d → start ≤ length bytes → stands d (drop start bytes) ≡ false → FindsNeedle (drop start bytes) (10 ∷ d) 0 (Some k)
+    → (Some (start + k + 1) ≡ delimiter_from d bytes start) × (start + k + 1 + length d ≤ length bytes)
+found_line d bytes start k some within first found =
+    let len = length-drop start bytes in
+    let fits = found.1.fits in
+    let there : drop k (drop start bytes) ≡ drop (start + k + 1 - 1) bytes = drop-drop k start bytes ∙ ap (λ n. drop n bytes) (omega arith) in
+    let at : is_delimiter d bytes start (start + k + 1) ≡ true =
+    is_delimiter-line d bytes start (start + k + 1) (omega arith) ∙ ap (stands (10 ∷ d)) (sym there) ∙ occurs_stands (10 ∷ d) (drop start bytes) k found.1 in
+    (
+      delimiter_from-some d bytes start (start + k + 1) (omega arith) (omega arith) at
+      (λ j low high. none_to d bytes start k within (omega arith) first (λ i least small occurs. found.0.before i least small occurs) j low (omega arith)),
+      omega arith,
+    )
+
+-- where the delimiter stands at the start
+pub starts_delimiter : (d bytes : List ℕ) (start : ℕ) → 0 < length d → stands d (drop start bytes) ≡ true → Some start ≡ delimiter_from d bytes start
+starts_delimiter d bytes start some h =
+    let fits = (stands_reads d (drop start bytes) h).0 in
+    let len = length-drop start bytes in
+    delimiter_from-some d bytes start start (omega arith) (omega arith) (is_delimiter-start d bytes start ∙ h) (λ k low high. absurd (omega arith))

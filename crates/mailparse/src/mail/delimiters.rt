@@ -76,7 +76,9 @@ fn find_delimiter(raw: &[u8], start: usize, line: &[u8]) -> Option<usize>
     if rest.starts_with(delimiter) {
         return Some(start);
     }
-    let place = rest.find(line)?;
+    let Some(place) = rest.find(line) else {
+        return None;
+    };
     Some(start + place + 1)
 }
 
