@@ -12,3 +12,4 @@ pub mod Plain
 pub mod Lines
 pub mod Types
 pub mod Delimiters
+pub mod Parts

@@ -124,7 +124,7 @@ nowhere : (f : ℕ → ℕ) (o : Option ℕ) → None ≡ option_map f o → Non
 nowhere f None e = refl
 nowhere f (Some k) e = cc
 
-somewhere : (f : ℕ → ℕ) (at : ℕ) (o : Option ℕ) → Some at ≡ option_map f o → (k : ℕ) × (Some k ≡ o) × (at ≡ f k)
+pub somewhere : (f : ℕ → ℕ) (at : ℕ) (o : Option ℕ) → Some at ≡ option_map f o → (k : ℕ) × (Some k ≡ o) × (at ≡ f k)
 somewhere f at None e = absurd (clash e)
   where
     clash : Some at ≡ None → ⊥
