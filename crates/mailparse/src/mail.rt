@@ -3,7 +3,7 @@ ghost use Rattle.std.specs.Prelude.{◌≡◌, ◌<◌, ◌∷◌, option_map, I
 ghost use Rattle.mail_codec.specs.Charset.{four_charsets};
 ghost use Rattle.mailparse.specs.Block.{header_count, read_headers};
 ghost use Rattle.mailparse.specs.ContentType.{content_type};
-ghost use Rattle.mailparse.specs.Mail.{block_of, root, delimiter_of, node_type, part_type, read_levels, read_mail};
+ghost use Rattle.mailparse.specs.Mail.{block_of, root, delimiter_of, is_digest, node_type, part_type, read_levels, read_mail};
 ghost use Rattle.mailparse.specs.Outcome.{Answers, AnswersOrMemory, IsMemory};
 ghost use Rattle.mailparse.specs.Views.{tree_of};
 
@@ -62,6 +62,7 @@ impl<'a> ParsedMail<'a> {
 /// run out.
 ///
 /// `parse_mail(alloc, b"Subject: Hi\n\nbody")` has one header, the body `body` and no parts.
+#[tactic(auto, unfolding(crate::specs::Mail::read_mail, crate::specs::Mail::read_mail_in))]
 pub fn parse_mail(alloc: Global, raw: &[u8]) -> Result<ParsedMail<'_>, MailParseError>
     ensures read { AnswersOrMemory tree_of result (read_mail raw.now) }
     ensures no_memory { header_count raw.now ≡ 0 → IsErr (read_headers raw.now) → Answers tree_of result (read_mail raw.now) }
@@ -95,7 +96,7 @@ fn parse_mail_recursive(
             subparts: Vec::new(alloc),
         });
     };
-    let is_digest = ctype.mimetype.as_str() == "multipart/digest";
+    let is_digest = is_digest(&ctype);
     let (end, first) = cut_body(raw, index, line.as_slice());
     let mut subparts = Vec::new(alloc);
     let mut next = first;
@@ -143,6 +144,13 @@ fn part_type(alloc: Global, in_digest: bool) -> Result<ParsedContentType, MailPa
         charset: String::from_str(alloc, "us-ascii")?,
         params: BTreeMap::new(alloc),
     })
+}
+
+/// Whether the parts of this type are messages where nothing else is said.
+fn is_digest(ctype: &ParsedContentType) -> bool
+    ensures { result ≡ is_digest (content_type ctype.now) }
+{
+    ctype.mimetype.as_str() == "multipart/digest"
 }
 
 /// A LF, and then what the delimiters between the parts of this type begin with, if there may be

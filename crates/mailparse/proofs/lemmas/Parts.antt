@@ -13,6 +13,7 @@ use Rattle.mailparse.specs.ContentType.{ContentType}
 use Rattle.mailparse.specs.Ranges.{Range, slice}
 use Rattle.mailparse.specs.Delimiters.{delimiter_from, line_after, part_after, is_last, first_part, next_part, part_start, part_count, part_range, part_ranges, end_from, Cut, cut_parts}
 use Rattle.mailparse.specs.Mail.{Node, Tree, tree, Forest, no_parts, part_and, forest, is_digest, delimiter_of, cut_of, node_with, read_each, read_parts, node_type, read_levels}
+use Rattle.mailparse.specs.private.DelimiterLines.{IsDelimiterLine}
 use Rattle.mailparse.proofs.lemmas.Block.{values_below-same}
 use Rattle.mailparse.proofs.lemmas.Places.{place_some}
 use Rattle.mailparse.proofs.lemmas.Delimiters.{somewhere, delimiter_from-out, is_delimiter-fits}
@@ -246,3 +247,60 @@ module _ (levels : ℕ) (in_digest : Bool) (raw : List ℕ) (headers : List Head
       typed some read type
       ∙ ap (λ (cut : Cut). read_map (tree (node_with raw (record { headers = headers; index = index }) ctype cut))
           (read_each (read_levels four_charsets (levels - 1) (is_digest ctype)) (map (slice raw) cut.parts))) (cut_at d delimiter)
+
+-- ---- the delimiter of a type, and the LF before it
+
+pub line_some : (line : List ℕ) (o : Option (List ℕ)) → Some line ≡ option_map (λ d. 10 ∷ d) o → (o ≡ Some (drop 1 line)) × (line ≡ 10 ∷ drop 1 line)
+line_some line None e = absurd (clash e)
+  where
+    clash : Some line ≡ None → ⊥
+    clash h = cc
+line_some line (Some d) e =
+    let same = unwrap e in
+    (ap (λ (l : List ℕ). Some (drop 1 l)) (sym same), same ∙ ap (λ (l : List ℕ). 10 ∷ drop 1 l) (sym same))
+  where
+    unwrap : Some line ≡ Some (10 ∷ d) → line ≡ 10 ∷ d
+    unwrap h = cc
+
+pub line_none : (o : Option (List ℕ)) → None ≡ option_map (λ d. 10 ∷ d) o → o ≡ None
+line_none None e = refl
+line_none (Some d) e = absurd (clash e)
+  where
+    clash : None ≡ Some (10 ∷ d) → ⊥
+    clash h = cc
+
+-- a delimiter has at least the two bytes in front of the boundary
+pub delimiter_of-length : (ctype : ContentType) (d : List ℕ) → delimiter_of ctype ≡ Some d → 2 ≤ length d
+delimiter_of-length ctype d e = by_tests (stands (codes "multipart") ctype.mimetype) (ctype.params (codes "boundary")) e
+  where
+    clash : None ≡ Some d → ⊥
+    clash h = cc
+
+    unwrap : (b : List ℕ) → Some (codes "--" ++ b) ≡ Some d → codes "--" ++ b ≡ d
+    unwrap b h = cc
+
+    by_tests : (t : Bool) (o : Option (List ℕ)) → if t then option_map (λ b. codes "--" ++ b) o else None ≡ Some d → 2 ≤ length d
+    by_tests false o h = absurd (clash h)
+    by_tests true None h = absurd (clash h)
+    by_tests true (Some b) h = subst (λ (x : List ℕ). 2 ≤ length x) (unwrap b h) (omega arith)
+
+pub IsDelimiterLine-of : (line : List ℕ) (ctype : ContentType) → Some line ≡ option_map (λ d. 10 ∷ d) (delimiter_of ctype) → IsDelimiterLine line
+IsDelimiterLine-of line ctype e =
+    let parts = line_some line (delimiter_of ctype) e in
+    let long = delimiter_of-length ctype (drop 1 line) parts.0 in
+    record { feed = parts.1; some = omega arith }
+
+-- the reading of a message that may have parts, by what the code has of it
+pub read_levels-whole : (levels : ℕ) (in_digest : Bool) (raw : List ℕ) (headers : List Header) (index : ℕ) (ctype : ContentType) (line : List ℕ) (digest : Bool) (end : ℕ)
+    → 0 < levels → read_headers raw ≡ Ok (record { headers = headers; index = index }) → node_type four_charsets in_digest headers ≡ ctype
+    → Some line ≡ option_map (λ d. 10 ∷ d) (delimiter_of ctype) → digest ≡ is_digest ctype → end ≡ end_from (drop 1 line) raw index index
+    → read_levels four_charsets levels in_digest raw
+    ≡ read_map (tree (record { bytes = raw; block = take index raw; headers = headers; ctype = ctype; body = slice_range raw index end }))
+        (parts_from (levels - 1) digest (drop 1 line) raw (first_part (drop 1 line) raw index))
+read_levels-whole levels in_digest raw headers index ctype line digest end some read type delimiter is ends =
+    let d = drop 1 line in
+    read_levels-parts levels in_digest raw headers index ctype d some read type (line_some line (delimiter_of ctype) delimiter).0
+    ∙ ap (λ (b : Bool). read_map (tree (record { bytes = raw; block = take index raw; headers = headers; ctype = ctype; body = slice_range raw index (end_from d raw index index) }))
+        (parts_from (levels - 1) b d raw (first_part d raw index))) (sym is)
+    ∙ ap (λ (n : ℕ). read_map (tree (record { bytes = raw; block = take index raw; headers = headers; ctype = ctype; body = slice_range raw index n }))
+        (parts_from (levels - 1) digest d raw (first_part d raw index))) (sym ends)
