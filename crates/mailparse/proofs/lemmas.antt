@@ -10,6 +10,6 @@ pub mod Unfolding
 pub mod Value
 pub mod Plain
 pub mod Lines
-pub mod Types
+pub mod NodeType
 pub mod Delimiters
 pub mod Parts

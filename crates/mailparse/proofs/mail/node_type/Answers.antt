@@ -4,7 +4,7 @@ use Rattle.mailparse.specs.ContentType.{ContentType, content_type, content_type_
 use Rattle.mailparse.specs.Keys.{text_found}
 use Rattle.mailparse.specs.Outcome.{AnswersOrMemory}
 use Rattle.mailparse.proofs.lemmas.Outcome.{AnswersOrMemory-from}
-use Rattle.mailparse.proofs.lemmas.Types.{node_type-found}
+use Rattle.mailparse.proofs.lemmas.NodeType.{node_type-found}
 use Rattle.mailparse.proofs.mail.node_type.Goals as goal
 
 pub returns-in-Some : goal.returns-in-Some
