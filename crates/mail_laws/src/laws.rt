@@ -1,12 +1,18 @@
 //! The laws. Each function does nothing; its contract is the law.
-ghost use Rattle.std.specs.Prelude.{◌≡◌, ◌<◌, ◌≤◌, ◌++◌, ℕ, List, length, take, Ok};
+ghost use Rattle.std.specs.Prelude.{Decides, ◌≡◌, ◌<◌, ◌≤◌, ◌++◌, ◌∷◌, [], ℕ, List, codes, length, take, Ok};
 ghost use Rattle.std.specs.List.{flat_map};
 ghost use Rattle.std.specs.Str.{IsUtf8};
 ghost use Rattle.mailparse.specs.Header.{Header, read_header};
 ghost use Rattle.mailparse.specs.Block.{HeaderList, read_headers};
 ghost use Rattle.mail_codec.specs.Charset.{Charsets};
+ghost use Rattle.mailparse.specs.Pairs.{pairs_of, value_of};
+ghost use Rattle.mailparse.specs.Pieces.{ArePieces, pieces};
 ghost use Rattle.mailparse.specs.Tokens.{Adjoin, AreTokens, TokenRange, token_ranges, token_source};
+ghost use Rattle.mailparse.specs.contracts.disposition.DispositionTypePartialEq.TheImpl.{ghosts};
+ghost use Rattle.mailparse.specs.declared.disposition.DispositionType.{DispositionType};
+ghost use Rattle.mailparse.specs.Views.{kind};
 ghost use Rattle.mailparse.specs.Value.{IsPlain, lenient_value, strict_value};
+ghost use Rattle.mail_laws.specs.Boundaries.{IsAlphanumeric, boundary_type};
 ghost use Rattle.mail_laws.specs.Spans.{header_spans, blank_span};
 
 /// A header that is read takes at least one byte and at most the input.
@@ -48,4 +54,24 @@ pub fn plain_value_reads_as_itself()
 pub fn utf8_value_agrees()
     ensures agrees { (bytes : List ℕ) → IsUtf8 bytes → strict_value bytes ≡ Ok (lenient_value bytes) }
     ensures succeeds { (bytes value : List ℕ) → strict_value bytes ≡ Ok value → lenient_value bytes ≡ value }
+{}
+
+/// Exactly one list of pieces fits a text, the one that is computed.
+pub fn one_list_of_pieces_fits()
+    ensures fits { (text : List ℕ) → ArePieces text (pieces text) }
+    ensures only { (text : List ℕ) (found : List (List ℕ)) → ArePieces text found → found ≡ pieces text }
+{}
+
+/// Two dispositions are equal exactly if their kinds are, and the texts of extensions.
+pub fn dispositions_equal_by_kind()
+    ensures { (a b : DispositionType) → Decides (ghosts.eq a b) (kind a ≡ kind b) }
+{}
+
+/// A text of exactly `multipart/mixed; boundary=B`, where B is letters and digits, has that value and
+/// one pair, the boundary B.
+pub fn plain_boundary_is_the_only_pair()
+    ensures value { (boundary : List ℕ) → IsAlphanumeric boundary →
+        value_of (boundary_type boundary) ≡ codes "multipart/mixed" }
+    ensures pairs { (boundary : List ℕ) → IsAlphanumeric boundary →
+        pairs_of (boundary_type boundary) ≡ (codes "boundary", boundary) ∷ [] }
 {}

@@ -15,6 +15,8 @@ mod looking_up;
 #[cfg(test)]
 mod messages;
 #[cfg(test)]
+mod parameters;
+#[cfg(test)]
 mod readme;
 #[cfg(test)]
 mod texts;

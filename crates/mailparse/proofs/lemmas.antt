@@ -13,3 +13,8 @@ pub mod Lines
 pub mod NodeType
 pub mod Delimiters
 pub mod Parts
+pub mod Pieces
+pub mod Quoted
+pub mod Pairs
+pub mod Copied
+pub mod Types

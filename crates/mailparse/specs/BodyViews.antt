@@ -4,7 +4,8 @@ use Rattle.std.specs.String.{string_bytes}
 use Rattle.std.specs.Prelude.{String}
 use Rattle.std.specs.Global.{Global}
 use Rattle.mailparse.specs.Body.{BodyKind, in_base64, in_quoted_printable, in_7bit, in_8bit, in_binary}
-use Rattle.mailparse.specs.declared.content_type.ParsedContentType.{ParsedContentType}
+use Rattle.mailparse.specs.ContentType.{ContentType}
+use Rattle.mailparse.specs.Views.{content_type}
 use Rattle.mailparse.specs.declared.body.Body.{Body}
 use Rattle.mailparse.specs.declared.body.Body.TheVariants.{Base64, QuotedPrintable, SevenBit, EightBit, Binary}
 use Rattle.mailparse.specs.declared.body.encoded.Encoding.{Encoding}
@@ -13,10 +14,10 @@ use Rattle.mailparse.specs.declared.body.encoded.EncodedBody.{EncodedBody}
 use Rattle.mailparse.specs.declared.body.text.TextBody.{TextBody}
 use Rattle.mailparse.specs.declared.body.binary.BinaryBody.{BinaryBody}
 
--- the type of a message's content
+-- what a body was made of: its bytes as they stand in the message, and the type of its content
 pub record Content : Type 0 where
   pub raw : List ℕ
-  pub ctype : ParsedContentType
+  pub ctype : ContentType
 
 -- what an encoded body is in
 abbrev pub encoding_kind : Encoding → BodyKind
@@ -28,13 +29,13 @@ encoded_kind b = encoding_kind b.encoding
 
 -- the bytes of a body as they stand, and the type that was handed in with them
 abbrev pub encoded_content : EncodedBody → Content
-encoded_content b = record { raw = b.body.now; ctype = b.ctype.now }
+encoded_content b = record { raw = b.body.now; ctype = content_type b.ctype.now }
 
 abbrev pub text_content : TextBody → Content
-text_content b = record { raw = b.body.now; ctype = b.ctype.now }
+text_content b = record { raw = b.body.now; ctype = content_type b.ctype.now }
 
 abbrev pub binary_content : BinaryBody → Content
-binary_content b = record { raw = b.body.now; ctype = b.ctype.now }
+binary_content b = record { raw = b.body.now; ctype = content_type b.ctype.now }
 
 -- the text that names a transfer coding, if there is one
 abbrev pub name_of : Option (String Global) → Option (List ℕ)

@@ -1,31 +1,35 @@
--- The type of a message's content where nothing says it (RFC 2045, section 5.2).
-use Rattle.std.specs.Prelude.{◌≡◌, ℕ, List, [], codes, None}
-use Rattle.std.specs.String.{string_bytes}
-use Rattle.mail_codec.specs.Charset.{Charsets}
-use Rattle.mailparse.specs.Pairs.{Texts, text_at}
-use Rattle.mailparse.specs.declared.content_type.ParsedContentType.{ParsedContentType}
+-- The type of a message's content: RFC 2045, sections 5 and 5.2, as this crate reads it.
+use Rattle.std.specs.Prelude.{ℕ, List, codes, unwrap_or}
+use Rattle.std.specs.Str.{str_to_ascii_lowercase}
+use Rattle.mail_codec.specs.Charset.{Charsets, four_charsets}
+use Rattle.mailparse.specs.Continuations.{parameters_in}
+use Rattle.mailparse.specs.Pairs.{Texts, no_texts, pairs_of, value_of}
 
--- plain text in US-ASCII, without parameters
-pub record IsDefaultType (ctype : ParsedContentType) : Type 0 where
-  pub mimetype : string_bytes ctype.mimetype ≡ codes "text/plain"
-  pub charset : string_bytes ctype.charset ≡ codes "us-ascii"
-  pub params : ctype.params.entries ≡ []
-
--- the type of a message's content: type and subtype, the label of its charset, and its parameters by name
+-- a type: type and subtype as one text, the label of the charset, and the parameters by name
 pub record ContentType : Type 0 where
   pub mimetype : List ℕ
   pub charset : List ℕ
   pub params : Texts
 
--- the type where nothing says it
+-- the charset where nothing says it
+abbrev pub default_charset : List ℕ
+default_charset = codes "us-ascii"
+
+-- the type where nothing says it: plain text in US-ASCII, without parameters
 abbrev pub default_type : ContentType
-default_type = record { mimetype = codes "text/plain"; charset = codes "us-ascii"; params = λ _. None }
+default_type = record { mimetype = codes "text/plain"; charset = default_charset; params = no_texts }
 
--- the type that a text says
+-- the type with these parameters: the charset is the parameter of that name
+abbrev pub type_with : List ℕ → Texts → ContentType
+type_with mimetype params =
+    record { mimetype = mimetype; charset = unwrap_or (params (codes "charset")) default_charset; params = params }
+
+-- Under the charsets that are known.
 module _ (known : Charsets) where
+  -- the type that a text names: its value in lower case, and its parameters
   unfoldable pub content_type_in : List ℕ → ContentType
-  content_type_in text = default_type
+  content_type_in text = type_with (str_to_ascii_lowercase (value_of text)) (parameters_in known (pairs_of text))
 
--- what a contract sees of a type
-abbrev pub content_type : ParsedContentType → ContentType
-content_type t = record { mimetype = string_bytes t.mimetype; charset = string_bytes t.charset; params = text_at t.params }
+-- the type that a text names
+abbrev pub content_type_of : List ℕ → ContentType
+content_type_of text = content_type_in four_charsets text

@@ -1,11 +1,52 @@
--- The parameters of a header's value by name.
-use Rattle.std.specs.Prelude.{ℕ, List, Option, option_map, String, string_bytes}
+-- The value and the pairs of a text that has parameters: RFC 2045, section 5.1, as this crate reads it. Keys are compared
+-- ignoring ASCII case, and of equal keys the last one counts.
+use Rattle.std.specs.Prelude.{◌≡◌, ℕ, Bool, ◌==◌, nat_lt, List, [], ◌∷◌, length, drop, flat_map, Option, Some, None, option_map, option_to_list, String, string_bytes, if◌then◌else◌}
 use Rattle.std.specs.BTreeMap.{BTreeMap, get_by_text}
+use Rattle.std.specs.List.{position_or_len, before_first, after_first}
+use Rattle.std.specs.Map.{update_all}
+use Rattle.std.specs.Str.{bytes_eq, str_to_ascii_lowercase, trim}
+use Rattle.mailparse.specs.Pieces.{pieces, unescape}
 
--- a text for some names
+-- texts by their names
 abbrev pub Texts : Type 0
 Texts = List ℕ → Option (List ℕ)
 
--- what a map has at a name
+-- no text under any name
+abbrev pub no_texts : Texts
+no_texts name = None
+
+-- what a map has by name
 abbrev pub text_at : {Y Z : Type 0} → BTreeMap (String Y) (String Z) → Texts
-text_at m q = option_map string_bytes (get_by_text m q)
+text_at m name = option_map string_bytes (get_by_text m name)
+
+-- of equal keys the last pair stays
+abbrev pub last_of : List (List ℕ × List ℕ) → Texts
+last_of pairs = update_all bytes_eq no_texts pairs
+
+abbrev pub is_equals : ℕ → Bool
+is_equals b = b == 61
+
+-- the pair of a piece that holds `=`: what stands before the first one, without white around it and in lower case, is the key;
+-- what stands after it, without white around it, stands for the value
+unfoldable pub pair_of : List ℕ → Option (List ℕ × List ℕ)
+pair_of piece =
+    if nat_lt (position_or_len is_equals piece) (length piece)
+    then Some (str_to_ascii_lowercase (trim (before_first is_equals piece)), unescape (trim (after_first is_equals piece)))
+    else None
+
+-- the pairs of pieces, in order; a piece without `=` has none
+abbrev pub pairs_in : List (List ℕ) → List (List ℕ × List ℕ)
+pairs_in pieces = flat_map (λ piece. option_to_list (pair_of piece)) pieces
+
+-- the pairs of a text: those of all its pieces after the first
+unfoldable pub pairs_of : List ℕ → List (List ℕ × List ℕ)
+pairs_of text = pairs_in (drop 1 (pieces text))
+
+-- the first of the pieces
+abbrev pub first_piece : List (List ℕ) → List ℕ
+first_piece [] = []
+first_piece (piece ∷ more) = piece
+
+-- the value of a text: its first piece, without white around it
+unfoldable pub value_of : List ℕ → List ℕ
+value_of text = trim (first_piece (pieces text))

@@ -1,10 +1,16 @@
 -- What a contract sees of the types of the library.
-use Rattle.std.specs.Prelude.{ℕ}
+use Rattle.std.specs.Prelude.{ℕ, string_bytes}
 use Rattle.std.specs.Global.{Vec}
 use Rattle.mailparse.specs.Header.{Header}
 use Rattle.mailparse.specs.Block.{HeaderList}
-use Rattle.mailparse.specs.ContentType.{content_type}
+use Rattle.mailparse.specs.ContentType.{ContentType}
+use Rattle.mailparse.specs.Disposition.{Disposition, Kind, inline, attachment, form_data, extension}
 use Rattle.mailparse.specs.Mail.{Tree, tree, forest}
+use Rattle.mailparse.specs.Pairs.{text_at}
+use Rattle.mailparse.specs.declared.content_type.ParsedContentType.{ParsedContentType}
+use Rattle.mailparse.specs.declared.disposition.DispositionType.{DispositionType}
+use Rattle.mailparse.specs.declared.disposition.DispositionType.TheVariants as code
+use Rattle.mailparse.specs.declared.disposition.ParsedContentDisposition.{ParsedContentDisposition}
 use Rattle.mailparse.specs.declared.mail.ParsedMail.{ParsedMail}
 use Rattle.mailparse.specs.declared.mail.ParsedMail.TheOpen.{ParsedMail-F}
 use Rattle.mailparse.specs.declared.mail.ParsedMail.TheFolds.{fold-ParsedMail}
@@ -12,6 +18,21 @@ use Rattle.mailparse.specs.declared.mail.ParsedMail.TheFolds.{fold-ParsedMail}
 -- the headers of a list and the offset just after their blank line
 abbrev pub header_list : Vec Header × ℕ → HeaderList
 header_list found = record { headers = found.0.items; index = found.1 }
+
+-- the type of a message's content
+abbrev pub content_type : ParsedContentType → ContentType
+content_type c = record { mimetype = string_bytes c.mimetype; charset = string_bytes c.charset; params = text_at c.params }
+
+-- the kind of a disposition
+abbrev pub kind : DispositionType → Kind
+kind code.Inline = inline
+kind code.Attachment = attachment
+kind code.FormData = form_data
+kind (code.Extension name) = extension (string_bytes name)
+
+-- how a part is to be shown
+abbrev pub disposition : ParsedContentDisposition → Disposition
+disposition d = record { kind = kind d.disposition; params = text_at d.params }
 
 -- one message, with its parts as trees
 abbrev pub tree_step : ParsedMail-F Tree → Tree

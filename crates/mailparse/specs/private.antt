@@ -2,3 +2,5 @@
 pub mod Cuts
 pub mod Unfolding
 pub mod DelimiterLines
+pub mod Pieces
+pub mod Pairs

@@ -3,6 +3,7 @@ ghost use Rattle.std.specs.Prelude.{Ok, string_bytes};
 ghost use Rattle.mailparse.specs.Body.{kind_named, text_under};
 ghost use Rattle.mailparse.specs.BodyViews.{IsBody, name_of};
 ghost use Rattle.mailparse.specs.Outcome.{AnswersOrMemory};
+ghost use Rattle.mailparse.specs.Views.{content_type};
 
 mod binary;
 mod encoded;
@@ -42,7 +43,7 @@ impl<'a> Body<'a> {
         ctype: &'a ParsedContentType,
         transfer_encoding: &Option<String>,
     ) -> Body<'a>
-        ensures { IsBody (kind_named (name_of transfer_encoding.now)) (record { raw = body.entry.now; ctype = ctype.entry.now }) result }
+        ensures { IsBody (kind_named (name_of transfer_encoding.now)) (record { raw = body.entry.now; ctype = content_type ctype.entry.now }) result }
     {
         let Some(name) = transfer_encoding else {
             return Body::SevenBit(TextBody { body, ctype });
@@ -72,7 +73,7 @@ fn body_text(
     bytes: &[u8],
     ctype: &ParsedContentType,
 ) -> Result<String, MailParseError>
-    ensures { AnswersOrMemory (λ text. string_bytes text) result (Ok (text_under (string_bytes ctype.now.charset) bytes.now)) }
+    ensures { AnswersOrMemory (λ text. string_bytes text) result (Ok (text_under (content_type ctype.now).charset bytes.now)) }
 {
     match Charset::for_label(ctype.charset.as_bytes()) {
         Some(charset) => Ok(charset.decode(alloc, bytes)?),

@@ -1,12 +1,17 @@
 //! The type of a message's content.
-ghost use Rattle.std.specs.Prelude.{◌≡◌, IfOk, IfErr};
-ghost use Rattle.mail_codec.specs.Charset.{four_charsets};
-ghost use Rattle.mailparse.specs.ContentType.{IsDefaultType, content_type, content_type_in};
-ghost use Rattle.mailparse.specs.Outcome.{IsMemory};
+ghost use Rattle.std.specs.Prelude.{◌≡◌, IfOk, Ok, codes, string_bytes, unwrap_or};
+ghost use Rattle.mailparse.specs.ContentType.{content_type_of, default_charset, default_type};
+ghost use Rattle.mailparse.specs.Outcome.{AnswersOrMemory};
+ghost use Rattle.mailparse.specs.Pairs.{text_at};
+ghost use Rattle.mailparse.specs.Views.{content_type};
 
 use crate::error::MailParseError;
-use std::alloc::Global;
+use crate::parameters::parameters;
+use std::alloc::{AllocError, Global};
 use std::collections::BTreeMap;
+
+/// The charset of a type that does not say it.
+const DEFAULT_CHARSET: &str = "us-ascii";
 
 /// The type of a message's content, its charset and its parameters (RFC 2045, section 5).
 #[derive(Debug, Drop)]
@@ -23,25 +28,45 @@ impl ParsedContentType {
     /// The type where nothing says it: `text/plain` in `us-ascii`, without parameters (RFC 2045,
     /// section 5.2). The error is want of memory.
     pub fn default(alloc: Global) -> Result<ParsedContentType, MailParseError>
-        ensures ok { IfOk result IsDefaultType }
-        ensures fault { IfErr result IsMemory }
+        ensures { AnswersOrMemory content_type result (Ok default_type) }
     {
         Ok(ParsedContentType {
             mimetype: String::from_str(alloc, "text/plain")?,
-            charset: String::from_str(alloc, "us-ascii")?,
+            charset: String::from_str(alloc, DEFAULT_CHARSET)?,
             params: BTreeMap::new(alloc),
         })
     }
 }
 
-/// The type that a text says. A stub.
-pub fn parse_content_type(
-    alloc: Global,
-    content: &str,
-) -> Result<ParsedContentType, MailParseError>
-    ensures ok { IfOk result (λ t. content_type t ≡ content_type_in four_charsets content.now) }
-    ensures fault { IfErr result IsMemory }
+/// Reads the value of a `Content-Type` header as `get_value` gives it (RFC 2045, section 5.1; RFC
+/// 2231, sections 3 and 4).
+///
+/// The type is what stands before the first semicolon, without white around it and in ASCII lower
+/// case; it need not be one that anybody knows. The charset is the parameter of that name, which
+/// stays among the parameters, or `us-ascii` where there is none. Every text is read; the error is
+/// want of memory.
+///
+/// `text/html; charset=utf-8` is the type `text/html` in the charset `utf-8`, with one parameter.
+pub fn parse_content_type(alloc: Global, text: &str) -> Result<ParsedContentType, MailParseError>
+    ensures { AnswersOrMemory content_type result (Ok (content_type_of text.now)) }
 {
-    let _ = content;
-    ParsedContentType::default(alloc)
+    let (value, params) = parameters(alloc, text)?;
+    let mut mimetype = String::from_str(alloc, value)?;
+    mimetype.make_ascii_lowercase();
+    let charset = charset_of(alloc, &params)?;
+    Ok(ParsedContentType {
+        mimetype,
+        charset,
+        params,
+    })
+}
+
+/// The charset that the parameters name, or the default one.
+fn charset_of(alloc: Global, params: &BTreeMap<String, String>) -> Result<String, AllocError>
+    ensures { IfOk result (λ label. string_bytes label ≡ unwrap_or (text_at params.now (codes "charset")) default_charset) }
+{
+    match params.get("charset") {
+        Some(label) => String::from_str(alloc, label.as_str()),
+        None => String::from_str(alloc, DEFAULT_CHARSET),
+    }
 }

@@ -1,15 +1,19 @@
-//! Reads mail: headers, the header block, the message, and bodies.
+//! Reads mail: headers, the header block, types and dispositions with their parameters, the
+//! message, and bodies.
 #![tactic(auto)]
 
 pub mod body;
 mod content_type;
+mod disposition;
 mod error;
 mod header;
 pub mod headers;
 mod lossy_text;
 mod mail;
+mod parameters;
 
 pub use content_type::{ParsedContentType, parse_content_type};
+pub use disposition::{DispositionType, ParsedContentDisposition, parse_content_disposition};
 pub use error::{Base64Fault, MailParseError, QuotedPrintableFault, Wrapped};
 pub use header::MailHeader;
 pub use header::parse::parse_header;

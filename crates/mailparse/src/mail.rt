@@ -2,10 +2,9 @@
 ghost use Rattle.std.specs.Prelude.{◌≡◌, ◌<◌, ◌∷◌, option_map, IfErr, IfOk, IsErr, Ok};
 ghost use Rattle.mail_codec.specs.Charset.{four_charsets};
 ghost use Rattle.mailparse.specs.Block.{header_count, read_headers};
-ghost use Rattle.mailparse.specs.ContentType.{content_type};
 ghost use Rattle.mailparse.specs.Mail.{block_of, root, delimiter_of, is_digest, node_type, part_type, read_levels, read_mail};
 ghost use Rattle.mailparse.specs.Outcome.{Answers, AnswersOrMemory, IsMemory};
-ghost use Rattle.mailparse.specs.Views.{tree_of};
+ghost use Rattle.mailparse.specs.Views.{content_type, tree_of};
 
 mod delimiters;
 

@@ -32,7 +32,7 @@ printable_ascii : (value : List ℕ) → Printable value → IsAscii value
 printable_ascii value h i =
     ⊎_elim (λ lt. omega (arith, (h i 0 lt).1)) (λ past. omega (arith, get_or_past value i 0 past)) (cases_lt i (length value))
 
-graphic_no_white : (b : ℕ) → 33 ≤ b → b ≤ 126 → is_whitespace b ≡ false
+pub graphic_no_white : (b : ℕ) → 33 ≤ b → b ≤ 126 → is_whitespace b ≡ false
 graphic_no_white b low high =
     let other : (n : ℕ) → (b < n) ⊎ (n < b) → eqb b n ≡ false = λ n h. ne_eqb b n (λ e. ⊎_elim (λ l. absurd (omega arith)) (λ l. absurd (omega arith)) h) in
     or_from _ _ (or_from _ _ (or_from _ _ (or_from _ _ (or_from _ _ (or_from _ _ (or_from _ _ (or_from _ _ (or_from _ _ (or_from _ _

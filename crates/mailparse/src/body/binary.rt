@@ -3,6 +3,7 @@ ghost use Rattle.std.specs.Prelude.{◌≡◌, Ok, string_bytes};
 ghost use Rattle.mailparse.specs.Body.{text_under};
 ghost use Rattle.mailparse.specs.BodyViews.{binary_content};
 ghost use Rattle.mailparse.specs.Outcome.{AnswersOrMemory};
+ghost use Rattle.mailparse.specs.Views.{content_type};
 
 use super::body_text;
 use crate::content_type::ParsedContentType;
@@ -19,7 +20,7 @@ pub struct BinaryBody<'a> {
 impl<'a> BinaryBody<'a> {
     /// The content type that the body was made with. Takes no memory.
     pub fn get_content_type(&self) -> &'a ParsedContentType
-        ensures { result.now ≡ (binary_content self.now).ctype }
+        ensures { content_type result.now ≡ (binary_content self.now).ctype }
     {
         self.ctype
     }
@@ -35,7 +36,7 @@ impl<'a> BinaryBody<'a> {
     /// and under an unknown label each byte that is no ASCII is U+FFFD. The error is want of memory.
     pub fn get_as_string(&self, alloc: Global) -> Result<String, MailParseError>
         ensures { AnswersOrMemory (λ text. string_bytes text) result
-            (Ok (text_under (string_bytes (binary_content self.now).ctype.charset) (binary_content self.now).raw)) }
+            (Ok (text_under (binary_content self.now).ctype.charset (binary_content self.now).raw)) }
     {
         body_text(alloc, self.body, self.ctype)
     }

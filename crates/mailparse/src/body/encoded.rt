@@ -3,6 +3,7 @@ ghost use Rattle.std.specs.Prelude.{◌≡◌, string_bytes};
 ghost use Rattle.mailparse.specs.Body.{in_base64, decoded, decoded_text};
 ghost use Rattle.mailparse.specs.BodyViews.{encoded_kind, encoded_content};
 ghost use Rattle.mailparse.specs.Outcome.{AnswersOrMemory};
+ghost use Rattle.mailparse.specs.Views.{content_type};
 
 use super::body_text;
 use crate::content_type::ParsedContentType;
@@ -28,7 +29,7 @@ pub struct EncodedBody<'a> {
 impl<'a> EncodedBody<'a> {
     /// The content type that the body was made with. Takes no memory.
     pub fn get_content_type(&self) -> &'a ParsedContentType
-        ensures { result.now ≡ (encoded_content self.now).ctype }
+        ensures { content_type result.now ≡ (encoded_content self.now).ctype }
     {
         self.ctype
     }
@@ -59,7 +60,7 @@ impl<'a> EncodedBody<'a> {
     #[tactic(auto, unfolding(crate::specs::Body::decoded_text))]
     pub fn get_decoded_as_string(&self, alloc: Global) -> Result<String, MailParseError>
         ensures { AnswersOrMemory (λ text. string_bytes text) result
-            (decoded_text (encoded_kind self.now) (string_bytes (encoded_content self.now).ctype.charset) (encoded_content self.now).raw) }
+            (decoded_text (encoded_kind self.now) (encoded_content self.now).ctype.charset (encoded_content self.now).raw) }
     {
         let bytes = self.get_decoded(alloc)?;
         body_text(alloc, bytes.as_slice(), self.ctype)

@@ -1,0 +1,134 @@
+-- The text `multipart/mixed; boundary=B`, where B is letters and digits.
+use Rattle.std.proofs.Common.{◌≡◌, ◌≢◌, ◌⊎◌, ℕ, suc, ◌+◌, ◌<◌, ◌≤◌, Bool, true, false, cond, eqb, not, ◌&&◌, List, [], ◌∷◌, ◌++◌, length, Option, Some, get_or, codes, refl, sym, ap, ◌∙◌, ⊎_elim, arith, length-append}
+use Rattle.std.proofs.lemmas.Bool.{cond-false, cond-true, ne_eqb, eqb-false, and_left, and_right, and_parts, or_from, le-ltb, cases_lt}
+use Rattle.std.proofs.lemmas.List.{get_or_past}
+use Rattle.std.proofs.lemmas.List.Elements.{All-head, All-tail}
+use Rattle.std.proofs.lemmas.Str.{chars-IsAscii, encodes-IsAscii}
+use lib.Utf8.{encode}
+use Rattle.std.specs.Char.{is_whitespace}
+use Rattle.std.specs.List.{All, list_all}
+use Rattle.std.specs.Str.{IsAscii, chars, encode_utf8_all, trim, trim_start, trim_end, skip_leading_whitespace, drop_trailing_whitespace, str_to_ascii_lowercase}
+use Rattle.mailparse.specs.Pairs.{pair_of, pairs_of, pairs_in, value_of}
+use Rattle.mailparse.specs.Pieces.{quote, semicolon, Within, outside, with_front, pieces, pieces_from, unescape}
+use Rattle.mailparse.proofs.lemmas.Pairs.{pair_of-some, pairs_in-some, pairs_of-later, value_of-first}
+use Rattle.mailparse.proofs.lemmas.Pieces.{with_front-append, at_other}
+use Rattle.mailparse.proofs.lemmas.Plain.{graphic_no_white}
+use Rattle.mail_laws.specs.Boundaries.{IsAlphanumeric, boundary_type}
+
+-- ---- graphic bytes
+
+abbrev Graphic : List ℕ → Type 0
+Graphic text = All (λ b. (33 ≤ b) × (b ≤ 126)) text
+
+graphic_ascii : (text : List ℕ) → Graphic text → IsAscii text
+graphic_ascii text h i =
+    ⊎_elim (λ lt. omega (arith, (h i 0 lt).1)) (λ past. omega (arith, get_or_past text i 0 past)) (cases_lt i (length text))
+
+white_free : (b : ℕ) (text : List ℕ) → Graphic (b ∷ text) → is_whitespace b ≡ false
+white_free b text h =
+    let first = All-head (λ b. (33 ≤ b) × (b ≤ 126)) b text h in
+    graphic_no_white b first.0 first.1
+
+nothing_trailing : (text : List ℕ) → Graphic text → drop_trailing_whitespace text ≡ text
+nothing_trailing [] h = refl
+nothing_trailing (b ∷ text) h =
+    cond-false _ _ _ (and_left _ _ (white_free b text h))
+    ∙ ap (λ x. b ∷ x) (nothing_trailing text (All-tail (λ b. (33 ≤ b) × (b ≤ 126)) b text h))
+
+nothing_leading : (text : List ℕ) → Graphic text → skip_leading_whitespace text ≡ text
+nothing_leading [] h = refl
+nothing_leading (b ∷ text) h = cond-false _ _ _ (white_free b text h)
+
+-- loses nothing at either end
+pub trim-graphic : (text : List ℕ) → Graphic text → trim text ≡ text
+unfolding trim_start trim_end
+trim-graphic text h =
+    let ascii = graphic_ascii text h in
+    let same : encode_utf8_all text ≡ text = encodes-IsAscii text ascii in
+    let all : chars text ≡ text = chars-IsAscii text ascii in
+    ap (λ cs. encode_utf8_all (drop_trailing_whitespace (chars (encode_utf8_all (skip_leading_whitespace cs))))) all
+    ∙ ap (λ cs. encode_utf8_all (drop_trailing_whitespace (chars (encode_utf8_all cs)))) (nothing_leading text h)
+    ∙ ap (λ cs. encode_utf8_all (drop_trailing_whitespace (chars cs))) same
+    ∙ ap (λ cs. encode_utf8_all (drop_trailing_whitespace cs)) all
+    ∙ ap encode_utf8_all (nothing_trailing text h)
+    ∙ same
+
+-- ---- letters and digits
+
+AlphanumericByte : ℕ → Type 0
+AlphanumericByte b = ((48 ≤ b) × (b ≤ 57)) ⊎ (((65 ≤ b) × (b ≤ 90)) ⊎ ((97 ≤ b) × (b ≤ 122)))
+
+bounds : (b : ℕ) → ((48 ≤ b) × (b ≤ 57)) ⊎ (((65 ≤ b) × (b ≤ 90)) ⊎ ((97 ≤ b) × (b ≤ 122))) → (48 ≤ b) × (b ≤ 122) × (b ≢ 59)
+bounds b h =
+    ⊎_elim (λ d. (omega (arith, d.0), omega (arith, d.1), λ e. absurd (omega (arith, d.1))))
+    (λ l. ⊎_elim (λ d. (omega (arith, d.0), omega (arith, d.1), λ e. absurd (omega (arith, d.0)))) (λ d. (omega (arith, d.0), omega (arith, d.1), λ e. absurd (omega (arith, d.0)))) l) h
+
+graphic : (text : List ℕ) → IsAlphanumeric text → Graphic text
+graphic text h = λ i d lt. let at = bounds _ (h i d lt) in (omega (arith, at.0), omega (arith, at.1))
+
+one_piece : (text : List ℕ) → IsAlphanumeric text → pieces_from outside text ≡ text ∷ []
+one_piece [] h = refl
+one_piece (b ∷ text) h =
+    let first = bounds b (h 0 0 (omega arith)) in
+    at_other b text (λ e. absurd (omega (arith, first.0))) first.2 ∙ ap (with_front (b ∷ [])) (one_piece text (λ i d lt. h (suc i) d (omega arith)))
+
+unescape-alphanumeric : (text : List ℕ) → IsAlphanumeric text → unescape text ≡ text
+unfolding unescape
+unescape-alphanumeric [] h = refl
+unescape-alphanumeric (b ∷ text) h =
+    let first = bounds b (h 0 0 (omega arith)) in
+    cond-false _ _ _ (and_left _ _ (and_right _ _ (ne_eqb b 34 (λ e. absurd (omega (arith, first.0))))))
+
+-- ---- the whole text
+
+-- a byte that neither begins a quoted run nor ends a piece
+abbrev plain : ℕ → Bool
+plain b = not (eqb b quote) && not (eqb b semicolon)
+
+different : (b n : ℕ) → not (eqb b n) ≡ true → b ≢ n
+different b n h = go (eqb b n) refl h
+  where
+    go : (t : Bool) → eqb b n ≡ t → not t ≡ true → b ≢ n
+    go true e h = absurd (cc)
+    go false e h = eqb-false b n e
+
+pieces_after : (front rest : List ℕ) (p : List ℕ) (ps : List (List ℕ)) → list_all plain front ≡ true → pieces_from outside rest ≡ p ∷ ps
+    → pieces_from outside (front ++ rest) ≡ (front ++ p) ∷ ps
+pieces_after [] rest p ps h e = e
+pieces_after (b ∷ front) rest p ps h e =
+    let here = and_parts (plain b) (list_all plain front) h in
+    let own = and_parts (not (eqb b quote)) (not (eqb b semicolon)) here.0 in
+    at_other b (front ++ rest) (different b quote own.0) (different b semicolon own.1)
+    ∙ ap (with_front (b ∷ [])) (pieces_after front rest p ps here.1 e)
+
+boundary_pieces : (boundary : List ℕ) → IsAlphanumeric boundary
+    → pieces (boundary_type boundary) ≡ codes "multipart/mixed" ∷ (codes " boundary=" ++ boundary) ∷ []
+unfolding pieces
+boundary_pieces boundary h =
+    pieces_after (codes "multipart/mixed") (codes "; boundary=" ++ boundary) [] ((codes " boundary=" ++ boundary) ∷ []) refl
+    (ap (λ ps. [] ∷ ps) (pieces_after (codes " boundary=") boundary boundary [] refl (one_piece boundary h)))
+
+trim_key : trim (codes " boundary") ≡ codes "boundary"
+unfolding trim_start trim_end chars encode
+trim_key = refl
+
+trim_value : trim (codes "multipart/mixed") ≡ codes "multipart/mixed"
+unfolding trim_start trim_end chars encode
+trim_value = refl
+
+boundary_pair : (boundary : List ℕ) → IsAlphanumeric boundary → pair_of (codes " boundary=" ++ boundary) ≡ Some (codes "boundary", boundary)
+boundary_pair boundary h =
+    let len = length-append (codes " boundary=") boundary in
+    pair_of-some (codes " boundary=" ++ boundary) (omega arith)
+    ∙ ap (λ key. Some (str_to_ascii_lowercase key, unescape (trim boundary))) trim_key
+    ∙ ap (λ value. Some (codes "boundary", unescape value)) (trim-graphic boundary (graphic boundary h))
+    ∙ ap (λ value. Some (codes "boundary", value)) (unescape-alphanumeric boundary h)
+
+pub boundary_value : (boundary : List ℕ) → IsAlphanumeric boundary → value_of (boundary_type boundary) ≡ codes "multipart/mixed"
+boundary_value boundary h =
+    value_of-first (boundary_type boundary) (codes "multipart/mixed") _ (boundary_pieces boundary h) ∙ trim_value
+
+pub boundary_pairs : (boundary : List ℕ) → IsAlphanumeric boundary → pairs_of (boundary_type boundary) ≡ (codes "boundary", boundary) ∷ []
+boundary_pairs boundary h =
+    pairs_of-later (boundary_type boundary) (codes "multipart/mixed") _ (boundary_pieces boundary h)
+    ∙ pairs_in-some (codes " boundary=" ++ boundary) [] (codes "boundary") boundary (boundary_pair boundary h)

@@ -1,0 +1,9 @@
+use Rattle.mailparse.specs.Pairs.{text_at}
+use Rattle.mailparse.specs.Views.{kind}
+use Rattle.mailparse.proofs.lemmas.Types.{disposition_is}
+use Rattle.mailparse.proofs.disposition.parse_content_disposition.Goals as goal
+
+pub returns : goal.returns
+returns c =
+    disposition_is c.args.text.now c.in_ok-value.value.now (kind c.in_ok-kind_named.field-0) (text_at c.in_ok-value.params)
+    c.in_ok-value.ensures.value c.in_ok-kind_named.ensures c.in_ok-value.ensures.params

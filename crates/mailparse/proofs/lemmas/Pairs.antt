@@ -1,0 +1,89 @@
+-- Lemmas on the pairs of a text, and on the map that holds them.
+use Rattle.std.proofs.Common.{◌≡◌, ◌≢◌, ℕ, suc, ◌+◌, ◌<◌, ◌≤◌, Bool, true, false, cond, eqb, ltb, List, [], ◌∷◌, ◌++◌, length, drop, Option, Some, None, refl, sym, ap, ◌∙◌, arith}
+use Rattle.std.proofs.lemmas.Bool.{cond-true, cond-false, lt-ltb, le-ltb}
+use Rattle.std.proofs.lemmas.Map.Text.{btree_map_updates_text}
+use Rattle.std.specs.Borrow.{Bor}
+use Rattle.std.specs.BTreeMap.{BTreeMap, UpdatesBy}
+use Rattle.std.specs.Global.{Global}
+use Rattle.std.specs.List.{position_or_len, before_first, after_first, flat_map}
+use Rattle.std.specs.Map.{update, update_all}
+use Rattle.std.specs.Option.{option_map, option_to_list}
+use Rattle.std.specs.Prelude.{String, string_bytes}
+use Rattle.std.specs.Str.{bytes_eq, str_to_ascii_lowercase, trim}
+use Rattle.std.specs.String.{string_cmp}
+use Rattle.mailparse.specs.Pairs.{Texts, text_at, last_of, is_equals, pair_of, pairs_in, pairs_of, first_piece, value_of}
+use Rattle.mailparse.specs.Pieces.{pieces, unescape}
+use Rattle.mailparse.specs.private.Pairs.{pair}
+use Rattle.mailparse.specs.private.Pieces.{pieces_of_rest}
+
+-- ---- the map
+
+-- what a map has after these pairs are put into it in turn
+abbrev pub stores : Texts → List (List ℕ × List ℕ) → Texts
+stores texts pairs = update_all bytes_eq texts pairs
+
+-- what is left of a text, counted
+abbrev pub rest_length : Option (Bor (List ℕ)) → ℕ
+rest_length None = 0
+rest_length (Some rest) = suc (length rest.now)
+
+mapped : {X Y : Type 0} (f : X → Y) (t : Bool) (x : X) (o : Option X) → option_map f (cond t (Some x) o) ≡ cond t (Some (f x)) (option_map f o)
+mapped f true x o = refl
+mapped f false x o = refl
+
+-- what a map has after a text is put into it
+pub stored : (old new : BTreeMap (String Global) (String Global)) (key value : String Global)
+    → UpdatesBy string_cmp (string_cmp key) old new (Some value)
+    → text_at new ≡ update bytes_eq (text_at old) (string_bytes key) (Some (string_bytes value))
+stored old new key value updates = λ i name.
+    (ap (option_map string_bytes) (btree_map_updates_text (string_bytes key) old new (Some value) updates name)
+    ∙ mapped string_bytes (bytes_eq (string_bytes key) name) value _) i
+
+-- ---- one piece
+
+pub pair_of-some : (piece : List ℕ) → position_or_len is_equals piece < length piece
+    → pair_of piece ≡ Some (str_to_ascii_lowercase (trim (before_first is_equals piece)), unescape (trim (after_first is_equals piece)))
+unfolding pair_of
+pair_of-some piece lt = cond-true _ _ _ (lt-ltb _ _ lt)
+
+pub pair_of-none : (piece : List ℕ) → position_or_len is_equals piece ≡ length piece → pair_of piece ≡ None
+unfolding pair_of
+pair_of-none piece e = cond-false _ _ _ (ap (λ n. ltb n (length piece)) e ∙ le-ltb (length piece) (length piece) (omega arith))
+
+-- ---- the walk over the pieces
+
+pub pairs_in-some : (piece : List ℕ) (more : List (List ℕ)) (key value : List ℕ) → pair_of piece ≡ Some (key, value)
+    → pairs_in (piece ∷ more) ≡ (key, value) ∷ pairs_in more
+pairs_in-some piece more key value e = ap (λ p. option_to_list p ++ pairs_in more) e
+
+pairs_in-none : (piece : List ℕ) (more : List (List ℕ)) → pair_of piece ≡ None → pairs_in (piece ∷ more) ≡ pairs_in more
+pairs_in-none piece more e = ap (λ p. option_to_list p ++ pairs_in more) e
+
+-- a piece with a pair
+pub stores_pair : (texts new all : Texts) (found : List (List ℕ)) (piece : List ℕ) (more : List (List ℕ)) (key value : List ℕ)
+    → found ≡ piece ∷ more → pair_of piece ≡ Some (key, value) → new ≡ update bytes_eq texts key (Some value)
+    → stores texts (pairs_in found) ≡ all → stores new (pairs_in more) ≡ all
+stores_pair texts new all found piece more key value cut e put here =
+    ap (λ t. stores t (pairs_in more)) put
+    ∙ sym (ap (λ ps. stores texts (pairs_in ps)) cut ∙ ap (stores texts) (pairs_in-some piece more key value e))
+    ∙ here
+
+-- a piece without one
+pub stores_none : (texts all : Texts) (found : List (List ℕ)) (piece : List ℕ) (more : List (List ℕ))
+    → found ≡ piece ∷ more → pair_of piece ≡ None → stores texts (pairs_in found) ≡ all → stores texts (pairs_in more) ≡ all
+stores_none texts all found piece more cut e here =
+    sym (ap (λ ps. stores texts (pairs_in ps)) cut ∙ ap (stores texts) (pairs_in-none piece more e)) ∙ here
+
+pub pair_is : (found : String Global × String Global) (given : List ℕ × List ℕ) → string_bytes found.0 ≡ given.0 → string_bytes found.1 ≡ given.1
+    → Some (pair found) ≡ Some given
+pair_is found given key value = λ i. Some (key i, value i)
+
+-- ---- a whole text
+
+pub value_of-first : (text piece : List ℕ) (more : List (List ℕ)) → pieces text ≡ piece ∷ more → value_of text ≡ trim piece
+unfolding value_of
+value_of-first text piece more e = ap (λ ps. trim (first_piece ps)) e
+
+pub pairs_of-later : (text piece : List ℕ) (more : List (List ℕ)) → pieces text ≡ piece ∷ more → pairs_of text ≡ pairs_in more
+unfolding pairs_of
+pairs_of-later text piece more e = ap (λ ps. pairs_in (drop 1 ps)) e

@@ -1,0 +1,212 @@
+-- Lemmas on the pieces of a text.
+use Rattle.std.proofs.Common.{◌≡◌, ◌≢◌, ℕ, ◌+◌, ◌<◌, ◌≤◌, Bool, true, false, cond, eqb, List, [], ◌∷◌, ◌++◌, length, take, drop, get_or, refl, sym, ap, subst, ◌∙◌, append_assoc}
+use Rattle.std.proofs.lemmas.Bool.{cond-true, cond-false, eqb-true, eqb-false, ne_eqb, false≢true}
+use Rattle.std.proofs.lemmas.List.{append-nil, drop_more, take_more, drop_all, take_all}
+use Rattle.mailparse.specs.Pieces.{quote, semicolon, backslash, IsRunAfter, closing_quote, text_ends, lone_backslash, escaped_byte, plain_byte, IsPiece, piece_ends, other_byte, closed_run, open_run, ArePieces, last_piece, more_pieces, Within, outside, quoted, escaped, after, ends, with_front, pieces_from, pieces}
+
+pub with_front-append : (a b : List ℕ) (ps : List (List ℕ)) → with_front a (with_front b ps) ≡ with_front (a ++ b) ps
+with_front-append a b [] = refl
+with_front-append a b (p ∷ ps) = ap (λ q. q ∷ ps) (sym (append_assoc a b p))
+
+-- ---- what the function does at a byte
+
+at_end : (w : Within) (b : ℕ) (bytes : List ℕ) → ends w b ≡ true → pieces_from w (b ∷ bytes) ≡ [] ∷ pieces_from outside bytes
+at_end w b bytes e = cond-true _ _ _ e
+
+at_byte : (w : Within) (b : ℕ) (bytes : List ℕ) → ends w b ≡ false → pieces_from w (b ∷ bytes) ≡ with_front (b ∷ []) (pieces_from (after w b) bytes)
+at_byte w b bytes e = cond-false _ _ _ e
+
+pub at_other : (b : ℕ) (bytes : List ℕ) → b ≢ quote → b ≢ semicolon
+    → pieces_from outside (b ∷ bytes) ≡ with_front (b ∷ []) (pieces_from outside bytes)
+at_other b bytes no_quote no_semicolon =
+    at_byte outside b bytes (ne_eqb b semicolon no_semicolon)
+    ∙ ap (λ w. with_front (b ∷ []) (pieces_from w bytes)) (cond-false _ _ _ (ne_eqb b quote no_quote))
+
+at_plain : (b : ℕ) (bytes : List ℕ) → b ≢ quote → b ≢ backslash
+    → pieces_from quoted (b ∷ bytes) ≡ with_front (b ∷ []) (pieces_from quoted bytes)
+at_plain b bytes no_quote no_backslash =
+    ap (λ w. with_front (b ∷ []) (pieces_from w bytes))
+    (cond-false _ _ _ (ne_eqb b quote no_quote) ∙ cond-false _ _ _ (ne_eqb b backslash no_backslash))
+
+-- ---- no other list fits
+
+run_closed : {run : List ℕ} → IsRunAfter true run → (rest : List ℕ)
+    → pieces_from quoted (run ++ rest) ≡ with_front run (pieces_from outside rest)
+run_closed closing_quote rest = refl
+run_closed (escaped_byte {b = b} {rest = run} r) rest =
+    ap (λ ps. with_front (backslash ∷ []) (with_front (b ∷ []) ps)) (run_closed r rest)
+    ∙ ap (with_front (backslash ∷ [])) (with_front-append (b ∷ []) run _)
+    ∙ with_front-append (backslash ∷ []) (b ∷ run) _
+run_closed (plain_byte {b = b} {rest = run} q s r) rest =
+    at_plain b (run ++ rest) q s ∙ ap (with_front (b ∷ [])) (run_closed r rest) ∙ with_front-append (b ∷ []) run _
+
+run_open : {run : List ℕ} → IsRunAfter false run → pieces_from quoted run ≡ run ∷ []
+run_open text_ends = refl
+run_open lone_backslash = refl
+run_open (escaped_byte {b = b} r) = ap (λ ps. with_front (backslash ∷ []) (with_front (b ∷ []) ps)) (run_open r)
+run_open (plain_byte {b = b} {rest = run} q s r) = at_plain b run q s ∙ ap (with_front (b ∷ [])) (run_open r)
+
+piece_last : {closed : Bool} {piece : List ℕ} → IsPiece closed piece → pieces_from outside piece ≡ piece ∷ []
+piece_last piece_ends = refl
+piece_last (other_byte {b = b} {rest = rest} q s p) = at_other b rest q s ∙ ap (with_front (b ∷ [])) (piece_last p)
+piece_last (closed_run {run = run} {rest = rest} r p e) =
+    ap (pieces_from outside) e ∙ ap (with_front (quote ∷ [])) (run_closed r rest ∙ ap (with_front run) (piece_last p))
+    ∙ ap (λ q. q ∷ []) (sym e)
+piece_last (open_run r) = ap (with_front (quote ∷ [])) (run_open r)
+
+piece_more : {piece : List ℕ} → IsPiece true piece → (rest : List ℕ)
+    → pieces_from outside (piece ++ semicolon ∷ rest) ≡ piece ∷ pieces_from outside rest
+piece_more piece_ends rest = refl
+piece_more (other_byte {b = b} {rest = more} q s p) rest =
+    at_other b (more ++ semicolon ∷ rest) q s ∙ ap (with_front (b ∷ [])) (piece_more p rest)
+piece_more (closed_run {run = run} {rest = more} r p e) rest =
+    ap (λ x. pieces_from outside (x ++ semicolon ∷ rest)) e
+    ∙ ap (λ x. with_front (quote ∷ []) (pieces_from quoted x)) (append_assoc run more (semicolon ∷ rest))
+    ∙ ap (with_front (quote ∷ [])) (run_closed r (more ++ semicolon ∷ rest) ∙ ap (with_front run) (piece_more p rest))
+    ∙ ap (λ q. q ∷ pieces_from outside rest) (sym e)
+
+pieces_are : {text : List ℕ} {ps : List (List ℕ)} → ArePieces text ps → ps ≡ pieces_from outside text
+pieces_are (last_piece p) = sym (piece_last p)
+pieces_are (more_pieces {piece = piece} {rest = rest} p more e) =
+    ap (λ ps. piece ∷ ps) (pieces_are more) ∙ sym (ap (pieces_from outside) e ∙ piece_more p rest)
+
+pub pieces_only : (text : List ℕ) (ps : List (List ℕ)) → ArePieces text ps → ps ≡ pieces text
+unfolding pieces
+pieces_only text ps are = pieces_are are
+
+-- ---- the list that is computed fits
+
+-- bytes in a quoted run, and the pieces that they are from there on
+data RunThen : List ℕ → List (List ℕ) → Type 0 where
+  run_ends : {run : List ℕ} → IsRunAfter false run → RunThen run (run ∷ [])
+  run_closes : {run rest bytes : List ℕ} {ps qs : List (List ℕ)} → IsRunAfter true run → ArePieces rest ps → bytes ≡ run ++ rest
+      → qs ≡ with_front run ps → RunThen bytes qs
+
+front_other : (b : ℕ) {bytes : List ℕ} {ps : List (List ℕ)} → b ≢ quote → b ≢ semicolon → ArePieces bytes ps
+    → ArePieces (b ∷ bytes) (with_front (b ∷ []) ps)
+front_other b q s (last_piece p) = last_piece (other_byte q s p)
+front_other b q s (more_pieces p more e) = more_pieces (other_byte q s p) more (ap (λ x. b ∷ x) e)
+
+front_run : {run rest : List ℕ} {ps : List (List ℕ)} → IsRunAfter true run → ArePieces rest ps
+    → ArePieces (quote ∷ (run ++ rest)) (with_front (quote ∷ run) ps)
+front_run r (last_piece p) = last_piece (closed_run r p refl)
+front_run {run} r (more_pieces {piece = piece} {rest = rest} p more e) =
+    more_pieces (closed_run r p refl) more (ap (λ x. quote ∷ (run ++ x)) e ∙ ap (λ x. quote ∷ x) (sym (append_assoc run piece (semicolon ∷ rest))))
+
+from_run : {bytes : List ℕ} {ps : List (List ℕ)} → RunThen bytes ps → ArePieces (quote ∷ bytes) (with_front (quote ∷ []) ps)
+from_run (run_ends r) = last_piece (open_run r)
+from_run {bytes} (run_closes {run = run} {rest = rest} {ps = ps} r are e f) =
+    subst (λ qs. ArePieces (quote ∷ bytes) (with_front (quote ∷ []) qs)) (sym f)
+    (subst (λ x. ArePieces (quote ∷ x) (with_front (quote ∷ []) (with_front run ps))) (sym e)
+    (subst (ArePieces (quote ∷ (run ++ rest))) (sym (with_front-append (quote ∷ []) run ps)) (front_run r are)))
+
+then_plain : (b : ℕ) {bytes : List ℕ} {ps : List (List ℕ)} → b ≢ quote → b ≢ backslash → RunThen bytes ps
+    → RunThen (b ∷ bytes) (with_front (b ∷ []) ps)
+then_plain b q s (run_ends r) = run_ends (plain_byte q s r)
+then_plain b q s (run_closes {run = run} {ps = ps} r are e f) =
+    run_closes (plain_byte q s r) are (ap (λ x. b ∷ x) e) (ap (with_front (b ∷ [])) f ∙ with_front-append (b ∷ []) run ps)
+
+then_escaped : (b : ℕ) {bytes : List ℕ} {ps : List (List ℕ)} → RunThen bytes ps
+    → RunThen (backslash ∷ b ∷ bytes) (with_front (backslash ∷ []) (with_front (b ∷ []) ps))
+then_escaped b (run_ends r) = run_ends (escaped_byte r)
+then_escaped b (run_closes {run = run} {ps = ps} r are e f) =
+    run_closes (escaped_byte r) are (ap (λ x. backslash ∷ b ∷ x) e)
+    (ap (λ qs. with_front (backslash ∷ []) (with_front (b ∷ []) qs)) f ∙ with_front-append (backslash ∷ []) (b ∷ []) (with_front run ps)
+    ∙ with_front-append (backslash ∷ b ∷ []) run ps)
+
+outside_by : (b : ℕ) (bytes : List ℕ) (s : Bool) → eqb b semicolon ≡ s → (q : Bool) → eqb b quote ≡ q
+    → ArePieces bytes (pieces_from outside bytes) → RunThen bytes (pieces_from quoted bytes) → ArePieces (b ∷ bytes) (pieces_from outside (b ∷ bytes))
+outside_by b bytes true es q eq are run =
+    subst (ArePieces (b ∷ bytes)) (sym (at_end outside b bytes es))
+    (more_pieces piece_ends are (ap (λ x. x ∷ bytes) (eqb-true b semicolon es)))
+outside_by b bytes false es true eq are run =
+    subst (λ x. ArePieces (x ∷ bytes) (pieces_from outside (x ∷ bytes))) (sym (eqb-true b quote eq)) (from_run run)
+outside_by b bytes false es false eq are run =
+    subst (ArePieces (b ∷ bytes)) (sym (at_other b bytes (eqb-false b quote eq) (eqb-false b semicolon es)))
+    (front_other b (eqb-false b quote eq) (eqb-false b semicolon es) are)
+
+-- a byte that is no backslash, in a quoted run
+quoted_by : (b : ℕ) (bytes : List ℕ) → b ≢ backslash → (q : Bool) → eqb b quote ≡ q → ArePieces bytes (pieces_from outside bytes)
+    → RunThen bytes (pieces_from quoted bytes) → RunThen (b ∷ bytes) (pieces_from quoted (b ∷ bytes))
+quoted_by b bytes s true eq are run =
+    subst (λ x. RunThen (x ∷ bytes) (pieces_from quoted (x ∷ bytes))) (sym (eqb-true b quote eq))
+    (run_closes closing_quote are refl refl)
+quoted_by b bytes s false eq are run =
+    subst (RunThen (b ∷ bytes)) (sym (at_plain b bytes (eqb-false b quote eq) s)) (then_plain b (eqb-false b quote eq) s run)
+
+backslash_or : (P : ℕ → Type 0) (b : ℕ) → P backslash → (b ≢ backslash → P b) → P b
+backslash_or P b here other = go (eqb b backslash) refl
+  where
+    go : (t : Bool) → eqb b backslash ≡ t → P b
+    go true e = subst P (sym (eqb-true b backslash e)) here
+    go false e = other (eqb-false b backslash e)
+
+both : (bytes : List ℕ) → ArePieces bytes (pieces_from outside bytes) × RunThen bytes (pieces_from quoted bytes)
+both [] = (last_piece piece_ends, run_ends text_ends)
+both (b ∷ []) =
+    let next = both [] in (
+      outside_by b [] _ refl _ refl next.0 next.1,
+      backslash_or (λ b. RunThen (b ∷ []) (pieces_from quoted (b ∷ []))) b (run_ends lone_backslash)
+          (λ s. quoted_by b [] s _ refl next.0 next.1),
+    )
+both (b ∷ c ∷ bytes) =
+    let next = both (c ∷ bytes) in
+    let later = both bytes in (
+      outside_by b (c ∷ bytes) _ refl _ refl next.0 next.1,
+      backslash_or (λ b. RunThen (b ∷ c ∷ bytes) (pieces_from quoted (b ∷ c ∷ bytes))) b (then_escaped c later.1)
+          (λ s. quoted_by b (c ∷ bytes) s _ refl next.0 next.1),
+    )
+
+pub pieces_fit : (text : List ℕ) → ArePieces text (pieces text)
+unfolding pieces
+pieces_fit text = (both text).0
+
+-- ---- the search for the first piece
+
+with_front-nil : (w : Within) (bytes : List ℕ) → with_front [] (pieces_from w bytes) ≡ pieces_from w bytes
+with_front-nil w [] = refl
+with_front-nil w (b ∷ bytes) = go (ends w b) refl
+  where
+    go : (t : Bool) → ends w b ≡ t → with_front [] (pieces_from w (b ∷ bytes)) ≡ pieces_from w (b ∷ bytes)
+    go true e = ap (with_front []) (at_end w b bytes e) ∙ sym (at_end w b bytes e)
+    go false e =
+        ap (with_front []) (at_byte w b bytes e) ∙ with_front-append [] (b ∷ []) (pieces_from (after w b) bytes)
+        ∙ sym (at_byte w b bytes e)
+
+-- the bytes up to a place stand in front of the first piece that is there
+abbrev pub Reaches : List ℕ → ℕ → Within → Type 0
+Reaches text at w = pieces text ≡ with_front (take at text) (pieces_from w (drop at text))
+
+pub reaches_start : (text : List ℕ) → Reaches text 0 outside
+unfolding pieces
+reaches_start text = sym (with_front-nil outside text)
+
+pub reaches_next : (text : List ℕ) (at : ℕ) (w : Within) (b : ℕ) → at < length text → b ≡ get_or text at 0 → false ≡ ends w b → Reaches text at w
+    → Reaches text (at + 1) (after w b)
+reaches_next text at w b lt is e here =
+    here
+    ∙ ap (λ x. with_front (take at text) (pieces_from w x)) (drop_more text at 0 lt ∙ ap (λ c. c ∷ drop (at + 1) text) (sym is))
+    ∙ ap (with_front (take at text)) (at_byte w b (drop (at + 1) text) (sym e))
+    ∙ with_front-append (take at text) (b ∷ []) (pieces_from (after w b) (drop (at + 1) text))
+    ∙ ap (λ x. with_front x (pieces_from (after w b) (drop (at + 1) text)))
+    (sym (take_more text at 0 lt ∙ ap (λ c. take at text ++ c ∷ []) (sym is)))
+
+pub reaches_semicolon : (text : List ℕ) (at : ℕ) (w : Within) (b : ℕ) → at < length text → b ≡ get_or text at 0 → true ≡ ends w b → Reaches text at w
+    → pieces text ≡ take at text ∷ pieces (drop (at + 1) text)
+unfolding pieces
+reaches_semicolon text at w b lt is e here =
+    here
+    ∙ ap (λ x. with_front (take at text) (pieces_from w x)) (drop_more text at 0 lt ∙ ap (λ c. c ∷ drop (at + 1) text) (sym is))
+    ∙ ap (with_front (take at text)) (at_end w b (drop (at + 1) text) (sym e))
+    ∙ ap (λ p. p ∷ pieces_from outside (drop (at + 1) text)) (append-nil (take at text))
+
+pub reaches_end : (text : List ℕ) (at : ℕ) (w : Within) → length text ≤ at → Reaches text at w → pieces text ≡ text ∷ []
+reaches_end text at w past here =
+    here ∙ ap (λ x. with_front (take at text) (pieces_from w x)) (drop_all at text past)
+    ∙ ap (λ p. p ∷ []) (append-nil (take at text) ∙ take_all at text past)
+
+-- a byte that ends a piece is a semicolon
+pub semicolon_ends : (w : Within) (b : ℕ) → true ≡ ends w b → b ≡ semicolon
+semicolon_ends outside b e = eqb-true b semicolon (sym e)
+semicolon_ends quoted b e = absurd (false≢true (sym e))
+semicolon_ends escaped b e = absurd (false≢true (sym e))

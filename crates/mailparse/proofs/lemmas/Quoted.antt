@@ -1,0 +1,68 @@
+-- Lemmas on the text that a quoted text stands for.
+use Rattle.std.proofs.Common.{◌≡◌, ◌≢◌, ℕ, suc, ◌+◌, ◌<◌, ◌≤◌, Bool, true, false, not, cond, eqb, ◌&&◌, List, [], ◌∷◌, ◌++◌, refl, sym, ap, ◌∙◌, append_assoc}
+use Rattle.std.proofs.lemmas.Bool.{cond-true, cond-false, and_right, eq-eqb, ne_eqb}
+use Rattle.std.proofs.lemmas.List.{append-nil}
+use Rattle.std.proofs.lemmas.Str.{chars-nil, chars_past_char}
+use Rattle.std.specs.Char.{encode_utf8}
+use Rattle.std.specs.Str.{chars, encode_utf8_all, IsUtf8}
+use Rattle.mailparse.specs.Pieces.{backslash, is_odd, without_escapes, is_quoted, inside_quotes, unescape}
+
+-- the characters that stay, by a flag: whether the first of them is escaped
+abbrev pub stays_after : Bool → List ℕ → List ℕ
+stays_after escaped [] = []
+stays_after escaped (c ∷ cs) = cond (eqb c backslash && not escaped) (stays_after true cs) (c ∷ stays_after false cs)
+
+-- the flag tells whether the run of backslashes has odd length
+stays_by : (before c : ℕ) (cs : List ℕ) (t : Bool) → eqb c backslash ≡ t → (o : Bool) → is_odd before ≡ o
+    → stays_after (not o) cs ≡ without_escapes (suc before) cs → stays_after false cs ≡ without_escapes 0 cs
+    → stays_after (is_odd before) (c ∷ cs) ≡ without_escapes before (c ∷ cs)
+stays_by before c cs true e true o later anew = rw (e, o) (ap (λ x. c ∷ x) later)
+stays_by before c cs true e false o later anew = rw (e, o) later
+stays_by before c cs false e _ o later anew = rw e (ap (λ x. c ∷ x) anew)
+
+pub stays_is : (before : ℕ) (cs : List ℕ) → stays_after (is_odd before) cs ≡ without_escapes before cs
+stays_is before [] = refl
+stays_is before (c ∷ cs) = stays_by before c cs _ refl _ refl (stays_is (suc before) cs) (stays_is 0 cs)
+
+-- what was written and what stays of the rest
+abbrev pub Unescapes : List ℕ → List ℕ → Bool → List ℕ → Type 0
+Unescapes inside written escaped rest =
+    written ++ encode_utf8_all (stays_after escaped (chars rest)) ≡ encode_utf8_all (without_escapes 0 (chars inside))
+
+pub unescapes_start : (inside written rest : List ℕ) → written ≡ [] → rest ≡ inside → Unescapes inside written false rest
+unescapes_start inside written rest none all =
+    ap (λ w. w ++ encode_utf8_all (stays_after false (chars rest))) none
+    ∙ ap (λ r. encode_utf8_all (stays_after false (chars r))) all ∙ ap encode_utf8_all (stays_is 0 (chars inside))
+
+pub unescapes_end : (inside written rest : List ℕ) (escaped : Bool) → rest ≡ [] → Unescapes inside written escaped rest
+    → written ≡ encode_utf8_all (without_escapes 0 (chars inside))
+unescapes_end inside written rest escaped none here =
+    sym (append-nil written)
+    ∙ ap (λ cs. written ++ encode_utf8_all (stays_after escaped cs)) (sym (ap chars none ∙ chars-nil))
+    ∙ here
+
+-- a backslash that is not escaped goes
+pub unescapes_backslash : (inside written rest next : List ℕ) (escaped : Bool) (c : ℕ) → IsUtf8 rest → rest ≡ encode_utf8 c ++ next
+    → c ≡ backslash → escaped ≡ false → Unescapes inside written escaped rest → Unescapes inside written true next
+unescapes_backslash inside written rest next escaped c utf8 e is flag here =
+    ap (λ cs. written ++ encode_utf8_all cs)
+    (sym (ap (stays_after escaped) (chars_past_char rest next c utf8 e)
+    ∙ cond-true _ _ _ (ap (λ t. t && not escaped) (eq-eqb c backslash is) ∙ ap not flag)))
+    ∙ here
+
+-- any other character stays
+pub unescapes_other : (inside written rest next new : List ℕ) (escaped : Bool) (c : ℕ) → IsUtf8 rest → rest ≡ encode_utf8 c ++ next
+    → (eqb c backslash && not escaped) ≡ false → new ≡ written ++ encode_utf8 c
+    → Unescapes inside written escaped rest → Unescapes inside new false next
+unescapes_other inside written rest next new escaped c utf8 e is push here =
+    ap (λ w. w ++ encode_utf8_all (stays_after false (chars next))) push
+    ∙ append_assoc written (encode_utf8 c) (encode_utf8_all (stays_after false (chars next)))
+    ∙ ap (λ cs. written ++ encode_utf8_all cs)
+    (sym (ap (stays_after escaped) (chars_past_char rest next c utf8 e) ∙ cond-false _ _ _ is))
+    ∙ here
+
+pub stays_escaped : (c : ℕ) (escaped : Bool) → escaped ≡ true → (eqb c backslash && not escaped) ≡ false
+stays_escaped c escaped e = and_right (eqb c backslash) (not escaped) (ap not e)
+
+pub stays_plain : (c : ℕ) (escaped : Bool) → c ≢ backslash → (eqb c backslash && not escaped) ≡ false
+stays_plain c escaped some = ap (λ t. t && not escaped) (ne_eqb c backslash some)

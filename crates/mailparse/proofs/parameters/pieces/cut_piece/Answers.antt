@@ -1,0 +1,25 @@
+use Rattle.std.proofs.Common.{◌≡◌, ◌∷◌, ◌+◌, true, length, get_or, take, drop, refl, sym, ap, ◌∙◌, arith}
+use Rattle.std.proofs.Math.Nat.{sub-zero}
+use Rattle.std.proofs.lemmas.Str.{IsCharBoundary-after_ascii}
+use Rattle.mailparse.specs.Pieces.{ends, pieces, semicolon}
+use Rattle.mailparse.specs.private.Pieces.{within}
+use Rattle.mailparse.proofs.lemmas.Pieces.{reaches_start, reaches_semicolon, semicolon_ends}
+use Rattle.mailparse.proofs.parameters.pieces.cut_piece.Goals as goal
+
+pub loop-at-init : goal.loop-at-init
+loop-at-init c = record { in_text = omega arith; reaches = reaches_start c.args.text.now }
+
+pub range_from-requires : goal.range_from-requires
+range_from-requires c = λ _.
+    let text = c.args.text.now in
+    let found : true ≡ ends (within c.loop-at.within) (get_or text c.loop-at.at 0) = cc in
+    let here : get_or text c.loop-at.at 0 ≡ semicolon = semicolon_ends (within c.loop-at.within) _ found in
+    IsCharBoundary-after_ascii text c.loop-at.at c.utf8.text (omega arith) (omega arith)
+
+pub returns-then-ends-clause-cut : goal.returns-then-ends-clause-cut
+returns-then-ends-clause-cut c =
+    let text = c.args.text.now in
+    let found : true ≡ ends (within c.loop-at.within) (get_or text c.loop-at.at 0) = cc in
+    reaches_semicolon text c.loop-at.at (within c.loop-at.within) _ (omega arith) refl found c.loop-at.invariant.reaches
+    ∙ ap (λ p. p ∷ pieces (drop (c.loop-at.at + 1) text)) (sym (c.range.ensures.value ∙ ap (λ n. take n text) (sub-zero c.loop-at.at)))
+    ∙ ap (λ p. c.range.result.now ∷ pieces p) (sym c.range_from.ensures.value)

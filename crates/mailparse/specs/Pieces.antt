@@ -1,0 +1,111 @@
+-- The pieces of a value that has parameters, and the text that a quoted one stands for: RFC 2045, section 5.1, as this crate
+-- reads it. The text is cut at each `;` that stands outside of all quoted runs. A quoted run goes from a `"` to the next `"`
+-- that no `\` escapes, or to the end of the text.
+use Rattle.std.specs.Prelude.{◌≡◌, ◌≢◌, ℕ, zero, suc, ◌-◌, Bool, true, false, not, ◌&&◌, ◌==◌, nat_lt, List, [], ◌∷◌, ◌++◌, length, slice_index, slice_range, codes, if◌then◌else◌}
+use Rattle.std.specs.Str.{chars, encode_utf8_all}
+
+abbrev pub quote : ℕ
+quote = 34
+
+abbrev pub semicolon : ℕ
+semicolon = 59
+
+abbrev pub backslash : ℕ
+backslash = 92
+
+-- ---- the grammar
+
+-- the bytes of a quoted run after the quote that opens it, and whether a quote ends it (true) or the end of the text (false)
+pub data IsRunAfter : Bool → List ℕ → Type 0 where
+  -- the quote that ends the run
+  closing_quote : IsRunAfter true (quote ∷ [])
+  -- the text ends here
+  text_ends : IsRunAfter false []
+  -- a backslash at the very end of the text
+  lone_backslash : IsRunAfter false (backslash ∷ [])
+  -- a backslash with any byte
+  escaped_byte : {closed : Bool} {b : ℕ} {rest : List ℕ} → IsRunAfter closed rest → IsRunAfter closed (backslash ∷ b ∷ rest)
+  -- a byte other than a quote and a backslash
+  plain_byte : {closed : Bool} {b : ℕ} {rest : List ℕ} → b ≢ quote → b ≢ backslash → IsRunAfter closed rest
+      → IsRunAfter closed (b ∷ rest)
+
+-- a piece, and whether all of its quoted runs are closed; one that is not goes up to the end of the text
+pub data IsPiece : Bool → List ℕ → Type 0 where
+  -- nothing more
+  piece_ends : IsPiece true []
+  -- a byte other than a quote and a semicolon
+  other_byte : {closed : Bool} {b : ℕ} {rest : List ℕ} → b ≢ quote → b ≢ semicolon → IsPiece closed rest
+      → IsPiece closed (b ∷ rest)
+  -- a quoted run that a quote ends
+  closed_run : {closed : Bool} {run rest piece : List ℕ} → IsRunAfter true run → IsPiece closed rest
+      → piece ≡ quote ∷ (run ++ rest) → IsPiece closed piece
+  -- a quoted run that the end of the text ends
+  open_run : {run : List ℕ} → IsRunAfter false run → IsPiece false (quote ∷ run)
+
+-- a text is these pieces, joined by semicolons
+pub data ArePieces : List ℕ → List (List ℕ) → Type 0 where
+  last_piece : {closed : Bool} {piece : List ℕ} → IsPiece closed piece → ArePieces piece (piece ∷ [])
+  more_pieces : {piece rest text : List ℕ} {more : List (List ℕ)} → IsPiece true piece → ArePieces rest more
+      → text ≡ piece ++ semicolon ∷ rest → ArePieces text (piece ∷ more)
+
+-- ---- the same as a function, which contracts cite
+
+-- how a byte stands: outside of quoted runs, within one, or within one directly after a `\` that escapes it
+pub data Within : Type 0 where
+  outside quoted escaped : Within
+
+-- how the byte after this one stands
+abbrev pub after : Within → ℕ → Within
+after outside b = if b == quote then quoted else outside
+after quoted b = if b == quote then outside else (if b == backslash then escaped else quoted)
+after escaped b = quoted
+
+-- whether a byte ends a piece: a semicolon outside of quoted runs
+abbrev pub ends : Within → ℕ → Bool
+ends outside b = b == semicolon
+ends quoted b = false
+ends escaped b = false
+
+-- the pieces, with these bytes in front of the first one
+abbrev pub with_front : List ℕ → List (List ℕ) → List (List ℕ)
+with_front front [] = front ∷ []
+with_front front (piece ∷ more) = (front ++ piece) ∷ more
+
+-- the pieces of what follows, where its first byte stands so
+abbrev pub pieces_from : Within → List ℕ → List (List ℕ)
+pieces_from within [] = [] ∷ []
+pieces_from within (b ∷ bytes) =
+    if ends within b then [] ∷ pieces_from outside bytes
+    else with_front (b ∷ []) (pieces_from (after within b) bytes)
+
+-- the pieces of a text, in order; without a semicolon it is one
+unfoldable pub pieces : List ℕ → List (List ℕ)
+pieces text = pieces_from outside text
+
+-- ---- quoted texts
+
+-- whether a number is odd
+abbrev pub is_odd : ℕ → Bool
+is_odd zero = false
+is_odd (suc n) = not (is_odd n)
+
+-- the characters that stay, where so many backslashes stand directly before the first of them: all but each backslash that is
+-- not escaped; one is escaped if the run of backslashes directly before it has odd length
+abbrev pub without_escapes : ℕ → List ℕ → List ℕ
+without_escapes before [] = []
+without_escapes before (c ∷ cs) =
+    if c == backslash then (if is_odd before then c ∷ without_escapes (suc before) cs else without_escapes (suc before) cs)
+    else c ∷ without_escapes 0 cs
+
+-- whether a text of at least two bytes begins and ends with a quote
+abbrev pub is_quoted : List ℕ → Bool
+is_quoted text = nat_lt 1 (length text) && slice_index text 0 == quote && slice_index text (length text - 1) == quote
+
+-- what stands between the first byte and the last
+abbrev pub inside_quotes : List ℕ → List ℕ
+inside_quotes text = slice_range text 1 (length text - 1)
+
+-- the text that a text stands for: a quoted one for what stands between its quotes, without the backslashes that escape
+-- and without a lone one at the end; any other text for itself
+unfoldable pub unescape : List ℕ → List ℕ
+unescape text = if is_quoted text then encode_utf8_all (without_escapes 0 (chars (inside_quotes text))) else text

@@ -1,0 +1,17 @@
+-- How the code says how a byte stands, and the pieces of what is left of a text.
+use Rattle.std.specs.Prelude.{ℕ, List, [], Option, Some, None}
+use Rattle.std.specs.Borrow.{Bor}
+use Rattle.mailparse.specs.Pieces.{Within, outside, quoted, escaped, pieces}
+use Rattle.mailparse.specs.declared.parameters.pieces.Within.{Within as CodeWithin}
+use Rattle.mailparse.specs.declared.parameters.pieces.Within.TheVariants as code
+
+-- how a byte stands, as the definitions have it
+abbrev pub within : CodeWithin → Within
+within code.Outside = outside
+within code.Quoted = quoted
+within code.Escaped = escaped
+
+-- the pieces after a semicolon, and none where there is no semicolon
+abbrev pub pieces_of_rest : Option (Bor (List ℕ)) → List (List ℕ)
+pieces_of_rest None = []
+pieces_of_rest (Some rest) = pieces rest.now

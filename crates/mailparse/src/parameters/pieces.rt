@@ -1,0 +1,118 @@
+//! The pieces of a text that has parameters, and quoted texts (RFC 2045, section 5.1).
+ghost use Rattle.std.specs.Prelude.{◌≡◌, ◌∷◌, ◌<◌, false, true, length, IfOk, IfSome, MatchOption};
+ghost use Rattle.std.specs.Str.{chars, encode_utf8_all};
+ghost use Rattle.std.specs.String.{string_bytes};
+ghost use Rattle.mailparse.specs.Pieces.{after, ends, inside_quotes, is_quoted, pieces, unescape, without_escapes};
+ghost use Rattle.mailparse.specs.private.Pieces.{pieces_of_rest, within};
+
+use std::alloc::{AllocError, Global};
+
+/// How a byte stands in a text.
+#[derive(Clone, Copy)]
+enum Within {
+    /// Outside of all quoted runs.
+    Outside,
+    /// Within a quoted run.
+    Quoted,
+    /// Within a quoted run, directly after a backslash that escapes it.
+    Escaped,
+}
+
+impl Within {
+    /// How the byte after this one stands.
+    fn after(self, byte: u8) -> Within
+        ensures { within result ≡ after (within self) byte }
+    {
+        match self {
+            Within::Outside => {
+                if byte == b'"' {
+                    Within::Quoted
+                } else {
+                    Within::Outside
+                }
+            }
+            Within::Quoted => {
+                if byte == b'"' {
+                    Within::Outside
+                } else if byte == b'\\' {
+                    Within::Escaped
+                } else {
+                    Within::Quoted
+                }
+            }
+            Within::Escaped => Within::Quoted,
+        }
+    }
+
+    /// Whether this byte ends a piece.
+    fn ends(self, byte: u8) -> bool
+        ensures { result ≡ ends (within self) byte }
+    {
+        match self {
+            Within::Outside => byte == b';',
+            Within::Quoted | Within::Escaped => false,
+        }
+    }
+}
+
+/// The first piece of a text, and what stands after its semicolon, if it has one. Takes no memory.
+pub(crate) fn cut_piece(text: &str) -> (&str, Option<&str>)
+    ensures cut { pieces text.now ≡ result.0.now ∷ pieces_of_rest result.1 }
+    ensures shorter { IfSome result.1 (λ rest. length rest.now < length text.now) }
+{
+    let bytes = text.as_bytes();
+    let mut within = Within::Outside;
+    for at in 0..bytes.len() {
+        if within.ends(bytes[at]) {
+            return (&text[..at], Some(&text[at + 1..]));
+        }
+        within = within.after(bytes[at]);
+    }
+    (text, None)
+}
+
+/// What stands between the quotes of a text that begins and ends with one.
+fn inside_quotes(text: &str) -> Option<&str>
+    ensures { MatchOption result (is_quoted text.now ≡ false)
+        (λ inside. (is_quoted text.now ≡ true) × (inside.now ≡ inside_quotes text.now)) }
+{
+    if text.len() < 2 {
+        return None;
+    }
+    if !text.starts_with('"') {
+        return None;
+    }
+    if !text.ends_with('"') {
+        return None;
+    }
+    Some(&text[1..text.len() - 1])
+}
+
+/// The text that a text stands for: a quoted one for what stands between its quotes, without the
+/// backslashes that escape, any other text for itself.
+#[tactic(auto, unfolding(crate::specs::Pieces::unescape))]
+pub(crate) fn unescape(alloc: Global, text: &str) -> Result<String, AllocError>
+    ensures { IfOk result (λ plain. string_bytes plain ≡ unescape text.now) }
+{
+    match inside_quotes(text) {
+        Some(inside) => without_escapes(alloc, inside),
+        None => String::from_str(alloc, text),
+    }
+}
+
+/// A text without the backslashes that no backslash escapes.
+fn without_escapes(alloc: Global, text: &str) -> Result<String, AllocError>
+    ensures { IfOk result (λ plain. string_bytes plain ≡ encode_utf8_all (without_escapes 0 (chars text.now))) }
+{
+    let mut plain = String::with_capacity(alloc, text.len())?;
+    let mut is_escaped = false;
+    for c in text.chars() {
+        if c == '\\' && !is_escaped {
+            is_escaped = true;
+            continue;
+        }
+        is_escaped = false;
+        plain.push(c)?;
+    }
+    Ok(plain)
+}
