@@ -18,3 +18,4 @@ pub mod Quoted
 pub mod Pairs
 pub mod Copied
 pub mod Types
+pub mod Trees

@@ -2,7 +2,7 @@
 -- (RFC 5322, section 2.1; RFC 2046, section 5.1).
 use Rattle.std.specs.Prelude.{ℕ, zero, suc, Bool, false, List, [], ◌∷◌, ◌++◌, length, take, map, Option, Some, None, option_map, Result, Ok, Err, codes, if◌then◌else◌}
 use Rattle.std.specs.Option.{option_map_or}
-use Rattle.std.specs.Str.{bytes_eq}
+use Rattle.std.specs.Str.{bytes_eq, str_to_ascii_lowercase}
 use Rattle.mail_codec.specs.Charset.{Charsets, four_charsets}
 use Rattle.mail_codec.specs.Places.{stands}
 use Rattle.mailparse.specs.Refusal.{Refusal, recursion_limit, Reads, read_map, read_then}
@@ -10,7 +10,8 @@ use Rattle.mailparse.specs.Header.{Header}
 use Rattle.mailparse.specs.Block.{HeaderList, read_headers}
 use Rattle.mailparse.specs.ContentType.{ContentType, default_type, content_type_in}
 use Rattle.mailparse.specs.Delimiters.{Cut, cut_parts}
-use Rattle.mailparse.specs.Keys.{first_with_key}
+use Rattle.mailparse.specs.Body.{BodyKind, kind_named, decoded, decoded_text}
+use Rattle.mailparse.specs.Keys.{first_with_key, first_value}
 use Rattle.mailparse.specs.Ranges.{slice}
 use Rattle.mailparse.specs.Value.{lenient_value_with}
 
@@ -30,6 +31,18 @@ pub record Node : Type 0 where
 -- the header block of a message
 abbrev pub block_of : Node → HeaderBlock
 block_of node = record { bytes = node.block; headers = node.headers }
+
+-- the transfer coding of a message's body: what its first `Content-Transfer-Encoding` names, in lower case
+abbrev pub body_kind : Node → BodyKind
+body_kind node = kind_named (option_map str_to_ascii_lowercase (first_value (codes "Content-Transfer-Encoding") node.headers))
+
+-- the bytes that the body of a message stands for
+abbrev pub body_bytes : Node → Reads (List ℕ)
+body_bytes node = decoded (body_kind node) node.body
+
+-- the text that the body of a message stands for, under the charset of its type
+abbrev pub body_text : Node → Reads (List ℕ)
+body_text node = decoded_text (body_kind node) node.ctype.charset node.body
 
 -- a message and its parts, in order, each with its own parts
 mutual

@@ -1,5 +1,5 @@
 -- What a contract sees of the types of the library.
-use Rattle.std.specs.Prelude.{ℕ, string_bytes}
+use Rattle.std.specs.Prelude.{ℕ, List, drop, map, string_bytes}
 use Rattle.std.specs.Global.{Vec}
 use Rattle.mailparse.specs.Header.{Header}
 use Rattle.mailparse.specs.Block.{HeaderList}
@@ -12,6 +12,7 @@ use Rattle.mailparse.specs.declared.disposition.DispositionType.{DispositionType
 use Rattle.mailparse.specs.declared.disposition.DispositionType.TheVariants as code
 use Rattle.mailparse.specs.declared.disposition.ParsedContentDisposition.{ParsedContentDisposition}
 use Rattle.mailparse.specs.declared.mail.ParsedMail.{ParsedMail}
+use Rattle.mailparse.specs.declared.mail.parts.PartsIterator.{PartsIterator}
 use Rattle.mailparse.specs.declared.mail.ParsedMail.TheOpen.{ParsedMail-F}
 use Rattle.mailparse.specs.declared.mail.ParsedMail.TheFolds.{fold-ParsedMail}
 
@@ -47,3 +48,7 @@ tree_step m = tree (record {
 -- a message: its bytes, its block, the headers and the type that it has now, its body, and the parts that it has now
 abbrev pub tree_of : ParsedMail → Tree
 tree_of = fold-ParsedMail Tree tree_step
+
+-- the messages that an iterator over parts has still to give, each with its parts
+abbrev pub trees_left : PartsIterator → List Tree
+trees_left iterator = map (λ m. tree_of m.now) (drop iterator.index iterator.parts.items)

@@ -2,12 +2,15 @@
 ghost use Rattle.std.specs.Prelude.{◌≡◌, ◌<◌, ◌∷◌, option_map, IfErr, IfOk, IsErr, Ok};
 ghost use Rattle.mail_codec.specs.Charset.{four_charsets};
 ghost use Rattle.mailparse.specs.Block.{header_count, read_headers};
-ghost use Rattle.mailparse.specs.Mail.{block_of, root, delimiter_of, is_digest, node_type, part_type, read_levels, read_mail};
-ghost use Rattle.mailparse.specs.Outcome.{Answers, AnswersOrMemory, IsMemory};
-ghost use Rattle.mailparse.specs.Views.{content_type, tree_of};
+ghost use Rattle.mailparse.specs.BodyViews.{IsBody, content_of};
+ghost use Rattle.mailparse.specs.Mail.{block_of, body_bytes, body_kind, body_text, root, trees_within, delimiter_of, is_digest, node_type, part_type, read_levels, read_mail};
+ghost use Rattle.mailparse.specs.Outcome.{Answers, AnswersOrMemory, IsMemory, ReadsText, ReadsBytes};
+ghost use Rattle.mailparse.specs.Views.{content_type, tree_of, trees_left};
 
 mod delimiters;
+mod parts;
 
+use crate::body::Body;
 use crate::content_type::{ParsedContentType, parse_content_type};
 use crate::error::MailParseError;
 use crate::header::MailHeader;
@@ -15,6 +18,8 @@ use crate::headers::Headers;
 use crate::headers::block::parse_headers;
 use crate::headers::map::MailHeaderMap;
 use delimiters::{cut_body, cut_part};
+pub use parts::PartsIterator;
+use parts::push_parts;
 use std::alloc::Global;
 use std::collections::BTreeMap;
 
@@ -45,6 +50,68 @@ impl<'a> ParsedMail<'a> {
         ensures { result ≡ block_of (root (tree_of self.now)) }
     {
         Headers::new(self.header_bytes, self.headers.as_slice())
+    }
+
+    /// The body in the transfer coding that it has (RFC 2045, section 6): the one that the first
+    /// `Content-Transfer-Encoding` names, in any case, and otherwise `7bit`. Nothing is decoded yet.
+    /// The one error is that memory ran out.
+    pub fn get_body_encoded(&self, alloc: Global) -> Result<Body<'_>, MailParseError>
+        ensures body { IfOk result (IsBody (body_kind (root (tree_of self.now))) (content_of (root (tree_of self.now)))) }
+        ensures fault { IfErr result IsMemory }
+    {
+        let mut encoding = self
+            .headers
+            .get_first_value(alloc, "Content-Transfer-Encoding")?;
+        if let Some(name) = &mut encoding {
+            name.make_ascii_lowercase();
+        }
+        Ok(Body::new(self.body_bytes, &self.ctype, &encoding))
+    }
+
+    /// The text that the body stands for: its transfer coding is undone, and the bytes are read
+    /// under the charset of the type that `ctype` holds now. A byte order mark decides first, and
+    /// under an unknown label each byte that is no ASCII is U+FFFD.
+    ///
+    /// Refuses a body that is to be Base64 and is not, by the number of the first invalid group;
+    /// otherwise the one error is that memory ran out.
+    ///
+    /// For `Subject: test\n\nThis is the body` it is `This is the body`.
+    #[tactic(auto, unfolding(crate::specs::Body::decoded_text, crate::specs::Body::decoded))]
+    pub fn get_body(&self, alloc: Global) -> Result<String, MailParseError>
+        ensures { ReadsText result (body_text (root (tree_of self.now))) }
+    {
+        match self.get_body_encoded(alloc)? {
+            Body::Base64(body) => body.get_decoded_as_string(alloc),
+            Body::QuotedPrintable(body) => body.get_decoded_as_string(alloc),
+            Body::SevenBit(body) => body.get_as_string(alloc),
+            Body::EightBit(body) => body.get_as_string(alloc),
+            Body::Binary(body) => body.get_as_string(alloc),
+        }
+    }
+
+    /// The bytes that the body stands for: its transfer coding is undone, and no charset is looked
+    /// at. Refused as `get_body` is.
+    #[tactic(auto, unfolding(crate::specs::Body::decoded))]
+    pub fn get_body_raw(&self, alloc: Global) -> Result<Vec<u8>, MailParseError>
+        ensures { ReadsBytes result (body_bytes (root (tree_of self.now))) }
+    {
+        match self.get_body_encoded(alloc)? {
+            Body::Base64(body) => body.get_decoded(alloc),
+            Body::QuotedPrintable(body) => body.get_decoded(alloc),
+            Body::SevenBit(body) => Ok(body.get_raw().to_vec(alloc)?),
+            Body::EightBit(body) => Ok(body.get_raw().to_vec(alloc)?),
+            Body::Binary(body) => Ok(body.get_raw().to_vec(alloc)?),
+        }
+    }
+
+    /// The message itself, and then its parts, each before its own parts. Takes memory for the list
+    /// of them; the one error is that memory ran out.
+    pub fn parts<'m>(&'m self, alloc: Global) -> Result<PartsIterator<'m, 'a>, MailParseError>
+        ensures { AnswersOrMemory trees_left result (Ok (trees_within (tree_of self.now))) }
+    {
+        let mut parts = Vec::new(alloc);
+        push_parts(self, &mut parts)?;
+        Ok(PartsIterator { parts, index: 0 })
     }
 }
 
