@@ -9,6 +9,7 @@ use Rattle.mailparse.specs.Refusal.{Refusal, recursion_limit, Reads, read_map, r
 use Rattle.mailparse.specs.Header.{Header}
 use Rattle.mailparse.specs.Block.{HeaderList, read_headers}
 use Rattle.mailparse.specs.ContentType.{ContentType, default_type, content_type_in}
+use Rattle.mailparse.specs.Disposition.{Disposition, disposition_of, default_disposition}
 use Rattle.mailparse.specs.Delimiters.{Cut, cut_parts}
 use Rattle.mailparse.specs.Body.{BodyKind, kind_named, decoded, decoded_text}
 use Rattle.mailparse.specs.Keys.{first_with_key, first_value}
@@ -43,6 +44,10 @@ body_bytes node = decoded (body_kind node) node.body
 -- the text that the body of a message stands for, under the charset of its type
 abbrev pub body_text : Node → Reads (List ℕ)
 body_text node = decoded_text (body_kind node) node.ctype.charset node.body
+
+-- how a message is to be shown: what its first `Content-Disposition` says, otherwise in place
+abbrev pub shown_as : Node → Disposition
+shown_as node = option_map_or disposition_of (first_value (codes "Content-Disposition") node.headers) default_disposition
 
 -- a message and its parts, in order, each with its own parts
 mutual

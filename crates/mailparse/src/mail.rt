@@ -3,15 +3,16 @@ ghost use Rattle.std.specs.Prelude.{◌≡◌, ◌<◌, ◌∷◌, option_map, I
 ghost use Rattle.mail_codec.specs.Charset.{four_charsets};
 ghost use Rattle.mailparse.specs.Block.{header_count, read_headers};
 ghost use Rattle.mailparse.specs.BodyViews.{IsBody, content_of};
-ghost use Rattle.mailparse.specs.Mail.{block_of, body_bytes, body_kind, body_text, root, trees_within, delimiter_of, is_digest, node_type, part_type, read_levels, read_mail};
+ghost use Rattle.mailparse.specs.Mail.{block_of, body_bytes, body_kind, body_text, root, shown_as, trees_within, delimiter_of, is_digest, node_type, part_type, read_levels, read_mail};
 ghost use Rattle.mailparse.specs.Outcome.{Answers, AnswersOrMemory, IsMemory, ReadsText, ReadsBytes};
-ghost use Rattle.mailparse.specs.Views.{content_type, tree_of, trees_left};
+ghost use Rattle.mailparse.specs.Views.{content_type, disposition, tree_of, trees_left};
 
 mod delimiters;
 mod parts;
 
 use crate::body::Body;
 use crate::content_type::{ParsedContentType, parse_content_type};
+use crate::disposition::{ParsedContentDisposition, parse_content_disposition};
 use crate::error::MailParseError;
 use crate::header::MailHeader;
 use crate::headers::Headers;
@@ -101,6 +102,20 @@ impl<'a> ParsedMail<'a> {
             Body::SevenBit(body) => Ok(body.get_raw().to_vec(alloc)?),
             Body::EightBit(body) => Ok(body.get_raw().to_vec(alloc)?),
             Body::Binary(body) => Ok(body.get_raw().to_vec(alloc)?),
+        }
+    }
+
+    /// How the message is to be shown (RFC 2183): what its first `Content-Disposition` says, and
+    /// otherwise `Inline` without parameters. The one error is that memory ran out.
+    pub fn get_content_disposition(
+        &self,
+        alloc: Global,
+    ) -> Result<ParsedContentDisposition, MailParseError>
+        ensures { AnswersOrMemory disposition result (Ok (shown_as (root (tree_of self.now)))) }
+    {
+        match self.headers.get_first_value(alloc, "Content-Disposition")? {
+            Some(value) => parse_content_disposition(alloc, value.as_str()),
+            None => Ok(ParsedContentDisposition::default(alloc)),
         }
     }
 
