@@ -10,8 +10,12 @@ pub mod Unfolding
 pub mod Value
 pub mod Plain
 pub mod Lines
+pub mod NodeType
+pub mod Delimiters
+pub mod Parts
 pub mod Pieces
 pub mod Quoted
 pub mod Pairs
 pub mod Copied
 pub mod Types
+pub mod Trees

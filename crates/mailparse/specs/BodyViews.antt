@@ -5,6 +5,7 @@ use Rattle.std.specs.Global.{Global}
 use Rattle.mailparse.specs.Body.{BodyKind, in_base64, in_quoted_printable, in_7bit, in_8bit, in_binary}
 use Rattle.mailparse.specs.ContentType.{ContentType}
 use Rattle.mailparse.specs.Views.{content_type}
+use Rattle.mailparse.specs.Mail.{Node}
 use Rattle.mailparse.specs.declared.body.Body.{Body}
 use Rattle.mailparse.specs.declared.body.Body.TheVariants.{Base64, QuotedPrintable, SevenBit, EightBit, Binary}
 use Rattle.mailparse.specs.declared.body.content.BodyContent.{BodyContent}
@@ -22,6 +23,10 @@ pub record Content : Type 0 where
 -- what is the same in all bodies
 abbrev pub content : BodyContent → Content
 content c = record { raw = c.raw.now; ctype = content_type c.ctype.now }
+
+-- what the body of a message is made of
+abbrev pub content_of : Node → Content
+content_of node = record { raw = node.body; ctype = node.ctype }
 
 -- what an encoded body is in
 abbrev pub encoding_kind : Encoding → BodyKind

@@ -1,31 +1,150 @@
--- The reading of a message whose body is kept whole: its block of headers, and everything after it (RFC 5322,
--- section 2.1).
-use Rattle.std.specs.Prelude.{ℕ, List, take, drop, Result, Ok, Err}
-use Rattle.mailparse.specs.Refusal.{Refusal}
+-- The reading of a message: its block of headers, its type, its body and its parts, each part a message of its own
+-- (RFC 5322, section 2.1; RFC 2046, section 5.1).
+use Rattle.std.specs.Prelude.{ℕ, zero, suc, Bool, false, List, [], ◌∷◌, ◌++◌, length, take, map, Option, Some, None, option_map, Result, Ok, Err, codes, if◌then◌else◌}
+use Rattle.std.specs.Option.{option_map_or}
+use Rattle.std.specs.Str.{bytes_eq, str_to_ascii_lowercase}
+use Rattle.mail_codec.specs.Charset.{Charsets, four_charsets}
+use Rattle.mail_codec.specs.Places.{stands}
+use Rattle.mailparse.specs.Refusal.{Refusal, recursion_limit, Reads, read_map, read_then}
 use Rattle.mailparse.specs.Header.{Header}
 use Rattle.mailparse.specs.Block.{HeaderList, read_headers}
+use Rattle.mailparse.specs.ContentType.{ContentType, default_type, content_type_in}
+use Rattle.mailparse.specs.Disposition.{Disposition, disposition_of, default_disposition}
+use Rattle.mailparse.specs.Delimiters.{Cut, cut_parts}
+use Rattle.mailparse.specs.Body.{BodyKind, kind_named, decoded, decoded_text}
+use Rattle.mailparse.specs.Keys.{first_with_key, first_value}
+use Rattle.mailparse.specs.Ranges.{slice}
+use Rattle.mailparse.specs.Value.{lenient_value_with}
 
 -- a header block: its bytes, the blank line among them, and its headers
 pub record HeaderBlock : Type 0 where
   pub bytes : List ℕ
   pub headers : List Header
 
--- a message: all its bytes, those of its block with the blank line, its headers, and the bytes of its body
-pub record Mail : Type 0 where
+-- one message by itself: all its bytes, those of its block with the blank line, its headers, its type, and the bytes of its body
+pub record Node : Type 0 where
   pub bytes : List ℕ
   pub block : List ℕ
   pub headers : List Header
+  pub ctype : ContentType
   pub body : List ℕ
 
--- the message whose block is this
-abbrev pub mail_with : List ℕ → Result HeaderList Refusal → Result Mail Refusal
-mail_with raw (Ok block) = Ok (record { bytes = raw; block = take block.index raw; headers = block.headers; body = drop block.index raw })
-mail_with raw (Err refusal) = Err refusal
-
--- the message that the bytes are, or the refusal of its block
-unfoldable pub read_mail : List ℕ → Result Mail Refusal
-read_mail raw = mail_with raw (read_headers raw)
-
 -- the header block of a message
-abbrev pub block_of : Mail → HeaderBlock
-block_of mail = record { bytes = mail.block; headers = mail.headers }
+abbrev pub block_of : Node → HeaderBlock
+block_of node = record { bytes = node.block; headers = node.headers }
+
+-- the transfer coding of a message's body: what its first `Content-Transfer-Encoding` names, in lower case
+abbrev pub body_kind : Node → BodyKind
+body_kind node = kind_named (option_map str_to_ascii_lowercase (first_value (codes "Content-Transfer-Encoding") node.headers))
+
+-- the bytes that the body of a message stands for
+abbrev pub body_bytes : Node → Reads (List ℕ)
+body_bytes node = decoded (body_kind node) node.body
+
+-- the text that the body of a message stands for, under the charset of its type
+abbrev pub body_text : Node → Reads (List ℕ)
+body_text node = decoded_text (body_kind node) node.ctype.charset node.body
+
+-- how a message is to be shown: what its first `Content-Disposition` says, otherwise in place
+abbrev pub shown_as : Node → Disposition
+shown_as node = option_map_or disposition_of (first_value (codes "Content-Disposition") node.headers) default_disposition
+
+-- a message and its parts, in order, each with its own parts
+mutual
+  pub data Tree : Type 0 where
+    tree : Node → Forest → Tree
+
+  pub data Forest : Type 0 where
+    no_parts : Forest
+    part_and : Tree → Forest → Forest
+
+-- the message itself
+abbrev pub root : Tree → Node
+root (tree node parts) = node
+
+-- its parts
+abbrev pub parts_of : Tree → Forest
+parts_of (tree node parts) = parts
+
+-- the parts of a list
+abbrev pub forest : List Tree → Forest
+forest [] = no_parts
+forest (t ∷ ts) = part_and t (forest ts)
+
+-- a message, then those of its parts, each before its own parts (preorder)
+abbrev mutual
+  pub trees_within : Tree → List Tree
+  trees_within (tree node parts) = tree node parts ∷ trees_in parts
+
+  pub trees_in : Forest → List Tree
+  trees_in no_parts = []
+  trees_in (part_and t ts) = trees_within t ++ trees_in ts
+
+-- the same without their parts
+abbrev pub nodes : Tree → List Node
+nodes t = map root (trees_within t)
+
+-- the type of a part without a type of its own: plain text, and a message in a digest
+abbrev pub part_type : Bool → ContentType
+part_type in_digest = if in_digest then record default_type { mimetype = codes "message/rfc822" } else default_type
+
+-- the parts of this type are messages where nothing else is said
+abbrev pub is_digest : ContentType → Bool
+is_digest ctype = bytes_eq ctype.mimetype (codes "multipart/digest")
+
+-- what a delimiter of this type's parts begins with, if there may be parts: `--` and the boundary
+abbrev pub delimiter_of : ContentType → Option (List ℕ)
+delimiter_of ctype =
+    if stands (codes "multipart") ctype.mimetype
+    then option_map (λ boundary. codes "--" ++ boundary) (ctype.params (codes "boundary"))
+    else None
+
+-- how a message of this type is cut whose body starts at i: by its delimiters, and otherwise the body is all that follows. An empty
+-- body holds no delimiter.
+abbrev pub cut_of : ContentType → List ℕ → ℕ → Cut
+cut_of ctype bytes i =
+    option_map_or (λ d. cut_parts d bytes i) (delimiter_of ctype) (record { body = record { start = i; end = length bytes }; parts = [] })
+
+-- the message with this block and this type that is cut so
+abbrev pub node_with : List ℕ → HeaderList → ContentType → Cut → Node
+node_with bytes block ctype cut = record {
+  bytes = bytes;
+  block = take block.index bytes;
+  headers = block.headers;
+  ctype = ctype;
+  body = slice bytes cut.body;
+}
+
+-- what is read of each, in order; the first refusal refuses all
+abbrev pub read_each : (List ℕ → Reads Tree) → List (List ℕ) → Reads Forest
+read_each read [] = Ok no_parts
+read_each read (part ∷ parts) = read_then (read part) (λ t. read_map (part_and t) (read_each read parts))
+
+-- Under the charsets that are known.
+module _ (known : Charsets) where
+  -- the type of a message with these headers: what its first `Content-Type` says, otherwise what a part has without one
+  unfoldable pub node_type : Bool → List Header → ContentType
+  node_type in_digest headers =
+      option_map_or (λ h. content_type_in known (lenient_value_with known h.value))
+      (first_with_key (codes "Content-Type") headers) (part_type in_digest)
+
+  -- the message of this type that has this block: its parts are read by a function that is told whether it is a digest
+  abbrev pub read_parts : (Bool → List ℕ → Reads Tree) → List ℕ → HeaderList → ContentType → Reads Tree
+  read_parts read bytes block ctype =
+      let cut = cut_of ctype bytes block.index in
+      read_map (tree (node_with bytes block ctype cut)) (read_each (read (is_digest ctype)) (map (slice bytes) cut.parts))
+
+  -- the message that the bytes are, where so many levels may stand, its own among them; it is refused where there is none, otherwise by
+  -- its own headers, otherwise by the first of its parts that is refused
+  unfoldable pub read_levels : ℕ → Bool → List ℕ → Reads Tree
+  read_levels zero in_digest bytes = Err recursion_limit
+  read_levels (suc levels) in_digest bytes =
+      read_then (read_headers bytes) (λ block. read_parts (read_levels levels) bytes block (node_type in_digest block.headers))
+
+  -- the message that the bytes are, where parts may stand down to a greatest level; the message itself stands at level 0
+  unfoldable pub read_mail_in : ℕ → List ℕ → Reads Tree
+  read_mail_in greatest bytes = read_levels (suc greatest) false bytes
+
+-- the message that the bytes are, or the refusal that is met first: its parts may stand down to level 100
+unfoldable pub read_mail : List ℕ → Reads Tree
+read_mail bytes = read_mail_in four_charsets 100 bytes

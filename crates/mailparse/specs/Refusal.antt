@@ -1,5 +1,5 @@
 -- The refusals of the library, each told from the others; the crate's own rule.
-use Rattle.std.specs.Prelude.{ℕ, List, codes}
+use Rattle.std.specs.Prelude.{ℕ, List, codes, Result, Ok, Err}
 
 -- a refusal that is a plain text, one of an encoding that is a text, or the index of the first invalid Base64 group
 pub data Refusal : Type 0 where
@@ -22,3 +22,21 @@ lone_carriage_return = generic (codes "Headers were followed by an unexpected lo
 -- a value that is not UTF-8 where only UTF-8 is taken
 abbrev pub value_not_utf8 : Refusal
 value_not_utf8 = encoding (codes "Invalid UTF-8 in header value")
+
+-- a part below the greatest level
+abbrev pub recursion_limit : Refusal
+recursion_limit = generic (codes "Recursion limit reached")
+
+-- what is read, or the refusal that was met first
+abbrev pub Reads : Type 0 → Type 0
+Reads A = Result A Refusal
+
+-- what is read, as it is seen by a function
+abbrev pub read_map : {A B : Type 0} → (A → B) → Reads A → Reads B
+read_map f (Ok x) = Ok (f x)
+read_map f (Err refusal) = Err refusal
+
+-- what is read after something else, unless that was refused
+abbrev pub read_then : {A B : Type 0} → Reads A → (A → Reads B) → Reads B
+read_then (Ok x) f = f x
+read_then (Err refusal) f = Err refusal

@@ -1,25 +1,24 @@
 -- What a contract sees of the types of the library.
-use Rattle.std.specs.Prelude.{ℕ, string_bytes}
+use Rattle.std.specs.Prelude.{ℕ, List, drop, map, string_bytes}
 use Rattle.std.specs.Global.{Vec}
 use Rattle.mailparse.specs.Header.{Header}
 use Rattle.mailparse.specs.Block.{HeaderList}
-use Rattle.mailparse.specs.Mail.{Mail}
 use Rattle.mailparse.specs.ContentType.{ContentType}
 use Rattle.mailparse.specs.Disposition.{Disposition, Kind, inline, attachment, form_data, extension}
+use Rattle.mailparse.specs.Mail.{Tree, tree, forest}
 use Rattle.mailparse.specs.Pairs.{text_at}
 use Rattle.mailparse.specs.declared.content_type.ParsedContentType.{ParsedContentType}
 use Rattle.mailparse.specs.declared.disposition.DispositionType.{DispositionType}
 use Rattle.mailparse.specs.declared.disposition.DispositionType.TheVariants as code
 use Rattle.mailparse.specs.declared.disposition.ParsedContentDisposition.{ParsedContentDisposition}
 use Rattle.mailparse.specs.declared.mail.ParsedMail.{ParsedMail}
+use Rattle.mailparse.specs.declared.mail.parts.PartsIterator.{PartsIterator}
+use Rattle.mailparse.specs.declared.mail.ParsedMail.TheOpen.{ParsedMail-F}
+use Rattle.mailparse.specs.declared.mail.ParsedMail.TheFolds.{fold-ParsedMail}
 
 -- the headers of a list and the offset just after their blank line
 abbrev pub header_list : Vec Header × ℕ → HeaderList
 header_list found = record { headers = found.0.items; index = found.1 }
-
--- a message: its bytes, its block, the headers that it has now, and its body
-abbrev pub mail : ParsedMail → Mail
-mail m = record { bytes = m.raw_bytes.now; block = m.header_bytes.now; headers = m.headers.items; body = m.body_bytes.now }
 
 -- the type of a message's content
 abbrev pub content_type : ParsedContentType → ContentType
@@ -35,3 +34,21 @@ kind (code.Extension name) = extension (string_bytes name)
 -- how a part is to be shown
 abbrev pub disposition : ParsedContentDisposition → Disposition
 disposition d = record { kind = kind d.disposition; params = text_at d.params }
+
+-- one message, with its parts as trees
+abbrev pub tree_step : ParsedMail-F Tree → Tree
+tree_step m = tree (record {
+  bytes = m.raw_bytes.now;
+  block = m.header_bytes.now;
+  headers = m.headers.items;
+  ctype = content_type m.ctype;
+  body = m.body_bytes.now;
+}) (forest m.subparts.items)
+
+-- a message: its bytes, its block, the headers and the type that it has now, its body, and the parts that it has now
+abbrev pub tree_of : ParsedMail → Tree
+tree_of = fold-ParsedMail Tree tree_step
+
+-- the messages that an iterator over parts has still to give, each with its parts
+abbrev pub trees_left : PartsIterator → List Tree
+trees_left iterator = map (λ m. tree_of m.now) (drop iterator.index iterator.parts.items)

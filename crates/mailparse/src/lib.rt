@@ -19,4 +19,4 @@ pub use header::MailHeader;
 pub use header::parse::parse_header;
 pub use headers::block::parse_headers;
 pub use headers::map::MailHeaderMap;
-pub use mail::{ParsedMail, parse_mail};
+pub use mail::{ParsedMail, PartsIterator, parse_mail};

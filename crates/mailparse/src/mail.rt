@@ -1,19 +1,35 @@
-//! A message: its header block and its body.
-ghost use Rattle.std.specs.Prelude.{◌≡◌, IsErr};
-ghost use Rattle.mailparse.specs.Block.{header_count};
-ghost use Rattle.mailparse.specs.Mail.{block_of, read_mail};
-ghost use Rattle.mailparse.specs.Outcome.{Answers, AnswersOrMemory};
-ghost use Rattle.mailparse.specs.Views.{mail};
+//! A message: its header block, its type, its body and its parts.
+ghost use Rattle.std.specs.Prelude.{◌≡◌, ◌<◌, ◌∷◌, option_map, IfErr, IfOk, IsErr, Ok};
+ghost use Rattle.mail_codec.specs.Charset.{four_charsets};
+ghost use Rattle.mailparse.specs.Block.{header_count, read_headers};
+ghost use Rattle.mailparse.specs.BodyViews.{IsBody, content_of};
+ghost use Rattle.mailparse.specs.Mail.{block_of, body_bytes, body_kind, body_text, root, shown_as, trees_within, delimiter_of, is_digest, node_type, part_type, read_levels, read_mail};
+ghost use Rattle.mailparse.specs.Outcome.{Answers, AnswersOrMemory, IsMemory, ReadsText, ReadsBytes};
+ghost use Rattle.mailparse.specs.Views.{content_type, disposition, tree_of, trees_left};
 
+mod delimiters;
+mod parts;
+
+use crate::body::Body;
+use crate::content_type::{ParsedContentType, parse_content_type};
+use crate::disposition::{ParsedContentDisposition, parse_content_disposition};
 use crate::error::MailParseError;
 use crate::header::MailHeader;
 use crate::headers::Headers;
 use crate::headers::block::parse_headers;
+use crate::headers::map::MailHeaderMap;
+use delimiters::{cut_body, cut_part};
+pub use parts::PartsIterator;
+use parts::push_parts;
 use std::alloc::Global;
+use std::collections::BTreeMap;
 
-/// A message that was read. The fields that are public may be changed; what the methods answer
-/// follows them.
-#[derive(Drop)]
+/// How many levels of parts may stand below a message: parts inside parts.
+const MAX_LEVELS: u8 = 100;
+
+/// A message that was read, or a part of one. The fields that are public may be changed; what the
+/// methods answer follows them.
+#[derive(Debug, Drop)]
 pub struct ParsedMail<'a> {
     /// The bytes of the message.
     pub raw_bytes: &'a [u8],
@@ -21,37 +37,221 @@ pub struct ParsedMail<'a> {
     header_bytes: &'a [u8],
     /// Its headers, in the order in which they stand.
     pub headers: Vec<MailHeader<'a>>,
-    /// The bytes of its body.
+    /// Its type.
+    pub ctype: ParsedContentType,
+    /// The bytes of its body, up to the first part.
     body_bytes: &'a [u8],
+    /// Its parts, in the order in which they stand.
+    pub subparts: Vec<ParsedMail<'a>>,
 }
 
 impl<'a> ParsedMail<'a> {
     /// The header block: its bytes, and the headers that `headers` holds now. Takes no memory.
     pub fn get_headers(&self) -> Headers<'_>
-        ensures { result ≡ block_of (mail self.now) }
+        ensures { result ≡ block_of (root (tree_of self.now)) }
     {
         Headers::new(self.header_bytes, self.headers.as_slice())
     }
+
+    /// The body in the transfer coding that it has (RFC 2045, section 6): the one that the first
+    /// `Content-Transfer-Encoding` names, in any case, and otherwise `7bit`. Nothing is decoded yet.
+    /// The one error is that memory ran out.
+    pub fn get_body_encoded(&self, alloc: Global) -> Result<Body<'_>, MailParseError>
+        ensures body { IfOk result (IsBody (body_kind (root (tree_of self.now))) (content_of (root (tree_of self.now)))) }
+        ensures fault { IfErr result IsMemory }
+    {
+        let mut encoding = self
+            .headers
+            .get_first_value(alloc, "Content-Transfer-Encoding")?;
+        if let Some(name) = &mut encoding {
+            name.make_ascii_lowercase();
+        }
+        Ok(Body::new(self.body_bytes, &self.ctype, &encoding))
+    }
+
+    /// The text that the body stands for: its transfer coding is undone, and the bytes are read
+    /// under the charset of the type that `ctype` holds now. A byte order mark decides first, and
+    /// under an unknown label each byte that is no ASCII is U+FFFD.
+    ///
+    /// Refuses a body that is to be Base64 and is not, by the number of the first invalid group;
+    /// otherwise the one error is that memory ran out.
+    ///
+    /// For `Subject: test\n\nThis is the body` it is `This is the body`.
+    #[tactic(auto, unfolding(crate::specs::Body::decoded_text, crate::specs::Body::text_under, crate::specs::Body::decoded))]
+    pub fn get_body(&self, alloc: Global) -> Result<String, MailParseError>
+        ensures { ReadsText result (body_text (root (tree_of self.now))) }
+    {
+        match self.get_body_encoded(alloc)? {
+            Body::Base64(body) => body.get_decoded_as_string(alloc),
+            Body::QuotedPrintable(body) => body.get_decoded_as_string(alloc),
+            Body::SevenBit(body) => body.get_as_string(alloc),
+            Body::EightBit(body) => body.get_as_string(alloc),
+            Body::Binary(body) => body.get_as_string(alloc),
+        }
+    }
+
+    /// The bytes that the body stands for: its transfer coding is undone, and no charset is looked
+    /// at. Refused as `get_body` is.
+    #[tactic(auto, unfolding(crate::specs::Body::decoded))]
+    pub fn get_body_raw(&self, alloc: Global) -> Result<Vec<u8>, MailParseError>
+        ensures { ReadsBytes result (body_bytes (root (tree_of self.now))) }
+    {
+        match self.get_body_encoded(alloc)? {
+            Body::Base64(body) => body.get_decoded(alloc),
+            Body::QuotedPrintable(body) => body.get_decoded(alloc),
+            Body::SevenBit(body) => Ok(body.get_raw().to_vec(alloc)?),
+            Body::EightBit(body) => Ok(body.get_raw().to_vec(alloc)?),
+            Body::Binary(body) => Ok(body.get_raw().to_vec(alloc)?),
+        }
+    }
+
+    /// How the message is to be shown (RFC 2183): what its first `Content-Disposition` says, and
+    /// otherwise `Inline` without parameters. The one error is that memory ran out.
+    pub fn get_content_disposition(
+        &self,
+        alloc: Global,
+    ) -> Result<ParsedContentDisposition, MailParseError>
+        ensures { AnswersOrMemory disposition result (Ok (shown_as (root (tree_of self.now)))) }
+    {
+        match self.headers.get_first_value(alloc, "Content-Disposition")? {
+            Some(value) => parse_content_disposition(alloc, value.as_str()),
+            None => Ok(ParsedContentDisposition::default(alloc)),
+        }
+    }
+
+    /// The message itself, and then its parts, each before its own parts. Takes memory for the list
+    /// of them; the one error is that memory ran out.
+    pub fn parts<'m>(&'m self, alloc: Global) -> Result<PartsIterator<'m, 'a>, MailParseError>
+        ensures { AnswersOrMemory trees_left result (Ok (trees_within (tree_of self.now))) }
+    {
+        let mut parts = Vec::new(alloc);
+        push_parts(self, &mut parts)?;
+        Ok(PartsIterator { parts, index: 0 })
+    }
 }
 
-/// Reads a message: its header block, and after the blank line its body (RFC 5322, section 2.1).
+/// Reads a message: its header block, and after the blank line its body, or its parts (RFC 5322,
+/// section 2.1; RFC 2046, section 5.1).
 ///
-/// Any bytes are a message, the empty input too, but for a header that begins with a space and a CR
-/// without LF where a header or the blank line is wanted, which are refused. It takes memory for
-/// the list of headers alone; a refusal that comes before the first header is answered as itself.
+/// A message whose type begins with `multipart` and has a boundary is cut at each line that begins
+/// with `--` and the boundary. Each part is read as a message in the same way.
 ///
-/// `parse_mail(alloc, b"Subject: Hi\n\nbody")` has one header and the body `body`.
+/// Any bytes are a message, the empty input too, but for three things, which are refused wherever
+/// they stand, the message itself before its parts: a header that begins with a space, a CR without
+/// LF where a header or the blank line is wanted, and a part more than 100 levels below the
+/// message. A refusal that comes before the first header is answered as itself; otherwise memory may
+/// run out.
+///
+/// `parse_mail(alloc, b"Subject: Hi\n\nbody")` has one header, the body `body` and no parts.
+#[tactic(auto, unfolding(crate::specs::Mail::read_mail, crate::specs::Mail::read_mail_in))]
 pub fn parse_mail(alloc: Global, raw: &[u8]) -> Result<ParsedMail<'_>, MailParseError>
-    ensures read { AnswersOrMemory mail result (read_mail raw.now) }
-    ensures no_memory { header_count raw.now ≡ 0 → IsErr (read_mail raw.now) →
-        Answers mail result (read_mail raw.now) }
+    ensures read { AnswersOrMemory tree_of result (read_mail raw.now) }
+    ensures no_memory { header_count raw.now ≡ 0 → IsErr (read_headers raw.now) → Answers tree_of result (read_mail raw.now) }
 {
+    parse_mail_recursive(alloc, raw, false, MAX_LEVELS + 1)
+}
+
+/// Reads a message where so many levels may stand, its own among them.
+fn parse_mail_recursive(
+    alloc: Global,
+    raw: &[u8],
+    in_digest: bool,
+    levels: u8,
+) -> Result<ParsedMail<'_>, MailParseError>
+    ensures read { AnswersOrMemory tree_of result (read_levels four_charsets levels in_digest raw.now) }
+    ensures no_memory { 0 < levels → header_count raw.now ≡ 0 → IsErr (read_headers raw.now) →
+        Answers tree_of result (read_levels four_charsets levels in_digest raw.now) }
+{
+    if levels == 0 {
+        return Err(MailParseError::Generic("Recursion limit reached"));
+    }
     let (headers, index) = parse_headers(alloc, raw)?;
-    let (header_bytes, body_bytes) = raw.split_at(index);
+    let ctype = node_type(alloc, &headers, in_digest)?;
+    let Some(line) = delimiter_line(alloc, &ctype)? else {
+        return Ok(ParsedMail {
+            raw_bytes: raw,
+            header_bytes: &raw[..index],
+            headers,
+            ctype,
+            body_bytes: &raw[index..],
+            subparts: Vec::new(alloc),
+        });
+    };
+    let is_digest = is_digest(&ctype);
+    let (end, first) = cut_body(raw, index, line.as_slice());
+    let mut subparts = Vec::new(alloc);
+    let mut next = first;
+    while let Some(start) = next {
+        let (part_end, after) = cut_part(raw, start, line.as_slice());
+        let part = &raw[start..part_end];
+        subparts.push(parse_mail_recursive(alloc, part, is_digest, levels - 1)?)?;
+        next = after;
+    }
     Ok(ParsedMail {
         raw_bytes: raw,
-        header_bytes,
+        header_bytes: &raw[..index],
         headers,
-        body_bytes,
+        ctype,
+        body_bytes: &raw[index..end],
+        subparts,
     })
+}
+
+/// The type of a message with these headers: what its first `Content-Type` says, and otherwise the
+/// type of a part without one. The error is that memory ran out.
+fn node_type(
+    alloc: Global,
+    headers: &Vec<MailHeader<'_>>,
+    in_digest: bool,
+) -> Result<ParsedContentType, MailParseError>
+    ensures { AnswersOrMemory content_type result (Ok (node_type four_charsets in_digest headers.now.items)) }
+{
+    match headers.get_first_value(alloc, "Content-Type")? {
+        Some(value) => parse_content_type(alloc, value.as_str()),
+        None => part_type(alloc, in_digest),
+    }
+}
+
+/// The type of a part without one of its own: plain text, and a message in a digest. The error is
+/// that memory ran out.
+fn part_type(alloc: Global, in_digest: bool) -> Result<ParsedContentType, MailParseError>
+    ensures { AnswersOrMemory content_type result (Ok (part_type in_digest)) }
+{
+    if !in_digest {
+        return ParsedContentType::default(alloc);
+    }
+    Ok(ParsedContentType {
+        mimetype: String::from_str(alloc, "message/rfc822")?,
+        charset: String::from_str(alloc, "us-ascii")?,
+        params: BTreeMap::new(alloc),
+    })
+}
+
+/// Whether the parts of this type are messages where nothing else is said.
+fn is_digest(ctype: &ParsedContentType) -> bool
+    ensures { result ≡ is_digest (content_type ctype.now) }
+{
+    ctype.mimetype.as_str() == "multipart/digest"
+}
+
+/// A LF, and then what the delimiters between the parts of this type begin with, if there may be
+/// parts. The error is that memory ran out.
+fn delimiter_line(
+    alloc: Global,
+    ctype: &ParsedContentType,
+) -> Result<Option<Vec<u8>>, MailParseError>
+    ensures line { IfOk result (λ line. option_map (λ l. l.items) line
+        ≡ option_map (λ d. 10 ∷ d) (delimiter_of (content_type ctype.now))) }
+    ensures fault { IfErr result IsMemory }
+{
+    if !ctype.mimetype.starts_with("multipart") {
+        return Ok(None);
+    }
+    let Some(boundary) = ctype.params.get("boundary") else {
+        return Ok(None);
+    };
+    let mut line = Vec::with_capacity(alloc, 3 + boundary.len())?;
+    line.extend_from_slice(b"\n--")?;
+    line.extend_from_slice(boundary.as_bytes())?;
+    Ok(Some(line))
 }

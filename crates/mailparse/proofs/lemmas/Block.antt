@@ -9,7 +9,6 @@ use Rattle.mail_codec.proofs.PlaceLemmas.{least-is, least-before, least-passes, 
 use Rattle.mailparse.specs.Refusal.{Refusal, empty_string, leading_space, lone_carriage_return}
 use Rattle.mailparse.specs.Header.{Header, header_of, header_length, read_header}
 use Rattle.mailparse.proofs.lemmas.Header.{header_length-≤, header_length->}
-use Rattle.mailparse.specs.Mail.{Mail, read_mail}
 use Rattle.mailparse.specs.Block.{HeaderList, blank_line, headers_end, has_header, header_place, rest_at, header_count, block_end, read_headers}
 
 -- where a header stands there are bytes
@@ -410,19 +409,6 @@ read_header-bounds (b ∷ raw) found e = by_test (stands (32 ∷ []) (b ∷ raw)
         let low = header_length-> (b ∷ raw) (omega arith) in
         let high = header_length-≤ (b ∷ raw) in
         (omega arith, omega arith)
-
--- the message whose block is read or refused
-pub read_mail-ok : (raw : List ℕ) (block : HeaderList) → read_headers raw ≡ Ok block → read_mail raw ≡ Ok (record { bytes = raw; block = take block.index raw; headers = block.headers; body = drop block.index raw })
-unfolding read_mail
-read_mail-ok raw block e = rw e refl
-
-pub read_mail-err : (raw : List ℕ) (refusal : Refusal) → read_headers raw ≡ Err refusal → read_mail raw ≡ Err refusal
-unfolding read_mail
-read_mail-err raw refusal e = rw e refl
-
--- a refused message is no message
-pub read_mail-not_err : (raw : List ℕ) (block : HeaderList) → read_headers raw ≡ Ok block → IsErr (read_mail raw) → ⊥
-read_mail-not_err raw block e refused = let f : false ≡ true = subst (λ (m : Result Mail Refusal). IsErr m) (read_mail-ok raw block e) refused in cc
 
 -- what a block is that is read: the headers at its places, and the place after the blank line
 abbrev block_read : List ℕ → HeaderList

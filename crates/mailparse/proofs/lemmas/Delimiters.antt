@@ -1,0 +1,275 @@
+-- Lemmas on delimiters: where the first one stands.
+use Rattle.std.proofs.Common.{◌≡◌, ◌≢◌, ◌⊎◌, ℕ, zero, suc, ◌+◌, ◌-◌, ◌<◌, ◌≤◌, Bool, true, false, cond, eqb, List, [], ◌∷◌, ◌&&◌, ◌||◌, length, take, drop, get_or, Option, Some, None, option_map, refl, sym, ap, ◌∙◌, subst, ⊎_elim, arith, length-drop, get_or-drop}
+use Rattle.std.specs.Prelude.{nat_lt}
+use Rattle.std.proofs.lemmas.Bool.{cond-true, cond-false, cases_lt, cases_eq, lt-ltb, le-ltb, eq-eqb, eqb-true, ne_eqb, and_parts, and_from, and_left, and_right, false≢true}
+use Rattle.std.proofs.lemmas.List.{drop-drop}
+use Rattle.bstr.specs.Find.{OccursAt, FindsNeedle}
+use Rattle.mail_codec.specs.Places.{stands, begins, first_place, least, place, text_place, byte_place}
+use Rattle.mail_codec.proofs.PlaceLemmas.{least-is, least-≤, least-before, least-passes, first_place-≤, first_place-before}
+use Rattle.mailparse.specs.Header.{is_line_feed}
+use Rattle.mailparse.specs.Delimiters.{least_from, starts_line, is_delimiter, delimiter_from, line_after}
+use Rattle.mailparse.specs.private.DelimiterLines.{NoDelimiter}
+use Rattle.mailparse.proofs.lemmas.Places.{place_none, place_some}
+
+-- ---- the least place from a start on
+
+pub record IsLeastFrom (test : ℕ → Bool) (start end p : ℕ) : Type 0 where
+  pub low : start ≤ p
+  pub high : p < end
+  pub passes : test p ≡ true
+  pub before : (k : ℕ) → start ≤ k → k < p → test k ≡ false
+
+pick : ℕ → ℕ → ℕ → Option ℕ
+pick start size k = cond (nat_lt k size) (Some (start + k)) None
+
+pub least_from-some : (test : ℕ → Bool) (start end p : ℕ) → IsLeastFrom test start end p → least_from test start end ≡ Some p
+unfolding pick
+least_from-some test start end p h =
+    let low = h.low in
+    let high = h.high in
+    let at : test (start + (p - start)) ≡ true = ap test (omega arith) ∙ h.passes in
+    let is : least (λ n. test (start + n)) (end - start) ≡ p - start =
+    least-is (λ n. test (start + n)) (end - start) (p - start) (omega arith) (λ k small. h.before (start + k) (omega arith) (omega arith)) (λ _. at) in
+    ap (pick start (end - start)) is ∙ cond-true _ _ _ (lt-ltb (p - start) (end - start) (omega arith)) ∙ ap Some (omega arith)
+
+pub least_from-none : (test : ℕ → Bool) (start end : ℕ) → ((k : ℕ) → start ≤ k → k < end → test k ≡ false) → least_from test start end ≡ None
+unfolding pick
+least_from-none test start end h =
+    let is : least (λ n. test (start + n)) (end - start) ≡ end - start =
+    least-is (λ n. test (start + n)) (end - start) (end - start) (omega arith) (λ k small. h (start + k) (omega arith) (omega arith)) (λ low. absurd (omega arith)) in
+    ap (pick start (end - start)) is ∙ cond-false _ _ _ (le-ltb (end - start) (end - start) (omega arith))
+
+pub least_from-out : (test : ℕ → Bool) (start end p : ℕ) → least_from test start end ≡ Some p → IsLeastFrom test start end p
+unfolding pick
+least_from-out test start end p e =
+    let k = least (λ n. test (start + n)) (end - start) in
+    ⊎_elim (λ small.
+    let here : Some (start + k) ≡ Some p = sym (cond-true (nat_lt k (end - start)) (Some (start + k)) None (lt-ltb k (end - start) small)) ∙ e in
+    let same : start + k ≡ p = unwrap here in
+    record {
+      low = omega arith;
+      high = omega arith;
+      passes = subst (λ q. test q ≡ true) same (least-passes (λ n. test (start + n)) (end - start) small);
+      before = λ j low high.
+          ap test (omega arith) ∙ least-before (λ n. test (start + n)) (end - start) (j - start) (omega arith);
+    })
+    (λ ge. absurd (clash (sym (cond-false (nat_lt k (end - start)) (Some (start + k)) None (le-ltb k (end - start) ge)) ∙ e)))
+    (cases_lt k (end - start))
+  where
+    unwrap : {a : ℕ} → Some a ≡ Some p → a ≡ p
+    unwrap {a = a} h = cc
+
+    clash : None ≡ Some p → ⊥
+    clash h = cc
+
+-- ---- a text that stands
+
+or_false : (x y : Bool) → x ≡ false → y ≡ false → (x || y) ≡ false
+or_false x y e f = rw (e, f) refl
+
+reads_more : (x b : ℕ) (text rest : List ℕ) → x ≡ b → ((j : ℕ) → j < length text → get_or rest j 0 ≡ get_or text j 0) → (j : ℕ) → j < suc (length text)
+    → get_or (b ∷ rest) j 0 ≡ get_or (x ∷ text) j 0
+reads_more x b text rest same h zero low = sym same
+reads_more x b text rest same h (suc j) low = h j (omega arith)
+
+pub stands_reads : (text rest : List ℕ) → stands text rest ≡ true → (length text ≤ length rest) × ((j : ℕ) → j < length text → get_or rest j 0 ≡ get_or text j 0)
+stands_reads [] rest h = (omega arith, λ j low. absurd (omega arith))
+stands_reads (x ∷ text) [] h = absurd (false≢true h)
+stands_reads (x ∷ text) (b ∷ rest) h =
+    let parts = and_parts (eqb x b) (stands text rest) h in
+    let more = stands_reads text rest parts.1 in
+    (omega (arith, more.0), reads_more x b text rest (eqb-true x b parts.0) more.1)
+
+pub reads_stands : (text rest : List ℕ) → length text ≤ length rest → ((j : ℕ) → j < length text → get_or rest j 0 ≡ get_or text j 0) → stands text rest ≡ true
+reads_stands [] rest fits h = refl
+reads_stands (x ∷ text) [] fits h = absurd (omega arith)
+reads_stands (x ∷ text) (b ∷ rest) fits h =
+    and_from (eqb x b) (stands text rest) (eq-eqb x b (sym (h 0 (omega arith)))) (reads_stands text rest (omega arith) (λ j low. h (suc j) (omega arith)))
+
+-- a text stands only where its first byte does
+pub stands_first : (key rest : List ℕ) → 0 < length key → stands (take 1 key) rest ≡ false → stands key rest ≡ false
+stands_first [] rest some h = absurd (omega arith)
+stands_first (x ∷ key) [] some h = refl
+stands_first (x ∷ key) (b ∷ rest) some h = by_test (eqb x b) _ h
+  where
+    by_test : (t u : Bool) → (t && true) ≡ false → (t && u) ≡ false
+    by_test true u e = absurd (false≢true (sym e))
+    by_test false u e = refl
+
+-- where a delimiter stands, all of it stands within the bytes
+pub is_delimiter-fits : (d bytes : List ℕ) (start p : ℕ) → p ≤ length bytes → is_delimiter d bytes start p ≡ true → p + length d ≤ length bytes
+is_delimiter-fits d bytes start p within h =
+    let fits = (stands_reads d (drop p bytes) (and_parts (starts_line bytes start p) (stands d (drop p bytes)) h).1).0 in
+    let len = length-drop p bytes in
+    omega arith
+
+-- ---- the first delimiter
+
+pub delimiter_from-some : (d bytes : List ℕ) (start p : ℕ) → start ≤ p → p < length bytes → is_delimiter d bytes start p ≡ true → NoDelimiter d bytes start p
+    → Some p ≡ delimiter_from d bytes start
+unfolding delimiter_from
+delimiter_from-some d bytes start p low high at none =
+    sym (least_from-some (is_delimiter d bytes start) start (length bytes) p (record { low = low; high = high; passes = at; before = none }))
+
+pub delimiter_from-none : (d bytes : List ℕ) (start : ℕ) → NoDelimiter d bytes start (length bytes) → None ≡ delimiter_from d bytes start
+unfolding delimiter_from
+delimiter_from-none d bytes start none = sym (least_from-none (is_delimiter d bytes start) start (length bytes) none)
+
+pub delimiter_from-out : (d bytes : List ℕ) (start p : ℕ) → delimiter_from d bytes start ≡ Some p → IsLeastFrom (is_delimiter d bytes start) start (length bytes) p
+unfolding delimiter_from
+delimiter_from-out d bytes start p e = least_from-out (is_delimiter d bytes start) start (length bytes) p e
+
+-- what a search was told that is seen by a function
+nowhere : (f : ℕ → ℕ) (o : Option ℕ) → None ≡ option_map f o → None ≡ o
+nowhere f None e = refl
+nowhere f (Some k) e = cc
+
+pub somewhere : (f : ℕ → ℕ) (at : ℕ) (o : Option ℕ) → Some at ≡ option_map f o → (k : ℕ) × (Some k ≡ o) × (at ≡ f k)
+somewhere f at None e = absurd (clash e)
+  where
+    clash : Some at ≡ None → ⊥
+    clash h = cc
+somewhere f at (Some k) e = (k, refl, unwrap (f k) e)
+  where
+    unwrap : (b : ℕ) → Some at ≡ Some b → at ≡ b
+    unwrap b h = cc
+
+-- ---- a search from one first byte to the next
+
+no_delimiter_before : (key bytes : List ℕ) (start from j : ℕ) → 0 < length key → NoDelimiter key bytes start from → first_place (stands (take 1 key)) (drop from bytes) ≡ j
+    → NoDelimiter key bytes start (from + j)
+no_delimiter_before key bytes start from j some none first k low high =
+    ⊎_elim (λ below. none k low below)
+    (λ above.
+    let there : drop (k - from) (drop from bytes) ≡ drop k bytes = drop-drop (k - from) from bytes ∙ ap (λ n. drop n bytes) (omega arith) in
+    let fails : stands (take 1 key) (drop (k - from) (drop from bytes)) ≡ false =
+    first_place-before (stands (take 1 key)) (drop from bytes) (k - from) (omega (arith, first)) in
+    and_right (starts_line bytes start k) _ (stands_first key (drop k bytes) some (ap (stands (take 1 key)) (sym there) ∙ fails)))
+    (cases_lt k from)
+
+-- no first byte of the key is left
+pub no_delimiter_left : (key bytes : List ℕ) (start from : ℕ) → 0 < length key → from ≤ length bytes → NoDelimiter key bytes start from
+    → None ≡ option_map (λ k. from + k) (text_place (drop from bytes) (take 1 key)) → NoDelimiter key bytes start (length bytes)
+no_delimiter_left [] bytes start from some within none e = absurd (omega arith)
+no_delimiter_left (x ∷ key) bytes start from some within none e = λ k low high.
+    let len = length-drop from bytes in
+    no_delimiter_before (x ∷ key) bytes start from (length (drop from bytes)) some none
+    (place_none (stands (x ∷ [])) (drop from bytes) (nowhere (λ k. from + k) (place (stands (x ∷ [])) (drop from bytes)) e)) k low (omega arith)
+
+-- the next first byte of the key
+pub no_delimiter_to : (key bytes : List ℕ) (start from at : ℕ) → 0 < length key → NoDelimiter key bytes start from
+    → Some at ≡ option_map (λ k. from + k) (text_place (drop from bytes) (take 1 key)) → NoDelimiter key bytes start at
+no_delimiter_to [] bytes start from at some none e = absurd (omega arith)
+no_delimiter_to (x ∷ key) bytes start from at some none e =
+    let here = somewhere (λ k. from + k) at (place (stands (x ∷ [])) (drop from bytes)) e in
+    subst (NoDelimiter (x ∷ key) bytes start) (sym here.2)
+    (no_delimiter_before (x ∷ key) bytes start from here.0 some none (place_some (stands (x ∷ [])) (drop from bytes) here.0 here.1).0)
+
+-- past its start no line starts on a line
+no_delimiter_on_line : (key bytes : List ℕ) (start at j : ℕ) → start ≤ at → NoDelimiter key bytes start at → is_delimiter key bytes start at ≡ false
+    → first_place (begins is_line_feed) (drop at bytes) ≡ j → NoDelimiter key bytes start (suc (at + j))
+no_delimiter_on_line key bytes start at j after none here feed k low high =
+    ⊎_elim (λ below. none k low below)
+    (λ above. ⊎_elim (λ same. subst (λ p. is_delimiter key bytes start p ≡ false) (sym same) here)
+    (λ other.
+    let i = k - 1 - at in
+    let there : drop i (drop at bytes) ≡ drop (k - 1) bytes = drop-drop i at bytes ∙ ap (λ n. drop n bytes) (omega arith) in
+    let fails : begins is_line_feed (drop i (drop at bytes)) ≡ false = first_place-before (begins is_line_feed) (drop at bytes) i (omega (arith, feed, other)) in
+    and_left (starts_line bytes start k) _ (or_false (eqb k start) _ (ne_eqb k start (λ e. other (omega arith))) (ap (begins is_line_feed) (sym there) ∙ fails)))
+    (cases_eq k at))
+    (cases_lt k at)
+
+-- no line starts after this one
+pub no_delimiter_on_last_line : (key bytes : List ℕ) (start at : ℕ) → start ≤ at → at ≤ length bytes → NoDelimiter key bytes start at → is_delimiter key bytes start at ≡ false
+    → None ≡ line_after bytes at → NoDelimiter key bytes start (length bytes)
+no_delimiter_on_last_line key bytes start at after within none here e k low high =
+    let len = length-drop at bytes in
+    no_delimiter_on_line key bytes start at (length (drop at bytes)) after none here
+    (place_none (begins is_line_feed) (drop at bytes) (nowhere (λ k. suc (at + k)) (byte_place (drop at bytes) 10) e)) k low (omega arith)
+
+-- the next line
+pub no_delimiter_to_line : (key bytes : List ℕ) (start at next : ℕ) → start ≤ at → NoDelimiter key bytes start at → is_delimiter key bytes start at ≡ false
+    → Some next ≡ line_after bytes at → NoDelimiter key bytes start next
+no_delimiter_to_line key bytes start at next after none here e =
+    let there = somewhere (λ k. suc (at + k)) next (byte_place (drop at bytes) 10) e in
+    subst (NoDelimiter key bytes start) (sym there.2)
+    (no_delimiter_on_line key bytes start at there.0 after none here (place_some (begins is_line_feed) (drop at bytes) there.0 there.1).0)
+
+-- ---- a search for the LF and the delimiter after it
+
+eqb_swap : (a b : ℕ) → eqb a b ≡ eqb b a
+eqb_swap a b = ⊎_elim (λ e. ap (λ x. eqb x b) e ∙ ap (λ x. eqb b x) (sym e)) (λ n. ne_eqb a b n ∙ sym (ne_eqb b a (λ e. n (sym e)))) (cases_eq a b)
+
+feed_and : (d rest : List ℕ) → stands (10 ∷ d) rest ≡ (begins is_line_feed rest && stands d (drop 1 rest))
+feed_and d [] = refl
+feed_and d (b ∷ rest) = ap (λ t. t && stands d rest) (eqb_swap 10 b)
+
+-- past the start a delimiter stands where a LF and the delimiter stand one place before
+is_delimiter-line : (d bytes : List ℕ) (start p : ℕ) → start < p → is_delimiter d bytes start p ≡ stands (10 ∷ d) (drop (p - 1) bytes)
+is_delimiter-line d bytes start p later =
+    let other : eqb p start ≡ false = ne_eqb p start (λ e. absurd (omega (arith, later))) in
+    let there : drop 1 (drop (p - 1) bytes) ≡ drop p bytes = drop-drop 1 (p - 1) bytes ∙ ap (λ n. drop n bytes) (omega arith) in
+    ap (λ t. (t || begins is_line_feed (drop (p - 1) bytes)) && stands d (drop p bytes)) other
+    ∙ ap (λ rest. begins is_line_feed (drop (p - 1) bytes) && stands d rest) (sym there)
+    ∙ sym (feed_and d (drop (p - 1) bytes))
+
+stands_occurs : (text bytes : List ℕ) (k : ℕ) → k ≤ length bytes → stands text (drop k bytes) ≡ true → OccursAt bytes text k
+stands_occurs text bytes k within h =
+    let reads = stands_reads text (drop k bytes) h in
+    let len = length-drop k bytes in
+    record { fits = omega (arith, reads.0); reads = λ j low. sym (get_or-drop k bytes j 0) ∙ reads.1 j low }
+
+occurs_stands : (text bytes : List ℕ) (k : ℕ) → OccursAt bytes text k → stands text (drop k bytes) ≡ true
+occurs_stands text bytes k h =
+    let fits = h.fits in
+    let len = length-drop k bytes in
+    reads_stands text (drop k bytes) (omega arith) (λ j low. get_or-drop k bytes j 0 ∙ h.reads j low)
+
+-- the start itself is one where the delimiter stands
+pub is_delimiter-start : (d bytes : List ℕ) (start : ℕ) → is_delimiter d bytes start start ≡ stands d (drop start bytes)
+is_delimiter-start d bytes start = ap (λ t. (t || begins is_line_feed (drop (start - 1) bytes)) && stands d (drop start bytes)) (eq-eqb start start refl)
+
+-- none stands up to a place before which the LF and the delimiter occur nowhere
+none_to : (d bytes : List ℕ) (start to : ℕ) → start ≤ length bytes → to ≤ length (drop start bytes) → stands d (drop start bytes) ≡ false
+    → ((k : ℕ) → 0 ≤ k → k < to → OccursAt (drop start bytes) (10 ∷ d) k → ⊥) → NoDelimiter d bytes start (suc (start + to))
+none_to d bytes start to within fits first none k low high =
+    ⊎_elim (λ same. subst (λ p. is_delimiter d bytes start p ≡ false) (sym same) (is_delimiter-start d bytes start ∙ first))
+    (λ other.
+    let i = k - 1 - start in
+    let there : drop i (drop start bytes) ≡ drop (k - 1) bytes = drop-drop i start bytes ∙ ap (λ n. drop n bytes) (omega (arith, other)) in
+    is_delimiter-line d bytes start k (omega (arith, other)) ∙ ap (stands (10 ∷ d)) (sym there)
+    ∙ by_test i (omega (arith, other)) (stands (10 ∷ d) (drop i (drop start bytes))) refl)
+    (cases_eq k start)
+  where
+    by_test : (i : ℕ) → i < to → (t : Bool) → stands (10 ∷ d) (drop i (drop start bytes)) ≡ t → t ≡ false
+    by_test i low true e = absurd (none i (omega arith) low (stands_occurs (10 ∷ d) (drop start bytes) i (omega arith) e))
+    by_test i low false e = refl
+
+-- where the search found nothing
+pub found_nowhere : (d bytes : List ℕ) (start : ℕ) → start ≤ length bytes → stands d (drop start bytes) ≡ false → FindsNeedle (drop start bytes) (10 ∷ d) 0 None
+    → None ≡ delimiter_from d bytes start
+found_nowhere d bytes start within first none =
+    let len = length-drop start bytes in
+    delimiter_from-none d bytes start (λ k low high.
+    none_to d bytes start (length (drop start bytes)) within (omega arith) first (λ j least small occurs. none j least (omega arith) occurs) k low (omega arith))
+
+-- where it found a place
+pub found_line : (d bytes : List ℕ) (start k : ℕ) → 0 < length d → start ≤ length bytes → stands d (drop start bytes) ≡ false → FindsNeedle (drop start bytes) (10 ∷ d) 0 (Some k)
+    → (Some (start + k + 1) ≡ delimiter_from d bytes start) × (start + k + 1 + length d ≤ length bytes)
+found_line d bytes start k some within first found =
+    let len = length-drop start bytes in
+    let fits = found.1.fits in
+    let there : drop k (drop start bytes) ≡ drop (start + k + 1 - 1) bytes = drop-drop k start bytes ∙ ap (λ n. drop n bytes) (omega arith) in
+    let at : is_delimiter d bytes start (start + k + 1) ≡ true =
+    is_delimiter-line d bytes start (start + k + 1) (omega arith) ∙ ap (stands (10 ∷ d)) (sym there) ∙ occurs_stands (10 ∷ d) (drop start bytes) k found.1 in (
+      delimiter_from-some d bytes start (start + k + 1) (omega arith) (omega arith) at
+          (λ j low high. none_to d bytes start k within (omega arith) first (λ i least small occurs. found.0.before i least small occurs) j low (omega arith)),
+      omega arith,
+    )
+
+-- where the delimiter stands at the start
+pub starts_delimiter : (d bytes : List ℕ) (start : ℕ) → 0 < length d → stands d (drop start bytes) ≡ true → Some start ≡ delimiter_from d bytes start
+starts_delimiter d bytes start some h =
+    let fits = (stands_reads d (drop start bytes) h).0 in
+    let len = length-drop start bytes in
+    delimiter_from-some d bytes start start (omega arith) (omega arith) (is_delimiter-start d bytes start ∙ h) (λ k low high. absurd (omega arith))

@@ -1,0 +1,34 @@
+use Rattle.std.proofs.Common.{◌≡◌, ℕ, ◌-◌, ◌∷◌, List, Option, Some, None, length, take, drop, true, false, sym, ap, ◌∙◌, subst, arith}
+use Rattle.std.proofs.lemmas.List.{take_rest}
+use Rattle.bstr.specs.Find.{FindsNeedle}
+use Rattle.mail_codec.specs.Places.{stands}
+use Rattle.mailparse.proofs.lemmas.Delimiters.{found_line, found_nowhere, starts_delimiter}
+use Rattle.mailparse.proofs.mail.delimiters.find_delimiter.Goals as goal
+
+-- the delimiter stands at the start, as the test of the code says
+tested : (raw line : List ℕ) (start : ℕ) → stands (take (length line - 1) (drop 1 line)) (take (length raw - start) (drop start raw)) ≡ stands (drop 1 line) (drop start raw)
+tested raw line start =
+    ap (λ (d : List ℕ). stands d (take (length raw - start) (drop start raw))) (take_rest line 1) ∙ ap (stands (drop 1 line)) (take_rest raw start)
+
+-- what the search found, in the words of the lemmas
+sought : (raw line : List ℕ) (start : ℕ) (r : Option ℕ) → line ≡ 10 ∷ drop 1 line → FindsNeedle (take (length raw - start) (drop start raw)) line 0 r
+    → FindsNeedle (drop start raw) (10 ∷ drop 1 line) 0 r
+sought raw line start r feed h =
+    subst (λ (l : List ℕ). FindsNeedle (drop start raw) l 0 r) feed (subst (λ (b : List ℕ). FindsNeedle b line 0 r) (take_rest raw start) h)
+
+pub returns-then-starts_with-clause-least : goal.returns-then-starts_with-clause-least
+returns-then-starts_with-clause-least c =
+    starts_delimiter (drop 1 c.args.line.now) c.args.raw.now c.args.start c.requires.line.some
+    (sym (tested c.args.raw.now c.args.line.now c.args.start) ∙ sym c.starts_with.ensures.value ∙ c.if-starts_with.true)
+
+pub returns-in_default-clause-least : goal.returns-in_default-clause-least
+returns-in_default-clause-least c =
+    found_nowhere (drop 1 c.args.line.now) c.args.raw.now c.args.start c.requires.within
+    (sym (tested c.args.raw.now c.args.line.now c.args.start) ∙ sym c.starts_with.ensures.value ∙ c.if-starts_with.false)
+    (sought c.args.raw.now c.args.line.now c.args.start None c.requires.line.feed c.in_default.ensures)
+
+pub returns-clause-least : goal.returns-clause-least
+returns-clause-least c =
+    (found_line (drop 1 c.args.line.now) c.args.raw.now c.args.start c.in-Some.place c.requires.line.some c.requires.within
+    (sym (tested c.args.raw.now c.args.line.now c.args.start) ∙ sym c.starts_with.ensures.value ∙ c.if-starts_with.false)
+    (sought c.args.raw.now c.args.line.now c.args.start (Some c.in-Some.place) c.requires.line.feed c.in-Some.ensures)).0
