@@ -1,29 +1,35 @@
--- The text that shows a message; the program's own form.
-use Rattle.std.specs.Prelude.{ℕ, ◌-◌, List, ◌++◌, length, codes, decimal, Result, Ok, Err}
+-- The text that shows a message with its parts; the program's own form.
+use Rattle.std.specs.Prelude.{ℕ, suc, List, [], ◌∷◌, ◌++◌, length, codes, decimal}
 use Rattle.std.specs.List.{flat_map}
-use Rattle.mailparse.specs.Refusal.{Refusal}
+use Rattle.mailparse.specs.Refusal.{Reads, read_map}
 use Rattle.mailparse.specs.Header.{Header}
 use Rattle.mailparse.specs.Keys.{key_text}
-use Rattle.mailparse.specs.Mail.{Mail, read_mail}
+use Rattle.mailparse.specs.Mail.{Node, Tree, read_mail, root, trees_within}
 use Rattle.mailparse.specs.Value.{lenient_value}
 
 -- the line of a header: two spaces, the text of its key, a colon and a space, the text that its value shows
 unfoldable pub header_line : Header → List ℕ
 header_line header = codes "  " ++ key_text header ++ codes ": " ++ lenient_value header.value ++ codes "\n"
 
--- the line of the message: how many headers it has, and how many bytes stand after its block
-unfoldable pub mail_line : Mail → List ℕ
-mail_line mail = codes "part 0: " ++ decimal (length mail.headers) ++ codes " headers, " ++ decimal (length mail.bytes - length mail.block) ++ codes " body bytes\n"
+-- the line of the part with this number, by its type, how many headers it has, and how many bytes its body has
+unfoldable pub part_line : ℕ → List ℕ → ℕ → ℕ → List ℕ
+part_line number mimetype headers body =
+    codes "part " ++ decimal number ++ codes ": " ++ mimetype ++ codes ", " ++ decimal headers ++ codes " headers, " ++ decimal body
+    ++ codes " body bytes\n"
 
--- the text of a message: its line, and then one for each header
-abbrev pub mail_text : Mail → List ℕ
-mail_text mail = mail_line mail ++ flat_map header_line mail.headers
+-- the text of a part: its line, and then one for each header
+abbrev pub part_text : ℕ → Node → List ℕ
+part_text number node = part_line number node.ctype.mimetype (length node.headers) (length node.body) ++ flat_map header_line node.headers
 
--- the text of the message that was read
-abbrev pub text_of_read : Result Mail Refusal → Result (List ℕ) Refusal
-text_of_read (Ok mail) = Ok (mail_text mail)
-text_of_read (Err refusal) = Err refusal
+-- the texts of parts, which are numbered from there on
+abbrev pub parts_text : ℕ → List Tree → List ℕ
+parts_text number [] = []
+parts_text number (part ∷ parts) = part_text number (root part) ++ parts_text (suc number) parts
+
+-- the text of a message: the texts of it and its parts, each before its own parts, numbered from 0
+abbrev pub mail_text : Tree → List ℕ
+mail_text message = parts_text 0 (trees_within message)
 
 -- what the program shows of its input, or the refusal that it names
-unfoldable pub shown : List ℕ → Result (List ℕ) Refusal
-shown input = text_of_read (read_mail input)
+unfoldable pub shown : List ℕ → Reads (List ℕ)
+shown input = read_map mail_text (read_mail input)

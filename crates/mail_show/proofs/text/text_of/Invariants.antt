@@ -1,10 +1,11 @@
-use Rattle.std.proofs.Common.{◌≡◌, ◌++◌, take}
-use Rattle.std.specs.List.{flat_map}
+use Rattle.std.proofs.Common.{◌≡◌, ◌++◌}
+use Rattle.std.specs.Iterator.Adapters.{enumerate_count, enumerate_source}
 use Rattle.std.specs.String.{string_bytes}
-use Rattle.mailparse.specs.Views.{mail}
-use Rattle.mail_show.specs.Shown.{header_line, mail_line}
+use Rattle.mailparse.specs.Views.{tree_of, trees_left}
+use Rattle.mail_show.specs.Shown.{mail_text, parts_text}
 use Rattle.mail_show.proofs.text.text_of.Given as goal
 
--- the line of the message, and those of the headers so far
-abbrev pub invariant-loop-field : goal.invariant-loop-field
-invariant-loop-field l = string_bytes l.text ≡ mail_line (mail l.parsed) ++ flat_map header_line (take l.field-index l.parsed.headers.items)
+-- what is written, and then the texts of the parts that are left, is the text of the message
+abbrev pub invariant-loop-number : goal.invariant-loop-number
+invariant-loop-number l =
+    string_bytes l.text ++ parts_text (enumerate_count l.number-iterator) (trees_left (enumerate_source l.number-iterator)) ≡ mail_text (tree_of l.parsed)
