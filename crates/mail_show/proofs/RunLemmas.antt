@@ -2,7 +2,7 @@
 use Rattle.std.proofs.Common.{◌≡◌, ℕ, false, List, Option, Some, None, Result, Ok, Err, IfSome, OnOk, is_err, refl, sym, ap, ◌∙◌}
 use Rattle.std.specs.Io.KnownBytes.{Keeps, Appends, IsAtEnd}
 use Rattle.std.proofs.KnownBytes.{Keeps-refl, Appends-kept}
-use Rattle.mailparse.specs.Mail.{Mail, read_mail}
+use Rattle.mailparse.specs.Mail.{Tree, read_mail}
 use Rattle.mailparse.specs.Refusal.{Refusal}
 use Rattle.mailparse.specs.Outcome.{IsRefusal, IsRefusalOrMemory}
 use Rattle.mailparse.proofs.lemmas.Outcome.{IsRefusal-along}
@@ -12,7 +12,7 @@ use Rattle.mail_show.specs.Shown.{mail_text, shown}
 use Rattle.mail_show.specs.Run.{HasShown, RefusesInput}
 
 -- what is shown of an input that is a message, and of one that is refused
-shown-ok : (input : List ℕ) (mail : Mail) → read_mail input ≡ Ok mail → shown input ≡ Ok (mail_text mail)
+shown-ok : (input : List ℕ) (mail : Tree) → read_mail input ≡ Ok mail → shown input ≡ Ok (mail_text mail)
 unfolding shown
 shown-ok input mail e = rw e refl
 
@@ -43,7 +43,7 @@ pub text-of_ok : (text given : List ℕ) → ◌≡◌ {A = Result (List ℕ) Re
 text-of_ok text given e = cc
 
 -- a text that is written is that of the whole input
-pub run-shown : (left_before left held_before held_written held : Option (List ℕ)) (input text : List ℕ) (mail : Mail)
+pub run-shown : (left_before left held_before held_written held : Option (List ℕ)) (input text : List ℕ) (mail : Tree)
     → IsAtEnd left × IfSome left_before (λ all. input ≡ all) → read_mail input ≡ Ok mail → text ≡ mail_text mail
     → Appends held_before held_written text → Keeps held_written held → HasShown left_before left held_before held
 run-shown None left held_before held_written held input text mail read e is_text wrote kept = record { read = read.0; wrote = tt }

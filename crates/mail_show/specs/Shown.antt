@@ -1,29 +1,35 @@
--- The text that shows a message; the program's own form.
-use Rattle.std.specs.Prelude.{ℕ, ◌-◌, List, ◌++◌, length, codes, decimal, Result, Ok, Err}
+-- The text that shows a message and its parts; the program's own form.
+use Rattle.std.specs.Prelude.{ℕ, suc, List, [], ◌∷◌, ◌++◌, length, codes, decimal, Result, Ok, Err}
 use Rattle.std.specs.List.{flat_map}
-use Rattle.mailparse.specs.Refusal.{Refusal}
+use Rattle.mailparse.specs.Refusal.{Refusal, Reads, read_map}
 use Rattle.mailparse.specs.Header.{Header}
 use Rattle.mailparse.specs.Keys.{key_text}
-use Rattle.mailparse.specs.Mail.{Mail, read_mail}
+use Rattle.mailparse.specs.Mail.{Node, Tree, nodes, read_mail}
 use Rattle.mailparse.specs.Value.{lenient_value}
 
 -- the line of a header: two spaces, the text of its key, a colon and a space, the text that its value shows
 unfoldable pub header_line : Header → List ℕ
 header_line header = codes "  " ++ key_text header ++ codes ": " ++ lenient_value header.value ++ codes "\n"
 
--- the line of the message: how many headers it has, and how many bytes stand behind its block
-unfoldable pub mail_line : Mail → List ℕ
-mail_line mail = codes "part 0: " ++ decimal (length mail.headers) ++ codes " headers, " ++ decimal (length mail.bytes - length mail.block) ++ codes " body bytes\n"
+-- the line of the part with this number: its type, how many headers it has, and how many bytes its body has
+unfoldable pub part_line : ℕ → Node → List ℕ
+part_line number part =
+    codes "part " ++ decimal number ++ codes ": " ++ part.ctype.mimetype ++ codes ", " ++ decimal (length part.headers) ++ codes " headers, "
+    ++ decimal (length part.body) ++ codes " body bytes\n"
 
--- the text of a message: its line, and then one for each header
-abbrev pub mail_text : Mail → List ℕ
-mail_text mail = mail_line mail ++ flat_map header_line mail.headers
+-- the lines of a part: its own, and then one for each header
+abbrev pub part_text : ℕ → Node → List ℕ
+part_text number part = part_line number part ++ flat_map header_line part.headers
 
--- the text of the message that was read
-abbrev pub text_of_read : Result Mail Refusal → Result (List ℕ) Refusal
-text_of_read (Ok mail) = Ok (mail_text mail)
-text_of_read (Err refusal) = Err refusal
+-- the lines of several parts, numbered from there on
+abbrev pub parts_text : ℕ → List Node → List ℕ
+parts_text number [] = []
+parts_text number (part ∷ parts) = part_text number part ++ parts_text (suc number) parts
+
+-- the text of a message: its own lines, and then those of its parts, each before its own parts
+abbrev pub mail_text : Tree → List ℕ
+mail_text mail = parts_text 0 (nodes mail)
 
 -- what the program shows of its input, or the refusal that it names
-unfoldable pub shown : List ℕ → Result (List ℕ) Refusal
-shown input = text_of_read (read_mail input)
+unfoldable pub shown : List ℕ → Reads (List ℕ)
+shown input = read_map mail_text (read_mail input)

@@ -1,35 +1,74 @@
 //! The text that shows a message.
-ghost use Rattle.std.specs.Prelude.{◌≡◌, ◌++◌, string_bytes, IfErr, OnOk};
-ghost use Rattle.mail_show.specs.Shown.{header_line, mail_line, mail_text};
+ghost use Rattle.std.specs.Prelude.{◌≡◌, ◌++◌, length, string_bytes, IfErr, IfOk, OnOk};
+ghost use Rattle.mail_show.specs.Shown.{header_line, mail_text, part_line, part_text};
+ghost use Rattle.mailparse.specs.Mail.{root};
 ghost use Rattle.mailparse.specs.Outcome.{GivesText, IsMemory};
-ghost use Rattle.mailparse.specs.Views.{mail};
+ghost use Rattle.mailparse.specs.Views.{tree_of};
 
+use mailparse::body::Body;
 use mailparse::{MailHeader, MailParseError, ParsedMail};
-use std::alloc::{AllocError, Global};
+use std::alloc::Global;
 
-/// The text of a message: a line for the message, and one for each of its headers.
+/// The text of a message: the lines of the message itself, and then those of its parts, each before
+/// its own parts.
 pub fn text_of(alloc: Global, parsed: &ParsedMail<'_>) -> Result<String, MailParseError>
-    ensures { GivesText result (mail_text (mail parsed.now)) }
+    ensures { GivesText result (mail_text (tree_of parsed.now)) }
 {
     let mut text = String::new(alloc);
-    push_mail_line(&mut text, parsed)?;
-    for field in &parsed.headers {
-        push_header_line(alloc, &mut text, field)?;
+    let mut number = 0;
+    for part in parsed.parts(alloc)? {
+        push_part(alloc, &mut text, number, part)?;
+        number += 1;
     }
     Ok(text)
 }
 
-/// Writes the line of the message itself.
-#[tactic(auto, unfolding(crate::specs::Shown::mail_line))]
-fn push_mail_line(text: &mut String, parsed: &ParsedMail<'_>) -> Result<(), AllocError>
-    ensures { OnOk result (string_bytes text.new ≡ string_bytes text.old ++ mail_line (mail parsed.now)) }
+/// Writes the lines of a part: its own, and one for each of its headers.
+fn push_part(
+    alloc: Global,
+    text: &mut String,
+    number: u64,
+    part: &ParsedMail<'_>,
+) -> Result<(), MailParseError>
+    ensures ok { OnOk result (string_bytes text.new ≡ string_bytes text.old ++ part_text number (root (tree_of part.now))) }
+    ensures fault { IfErr result IsMemory }
 {
-    let headers = parsed.headers.len();
-    let body = parsed
-        .raw_bytes
-        .len()
-        .saturating_sub(parsed.get_headers().get_raw_bytes().len());
-    write!(text, "part 0: {headers} headers, {body} body bytes\n")
+    push_part_line(alloc, text, number, part)?;
+    for field in &part.headers {
+        push_header_line(alloc, text, field)?;
+    }
+    Ok(())
+}
+
+/// Writes the line of a part: its number, its type, and how many headers and body bytes it has.
+#[tactic(auto, unfolding(crate::specs::Shown::part_line))]
+fn push_part_line(
+    alloc: Global,
+    text: &mut String,
+    number: u64,
+    part: &ParsedMail<'_>,
+) -> Result<(), MailParseError>
+    ensures ok { OnOk result (string_bytes text.new ≡ string_bytes text.old ++ part_line number (root (tree_of part.now))) }
+    ensures fault { IfErr result IsMemory }
+{
+    let headers = part.headers.len();
+    let body = body_length(alloc, part)?;
+    write!(text, "part {number}: {}, {headers} headers, {body} body bytes\n", part.ctype.mimetype)?;
+    Ok(())
+}
+
+/// How many bytes the body of a part has, as it stands in the message.
+fn body_length(alloc: Global, part: &ParsedMail<'_>) -> Result<usize, MailParseError>
+    ensures ok { IfOk result (λ bytes. bytes ≡ length (root (tree_of part.now)).body) }
+    ensures fault { IfErr result IsMemory }
+{
+    match part.get_body_encoded(alloc)? {
+        Body::Base64(body) => Ok(body.get_raw().len()),
+        Body::QuotedPrintable(body) => Ok(body.get_raw().len()),
+        Body::SevenBit(body) => Ok(body.get_raw().len()),
+        Body::EightBit(body) => Ok(body.get_raw().len()),
+        Body::Binary(body) => Ok(body.get_raw().len()),
+    }
 }
 
 /// Writes the line of a header: the texts of its key and of its value.

@@ -2,7 +2,7 @@ use Rattle.std.proofs.Common.{ℕ, List, subst, sym, ap, ◌∙◌}
 use Rattle.std.proofs.lemmas.Result.{err_from_is_err_and}
 use Rattle.mailparse.specs.Mail.{read_mail}
 use Rattle.mailparse.specs.Outcome.{IsRefusalOrMemory}
-use Rattle.mailparse.specs.Views.{mail}
+use Rattle.mailparse.specs.Views.{tree_of}
 use Rattle.mail_show.proofs.RunLemmas.{run-refused, run-shown, text-of_ok, OnOk-at}
 use Rattle.mail_show.proofs.run.run.Goals as goal
 
@@ -14,6 +14,6 @@ returns-in_err-parsed g c =
 
 pub returns : goal.returns
 returns g c =
-    run-shown _ _ _ _ _ c.in_ok-input.input.items _ (mail c.in_ok-parsed.parsed) c.in_ok-input.ensures
+    run-shown _ _ _ _ _ c.in_ok-input.input.items _ (tree_of c.in_ok-parsed.parsed) c.in_ok-input.ensures
     (ap read_mail (sym c.as_slice.ensures.value) ∙ c.in_ok-parsed.ensures.read) (c.as_bytes.ensures.value ∙ text-of_ok _ _ c.in_ok-text.ensures)
     (OnOk-at _ c.write_all.result (sym c.is_err.ensures.value ∙ c.if-is_err.false) c.write_all.ensures.bytes) c.flush.ensures.bytes
