@@ -11,15 +11,14 @@ use Rattle.mailparse.specs.Value.{lenient_value}
 unfoldable pub header_line : Header → List ℕ
 header_line header = codes "  " ++ key_text header ++ codes ": " ++ lenient_value header.value ++ codes "\n"
 
--- the line of the part with this number: its type, how many headers it has, and how many bytes its body has
-unfoldable pub part_line : ℕ → Node → List ℕ
-part_line number part =
-    codes "part " ++ decimal number ++ codes ": " ++ part.ctype.mimetype ++ codes ", " ++ decimal (length part.headers) ++ codes " headers, "
-    ++ decimal (length part.body) ++ codes " body bytes\n"
+-- the line of the part with this number, type, and numbers of headers and of bytes of its body
+unfoldable pub part_line : ℕ → List ℕ → ℕ → ℕ → List ℕ
+part_line number mimetype headers body =
+    codes "part " ++ decimal number ++ codes ": " ++ mimetype ++ codes ", " ++ decimal headers ++ codes " headers, " ++ decimal body ++ codes " body bytes\n"
 
 -- the lines of a part: its own, and then one for each header
 abbrev pub part_text : ℕ → Node → List ℕ
-part_text number part = part_line number part ++ flat_map header_line part.headers
+part_text number part = part_line number part.ctype.mimetype (length part.headers) (length part.body) ++ flat_map header_line part.headers
 
 -- the lines of several parts, numbered from there on
 abbrev pub parts_text : ℕ → List Node → List ℕ

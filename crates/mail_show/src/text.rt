@@ -7,7 +7,7 @@ ghost use Rattle.mailparse.specs.Views.{tree_of};
 
 use mailparse::body::Body;
 use mailparse::{MailHeader, MailParseError, ParsedMail};
-use std::alloc::Global;
+use std::alloc::{AllocError, Global};
 
 /// The text of a message: the lines of the message itself, and then those of its parts, each before
 /// its own parts.
@@ -33,7 +33,9 @@ fn push_part(
     ensures ok { OnOk result (string_bytes text.new ≡ string_bytes text.old ++ part_text number (root (tree_of part.now))) }
     ensures fault { IfErr result IsMemory }
 {
-    push_part_line(alloc, text, number, part)?;
+    let headers = part.headers.len();
+    let body = body_length(alloc, part)?;
+    push_part_line(text, number, part.ctype.mimetype.as_str(), headers, body)?;
     for field in &part.headers {
         push_header_line(alloc, text, field)?;
     }
@@ -43,18 +45,15 @@ fn push_part(
 /// Writes the line of a part: its number, its type, and how many headers and body bytes it has.
 #[tactic(auto, unfolding(crate::specs::Shown::part_line))]
 fn push_part_line(
-    alloc: Global,
     text: &mut String,
     number: u64,
-    part: &ParsedMail<'_>,
-) -> Result<(), MailParseError>
-    ensures ok { OnOk result (string_bytes text.new ≡ string_bytes text.old ++ part_line number (root (tree_of part.now))) }
-    ensures fault { IfErr result IsMemory }
+    mimetype: &str,
+    headers: usize,
+    body: usize,
+) -> Result<(), AllocError>
+    ensures { OnOk result (string_bytes text.new ≡ string_bytes text.old ++ part_line number mimetype.now headers body) }
 {
-    let headers = part.headers.len();
-    let body = body_length(alloc, part)?;
-    write!(text, "part {number}: {}, {headers} headers, {body} body bytes\n", part.ctype.mimetype)?;
-    Ok(())
+    write!(text, "part {number}: {mimetype}, {headers} headers, {body} body bytes\n")
 }
 
 /// How many bytes the body of a part has, as it stands in the message.
