@@ -4,6 +4,9 @@ ghost use Rattle.std.specs.List.{flat_map};
 ghost use Rattle.std.specs.Str.{IsUtf8};
 ghost use Rattle.mailparse.specs.Header.{Header, read_header};
 ghost use Rattle.mailparse.specs.Block.{HeaderList, header_count, header_place, read_headers};
+ghost use Rattle.mailparse.specs.ContentType.{ContentType};
+ghost use Rattle.mailparse.specs.Mail.{cut_of};
+ghost use Rattle.mailparse.specs.Ranges.{Apart};
 ghost use Rattle.mail_codec.specs.Charset.{Charsets};
 ghost use Rattle.mailparse.specs.Pairs.{pairs_of, value_of};
 ghost use Rattle.mailparse.specs.Pieces.{ArePieces, pieces};
@@ -70,6 +73,17 @@ pub fn adjacent_words_join()
     ensures line_end_between { (before rest : List Token) (first gap second : List ℕ) →
         shown_tokens (before ++ word first ∷ white gap ∷ newline ∷ white [] ∷ word second ∷ rest)
         ≡ shown_tokens (before ++ word first ∷ word second ∷ rest) }
+{}
+
+/// The body and the parts of a message stand at ranges of its bytes that lie apart, in order, after
+/// its header block: before each part stand three bytes or more that are in none of them, those of a
+/// delimiter and its line end.
+pub fn parts_apart()
+    ensures { (ctype : ContentType) (bytes : List ℕ) (block : HeaderList) →
+        read_headers bytes ≡ Ok block →
+        let cut = cut_of ctype bytes block.index in
+        (cut.body.start ≡ block.index) × (block.index ≤ cut.body.end)
+        × Apart 3 cut.body.end cut.parts (length bytes) }
 {}
 
 /// A value of printable ASCII that does not begin with a space and holds no `=?` reads as itself.

@@ -17,6 +17,8 @@ mod messages;
 #[cfg(test)]
 mod parameters;
 #[cfg(test)]
+mod parts;
+#[cfg(test)]
 mod readme;
 #[cfg(test)]
 mod texts;

@@ -19,3 +19,4 @@ pub mod Pairs
 pub mod Copied
 pub mod Types
 pub mod Trees
+pub mod Apart

@@ -1,5 +1,5 @@
 -- Ranges of places in a list of bytes; the project's own words.
-use Rattle.std.specs.Prelude.{ℕ, List, slice_range}
+use Rattle.std.specs.Prelude.{ℕ, ◌+◌, ◌≤◌, List, [], ◌∷◌, slice_range}
 
 -- the bytes from one place up to, and not including, another
 pub record Range : Type 0 where
@@ -9,3 +9,8 @@ pub record Range : Type 0 where
 -- the bytes that stand there
 abbrev pub slice : List ℕ → Range → List ℕ
 slice bytes range = slice_range bytes range.start range.end
+
+-- the ranges stand one after another between two places, with so many bytes or more before each of them
+abbrev pub Apart : ℕ → ℕ → List Range → ℕ → Type 0
+Apart gap from [] to = from ≤ to
+Apart gap from (r ∷ rs) to = (from + gap ≤ r.start) × (r.start ≤ r.end) × Apart gap r.end rs to

@@ -1,5 +1,5 @@
 //! A message: its header block, its type, its body and its parts.
-ghost use Rattle.std.specs.Prelude.{◌≡◌, ◌<◌, ◌∷◌, option_map, IfErr, IfOk, IsErr, Ok};
+ghost use Rattle.std.specs.Prelude.{◌≡◌, ◌<◌, ◌^◌, ◌∷◌, length, option_map, IfErr, IfOk, IsErr, Ok};
 ghost use Rattle.mail_codec.specs.Charset.{four_charsets};
 ghost use Rattle.mailparse.specs.Block.{header_count, read_headers};
 ghost use Rattle.mailparse.specs.BodyViews.{IsBody, content_of};
@@ -122,7 +122,8 @@ impl<'a> ParsedMail<'a> {
     /// The message itself, and then its parts, each before its own parts. Takes memory for the list
     /// of them; the one error is that memory ran out.
     pub fn parts<'m>(&'m self, alloc: Global) -> Result<PartsIterator<'m, 'a>, MailParseError>
-        ensures { AnswersOrMemory trees_left result (Ok (trees_within (tree_of self.now))) }
+        ensures parts { AnswersOrMemory trees_left result (Ok (trees_within (tree_of self.now))) }
+        ensures few { IfOk result (λ iterator. length (trees_left iterator) < 2 ^ 64) }
     {
         let mut parts = Vec::new(alloc);
         push_parts(self, &mut parts)?;
