@@ -1,27 +1,24 @@
-#!/usr/bin/env python3
-"""Makes the list of answers that the program body_answers reads.
+"""Answers on bodies: lines `body ENCODING LABEL BODY KIND DECODED TEXT`.
 
-    tools/make_body_answers.py ORACLE [SEED] > crates/body_answers/stdin
+ENCODING is the transfer encoding, `-` for none, LABEL that of the charset, KIND the kind that the
+encoding chooses; DECODED and TEXT are `d` and the bytes that the body stands for, and their text in
+UTF-8, or `e` and the number of the first group of four that is not one.
 
-ORACLE is a program that answers records as oracle_batch.py says. To `body` and a transfer encoding, a
-zero byte, a charset label, a zero byte and a body it answers the lines `kind NAME`, the kind that
-the encoding chooses, `decoded ok HEX` and `text ok HEX`, the bytes that the body stands for and their
-text in UTF-8, or `decoded err` and `text err` with an error that says `group N`; HEX is two
-hexadecimal digits for each byte, or `-`. An empty encoding stands for none. The list was made with
-the Rust crate mailparse 0.18.0 behind such a program, its Base64 errors replaced by the number of
-the first group of four that is none.
+To `body` and a transfer encoding, a zero byte, a charset label, a zero byte and a body the oracle
+answers the lines `kind NAME`, `decoded ok HEX` and `text ok HEX`, or `decoded err` and `text err`
+with an error that says `group N`; HEX is two hexadecimal digits for each byte, or `-`. An empty
+encoding stands for none.
 
 The bodies are short and hostile ones for each kind and label: chosen ones, one for each edge of the
 rules; ones made at random of pieces that matter; and ones of these two with a few bytes changed.
-The same seed gives the same list.
 """
 import base64
 import random
 import re
-import sys
 
-from oracle_batch import add_new, answers, hex_or_dash
+from .oracle import add_new, answers, hex_or_dash
 
+SEED = 2045
 MADE = 240
 MUTATED = 160
 
@@ -138,14 +135,11 @@ def outcome(line, name):
     return "e" + re.fullmatch(name + r" err .*group (\d+) .*", line).group(1)
 
 
-def main():
-    program = sys.argv[1]
-    seed = int(sys.argv[2]) if len(sys.argv) > 2 else 2045
+def lines(oracle, seed):
+    """The lines of the list."""
     inputs = questions(seed)
-    replies = answers(program, "body", [b"\0".join(question) for question in inputs])
+    replies = answers(oracle, "body", [b"\0".join(question) for question in inputs])
     for question, (kind, decoded, text) in zip(inputs, replies):
-        print(*map(hex_or_dash, question), kind[len("kind "):], outcome(decoded, "decoded"), outcome(text, "text"))
-
-
-if __name__ == "__main__":
-    main()
+        asked = " ".join(map(hex_or_dash, question))
+        kind = kind[len("kind "):]
+        yield f"body {asked} {kind} {outcome(decoded, 'decoded')} {outcome(text, 'text')}"

@@ -1,24 +1,21 @@
-#!/usr/bin/env python3
-"""Makes the list of answers that the program value_answers reads.
+"""Answers on the values of headers: lines `value VALUE TEXT STRICT`.
 
-    tools/make_value_answers.py ORACLE [SEED] > crates/value_answers/stdin
+VALUE is what stands after the colon of a header, TEXT what its value shows, and STRICT the same where
+the value has to be UTF-8, `!` where it is refused.
 
-ORACLE is a program that answers records as oracle_batch.py says. To `header` and the bytes of a
-header it answers, among others, the lines `value HEX`, the text of the header's value, and
-`utf8 ok HEX` or `utf8 err ..`, the same where the value has to be UTF-8; HEX is two hexadecimal
-digits for each byte of UTF-8, or `-`. The list was made with the Rust crate mailparse 0.18.0 behind
-such a program.
+To `header` and the bytes of a header the oracle answers, among others, the lines `value HEX`, the
+text of the header's value, and `utf8 ok HEX` or `utf8 err ..`, the same where the value has to be
+UTF-8; HEX is two hexadecimal digits for each byte of UTF-8, or `-`.
 
 The values are of three kinds: chosen ones, one for each edge of the rules; ones made by a grammar
-of words, white space and folds; and ones of these two with a few bytes changed. The same seed
-gives the same list.
+of words, white space and folds; and ones of these two with a few bytes changed.
 """
 import base64
 import random
-import sys
 
-from oracle_batch import add_new, answers, hex_or_dash
+from .oracle import add_new, answers, hex_or_dash
 
+SEED = 2047
 MADE = 360
 MUTATED = 300
 
@@ -214,16 +211,11 @@ def field(lines, name):
     return next(line[len(name) + 1:] for line in lines if line.startswith(name + " "))
 
 
-def main():
-    program = sys.argv[1]
-    seed = int(sys.argv[2]) if len(sys.argv) > 2 else 2047
+def lines(oracle, seed):
+    """The lines of the list."""
     inputs = values(seed)
-    replies = answers(program, "header", [b"X:" + value for value in inputs])
-    for value, lines in zip(inputs, replies):
-        strict = field(lines, "utf8")
+    replies = answers(oracle, "header", [b"X:" + value for value in inputs])
+    for value, reply in zip(inputs, replies):
+        strict = field(reply, "utf8")
         strict = strict[len("ok "):] if strict.startswith("ok ") else "!"
-        print(hex_or_dash(value), field(lines, "value"), strict)
-
-
-if __name__ == "__main__":
-    main()
+        yield f"value {hex_or_dash(value)} {field(reply, 'value')} {strict}"
