@@ -22,7 +22,7 @@ failed=0
 
 # build CRATE: builds a program
 build() {
-    if ! (cd "$top/crates/$1" && rt run < /dev/null) > "$work/build" 2>&1 && [ ! -x "$top/crates/$1/out/$1" ]; then
+    if ! (cd "$top/crates/$1" && rt run < /dev/null) > "$work/build" 2>&1; then
         cat "$work/build" >&2
         echo "refuse_memory.sh: $1 was not built" >&2
         exit 1

@@ -28,24 +28,25 @@ pub enum LineFault {
 impl LineFault {
     /// Whether memory ran out.
     pub fn is_memory(&self) -> bool {
-        matches!(
-            self,
-            LineFault::Memory(_)
-                | LineFault::Mail(MailParseError::Memory(_))
-                | LineFault::Hex(FromHexError::OutOfMemory)
-        )
+        matches!(self, LineFault::Memory(_))
     }
 }
 
 impl From<FromHexError> for LineFault {
     fn from(e: FromHexError) -> LineFault {
-        LineFault::Hex(e)
+        match e {
+            FromHexError::OutOfMemory => LineFault::Memory(AllocError),
+            e => LineFault::Hex(e),
+        }
     }
 }
 
 impl From<MailParseError> for LineFault {
     fn from(e: MailParseError) -> LineFault {
-        LineFault::Mail(e)
+        match e {
+            MailParseError::Memory(e) => LineFault::Memory(e),
+            e => LineFault::Mail(e),
+        }
     }
 }
 

@@ -80,7 +80,7 @@ fn push_refusal(alloc: Global, line: &mut String, e: MailParseError) -> Result<(
             let group = fault.group;
             write!(line, "e{group}")?;
         }
-        e => return Err(LineFault::Mail(e)),
+        e => return Err(LineFault::from(e)),
     }
     Ok(())
 }

@@ -15,44 +15,31 @@ mod body;
 mod fault;
 mod field;
 mod judge;
+mod replay;
 mod value;
 
-use judge::{Verdict, judge_again};
-use std::env;
-use std::io::{self, BufRead, BufReader};
+use replay::replay;
 use std::process::ExitCode;
+use std::{env, io};
 
 /// How often a line is tried again with `again`.
 const TIMES: u32 = 1000;
 
-fn main(rt: HostRuntime) -> io::Result<ExitCode> {
-    let alloc = rt.alloc();
-    let word = env::args(&rt)?.nth(1);
-    let times = if word.is_some_and(|word| word.as_str() == "again") {
-        TIMES
-    } else {
-        0
+fn main(rt: HostRuntime) -> ExitCode {
+    let times = match env::args(&rt).map(|mut words| words.nth(1)) {
+        Ok(Some(word)) if word.as_str() == "again" => TIMES,
+        Ok(_) => 0,
+        Err(fault) => {
+            let _ = eprintln!(rt; "answers: {fault}");
+            return ExitCode::FAILURE;
+        }
     };
-    let mut lines = 0u64;
-    let mut agreed = 0u64;
-    for line in BufReader::new(alloc, rt.reader())?.lines(alloc) {
-        let line = line?;
-        lines = lines.saturating_add(1);
-        match judge_again(alloc, line.as_str(), times) {
-            Ok(Verdict::Agrees) => agreed = agreed.saturating_add(1),
-            Ok(Verdict::Differs(found)) => {
-                println!(rt; "line {lines}: wants {line}\nline {lines}: finds {found}")?
-            }
-            Err(fault) => {
-                eprintln!(rt; "answers: line {lines}: {fault}")?;
-                return Ok(ExitCode::FAILURE);
-            }
+    match replay(rt.alloc(), rt.reader(), &mut io::writer(&rt), times) {
+        Ok(true) => ExitCode::SUCCESS,
+        Ok(false) => ExitCode::FAILURE,
+        Err(fault) => {
+            let _ = eprintln!(rt; "answers: {fault}");
+            ExitCode::FAILURE
         }
     }
-    println!(rt; "{agreed} of {lines} answers agree")?;
-    Ok(if agreed == lines {
-        ExitCode::SUCCESS
-    } else {
-        ExitCode::FAILURE
-    })
 }
