@@ -1,11 +1,11 @@
-//! Lines on bodies: `body ENCODING LABEL BODY KIND DECODED TEXT`. ENCODING is the transfer encoding,
-//! `-` for none, LABEL that of the charset, KIND the kind of the body; DECODED and TEXT are `d` and
-//! bytes, or `e` and the number of the Base64 group that is refused.
-ghost use Rattle.std.specs.Prelude.{◌≡◌, ◌++◌, IfOk, OnOk, string_bytes, Ok};
+//! Lines on bodies: `body ENCODING LABEL BODY KIND DECODED TEXT`. ENCODING is the transfer
+//! encoding, `-` for none, LABEL that of the charset, KIND the kind of the body; DECODED and TEXT
+//! are `d` and bytes, or `e` and the number of the Base64 group that is refused.
+ghost use Rattle.std.specs.Prelude.{◌≡◌, IfOk, string_bytes, Ok};
 ghost use Rattle.answers.specs.Fields.{option_field};
 ghost use Rattle.answers.specs.Holds.{Holds};
 ghost use Rattle.answers.specs.Lines.{body_fields, body_line, body_question, reading_fields};
-ghost use Rattle.answers.specs.Outcomes.{SameOutcome};
+ghost use Rattle.answers.specs.Outcomes.{SameOutcome, Writes};
 ghost use Rattle.mailparse.specs.Body.{BodyKind, decoded, decoded_text};
 ghost use Rattle.mailparse.specs.BodyViews.{Content, IsBody, encoded_content, encoded_kind, name_of};
 
@@ -41,7 +41,8 @@ fn line_on(
     label: &String,
     body: &[u8],
 ) -> Result<String, LineFault>
-    ensures { IfOk result (λ line. string_bytes line ≡ body_line (name_of encoding.now) (string_bytes label.now) body.now) }
+    ensures { IfOk result (λ line. string_bytes line ≡
+        body_line (name_of encoding.now) (string_bytes label.now) body.now) }
 {
     let ctype = type_labelled(alloc, label)?;
     let mut line = question_on(alloc, encoding, label, body)?;
@@ -57,7 +58,8 @@ fn question_on(
     label: &String,
     body: &[u8],
 ) -> Result<String, AllocError>
-    ensures { IfOk result (λ line. string_bytes line ≡ body_question (name_of encoding.now) (string_bytes label.now) body.now) }
+    ensures { IfOk result (λ line. string_bytes line ≡
+        body_question (name_of encoding.now) (string_bytes label.now) body.now) }
 {
     let mut line = String::from_str(alloc, "body ")?;
     push_encoding(alloc, &mut line, encoding)?;
@@ -84,7 +86,7 @@ fn push_encoding(
     line: &mut String,
     encoding: &Option<String>,
 ) -> Result<(), AllocError>
-    ensures { OnOk result (string_bytes line.new ≡ string_bytes line.old ++ option_field (name_of encoding.now)) }
+    ensures { Writes result line.old line.new (option_field (name_of encoding.now)) }
 {
     match encoding {
         Some(name) => push_digits(alloc, line, name.as_bytes()),
@@ -94,8 +96,9 @@ fn push_encoding(
 
 /// Writes what the library says of a body. The bytes of a body that is not encoded are its own.
 fn push_reading(alloc: Global, line: &mut String, body: Body<'_>) -> Result<(), LineFault>
-    ensures { (kind : BodyKind) (content : Content) → IsBody kind content body.entry → OnOk result
-        (string_bytes line.new ≡ string_bytes line.old ++ reading_fields kind (string_bytes content.ctype.charset) content.raw) }
+    ensures { (kind : BodyKind) (content : Content) → IsBody kind content body.entry →
+        Writes result line.old line.new
+        (reading_fields kind (string_bytes content.ctype.charset) content.raw) }
 {
     match body {
         Body::Base64(body) => push_encoded(alloc, line, "base64", body),
@@ -137,9 +140,9 @@ fn push_encoded(
     kind: &str,
     body: EncodedBody<'_>,
 ) -> Result<(), LineFault>
-    ensures { let content = encoded_content body.entry in let kind_of = encoded_kind body.entry in OnOk result
-        (string_bytes line.new ≡ string_bytes line.old ++ body_fields kind.now
-        (decoded kind_of content.raw) (decoded_text kind_of (string_bytes content.ctype.charset) content.raw)) }
+    ensures { let content = encoded_content body.entry in let coding = encoded_kind body.entry in
+        Writes result line.old line.new (body_fields kind.now (decoded coding content.raw)
+        (decoded_text coding (string_bytes content.ctype.charset) content.raw)) }
 {
     line.push_str(kind)?;
     line.push_str(" ")?;
@@ -170,8 +173,8 @@ fn push_plain(
     raw: &[u8],
     text: String,
 ) -> Result<(), LineFault>
-    ensures { OnOk result
-        (string_bytes line.new ≡ string_bytes line.old ++ body_fields kind.now (Ok raw.now) (Ok (string_bytes text))) }
+    ensures { Writes result line.old line.new
+        (body_fields kind.now (Ok raw.now) (Ok (string_bytes text))) }
 {
     line.push_str(kind)?;
     line.push_str(" d")?;

@@ -1,8 +1,8 @@
 //! The fields of a line, read and written.
-ghost use Rattle.std.specs.Prelude.{◌≡◌, ◌++◌, OnOk, Err, string_bytes};
+ghost use Rattle.std.specs.Prelude.{Err};
 ghost use Rattle.hex.specs.Hex.{encode_lower};
 ghost use Rattle.answers.specs.Fields.{bytes_field};
-ghost use Rattle.answers.specs.Outcomes.{WritesOutcome};
+ghost use Rattle.answers.specs.Outcomes.{Writes, WritesOutcome};
 
 use crate::fault::LineFault;
 use mailparse::MailParseError;
@@ -28,7 +28,7 @@ pub fn text_of(alloc: Global, field: Option<&str>) -> Result<String, LineFault> 
 
 /// Writes bytes in hexadecimal.
 pub fn push_digits(alloc: Global, line: &mut String, bytes: &[u8]) -> Result<(), AllocError>
-    ensures { OnOk result (string_bytes line.new ≡ string_bytes line.old ++ encode_lower bytes.now) }
+    ensures { Writes result line.old line.new (encode_lower bytes.now) }
 {
     let digits = hex::encode(alloc, bytes)?;
     line.push_str(digits.as_str())
@@ -36,7 +36,7 @@ pub fn push_digits(alloc: Global, line: &mut String, bytes: &[u8]) -> Result<(),
 
 /// Writes bytes in hexadecimal, a dash for none.
 pub fn push_bytes(alloc: Global, line: &mut String, bytes: &[u8]) -> Result<(), AllocError>
-    ensures { OnOk result (string_bytes line.new ≡ string_bytes line.old ++ bytes_field bytes.now) }
+    ensures { Writes result line.old line.new (bytes_field bytes.now) }
 {
     if bytes.is_empty() {
         line.push_str("-")
@@ -51,7 +51,7 @@ pub fn push_outcome(
     line: &mut String,
     outcome: Result<Vec<u8>, MailParseError>,
 ) -> Result<(), LineFault>
-    ensures { OnOk result (WritesOutcome outcome (string_bytes line.old) (string_bytes line.new)) }
+    ensures { WritesOutcome outcome result line.old line.new }
 {
     match outcome {
         Ok(bytes) => {
@@ -65,7 +65,7 @@ pub fn push_outcome(
 
 /// Writes a refusal. Memory that ran out is none, nor is a fault of quoted-printable.
 fn push_refusal(alloc: Global, line: &mut String, e: MailParseError) -> Result<(), LineFault>
-    ensures { OnOk result (WritesOutcome (Err e) (string_bytes line.old) (string_bytes line.new)) }
+    ensures { WritesOutcome (Err e) result line.old line.new }
 {
     match e {
         MailParseError::Generic(text) => {

@@ -1,14 +1,14 @@
 //! Replays lists of answers on standard input, and says how many agree and which do not: the first
-//! word of a line names a call of the library, the next ones are what it is asked, and the last ones
-//! what it answers. Bytes, and texts as their UTF-8, are in hexadecimal, `-` for none; each module
-//! named after a call says what its lines hold.
+//! word of a line names a call of the library, the next ones are what it is asked, and the last
+//! ones what it answers. Bytes, and texts as their UTF-8, are in hexadecimal, `-` for none; each
+//! module named after a call says what its lines hold.
 //!
 //! With the argument `again` a line for which memory ran out is tried again, as long as that may
 //! help: whoever refuses memory now and then sees that the answers stay the same.
 //!
-//! tools/make_answers.py made the list in the file `stdin`, with the code of the Rust crate mailparse
-//! 0.18.0 changed where docs/DIFFERENCES.md says that this port differs; quoted-printable came from a
-//! stand-in.
+//! tools/make_answers.py made the list in the file `stdin`, with the code of the Rust crate
+//! mailparse 0.18.0 changed where docs/DIFFERENCES.md says that this port differs; quoted-printable
+//! came from a stand-in.
 #![tactic(auto)]
 
 mod body;

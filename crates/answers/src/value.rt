@@ -1,10 +1,10 @@
 //! Lines on the values of headers: `value VALUE TEXT STRICT`. VALUE is what stands after the colon
 //! of a header, TEXT what `get_value` answers, STRICT what `get_value_utf8` answers, `!` where it
 //! refuses.
-ghost use Rattle.std.specs.Prelude.{◌≡◌, ◌++◌, IfOk, OnOk, codes, string_bytes};
+ghost use Rattle.std.specs.Prelude.{◌≡◌, ◌++◌, IfOk, codes, string_bytes};
 ghost use Rattle.answers.specs.Holds.{Holds};
 ghost use Rattle.answers.specs.Lines.{strict_field, value_line, value_texts};
-ghost use Rattle.answers.specs.Outcomes.{IsStrict};
+ghost use Rattle.answers.specs.Outcomes.{IsStrict, Writes};
 ghost use Rattle.mailparse.specs.Value.{strict_value};
 
 use crate::fault::LineFault;
@@ -46,7 +46,7 @@ fn raw_header(alloc: Global, value: &[u8]) -> Result<Vec<u8>, AllocError>
 
 /// Writes the texts of a header's value.
 fn push_texts(alloc: Global, line: &mut String, header: &MailHeader<'_>) -> Result<(), LineFault>
-    ensures { OnOk result (string_bytes line.new ≡ string_bytes line.old ++ value_texts header.now.value) }
+    ensures { Writes result line.old line.new (value_texts header.now.value) }
 {
     push_bytes(alloc, line, header.get_value(alloc)?.as_bytes())?;
     line.push_str(" ")?;
@@ -55,7 +55,7 @@ fn push_texts(alloc: Global, line: &mut String, header: &MailHeader<'_>) -> Resu
 
 /// Writes what the strict reading of a header's value gives.
 fn push_strict(alloc: Global, line: &mut String, header: &MailHeader<'_>) -> Result<(), LineFault>
-    ensures { OnOk result (string_bytes line.new ≡ string_bytes line.old ++ strict_field (strict_value header.now.value)) }
+    ensures { Writes result line.old line.new (strict_field (strict_value header.now.value)) }
 {
     match strict_text(alloc, header)? {
         Some(text) => push_bytes(alloc, line, text.as_bytes())?,
