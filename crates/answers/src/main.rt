@@ -19,8 +19,9 @@ mod replay;
 mod value;
 
 use replay::replay;
+use std::env;
+use std::io::{self, BufReader};
 use std::process::ExitCode;
-use std::{env, io};
 
 /// How often a line is tried again with `again`.
 const TIMES: u32 = 1000;
@@ -34,7 +35,14 @@ fn main(rt: HostRuntime) -> ExitCode {
             return ExitCode::FAILURE;
         }
     };
-    match replay(rt.alloc(), rt.reader(), &mut io::writer(&rt), times) {
+    let reader = match BufReader::new(rt.alloc(), rt.reader()) {
+        Ok(reader) => reader,
+        Err(fault) => {
+            let _ = eprintln!(rt; "answers: {fault}");
+            return ExitCode::FAILURE;
+        }
+    };
+    match replay(rt.alloc(), reader, &mut io::writer(&rt), times) {
         Ok(true) => ExitCode::SUCCESS,
         Ok(false) => ExitCode::FAILURE,
         Err(fault) => {
