@@ -32,6 +32,15 @@ def bodies():
     yield "escapes", filled(b"=C3=A9=E2=82=AC" * 5 + b"=\r\n", 10_000_000)
 
 
-for name, body in bodies():
-    with open(os.path.join(sys.argv[1], name), "wb") as file:
-        file.write(body)
+def main():
+    if len(sys.argv) != 2 or not os.path.isdir(sys.argv[1]):
+        print("usage: make_speed_bodies.py FOLDER", file=sys.stderr)
+        return 2
+    for name, body in bodies():
+        with open(os.path.join(sys.argv[1], name), "wb") as file:
+            file.write(body)
+    return 0
+
+
+if __name__ == "__main__":
+    sys.exit(main())

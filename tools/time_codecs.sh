@@ -1,17 +1,25 @@
 #!/bin/sh
-# time_codecs.sh [ORACLE]: builds codec_speed and prints the nanoseconds that the decoders take for
+# time_codecs.sh [ORACLE]: builds mail_speed and prints the nanoseconds that the decoders take for
 # each byte of large bodies, the least and the median of the rounds.
 #
 # With ORACLE, a program whose command `bench N` reads a mail from standard input and prints a line
 # `full ..`, the time of reading it and decoding its body, its times on the same bodies stand beside.
 set -eu
+if [ $# -gt 1 ]; then
+    echo 'usage: time_codecs.sh [ORACLE]' >&2
+    exit 2
+fi
 here=$(cd "$(dirname "$0")" && pwd)
 oracle=${1:-}
 rounds=${ROUNDS:-15}
-cd "$here/../crates/codec_speed"
-rt run -- base64 1 < /dev/null > /dev/null 2>&1
 work=$(mktemp -d)
 trap 'rm -rf "$work"' EXIT
+cd "$here/../crates/mail_speed"
+if ! rt run -- 1 white < /dev/null > "$work/build" 2>&1; then
+    cat "$work/build" >&2
+    echo 'time_codecs.sh: mail_speed was not built' >&2
+    exit 1
+fi
 python3 "$here/make_speed_bodies.py" "$work"
 
 # row BODY ENCODING WORK..: the times of each work on a body, and the oracle's on a mail with it
@@ -21,7 +29,7 @@ row() {
     shift 2
     for name; do
         printf '%-8s ' "$body"
-        out/codec_speed "$name" "$rounds" < "$work/$body" 2>&1 > /dev/null
+        out/mail_speed "$rounds" "$name" < "$work/$body" 2>&1 > /dev/null
     done
     if [ -n "$oracle" ]; then
         { printf 'Content-Transfer-Encoding: %s\r\n\r\n' "$encoding"; cat "$work/$body"; } > "$work/mail"

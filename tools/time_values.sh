@@ -5,12 +5,20 @@
 # With ORACLE, a program whose command `value` reads one value from standard input, its time on the
 # smallest size stands beside it; it gets at most two minutes.
 set -eu
+if [ $# -gt 1 ]; then
+    echo 'usage: time_values.sh [ORACLE]' >&2
+    exit 2
+fi
 here=$(cd "$(dirname "$0")" && pwd)
 oracle=${1:-}
-cd "$here/../crates/mail_show"
-rt run < /dev/null > /dev/null 2>&1
 work=$(mktemp -d)
 trap 'rm -rf "$work"' EXIT
+cd "$here/../crates/mail_show"
+if ! rt run < /dev/null > "$work/build" 2>&1; then
+    cat "$work/build" >&2
+    echo 'time_values.sh: mail_show was not built' >&2
+    exit 1
+fi
 
 # value TEXT BYTES: that many bytes of the text and a space, again and again
 value() {

@@ -90,18 +90,6 @@ static KINDS: [(&str, &str); 15] = [
     ("x-uuencode", "7bit"),
 ];
 
-/// Whether a body under this name has the kind, and the bytes and the label that were handed in.
-fn is_of_kind(alloc: Global, name: &str, kind: &str) -> Result<bool, MailParseError> {
-    let ctype = type_with(alloc, "X-Label")?;
-    let encoding = coding(alloc, name)?;
-    let body = Body::new(b"aG k=", &ctype, &encoding);
-    Ok(
-        kind_of(&body) == kind
-            && raw_of(&body) == b"aG k=".as_slice()
-            && label_of(&body) == "X-Label",
-    )
-}
-
 /// Whether a body under the empty name has the kind of one under none.
 fn is_plain_under_empty_name(alloc: Global) -> Result<bool, MailParseError> {
     let ctype = ParsedContentType::default(alloc)?;
@@ -111,8 +99,13 @@ fn is_plain_under_empty_name(alloc: Global) -> Result<bool, MailParseError> {
 
 #[test]
 fn the_kind_by_the_name_to_the_byte(rt: HostRuntime) -> Result<(), Fail> {
+    let ctype = type_with(rt.alloc(), "X-Label")?;
     for row in &KINDS {
-        assert!(rt; is_of_kind(rt.alloc(), row.0, row.1)?, "{row:?}");
+        let encoding = coding(rt.alloc(), row.0)?;
+        let body = Body::new(b"aG k=", &ctype, &encoding);
+        assert_eq!(rt; kind_of(&body), row.1, "{row:?}");
+        assert_eq!(rt; raw_of(&body), b"aG k=".as_slice(), "{row:?}");
+        assert_eq!(rt; label_of(&body), "X-Label", "{row:?}");
     }
     assert!(rt; is_plain_under_empty_name(rt.alloc())?);
     Ok(())
@@ -146,18 +139,17 @@ static BYTES: [BytesRow; 18] = [
     ("", b"aGk=", b"aGk="),
 ];
 
-/// Whether the body of such a row stands for its bytes.
-fn is_bytes_row(alloc: Global, (name, raw, bytes): &BytesRow) -> Result<bool, MailParseError> {
+/// The bytes that the body of such a row stands for.
+fn bytes_of_row(alloc: Global, (name, raw, _): &BytesRow) -> Result<Vec<u8>, MailParseError> {
     let ctype = ParsedContentType::default(alloc)?;
     let encoding = coding(alloc, name)?;
-    let answer = bytes_of(alloc, &Body::new(raw, &ctype, &encoding))?;
-    Ok(answer.as_slice() == *bytes)
+    bytes_of(alloc, &Body::new(raw, &ctype, &encoding))
 }
 
 #[test]
 fn decoded_bytes(rt: HostRuntime) -> Result<(), Fail> {
     for row in &BYTES {
-        assert!(rt; is_bytes_row(rt.alloc(), row)?, "{row:?}");
+        assert_eq!(rt; bytes_of_row(rt.alloc(), row)?.as_slice(), row.2, "{row:?}");
     }
     Ok(())
 }
@@ -172,35 +164,30 @@ static NO_BASE64: [(&[u8], usize); 6] = [
     (b"aG\xA0k=", 0),
 ];
 
-/// Whether an answer is the refusal that names this group.
-fn is_refusal<T: Drop>(
+/// The text of a refusal, or `read`.
+fn shown_refusal<T: Drop>(
     alloc: Global,
     answer: Result<T, MailParseError>,
-    group: usize,
-) -> Result<bool, AllocError> {
-    let Err(error) = answer else {
-        return Ok(false);
-    };
-    let shown = format!(in alloc; "{error}")?;
-    let wanted = format!(in alloc; "Base64 decode error: group {group} is no Base64 group")?;
-    Ok(shown == wanted)
-}
-
-/// Whether a body is refused by this group, as bytes and as text.
-fn is_refused(alloc: Global, raw: &[u8], group: usize) -> Result<bool, MailParseError> {
-    let ctype = ParsedContentType::default(alloc)?;
-    let encoding = coding(alloc, "base64")?;
-    let body = Body::new(raw, &ctype, &encoding);
-    Ok(
-        is_refusal(alloc, bytes_of(alloc, &body), group)?
-            && is_refusal(alloc, text_of(alloc, &body), group)?,
-    )
+) -> Result<String, AllocError> {
+    match answer {
+        Err(error) => format!(in alloc; "{error}"),
+        Ok(_) => String::from_str(alloc, "read"),
+    }
 }
 
 #[test]
 fn bodies_in_no_base64(rt: HostRuntime) -> Result<(), Fail> {
+    let alloc = rt.alloc();
+    let ctype = ParsedContentType::default(alloc)?;
+    let encoding = coding(alloc, "base64")?;
     for row in &NO_BASE64 {
-        assert!(rt; is_refused(rt.alloc(), row.0, row.1)?, "{row:?}");
+        let group = row.1;
+        let wanted = format!(in alloc; "Base64 decode error: group {group} is no Base64 group")?;
+        let body = Body::new(row.0, &ctype, &encoding);
+        let bytes = shown_refusal(alloc, bytes_of(alloc, &body))?;
+        assert_eq!(rt; bytes.as_str(), wanted.as_str(), "{row:?}");
+        let text = shown_refusal(alloc, text_of(alloc, &body))?;
+        assert_eq!(rt; text.as_str(), wanted.as_str(), "{row:?}");
     }
     Ok(())
 }
@@ -242,37 +229,23 @@ static TEXTS: [TextRow; 26] = [
     ("7bit", "iso-8859-1", b"", ""),
 ];
 
-/// Whether a body has this text.
-fn is_body_text(alloc: Global, body: &Body<'_>, wanted: &[u8]) -> Result<bool, MailParseError> {
-    let text = text_of(alloc, body)?;
-    Ok(text.as_bytes() == wanted)
-}
-
-/// Whether a body has this text, under the name of a coding and the label of a charset.
-fn has_text(
+/// The text of a body under the name of a coding and the label of a charset.
+fn text_under(
     alloc: Global,
     name: &str,
     label: &str,
     raw: &[u8],
-    wanted: &[u8],
-) -> Result<bool, MailParseError> {
+) -> Result<String, MailParseError> {
     let ctype = type_with(alloc, label)?;
     let encoding = coding(alloc, name)?;
-    is_body_text(alloc, &Body::new(raw, &ctype, &encoding), wanted)
-}
-
-/// Whether the body of such a row has its text.
-fn is_text_row(
-    alloc: Global,
-    (name, label, raw, wanted): &TextRow,
-) -> Result<bool, MailParseError> {
-    has_text(alloc, name, label, raw, wanted.as_bytes())
+    text_of(alloc, &Body::new(raw, &ctype, &encoding))
 }
 
 #[test]
 fn texts_under_labels(rt: HostRuntime) -> Result<(), Fail> {
     for row in &TEXTS {
-        assert!(rt; is_text_row(rt.alloc(), row)?, "{row:?}");
+        let text = text_under(rt.alloc(), row.0, row.1, row.2)?;
+        assert_eq!(rt; text.as_str(), row.3, "{row:?}");
     }
     Ok(())
 }
@@ -287,18 +260,13 @@ fn is_ascii_text(alloc: Global) -> Result<bool, MailParseError> {
     )
 }
 
-/// Whether it is shown as this text.
-fn is_shown_type(alloc: Global, text: &str) -> Result<bool, MailParseError> {
-    let ctype = ParsedContentType::default(alloc)?;
-    let shown = format!(in alloc; "{ctype:?}")?;
-    Ok(shown.as_str() == text)
-}
-
 #[test]
 fn the_type_where_nothing_says_it(rt: HostRuntime) -> Result<(), Fail> {
     assert!(rt; is_ascii_text(rt.alloc())?);
+    let ctype = ParsedContentType::default(rt.alloc())?;
+    let shown = format!(in rt.alloc(); "{ctype:?}")?;
     let text = r#"ParsedContentType { mimetype: "text/plain", charset: "us-ascii", params: {} }"#;
-    assert!(rt; is_shown_type(rt.alloc(), text)?);
+    assert_eq!(rt; shown.as_str(), text);
     Ok(())
 }
 
@@ -308,14 +276,7 @@ fn a_large_body(rt: HostRuntime) -> Result<(), Fail> {
     let raw = repeated(rt.alloc(), line, 10_000)?;
     let text = "\u{20AC} is a euro sign, ";
     let wanted = repeated(rt.alloc(), text.as_bytes(), 10_000)?;
-    assert!(rt;
-        has_text(
-            rt.alloc(),
-            "base64",
-            "utf-8",
-            raw.as_slice(),
-            wanted.as_slice()
-        )?
-    );
+    let read = text_under(rt.alloc(), "base64", "utf-8", raw.as_slice())?;
+    assert!(rt; read.as_bytes() == wanted.as_slice());
     Ok(())
 }

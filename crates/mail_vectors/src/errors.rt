@@ -4,18 +4,6 @@ use std::alloc::{AllocError, Global};
 use std::borrow::CowStr;
 use std::test::Fail;
 
-/// Whether an error is shown as this text.
-fn is_shown(alloc: Global, error: &MailParseError, text: &str) -> Result<bool, AllocError> {
-    let shown = format!(in alloc; "{error}")?;
-    Ok(shown.as_str() == text)
-}
-
-/// Whether this is its Debug text.
-fn is_shown_in_full(alloc: Global, error: &MailParseError, text: &str) -> Result<bool, AllocError> {
-    let shown = format!(in alloc; "{error:?}")?;
-    Ok(shown.as_str() == text)
-}
-
 #[test]
 fn shown_texts(rt: HostRuntime) -> Result<(), Fail> {
     let fault = Base64Fault {
@@ -44,7 +32,8 @@ fn shown_texts(rt: HostRuntime) -> Result<(), Fail> {
         ),
     ];
     for (error, text) in &rows {
-        assert!(rt; is_shown(rt.alloc(), error, text)?, "{text}");
+        let shown = format!(in rt.alloc(); "{error}")?;
+        assert_eq!(rt; shown.as_str(), *text);
     }
     Ok(())
 }
@@ -68,7 +57,8 @@ fn debug_texts(rt: HostRuntime) -> Result<(), Fail> {
         ),
     ];
     for (error, text) in &rows {
-        assert!(rt; is_shown_in_full(rt.alloc(), error, text)?, "{text}");
+        let shown = format!(in rt.alloc(); "{error:?}")?;
+        assert_eq!(rt; shown.as_str(), *text);
     }
     Ok(())
 }

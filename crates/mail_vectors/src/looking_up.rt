@@ -5,6 +5,7 @@ use mailparse::{
 };
 use std::alloc::{AllocError, Global};
 use std::borrow::CowStr;
+use std::process::Abort;
 use std::test::Fail;
 
 /// The raw value of the first header with this name.
@@ -13,7 +14,7 @@ fn first_value<'m, M: MailHeaderMap>(map: &'m M, name: &str) -> Option<&'m [u8]>
     Some(header.get_value_raw())
 }
 
-/// The raw values of all headers with this name, `;` behind each.
+/// The raw values of all headers with this name, `;` after each.
 fn all_values<M: MailHeaderMap>(alloc: Global, map: &M, name: &str) -> Result<Vec<u8>, Fail> {
     let mut values = Vec::new(alloc);
     for header in map.get_all_headers(alloc, name)? {
@@ -23,7 +24,7 @@ fn all_values<M: MailHeaderMap>(alloc: Global, map: &M, name: &str) -> Result<Ve
     Ok(values)
 }
 
-/// Headers, a name, and the raw values of the headers that have it, `;` behind each.
+/// Headers, a name, and the raw values of the headers that have it, `;` after each.
 type NameRow = (&'static [u8], &'static str, &'static [u8]);
 
 static NAMES: [NameRow; 22] = [
@@ -55,35 +56,28 @@ static NAMES: [NameRow; 22] = [
     (b"\tA: 1", "\ta", b"1;"),
 ];
 
-/// Whether the headers with the name of such a row have its values, and the first has the first.
-fn has_values<M: MailHeaderMap>(
+/// Asserts that the headers with the name of such a row have its values, and the first the first.
+fn assert_values<M: MailHeaderMap>(
+    rt: &impl Abort,
     alloc: Global,
     map: &M,
-    (_, name, values): &NameRow,
-) -> Result<bool, Fail> {
+    row: &NameRow,
+) -> Result<(), Fail> {
+    let (_, name, values) = *row;
     let found = all_values(alloc, map, name)?;
+    assert_eq!(*rt; found.as_slice(), values, "{row:?}");
     let first = values.split(|b| *b == b';').next();
     let wanted = if values.is_empty() { None } else { first };
-    Ok(found.as_slice() == *values && first_value(map, name) == wanted)
-}
-
-/// Whether that is so in the list of a mail's headers.
-fn is_in_list(alloc: Global, row: &NameRow) -> Result<bool, Fail> {
-    let mail = parse_mail(alloc, row.0)?;
-    has_values(alloc, &mail.headers, row)
-}
-
-/// Whether that is so in its block.
-fn is_in_block(alloc: Global, row: &NameRow) -> Result<bool, Fail> {
-    let mail = parse_mail(alloc, row.0)?;
-    has_values(alloc, &mail.get_headers(), row)
+    assert_eq!(*rt; first_value(map, name), wanted, "{row:?}");
+    Ok(())
 }
 
 #[test]
 fn headers_by_name(rt: HostRuntime) -> Result<(), Fail> {
     for row in &NAMES {
-        assert!(rt; is_in_list(rt.alloc(), row)?, "list {row:?}");
-        assert!(rt; is_in_block(rt.alloc(), row)?, "block {row:?}");
+        let mail = parse_mail(rt.alloc(), row.0)?;
+        assert_values(&rt, rt.alloc(), &mail.headers, row)?;
+        assert_values(&rt, rt.alloc(), &mail.get_headers(), row)?;
     }
     Ok(())
 }

@@ -14,11 +14,10 @@ fn value_of(alloc: Global, raw: &[u8]) -> Result<String, MailParseError> {
     header.get_value(alloc)
 }
 
-/// Whether a header with this raw value reads as this text.
-fn is_read(alloc: Global, value: &[u8], text: &str) -> Result<bool, MailParseError> {
+/// What a header with this raw value reads as.
+fn read_of(alloc: Global, value: &[u8]) -> Result<String, MailParseError> {
     let raw = joined(alloc, &[b"X:", value])?;
-    let read = value_of(alloc, raw.as_slice())?;
-    Ok(read.as_str() == text)
+    value_of(alloc, raw.as_slice())
 }
 
 /// A raw value, and the text that it reads as.
@@ -27,7 +26,8 @@ type ValueRow = (&'static [u8], &'static str);
 /// Asserts that each value reads as its text.
 fn assert_read(rt: &impl Abort, alloc: Global, rows: &[ValueRow]) -> Result<(), MailParseError> {
     for row in rows {
-        assert!(*rt; is_read(alloc, row.0, row.1)?, "{row:?}");
+        let read = read_of(alloc, row.0)?;
+        assert_eq!(*rt; read.as_str(), row.1, "{row:?}");
     }
     Ok(())
 }
@@ -66,6 +66,32 @@ static WORKED: [ValueRow; 22] = [
 #[test]
 fn worked_values(rt: HostRuntime) -> Result<(), Fail> {
     Ok(assert_read(&rt, rt.alloc(), &WORKED)?)
+}
+
+/// Further values, each with its own edge.
+static FURTHER: [ValueRow; 17] = [
+    (b"=?windows-1252?Q?=80?=", "\u{20AC}"),
+    (b"=?utf-16be?B?AEEA6Q==?=", "A\u{E9}"),
+    (b"=?utf-8?q?=C3=A9__?= x", "\u{E9}   x"),
+    (b"=?utf-8?B?aGk=aGk=?=", "hihi"),
+    (b"=?utf-16le?B?//5hAA==?=", "\u{FEFF}a"),
+    (b"=?utf-8?B?a?=", "=?utf-8?B?a?="),
+    (b"=?koi8-r?Q?=80?=", "=?koi8-r?Q?=80?="),
+    (b"=?utf-8?Q?a?=;b", "=?utf-8?Q?a?=;b"),
+    (b"=?utf-8?Q?a?=x?= y", "a?=x y"),
+    (b",=?utf-8?Q?a?=,", ",a,"),
+    (b"\"=?utf-8?Q?a?=\" <=?utf-8?Q?b?=>", "\"a\" <b>"),
+    (b"a\n \n =?utf-8?Q?a?=\n \n b", "a  a b"),
+    (b"a\n \n b", "a  b"),
+    (b"\tx", "x"),
+    (b"a\r", "a"),
+    (b"a\r\n \r", "a "),
+    (b" =?utf-8?Q?a?= \n\t=?utf-8?Q?b?= \n\t c", "ab  c"),
+];
+
+#[test]
+fn further_values(rt: HostRuntime) -> Result<(), Fail> {
+    Ok(assert_read(&rt, rt.alloc(), &FURTHER)?)
 }
 
 /// The charset of a word by its label, without a look for a mark.
@@ -235,40 +261,29 @@ static NO_WHITE: [char; 11] = [
 
 const WORD: &str = "=?utf-8?Q?a?=";
 
-/// Whether a word is read between two of these characters that are beside a letter.
-fn is_read_beside(alloc: Global, c: char) -> Result<bool, MailParseError> {
-    let value = format!(in alloc; "x{c}{WORD}{c}y")?;
-    let wanted = format!(in alloc; "x{c}a{c}y")?;
-    is_read(alloc, value.as_bytes(), wanted.as_str())
-}
-
-/// Whether two words are read, and nothing else shows, with this character on every side.
-fn is_hidden_between(alloc: Global, c: char) -> Result<bool, MailParseError> {
-    let value = format!(in alloc; "{c}{WORD}{c}{WORD}{c}")?;
-    is_read(alloc, value.as_bytes(), "aa")
-}
-
-/// Whether a word stays as it is between two of these characters that are beside a letter.
-fn stays_beside(alloc: Global, c: char) -> Result<bool, MailParseError> {
-    let value = format!(in alloc; "x{c}{WORD}{c}y")?;
-    is_read(alloc, value.as_bytes(), value.as_str())
-}
-
-/// Whether a word stays as it is behind this character, and before it.
-fn stays_at_ends(alloc: Global, c: char) -> Result<bool, MailParseError> {
-    let front = format!(in alloc; "{c}{WORD}")?;
-    let back = format!(in alloc; "{WORD}{c}")?;
-    Ok(
-        is_read(alloc, front.as_bytes(), front.as_str())?
-            && is_read(alloc, back.as_bytes(), back.as_str())?,
-    )
+/// Asserts that a word between two of these characters stays as it is.
+fn assert_stays(rt: &impl Abort, alloc: Global, value: &str) -> Result<(), MailParseError> {
+    let read = read_of(alloc, value.as_bytes())?;
+    assert_eq!(*rt; read.as_str(), value);
+    Ok(())
 }
 
 #[test]
 fn each_white_beside_a_word(rt: HostRuntime) -> Result<(), Fail> {
     for c in &WHITE {
-        assert!(rt; is_read_beside(rt.alloc(), *c)?, "{c:?}");
-        assert!(rt; is_hidden_between(rt.alloc(), *c)?, "{c:?}");
+        let value = format!(in rt.alloc(); "x{c}{WORD}{c}y")?;
+        let wanted = format!(in rt.alloc(); "x{c}a{c}y")?;
+        assert_eq!(rt; read_of(rt.alloc(), value.as_bytes())?, wanted, "{c:?}");
+    }
+    Ok(())
+}
+
+#[test]
+fn each_white_between_words(rt: HostRuntime) -> Result<(), Fail> {
+    for c in &WHITE {
+        let value = format!(in rt.alloc(); "{c}{WORD}{c}{WORD}{c}")?;
+        let read = read_of(rt.alloc(), value.as_bytes())?;
+        assert_eq!(rt; read.as_str(), "aa", "{c:?}");
     }
     Ok(())
 }
@@ -276,20 +291,33 @@ fn each_white_beside_a_word(rt: HostRuntime) -> Result<(), Fail> {
 #[test]
 fn what_is_no_white_beside_a_word(rt: HostRuntime) -> Result<(), Fail> {
     for c in &NO_WHITE {
-        assert!(rt; stays_beside(rt.alloc(), *c)?, "{c:?}");
-        assert!(rt; stays_at_ends(rt.alloc(), *c)?, "{c:?}");
+        assert_stays(
+            &rt,
+            rt.alloc(),
+            format!(in rt.alloc(); "x{c}{WORD}{c}y")?.as_str(),
+        )?;
+        assert_stays(
+            &rt,
+            rt.alloc(),
+            format!(in rt.alloc(); "{c}{WORD}")?.as_str(),
+        )?;
+        assert_stays(
+            &rt,
+            rt.alloc(),
+            format!(in rt.alloc(); "{WORD}{c}")?.as_str(),
+        )?;
     }
     Ok(())
 }
 
-/// Whether a word beside this character is read where it is a boundary, and else stays.
-fn is_boundary_or_stays(alloc: Global, byte: u8) -> Result<bool, MailParseError> {
+/// What a word between two of these characters, which are beside a letter, reads as.
+fn wanted_beside(alloc: Global, byte: u8) -> Result<String, AllocError> {
     let c = char::from(byte);
     match byte {
         9 | 11 | 12 | 13 | b' ' | b'"' | b'(' | b')' | b'<' | b'>' | b',' => {
-            is_read_beside(alloc, c)
+            format!(in alloc; "x{c}a{c}y")
         }
-        _ => stays_beside(alloc, c),
+        _ => format!(in alloc; "x{c}{WORD}{c}y"),
     }
 }
 
@@ -297,7 +325,11 @@ fn is_boundary_or_stays(alloc: Global, byte: u8) -> Result<bool, MailParseError>
 fn each_ascii_character_beside_a_word(rt: HostRuntime) -> Result<(), Fail> {
     for byte in 0..128u8 {
         if byte != b'\n' {
-            assert!(rt; is_boundary_or_stays(rt.alloc(), byte)?, "{byte}");
+            let c = char::from(byte);
+            let value = format!(in rt.alloc(); "x{c}{WORD}{c}y")?;
+            let read = read_of(rt.alloc(), value.as_bytes())?;
+            let wanted = wanted_beside(rt.alloc(), byte)?;
+            assert_eq!(rt; read, wanted, "{byte}");
         }
     }
     Ok(())
@@ -314,18 +346,17 @@ static STRICT: [(&[u8], &str); 4] = [
     (b"A:", ""),
 ];
 
-/// Whether the strict and the lenient value of a header are this text.
-fn is_strict(alloc: Global, raw: &[u8], text: &str) -> Result<bool, MailParseError> {
+/// What a header reads as where only UTF-8 is read.
+fn strict_of(alloc: Global, raw: &[u8]) -> Result<String, MailParseError> {
     let (header, _) = parse_header(raw)?;
-    let strict = header.get_value_utf8(alloc)?;
-    let lenient = value_of(alloc, raw)?;
-    Ok(strict.as_str() == text && lenient.as_str() == text)
+    header.get_value_utf8(alloc)
 }
 
 #[test]
 fn strict_values(rt: HostRuntime) -> Result<(), Fail> {
     for row in &STRICT {
-        assert!(rt; is_strict(rt.alloc(), row.0, row.1)?, "{row:?}");
+        assert_eq!(rt; strict_of(rt.alloc(), row.0)?.as_str(), row.1, "{row:?}");
+        assert_eq!(rt; value_of(rt.alloc(), row.0)?.as_str(), row.1, "{row:?}");
     }
     Ok(())
 }
@@ -338,35 +369,21 @@ static NOT_STRICT: [(&[u8], &str); 4] = [
     (b"A: a\n\t\xC3", "a \u{C3}"),
 ];
 
-/// Whether an error is the one of bytes that are no UTF-8.
-fn is_encoding_error(alloc: Global, error: &MailParseError) -> Result<bool, AllocError> {
-    let shown = format!(in alloc; "{error}")?;
-    Ok(
-        matches!(error, MailParseError::EncodingError(_))
-            && shown.as_str() == "Encoding error: Invalid UTF-8 in header value",
-    )
-}
-
-/// Whether a header has no strict value since its bytes are no UTF-8.
-fn is_refused(alloc: Global, raw: &[u8]) -> Result<bool, MailParseError> {
-    let (header, _) = parse_header(raw)?;
-    match header.get_value_utf8(alloc) {
-        Err(error) => Ok(is_encoding_error(alloc, &error)?),
-        Ok(_) => Ok(false),
+/// The text of the error that only UTF-8 is read, or `read`.
+fn shown_refusal(alloc: Global, raw: &[u8]) -> Result<String, AllocError> {
+    match strict_of(alloc, raw) {
+        Err(error) => format!(in alloc; "{error:?}, {error}"),
+        Ok(_) => String::from_str(alloc, "read"),
     }
-}
-
-/// Whether the lenient value of a header is this text.
-fn is_lenient(alloc: Global, raw: &[u8], text: &str) -> Result<bool, MailParseError> {
-    let lenient = value_of(alloc, raw)?;
-    Ok(lenient.as_str() == text)
 }
 
 #[test]
 fn values_without_a_strict_one(rt: HostRuntime) -> Result<(), Fail> {
+    let text =
+        "EncodingError(\"Invalid UTF-8 in header value\"), Encoding error: Invalid UTF-8 in header value";
     for row in &NOT_STRICT {
-        assert!(rt; is_refused(rt.alloc(), row.0)?, "{row:?}");
-        assert!(rt; is_lenient(rt.alloc(), row.0, row.1)?, "{row:?}");
+        assert_eq!(rt; shown_refusal(rt.alloc(), row.0)?.as_str(), text, "{row:?}");
+        assert_eq!(rt; value_of(rt.alloc(), row.0)?.as_str(), row.1, "{row:?}");
     }
     Ok(())
 }
@@ -388,22 +405,22 @@ static KEYS: [KeyRow; 3] = [
     (b"A:\tb", "A", "b"),
 ];
 
-/// Whether such a header reads as the row says.
-fn is_key_row(alloc: Global, (raw, key, value): &KeyRow) -> Result<bool, MailParseError> {
+/// The text of a header's key.
+fn key_of(alloc: Global, raw: &[u8]) -> Result<String, MailParseError> {
     let (header, _) = parse_header(raw)?;
-    let found = header.get_key(alloc)?;
-    Ok(found.as_str() == *key && is_lenient(alloc, raw, value)?)
+    header.get_key(alloc)
 }
 
 #[test]
 fn values_with_their_keys(rt: HostRuntime) -> Result<(), Fail> {
     for row in &KEYS {
-        assert!(rt; is_key_row(rt.alloc(), row)?, "{row:?}");
+        assert_eq!(rt; key_of(rt.alloc(), row.0)?.as_str(), row.1, "{row:?}");
+        assert_eq!(rt; value_of(rt.alloc(), row.0)?.as_str(), row.2, "{row:?}");
     }
     Ok(())
 }
 
-/// The values of all headers with this name, `;` behind each.
+/// The values of all headers with this name, `;` after each.
 fn all_values<M: MailHeaderMap>(alloc: Global, map: &M, name: &str) -> Result<String, Fail> {
     let mut values = String::new(alloc);
     for value in map.get_all_values(alloc, name)? {
@@ -421,7 +438,7 @@ fn first_value<M: MailHeaderMap>(alloc: Global, map: &M, name: &str) -> Result<S
     }
 }
 
-/// Headers, a name, the first value, and all values with `;` behind each.
+/// Headers, a name, the first value, and all values with `;` after each.
 type NameRow = (&'static [u8], &'static str, &'static str, &'static str);
 
 static NAMES: [NameRow; 8] = [
@@ -450,34 +467,27 @@ static NAMES: [NameRow; 8] = [
     (b"", "A", "none", ""),
 ];
 
-/// Whether the headers with the name of such a row have its values.
-fn has_values<M: MailHeaderMap>(
+/// Asserts that the headers with the name of such a row have its values.
+fn assert_values<M: MailHeaderMap>(
+    rt: &impl Abort,
     alloc: Global,
     map: &M,
-    (_, name, first, all): &NameRow,
-) -> Result<bool, Fail> {
-    let found_first = first_value(alloc, map, name)?;
-    let found_all = all_values(alloc, map, name)?;
-    Ok(found_first.as_str() == *first && found_all.as_str() == *all)
-}
-
-/// Whether that is so in the list of headers.
-fn is_in_list(alloc: Global, row: &NameRow) -> Result<bool, Fail> {
-    let (list, _) = parse_headers(alloc, row.0)?;
-    has_values(alloc, &list, row)
-}
-
-/// Whether that is so in the block of a mail.
-fn is_in_block(alloc: Global, row: &NameRow) -> Result<bool, Fail> {
-    let mail = parse_mail(alloc, row.0)?;
-    has_values(alloc, &mail.get_headers(), row)
+    row: &NameRow,
+) -> Result<(), Fail> {
+    let first = first_value(alloc, map, row.1)?;
+    assert_eq!(*rt; first.as_str(), row.2, "{row:?}");
+    let all = all_values(alloc, map, row.1)?;
+    assert_eq!(*rt; all.as_str(), row.3, "{row:?}");
+    Ok(())
 }
 
 #[test]
 fn values_by_name(rt: HostRuntime) -> Result<(), Fail> {
     for row in &NAMES {
-        assert!(rt; is_in_list(rt.alloc(), row)?, "list {row:?}");
-        assert!(rt; is_in_block(rt.alloc(), row)?, "block {row:?}");
+        let (list, _) = parse_headers(rt.alloc(), row.0)?;
+        assert_values(&rt, rt.alloc(), &list, row)?;
+        let mail = parse_mail(rt.alloc(), row.0)?;
+        assert_values(&rt, rt.alloc(), &mail.get_headers(), row)?;
     }
     Ok(())
 }

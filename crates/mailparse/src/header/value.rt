@@ -144,6 +144,3 @@ pub(crate) fn unfolded_value(alloc: Global, text: &str) -> Result<String, AllocE
     }
     Ok(shown.text)
 }
-
-#[cfg(test)]
-mod tests;

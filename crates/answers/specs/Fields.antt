@@ -1,0 +1,25 @@
+-- The fields of a line; the program's own form.
+use Rattle.std.specs.Prelude.{ℕ, List, [], ◌∷◌, ◌++◌, codes, decimal, Option, Some, None, Result, Ok, Err}
+use Rattle.hex.specs.Hex.{encode_lower}
+use Rattle.mailparse.specs.Refusal.{Refusal, generic, encoding, base64_fault}
+
+-- bytes: two hexadecimal digits for each, or a dash for none
+abbrev pub bytes_field : List ℕ → List ℕ
+bytes_field [] = codes "-"
+bytes_field (b ∷ bs) = encode_lower (b ∷ bs)
+
+-- a text that may be absent: its bytes, or a dash
+abbrev pub option_field : Option (List ℕ) → List ℕ
+option_field None = codes "-"
+option_field (Some text) = encode_lower text
+
+-- a refusal: a letter for its form, and then the number of its group, or the bytes of its text
+abbrev pub refusal_field : Refusal → List ℕ
+refusal_field (generic text) = codes "g" ++ encode_lower text
+refusal_field (encoding text) = codes "u" ++ encode_lower text
+refusal_field (base64_fault group) = codes "e" ++ decimal group
+
+-- bytes that were decoded, after the letter d, or a refusal
+abbrev pub outcome_field : Result (List ℕ) Refusal → List ℕ
+outcome_field (Ok bytes) = codes "d" ++ encode_lower bytes
+outcome_field (Err refusal) = refusal_field refusal

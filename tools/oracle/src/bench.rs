@@ -1,0 +1,49 @@
+//! Times of reading a mail.
+use mailparse::parse_mail;
+use std::fmt::Write as _;
+use std::hint::black_box;
+use std::time::Instant;
+
+/// Reads a mail and lets it go; its number of parts below the root.
+fn parse(input: &[u8]) -> usize {
+    parse_mail(black_box(input)).map_or(0, |mail| mail.subparts.len())
+}
+
+/// The same with the bytes of each body; how many those are.
+fn full(input: &[u8]) -> usize {
+    parse_mail(black_box(input)).map_or(0, |mail| {
+        mail.parts()
+            .map(|part| part.get_body_raw().map_or(0, |body| body.len()))
+            .sum()
+    })
+}
+
+/// The same with the value of each header; how many bytes both are.
+fn all(input: &[u8]) -> usize {
+    parse_mail(black_box(input)).map_or(0, |mail| {
+        mail.parts()
+            .map(|part| {
+                let values: usize = part.headers.iter().map(|h| h.get_value().len()).sum();
+                values + part.get_body_raw().map_or(0, |body| body.len())
+            })
+            .sum()
+    })
+}
+
+/// Writes the times of so many rounds of each work.
+pub fn bench(out: &mut String, input: &[u8], rounds: usize) {
+    let _ = writeln!(out, "bytes {}\ndecoded {}", input.len(), full(input));
+    let works: [(&str, fn(&[u8]) -> usize); 3] = [("parse", parse), ("full", full), ("all", all)];
+    for (name, work) in works {
+        let mut times: Vec<f64> = (0..rounds.max(1))
+            .map(|_| {
+                let start = Instant::now();
+                black_box(work(input));
+                start.elapsed().as_nanos() as f64 / input.len().max(1) as f64
+            })
+            .collect();
+        times.sort_by(f64::total_cmp);
+        let (least, median) = (times[0], times[times.len() / 2]);
+        let _ = writeln!(out, "{name} min {least:.3} median {median:.3} ns/byte");
+    }
+}
