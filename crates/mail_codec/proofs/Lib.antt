@@ -1,3 +1,4 @@
+pub mod lemmas
 pub mod PlaceLemmas
 pub mod PlaceFromLemmas
 pub mod RunLemmas

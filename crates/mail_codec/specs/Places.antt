@@ -1,5 +1,5 @@
 -- Places in a list of bytes, counted from 0, and the least place with a property; the project's own words.
-use Rattle.std.specs.Prelude.{◌≡◌, ℕ, zero, suc, ◌+◌, ◌<◌, ◌≤◌, Bool, true, false, not, ◌==◌, nat_eq, nat_lt, filter, List, [], ◌∷◌, length, drop, Option, None, Some, if◌then◌else◌}
+use Rattle.std.specs.Prelude.{◌≡◌, ◌≢◌, ℕ, zero, suc, ◌+◌, ◌<◌, ◌≤◌, Bool, true, false, not, ◌==◌, nat_eq, nat_lt, filter, List, [], ◌∷◌, length, take, drop, slice_index, Option, None, Some, if◌then◌else◌}
 use Rattle.std.specs.Char.{is_ascii_whitespace}
 use Rattle.std.specs.List.{starts_with}
 
@@ -43,6 +43,26 @@ pub record IsFirstPlace (test : List ℕ → Bool) (bytes : List ℕ) (p : ℕ) 
   pub within : p ≤ length bytes
   pub passes : p < length bytes → test (drop p bytes) ≡ true
   pub before : (k : ℕ) → k < p → test (drop k bytes) ≡ false
+
+-- p is the least place at or after s whose rest passes the test, or the length where no such place's rest does
+pub record IsFirstPlaceFrom (test : List ℕ → Bool) (bytes : List ℕ) (s p : ℕ) : Type 0 where
+  pub after : s ≤ p
+  pub within : p ≤ length bytes
+  pub passes : p < length bytes → test (drop p bytes) ≡ true
+  pub before : (k : ℕ) → s ≤ k → k < p → test (drop k bytes) ≡ false
+
+-- the byte stands at place p
+abbrev pub HasByteAt : List ℕ → ℕ → ℕ → Type 0
+HasByteAt bytes byte p = (p < length bytes) × (slice_index bytes p ≡ byte)
+
+-- the text, which is not empty, stands at place p
+abbrev pub HasTextAt : List ℕ → List ℕ → ℕ → Type 0
+HasTextAt bytes text p = (text ≢ []) × (take (length text) (drop p bytes) ≡ text)
+
+-- this is the first place that has something, or it is none and no place has it
+abbrev pub IsFirstOf : (ℕ → Type 0) → Option ℕ → Type 0
+IsFirstOf Has (Some p) = Has p × ((k : ℕ) → k < p → ¬ Has k)
+IsFirstOf Has None = (k : ℕ) → ¬ Has k
 
 -- the least number below the bound that passes the test, or the bound where there is none
 abbrev pub least : (ℕ → Bool) → ℕ → ℕ
