@@ -3,5 +3,4 @@ pub mod Latin1
 pub mod Charset
 pub mod Base64
 pub mod QuotedPrintable
-pub mod Runs
-pub mod Padding
+pub mod private

@@ -3,7 +3,7 @@
 //! What is small is inlined: the searches are fast where the compiler knows what ends a run.
 ghost use Rattle.std.specs.Prelude.{◌≡◌, ◌≤◌, ◌++◌, length, OnOk, false};
 ghost use Rattle.std.specs.List.{position_or_len};
-ghost use Rattle.mail_codec.specs.Runs.{ends_run, NoneEnds, without_ends};
+ghost use Rattle.mail_codec.specs.private.Runs.{ends_run, NoneEnds, without_ends};
 
 use std::alloc::AllocError;
 

@@ -1,8 +1,8 @@
 use Rattle.std.proofs.Common.{ℕ, ◌+◌, ◌++◌, Bool, not, filter, ap, sym, ◌∙◌, arith}
 use Rattle.std.specs.List.{position_or_len}
 use Rattle.std.proofs.lemmas.List.{take_rest, append-nil, drop_all, length-drop}
-use Rattle.mail_codec.specs.Runs.{ends_run}
-use Rattle.mail_codec.proofs.RunLemmas.{runs_step}
+use Rattle.mail_codec.specs.private.Runs.{ends_run}
+use Rattle.mail_codec.proofs.lemmas.Runs.{runs_step}
 use Rattle.mail_codec.proofs.bytescan.runs.push_runs.Goals as goal
 
 pub returns-then-place-bytes : goal.returns-then-place-bytes

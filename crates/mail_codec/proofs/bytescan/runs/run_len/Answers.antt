@@ -1,6 +1,6 @@
 use Rattle.std.proofs.Common.{sym, ◌∙◌, arith}
 use Rattle.std.proofs.lemmas.List.Sums.{position_or_len_is}
-use Rattle.mail_codec.specs.Runs.{ends_run}
+use Rattle.mail_codec.specs.private.Runs.{ends_run}
 use Rattle.mail_codec.proofs.bytescan.runs.run_len.Goals as goal
 
 pub returns-then-is_met_by-clause-least : goal.returns-then-is_met_by-clause-least

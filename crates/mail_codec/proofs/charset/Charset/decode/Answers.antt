@@ -1,5 +1,5 @@
 use Rattle.std.proofs.lemmas.List.{take_rest}
-use Rattle.mail_codec.proofs.MarkLemmas.{marked_text_of-mark, marked_text_of-none}
+use Rattle.mail_codec.proofs.lemmas.CharsetMarks.{marked_text_of-mark, marked_text_of-none}
 use Rattle.mail_codec.proofs.charset.Charset.decode.Goals as goal
 
 pub returns-in-Some : goal.returns-in-Some

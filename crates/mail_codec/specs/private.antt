@@ -1,0 +1,3 @@
+-- Words that private functions alone need; no public clause speaks of them.
+pub mod Runs
+pub mod Padding
