@@ -1,5 +1,4 @@
 pub mod Places
-pub mod PlacesFrom
 pub mod PlacesLaw
 pub mod Runs
 pub mod CharsetUtf8

@@ -11,8 +11,6 @@ use Rattle.std.specs.Str.{str_eq_ignore_ascii_case}
 use Rattle.std.specs.Str.Lossy.{utf8_lossy}
 use Rattle.mail_codec.specs.declared.charset.Charset.{Charset}
 use Rattle.mail_codec.specs.declared.charset.Charset.TheVariants.{Utf8, Windows1252, Utf16Le, Utf16Be}
-use Rattle.mail_codec.specs.declared.charset.utf16.ByteOrder.{ByteOrder}
-use Rattle.mail_codec.specs.declared.charset.utf16.ByteOrder.TheVariants.{Little, Big}
 
 -- the character that stands for what is no character
 abbrev pub replacement : ℕ
@@ -84,16 +82,19 @@ ascii_char byte = if nat_lt byte 0x80 then byte else replacement
 
 -- UTF-16 (section 14).
 
--- the number of two bytes, the first the low or the high one
-abbrev pub unit_of : ByteOrder → ℕ → ℕ → ℕ
-unit_of Little first second = second * 256 + first
-unit_of Big first second = first * 256 + second
+-- the unit of two bytes, of which the first is the low one
+abbrev pub low_first : ℕ → ℕ → ℕ
+low_first first second = second * 256 + first
 
--- the units that the bytes make, two by two, without an odd last byte
-abbrev pub units : ByteOrder → List ℕ → List ℕ
+-- the unit of two bytes, of which the first is the high one
+abbrev pub high_first : ℕ → ℕ → ℕ
+high_first first second = first * 256 + second
+
+-- the units that the bytes make, two by two in such an order, without an odd last byte
+abbrev pub units : (ℕ → ℕ → ℕ) → List ℕ → List ℕ
 units order [] = []
 units order (first ∷ []) = []
-units order (first ∷ second ∷ bytes) = unit_of order first second ∷ units order bytes
+units order (first ∷ second ∷ bytes) = order first second ∷ units order bytes
 
 -- the bytes end in one that has no partner
 abbrev pub has_odd_end : List ℕ → Bool
@@ -110,7 +111,7 @@ ends_in_high (unit ∷ next ∷ more) = ends_in_high (next ∷ more)
 -- the characters of UTF-16: those of the units, with U+FFFD for each surrogate that has no partner,
 -- and then U+FFFD for an odd last byte, unless a high surrogate stands directly before it, whose
 -- U+FFFD stands for both
-abbrev pub utf_16_chars : ByteOrder → List ℕ → List ℕ
+abbrev pub utf_16_chars : (ℕ → ℕ → ℕ) → List ℕ → List ℕ
 utf_16_chars order bytes = utf16_lossy_chars (units order bytes)
     ++ (if has_odd_end bytes && not (ends_in_high (units order bytes)) then replacement ∷ [] else [])
 
@@ -120,8 +121,8 @@ utf_16_chars order bytes = utf16_lossy_chars (units order bytes)
 unfoldable pub text_of : Charset → List ℕ → List ℕ
 text_of Utf8 bytes = utf8_lossy bytes
 text_of Windows1252 bytes = encode_utf8_all (map windows_1252_char bytes)
-text_of Utf16Le bytes = encode_utf8_all (utf_16_chars Little bytes)
-text_of Utf16Be bytes = encode_utf8_all (utf_16_chars Big bytes)
+text_of Utf16Le bytes = encode_utf8_all (utf_16_chars low_first bytes)
+text_of Utf16Be bytes = encode_utf8_all (utf_16_chars high_first bytes)
 
 -- each charset that has a byte order mark, with the mark (section 6)
 abbrev pub byte_order_marks : List (Charset × List ℕ)

@@ -89,11 +89,10 @@ pub groups_from-nil : (n : ℕ) → groups_from n [] ≡ Ok []
 unfolding groups_from
 groups_from-nil n = refl
 
--- the group at a place, and what follows it
-pub groups_from-drop : (n at : ℕ) (xs : List ℕ) → at + 4 ≤ length xs
-    → groups_from n (drop at xs) ≡ after_group n (group_bytes (slice_index xs at) (slice_index xs (at + 1)) (slice_index xs (at + 2)) (slice_index xs (at + 3))) (groups_from (n + 1) (drop (at + 4) xs))
-unfolding groups_from
-groups_from-drop n at xs h =
+-- the four items at a place, and what follows them
+pub drop_four : (at : ℕ) (xs : List ℕ) → at + 4 ≤ length xs
+    → drop at xs ≡ slice_index xs at ∷ slice_index xs (at + 1) ∷ slice_index xs (at + 2) ∷ slice_index xs (at + 3) ∷ drop (at + 4) xs
+drop_four at xs h =
     let a : drop at xs ≡ slice_index xs at ∷ drop (at + 1) xs = drop_more xs at 0 (omega arith) in
     let b : drop (at + 1) xs ≡ slice_index xs (at + 1) ∷ drop (at + 1 + 1) xs = drop_more xs (at + 1) 0 (omega arith) in
     let c : drop (at + 1 + 1) xs ≡ slice_index xs (at + 1 + 1) ∷ drop (at + 1 + 1 + 1) xs = drop_more xs (at + 1 + 1) 0 (omega arith) in
@@ -101,8 +100,15 @@ groups_from-drop n at xs h =
     let two : at + 1 + 1 ≡ at + 2 = omega arith in
     let three : at + 1 + 1 + 1 ≡ at + 3 = omega arith in
     let four : at + 1 + 1 + 1 + 1 ≡ at + 4 = omega arith in
+    rw (a, b, c, d, four, three, two) refl
+
+-- the group at a place, and what follows it
+pub groups_from-drop : (n at : ℕ) (xs : List ℕ) → at + 4 ≤ length xs
+    → groups_from n (drop at xs) ≡ after_group n (group_bytes (slice_index xs at) (slice_index xs (at + 1)) (slice_index xs (at + 2)) (slice_index xs (at + 3))) (groups_from (n + 1) (drop (at + 4) xs))
+unfolding groups_from
+groups_from-drop n at xs h =
     let next : suc n ≡ n + 1 = omega arith in
-    rw (a, b, c, d, four, three, two, next) refl
+    rw (drop_four at xs h, next) refl
 
 -- ---- bytes that are left out
 

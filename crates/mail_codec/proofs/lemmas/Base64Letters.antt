@@ -2,15 +2,9 @@
 use Rattle.std.proofs.Common.{◌≡◌, ℕ, ◌==◌, ◌<◌, Bool, true, false, not, ◌&&◌, Option, Some, None, refl, ap}
 use Rattle.std.proofs.lemmas.List.Quantifiers.{position-Some}
 use Rattle.std.proofs.lemmas.Bool.{eqb-true, and_parts, not-true}
-use Rattle.base64.specs.Engines.{standard}
-use Rattle.base64.specs.GeneralPurpose.{engine_symbols}
 use Rattle.base64.specs.Tables.{all_below}
 use Rattle.base64.proofs.Tables.{all_below_at}
 use Rattle.mail_codec.specs.Base64.{alphabet, letter, letter_value, padding}
-
--- the engine's letters are those of RFC 4648
-pub engine_symbols-standard : engine_symbols standard ≡ alphabet
-engine_symbols-standard = refl
 
 -- a test that an option is this number
 abbrev is_value : Option ℕ → ℕ → Bool

@@ -5,15 +5,14 @@ use Rattle.std.specs.Char.Utf16.{is_high_surrogate, is_low_surrogate, surrogate_
 use Rattle.std.proofs.lemmas.Bool.Decides.{nat_tests}
 use Rattle.std.proofs.lemmas.Str.{utf16_chars-nil, utf16_chars_lone, utf16_chars_pair}
 use Rattle.std.proofs.str.Utf16.{IsPair}
-use Rattle.mail_codec.specs.Charset.{unit_of, units, has_odd_end, ends_in_high, utf_16_chars, replacement}
-use Rattle.mail_codec.specs.declared.charset.utf16.ByteOrder.{ByteOrder}
+use Rattle.mail_codec.specs.Charset.{units, has_odd_end, ends_in_high, utf_16_chars, replacement}
 
 -- the first unit, and the second
-abbrev pub first_unit : ByteOrder → List ℕ → ℕ
-first_unit order bs = unit_of order (get_or bs 0 0) (get_or bs 1 0)
+abbrev pub first_unit : (ℕ → ℕ → ℕ) → List ℕ → ℕ
+first_unit order bs = order (get_or bs 0 0) (get_or bs 1 0)
 
-abbrev pub second_unit : ByteOrder → List ℕ → ℕ
-second_unit order bs = unit_of order (get_or bs 2 0) (get_or bs 3 0)
+abbrev pub second_unit : (ℕ → ℕ → ℕ) → List ℕ → ℕ
+second_unit order bs = order (get_or bs 2 0) (get_or bs 3 0)
 
 -- the characters of units, and what an odd last byte adds
 abbrev pub chars_of : List ℕ → Bool → List ℕ
@@ -62,40 +61,40 @@ paired : (u v : ℕ) (us : List ℕ) (odd : Bool) → is_high_surrogate u ≡ tr
 paired u v us odd high low = rw (utf16_chars_pair u v us (is_pair u v high low), ends_alike v us (low_not_high v low)) refl
 
 -- the same of bytes
-pub chars_odd : (order : ByteOrder) (bs : List ℕ) → 0 < length bs → length bs < 2 → utf_16_chars order bs ≡ replacement ∷ utf_16_chars order (drop 1 bs)
+pub chars_odd : (order : ℕ → ℕ → ℕ) (bs : List ℕ) → 0 < length bs → length bs < 2 → utf_16_chars order bs ≡ replacement ∷ utf_16_chars order (drop 1 bs)
 chars_odd order [] some few = absurd (omega (arith, some))
 chars_odd order (a ∷ []) some few = rw utf16_chars-nil refl
 chars_odd order (a ∷ b ∷ bs) some few = absurd (omega (arith, few))
 
-pub chars_lone : (order : ByteOrder) (bs : List ℕ) → 2 ≤ length bs → is_high_surrogate (first_unit order bs) ≡ false
+pub chars_lone : (order : ℕ → ℕ → ℕ) (bs : List ℕ) → 2 ≤ length bs → is_high_surrogate (first_unit order bs) ≡ false
     → utf_16_chars order bs ≡ unwrap_or (lone_unit_char (first_unit order bs)) replacement ∷ utf_16_chars order (drop 2 bs)
 chars_lone order [] two low = absurd (omega (arith, two))
 chars_lone order (a ∷ []) two low = absurd (omega (arith, two))
-chars_lone order (a ∷ b ∷ bs) two low = lone_unit (unit_of order a b) (units order bs) (has_odd_end bs) low
+chars_lone order (a ∷ b ∷ bs) two low = lone_unit (order a b) (units order bs) (has_odd_end bs) low
 
-pub chars_cut : (order : ByteOrder) (bs : List ℕ) → 2 ≤ length bs → length bs < 4 → is_high_surrogate (first_unit order bs) ≡ true
+pub chars_cut : (order : ℕ → ℕ → ℕ) (bs : List ℕ) → 2 ≤ length bs → length bs < 4 → is_high_surrogate (first_unit order bs) ≡ true
     → utf_16_chars order bs ≡ replacement ∷ utf_16_chars order (drop (length bs) bs)
 chars_cut order [] two four high = absurd (omega (arith, two))
 chars_cut order (a ∷ []) two four high = absurd (omega (arith, two))
-chars_cut order (a ∷ b ∷ []) two four high = cut (unit_of order a b) false high
-chars_cut order (a ∷ b ∷ d ∷ []) two four high = cut (unit_of order a b) true high
+chars_cut order (a ∷ b ∷ []) two four high = cut (order a b) false high
+chars_cut order (a ∷ b ∷ d ∷ []) two four high = cut (order a b) true high
 chars_cut order (a ∷ b ∷ d ∷ e ∷ bs) two four high = absurd (omega (arith, four))
 
-pub chars_unpaired : (order : ByteOrder) (bs : List ℕ) → 4 ≤ length bs → is_high_surrogate (first_unit order bs) ≡ true → is_low_surrogate (second_unit order bs) ≡ false
+pub chars_unpaired : (order : ℕ → ℕ → ℕ) (bs : List ℕ) → 4 ≤ length bs → is_high_surrogate (first_unit order bs) ≡ true → is_low_surrogate (second_unit order bs) ≡ false
     → utf_16_chars order bs ≡ replacement ∷ utf_16_chars order (drop 2 bs)
 chars_unpaired order [] four high other = absurd (omega (arith, four))
 chars_unpaired order (a ∷ []) four high other = absurd (omega (arith, four))
 chars_unpaired order (a ∷ b ∷ []) four high other = absurd (omega (arith, four))
 chars_unpaired order (a ∷ b ∷ d ∷ []) four high other = absurd (omega (arith, four))
-chars_unpaired order (a ∷ b ∷ d ∷ e ∷ bs) four high other = unpaired (unit_of order a b) (unit_of order d e) (units order bs) (has_odd_end bs) high other
+chars_unpaired order (a ∷ b ∷ d ∷ e ∷ bs) four high other = unpaired (order a b) (order d e) (units order bs) (has_odd_end bs) high other
 
-pub chars_paired : (order : ByteOrder) (bs : List ℕ) → 4 ≤ length bs → is_high_surrogate (first_unit order bs) ≡ true → is_low_surrogate (second_unit order bs) ≡ true
+pub chars_paired : (order : ℕ → ℕ → ℕ) (bs : List ℕ) → 4 ≤ length bs → is_high_surrogate (first_unit order bs) ≡ true → is_low_surrogate (second_unit order bs) ≡ true
     → utf_16_chars order bs ≡ surrogate_pair_char (first_unit order bs) (second_unit order bs) ∷ utf_16_chars order (drop 4 bs)
 chars_paired order [] four high low = absurd (omega (arith, four))
 chars_paired order (a ∷ []) four high low = absurd (omega (arith, four))
 chars_paired order (a ∷ b ∷ []) four high low = absurd (omega (arith, four))
 chars_paired order (a ∷ b ∷ d ∷ []) four high low = absurd (omega (arith, four))
-chars_paired order (a ∷ b ∷ d ∷ e ∷ bs) four high low = paired (unit_of order a b) (unit_of order d e) (units order bs) (has_odd_end bs) high low
+chars_paired order (a ∷ b ∷ d ∷ e ∷ bs) four high low = paired (order a b) (order d e) (units order bs) (has_odd_end bs) high low
 
 -- a unit that is a character, and a surrogate that is no first of a pair
 character_low : (u : ℕ) → InScalarRange u → is_high_surrogate u ≡ false
@@ -106,7 +105,7 @@ character_alone : (u : ℕ) → InScalarRange u → lone_unit_char u ≡ Some u
 character_alone u (inl h) = grind (arith, nat_tests)
 character_alone u (inr h) = grind (arith, nat_tests)
 
-pub chars_character : (order : ByteOrder) (bs : List ℕ) → 2 ≤ length bs → InScalarRange (first_unit order bs)
+pub chars_character : (order : ℕ → ℕ → ℕ) (bs : List ℕ) → 2 ≤ length bs → InScalarRange (first_unit order bs)
     → utf_16_chars order bs ≡ first_unit order bs ∷ utf_16_chars order (drop 2 bs)
 chars_character order bs two range =
     chars_lone order bs two (character_low (first_unit order bs) range)
@@ -124,13 +123,13 @@ second_alone : (u : ℕ) → OutOfScalarRange u → u < 0x1_0000 → lone_unit_c
 second_alone u (inl h) small = grind (arith, nat_tests)
 second_alone u (inr h) small = absurd (omega arith)
 
-pub chars_second : (order : ByteOrder) (bs : List ℕ) → 2 ≤ length bs → OutOfScalarRange (first_unit order bs) → first_unit order bs < 0x1_0000 → 0xDC00 ≤ first_unit order bs
+pub chars_second : (order : ℕ → ℕ → ℕ) (bs : List ℕ) → 2 ≤ length bs → OutOfScalarRange (first_unit order bs) → first_unit order bs < 0x1_0000 → 0xDC00 ≤ first_unit order bs
     → utf_16_chars order bs ≡ replacement ∷ utf_16_chars order (drop 2 bs)
 chars_second order bs two range small above =
     chars_lone order bs two (second_low (first_unit order bs) above)
     ∙ ap (λ o. unwrap_or o replacement ∷ utf_16_chars order (drop 2 bs)) (second_alone (first_unit order bs) range small)
 
-pub chars_end : (order : ByteOrder) (bs : List ℕ) → 2 ≤ length bs → length bs < 4 → OutOfScalarRange (first_unit order bs) → first_unit order bs < 0xDC00
+pub chars_end : (order : ℕ → ℕ → ℕ) (bs : List ℕ) → 2 ≤ length bs → length bs < 4 → OutOfScalarRange (first_unit order bs) → first_unit order bs < 0xDC00
     → utf_16_chars order bs ≡ replacement ∷ utf_16_chars order (drop (length bs) bs)
 chars_end order bs two four range below = chars_cut order bs two four (surrogate_high (first_unit order bs) range below)
 
@@ -146,33 +145,27 @@ alone_by : (u v : ℕ) (t : Bool) → is_low_surrogate v ≡ t → None ≡ cond
 alone_by u v true e h = cc
 alone_by u v false e h = e
 
-pub chars_pair : (order : ByteOrder) (bs : List ℕ) (x : ℕ) → 4 ≤ length bs → OutOfScalarRange (first_unit order bs) → first_unit order bs < 0xDC00
+pub chars_pair : (order : ℕ → ℕ → ℕ) (bs : List ℕ) (x : ℕ) → 4 ≤ length bs → OutOfScalarRange (first_unit order bs) → first_unit order bs < 0xDC00
     → Some x ≡ pair_char (first_unit order bs) (second_unit order bs)
     → utf_16_chars order bs ≡ x ∷ utf_16_chars order (drop 4 bs)
 chars_pair order bs x four range below found =
     let p = paired_by (first_unit order bs) (second_unit order bs) x (is_low_surrogate (second_unit order bs)) refl found in
     chars_paired order bs four (surrogate_high (first_unit order bs) range below) p.0 ∙ ap (λ c. c ∷ utf_16_chars order (drop 4 bs)) (sym p.1)
 
-pub chars_no_pair : (order : ByteOrder) (bs : List ℕ) → 4 ≤ length bs → OutOfScalarRange (first_unit order bs) → first_unit order bs < 0xDC00
+pub chars_no_pair : (order : ℕ → ℕ → ℕ) (bs : List ℕ) → 4 ≤ length bs → OutOfScalarRange (first_unit order bs) → first_unit order bs < 0xDC00
     → None ≡ pair_char (first_unit order bs) (second_unit order bs)
     → utf_16_chars order bs ≡ replacement ∷ utf_16_chars order (drop 2 bs)
 chars_no_pair order bs four range below found =
     chars_unpaired order bs four (surrogate_high (first_unit order bs) range below) (alone_by (first_unit order bs) (second_unit order bs) (is_low_surrogate (second_unit order bs)) refl found)
 
 -- no bytes are left
-pub chars_done : (order : ByteOrder) (made rest total : List ℕ) → length rest ≡ 0 → made ++ encode_utf8_all (utf_16_chars order rest) ≡ total → made ≡ total
+pub chars_done : (order : ℕ → ℕ → ℕ) (made rest total : List ℕ) → length rest ≡ 0 → made ++ encode_utf8_all (utf_16_chars order rest) ≡ total → made ≡ total
 chars_done order made [] total none h = sym (append-nil made) ∙ (rw utf16_chars-nil at h)
 chars_done order made (b ∷ rest) total none h = absurd (omega (arith, none))
 
 -- one character more is written
-pub chars_written : (order : ByteOrder) (bs made pushed total : List ℕ) (taken n character : ℕ)
+pub chars_written : (order : ℕ → ℕ → ℕ) (bs made pushed total : List ℕ) (taken n character : ℕ)
     → total ≡ made ++ encode_utf8_all (utf_16_chars order (drop taken bs)) → pushed ≡ made ++ encode_utf8 character
     → utf_16_chars order (drop taken bs) ≡ character ∷ utf_16_chars order (drop n (drop taken bs))
     → total ≡ pushed ++ encode_utf8_all (utf_16_chars order (drop (taken + n) bs))
 chars_written order bs made pushed total taken n character all one first = rw (all, one, first, drop-drop, append_assoc) refl
-
--- the characters that were written, after what was made before
-pub front_written : (order : ByteOrder) (made rest front others total : List ℕ)
-    → made ++ encode_utf8_all (utf_16_chars order rest) ≡ total → encode_utf8_all (utf_16_chars order rest) ≡ front ++ encode_utf8_all (utf_16_chars order others)
-    → (made ++ front) ++ encode_utf8_all (utf_16_chars order others) ≡ total
-front_written order made rest front others total h written = rw append_assoc (rw (← written) h)

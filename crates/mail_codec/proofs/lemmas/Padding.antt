@@ -1,12 +1,12 @@
 -- Padded groups filled up, read, and cut.
 use Rattle.std.proofs.Common.{◌≡◌, ℕ, zero, suc, ◌+◌, ◌*◌, ◌/◌, ◌%◌, ◌<◌, ◌≤◌, ◌==◌, List, [], ◌∷◌, ◌++◌, length, take, drop, slice_index, Option, Some, None, Ok, refl, sym, ap, ◌∙◌, arith, inl, inr}
 use Rattle.std.proofs.lemmas.Bool.{cases_Bool}
-use Rattle.std.proofs.lemmas.List.{append_assoc, drop_more, drop_all, take-append-le, drop-append-le, length-append, append-nil, drop-drop}
+use Rattle.std.proofs.lemmas.List.{append_assoc, drop_all, take-append-le, drop-append-le, length-append, append-nil, drop-drop}
 use Rattle.mail_codec.specs.Base64.{padding, letter_value, group_number, bytes_of_values, three_bytes, group_bytes, groups_from, after_group, prepend}
 use Rattle.mail_codec.specs.private.Padding.{zero_letter, third, fourth, filled, group_len, cut_groups}
 use Rattle.base64.specs.GeneralPurpose.{IsBytes, decode_of}
 use Rattle.base64.specs.Engines.{standard}
-use Rattle.mail_codec.proofs.lemmas.Base64Groups.{after_group_ok, prepend-nil}
+use Rattle.mail_codec.proofs.lemmas.Base64Groups.{drop_four, after_group_ok, prepend-nil}
 use Rattle.mail_codec.proofs.lemmas.Base64Steps.{groups_decoded}
 
 -- `A` has the value 0
@@ -86,28 +86,12 @@ cut_reads n (p ∷ q ∷ r ∷ s ∷ rest) bytes whole h =
 pub filled-drop : (at : ℕ) (xs : List ℕ) → at + 4 ≤ length xs
     → filled (drop at xs) ≡ slice_index xs at ∷ slice_index xs (at + 1) ∷ third (slice_index xs (at + 2)) (slice_index xs (at + 3)) ∷ fourth (slice_index xs (at + 3)) ∷ filled (drop (at + 4) xs)
 unfolding filled
-filled-drop at xs h =
-    let a : drop at xs ≡ slice_index xs at ∷ drop (at + 1) xs = drop_more xs at 0 (omega arith) in
-    let b : drop (at + 1) xs ≡ slice_index xs (at + 1) ∷ drop (at + 1 + 1) xs = drop_more xs (at + 1) 0 (omega arith) in
-    let c : drop (at + 1 + 1) xs ≡ slice_index xs (at + 1 + 1) ∷ drop (at + 1 + 1 + 1) xs = drop_more xs (at + 1 + 1) 0 (omega arith) in
-    let d : drop (at + 1 + 1 + 1) xs ≡ slice_index xs (at + 1 + 1 + 1) ∷ drop (at + 1 + 1 + 1 + 1) xs = drop_more xs (at + 1 + 1 + 1) 0 (omega arith) in
-    let two : at + 1 + 1 ≡ at + 2 = omega arith in
-    let three : at + 1 + 1 + 1 ≡ at + 3 = omega arith in
-    let four : at + 1 + 1 + 1 + 1 ≡ at + 4 = omega arith in
-    rw (a, b, c, d, four, three, two) refl
+filled-drop at xs h = rw (drop_four at xs h) refl
 
 pub cut_groups-drop : (at : ℕ) (xs bytes : List ℕ) → at + 4 ≤ length xs
     → cut_groups (drop at xs) bytes ≡ take (group_len (slice_index xs (at + 2)) (slice_index xs (at + 3))) bytes ++ cut_groups (drop (at + 4) xs) (drop 3 bytes)
 unfolding cut_groups
-cut_groups-drop at xs bytes h =
-    let a : drop at xs ≡ slice_index xs at ∷ drop (at + 1) xs = drop_more xs at 0 (omega arith) in
-    let b : drop (at + 1) xs ≡ slice_index xs (at + 1) ∷ drop (at + 1 + 1) xs = drop_more xs (at + 1) 0 (omega arith) in
-    let c : drop (at + 1 + 1) xs ≡ slice_index xs (at + 1 + 1) ∷ drop (at + 1 + 1 + 1) xs = drop_more xs (at + 1 + 1) 0 (omega arith) in
-    let d : drop (at + 1 + 1 + 1) xs ≡ slice_index xs (at + 1 + 1 + 1) ∷ drop (at + 1 + 1 + 1 + 1) xs = drop_more xs (at + 1 + 1 + 1) 0 (omega arith) in
-    let two : at + 1 + 1 ≡ at + 2 = omega arith in
-    let three : at + 1 + 1 + 1 ≡ at + 3 = omega arith in
-    let four : at + 1 + 1 + 1 + 1 ≡ at + 4 = omega arith in
-    rw (a, b, c, d, four, three, two) refl
+cut_groups-drop at xs bytes h = rw (drop_four at xs h) refl
 
 -- ---- steps of the loops
 

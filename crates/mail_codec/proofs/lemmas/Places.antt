@@ -1,11 +1,10 @@
 -- Lemmas on the least place with a property.
-use Rattle.std.proofs.Common.{◌≡◌, ℕ, zero, suc, ◌+◌, ◌<◌, ◌≤◌, Bool, true, false, cond, List, [], ◌∷◌, length, drop, get_or, Some, None, inl, inr, refl, ap, subst, ◌∙◌, arith}
+use Rattle.std.proofs.Common.{◌≢◌, ◌-◌, sym, length-drop, ◌≡◌, ℕ, zero, suc, ◌+◌, ◌<◌, ◌≤◌, Bool, true, false, cond, List, [], ◌∷◌, length, drop, get_or, Some, inl, inr, refl, ap, subst, ◌∙◌, arith}
 use Rattle.std.specs.Prelude.{nat_eq}
 use Rattle.std.specs.List.{starts_with}
-use Rattle.std.proofs.lemmas.Bool.{cases_lt, lt-ltb, le-ltb}
-use Rattle.std.proofs.lemmas.List.{drop_more}
-use Rattle.std.proofs.Math.ListN.{drop_of_length-le}
-use Rattle.mail_codec.specs.Places.{first_place, begins, stands, place, least, IsFirstPlace}
+use Rattle.std.proofs.lemmas.Bool.{false≢true, cases_lt, lt-ltb}
+use Rattle.std.proofs.lemmas.List.{drop_more, drop-drop}
+use Rattle.mail_codec.specs.Places.{first_place, place_from, begins, stands, place, least, IsFirstPlace}
 
 -- it lies within the bytes
 pub first_place-≤ : (test : List ℕ → Bool) (bytes : List ℕ) → first_place test bytes ≤ length bytes
@@ -58,7 +57,7 @@ first_place-is_first test bytes = record {
   before = first_place-before test bytes;
 }
 
-true_not_false : {v : Bool} → v ≡ true → v ≡ false → ⊥
+pub true_not_false : {v : Bool} → v ≡ true → v ≡ false → ⊥
 true_not_false a b = cc
 
 IsFirstPlace-≤ : (test : List ℕ → Bool) (bytes : List ℕ) (p q : ℕ) → IsFirstPlace test bytes p → IsFirstPlace test bytes q → p ≤ q
@@ -76,10 +75,6 @@ pub record PassedTo (test : List ℕ → Bool) (bytes : List ℕ) (answer i : �
   pub within : i ≤ length bytes
   pub later : answer ≡ i + first_place test (drop i bytes)
 
--- begins at its start
-pub PassedTo-start : (test : List ℕ → Bool) (bytes : List ℕ) → PassedTo test bytes (first_place test bytes) 0
-PassedTo-start test bytes = record { within = omega arith; later = omega arith }
-
 -- passes over one more
 pub PassedTo-more : (test : List ℕ → Bool) (bytes : List ℕ) (answer i : ℕ) → PassedTo test bytes answer i → i < length bytes → test (drop i bytes) ≡ false → PassedTo test bytes answer (i + 1)
 PassedTo-more test bytes answer i h low e =
@@ -94,20 +89,9 @@ PassedTo-first test bytes answer i h e =
     let later = h.later in
     omega arith
 
--- and at the end has found that there is none
-pub PassedTo-all : (test : List ℕ → Bool) (bytes : List ℕ) (answer i : ℕ) → PassedTo test bytes answer i → length bytes ≤ i → answer ≡ length bytes
-PassedTo-all test bytes answer i h high =
-    let none : first_place test (drop i bytes) ≡ 0 = rw (drop_of_length-le bytes high) refl in
-    let later = h.later in
-    let within = h.within in
-    omega arith
-
 -- the same for a search over all bytes
 pub place-found : (test : List ℕ → Bool) (bytes : List ℕ) (i : ℕ) → PassedTo test bytes (first_place test bytes) i → i < length bytes → test (drop i bytes) ≡ true → place test bytes ≡ Some i
 place-found test bytes i h low e = rw (PassedTo-first test bytes (first_place test bytes) i h e) (rw (lt-ltb i (length bytes) low) refl)
-
-pub place-none : (test : List ℕ → Bool) (bytes : List ℕ) (i : ℕ) → PassedTo test bytes (first_place test bytes) i → length bytes ≤ i → place test bytes ≡ None
-place-none test bytes i h high = rw (PassedTo-all test bytes (first_place test bytes) i h high) (rw (le-ltb (length bytes) (length bytes) (omega arith)) refl)
 
 -- a test of the first byte, at a place
 pub begins-at : (test : ℕ → Bool) (bytes : List ℕ) (i : ℕ) → i < length bytes → begins test (drop i bytes) ≡ test (get_or bytes i 0)
@@ -117,6 +101,87 @@ begins-at test bytes i h = ap (begins test) (drop_more bytes i 0 h)
 pub stands-starts_with : (text bytes : List ℕ) → starts_with nat_eq bytes text ≡ stands text bytes
 stands-starts_with text bytes = refl
 
+-- ---- at or after a start
+
+-- seen from a place at or before it, it is the same place
+pub first_place-drop : (test : List ℕ → Bool) (bytes : List ℕ) (k : ℕ) → k ≤ first_place test bytes
+    → first_place test (drop k bytes) + k ≡ first_place test bytes
+first_place-drop test bytes zero h = omega arith
+first_place-drop test [] (suc k) h = absurd (omega arith)
+first_place-drop test (b ∷ bytes) (suc k) h = go (test (b ∷ bytes)) refl (first_place-drop test bytes k)
+  where
+    go : (t : Bool) → test (b ∷ bytes) ≡ t → (k ≤ first_place test bytes → first_place test (drop k bytes) + k ≡ first_place test bytes)
+        → first_place test (drop k bytes) + suc k ≡ first_place test (b ∷ bytes)
+    go true e ih = let here = first_place-here test (b ∷ bytes) e in absurd (omega arith)
+    go false e ih = let later = first_place-past test b bytes e in let same = ih (omega arith) in omega arith
+
+-- a place found lies at or after the start, and within the length
+pub place_from_bounds : (test : List ℕ → Bool) (bytes : List ℕ) (s : ℕ) → s ≤ length bytes
+    → (s ≤ place_from test bytes s) × (place_from test bytes s ≤ length bytes)
+place_from_bounds test bytes s h =
+    let le = first_place-≤ test (drop s bytes) in
+    let len = length-drop s bytes in
+    (omega arith, omega arith)
+
+-- what stands there passes
+pub place_from_passes : (test : List ℕ → Bool) (bytes : List ℕ) (s : ℕ) → s ≤ length bytes → place_from test bytes s ≢ length bytes
+    → test (drop (place_from test bytes s) bytes) ≡ true
+place_from_passes test bytes s h some =
+    let le = first_place-≤ test (drop s bytes) in
+    let len = length-drop s bytes in
+    let inside : first_place test (drop s bytes) < length (drop s bytes) = omega arith in
+    let there = drop-drop (first_place test (drop s bytes)) s bytes in
+    subst (λ rest. test rest ≡ true) there (first_place-passes test (drop s bytes) inside)
+
+-- the same place is found from each place between the start and it
+pub place_from_same : (test : List ℕ → Bool) (bytes : List ℕ) (s k : ℕ) → s ≤ k → k ≤ place_from test bytes s
+    → place_from test bytes k ≡ place_from test bytes s
+place_from_same test bytes s k low high =
+    let d = k - s in
+    let same = first_place-drop test (drop s bytes) d (omega arith) in
+    let there : drop d (drop s bytes) ≡ drop k bytes = drop-drop d s bytes ∙ ap (λ n. drop n bytes) (omega arith) in
+    let moved : first_place test (drop k bytes) + d ≡ first_place test (drop s bytes) = subst (λ rest. first_place test rest + d ≡ first_place test (drop s bytes)) there same in
+    omega arith
+
+-- a place whose rest passes is the one found from it
+pub place_from_here : (test : List ℕ → Bool) (bytes : List ℕ) (s : ℕ) → s < length bytes → test (drop s bytes) ≡ true
+    → place_from test bytes s ≡ s
+place_from_here test bytes s h e =
+    let first = drop_more bytes s 0 h in
+    let here : first_place test (drop s bytes) ≡ 0 = subst (λ rest. test rest ≡ true → first_place test rest ≡ 0) (sym first) (first_place-here test (get_or bytes s 0 ∷ drop (s + 1) bytes)) e in
+    omega arith
+
+-- a place whose rest fails is passed over
+pub place_from_next : (test : List ℕ → Bool) (bytes : List ℕ) (s : ℕ) → s < length bytes → test (drop s bytes) ≡ false
+    → place_from test bytes s ≡ place_from test bytes (s + 1)
+place_from_next test bytes s h e =
+    let first = drop_more bytes s 0 h in
+    let later : first_place test (drop s bytes) ≡ suc (first_place test (drop (s + 1) bytes)) =
+    subst (λ rest. test rest ≡ false → first_place test rest ≡ suc (first_place test (drop (s + 1) bytes))) (sym first)
+    (first_place-past test (get_or bytes s 0) (drop (s + 1) bytes)) e in
+    omega arith
+
+first_place_weaker : (test stronger : List ℕ → Bool) → ((rest : List ℕ) → stronger rest ≡ true → test rest ≡ true) → (bytes : List ℕ)
+    → first_place test bytes ≤ first_place stronger bytes
+first_place_weaker test stronger implies [] = omega arith
+first_place_weaker test stronger implies (b ∷ bytes) = go (test (b ∷ bytes)) (stronger (b ∷ bytes)) refl refl (first_place_weaker test stronger implies bytes)
+  where
+    go : (t u : Bool) → test (b ∷ bytes) ≡ t → stronger (b ∷ bytes) ≡ u → first_place test bytes ≤ first_place stronger bytes
+        → first_place test (b ∷ bytes) ≤ first_place stronger (b ∷ bytes)
+    go true u e f ih = let here = first_place-here test (b ∷ bytes) e in omega arith
+    go false true e f ih = absurd (false≢true (sym e ∙ implies (b ∷ bytes) f))
+    go false false e f ih =
+        let later = first_place-past test b bytes e in
+        let later' = first_place-past stronger b bytes f in
+        omega arith
+
+-- a test that passes wherever another does has its place at or before that one's
+pub place_from_weaker : (test stronger : List ℕ → Bool) → ((rest : List ℕ) → stronger rest ≡ true → test rest ≡ true) → (bytes : List ℕ) (s : ℕ)
+    → place_from test bytes s ≤ place_from stronger bytes s
+place_from_weaker test stronger implies bytes s = let le = first_place_weaker test stronger implies (drop s bytes) in omega arith
+
+-- ---- the least number
+
 -- a number below the bound that passes and below which none passes is the least
 pub least-is : (test : ℕ → Bool) (bound n : ℕ) → n ≤ bound → ((k : ℕ) → k < n → test k ≡ false) → (n < bound → test n ≡ true) → least test bound ≡ n
 least-is test zero n h below at = omega arith
@@ -124,12 +189,6 @@ least-is test (suc bound) zero h below at = let e : test 0 ≡ true = at (omega 
 least-is test (suc bound) (suc n) h below at =
     let e : test 0 ≡ false = below 0 (omega arith) in
     rw e (ap suc (least-is (λ k. test (suc k)) bound n (omega arith) (λ k low. below (suc k) (omega arith)) (λ low. at (omega arith))))
-
-pub least-≤ : (test : ℕ → Bool) (bound : ℕ) → least test bound ≤ bound
-least-≤ test zero = omega arith
-least-≤ test (suc bound) =
-    let h : least (λ k. test (suc k)) bound ≤ bound = least-≤ (λ k. test (suc k)) bound in
-    elim (test 0) as (λ v. cond v 0 (suc (least (λ k. test (suc k)) bound)) ≤ suc bound) [ true ↦ omega arith | false ↦ omega arith ]
 
 -- no number below it passes
 pub least-before : (test : ℕ → Bool) (bound k : ℕ) → k < least test bound → test k ≡ false

@@ -5,11 +5,7 @@ use Rattle.std.proofs.lemmas.Bool.Decides.{Decides-eqb}
 use Rattle.std.proofs.lemmas.Slice.Eq.{slice_eq-Decides}
 use Rattle.std.proofs.lemmas.List.{drop-drop, length-drop, drop_all}
 use Rattle.mail_codec.specs.Places.{first_place, place_from, begins, stands, place, byte_place, text_place, HasByteAt, HasTextAt, IsFirstOf, IsFirstPlaceFrom}
-use Rattle.mail_codec.proofs.lemmas.Places.{first_place-passes, first_place-before, begins-at}
-use Rattle.mail_codec.proofs.lemmas.PlacesFrom.{place_from_bounds}
-
-true_not_false : {v : Bool} → v ≡ true → v ≡ false → ⊥
-true_not_false a b = cc
+use Rattle.mail_codec.proofs.lemmas.Places.{true_not_false, first_place-passes, first_place-before, begins-at, place_from_bounds}
 
 -- ---- the least place at or after a start
 
