@@ -1,14 +1,15 @@
 -- The charsets that are read, their labels and the text of bytes in each (the WHATWG Encoding
 -- Standard, sections 4.2, 6, 8.1.1, 9.1 and 14), and the text of bytes under no known label, which
 -- is the crate's own rule.
-use Rattle.std.specs.Prelude.{ℕ, ◌+◌, ◌-◌, ◌*◌, Bool, true, false, not, ◌&&◌, List, [], ◌∷◌, ◌++◌, map, take, drop, length, slice_index, nat_eq, nat_lt, Option, option_map, find, codes, encode_utf8_all, if◌then◌else◌}
+use Rattle.std.specs.Prelude.{ℕ, ◌+◌, ◌-◌, ◌*◌, Bool, true, false, not, ◌&&◌, List, [], ◌∷◌, ◌++◌, map, drop, length, slice_index, nat_eq, nat_lt, Option, option_map, find, codes, encode_utf8_all, if◌then◌else◌}
 use Rattle.std.specs.Int.{is_in_range}
-use Rattle.std.specs.List.{list_any, starts_with, prefix_len, suffix_len}
+use Rattle.std.specs.List.{list_any, starts_with}
 use Rattle.std.specs.Option.{option_map_or}
 use Rattle.std.specs.Char.{is_ascii_whitespace}
 use Rattle.std.specs.Char.Utf16.{is_high_surrogate, utf16_lossy_chars}
 use Rattle.std.specs.Str.{str_eq_ignore_ascii_case}
 use Rattle.std.specs.Str.Lossy.{utf8_lossy}
+use Rattle.mail_codec.specs.Places.{trimmed_at_start, trimmed_at_end}
 use Rattle.mail_codec.specs.declared.charset.Charset.{Charset}
 use Rattle.mail_codec.specs.declared.charset.Charset.TheVariants.{Utf8, Windows1252, Utf16Le, Utf16Be}
 
@@ -40,13 +41,9 @@ utf_16le_labels = codes "csunicode" ∷ codes "iso-10646-ucs-2" ∷ codes "ucs-2
 abbrev pub labels_by_charset : List (Charset × List (List ℕ))
 labels_by_charset = (Utf8, utf_8_labels) ∷ (Windows1252, windows_1252_labels) ∷ (Utf16Be, utf_16be_labels) ∷ (Utf16Le, utf_16le_labels) ∷ []
 
--- the label without the ASCII white space (space, tab, LF, FF, CR) at its start
-abbrev pub trimmed_at_start : List ℕ → List ℕ
-trimmed_at_start label = drop (prefix_len is_ascii_whitespace label) label
-
--- the label without it at its end
-abbrev pub trimmed_at_end : List ℕ → List ℕ
-trimmed_at_end label = take (length label - suffix_len is_ascii_whitespace label) label
+-- the label without ASCII white space (space, tab, LF, FF, CR) at its start and at its end
+abbrev pub trimmed_label : List ℕ → List ℕ
+trimmed_label label = trimmed_at_end is_ascii_whitespace (trimmed_at_start is_ascii_whitespace label)
 
 -- one of the labels is this one, ignoring ASCII case
 unfoldable pub is_among_labels : List (List ℕ) → List ℕ → Bool
@@ -55,7 +52,7 @@ is_among_labels labels label = list_any (λ known. str_eq_ignore_ascii_case labe
 -- the charset that has the label, once that is trimmed at both ends
 unfoldable pub charset_of_label : List ℕ → Option Charset
 charset_of_label label =
-    option_map (λ row. row.0) (find (λ row. is_among_labels row.1 (trimmed_at_end (trimmed_at_start label))) labels_by_charset)
+    option_map (λ row. row.0) (find (λ row. is_among_labels row.1 (trimmed_label label)) labels_by_charset)
 
 -- One byte, one character (section 9.1).
 

@@ -1,3 +1,4 @@
+pub mod Ascii
 pub mod Places
 pub mod Latin1
 pub mod Charset

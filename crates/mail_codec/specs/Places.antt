@@ -1,7 +1,7 @@
 -- Places in a list of bytes, counted from 0, and the least place with a property; the project's own words.
-use Rattle.std.specs.Prelude.{◌≡◌, ◌≢◌, ℕ, zero, suc, ◌+◌, ◌<◌, ◌≤◌, Bool, true, false, not, ◌==◌, nat_eq, nat_lt, filter, List, [], ◌∷◌, length, take, drop, slice_index, Option, None, Some, if◌then◌else◌}
+use Rattle.std.specs.Prelude.{◌≡◌, ◌≢◌, ℕ, zero, suc, ◌+◌, ◌-◌, ◌<◌, ◌≤◌, Bool, true, false, not, ◌==◌, nat_eq, nat_lt, filter, List, [], ◌∷◌, length, take, drop, slice_index, Option, None, Some, if◌then◌else◌}
 use Rattle.std.specs.Char.{is_ascii_whitespace}
-use Rattle.std.specs.List.{starts_with}
+use Rattle.std.specs.List.{starts_with, prefix_len, suffix_len}
 
 -- the least place from which on the rest of the bytes passes the test, or the length where there is none
 abbrev pub first_place : (List ℕ → Bool) → List ℕ → ℕ
@@ -77,3 +77,11 @@ values_below (suc n) f = f 0 ∷ values_below n (λ k. f (suc k))
 -- the bytes that are no ASCII white space (space, tab, LF, FF, CR), in order
 abbrev pub without_ascii_whitespace : List ℕ → List ℕ
 without_ascii_whitespace bytes = filter (λ b. not (is_ascii_whitespace b)) bytes
+
+-- the bytes without those at the start that pass the test
+abbrev pub trimmed_at_start : (ℕ → Bool) → List ℕ → List ℕ
+trimmed_at_start test bytes = drop (prefix_len test bytes) bytes
+
+-- the bytes without those at the end that pass it
+abbrev pub trimmed_at_end : (ℕ → Bool) → List ℕ → List ℕ
+trimmed_at_end test bytes = take (length bytes - suffix_len test bytes) bytes

@@ -1,8 +1,8 @@
 -- Lemmas on the least place with a property.
 use Rattle.std.proofs.Common.{◌≢◌, ◌-◌, sym, length-drop, ◌≡◌, ℕ, zero, suc, ◌+◌, ◌<◌, ◌≤◌, Bool, true, false, cond, List, [], ◌∷◌, length, drop, get_or, Some, inl, inr, refl, ap, subst, ◌∙◌, arith}
 use Rattle.std.specs.Prelude.{nat_eq}
-use Rattle.std.specs.List.{starts_with}
-use Rattle.std.proofs.lemmas.Bool.{false≢true, cases_lt, lt-ltb}
+use Rattle.std.specs.List.{position_or_len, starts_with}
+use Rattle.std.proofs.lemmas.Bool.{cases_Bool, false≢true, cases_lt, lt-ltb}
 use Rattle.std.proofs.lemmas.List.{drop_more, drop-drop}
 use Rattle.mail_codec.specs.Places.{first_place, place_from, begins, stands, place, least, IsFirstPlace}
 
@@ -96,6 +96,16 @@ place-found test bytes i h low e = rw (PassedTo-first test bytes (first_place te
 -- a test of the first byte, at a place
 pub begins-at : (test : ℕ → Bool) (bytes : List ℕ) (i : ℕ) → i < length bytes → begins test (drop i bytes) ≡ test (get_or bytes i 0)
 begins-at test bytes i h = ap (begins test) (drop_more bytes i 0 h)
+
+-- a test of single bytes, as std looks for it
+pub first_place-begins : (test : ℕ → Bool) (bytes : List ℕ) → first_place (begins test) bytes ≡ position_or_len test bytes
+first_place-begins test [] = refl
+first_place-begins test (b ∷ rest) = elim (cases_Bool (test b)) [
+  | inl e ↦ rw e refl
+  | inr e ↦
+      let one : 1 + position_or_len test rest ≡ suc (position_or_len test rest) = omega arith in
+      rw (e, one) (ap suc (first_place-begins test rest))
+]
 
 -- a text that stands there, as std's `starts_with` tells it
 pub stands-starts_with : (text bytes : List ℕ) → starts_with nat_eq bytes text ≡ stands text bytes

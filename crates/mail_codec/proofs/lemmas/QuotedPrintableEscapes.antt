@@ -1,8 +1,8 @@
 -- Escapes read run by run, and a text read line by line.
-use Rattle.std.proofs.Common.{◌≡◌, ℕ, suc, ◌+◌, ◌-◌, ◌<◌, ◌≤◌, ◌==◌, false, List, [], ◌∷◌, ◌++◌, length, take, drop, slice_index, Option, Some, None, refl, sym, ap, ◌∙◌, arith, inl, inr}
-use Rattle.std.specs.List.{position_or_len}
+use Rattle.std.proofs.Common.{◌≡◌, ℕ, ◌+◌, ◌-◌, ◌<◌, ◌≤◌, ◌==◌, false, List, [], ◌∷◌, ◌++◌, length, take, drop, slice_index, Option, Some, None, refl, sym, ap, ◌∙◌, arith, inl, inr}
 use Rattle.std.proofs.lemmas.Bool.{cases_Bool}
 use Rattle.std.proofs.lemmas.List.{append_assoc, drop_more, drop-drop}
+use Rattle.mail_codec.specs.Places.{first_place, begins}
 use Rattle.mail_codec.specs.QuotedPrintable.{first_escape, after_escape, unescaped}
 
 -- ---- escapes
@@ -32,24 +32,23 @@ first_escape-other b (c ∷ []) h = refl
 first_escape-other b (c ∷ d ∷ rest) h = rw h refl
 
 -- what stands before the first `=` stays
-unescaped_run : (text : List ℕ) → unescaped text ≡ take (position_or_len (λ b. b == 61) text) text ++ unescaped (drop (position_or_len (λ b. b == 61) text) text)
+unescaped_run : (text : List ℕ) → unescaped text ≡ take (first_place (begins (λ b. b == 61)) text) text ++ unescaped (drop (first_place (begins (λ b. b == 61)) text) text)
 unescaped_run [] = refl
 unescaped_run (b ∷ text) = elim (cases_Bool (b == 61)) [
   | inl is ↦ rw is refl
   | inr other ↦
-      let n : ℕ = position_or_len (λ b. b == 61) text in
-      let one : 1 + n ≡ suc n = omega arith in
+      let n : ℕ = first_place (begins (λ b. b == 61)) text in
       unescaped_stays b text (first_escape-other b text other)
       ∙ ap (λ (r : List ℕ). b ∷ r) (unescaped_run text)
-      ∙ (rw (other, one) refl)
+      ∙ (rw other refl)
 ]
 
 -- a run of a loop that appends what it has read
 module _ (text cur next : List ℕ) (at sign : ℕ) (within : at ≤ length text)
-    (sign_is : sign ≡ at + position_or_len (λ b. b == 61) (drop at text)) (next_is : next ≡ cur ++ take (sign - at) (drop at text)) where
+    (sign_is : sign ≡ at + first_place (begins (λ b. b == 61)) (drop at text)) (next_is : next ≡ cur ++ take (sign - at) (drop at text)) where
   pub run_read : cur ++ unescaped (drop at text) ≡ next ++ unescaped (drop sign text)
   run_read =
-      let n : ℕ = position_or_len (λ b. b == 61) (drop at text) in
+      let n : ℕ = first_place (begins (λ b. b == 61)) (drop at text) in
       let len : sign - at ≡ n = omega arith in
       let behind : drop n (drop at text) ≡ drop sign text = drop-drop n at text ∙ ap (λ (k : ℕ). drop k text) (sym sign_is) in
       ap (λ (r : List ℕ). cur ++ r) (unescaped_run (drop at text))

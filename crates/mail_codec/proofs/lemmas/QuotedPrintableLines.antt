@@ -5,7 +5,9 @@ use Rattle.std.proofs.lemmas.Bool.{cases_Bool, eq-eqb, ne_eqb}
 use Rattle.std.proofs.lemmas.List.{append-nil, append_assoc, drop-drop, length-take-le, take-take, take_all, get_or-take, length-drop}
 use Rattle.std.proofs.lemmas.List.Splits.{slice_split_none, slice_split_first}
 use Rattle.std.proofs.lemmas.List.Sums.{fails_before_first}
-use Rattle.mail_codec.specs.QuotedPrintable.{Line, ends_in, lf, cr_lf, is_blank, trimmed, ended_line, lines_of_pieces, lines_of, line_bytes, quoted_printable, unescaped}
+use Rattle.mail_codec.specs.Places.{first_place, begins, trimmed_at_end}
+use Rattle.mail_codec.specs.QuotedPrintable.{Line, ends_in, lf, cr_lf, is_blank, ended_line, lines_of_pieces, lines_of, line_bytes, quoted_printable, unescaped}
+use Rattle.mail_codec.proofs.lemmas.Places.{first_place-begins}
 
 pub ends_in-last : (c : ℕ) (xs : List ℕ) → 0 < length xs → ends_in c xs ≡ (slice_index xs (length xs - 1) == c)
 ends_in-last c [] h = absurd (omega arith)
@@ -29,7 +31,7 @@ module _ (content ending : List ℕ) (end : ℕ) (end_is : end ≡ length conten
   abbrev line : Line
   line = record { content = content; ending = ending }
 
-  trimmed_is : trimmed content ≡ take end content
+  trimmed_is : trimmed_at_end is_blank content ≡ take end content
   trimmed_is = ap (λ (n : ℕ). take n content) (sym end_is)
 
   length_trimmed : length (take end content) ≡ end
@@ -118,20 +120,23 @@ quoted_printable-more text h =
 -- ---- a turn of the loop over lines
 
 module _ (text cur : List ℕ) (at line : ℕ) (within : at ≤ length text)
-    (line_is : line ≡ at + position_or_len is_lf (drop at text)) where
+    (line_is : line ≡ at + first_place (begins is_lf) (drop at text)) where
   abbrev here : ℕ
   here = position_or_len is_lf (drop at text)
 
+  line_there : line ≡ at + here
+  line_there = line_is ∙ ap (λ (n : ℕ). at + n) (first_place-begins is_lf (drop at text))
+
   piece_is : take (line - at) (drop at text) ≡ before_first is_lf (drop at text)
-  piece_is = ap (λ (n : ℕ). take n (drop at text)) (omega arith)
+  piece_is = ap (λ (n : ℕ). take n (drop at text)) (omega (arith, line_there))
 
   rest_is : after_first is_lf (drop at text) ≡ drop (line + 1) text
-  rest_is = drop-drop (here + 1) at text ∙ ap (λ (n : ℕ). drop n text) (omega arith)
+  rest_is = drop-drop (here + 1) at text ∙ ap (λ (n : ℕ). drop n text) (omega (arith, line_there))
 
   pub line_read : (next : List ℕ) → line < length text → next ≡ cur ++ line_bytes (ended_line (take (line - at) (drop at text)))
       → cur ++ quoted_printable (drop at text) ≡ next ++ quoted_printable (drop (line + 1) text)
   line_read next lt next_is =
-      let short : here < length (drop at text) = omega (arith, length-drop at text) in
+      let short : here < length (drop at text) = omega (arith, line_there, length-drop at text) in
       ap (λ (r : List ℕ). cur ++ r) (quoted_printable-more (drop at text) short)
       ∙ sym (append_assoc cur (line_bytes (ended_line (before_first is_lf (drop at text)))) (quoted_printable (after_first is_lf (drop at text))))
       ∙ ap (λ (r : List ℕ). (cur ++ line_bytes (ended_line r)) ++ quoted_printable (after_first is_lf (drop at text))) (sym piece_is)
@@ -141,7 +146,7 @@ module _ (text cur : List ℕ) (at line : ℕ) (within : at ≤ length text)
   pub line_last : (next : List ℕ) → line ≡ length text → next ≡ cur ++ line_bytes (record { content = take (line - at) (drop at text); ending = [] })
       → cur ++ quoted_printable (drop at text) ≡ next
   line_last next end next_is =
-      let len : here ≡ length (drop at text) = omega (arith, length-drop at text) in
+      let len : here ≡ length (drop at text) = omega (arith, line_there, length-drop at text) in
       let all : take (line - at) (drop at text) ≡ drop at text = take_all (line - at) (drop at text) (omega (arith, length-drop at text)) in
       ap (λ (r : List ℕ). cur ++ r) (quoted_printable-last (drop at text) len)
       ∙ ap (λ (r : List ℕ). cur ++ line_bytes (record { content = r; ending = [] })) (sym all)

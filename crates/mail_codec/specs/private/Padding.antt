@@ -1,10 +1,11 @@
 -- How padded groups are read together with others; this crate's own words for private functions.
 use Rattle.std.specs.Prelude.{ℕ, ◌==◌, ◌&&◌, if◌then◌else◌, List, [], ◌∷◌, ◌++◌, take, drop}
+use Rattle.mail_codec.specs.Ascii.{upper_a}
 use Rattle.mail_codec.specs.Base64.{padding}
 
 -- `A`, the letter whose value is 0.
 abbrev pub zero_letter : ℕ
-zero_letter = 65
+zero_letter = upper_a
 
 -- The third and the fourth byte of a group, its padding filled up.
 abbrev pub third : ℕ → ℕ → ℕ

@@ -2,7 +2,7 @@
 //!
 //! What is small is inlined: the searches are fast where the compiler knows what ends a run.
 ghost use Rattle.std.specs.Prelude.{◌≡◌, ◌≤◌, ◌++◌, length, OnOk, false};
-ghost use Rattle.std.specs.List.{position_or_len};
+ghost use Rattle.mail_codec.specs.Places.{begins, first_place};
 ghost use Rattle.mail_codec.specs.private.Runs.{ends_run, NoneEnds, without_ends};
 
 use std::alloc::AllocError;
@@ -69,7 +69,7 @@ pub(crate) fn push_runs(kept: &mut Vec<u8>, bytes: &[u8], end: RunEnd) -> Result
 /// byte by byte from the first block that may hold such a byte.
 #[inline(always)]
 pub(crate) fn run_len(bytes: &[u8], end: RunEnd) -> usize
-    ensures least { result ≡ position_or_len (ends_run end) bytes.now }
+    ensures least { result ≡ first_place (begins (ends_run end)) bytes.now }
     ensures within { result ≤ length bytes.now }
 {
     let mut at = free_len(bytes, end);

@@ -1,13 +1,13 @@
 use Rattle.std.proofs.Common.{◌+◌, ◌++◌, ◌==◌, ap, sym, ◌∙◌, arith}
 use Rattle.std.proofs.lemmas.List.{take_rest, append-nil, drop_all, length-drop}
-use Rattle.std.specs.List.{position_or_len}
+use Rattle.mail_codec.specs.Places.{first_place, begins}
 use Rattle.mail_codec.specs.QuotedPrintable.{unescaped}
 use Rattle.mail_codec.proofs.lemmas.QuotedPrintableEscapes.{run_read, escape_read, sign_read, unescaped-nil}
 use Rattle.mail_codec.proofs.transfer.quoted_printable.push_unescaped.Goals as goal
 
 pub runs-preserved-then-kept-at-ne61 : goal.runs-preserved-then-kept-at-ne61
 runs-preserved-then-kept-at-ne61 c =
-    let found = c.run_len.ensures.least ∙ ap (position_or_len (λ b. b == 61)) (take_rest c.args.kept.now c.runs.at) in
+    let found = c.run_len.ensures.least ∙ ap (first_place (begins (λ b. b == 61))) (take_rest c.args.kept.now c.runs.at) in
     record {
       within = omega (arith, c.run_len.ensures.within, length-drop c.runs.at c.args.kept.now);
       so_far =
