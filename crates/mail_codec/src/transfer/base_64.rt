@@ -44,7 +44,7 @@ fn decode_base64_without(
 ) -> Result<Result<Vec<u8>, usize>, AllocError>
     ensures { IfOk result (λ answer. items_or_fault answer ≡ groups_from 0 (without_ends absent text.now)) }
 {
-    let mut bytes = Vec::new(alloc);
+    let mut bytes = Vec::with_capacity(alloc, text.len() / 4 * 3)?;
     let mut letters = Vec::with_capacity(alloc, text.len().min(WINDOW + 3))?;
     let mut groups = 0;
     let mut at = 0;

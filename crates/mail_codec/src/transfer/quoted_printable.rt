@@ -15,7 +15,7 @@ use std::alloc::{AllocError, Global};
 pub fn decode_quoted_printable(alloc: Global, text: &[u8]) -> Result<Vec<u8>, AllocError>
     ensures { IfOk result (λ bytes. bytes.items ≡ quoted_printable text.now) }
 {
-    let mut bytes = Vec::new(alloc);
+    let mut bytes = Vec::with_capacity(alloc, text.len())?;
     let mut at = 0;
     'lines: while at < text.len() {
         let line = at + run_len(&text[at..], RunEnd::Byte(b'\n'));

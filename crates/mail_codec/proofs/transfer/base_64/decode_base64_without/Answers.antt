@@ -12,7 +12,7 @@ windows-init c = record {
   within = search rules;
   few_left = omega (arith, c.in_ok-letters.ensures.len);
   counted = omega (arith, c.in_ok-letters.ensures.len);
-  so_far = groups_start c.args.absent c.args.text.now c.new-bytes.result.items c.in_ok-letters.letters.items c.new-bytes.ensures.items c.in_ok-letters.ensures.items;
+  so_far = groups_start c.args.absent c.args.text.now c.in_ok-bytes.bytes.items c.in_ok-letters.letters.items c.in_ok-bytes.ensures.items c.in_ok-letters.ensures.items;
 }
 
 pub returns-in-Err : goal.returns-in-Err
