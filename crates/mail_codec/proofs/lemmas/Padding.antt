@@ -53,6 +53,18 @@ group_len_few r s = elim (cases_Bool (s == padding)) [
   ]
 ]
 
+-- a group is the first bytes of the four letters that it is filled up to
+pub group_bytes-filled : (p q r s : ℕ) → group_bytes p q r s
+    ≡ bytes_of_values (group_len r s) (letter_value p) (letter_value q) (letter_value (third r s)) (letter_value (fourth s))
+unfolding group_bytes
+group_bytes-filled p q r s = elim (cases_Bool (s == padding)) [
+  | inr whole ↦ rw whole refl
+  | inl short ↦ elim (cases_Bool (r == padding)) [
+    | inl both ↦ rw (short, both, zero_value) refl
+    | inr one ↦ rw (short, one, zero_value) refl
+  ]
+]
+
 -- three bytes before others
 front_of : (c d : List ℕ) (k : ℕ) → length c ≡ 3 → k ≤ 3 → (take k (c ++ d) ≡ take k c) × (drop 3 (c ++ d) ≡ d)
 front_of c d k len few = (

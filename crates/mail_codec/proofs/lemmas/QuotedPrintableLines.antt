@@ -1,73 +1,63 @@
 -- A line's bytes by the last byte that it keeps, and a text by its first LF.
-use Rattle.std.proofs.Common.{◌≡◌, ◌≢◌, ℕ, suc, ◌+◌, ◌-◌, ◌<◌, ◌≤◌, ◌==◌, Bool, true, false, List, [], ◌∷◌, ◌++◌, length, take, drop, get_or, slice_index, refl, sym, ap, ◌∙◌, arith, inl, inr}
+use Rattle.std.proofs.Common.{◌≡◌, ℕ, suc, ◌+◌, ◌-◌, ◌<◌, ◌≤◌, ◌==◌, Bool, true, false, List, [], ◌∷◌, ◌++◌, length, take, drop, refl, sym, ap, ◌∙◌, arith, inl, inr}
+use Rattle.std.specs.Prelude.{nat_eq}
 use Rattle.std.specs.List.{flat_map, slice_split, onto_first, position_or_len, before_first, after_first, suffix_len}
-use Rattle.std.proofs.lemmas.Bool.{cases_Bool, eq-eqb, ne_eqb}
-use Rattle.std.proofs.lemmas.List.{append-nil, append_assoc, drop-drop, length-take-le, take-take, take_all, get_or-take, length-drop}
+use lib.Pointwise.{pointwise}
+use Rattle.std.proofs.Math.Bool.{and-true}
+use Rattle.std.proofs.lemmas.Bool.{cases_Bool}
+use Rattle.std.proofs.lemmas.List.{append-nil, append_assoc, drop-drop, take_all, length-drop}
 use Rattle.std.proofs.lemmas.List.Splits.{slice_split_none, slice_split_first}
 use Rattle.std.proofs.lemmas.List.Sums.{fails_before_first}
 use Rattle.mail_codec.specs.Places.{first_place, begins, trimmed_at_end}
 use Rattle.mail_codec.specs.QuotedPrintable.{Line, ends_in, lf, cr_lf, is_blank, ended_line, lines_of_pieces, lines_of, line_bytes, quoted_printable, unescaped}
 use Rattle.mail_codec.proofs.lemmas.Places.{first_place-begins}
 
-pub ends_in-last : (c : ℕ) (xs : List ℕ) → 0 < length xs → ends_in c xs ≡ (slice_index xs (length xs - 1) == c)
-ends_in-last c [] h = absurd (omega arith)
-ends_in-last c (x ∷ []) h = refl
-ends_in-last c (x ∷ y ∷ xs) h =
+-- the last byte, as std's `strip_suffix` tests it
+pub ends_in-suffix : (c : ℕ) (xs : List ℕ) → ends_in c xs ≡ pointwise nat_eq (drop (length xs - 1) xs) (c ∷ [])
+ends_in-suffix c [] = refl
+ends_in-suffix c (x ∷ []) = sym (and-true (x == c))
+ends_in-suffix c (x ∷ y ∷ xs) =
     let e : suc (suc (length xs)) - 1 ≡ suc (suc (length xs) - 1) = omega arith in
-    ends_in-last c (y ∷ xs) (omega arith) ∙ ap (λ (k : ℕ). get_or (x ∷ y ∷ xs) k 0 == c) (sym e)
-
-pub ends_in-yes : (c : ℕ) (xs : List ℕ) → 0 < length xs → slice_index xs (length xs - 1) ≡ c → ends_in c xs ≡ true
-ends_in-yes c xs some h = ends_in-last c xs some ∙ eq-eqb _ c h
-
-pub ends_in-no : (c : ℕ) (xs : List ℕ) → (0 < length xs → slice_index xs (length xs - 1) ≢ c) → ends_in c xs ≡ false
-ends_in-no c [] h = refl
-ends_in-no c (x ∷ xs) h =
-    let some : 0 < length (x ∷ xs) = omega arith in
-    ends_in-last c (x ∷ xs) some ∙ ne_eqb _ c (h some)
+    ends_in-suffix c (y ∷ xs) ∙ ap (λ (k : ℕ). pointwise nat_eq (drop k (x ∷ y ∷ xs)) (c ∷ [])) (sym e)
 
 -- ---- the bytes of a line
 
-module _ (content ending : List ℕ) (end : ℕ) (end_is : end ≡ length content - suffix_len is_blank content) (within : end ≤ length content) where
+module _ (content ending : List ℕ) (end : ℕ) (end_is : end ≡ length content - suffix_len is_blank content) where
   abbrev line : Line
   line = record { content = content; ending = ending }
 
-  trimmed_is : trimmed_at_end is_blank content ≡ take end content
+  abbrev kept : List ℕ
+  kept = take end content
+
+  trimmed_is : trimmed_at_end is_blank content ≡ kept
   trimmed_is = ap (λ (n : ℕ). take n content) (sym end_is)
 
-  length_trimmed : length (take end content) ≡ end
-  length_trimmed = length-take-le end content within
-
-  last_is : 0 < end → slice_index (take end content) (length (take end content) - 1) ≡ slice_index content (end - 1)
-  last_is some =
-      ap (λ (n : ℕ). get_or (take end content) (n - 1) 0) length_trimmed
-      ∙ get_or-take end content (end - 1) 0 (omega arith)
-
-  pub line_bytes-soft : 0 < end → slice_index content (end - 1) ≡ 61 → line_bytes line ≡ unescaped (take (end - 1) content)
+  pub line_bytes-soft : (joined : List ℕ) → pointwise nat_eq (drop (length kept - 1) kept) (61 ∷ []) ≡ true
+      → joined ≡ take (length kept - 1) kept → line_bytes line ≡ unescaped joined
   unfolding line_bytes
-  line_bytes-soft some sign =
-      let len : length (take end content) ≡ end = length_trimmed in
-      let yes : ends_in 61 (take end content) ≡ true = ends_in-yes 61 (take end content) (omega arith) (last_is some ∙ sign) in
-      let kept : take (length (take end content) - 1) (take end content) ≡ take (end - 1) content =
-      ap (λ (n : ℕ). take (n - 1) (take end content)) len ∙ take-take (end - 1) end content (omega arith) in
-      rw (trimmed_is, yes, kept) refl
+  line_bytes-soft joined sign joined_is =
+      let yes : ends_in 61 kept ≡ true = ends_in-suffix 61 kept ∙ sign in
+      rw (trimmed_is, yes, joined_is) refl
 
-  pub line_bytes-hard : (0 < end → slice_index content (end - 1) ≢ 61) → line_bytes line ≡ unescaped (take end content) ++ ending
+  pub line_bytes-hard : pointwise nat_eq (drop (length kept - 1) kept) (61 ∷ []) ≡ false → line_bytes line ≡ unescaped kept ++ ending
   unfolding line_bytes
   line_bytes-hard other =
-      let len : length (take end content) ≡ end = length_trimmed in
-      let no : ends_in 61 (take end content) ≡ false =
-      ends_in-no 61 (take end content) (λ some. let h : 0 < end = omega arith in λ e. other h (sym (last_is h) ∙ e)) in
+      let no : ends_in 61 kept ≡ false = ends_in-suffix 61 kept ∙ other in
       rw (trimmed_is, no) refl
 
 -- ---- the line of a piece
 
-pub ended_line-cr : (piece : List ℕ) → 0 < length piece → slice_index piece (length piece - 1) ≡ 13
-    → ended_line piece ≡ record { content = take (length piece - 1) piece; ending = cr_lf }
-ended_line-cr piece some h = rw (ends_in-yes 13 piece some h) refl
+pub ended_line-cr : (piece content : List ℕ) → pointwise nat_eq (drop (length piece - 1) piece) (13 ∷ []) ≡ true
+    → content ≡ take (length piece - 1) piece → ended_line piece ≡ record { content = content; ending = cr_lf }
+ended_line-cr piece content h content_is =
+    let yes : ends_in 13 piece ≡ true = ends_in-suffix 13 piece ∙ h in
+    rw (yes, content_is) refl
 
-pub ended_line-lf : (piece : List ℕ) → (0 < length piece → slice_index piece (length piece - 1) ≢ 13)
+pub ended_line-lf : (piece : List ℕ) → pointwise nat_eq (drop (length piece - 1) piece) (13 ∷ []) ≡ false
     → ended_line piece ≡ record { content = piece; ending = lf }
-ended_line-lf piece h = rw (ends_in-no 13 piece h) refl
+ended_line-lf piece h =
+    let no : ends_in 13 piece ≡ false = ends_in-suffix 13 piece ∙ h in
+    rw no refl
 
 -- ---- a text by its first LF
 

@@ -46,13 +46,16 @@ fn decode_base64_without(
 {
     let mut bytes = Vec::with_capacity(alloc, text.len() / 4 * 3)?;
     let mut letters = Vec::with_capacity(alloc, text.len().min(WINDOW + 3))?;
+    let mut full = Vec::new(alloc);
+    let mut decoded = Vec::new(alloc);
     let mut groups = 0;
     let mut at = 0;
     'windows: while at < text.len() {
         let end = (text.len() - at).min(WINDOW) + at;
         push_runs(&mut letters, &text[at..end], absent)?;
         let whole = letters.len() / 4;
-        if let Err(group) = decode_groups(&mut bytes, &letters[..4 * whole], groups)? {
+        let window = &letters[..4 * whole];
+        if let Err(group) = decode_groups(&mut bytes, window, groups, &mut full, &mut decoded)? {
             return Ok(Err(group));
         }
         keep_from(&mut letters, 4 * whole);
@@ -76,11 +79,14 @@ fn keep_from(letters: &mut Vec<u8>, at: usize)
     letters.truncate(left);
 }
 
-/// Appends the bytes of whole groups, of which the first has number `first`.
+/// Appends the bytes of whole groups, of which the first has number `first`. The last two are lent:
+/// what they hold does not matter.
 fn decode_groups(
     bytes: &mut Vec<u8>,
     letters: &[u8],
     first: usize,
+    full: &mut Vec<u8>,
+    decoded: &mut Vec<u8>,
 ) -> Result<Result<(), usize>, AllocError>
     requires whole { length letters.now % 4 ≡ 0 }
     requires few { first + length letters.now / 4 < 2 ^ 64 }
@@ -91,7 +97,7 @@ fn decode_groups(
         Ok(()) => Ok(Ok(())),
         Err(DecodeAllocError::OutOfMemory) => Err(AllocError),
         Err(DecodeAllocError::DecodeError(_)) => {
-            if decode_padded_groups(bytes, letters)? {
+            if decode_padded_groups(bytes, letters, full, decoded)? {
                 return Ok(Ok(()));
             }
             decode_each_group(bytes, letters, first)
@@ -101,16 +107,21 @@ fn decode_groups(
 
 /// Appends the bytes of whole groups and answers true where all of them are groups, some padded
 /// perhaps; or appends nothing and answers false. The engine takes padding in the last group alone,
-/// so the missing letters are filled up, all groups are read at once, and then each is cut.
-fn decode_padded_groups(bytes: &mut Vec<u8>, letters: &[u8]) -> Result<bool, AllocError>
+/// so the missing letters are filled up, all groups are read at once, and then each is cut. The two
+/// lists that this takes are lent, so that windows share them.
+fn decode_padded_groups(
+    bytes: &mut Vec<u8>,
+    letters: &[u8],
+    full: &mut Vec<u8>,
+    decoded: &mut Vec<u8>,
+) -> Result<bool, AllocError>
     requires whole { length letters.now % 4 ≡ 0 }
     ensures read { IfOk result (λ is_read. is_read ≡ true → (n : ℕ) → prepend bytes.old.items (groups_from n letters.now) ≡ Ok bytes.new.items) }
     ensures kept { IfOk result (λ is_read. is_read ≡ false → bytes.new.items ≡ bytes.old.items) }
 {
-    let alloc = *bytes.allocator();
-    let full = filled_up(alloc, letters)?;
-    let mut decoded = Vec::new(alloc);
-    match STANDARD.decode_vec(full.as_slice(), &mut decoded) {
+    fill_up(full, letters)?;
+    decoded.clear();
+    match STANDARD.decode_vec(full.as_slice(), decoded) {
         Ok(()) => {
             push_cut_groups(bytes, letters, decoded.as_slice())?;
             Ok(true)
@@ -120,18 +131,19 @@ fn decode_padded_groups(bytes: &mut Vec<u8>, letters: &[u8]) -> Result<bool, All
     }
 }
 
-/// Whole groups with their padding filled up.
-fn filled_up(alloc: Global, letters: &[u8]) -> Result<Vec<u8>, AllocError>
+/// Makes the list whole groups with their padding filled up.
+fn fill_up(full: &mut Vec<u8>, letters: &[u8]) -> Result<(), AllocError>
     requires whole { length letters.now % 4 ≡ 0 }
-    ensures { IfOk result (λ full. full.items ≡ filled letters.now) }
+    ensures { OnOk result (full.new.items ≡ filled letters.now) }
 {
-    let mut full = Vec::with_capacity(alloc, letters.len())?;
+    full.clear();
+    full.reserve(letters.len())?;
     'groups: for number in 0..letters.len() / 4 {
         let at = 4 * number;
         let (third, fourth) = filled_pair(letters[at + 2], letters[at + 3]);
         full.extend_from_slice(&[letters[at], letters[at + 1], third, fourth])?;
     }
-    Ok(full)
+    Ok(())
 }
 
 /// The third and the fourth byte of a group, `A` in the place of padding: its value is 0.
@@ -210,13 +222,8 @@ fn push_group(bytes: &mut Vec<u8>, p: u8, q: u8, r: u8, s: u8) -> Result<bool, A
         (group_bytes p q r s)
         ≡ (if is_group then Some bytes.new.items else None)) }
 {
-    if s != b'=' {
-        return push_bytes(bytes, p, q, r, s, 3);
-    }
-    if r != b'=' {
-        return push_bytes(bytes, p, q, r, b'A', 2);
-    }
-    push_bytes(bytes, p, q, b'A', b'A', 1)
+    let (third, fourth) = filled_pair(r, s);
+    push_bytes(bytes, p, q, third, fourth, group_len(r, s))
 }
 
 /// Appends the first `len` bytes of four letters and answers true, or answers false where not all

@@ -34,9 +34,8 @@ fn push_ended_line(bytes: &mut Vec<u8>, piece: &[u8]) -> Result<(), AllocError>
     ensures { OnOk result
         (bytes.new.items ≡ bytes.old.items ++ line_bytes (ended_line piece.now)) }
 {
-    let len = piece.len();
-    if len > 0 && piece[len - 1] == b'\r' {
-        return push_line(bytes, &piece[..len - 1], b"\r\n");
+    if let Some(content) = piece.strip_suffix(b"\r") {
+        return push_line(bytes, content, b"\r\n");
     }
     push_line(bytes, piece, b"\n")
 }
@@ -46,12 +45,14 @@ fn push_line(bytes: &mut Vec<u8>, content: &[u8], ending: &[u8]) -> Result<(), A
     ensures { OnOk result (bytes.new.items
         ≡ bytes.old.items ++ line_bytes (record { content = content.now; ending = ending.now })) }
 {
-    let end = trimmed_len(content);
-    if end > 0 && content[end - 1] == b'=' {
-        return push_unescaped(bytes, &content[..end - 1]);
+    let kept = &content[..trimmed_len(content)];
+    match kept.strip_suffix(b"=") {
+        Some(joined) => push_unescaped(bytes, joined),
+        None => {
+            push_unescaped(bytes, kept)?;
+            bytes.extend_from_slice(ending)
+        }
     }
-    push_unescaped(bytes, &content[..end])?;
-    bytes.extend_from_slice(ending)
 }
 
 /// How many bytes stand before the spaces and tabs at the end.
@@ -59,15 +60,17 @@ fn trimmed_len(content: &[u8]) -> usize
     ensures len { result ≡ length content.now - suffix_len is_blank content.now }
     ensures within { result ≤ length content.now }
 {
-    let mut end = content.len();
-    'blanks: while end > 0 {
-        let last = content[end - 1];
-        if last != b' ' && last != b'\t' {
-            return end;
-        }
-        end -= 1;
+    match content.iter().rposition(|byte| !is_blank(*byte)) {
+        Some(last) => last + 1,
+        None => 0,
     }
-    0
+}
+
+/// Whether the byte is a space or a tab.
+fn is_blank(byte: u8) -> bool
+    ensures { result ≡ is_blank byte }
+{
+    byte == b' ' || byte == b'\t'
 }
 
 /// Appends the bytes with each escape read.
