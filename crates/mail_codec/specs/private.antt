@@ -2,3 +2,4 @@
 pub mod Runs
 pub mod Padding
 pub mod ByteOrder
+pub mod Marks

@@ -1,8 +1,9 @@
 //! The charsets of mail text: their labels, and the text of bytes in each.
-ghost use Rattle.std.specs.Prelude.{◌≡◌, ◌↔◌, length, option_map, IfOk, IsOk, IsAscii, string_bytes};
+ghost use Rattle.std.specs.Prelude.{◌≡◌, ◌↔◌, IfOk, IsOk, IsAscii, string_bytes};
 ghost use Rattle.std.specs.Cow.{cow_str_bytes, IsBorrowedStr};
-ghost use Rattle.mail_codec.specs.Charset.{ascii_text, charset_of_label, mark_at_start, marked_text_of, text_of};
+ghost use Rattle.mail_codec.specs.Charset.{ascii_text, charset_of_label, marked_text_of, text_of};
 ghost use Rattle.mail_codec.specs.Latin1.{latin1_text};
+ghost use Rattle.mail_codec.specs.private.Marks.{marked, seen};
 
 mod encode;
 mod labels;
@@ -46,9 +47,7 @@ impl Charset {
         ensures { IfOk result (λ t. string_bytes t ≡ marked_text_of self bytes.now) }
     {
         match marked(bytes) {
-            Some((charset, length)) => {
-                charset.decode_without_bom_handling(alloc, &bytes[length..])
-            }
+            Some((charset, rest)) => charset.decode_without_bom_handling(alloc, rest),
             None => self.decode_without_bom_handling(alloc, bytes),
         }
     }
@@ -73,19 +72,20 @@ impl Charset {
     }
 }
 
-/// The charset whose byte order mark the bytes begin with, and the length of the mark.
-fn marked(bytes: &[u8]) -> Option<(Charset, usize)>
-    ensures { result ≡ option_map (λ mark. (mark.0, length mark.1)) (mark_at_start bytes.now) }
+/// The charset whose byte order mark the bytes begin with, and the bytes after the mark.
+fn marked(bytes: &[u8]) -> Option<(Charset, &[u8])>
+    ensures { seen result ≡ marked bytes.now }
 {
-    if bytes.starts_with(b"\xEF\xBB\xBF") {
-        Some((Charset::Utf8, 3))
-    } else if bytes.starts_with(b"\xFE\xFF") {
-        Some((Charset::Utf16Be, 2))
-    } else if bytes.starts_with(b"\xFF\xFE") {
-        Some((Charset::Utf16Le, 2))
-    } else {
-        None
+    if let Some(rest) = bytes.strip_prefix(b"\xEF\xBB\xBF") {
+        return Some((Charset::Utf8, rest));
     }
+    if let Some(rest) = bytes.strip_prefix(b"\xFE\xFF") {
+        return Some((Charset::Utf16Be, rest));
+    }
+    if let Some(rest) = bytes.strip_prefix(b"\xFF\xFE") {
+        return Some((Charset::Utf16Le, rest));
+    }
+    None
 }
 
 /// The Latin-1 text of the bytes: one character for each byte, the one of its number, from U+0000 to
