@@ -97,7 +97,7 @@ after_group n (Some bytes) more = prepend bytes more
 after_group n None more = Err n
 
 -- The bytes of the groups of a text without line ends, where the first has number n, or the number
--- of the first that is none.
+-- of the first invalid one.
 unfoldable pub groups_from : ℕ → List ℕ → Result (List ℕ) ℕ
 groups_from n [] = Ok []
 groups_from n (p ∷ []) = Err n

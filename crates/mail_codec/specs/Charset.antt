@@ -73,7 +73,7 @@ windows_1252_char byte = if is_in_range 0x80 0x9F byte then slice_index windows_
 abbrev pub single_byte_char : List ℕ → ℕ → ℕ
 single_byte_char high byte = if nat_lt byte 0x80 then byte else slice_index high (byte - 0x80)
 
--- the character of a byte in ASCII, and U+FFFD for a byte that is none
+-- the character of an ASCII byte, and U+FFFD for any other byte
 abbrev pub ascii_char : ℕ → ℕ
 ascii_char byte = if nat_lt byte 0x80 then byte else replacement
 

@@ -1,4 +1,4 @@
--- Places in a list of bytes, counted from 0, and the least place with a property; the project's own words.
+-- Places in a list of bytes, counted from 0, and the least place with a property; this crate's own words.
 use Rattle.std.specs.Prelude.{◌≡◌, ◌≢◌, ℕ, zero, suc, ◌+◌, ◌-◌, ◌<◌, ◌≤◌, Bool, true, false, not, ◌==◌, nat_eq, nat_lt, filter, List, [], ◌∷◌, length, take, drop, slice_index, Option, None, Some, if◌then◌else◌}
 use Rattle.std.specs.Char.{is_ascii_whitespace}
 use Rattle.std.specs.List.{starts_with, prefix_len, suffix_len}
@@ -59,7 +59,7 @@ HasByteAt bytes byte p = (p < length bytes) × (slice_index bytes p ≡ byte)
 abbrev pub HasTextAt : List ℕ → List ℕ → ℕ → Type 0
 HasTextAt bytes text p = (text ≢ []) × (take (length text) (drop p bytes) ≡ text)
 
--- this is the first place that has something, or it is none and no place has it
+-- the first place that has something, or `None` where no place has it
 abbrev pub IsFirstOf : (ℕ → Type 0) → Option ℕ → Type 0
 IsFirstOf Has (Some p) = Has p × ((k : ℕ) → k < p → ¬ Has k)
 IsFirstOf Has None = (k : ℕ) → ¬ Has k

@@ -33,6 +33,8 @@ impl Charset {
     /// ends, and ignoring ASCII case (the WHATWG Encoding Standard, section 4.2).
     ///
     /// `None` where no charset here has it. It takes no memory.
+    ///
+    /// `Charset::for_label(b" Latin1 ")` is `Some(Charset::Windows1252)`.
     pub fn for_label(label: &[u8]) -> Option<Charset>
         ensures { result ≡ charset_of_label label.now }
     {
@@ -42,7 +44,9 @@ impl Charset {
     /// The text of the bytes in this charset, or in the one whose byte order mark they begin with: a
     /// mark is removed, and overrules the charset (the WHATWG Encoding Standard, section 6).
     ///
-    /// What is no character reads as U+FFFD. The error is want of memory.
+    /// What is no character reads as U+FFFD. The error comes where memory runs out.
+    ///
+    /// `Charset::Windows1252.decode(alloc, b"\xEF\xBB\xBFa")` is `a`.
     pub fn decode(self, alloc: Global, bytes: &[u8]) -> Result<String, AllocError>
         ensures { IfOk result (λ t. string_bytes t ≡ marked_text_of self bytes.now) }
     {
@@ -55,7 +59,9 @@ impl Charset {
     /// The text of the bytes in this charset, a byte order mark read as any other bytes are (the WHATWG
     /// Encoding Standard, sections 8, 9.1 and 14).
     ///
-    /// What is no character reads as U+FFFD. The error is want of memory.
+    /// What is no character reads as U+FFFD. The error comes where memory runs out.
+    ///
+    /// `Charset::Utf16Be.decode_without_bom_handling(alloc, b"\0a\0")` is `a` and U+FFFD.
     pub fn decode_without_bom_handling(
         self,
         alloc: Global,
@@ -92,7 +98,9 @@ fn marked(bytes: &[u8]) -> Option<(Charset, &[u8])>
 /// U+00FF (ISO/IEC 8859-1).
 ///
 /// Where all bytes are ASCII, and only there, it borrows them; then it takes no memory and succeeds.
-/// The error is want of memory.
+/// The error comes where memory runs out.
+///
+/// `decode_latin1(alloc, b"caf\xE9")` is `café`.
 pub fn decode_latin1(alloc: Global, bytes: &[u8]) -> Result<CowStr<'_>, AllocError>
     ensures text { IfOk result (λ t. cow_str_bytes t ≡ latin1_text bytes.now) }
     ensures borrowed { IfOk result (λ t. IsBorrowedStr t ↔ IsAscii bytes.now) }
@@ -104,7 +112,9 @@ pub fn decode_latin1(alloc: Global, bytes: &[u8]) -> Result<CowStr<'_>, AllocErr
 /// The ASCII text of the bytes, with U+FFFD for each byte at or above 0x80.
 ///
 /// Where all bytes are ASCII, and only there, it borrows them; then it takes no memory and succeeds.
-/// The error is want of memory.
+/// The error comes where memory runs out.
+///
+/// `decode_ascii(alloc, b"caf\xE9")` is `caf` and U+FFFD.
 pub fn decode_ascii(alloc: Global, bytes: &[u8]) -> Result<CowStr<'_>, AllocError>
     ensures text { IfOk result (λ t. cow_str_bytes t ≡ ascii_text bytes.now) }
     ensures borrowed { IfOk result (λ t. IsBorrowedStr t ↔ IsAscii bytes.now) }

@@ -147,11 +147,11 @@ module _ (absent : RunEnd) (text letters all : List ℕ) (at end n whole : ℕ) 
       ≡ take (4 * whole) all ++ (drop (4 * whole) all ++ without_ends absent (drop end text))
   window_rest =
       let k : ℕ = end - at in
-      let behind : drop k (drop at text) ≡ drop end text = drop-drop k at text ∙ ap (λ (i : ℕ). drop i text) (omega arith) in
+      let following : drop k (drop at text) ≡ drop end text = drop-drop k at text ∙ ap (λ (i : ℕ). drop i text) (omega arith) in
       let split : without_ends absent (drop at text) ≡ without_ends absent (take k (drop at text)) ++ without_ends absent (drop end text) =
       ap (without_ends absent) (sym (take-append-drop k (drop at text)))
       ∙ without_ends-append absent (take k (drop at text)) (drop k (drop at text))
-      ∙ ap (λ (r : List ℕ). without_ends absent (take k (drop at text)) ++ without_ends absent r) behind in
+      ∙ ap (λ (r : List ℕ). without_ends absent (take k (drop at text)) ++ without_ends absent r) following in
       ap (λ (r : List ℕ). letters ++ r) split
       ∙ sym (append_assoc letters (without_ends absent (take k (drop at text))) (without_ends absent (drop end text)))
       ∙ ap (λ (r : List ℕ). r ++ without_ends absent (drop end text)) (sym all_is)

@@ -90,8 +90,8 @@ cut_reads n (p ∷ q ∷ r ∷ s ∷ rest) bytes whole h =
     let k : ℕ = group_len r s in
     let read : after_group n (group_bytes p q r s) (groups_from (suc n) rest) ≡ Ok (take k c ++ cut_groups rest d) = rw (here.0, more) refl in
     let first : take k c ≡ take k bytes = sym front.0 ∙ ap (take k) parts.4 in
-    let behind : d ≡ drop 3 bytes = sym front.1 ∙ ap (drop 3) parts.4 in
-    read ∙ ap (λ (x : List ℕ). Ok (x ++ cut_groups rest d)) first ∙ ap (λ (x : List ℕ). Ok (take k bytes ++ cut_groups rest x)) behind
+    let following : d ≡ drop 3 bytes = sym front.1 ∙ ap (drop 3) parts.4 in
+    read ∙ ap (λ (x : List ℕ). Ok (x ++ cut_groups rest d)) first ∙ ap (λ (x : List ℕ). Ok (take k bytes ++ cut_groups rest x)) following
 
 -- ---- at a place of the text
 
@@ -125,9 +125,9 @@ pub cut_step : (xs decoded old next : List ℕ) (number : ℕ) → 4 * number + 
     → next ++ cut_groups (drop (4 * (number + 1)) xs) (drop (3 * (number + 1)) decoded) ≡ old ++ cut_groups (drop (4 * number) xs) (drop (3 * number) decoded)
 cut_step xs decoded old next number fits is =
     let four : 4 * (number + 1) ≡ 4 * number + 4 = omega arith in
-    let behind : drop (3 * (number + 1)) decoded ≡ drop 3 (drop (3 * number) decoded) =
+    let following : drop (3 * (number + 1)) decoded ≡ drop 3 (drop (3 * number) decoded) =
     ap (λ (k : ℕ). drop k decoded) (omega arith) ∙ sym (drop-drop 3 (3 * number) decoded) in
-    rw (four, behind, is, cut_groups-drop (4 * number) xs (drop (3 * number) decoded) fits) (append_assoc old _ _)
+    rw (four, following, is, cut_groups-drop (4 * number) xs (drop (3 * number) decoded) fits) (append_assoc old _ _)
 
 pub cut_end : (xs decoded old : List ℕ) (number : ℕ) → length xs ≤ 4 * number
     → old ++ cut_groups (drop (4 * number) xs) (drop (3 * number) decoded) ≡ old

@@ -50,12 +50,12 @@ module _ (text cur next : List ℕ) (at sign : ℕ) (within : at ≤ length text
   run_read =
       let n : ℕ = first_place (begins (λ b. b == 61)) (drop at text) in
       let len : sign - at ≡ n = omega arith in
-      let behind : drop n (drop at text) ≡ drop sign text = drop-drop n at text ∙ ap (λ (k : ℕ). drop k text) (sym sign_is) in
+      let following : drop n (drop at text) ≡ drop sign text = drop-drop n at text ∙ ap (λ (k : ℕ). drop k text) (sym sign_is) in
       ap (λ (r : List ℕ). cur ++ r) (unescaped_run (drop at text))
       ∙ sym (append_assoc cur (take n (drop at text)) (unescaped (drop n (drop at text))))
       ∙ ap (λ (k : ℕ). (cur ++ take k (drop at text)) ++ unescaped (drop n (drop at text))) (sym len)
       ∙ ap (λ (r : List ℕ). r ++ unescaped (drop n (drop at text))) (sym next_is)
-      ∙ ap (λ (r : List ℕ). next ++ unescaped r) behind
+      ∙ ap (λ (r : List ℕ). next ++ unescaped r) following
 
 -- an escape of a loop that appends what it has read
 pub escape_read : (text cur next : List ℕ) (at byte : ℕ) → first_escape (drop at text) ≡ Some byte → next ≡ cur ++ byte ∷ []

@@ -48,7 +48,7 @@ impl RunEnd {
     }
 }
 
-/// Appends the bytes that end no run, in order.
+/// Appends the bytes that end no run, in order. The error comes where memory runs out.
 #[inline(always)]
 pub(crate) fn push_runs(kept: &mut Vec<u8>, bytes: &[u8], end: RunEnd) -> Result<(), AllocError>
     ensures { OnOk result (kept.new.items ≡ kept.old.items ++ without_ends end bytes.now) }

@@ -80,6 +80,7 @@ pub(crate) fn decode<'a>(
     ensures succeeds { IsAscii bytes.now → IsOk result }
 {
     if bytes.is_ascii() {
+        // SAFETY: ASCII is UTF-8.
         return Ok(CowStr::Borrowed(unsafe { str::from_utf8_unchecked(bytes) }));
     }
     let mut text = String::with_capacity(alloc, bytes.len())?;
@@ -97,11 +98,13 @@ fn push_text(text: &mut String, high: &HighHalf, bytes: &[u8]) -> Result<(), All
     'rest: while !rest.is_empty() {
         let run = ascii_blocks_length(rest);
         if run > 0 {
+            // SAFETY: the run is ASCII, and ASCII is UTF-8.
             text.push_str(unsafe { str::from_utf8_unchecked(&rest[..run]) })?;
             rest = &rest[run..];
         } else {
             let (block, others) = rest.split_at(rest.len().min(MIXED));
             let length = encode_block(&mut buffer, high, block);
+            // SAFETY: `encode_block` writes whole characters.
             text.push_str(unsafe { str::from_utf8_unchecked(&buffer[..length]) })?;
             rest = others;
         }

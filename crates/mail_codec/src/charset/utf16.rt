@@ -41,13 +41,14 @@ pub(crate) fn decode(alloc: Global, order: ByteOrder, bytes: &[u8]) -> Result<St
     let mut rest = bytes;
     'rest: while !rest.is_empty() {
         let (taken, length) = encode_front(&mut buffer, order, rest);
+        // SAFETY: `encode_front` writes whole characters.
         text.push_str(unsafe { str::from_utf8_unchecked(&buffer[..length]) })?;
         rest = &rest[taken..];
     }
     Ok(text)
 }
 
-/// Writes as many characters as there is room for, and answers how many bytes they take here and there.
+/// Writes as many characters as there is room for, and answers how many bytes were read and written.
 fn encode_front(buffer: &mut [u8], order: ByteOrder, bytes: &[u8]) -> (usize, usize)
     requires room { 4 ≤ length buffer.old }
     requires some { 0 < length bytes.now }

@@ -16,9 +16,11 @@ const WINDOW: usize = 4096;
 /// The bytes that a Base64 text stands for (RFC 4648, section 4). CR and LF count as absent wherever
 /// they stand, groups with padding may stand anywhere, and bits that make no whole byte are ignored.
 ///
-/// The inner error is the number, from 0, of the first group of four that is none; a short last
-/// group counts. The outer error comes where memory runs out: the answer takes memory, and so do a
-/// few kilobytes of letters on the way.
+/// The inner error is the number, from 0, of the first invalid group of four; a short last group is
+/// invalid. The outer error comes where memory runs out: the answer takes memory, which is reserved
+/// at once, and so do a few kilobytes of letters on the way.
+///
+/// `decode_base64(alloc, b"aG\r\nk=")` is the bytes `hi`; of `aGk=a` the inner error is 1.
 #[tactic(auto, unfolding(crate::specs::Base64::base64))]
 pub fn decode_base64(alloc: Global, text: &[u8]) -> Result<Result<Vec<u8>, usize>, AllocError>
     ensures { IfOk result (λ answer. items_or_fault answer ≡ base64 text.now) }
@@ -27,8 +29,10 @@ pub fn decode_base64(alloc: Global, text: &[u8]) -> Result<Result<Vec<u8>, usize
 }
 
 /// The bytes that a Base64 body stands for (RFC 2045, section 6.8), in which all ASCII white space
-/// counts as absent: space, tab, LF, FF and CR (0x0B is none). Errors and memory are as for
+/// counts as absent: space, tab, LF, FF and CR, but not 0x0B. Errors and memory are as for
 /// `decode_base64`; no copy of the body is made.
+///
+/// `decode_base64_body(alloc, b"aG k=")` is the bytes `hi`.
 pub fn decode_base64_body(alloc: Global, body: &[u8]) -> Result<Result<Vec<u8>, usize>, AllocError>
     ensures { IfOk result (λ answer. items_or_fault answer ≡ base64 (without_ascii_whitespace body.now)) }
 {
@@ -79,8 +83,8 @@ fn keep_from(letters: &mut Vec<u8>, at: usize)
     letters.truncate(left);
 }
 
-/// Appends the bytes of whole groups, of which the first has number `first`. The last two are lent:
-/// what they hold does not matter.
+/// Appends the bytes of whole groups, of which the first has number `first`, or answers the number of
+/// the first invalid one. `full` and `decoded` are lent to be written over.
 fn decode_groups(
     bytes: &mut Vec<u8>,
     letters: &[u8],
@@ -107,8 +111,8 @@ fn decode_groups(
 
 /// Appends the bytes of whole groups and answers true where all of them are groups, some padded
 /// perhaps; or appends nothing and answers false. The engine takes padding in the last group alone,
-/// so the missing letters are filled up, all groups are read at once, and then each is cut. The two
-/// lists that this takes are lent, so that windows share them.
+/// so the missing letters are filled up, all groups are read at once, and then each is cut. `full`
+/// and `decoded` are lent to be written over, so that all windows share them.
 fn decode_padded_groups(
     bytes: &mut Vec<u8>,
     letters: &[u8],
@@ -189,7 +193,7 @@ fn group_len(r: u8, s: u8) -> usize
     1
 }
 
-/// The same as `decode_groups`, a group at a time, so that the first that is none is found.
+/// The same as `decode_groups`, a group at a time, so that the first invalid one is found.
 fn decode_each_group(
     bytes: &mut Vec<u8>,
     letters: &[u8],
@@ -215,7 +219,7 @@ fn decode_each_group(
     Ok(Ok(()))
 }
 
-/// Appends the bytes of a group and answers true, or answers false where it is none. The missing
+/// Appends the bytes of a group and answers true, or answers false where it is invalid. The missing
 /// letters of a group with padding are filled up with `A`, whose value is 0, and their bytes cut off.
 fn push_group(bytes: &mut Vec<u8>, p: u8, q: u8, r: u8, s: u8) -> Result<bool, AllocError>
     ensures { IfOk result (λ is_group. option_map (λ decoded. bytes.old.items ++ decoded)

@@ -11,7 +11,9 @@ use std::alloc::{AllocError, Global};
 /// each `=` with two hexadecimal digits of either case, from the left, is one byte. Every other byte
 /// stays, so no text is refused.
 ///
-/// The error comes where memory runs out: the answer takes memory.
+/// The error comes where memory runs out: the answer takes memory, which is reserved at once.
+///
+/// `decode_quoted_printable(alloc, b"caf=C3=A9=\r\n!")` is the bytes of `café!`.
 pub fn decode_quoted_printable(alloc: Global, text: &[u8]) -> Result<Vec<u8>, AllocError>
     ensures { IfOk result (λ bytes. bytes.items ≡ quoted_printable text.now) }
 {
