@@ -114,10 +114,3 @@ base64 text = groups_from 0 (without_line_ends text)
 abbrev pub items_or_fault : Result (Vec ℕ) ℕ → Result (List ℕ) ℕ
 items_or_fault (Ok bytes) = Ok bytes.items
 items_or_fault (Err n) = Err n
-
--- ---- how the parts of a decoder say what they did
-
--- What appended bytes say: the items that are there, or the fault.
-abbrev pub answer_over : Result (Unit {0}) ℕ → List ℕ → Result (List ℕ) ℕ
-answer_over (Ok done) items = Ok items
-answer_over (Err n) items = Err n

@@ -68,11 +68,6 @@ windows_1252_row =
 abbrev pub windows_1252_char : ℕ → ℕ
 windows_1252_char byte = if is_in_range 0x80 0x9F byte then slice_index windows_1252_row (byte - 0x80) else byte
 
--- the character of a byte, where these are those of the bytes 80 to FF and every other byte is the
--- character of its number
-abbrev pub single_byte_char : List ℕ → ℕ → ℕ
-single_byte_char high byte = if nat_lt byte 0x80 then byte else slice_index high (byte - 0x80)
-
 -- the character of an ASCII byte, and U+FFFD for any other byte
 abbrev pub ascii_char : ℕ → ℕ
 ascii_char byte = if nat_lt byte 0x80 then byte else replacement

@@ -3,3 +3,5 @@ pub mod Runs
 pub mod Padding
 pub mod ByteOrder
 pub mod Marks
+pub mod Base64
+pub mod SingleByte

@@ -4,7 +4,8 @@ use Rattle.std.proofs.lemmas.Bool.Decides.{nat_tests, Decides-below_and, Decides
 use Rattle.std.proofs.Math.Seq.{take-add}
 use Rattle.std.proofs.lemmas.Str.{IsAscii-append, encodes-IsAscii, encodes-append}
 use Rattle.std.proofs.lemmas.List.{map-append, take_more}
-use Rattle.mail_codec.specs.Charset.{single_byte_char, windows_1252_char, ascii_char, ascii_text}
+use Rattle.mail_codec.specs.Charset.{windows_1252_char, ascii_char, ascii_text}
+use Rattle.mail_codec.specs.private.SingleByte.{single_byte_char}
 use Rattle.mail_codec.specs.Latin1.{latin1_text}
 use Rattle.mail_codec.specs.declared.charset.single_byte.TheConstants.{LATIN_1, WINDOWS_1252, ASCII}
 

@@ -1,6 +1,7 @@
 //! Base64, over bytes (RFC 4648, section 4; RFC 2045, section 6.8).
 ghost use Rattle.std.specs.Prelude.{◌≡◌, ℕ, Ok, true, false, ◌+◌, ◌*◌, ◌/◌, ◌%◌, ◌^◌, ◌<◌, ◌≤◌, ◌≢◌, ◌++◌, length, drop, vec_len, IfOk, OnOk, option_map, if◌then◌else◌};
-ghost use Rattle.mail_codec.specs.Base64.{answer_over, base64, bytes_of_values, group_bytes, groups_from, items_or_fault, letter_value, prepend};
+ghost use Rattle.mail_codec.specs.Base64.{base64, bytes_of_values, group_bytes, groups_from, items_or_fault, letter_value, prepend};
+ghost use Rattle.mail_codec.specs.private.Base64.{answer_over};
 ghost use Rattle.mail_codec.specs.Places.{without_ascii_whitespace};
 ghost use Rattle.mail_codec.specs.private.Padding.{cut_groups, filled, fourth, group_len, third};
 ghost use Rattle.mail_codec.specs.private.Runs.{without_ends};
