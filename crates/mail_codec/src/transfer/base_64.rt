@@ -1,11 +1,13 @@
 //! Base64, over bytes (RFC 4648, section 4; RFC 2045, section 6.8).
-ghost use Rattle.std.specs.Prelude.{◌≡◌, ℕ, Ok, true, false, ◌+◌, ◌*◌, ◌/◌, ◌%◌, ◌^◌, ◌<◌, ◌≤◌, ◌≢◌, ◌++◌, length, drop, vec_len, IfOk, OnOk, option_map, if◌then◌else◌};
+ghost use Rattle.std.specs.Prelude.{◌≡◌, ◌+◌, ◌*◌, ◌/◌, ◌%◌, ◌^◌, ◌<◌, ◌≤◌, ◌≢◌, ◌++◌, length, drop, vec_len, IfOk, OnOk, option_map, if◌then◌else◌};
 ghost use Rattle.mail_codec.specs.Base64.{base64, bytes_of_values, group_bytes, groups_from, items_or_fault, letter_value, prepend};
 ghost use Rattle.mail_codec.specs.private.Base64.{answer_over};
 ghost use Rattle.mail_codec.specs.Places.{without_ascii_whitespace};
-ghost use Rattle.mail_codec.specs.private.Padding.{cut_groups, filled, fourth, group_len, third};
 ghost use Rattle.mail_codec.specs.private.Runs.{without_ends};
 
+mod padded;
+
+use self::padded::{decode_padded_groups, filled_pair, group_len};
 use crate::bytescan::runs::{RunEnd, push_runs};
 use base64::DecodeAllocError;
 use base64::engine::general_purpose::STANDARD;
@@ -108,90 +110,6 @@ fn decode_groups(
             decode_each_group(bytes, letters, first)
         }
     }
-}
-
-/// Appends the bytes of whole groups and answers true where all of them are groups, some padded
-/// perhaps; or appends nothing and answers false. The engine takes padding in the last group alone,
-/// so the missing letters are filled up, all groups are read at once, and then each is cut. `full`
-/// and `decoded` are lent to be written over, so that all windows share them.
-fn decode_padded_groups(
-    bytes: &mut Vec<u8>,
-    letters: &[u8],
-    full: &mut Vec<u8>,
-    decoded: &mut Vec<u8>,
-) -> Result<bool, AllocError>
-    requires whole { length letters.now % 4 ≡ 0 }
-    ensures read { IfOk result (λ is_read. is_read ≡ true → (n : ℕ) → prepend bytes.old.items (groups_from n letters.now) ≡ Ok bytes.new.items) }
-    ensures kept { IfOk result (λ is_read. is_read ≡ false → bytes.new.items ≡ bytes.old.items) }
-{
-    fill_up(full, letters)?;
-    decoded.clear();
-    match STANDARD.decode_vec(full.as_slice(), decoded) {
-        Ok(()) => {
-            push_cut_groups(bytes, letters, decoded.as_slice())?;
-            Ok(true)
-        }
-        Err(DecodeAllocError::OutOfMemory) => Err(AllocError),
-        Err(DecodeAllocError::DecodeError(_)) => Ok(false),
-    }
-}
-
-/// Makes the list whole groups with their padding filled up.
-fn fill_up(full: &mut Vec<u8>, letters: &[u8]) -> Result<(), AllocError>
-    requires whole { length letters.now % 4 ≡ 0 }
-    ensures { OnOk result (full.new.items ≡ filled letters.now) }
-{
-    full.clear();
-    full.reserve(letters.len())?;
-    'groups: for number in 0..letters.len() / 4 {
-        let at = 4 * number;
-        let (third, fourth) = filled_pair(letters[at + 2], letters[at + 3]);
-        full.extend_from_slice(&[letters[at], letters[at + 1], third, fourth])?;
-    }
-    Ok(())
-}
-
-/// The third and the fourth byte of a group, `A` in the place of padding: its value is 0.
-fn filled_pair(r: u8, s: u8) -> (u8, u8)
-    ensures third { result.0 ≡ third r s }
-    ensures fourth { result.1 ≡ fourth s }
-{
-    if s != b'=' {
-        return (r, s);
-    }
-    if r != b'=' {
-        return (r, b'A');
-    }
-    (b'A', b'A')
-}
-
-/// Appends, of three bytes for each group, those that the group stands for.
-fn push_cut_groups(bytes: &mut Vec<u8>, letters: &[u8], decoded: &[u8]) -> Result<(), AllocError>
-    requires whole { length letters.now % 4 ≡ 0 }
-    requires three { length decoded.now ≡ 3 * (length letters.now / 4) }
-    ensures { OnOk result (bytes.new.items ≡ bytes.old.items ++ cut_groups letters.now decoded.now) }
-{
-    'groups: for number in 0..letters.len() / 4 {
-        let at = 4 * number;
-        let len = group_len(letters[at + 2], letters[at + 3]);
-        let place = 3 * number;
-        bytes.extend_from_slice(&decoded[place..place + len])?;
-    }
-    Ok(())
-}
-
-/// How many bytes a group stands for, by its third and its fourth byte.
-fn group_len(r: u8, s: u8) -> usize
-    ensures len { result ≡ group_len r s }
-    ensures few { result ≤ 3 }
-{
-    if s != b'=' {
-        return 3;
-    }
-    if r != b'=' {
-        return 2;
-    }
-    1
 }
 
 /// The same as `decode_groups`, a group at a time, so that the first invalid one is found.

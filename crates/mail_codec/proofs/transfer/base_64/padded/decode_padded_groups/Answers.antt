@@ -2,7 +2,7 @@ use Rattle.std.proofs.Common.{◌∙◌, ◌++◌, Ok, sym, ap, arith, vec_len, 
 use Rattle.mail_codec.specs.Base64.{prepend}
 use Rattle.mail_codec.specs.private.Padding.{cut_groups}
 use Rattle.mail_codec.proofs.lemmas.Padding.{cut_reads, engine_filled, filled_len}
-use Rattle.mail_codec.proofs.transfer.base_64.decode_padded_groups.Goals as goal
+use Rattle.mail_codec.proofs.transfer.base_64.padded.decode_padded_groups.Goals as goal
 
 pub push_cut_groups-requires : goal.push_cut_groups-requires
 push_cut_groups-requires c =
