@@ -21,7 +21,8 @@ replacement = 0xFFFD
 
 -- the labels of UTF-8
 abbrev pub utf_8_labels : List (List ℕ)
-utf_8_labels = codes "unicode-1-1-utf-8" ∷ codes "unicode11utf8" ∷ codes "unicode20utf8" ∷ codes "utf-8" ∷ codes "utf8" ∷ codes "x-unicode20utf8" ∷ []
+utf_8_labels = codes "unicode-1-1-utf-8" ∷ codes "unicode11utf8" ∷ codes "unicode20utf8"
+    ∷ codes "utf-8" ∷ codes "utf8" ∷ codes "x-unicode20utf8" ∷ []
 
 -- the labels of windows-1252
 abbrev pub windows_1252_labels : List (List ℕ)
@@ -35,15 +36,19 @@ utf_16be_labels = codes "unicodefffe" ∷ codes "utf-16be" ∷ []
 
 -- the labels of UTF-16, the low byte first
 abbrev pub utf_16le_labels : List (List ℕ)
-utf_16le_labels = codes "csunicode" ∷ codes "iso-10646-ucs-2" ∷ codes "ucs-2" ∷ codes "unicode" ∷ codes "unicodefeff" ∷ codes "utf-16" ∷ codes "utf-16le" ∷ []
+utf_16le_labels = codes "csunicode" ∷ codes "iso-10646-ucs-2" ∷ codes "ucs-2" ∷ codes "unicode"
+    ∷ codes "unicodefeff" ∷ codes "utf-16" ∷ codes "utf-16le" ∷ []
 
 -- each charset with its labels
 abbrev pub labels_by_charset : List (Charset × List (List ℕ))
-labels_by_charset = (Utf8, utf_8_labels) ∷ (Windows1252, windows_1252_labels) ∷ (Utf16Be, utf_16be_labels) ∷ (Utf16Le, utf_16le_labels) ∷ []
+labels_by_charset =
+    (Utf8, utf_8_labels) ∷ (Windows1252, windows_1252_labels)
+    ∷ (Utf16Be, utf_16be_labels) ∷ (Utf16Le, utf_16le_labels) ∷ []
 
 -- the label without ASCII white space (space, tab, LF, FF, CR) at its start and at its end
 abbrev pub trimmed_label : List ℕ → List ℕ
-trimmed_label label = trimmed_at_end is_ascii_whitespace (trimmed_at_start is_ascii_whitespace label)
+trimmed_label label =
+    trimmed_at_end is_ascii_whitespace (trimmed_at_start is_ascii_whitespace label)
 
 -- one of the labels is this one, ignoring ASCII case
 unfoldable pub is_among_labels : List (List ℕ) → List ℕ → Bool
@@ -52,7 +57,8 @@ is_among_labels labels label = list_any (λ known. str_eq_ignore_ascii_case labe
 -- the charset that has the label, once that is trimmed at both ends
 unfoldable pub charset_of_label : List ℕ → Option Charset
 charset_of_label label =
-    option_map (λ row. row.0) (find (λ row. is_among_labels row.1 (trimmed_label label)) labels_by_charset)
+    option_map (λ row. row.0)
+    (find (λ row. is_among_labels row.1 (trimmed_label label)) labels_by_charset)
 
 -- One byte, one character (section 9.1).
 
@@ -66,7 +72,8 @@ windows_1252_row =
 
 -- the character of a byte in windows-1252: any other byte is the character of its number
 abbrev pub windows_1252_char : ℕ → ℕ
-windows_1252_char byte = if is_in_range 0x80 0x9F byte then slice_index windows_1252_row (byte - 0x80) else byte
+windows_1252_char byte =
+    if is_in_range 0x80 0x9F byte then slice_index windows_1252_row (byte - 0x80) else byte
 
 -- the character of an ASCII byte, and U+FFFD for any other byte
 abbrev pub ascii_char : ℕ → ℕ
@@ -118,7 +125,8 @@ text_of Utf16Be bytes = encode_utf8_all (utf_16_chars high_first bytes)
 
 -- each charset that has a byte order mark, with the mark (section 6)
 abbrev pub byte_order_marks : List (Charset × List ℕ)
-byte_order_marks = (Utf8, 0xEF ∷ 0xBB ∷ 0xBF ∷ []) ∷ (Utf16Be, 0xFE ∷ 0xFF ∷ []) ∷ (Utf16Le, 0xFF ∷ 0xFE ∷ []) ∷ []
+byte_order_marks =
+    (Utf8, 0xEF ∷ 0xBB ∷ 0xBF ∷ []) ∷ (Utf16Be, 0xFE ∷ 0xFF ∷ []) ∷ (Utf16Le, 0xFF ∷ 0xFE ∷ []) ∷ []
 
 -- the mark that the bytes begin with, and its charset
 abbrev pub mark_at_start : List ℕ → Option (Charset × List ℕ)
@@ -127,13 +135,15 @@ mark_at_start bytes = find (λ mark. starts_with nat_eq bytes mark.1) byte_order
 -- the text of bytes in a charset, where a byte order mark is removed and overrules the charset
 unfoldable pub marked_text_of : Charset → List ℕ → List ℕ
 marked_text_of charset bytes =
-    option_map_or (λ mark. text_of mark.0 (drop (length mark.1) bytes)) (mark_at_start bytes) (text_of charset bytes)
+    option_map_or (λ mark. text_of mark.0 (drop (length mark.1) bytes)) (mark_at_start bytes)
+    (text_of charset bytes)
 
 -- the text of bytes under no known label: ASCII, with U+FFFD for each other byte
 abbrev pub ascii_text : List ℕ → List ℕ
 ascii_text bytes = encode_utf8_all (map ascii_char bytes)
 
--- The charsets that a reader knows, by label: the text of bytes in the charset that has the label, if one has. No mark is looked for.
+-- The charsets that a reader knows, by label: the text of bytes in the charset that has the label,
+-- if one has. No mark is looked for.
 abbrev pub Charsets : Type 0
 Charsets = List ℕ → Option (List ℕ → List ℕ)
 

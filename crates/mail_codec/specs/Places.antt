@@ -1,9 +1,11 @@
--- Places in a list of bytes, counted from 0, and the least place with a property; this crate's own words.
+-- Places in a list of bytes, counted from 0, and the least place with a property; this crate's own
+-- words.
 use Rattle.std.specs.Prelude.{◌≡◌, ◌≢◌, ℕ, zero, suc, ◌+◌, ◌-◌, ◌<◌, ◌≤◌, Bool, true, false, not, ◌==◌, nat_eq, nat_lt, filter, List, [], ◌∷◌, length, take, drop, slice_index, Option, None, Some, if◌then◌else◌}
 use Rattle.std.specs.Char.{is_ascii_whitespace}
 use Rattle.std.specs.List.{starts_with, prefix_len, suffix_len}
 
--- the least place from which on the rest of the bytes passes the test, or the length where there is none
+-- the least place from which on the rest of the bytes passes the test, or the length where there is
+-- none
 abbrev pub first_place : (List ℕ → Bool) → List ℕ → ℕ
 first_place test [] = 0
 first_place test (b ∷ rest) = if test (b ∷ rest) then 0 else suc (first_place test rest)
@@ -28,7 +30,9 @@ stands text bytes = starts_with nat_eq bytes text
 
 -- the least place whose rest passes the test, where there is one
 abbrev pub place : (List ℕ → Bool) → List ℕ → Option ℕ
-place test bytes = let p = first_place test bytes in if nat_lt p (length bytes) then Some p else None
+place test bytes =
+    let p = first_place test bytes in
+    if nat_lt p (length bytes) then Some p else None
 
 -- the first place of a byte
 abbrev pub byte_place : List ℕ → ℕ → Option ℕ
@@ -44,7 +48,8 @@ pub record IsFirstPlace (test : List ℕ → Bool) (bytes : List ℕ) (p : ℕ) 
   pub passes : p < length bytes → test (drop p bytes) ≡ true
   pub before : (k : ℕ) → k < p → test (drop k bytes) ≡ false
 
--- p is the least place at or after s whose rest passes the test, or the length where no such place's rest does
+-- p is the least place at or after s whose rest passes the test, or the length where no such
+-- place's rest does
 pub record IsFirstPlaceFrom (test : List ℕ → Bool) (bytes : List ℕ) (s p : ℕ) : Type 0 where
   pub after : s ≤ p
   pub within : p ≤ length bytes

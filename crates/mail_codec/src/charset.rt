@@ -29,8 +29,8 @@ pub enum Charset {
 }
 
 impl Charset {
-    /// The charset that has the label: trimmed of ASCII white space (space, tab, LF, FF, CR) at both
-    /// ends, and ignoring ASCII case (the WHATWG Encoding Standard, section 4.2).
+    /// The charset that has the label: trimmed of ASCII white space (space, tab, LF, FF, CR) at
+    /// both ends, and ignoring ASCII case (the WHATWG Encoding Standard, section 4.2).
     ///
     /// `None` where no charset here has it. It takes no memory.
     ///
@@ -41,8 +41,8 @@ impl Charset {
         labels::charset_of(label.trim_ascii())
     }
 
-    /// The text of the bytes in this charset, or in the one whose byte order mark they begin with: a
-    /// mark is removed, and overrules the charset (the WHATWG Encoding Standard, section 6).
+    /// The text of the bytes in this charset, or in the one whose byte order mark they begin with:
+    /// a mark is removed, and overrules the charset (the WHATWG Encoding Standard, section 6).
     ///
     /// What is no character reads as U+FFFD. The error comes where memory runs out.
     ///
@@ -56,8 +56,8 @@ impl Charset {
         }
     }
 
-    /// The text of the bytes in this charset, a byte order mark read as any other bytes are (the WHATWG
-    /// Encoding Standard, sections 8, 9.1 and 14).
+    /// The text of the bytes in this charset, a byte order mark read as any other bytes are (the
+    /// WHATWG Encoding Standard, sections 8, 9.1 and 14).
     ///
     /// What is no character reads as U+FFFD. The error comes where memory runs out.
     ///
@@ -94,11 +94,11 @@ fn marked(bytes: &[u8]) -> Option<(Charset, &[u8])>
     None
 }
 
-/// The Latin-1 text of the bytes: one character for each byte, the one of its number, from U+0000 to
-/// U+00FF (ISO/IEC 8859-1).
+/// The Latin-1 text of the bytes: one character for each byte, the one of its number, from U+0000
+/// to U+00FF (ISO/IEC 8859-1).
 ///
-/// Where all bytes are ASCII, and only there, it borrows them; then it takes no memory and succeeds.
-/// The error comes where memory runs out.
+/// Where all bytes are ASCII, and only there, it borrows them; then it takes no memory and
+/// succeeds. The error comes where memory runs out.
 ///
 /// `decode_latin1(alloc, b"caf\xE9")` is `café`.
 pub fn decode_latin1(alloc: Global, bytes: &[u8]) -> Result<CowStr<'_>, AllocError>
@@ -111,8 +111,8 @@ pub fn decode_latin1(alloc: Global, bytes: &[u8]) -> Result<CowStr<'_>, AllocErr
 
 /// The ASCII text of the bytes, with U+FFFD for each byte at or above 0x80.
 ///
-/// Where all bytes are ASCII, and only there, it borrows them; then it takes no memory and succeeds.
-/// The error comes where memory runs out.
+/// Where all bytes are ASCII, and only there, it borrows them; then it takes no memory and
+/// succeeds. The error comes where memory runs out.
 ///
 /// `decode_ascii(alloc, b"caf\xE9")` is `caf` and U+FFFD.
 pub fn decode_ascii(alloc: Global, bytes: &[u8]) -> Result<CowStr<'_>, AllocError>

@@ -1,4 +1,4 @@
--- Letters and their values, and that they are those of the engine that decodes.
+-- Letters and their values.
 use Rattle.std.proofs.Common.{◌≡◌, ℕ, ◌==◌, ◌<◌, Bool, true, false, not, ◌&&◌, Option, Some, None, refl, ap}
 use Rattle.std.proofs.lemmas.List.Quantifiers.{position-Some}
 use Rattle.std.proofs.lemmas.Bool.{eqb-true, and_parts, not-true}

@@ -1,4 +1,5 @@
--- How the parts of the decoder of Base64 say what they did; this crate's own words for private functions.
+-- How the parts of the decoder of Base64 say what they did; this crate's own words for private
+-- functions.
 use Rattle.std.specs.Prelude.{ℕ, List, Result, Ok, Err}
 
 -- what appended bytes say: the items that are there, or the fault

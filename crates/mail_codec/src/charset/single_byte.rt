@@ -63,13 +63,14 @@ pub(crate) static ASCII: HighHalf = ['\u{FFFD}'; 128];
 
 /// The text of the bytes in windows-1252.
 pub(crate) fn decode_windows_1252(alloc: Global, bytes: &[u8]) -> Result<String, AllocError>
-    ensures { IfOk result (λ t. string_bytes t ≡ encode_utf8_all (map windows_1252_char bytes.now)) }
+    ensures { IfOk result
+        (λ t. string_bytes t ≡ encode_utf8_all (map windows_1252_char bytes.now)) }
 {
     decode(alloc, &WINDOWS_1252, bytes)?.into_owned(alloc)
 }
 
-/// The text of the bytes, in which a byte below 0x80 is its own character. Where all are, and only there,
-/// it borrows them.
+/// The text of the bytes, in which a byte below 0x80 is its own character. Where all are, and only
+/// there, it borrows them.
 pub(crate) fn decode<'a>(
     alloc: Global,
     high: &HighHalf,
@@ -116,7 +117,8 @@ fn push_text(text: &mut String, high: &HighHalf, bytes: &[u8]) -> Result<(), All
 /// Writes the text of the bytes to the front of the buffer, and answers its length.
 fn encode_block(buffer: &mut [u8], high: &HighHalf, bytes: &[u8]) -> usize
     requires { 4 * length bytes.now ≤ length buffer.old }
-    ensures text { take result buffer.new ≡ encode_utf8_all (map (single_byte_char high.now) bytes.now) }
+    ensures text { take result buffer.new
+        ≡ encode_utf8_all (map (single_byte_char high.now) bytes.now) }
     ensures utf8 { IsUtf8 (take result buffer.new) }
     ensures within { result ≤ length buffer.old }
 {

@@ -16,8 +16,9 @@ use std::alloc::{AllocError, Global};
 /// How many bytes of a Base64 text are read at a time.
 const WINDOW: usize = 4096;
 
-/// The bytes that a Base64 text stands for (RFC 4648, section 4). CR and LF count as absent wherever
-/// they stand, groups with padding may stand anywhere, and bits that make no whole byte are ignored.
+/// The bytes that a Base64 text stands for (RFC 4648, section 4). CR and LF count as absent
+/// wherever they stand, groups with padding may stand anywhere, and bits that make no whole byte
+/// are ignored.
 ///
 /// The inner error is the number, from 0, of the first invalid group of four; a short last group is
 /// invalid. The outer error comes where memory runs out: the answer takes memory, which is reserved
@@ -37,7 +38,8 @@ pub fn decode_base64(alloc: Global, text: &[u8]) -> Result<Result<Vec<u8>, usize
 ///
 /// `decode_base64_body(alloc, b"aG k=")` is the bytes `hi`.
 pub fn decode_base64_body(alloc: Global, body: &[u8]) -> Result<Result<Vec<u8>, usize>, AllocError>
-    ensures { IfOk result (λ answer. items_or_fault answer ≡ base64 (without_ascii_whitespace body.now)) }
+    ensures { IfOk result
+        (λ answer. items_or_fault answer ≡ base64 (without_ascii_whitespace body.now)) }
 {
     decode_base64_without(alloc, body, RunEnd::White)
 }
@@ -49,7 +51,8 @@ fn decode_base64_without(
     text: &[u8],
     absent: RunEnd,
 ) -> Result<Result<Vec<u8>, usize>, AllocError>
-    ensures { IfOk result (λ answer. items_or_fault answer ≡ groups_from 0 (without_ends absent text.now)) }
+    ensures { IfOk result
+        (λ answer. items_or_fault answer ≡ groups_from 0 (without_ends absent text.now)) }
 {
     let mut bytes = Vec::with_capacity(alloc, text.len() / 4 * 3)?;
     let mut letters = Vec::with_capacity(alloc, text.len().min(WINDOW + 3))?;
@@ -86,8 +89,8 @@ fn keep_from(letters: &mut Vec<u8>, at: usize)
     letters.truncate(left);
 }
 
-/// Appends the bytes of whole groups, of which the first has number `first`, or answers the number of
-/// the first invalid one. `full` and `decoded` are lent to be written over.
+/// Appends the bytes of whole groups, of which the first has number `first`, or answers the number
+/// of the first invalid one. `full` and `decoded` are lent to be written over.
 fn decode_groups(
     bytes: &mut Vec<u8>,
     letters: &[u8],
@@ -139,7 +142,8 @@ fn decode_each_group(
 }
 
 /// Appends the bytes of a group and answers true, or answers false where it is invalid. The missing
-/// letters of a group with padding are filled up with `A`, whose value is 0, and their bytes cut off.
+/// letters of a group with padding are filled up with `A`, whose value is 0, and their bytes cut
+/// off.
 fn push_group(bytes: &mut Vec<u8>, p: u8, q: u8, r: u8, s: u8) -> Result<bool, AllocError>
     ensures { IfOk result (λ is_group. option_map (λ decoded. bytes.old.items ++ decoded)
         (group_bytes p q r s)

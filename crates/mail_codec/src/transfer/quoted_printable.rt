@@ -6,10 +6,10 @@ ghost use Rattle.mail_codec.specs.QuotedPrintable.{digit_value, ended_line, firs
 use crate::bytescan::runs::{RunEnd, run_len};
 use std::alloc::{AllocError, Global};
 
-/// The bytes that a quoted-printable text stands for (RFC 2045, section 6.7). Of each line the spaces
-/// and tabs at its end go, then a final `=` together with the line end, which is LF or CR LF; then
-/// each `=` with two hexadecimal digits of either case, from the left, is one byte. Every other byte
-/// stays, so no text is refused.
+/// The bytes that a quoted-printable text stands for (RFC 2045, section 6.7). Of each line the
+/// spaces and tabs at its end go, then a final `=` together with the line end, which is LF or CR
+/// LF; then each `=` with two hexadecimal digits of either case, from the left, is one byte. Every
+/// other byte stays, so no text is refused.
 ///
 /// The error comes where memory runs out: the answer takes memory, which is reserved at once.
 ///

@@ -18,8 +18,10 @@ pub(crate) fn decode_padded_groups(
     decoded: &mut Vec<u8>,
 ) -> Result<bool, AllocError>
     requires whole { length letters.now % 4 ≡ 0 }
-    ensures read { IfOk result (λ is_read. is_read ≡ true → (n : ℕ) → prepend bytes.old.items (groups_from n letters.now) ≡ Ok bytes.new.items) }
-    ensures kept { IfOk result (λ is_read. is_read ≡ false → bytes.new.items ≡ bytes.old.items) }
+    ensures read { IfOk result (λ is_read. is_read ≡ true →
+        (n : ℕ) → prepend bytes.old.items (groups_from n letters.now) ≡ Ok bytes.new.items) }
+    ensures kept { IfOk result (λ is_read. is_read ≡ false →
+        bytes.new.items ≡ bytes.old.items) }
 {
     fill_up(full, letters)?;
     decoded.clear();
@@ -66,7 +68,8 @@ pub(crate) fn filled_pair(r: u8, s: u8) -> (u8, u8)
 fn push_cut_groups(bytes: &mut Vec<u8>, letters: &[u8], decoded: &[u8]) -> Result<(), AllocError>
     requires whole { length letters.now % 4 ≡ 0 }
     requires three { length decoded.now ≡ 3 * (length letters.now / 4) }
-    ensures { OnOk result (bytes.new.items ≡ bytes.old.items ++ cut_groups letters.now decoded.now) }
+    ensures { OnOk result
+        (bytes.new.items ≡ bytes.old.items ++ cut_groups letters.now decoded.now) }
 {
     'groups: for number in 0..letters.len() / 4 {
         let at = 4 * number;
