@@ -1,5 +1,5 @@
 //! The labels of the charsets, and texts under each charset.
-use crate::texts::joined;
+use crate::texts::{joined, repeated_and};
 use mail_codec::charset::{Charset, decode_ascii, decode_latin1};
 use std::alloc::{AllocError, Global};
 use std::borrow::CowStr;
@@ -94,9 +94,9 @@ fn labels_with_a_byte_more_or_less(rt: HostRuntime) -> Result<(), Fail> {
         let bytes = label.as_bytes();
         for place in 0..bytes.len() {
             let (before, from) = bytes.split_at(place);
-            let (through, behind) = bytes.split_at(place + 1);
+            let (through, after) = bytes.split_at(place + 1);
             assert!(rt;
-                is_as_listed(rt.alloc(), before, behind)?,
+                is_as_listed(rt.alloc(), before, after)?,
                 "{label} without byte {place}"
             );
             assert!(rt;
@@ -113,13 +113,13 @@ static BESIDE: [&str; 8] = [
     "\u{B}", "\0", "\u{A0}", "\u{85}", "\u{2003}", "\"", ";", "x",
 ];
 
-/// Whether a label has no charset with this before it, and none with this behind it.
+/// Whether a label has no charset with this before it, and none with this after it.
 fn is_none_beside(alloc: Global, label: &str, beside: &str) -> Result<bool, AllocError> {
     let before = joined(alloc, &[beside.as_bytes(), label.as_bytes()])?;
-    let behind = joined(alloc, &[label.as_bytes(), beside.as_bytes()])?;
+    let after = joined(alloc, &[label.as_bytes(), beside.as_bytes()])?;
     Ok(
         Charset::for_label(before.as_slice()).is_none()
-            && Charset::for_label(behind.as_slice()).is_none(),
+            && Charset::for_label(after.as_slice()).is_none(),
     )
 }
 
@@ -185,29 +185,7 @@ fn all_bytes() -> [u8; 256] {
     bytes
 }
 
-/// Whether the bytes have this text, after a look for a mark.
-fn is_marked(
-    alloc: Global,
-    charset: Charset,
-    bytes: &[u8],
-    wanted: &str,
-) -> Result<bool, AllocError> {
-    let text = charset.decode(alloc, bytes)?;
-    Ok(text.as_str() == wanted)
-}
-
-/// Whether the bytes have this text, a mark read as any other bytes are.
-fn is_plain(
-    alloc: Global,
-    charset: Charset,
-    bytes: &[u8],
-    wanted: &str,
-) -> Result<bool, AllocError> {
-    let text = charset.decode_without_bom_handling(alloc, bytes)?;
-    Ok(text.as_str() == wanted)
-}
-
-/// The bytes 0 to 7F as the characters of their numbers, and this text behind.
+/// The bytes 0 to 7F as the characters of their numbers, and then this text.
 fn ascii_and(alloc: Global, high: &str) -> Result<String, AllocError> {
     let mut text = String::new(alloc);
     for byte in 0..0x80u8 {
@@ -222,8 +200,10 @@ fn all_bytes_of_windows_1252(rt: HostRuntime) -> Result<(), Fail> {
     let bytes = all_bytes();
     let wanted = ascii_and(rt.alloc(), WINDOWS_1252_HIGH)?;
     let western = Charset::Windows1252;
-    assert!(rt; is_plain(rt.alloc(), western, &bytes, wanted.as_str())?);
-    assert!(rt; is_marked(rt.alloc(), western, &bytes, wanted.as_str())?);
+    let text = western.decode_without_bom_handling(rt.alloc(), &bytes)?;
+    assert_eq!(rt; text.as_str(), wanted.as_str());
+    let text = western.decode(rt.alloc(), &bytes)?;
+    assert_eq!(rt; text.as_str(), wanted.as_str());
     Ok(())
 }
 
@@ -239,24 +219,16 @@ fn high_texts(alloc: Global) -> Result<(String, String), AllocError> {
     Ok((latin1, ascii))
 }
 
-/// Whether the bytes have this text in Latin-1.
-fn is_latin1_text(alloc: Global, bytes: &[u8], wanted: &str) -> Result<bool, AllocError> {
-    Ok(decode_latin1(alloc, bytes)?.as_str() == wanted)
-}
-
-/// Whether the bytes have this text in ASCII.
-fn is_ascii_text(alloc: Global, bytes: &[u8], wanted: &str) -> Result<bool, AllocError> {
-    Ok(decode_ascii(alloc, bytes)?.as_str() == wanted)
-}
-
 #[test]
 fn all_bytes_of_latin1_and_of_ascii(rt: HostRuntime) -> Result<(), Fail> {
     let bytes = all_bytes();
     let (latin1, ascii) = high_texts(rt.alloc())?;
     let wanted = ascii_and(rt.alloc(), latin1.as_str())?;
-    assert!(rt; is_latin1_text(rt.alloc(), &bytes, wanted.as_str())?);
+    let text = decode_latin1(rt.alloc(), &bytes)?;
+    assert_eq!(rt; text.as_str(), wanted.as_str());
     let wanted = ascii_and(rt.alloc(), ascii.as_str())?;
-    assert!(rt; is_ascii_text(rt.alloc(), &bytes, wanted.as_str())?);
+    let text = decode_ascii(rt.alloc(), &bytes)?;
+    assert_eq!(rt; text.as_str(), wanted.as_str());
     Ok(())
 }
 
@@ -292,12 +264,18 @@ fn borrowed_exactly_where_all_is_ascii(rt: HostRuntime) -> Result<(), Fail> {
 fn texts_borrowed_and_owned(rt: HostRuntime) -> Result<(), Fail> {
     let ascii = b"a long enough text of ASCII bytes alone\0\x7F";
     assert!(rt; are_borrowed(rt.alloc(), ascii, true)?);
-    let other = b"Andr\xE9 and a long enough text behind the letter";
+    let other = b"Andr\xE9 and a long enough text after the letter";
     assert!(rt; are_borrowed(rt.alloc(), other, false)?);
-    let wanted = "Andr\u{E9} and a long enough text behind the letter";
-    assert!(rt; is_latin1_text(rt.alloc(), other, wanted)?);
-    let wanted = "Andr\u{FFFD} and a long enough text behind the letter";
-    assert!(rt; is_ascii_text(rt.alloc(), other, wanted)?);
+    let text = decode_latin1(rt.alloc(), other)?;
+    assert_eq!(rt;
+        text.as_str(),
+        "Andr\u{E9} and a long enough text after the letter"
+    );
+    let text = decode_ascii(rt.alloc(), other)?;
+    assert_eq!(rt;
+        text.as_str(),
+        "Andr\u{FFFD} and a long enough text after the letter"
+    );
     Ok(())
 }
 
@@ -347,18 +325,14 @@ static MARKS: [MarkRow; 15] = [
     (Charset::Utf16Be, b"", "", ""),
 ];
 
-/// Whether such a row reads as it says.
-fn is_mark_row(
-    alloc: Global,
-    (charset, bytes, marked, plain): &MarkRow,
-) -> Result<bool, AllocError> {
-    Ok(is_marked(alloc, *charset, bytes, marked)? && is_plain(alloc, *charset, bytes, plain)?)
-}
-
 #[test]
 fn marks(rt: HostRuntime) -> Result<(), Fail> {
     for row in &MARKS {
-        assert!(rt; is_mark_row(rt.alloc(), row)?, "{row:?}");
+        let (charset, bytes, marked, plain) = *row;
+        let text = charset.decode(rt.alloc(), bytes)?;
+        assert_eq!(rt; text.as_str(), marked, "{row:?}");
+        let text = charset.decode_without_bom_handling(rt.alloc(), bytes)?;
+        assert_eq!(rt; text.as_str(), plain, "{row:?}");
     }
     Ok(())
 }
@@ -385,25 +359,19 @@ static LABELLED: [LabelRow; 16] = [
     ("utf-16", b"", ""),
 ];
 
-/// Whether such a row reads as it says.
-fn is_label_row(alloc: Global, (label, bytes, text): &LabelRow) -> Result<bool, AllocError> {
-    match Charset::for_label(label.as_bytes()) {
-        Some(charset) => is_marked(alloc, charset, bytes, text),
-        None => Ok(false),
-    }
-}
-
 #[test]
 fn texts_under_labels(rt: HostRuntime) -> Result<(), Fail> {
     for row in &LABELLED {
-        assert!(rt; is_label_row(rt.alloc(), row)?, "{row:?}");
+        let charset = Charset::for_label(row.0.as_bytes()).ok_or("no charset")?;
+        let text = charset.decode(rt.alloc(), row.1)?;
+        assert_eq!(rt; text.as_str(), row.2, "{row:?}");
     }
     Ok(())
 }
 
 /// How many U+FFFD (`8`) stand for the bytes: one for each maximal part of a character, as in the
 /// examples of the Unicode Standard (section 3.9); other letters are themselves.
-static NO_UTF_8: [(&[u8], &str); 13] = [
+static INVALID_UTF_8: [(&[u8], &str); 13] = [
     (b"\xC0\xAF\xE0\x80\xBF\xF0\x81\x82A", "88888888A"),
     (b"\xED\xA0\x80\xED\xBF\xBF\xED\xAFA", "88888888A"),
     (b"\xF4\x91\x92\x93\xFFA\x80\xBFB", "88888A88B"),
@@ -419,27 +387,29 @@ static NO_UTF_8: [(&[u8], &str); 13] = [
     (b"\xF5\x80\x80\x80", "8888"),
 ];
 
-/// Whether the bytes read as such a shape.
-fn has_shape(alloc: Global, bytes: &[u8], shape: &str) -> Result<bool, AllocError> {
-    let mut wanted = String::new(alloc);
+/// The text of such a shape.
+fn text_of_shape(alloc: Global, shape: &str) -> Result<String, AllocError> {
+    let mut text = String::new(alloc);
     for letter in shape.chars() {
-        wanted.push(if letter == '8' { '\u{FFFD}' } else { letter })?;
+        text.push(if letter == '8' { '\u{FFFD}' } else { letter })?;
     }
-    is_plain(alloc, Charset::Utf8, bytes, wanted.as_str())
+    Ok(text)
 }
 
 #[test]
-fn bytes_that_are_no_utf_8(rt: HostRuntime) -> Result<(), Fail> {
-    for row in &NO_UTF_8 {
-        assert!(rt; has_shape(rt.alloc(), row.0, row.1)?, "{row:?}");
+fn invalid_utf_8(rt: HostRuntime) -> Result<(), Fail> {
+    for row in &INVALID_UTF_8 {
+        let text = Charset::Utf8.decode_without_bom_handling(rt.alloc(), row.0)?;
+        let wanted = text_of_shape(rt.alloc(), row.1)?;
+        assert_eq!(rt; text.as_str(), wanted.as_str(), "{row:?}");
     }
     Ok(())
 }
 
-/// Every row of up to four UTF-16 units, with an odd byte behind it (`x`) and without: `A` is
-/// U+0041, `H` and `L` are the high and the low surrogate of U+1F600. Behind `=` stands what the
+/// Every row of up to four UTF-16 units, with an odd byte after it (`x`) and without: `A` is
+/// U+0041, `H` and `L` are the high and the low surrogate of U+1F600. After `=` stands what the
 /// units read as: `P` is U+1F600 and `R` is U+FFFD. A Python program wrote the rows: of the units
-/// left, a high one and the low one behind it are a character; a high one that is last, with what
+/// left, a high one and the low one after it are a character; a high one that is last, with what
 /// odd byte there is, is one U+FFFD; so is each other surrogate and an odd byte.
 const UNIT_ROWS: &str = "
     = x=R A=A Ax=AR H=R Hx=R L=R Lx=RR AA=AA AAx=AAR AH=AR AHx=AR AL=AR ALx=ARR HA=RA HAx=RAR
@@ -511,10 +481,10 @@ fn push_unit(bytes: &mut Vec<u8>, unit: u16, big: bool) -> Result<(), AllocError
 }
 
 /// The bytes of such a row of letters.
-fn letter_bytes(alloc: Global, letters: &str, big: bool) -> Result<Vec<u8>, AllocError> {
+fn letter_bytes(alloc: Global, letters: &[u8], big: bool) -> Result<Vec<u8>, AllocError> {
     let mut bytes = Vec::new(alloc);
-    for letter in letters.bytes() {
-        match letter {
+    for letter in letters {
+        match *letter {
             b'A' => push_unit(&mut bytes, 0x41, big)?,
             b'H' => push_unit(&mut bytes, 0xD83D, big)?,
             b'L' => push_unit(&mut bytes, 0xDE00, big)?,
@@ -525,32 +495,16 @@ fn letter_bytes(alloc: Global, letters: &str, big: bool) -> Result<Vec<u8>, Allo
 }
 
 /// The text of such letters.
-fn letter_text(alloc: Global, letters: &str) -> Result<String, AllocError> {
+fn letter_text(alloc: Global, letters: &[u8]) -> Result<String, AllocError> {
     let mut text = String::new(alloc);
-    for letter in letters.bytes() {
-        text.push(match letter {
+    for letter in letters {
+        text.push(match *letter {
             b'A' => 'A',
             b'P' => '\u{1F600}',
             _ => '\u{FFFD}',
         })?;
     }
     Ok(text)
-}
-
-/// Whether such a row of letters reads as it says, with a look for a mark and without.
-fn reads_in_order(
-    alloc: Global,
-    units: &str,
-    letters: &str,
-    big: bool,
-) -> Result<bool, AllocError> {
-    let bytes = letter_bytes(alloc, units, big)?;
-    let wanted = letter_text(alloc, letters)?;
-    let (bytes, wanted) = (bytes.as_slice(), wanted.as_str());
-    Ok(
-        is_marked(alloc, utf_16(big), bytes, wanted)?
-            && is_plain(alloc, utf_16(big), bytes, wanted)?,
-    )
 }
 
 /// UTF-16 whose units have the high byte first, or last.
@@ -562,25 +516,55 @@ fn utf_16(big: bool) -> Charset {
     }
 }
 
-/// Whether such a row reads as it says in either order of the bytes.
-fn reads_in_either_order(alloc: Global, row: &str) -> Result<bool, AllocError> {
-    match row.split_once('=') {
-        Some((units, letters)) => Ok(
-            reads_in_order(alloc, units, letters, true)?
-                && reads_in_order(alloc, units, letters, false)?,
-        ),
-        None => Ok(false),
-    }
-}
-
 #[test]
 fn rows_of_units(rt: HostRuntime) -> Result<(), Fail> {
     let mut count = 0usize;
     for row in UNIT_ROWS.split_ascii_whitespace() {
-        assert!(rt; reads_in_either_order(rt.alloc(), row)?, "{row}");
+        let (units, letters) = row.split_once('=').ok_or("no row")?;
+        let wanted = letter_text(rt.alloc(), letters.as_bytes())?;
+        for big in [true, false] {
+            let bytes = letter_bytes(rt.alloc(), units.as_bytes(), big)?;
+            let text = utf_16(big).decode(rt.alloc(), bytes.as_slice())?;
+            assert_eq!(rt; text.as_str(), wanted.as_str(), "{row}");
+            let text = utf_16(big).decode_without_bom_handling(rt.alloc(), bytes.as_slice())?;
+            assert_eq!(rt; text.as_str(), wanted.as_str(), "{row}");
+        }
         count = count.saturating_add(1);
     }
     assert_eq!(rt; count, 242);
+    Ok(())
+}
+
+/// Units that are repeated, and what they read as each time; none begins with a low surrogate, and
+/// none ends with a high one.
+static REPEATED_UNITS: [(&[u8], &[u8]); 6] = [
+    (b"A", b"A"),
+    (b"HL", b"P"),
+    (b"AHL", b"AP"),
+    (b"AHLL", b"APR"),
+    (b"HHLA", b"RPA"),
+    (b"AAHAL", b"AARAR"),
+];
+
+/// What follows them, and what that reads as.
+static UNIT_ENDS: [(&[u8], &[u8]); 4] = [(b"", b""), (b"x", b"R"), (b"H", b"R"), (b"Hx", b"R")];
+
+#[test]
+fn long_rows_of_units(rt: HostRuntime) -> Result<(), Fail> {
+    for (units, letters) in &REPEATED_UNITS {
+        for (unit_end, letter_end) in &UNIT_ENDS {
+            for times in [17usize, 31, 63, 64, 65, 127, 128, 129, 1000] {
+                let units = repeated_and(rt.alloc(), units, times, unit_end)?;
+                let letters = repeated_and(rt.alloc(), letters, times, letter_end)?;
+                let wanted = letter_text(rt.alloc(), letters.as_slice())?;
+                for big in [true, false] {
+                    let bytes = letter_bytes(rt.alloc(), units.as_slice(), big)?;
+                    let text = utf_16(big).decode(rt.alloc(), bytes.as_slice())?;
+                    assert_eq!(rt; text.as_str(), wanted.as_str(), "{times} times");
+                }
+            }
+        }
+    }
     Ok(())
 }
 
@@ -607,34 +591,17 @@ fn number_text(alloc: Global, numbers: &str) -> Result<String, Fail> {
     Ok(text)
 }
 
-/// Whether such a row of numbers reads as it says, without a look for a mark.
-fn reads_numbers_in_order(
-    alloc: Global,
-    units: &str,
-    characters: &str,
-    big: bool,
-) -> Result<bool, Fail> {
-    let bytes = number_bytes(alloc, units, big)?;
-    let wanted = number_text(alloc, characters)?;
-    Ok(is_plain(alloc, utf_16(big), bytes.as_slice(), wanted.as_str())?)
-}
-
-/// Whether such a row reads as it says in either order of the bytes.
-fn reads_numbers_in_either_order(alloc: Global, row: &str) -> Result<bool, Fail> {
-    match row.split_once('=') {
-        Some((units, characters)) => Ok(
-            reads_numbers_in_order(alloc, units, characters, true)?
-                && reads_numbers_in_order(alloc, units, characters, false)?,
-        ),
-        None => Ok(false),
-    }
-}
-
 #[test]
 fn rows_at_the_edges(rt: HostRuntime) -> Result<(), Fail> {
     let mut count = 0usize;
     for row in EDGE_ROWS.split_ascii_whitespace() {
-        assert!(rt; reads_numbers_in_either_order(rt.alloc(), row)?, "{row}");
+        let (units, characters) = row.split_once('=').ok_or("no row")?;
+        let wanted = number_text(rt.alloc(), characters)?;
+        for big in [true, false] {
+            let bytes = number_bytes(rt.alloc(), units, big)?;
+            let text = utf_16(big).decode_without_bom_handling(rt.alloc(), bytes.as_slice())?;
+            assert_eq!(rt; text.as_str(), wanted.as_str(), "{row}");
+        }
         count = count.saturating_add(1);
     }
     assert_eq!(rt; count, 94);

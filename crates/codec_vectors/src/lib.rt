@@ -1,6 +1,6 @@
-//! Tests of `mail_codec` on its public calls, and of the letters of the engine that it decodes with,
-//! with answers from outside: published test vectors, the
-//! tables of the standards, and texts that other programs gave.
+//! Tests of `mail_codec` on its public calls, and of the letters of the engine that it decodes
+//! with, with answers from outside: published test vectors, the tables of the standards, and texts
+//! that other programs gave.
 #![tactic(auto)]
 
 #[cfg(test)]

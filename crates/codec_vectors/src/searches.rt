@@ -1,5 +1,5 @@
 //! Searches in bytes.
-use crate::texts::repeated;
+use crate::texts::{repeated, repeated_and};
 use mail_codec::bytescan::{find, find_byte, strip_ascii_whitespace};
 use std::alloc::{AllocError, Global};
 use std::test::Fail;
@@ -20,17 +20,15 @@ static BYTES: [ByteRow; 10] = [
     (b"9", 200, b";", None),
 ];
 
-/// Whether `:` is found where such a row says.
-fn is_byte_found(alloc: Global, (first, times, rest, place): &ByteRow) -> Result<bool, AllocError> {
-    let mut bytes = repeated(alloc, first, *times)?;
-    bytes.extend_from_slice(rest)?;
-    Ok(find_byte(bytes.as_slice(), b':') == *place)
-}
-
 #[test]
 fn a_byte(rt: HostRuntime) -> Result<(), Fail> {
-    for row in &BYTES {
-        assert!(rt; is_byte_found(rt.alloc(), row)?, "{row:?}");
+    for (first, times, rest, place) in &BYTES {
+        let bytes = repeated_and(rt.alloc(), first, *times, rest)?;
+        assert_eq!(rt;
+            find_byte(bytes.as_slice(), b':'),
+            *place,
+            "{times} times {first:?}"
+        );
     }
     Ok(())
 }
@@ -93,7 +91,7 @@ static FOUND: [(&[u8], &[u8], Option<usize>); 12] = [
 #[test]
 fn a_text(rt: HostRuntime) {
     for row in &FOUND {
-        assert!(rt; find(row.0, row.1) == row.2, "{row:?}");
+        assert_eq!(rt; find(row.0, row.1), row.2, "{row:?}");
     }
 }
 
@@ -116,7 +114,8 @@ static KEPT: [(&[u8], &[u8]); 6] = [
 #[test]
 fn without_white(rt: HostRuntime) -> Result<(), Fail> {
     for row in &KEPT {
-        assert!(rt; is_kept(rt.alloc(), row.0, row.1)?, "{row:?}");
+        let kept = strip_ascii_whitespace(rt.alloc(), row.0)?;
+        assert_eq!(rt; kept.as_slice(), row.1, "{row:?}");
     }
     Ok(())
 }
@@ -127,7 +126,8 @@ fn each_byte_white_or_not(rt: HostRuntime) -> Result<(), Fail> {
         let bytes = [b'a', byte, b'b'];
         let is_white = byte == 9 || byte == 10 || byte == 12 || byte == 13 || byte == 32;
         let kept = if is_white { b"ab" } else { bytes.as_slice() };
-        assert!(rt; is_kept(rt.alloc(), &bytes, kept)?, "{byte}");
+        let found = strip_ascii_whitespace(rt.alloc(), &bytes)?;
+        assert_eq!(rt; found.as_slice(), kept, "{byte}");
     }
     Ok(())
 }

@@ -10,6 +10,18 @@ pub fn repeated(alloc: Global, piece: &[u8], times: usize) -> Result<Vec<u8>, Al
     Ok(all)
 }
 
+/// The piece so many times, and then this.
+pub fn repeated_and(
+    alloc: Global,
+    piece: &[u8],
+    times: usize,
+    end: &[u8],
+) -> Result<Vec<u8>, AllocError> {
+    let mut all = repeated(alloc, piece, times)?;
+    all.extend_from_slice(end)?;
+    Ok(all)
+}
+
 /// These pieces, one after the other.
 pub fn joined(alloc: Global, pieces: &[&[u8]]) -> Result<Vec<u8>, AllocError> {
     let mut all = Vec::new(alloc);

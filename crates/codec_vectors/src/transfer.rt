@@ -1,7 +1,7 @@
 //! The transfer codings Base64 and quoted-printable.
 ghost use Rattle.std.specs.Prelude.{◌<◌};
 
-use crate::texts::{joined, repeated};
+use crate::texts::{joined, repeated, repeated_and};
 use base64::engine::general_purpose::STANDARD;
 use mail_codec::transfer::{decode_base64, decode_base64_body, decode_quoted_printable};
 use std::alloc::{AllocError, Global};
@@ -73,41 +73,50 @@ fn answer_of(alloc: Global, call: Call, text: &[u8]) -> Result<Result<Vec<u8>, u
     }
 }
 
-/// Whether the call answers these bytes.
-fn is_read(alloc: Global, call: Call, text: &[u8], wanted: &[u8]) -> Result<bool, AllocError> {
-    match answer_of(alloc, call, text)? {
-        Ok(bytes) => Ok(bytes.as_slice() == wanted),
-        Err(_) => Ok(false),
-    }
+/// The answer that has these bytes.
+fn read(alloc: Global, bytes: &[u8]) -> Result<Result<Vec<u8>, usize>, AllocError> {
+    let mut copy = Vec::new(alloc);
+    copy.extend_from_slice(bytes)?;
+    Ok(Ok(copy))
 }
 
-/// Whether the call answers that this group is the first that is none.
-fn is_fault(alloc: Global, call: Call, text: &[u8], group: usize) -> Result<bool, AllocError> {
-    Ok(answer_of(alloc, call, text)?.err() == Some(group))
-}
-
-/// Whether a group of `A` but for this byte reads as it has to.
-fn is_group(alloc: Global, byte: u8, place: usize) -> Result<bool, AllocError>
+/// A group of `A` but for this byte.
+fn group_with(byte: u8, place: usize) -> [u8; 4]
     requires { place < 4 }
 {
     let mut group = [b'A'; 4];
     group[place] = byte;
+    group
+}
+
+/// What such a group has to answer.
+fn answer_of_group_with(
+    alloc: Global,
+    byte: u8,
+    place: usize,
+) -> Result<Result<Vec<u8>, usize>, AllocError>
+    requires { place < 4 }
+{
     if let Some(value) = value_of(byte) {
         let bits = u32::from(value) << (18 - 6 * place);
         let [_, one, two, three] = bits.to_be_bytes();
-        return is_read(alloc, Call::Text, &group, &[one, two, three]);
+        return read(alloc, &[one, two, three]);
     }
     if byte == b'=' && place == 3 {
-        return is_read(alloc, Call::Text, &group, b"\0\0");
+        return read(alloc, b"\0\0");
     }
-    is_fault(alloc, Call::Text, &group, 0)
+    Ok(Err(0))
 }
 
 #[test]
 fn each_byte_in_each_place_of_a_group(rt: HostRuntime) -> Result<(), Fail> {
     for byte in 0..=255u8 {
         for place in 0..4usize {
-            assert!(rt; is_group(rt.alloc(), byte, place)?, "{byte} at {place}");
+            assert_eq!(rt;
+                decode_base64(rt.alloc(), &group_with(byte, place))?,
+                answer_of_group_with(rt.alloc(), byte, place)?,
+                "{byte} at {place}"
+            );
         }
     }
     Ok(())
@@ -127,9 +136,11 @@ static PUBLISHED: [(&[u8], &[u8]); 7] = [
 #[test]
 fn published_vectors(rt: HostRuntime) -> Result<(), Fail> {
     for row in &PUBLISHED {
-        assert!(rt; is_read(rt.alloc(), Call::Text, row.0, row.1)?, "{row:?}");
-        assert!(rt;
-            is_read(rt.alloc(), Call::Body, row.0, row.1)?,
+        let wanted = read(rt.alloc(), row.1)?;
+        assert_eq!(rt; decode_base64(rt.alloc(), row.0)?, wanted, "{row:?}");
+        assert_eq!(rt;
+            decode_base64_body(rt.alloc(), row.0)?,
+            wanted,
             "body {row:?}"
         );
     }
@@ -156,7 +167,8 @@ static TEXTS: [(&[u8], &[u8]); 14] = [
 #[test]
 fn base64_texts(rt: HostRuntime) -> Result<(), Fail> {
     for row in &TEXTS {
-        assert!(rt; is_read(rt.alloc(), Call::Text, row.0, row.1)?, "{row:?}");
+        let wanted = read(rt.alloc(), row.1)?;
+        assert_eq!(rt; decode_base64(rt.alloc(), row.0)?, wanted, "{row:?}");
     }
     Ok(())
 }
@@ -174,13 +186,14 @@ static BODIES: [(&[u8], &[u8]); 7] = [
 #[test]
 fn base64_bodies(rt: HostRuntime) -> Result<(), Fail> {
     for row in &BODIES {
-        assert!(rt; is_read(rt.alloc(), Call::Body, row.0, row.1)?, "{row:?}");
+        let wanted = read(rt.alloc(), row.1)?;
+        assert_eq!(rt; decode_base64_body(rt.alloc(), row.0)?, wanted, "{row:?}");
     }
     Ok(())
 }
 
-/// A text, and its first group that is none.
-static NO_GROUPS: [(&[u8], usize); 21] = [
+/// A text, and its first invalid group.
+static INVALID: [(&[u8], usize); 21] = [
     (b"aGk", 0),
     (b"aGk=a", 1),
     (b"aGVs=Gk=", 1),
@@ -205,15 +218,15 @@ static NO_GROUPS: [(&[u8], usize); 21] = [
 ];
 
 #[test]
-fn groups_that_are_none(rt: HostRuntime) -> Result<(), Fail> {
-    for row in &NO_GROUPS {
-        assert!(rt; is_fault(rt.alloc(), Call::Text, row.0, row.1)?, "{row:?}");
+fn invalid_groups(rt: HostRuntime) -> Result<(), Fail> {
+    for row in &INVALID {
+        assert_eq!(rt; decode_base64(rt.alloc(), row.0)?, Err(row.1), "{row:?}");
     }
     Ok(())
 }
 
-/// A body, and its first group that is none.
-static NO_GROUPS_OF_BODIES: [(&[u8], usize); 6] = [
+/// A body, and its first invalid group.
+static INVALID_IN_BODIES: [(&[u8], usize); 6] = [
     (b"aG\x0bk=", 0),
     (b"aGk=a", 1),
     (b"aGVs=Gk=", 1),
@@ -223,9 +236,13 @@ static NO_GROUPS_OF_BODIES: [(&[u8], usize); 6] = [
 ];
 
 #[test]
-fn groups_of_bodies_that_are_none(rt: HostRuntime) -> Result<(), Fail> {
-    for row in &NO_GROUPS_OF_BODIES {
-        assert!(rt; is_fault(rt.alloc(), Call::Body, row.0, row.1)?, "{row:?}");
+fn invalid_groups_of_bodies(rt: HostRuntime) -> Result<(), Fail> {
+    for row in &INVALID_IN_BODIES {
+        assert_eq!(rt;
+            decode_base64_body(rt.alloc(), row.0)?,
+            Err(row.1),
+            "{row:?}"
+        );
     }
     Ok(())
 }
@@ -254,58 +271,121 @@ static WHITE_PIECES: [&[u8]; 11] = [
     b"QUJ                  \t\t\t\t\t\t\t\t\x0C\x0C\x0C\x0C\x0C\x0C\x0C\r\n\r\n\r\n DQUJD\r\n",
 ];
 
-/// Whether the piece, 3000 times, reads as `ABCABC` as often.
-fn is_long_text(alloc: Global, call: Call, piece: &[u8]) -> Result<bool, AllocError> {
-    let text = repeated(alloc, piece, 3000)?;
-    let wanted = repeated(alloc, b"ABCABC", 3000)?;
-    is_read(alloc, call, text.as_slice(), wanted.as_slice())
-}
-
-/// Whether these pieces, joined, have this first group that is none.
-fn is_fault_of_joined(
+/// What the call answers of these pieces, joined.
+fn answer_of_joined(
     alloc: Global,
     call: Call,
     pieces: &[&[u8]],
-    group: usize,
-) -> Result<bool, AllocError> {
+) -> Result<Result<Vec<u8>, usize>, AllocError> {
     let text = joined(alloc, pieces)?;
-    is_fault(alloc, call, text.as_slice(), group)
+    answer_of(alloc, call, text.as_slice())
 }
 
-/// Whether the group that is none is found behind the piece, 3000 times: one with a byte that is no
-/// letter, a short end, and one behind groups that are cut at other letters.
-fn is_long_fault(alloc: Global, call: Call, piece: &[u8]) -> Result<bool, AllocError> {
+/// The first invalid groups after the piece, 3000 times: of one with a byte that is no letter, of a
+/// short end, and of one after groups that are cut at other letters.
+fn long_faults(alloc: Global, call: Call, piece: &[u8]) -> Result<[Option<usize>; 3], AllocError> {
     let text = repeated(alloc, piece, 3000)?;
     let text = text.as_slice();
-    Ok(
-        is_fault_of_joined(alloc, call, &[text, b"QU!D", text], 6000)?
-            && is_fault_of_joined(alloc, call, &[text, b"QUJ"], 6000)?
-            && is_fault_of_joined(alloc, call, &[text, b"QU", text, b"QU!DJD"], 12_001)?,
-    )
+    Ok([
+        answer_of_joined(alloc, call, &[text, b"QU!D", text])?.err(),
+        answer_of_joined(alloc, call, &[text, b"QUJ"])?.err(),
+        answer_of_joined(alloc, call, &[text, b"QU", text, b"QU!DJD"])?.err(),
+    ])
 }
+
+/// Where they have to be.
+const LONG_FAULTS: [Option<usize>; 3] = [Some(6000), Some(6000), Some(12_001)];
 
 #[test]
 fn long_base64_texts(rt: HostRuntime) -> Result<(), Fail> {
+    let bytes = repeated(rt.alloc(), b"ABCABC", 3000)?;
+    let wanted = read(rt.alloc(), bytes.as_slice())?;
     for piece in &PIECES {
-        assert!(rt; is_long_text(rt.alloc(), Call::Text, piece)?, "{piece:?}");
-        assert!(rt; is_long_fault(rt.alloc(), Call::Text, piece)?, "{piece:?}");
+        let text = repeated(rt.alloc(), piece, 3000)?;
+        assert_eq!(rt;
+            decode_base64(rt.alloc(), text.as_slice())?,
+            wanted,
+            "{piece:?}"
+        );
+        assert_eq!(rt;
+            long_faults(rt.alloc(), Call::Text, piece)?,
+            LONG_FAULTS,
+            "{piece:?}"
+        );
     }
     Ok(())
 }
 
 #[test]
 fn long_base64_bodies(rt: HostRuntime) -> Result<(), Fail> {
+    let bytes = repeated(rt.alloc(), b"ABCABC", 3000)?;
+    let wanted = read(rt.alloc(), bytes.as_slice())?;
     for piece in &WHITE_PIECES {
-        assert!(rt; is_long_text(rt.alloc(), Call::Body, piece)?, "{piece:?}");
-        assert!(rt; is_long_fault(rt.alloc(), Call::Body, piece)?, "{piece:?}");
+        let body = repeated(rt.alloc(), piece, 3000)?;
+        assert_eq!(rt;
+            decode_base64_body(rt.alloc(), body.as_slice())?,
+            wanted,
+            "{piece:?}"
+        );
+        assert_eq!(rt;
+            long_faults(rt.alloc(), Call::Body, piece)?,
+            LONG_FAULTS,
+            "{piece:?}"
+        );
     }
     Ok(())
 }
 
-/// Whether a quoted-printable text reads as these bytes.
-fn is_quoted(alloc: Global, text: &[u8], wanted: &[u8]) -> Result<bool, AllocError> {
-    let bytes = decode_quoted_printable(alloc, text)?;
-    Ok(bytes.as_slice() == wanted)
+/// A padded group, and its bytes.
+static PADDED: [(&[u8], &[u8]); 3] = [
+    (b"QQ==", b"A"),
+    (b"QUI=", b"AB"),
+    (b"QR==QUJDQUL=", b"AABCAB"),
+];
+
+/// Groups that are padded, so many times over, with what makes a fault after them, and the fault.
+static PADDED_FAULTS: [(&[u8], &[u8], usize); 6] = [
+    (b"QQ==", b"Q===", 3000),
+    (b"QQ==", b"QQ==Q", 3001),
+    (b"QUI=", b"QU!=QQ==", 3000),
+    (b"QUI=", b"=QUI", 3000),
+    (b"QQ==QUJD", b"QQ=D", 6000),
+    (b"QUJDQUI=", b"QUJDQU", 6001),
+];
+
+#[test]
+fn long_padded_texts(rt: HostRuntime) -> Result<(), Fail> {
+    for row in &PADDED {
+        let text = repeated(rt.alloc(), row.0, 3000)?;
+        let bytes = repeated(rt.alloc(), row.1, 3000)?;
+        let wanted = read(rt.alloc(), bytes.as_slice())?;
+        assert_eq!(rt;
+            decode_base64(rt.alloc(), text.as_slice())?,
+            wanted,
+            "{row:?}"
+        );
+        assert_eq!(rt;
+            decode_base64_body(rt.alloc(), text.as_slice())?,
+            wanted,
+            "{row:?}"
+        );
+    }
+    Ok(())
+}
+
+#[test]
+fn faults_after_long_padded_texts(rt: HostRuntime) -> Result<(), Fail> {
+    for row in &PADDED_FAULTS {
+        let text = repeated_and(rt.alloc(), row.0, 3000, row.1)?;
+        let text = text.as_slice();
+        assert_eq!(rt; decode_base64(rt.alloc(), text)?, Err(row.2), "{row:?}");
+        assert_eq!(rt;
+            decode_base64_body(rt.alloc(), text)?,
+            Err(row.2),
+            "body {row:?}"
+        );
+    }
+    Ok(())
 }
 
 static QUOTED: [(&[u8], &[u8]); 31] = [
@@ -345,7 +425,8 @@ static QUOTED: [(&[u8], &[u8]); 31] = [
 #[test]
 fn quoted_printable_texts(rt: HostRuntime) -> Result<(), Fail> {
     for row in &QUOTED {
-        assert!(rt; is_quoted(rt.alloc(), row.0, row.1)?, "{row:?}");
+        let bytes = decode_quoted_printable(rt.alloc(), row.0)?;
+        assert_eq!(rt; bytes.as_slice(), row.1, "{row:?}");
     }
     Ok(())
 }
@@ -384,20 +465,17 @@ static SPLITS: [SplitRow; 24] = [
     (23, b"caf\xC3\xA9 \t=au\r\n", b""),
 ];
 
-/// Whether the two parts read as such a row says.
-fn is_split(alloc: Global, (place, before, behind): &SplitRow) -> Result<bool, AllocError> {
-    match TWO_LINES.as_slice().split_at_checked(*place) {
-        Some((front, back)) => {
-            Ok(is_quoted(alloc, front, before)? && is_quoted(alloc, back, behind)?)
-        }
-        None => Ok(false),
-    }
-}
-
 #[test]
 fn each_split_of_two_lines(rt: HostRuntime) -> Result<(), Fail> {
-    for row in &SPLITS {
-        assert!(rt; is_split(rt.alloc(), row)?, "{row:?}");
+    for (place, before, after) in &SPLITS {
+        let (front, back) = TWO_LINES
+            .as_slice()
+            .split_at_checked(*place)
+            .ok_or("no place")?;
+        let bytes = decode_quoted_printable(rt.alloc(), front)?;
+        assert_eq!(rt; bytes.as_slice(), *before, "before {place}");
+        let bytes = decode_quoted_printable(rt.alloc(), back)?;
+        assert_eq!(rt; bytes.as_slice(), *after, "from {place}");
     }
     Ok(())
 }
@@ -459,21 +537,16 @@ static ENDS: [EndRow; 48] = [
     (7, b"=\r", b"a \xC3b==\r"),
 ];
 
-/// Whether the line reads as such a row says.
-fn is_ended(alloc: Global, (place, end, wanted): &EndRow) -> Result<bool, AllocError> {
-    match ONE_LINE.as_slice().split_at_checked(*place) {
-        Some((front, back)) => {
-            let text = joined(alloc, &[front, end, back])?;
-            is_quoted(alloc, text.as_slice(), wanted)
-        }
-        None => Ok(false),
-    }
-}
-
 #[test]
 fn each_line_end_at_each_place(rt: HostRuntime) -> Result<(), Fail> {
-    for row in &ENDS {
-        assert!(rt; is_ended(rt.alloc(), row)?, "{row:?}");
+    for (place, end, wanted) in &ENDS {
+        let (front, back) = ONE_LINE
+            .as_slice()
+            .split_at_checked(*place)
+            .ok_or("no place")?;
+        let text = joined(rt.alloc(), &[front, end, back])?;
+        let bytes = decode_quoted_printable(rt.alloc(), text.as_slice())?;
+        assert_eq!(rt; bytes.as_slice(), *wanted, "{end:?} at {place}");
     }
     Ok(())
 }
@@ -498,17 +571,13 @@ fn many(alloc: Global, piece: &[u8]) -> Result<Vec<u8>, AllocError> {
     Ok(text)
 }
 
-/// Whether the piece, many times, reads as what it reads as, as often.
-fn is_quoted_many(alloc: Global, piece: &[u8], read: &[u8]) -> Result<bool, AllocError> {
-    let text = many(alloc, piece)?;
-    let wanted = many(alloc, read)?;
-    is_quoted(alloc, text.as_slice(), wanted.as_slice())
-}
-
 #[test]
 fn long_quoted_printable_texts(rt: HostRuntime) -> Result<(), Fail> {
     for row in &QUOTED_PIECES {
-        assert!(rt; is_quoted_many(rt.alloc(), row.0, row.1)?, "{row:?}");
+        let text = many(rt.alloc(), row.0)?;
+        let wanted = many(rt.alloc(), row.1)?;
+        let bytes = decode_quoted_printable(rt.alloc(), text.as_slice())?;
+        assert_eq!(rt; bytes.as_slice(), wanted.as_slice(), "{row:?}");
     }
     Ok(())
 }

@@ -4,6 +4,7 @@
 use Rattle.std.specs.Prelude.{◌≡◌, ℕ, suc, ◌+◌, ◌*◌, ◌/◌, ◌%◌, ◌^◌, ◌<◌, ◌==◌, Bool, not, ◌||◌, if◌then◌else◌, List, [], ◌∷◌, ◌++◌, length, take, drop, filter, slice_index, codes, All, Option, Some, None, Result, Ok, Err}
 use Rattle.std.specs.List.{flat_map, position}
 use Rattle.std.specs.Global.{Vec}
+use Rattle.mail_codec.specs.Ascii.{line_feed, carriage_return, equals_sign}
 
 -- The 64 letters, in the order of their values (RFC 4648, table 1).
 abbrev pub alphabet : List ℕ
@@ -15,7 +16,7 @@ letter value = slice_index alphabet value
 
 -- `=`, which stands where a group has no letter.
 abbrev pub padding : ℕ
-padding = 61
+padding = equals_sign
 
 -- The number of 24 bits that the values of four letters make.
 abbrev pub group_number : ℕ → ℕ → ℕ → ℕ → ℕ
@@ -40,7 +41,7 @@ pub data IsGroup (group bytes : List ℕ) : Type 0 where
 
 -- A byte that is neither CR nor LF.
 abbrev pub is_kept : ℕ → Bool
-is_kept b = not (b == 13 || b == 10)
+is_kept b = not (b == carriage_return || b == line_feed)
 
 -- A text without its CR and LF.
 abbrev pub without_line_ends : List ℕ → List ℕ
@@ -96,7 +97,7 @@ after_group n (Some bytes) more = prepend bytes more
 after_group n None more = Err n
 
 -- The bytes of the groups of a text without line ends, where the first has number n, or the number
--- of the first that is none.
+-- of the first invalid one.
 unfoldable pub groups_from : ℕ → List ℕ → Result (List ℕ) ℕ
 groups_from n [] = Ok []
 groups_from n (p ∷ []) = Err n
@@ -113,10 +114,3 @@ base64 text = groups_from 0 (without_line_ends text)
 abbrev pub items_or_fault : Result (Vec ℕ) ℕ → Result (List ℕ) ℕ
 items_or_fault (Ok bytes) = Ok bytes.items
 items_or_fault (Err n) = Err n
-
--- ---- how the parts of a decoder say what they did
-
--- What appended bytes say: the items that are there, or the fault.
-abbrev pub answer_over : Result (Unit {0}) ℕ → List ℕ → Result (List ℕ) ℕ
-answer_over (Ok done) items = Ok items
-answer_over (Err n) items = Err n

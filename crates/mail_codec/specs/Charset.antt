@@ -1,18 +1,17 @@
 -- The charsets that are read, their labels and the text of bytes in each (the WHATWG Encoding
 -- Standard, sections 4.2, 6, 8.1.1, 9.1 and 14), and the text of bytes under no known label, which
 -- is the crate's own rule.
-use Rattle.std.specs.Prelude.{ℕ, ◌+◌, ◌-◌, ◌*◌, Bool, true, false, not, ◌&&◌, List, [], ◌∷◌, ◌++◌, map, take, drop, length, slice_index, nat_eq, nat_lt, Option, option_map, find, codes, encode_utf8_all, if◌then◌else◌}
+use Rattle.std.specs.Prelude.{ℕ, ◌+◌, ◌-◌, ◌*◌, Bool, true, false, not, ◌&&◌, List, [], ◌∷◌, ◌++◌, map, drop, length, slice_index, nat_eq, nat_lt, Option, option_map, find, codes, encode_utf8_all, if◌then◌else◌}
 use Rattle.std.specs.Int.{is_in_range}
-use Rattle.std.specs.List.{list_any, starts_with, prefix_len, suffix_len}
+use Rattle.std.specs.List.{list_any, starts_with}
 use Rattle.std.specs.Option.{option_map_or}
 use Rattle.std.specs.Char.{is_ascii_whitespace}
 use Rattle.std.specs.Char.Utf16.{is_high_surrogate, utf16_lossy_chars}
 use Rattle.std.specs.Str.{str_eq_ignore_ascii_case}
 use Rattle.std.specs.Str.Lossy.{utf8_lossy}
+use Rattle.mail_codec.specs.Places.{trimmed_at_start, trimmed_at_end}
 use Rattle.mail_codec.specs.declared.charset.Charset.{Charset}
 use Rattle.mail_codec.specs.declared.charset.Charset.TheVariants.{Utf8, Windows1252, Utf16Le, Utf16Be}
-use Rattle.mail_codec.specs.declared.charset.utf16.ByteOrder.{ByteOrder}
-use Rattle.mail_codec.specs.declared.charset.utf16.ByteOrder.TheVariants.{Little, Big}
 
 -- the character that stands for what is no character
 abbrev pub replacement : ℕ
@@ -22,7 +21,8 @@ replacement = 0xFFFD
 
 -- the labels of UTF-8
 abbrev pub utf_8_labels : List (List ℕ)
-utf_8_labels = codes "unicode-1-1-utf-8" ∷ codes "unicode11utf8" ∷ codes "unicode20utf8" ∷ codes "utf-8" ∷ codes "utf8" ∷ codes "x-unicode20utf8" ∷ []
+utf_8_labels = codes "unicode-1-1-utf-8" ∷ codes "unicode11utf8" ∷ codes "unicode20utf8"
+    ∷ codes "utf-8" ∷ codes "utf8" ∷ codes "x-unicode20utf8" ∷ []
 
 -- the labels of windows-1252
 abbrev pub windows_1252_labels : List (List ℕ)
@@ -36,19 +36,19 @@ utf_16be_labels = codes "unicodefffe" ∷ codes "utf-16be" ∷ []
 
 -- the labels of UTF-16, the low byte first
 abbrev pub utf_16le_labels : List (List ℕ)
-utf_16le_labels = codes "csunicode" ∷ codes "iso-10646-ucs-2" ∷ codes "ucs-2" ∷ codes "unicode" ∷ codes "unicodefeff" ∷ codes "utf-16" ∷ codes "utf-16le" ∷ []
+utf_16le_labels = codes "csunicode" ∷ codes "iso-10646-ucs-2" ∷ codes "ucs-2" ∷ codes "unicode"
+    ∷ codes "unicodefeff" ∷ codes "utf-16" ∷ codes "utf-16le" ∷ []
 
 -- each charset with its labels
 abbrev pub labels_by_charset : List (Charset × List (List ℕ))
-labels_by_charset = (Utf8, utf_8_labels) ∷ (Windows1252, windows_1252_labels) ∷ (Utf16Be, utf_16be_labels) ∷ (Utf16Le, utf_16le_labels) ∷ []
+labels_by_charset =
+    (Utf8, utf_8_labels) ∷ (Windows1252, windows_1252_labels)
+    ∷ (Utf16Be, utf_16be_labels) ∷ (Utf16Le, utf_16le_labels) ∷ []
 
--- the label without the ASCII white space (space, tab, LF, FF, CR) at its start
-abbrev pub trimmed_at_start : List ℕ → List ℕ
-trimmed_at_start label = drop (prefix_len is_ascii_whitespace label) label
-
--- the label without it at its end
-abbrev pub trimmed_at_end : List ℕ → List ℕ
-trimmed_at_end label = take (length label - suffix_len is_ascii_whitespace label) label
+-- the label without ASCII white space (space, tab, LF, FF, CR) at its start and at its end
+abbrev pub trimmed_label : List ℕ → List ℕ
+trimmed_label label =
+    trimmed_at_end is_ascii_whitespace (trimmed_at_start is_ascii_whitespace label)
 
 -- one of the labels is this one, ignoring ASCII case
 unfoldable pub is_among_labels : List (List ℕ) → List ℕ → Bool
@@ -57,7 +57,8 @@ is_among_labels labels label = list_any (λ known. str_eq_ignore_ascii_case labe
 -- the charset that has the label, once that is trimmed at both ends
 unfoldable pub charset_of_label : List ℕ → Option Charset
 charset_of_label label =
-    option_map (λ row. row.0) (find (λ row. is_among_labels row.1 (trimmed_at_end (trimmed_at_start label))) labels_by_charset)
+    option_map (λ row. row.0)
+    (find (λ row. is_among_labels row.1 (trimmed_label label)) labels_by_charset)
 
 -- One byte, one character (section 9.1).
 
@@ -71,29 +72,28 @@ windows_1252_row =
 
 -- the character of a byte in windows-1252: any other byte is the character of its number
 abbrev pub windows_1252_char : ℕ → ℕ
-windows_1252_char byte = if is_in_range 0x80 0x9F byte then slice_index windows_1252_row (byte - 0x80) else byte
+windows_1252_char byte =
+    if is_in_range 0x80 0x9F byte then slice_index windows_1252_row (byte - 0x80) else byte
 
--- the character of a byte, where these are those of the bytes 80 to FF and every other byte is the
--- character of its number
-abbrev pub single_byte_char : List ℕ → ℕ → ℕ
-single_byte_char high byte = if nat_lt byte 0x80 then byte else slice_index high (byte - 0x80)
-
--- the character of a byte in ASCII, and U+FFFD for a byte that is none
+-- the character of an ASCII byte, and U+FFFD for any other byte
 abbrev pub ascii_char : ℕ → ℕ
 ascii_char byte = if nat_lt byte 0x80 then byte else replacement
 
 -- UTF-16 (section 14).
 
--- the number of two bytes, the first the low or the high one
-abbrev pub unit_of : ByteOrder → ℕ → ℕ → ℕ
-unit_of Little first second = second * 256 + first
-unit_of Big first second = first * 256 + second
+-- the unit of two bytes, of which the first is the low one
+abbrev pub low_first : ℕ → ℕ → ℕ
+low_first first second = second * 256 + first
 
--- the units that the bytes make, two by two, without an odd last byte
-abbrev pub units : ByteOrder → List ℕ → List ℕ
+-- the unit of two bytes, of which the first is the high one
+abbrev pub high_first : ℕ → ℕ → ℕ
+high_first first second = first * 256 + second
+
+-- the units that the bytes make, two by two in such an order, without an odd last byte
+abbrev pub units : (ℕ → ℕ → ℕ) → List ℕ → List ℕ
 units order [] = []
 units order (first ∷ []) = []
-units order (first ∷ second ∷ bytes) = unit_of order first second ∷ units order bytes
+units order (first ∷ second ∷ bytes) = order first second ∷ units order bytes
 
 -- the bytes end in one that has no partner
 abbrev pub has_odd_end : List ℕ → Bool
@@ -110,7 +110,7 @@ ends_in_high (unit ∷ next ∷ more) = ends_in_high (next ∷ more)
 -- the characters of UTF-16: those of the units, with U+FFFD for each surrogate that has no partner,
 -- and then U+FFFD for an odd last byte, unless a high surrogate stands directly before it, whose
 -- U+FFFD stands for both
-abbrev pub utf_16_chars : ByteOrder → List ℕ → List ℕ
+abbrev pub utf_16_chars : (ℕ → ℕ → ℕ) → List ℕ → List ℕ
 utf_16_chars order bytes = utf16_lossy_chars (units order bytes)
     ++ (if has_odd_end bytes && not (ends_in_high (units order bytes)) then replacement ∷ [] else [])
 
@@ -120,12 +120,13 @@ utf_16_chars order bytes = utf16_lossy_chars (units order bytes)
 unfoldable pub text_of : Charset → List ℕ → List ℕ
 text_of Utf8 bytes = utf8_lossy bytes
 text_of Windows1252 bytes = encode_utf8_all (map windows_1252_char bytes)
-text_of Utf16Le bytes = encode_utf8_all (utf_16_chars Little bytes)
-text_of Utf16Be bytes = encode_utf8_all (utf_16_chars Big bytes)
+text_of Utf16Le bytes = encode_utf8_all (utf_16_chars low_first bytes)
+text_of Utf16Be bytes = encode_utf8_all (utf_16_chars high_first bytes)
 
 -- each charset that has a byte order mark, with the mark (section 6)
 abbrev pub byte_order_marks : List (Charset × List ℕ)
-byte_order_marks = (Utf8, 0xEF ∷ 0xBB ∷ 0xBF ∷ []) ∷ (Utf16Be, 0xFE ∷ 0xFF ∷ []) ∷ (Utf16Le, 0xFF ∷ 0xFE ∷ []) ∷ []
+byte_order_marks =
+    (Utf8, 0xEF ∷ 0xBB ∷ 0xBF ∷ []) ∷ (Utf16Be, 0xFE ∷ 0xFF ∷ []) ∷ (Utf16Le, 0xFF ∷ 0xFE ∷ []) ∷ []
 
 -- the mark that the bytes begin with, and its charset
 abbrev pub mark_at_start : List ℕ → Option (Charset × List ℕ)
@@ -144,7 +145,8 @@ marked_text_of charset bytes = marked (text_of charset) bytes
 abbrev pub ascii_text : List ℕ → List ℕ
 ascii_text bytes = encode_utf8_all (map ascii_char bytes)
 
--- The charsets that a reader knows, by label: the text of bytes in the charset that has the label, if one has. No mark is looked for.
+-- The charsets that a reader knows, by label: the text of bytes in the charset that has the label,
+-- if one has. No mark is looked for.
 abbrev pub Charsets : Type 0
 Charsets = List ℕ → Option (List ℕ → List ℕ)
 

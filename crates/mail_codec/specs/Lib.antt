@@ -1,7 +1,7 @@
+pub mod Ascii
 pub mod Places
 pub mod Latin1
 pub mod Charset
 pub mod Base64
 pub mod QuotedPrintable
-pub mod Runs
-pub mod Padding
+pub mod private

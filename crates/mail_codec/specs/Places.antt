@@ -1,9 +1,11 @@
--- Places in a list of bytes, counted from 0, and the least place with a property; the project's own words.
-use Rattle.std.specs.Prelude.{◌≡◌, ℕ, zero, suc, ◌+◌, ◌<◌, ◌≤◌, Bool, true, false, not, ◌==◌, nat_eq, nat_lt, filter, List, [], ◌∷◌, length, drop, Option, None, Some, if◌then◌else◌}
+-- Places in a list of bytes, counted from 0, and the least place with a property; this crate's own
+-- words.
+use Rattle.std.specs.Prelude.{◌≡◌, ◌≢◌, ℕ, zero, suc, ◌+◌, ◌-◌, ◌<◌, ◌≤◌, Bool, true, false, not, ◌==◌, nat_eq, nat_lt, filter, List, [], ◌∷◌, length, take, drop, slice_index, Option, None, Some, if◌then◌else◌}
 use Rattle.std.specs.Char.{is_ascii_whitespace}
-use Rattle.std.specs.List.{starts_with}
+use Rattle.std.specs.List.{starts_with, prefix_len, suffix_len}
 
--- the least place from which on the rest of the bytes passes the test, or the length where there is none
+-- the least place from which on the rest of the bytes passes the test, or the length where there is
+-- none
 abbrev pub first_place : (List ℕ → Bool) → List ℕ → ℕ
 first_place test [] = 0
 first_place test (b ∷ rest) = if test (b ∷ rest) then 0 else suc (first_place test rest)
@@ -28,7 +30,9 @@ stands text bytes = starts_with nat_eq bytes text
 
 -- the least place whose rest passes the test, where there is one
 abbrev pub place : (List ℕ → Bool) → List ℕ → Option ℕ
-place test bytes = let p = first_place test bytes in if nat_lt p (length bytes) then Some p else None
+place test bytes =
+    let p = first_place test bytes in
+    if nat_lt p (length bytes) then Some p else None
 
 -- the first place of a byte
 abbrev pub byte_place : List ℕ → ℕ → Option ℕ
@@ -44,6 +48,27 @@ pub record IsFirstPlace (test : List ℕ → Bool) (bytes : List ℕ) (p : ℕ) 
   pub passes : p < length bytes → test (drop p bytes) ≡ true
   pub before : (k : ℕ) → k < p → test (drop k bytes) ≡ false
 
+-- p is the least place at or after s whose rest passes the test, or the length where no such
+-- place's rest does
+pub record IsFirstPlaceFrom (test : List ℕ → Bool) (bytes : List ℕ) (s p : ℕ) : Type 0 where
+  pub after : s ≤ p
+  pub within : p ≤ length bytes
+  pub passes : p < length bytes → test (drop p bytes) ≡ true
+  pub before : (k : ℕ) → s ≤ k → k < p → test (drop k bytes) ≡ false
+
+-- the byte stands at place p
+abbrev pub HasByteAt : List ℕ → ℕ → ℕ → Type 0
+HasByteAt bytes byte p = (p < length bytes) × (slice_index bytes p ≡ byte)
+
+-- the text, which is not empty, stands at place p
+abbrev pub HasTextAt : List ℕ → List ℕ → ℕ → Type 0
+HasTextAt bytes text p = (text ≢ []) × (take (length text) (drop p bytes) ≡ text)
+
+-- the first place that has something, or `None` where no place has it
+abbrev pub IsFirstOf : (ℕ → Type 0) → Option ℕ → Type 0
+IsFirstOf Has (Some p) = Has p × ((k : ℕ) → k < p → ¬ Has k)
+IsFirstOf Has None = (k : ℕ) → ¬ Has k
+
 -- the least number below the bound that passes the test, or the bound where there is none
 abbrev pub least : (ℕ → Bool) → ℕ → ℕ
 least test zero = 0
@@ -57,3 +82,11 @@ values_below (suc n) f = f 0 ∷ values_below n (λ k. f (suc k))
 -- the bytes that are no ASCII white space (space, tab, LF, FF, CR), in order
 abbrev pub without_ascii_whitespace : List ℕ → List ℕ
 without_ascii_whitespace bytes = filter (λ b. not (is_ascii_whitespace b)) bytes
+
+-- the bytes without those at the start that pass the test
+abbrev pub trimmed_at_start : (ℕ → Bool) → List ℕ → List ℕ
+trimmed_at_start test bytes = drop (prefix_len test bytes) bytes
+
+-- the bytes without those at the end that pass it
+abbrev pub trimmed_at_end : (ℕ → Bool) → List ℕ → List ℕ
+trimmed_at_end test bytes = take (length bytes - suffix_len test bytes) bytes

@@ -1,7 +1,10 @@
 -- Quoted-printable (RFC 2045, section 6.7), read so that no text is refused: what is no escape
 -- stays as it is, which is this crate's own rule.
-use Rattle.std.specs.Prelude.{◌≡◌, ℕ, ◌+◌, ◌-◌, ◌*◌, ◌==◌, nat_le, Bool, false, ◌&&◌, ◌||◌, if◌then◌else◌, ◌⊎◌, ◌≢◌, List, [], ◌∷◌, ◌++◌, length, take, All, Option, Some, None}
-use Rattle.std.specs.List.{flat_map, slice_split, suffix_len}
+use Rattle.std.specs.Prelude.{◌≡◌, ℕ, ◌+◌, ◌-◌, ◌*◌, ◌==◌, Bool, false, ◌||◌, if◌then◌else◌, ◌⊎◌, ◌≢◌, List, [], ◌∷◌, ◌++◌, length, take, All, Option, Some, None}
+use Rattle.std.specs.Int.{is_in_range}
+use Rattle.std.specs.List.{flat_map, slice_split}
+use Rattle.mail_codec.specs.Ascii.{tab, line_feed, carriage_return, space, equals_sign, digit_0, digit_9, upper_a, upper_f, lower_a, lower_f}
+use Rattle.mail_codec.specs.Places.{trimmed_at_end}
 
 -- A line of a text: what stands in it, and the bytes that end it.
 pub record Line : Type 0 where
@@ -20,19 +23,19 @@ without_last bytes = take (length bytes - 1) bytes
 
 -- LF, and CR LF.
 abbrev pub lf : List ℕ
-lf = 10 ∷ []
+lf = line_feed ∷ []
 
 abbrev pub cr_lf : List ℕ
-cr_lf = 13 ∷ 10 ∷ []
+cr_lf = carriage_return ∷ line_feed ∷ []
 
 -- A line that ends at a CR LF, or at an LF without a CR before it.
 abbrev pub IsEndedLine : Line → Type 0
-IsEndedLine line = All (λ b. b ≢ 10) line.content
-    × ((line.ending ≡ cr_lf) ⊎ ((line.ending ≡ lf) × (ends_in 13 line.content ≡ false)))
+IsEndedLine line = All (λ b. b ≢ line_feed) line.content
+    × ((line.ending ≡ cr_lf) ⊎ ((line.ending ≡ lf) × (ends_in carriage_return line.content ≡ false)))
 
 -- A line that the end of the text ends.
 abbrev pub IsLastLine : Line → Type 0
-IsLastLine line = All (λ b. b ≢ 10) line.content × (line.ending ≡ [])
+IsLastLine line = All (λ b. b ≢ line_feed) line.content × (line.ending ≡ [])
 
 -- The lines of a text: each but the last ends at its line end, and the last, which may be empty, at
 -- the end of the text.
@@ -47,18 +50,14 @@ AreLines text lines = AreEnded lines × (text ≡ flat_map (λ line. line.conten
 
 -- A space or a tab.
 abbrev pub is_blank : ℕ → Bool
-is_blank b = b == 32 || b == 9
-
--- What stands before the spaces and tabs at the end.
-abbrev pub trimmed : List ℕ → List ℕ
-trimmed content = take (length content - suffix_len is_blank content) content
+is_blank b = b == space || b == tab
 
 -- The value of a hexadecimal digit, of either case.
 abbrev pub digit_value : ℕ → Option ℕ
 digit_value b =
-    if nat_le 48 b && nat_le b 57 then Some (b - 48)
-    else if nat_le 65 b && nat_le b 70 then Some (b - 55)
-    else if nat_le 97 b && nat_le b 102 then Some (b - 87)
+    if is_in_range digit_0 digit_9 b then Some (b - digit_0)
+    else if is_in_range upper_a upper_f b then Some (b - upper_a + 10)
+    else if is_in_range lower_a lower_f b then Some (b - lower_a + 10)
     else None
 
 -- The byte of two digits' values, if both are there.
@@ -72,7 +71,7 @@ first_escape [] = None
 first_escape (b ∷ []) = None
 first_escape (b ∷ c ∷ []) = None
 first_escape (b ∷ c ∷ d ∷ rest) =
-    if b == 61 then byte_of_values (digit_value c) (digit_value d) else None
+    if b == equals_sign then byte_of_values (digit_value c) (digit_value d) else None
 
 -- An escape's byte and what follows the escape; where there is none, what stays.
 abbrev pub after_escape : Option ℕ → List ℕ → List ℕ → List ℕ
@@ -90,9 +89,8 @@ unescaped (b ∷ c ∷ d ∷ rest) =
 -- The bytes of a line: without blanks at its end, and with its escapes read. A `=` at the end goes,
 -- and takes the line end with it.
 unfoldable pub line_bytes : Line → List ℕ
-line_bytes line =
-    if ends_in 61 (trimmed line.content) then unescaped (without_last (trimmed line.content))
-    else unescaped (trimmed line.content) ++ line.ending
+line_bytes line = let kept = trimmed_at_end is_blank line.content in
+    if ends_in equals_sign kept then unescaped (without_last kept) else unescaped kept ++ line.ending
 
 -- The text stands for the bytes: they are those of its lines, in order.
 abbrev pub IsQuotedPrintable : List ℕ → List ℕ → Type 0
@@ -104,7 +102,7 @@ IsQuotedPrintable text bytes = (lines : List Line) × AreLines text lines
 -- The line of a piece that an LF follows.
 abbrev pub ended_line : List ℕ → Line
 ended_line piece =
-    if ends_in 13 piece then record { content = without_last piece; ending = cr_lf }
+    if ends_in carriage_return piece then record { content = without_last piece; ending = cr_lf }
     else record { content = piece; ending = lf }
 
 -- The lines of the pieces between the LFs of a text.
@@ -115,7 +113,7 @@ lines_of_pieces (piece ∷ next ∷ pieces) = ended_line piece ∷ lines_of_piec
 
 -- The lines of a text.
 unfoldable pub lines_of : List ℕ → List Line
-lines_of text = lines_of_pieces (slice_split (λ b. b == 10) text)
+lines_of text = lines_of_pieces (slice_split (λ b. b == line_feed) text)
 
 -- The bytes that a text stands for.
 unfoldable pub quoted_printable : List ℕ → List ℕ

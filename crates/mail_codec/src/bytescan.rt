@@ -39,8 +39,8 @@ pub fn find(haystack: &[u8], needle: &[u8]) -> Option<usize>
     None
 }
 
-/// The bytes without those that are ASCII white space: space, tab, LF, FF and CR (0x0B is none). The
-/// error is want of memory.
+/// The bytes without those that are ASCII white space: space, tab, LF, FF and CR, but not 0x0B. The
+/// error comes where memory runs out.
 ///
 /// `strip_ascii_whitespace(alloc, b"a \x0bb\tc\r\n")` is `a\x0bbc`.
 pub fn strip_ascii_whitespace(alloc: Global, bytes: &[u8]) -> Result<Vec<u8>, AllocError>

@@ -1,8 +1,9 @@
 //! The charsets of mail text: their labels, and the text of bytes in each.
-ghost use Rattle.std.specs.Prelude.{◌≡◌, ◌↔◌, length, option_map, IfOk, IsOk, IsAscii, string_bytes};
+ghost use Rattle.std.specs.Prelude.{◌≡◌, ◌↔◌, IfOk, IsOk, IsAscii, string_bytes};
 ghost use Rattle.std.specs.Cow.{cow_str_bytes, IsBorrowedStr};
-ghost use Rattle.mail_codec.specs.Charset.{ascii_text, charset_of_label, mark_at_start, marked_text_of, text_of};
+ghost use Rattle.mail_codec.specs.Charset.{ascii_text, charset_of_label, marked_text_of, text_of};
 ghost use Rattle.mail_codec.specs.Latin1.{latin1_text};
+ghost use Rattle.mail_codec.specs.private.Marks.{marked, seen};
 
 mod encode;
 mod labels;
@@ -28,35 +29,39 @@ pub enum Charset {
 }
 
 impl Charset {
-    /// The charset that has the label: trimmed of ASCII white space (space, tab, LF, FF, CR) at both
-    /// ends, and ignoring ASCII case (the WHATWG Encoding Standard, section 4.2).
+    /// The charset that has the label: trimmed of ASCII white space (space, tab, LF, FF, CR) at
+    /// both ends, and ignoring ASCII case (the WHATWG Encoding Standard, section 4.2).
     ///
     /// `None` where no charset here has it. It takes no memory.
+    ///
+    /// `Charset::for_label(b" Latin1 ")` is `Some(Charset::Windows1252)`.
     pub fn for_label(label: &[u8]) -> Option<Charset>
         ensures { result ≡ charset_of_label label.now }
     {
         labels::charset_of(label.trim_ascii())
     }
 
-    /// The text of the bytes in this charset, or in the one whose byte order mark they begin with: a
-    /// mark is removed, and overrules the charset (the WHATWG Encoding Standard, section 6).
+    /// The text of the bytes in this charset, or in the one whose byte order mark they begin with:
+    /// a mark is removed, and overrules the charset (the WHATWG Encoding Standard, section 6).
     ///
-    /// What is no character reads as U+FFFD. The error is want of memory.
+    /// What is no character reads as U+FFFD. The error comes where memory runs out.
+    ///
+    /// `Charset::Windows1252.decode(alloc, b"\xEF\xBB\xBFa")` is `a`.
     pub fn decode(self, alloc: Global, bytes: &[u8]) -> Result<String, AllocError>
         ensures { IfOk result (λ t. string_bytes t ≡ marked_text_of self bytes.now) }
     {
         match marked(bytes) {
-            Some((charset, length)) => {
-                charset.decode_without_bom_handling(alloc, &bytes[length..])
-            }
+            Some((charset, rest)) => charset.decode_without_bom_handling(alloc, rest),
             None => self.decode_without_bom_handling(alloc, bytes),
         }
     }
 
-    /// The text of the bytes in this charset, a byte order mark read as any other bytes are (the WHATWG
-    /// Encoding Standard, sections 8, 9.1 and 14).
+    /// The text of the bytes in this charset, a byte order mark read as any other bytes are (the
+    /// WHATWG Encoding Standard, sections 8, 9.1 and 14).
     ///
-    /// What is no character reads as U+FFFD. The error is want of memory.
+    /// What is no character reads as U+FFFD. The error comes where memory runs out.
+    ///
+    /// `Charset::Utf16Be.decode_without_bom_handling(alloc, b"\0a\0")` is `a` and U+FFFD.
     pub fn decode_without_bom_handling(
         self,
         alloc: Global,
@@ -73,26 +78,29 @@ impl Charset {
     }
 }
 
-/// The charset whose byte order mark the bytes begin with, and the length of the mark.
-fn marked(bytes: &[u8]) -> Option<(Charset, usize)>
-    ensures { result ≡ option_map (λ mark. (mark.0, length mark.1)) (mark_at_start bytes.now) }
+/// The charset whose byte order mark the bytes begin with, and the bytes after the mark.
+fn marked(bytes: &[u8]) -> Option<(Charset, &[u8])>
+    ensures { seen result ≡ marked bytes.now }
 {
-    if bytes.starts_with(b"\xEF\xBB\xBF") {
-        Some((Charset::Utf8, 3))
-    } else if bytes.starts_with(b"\xFE\xFF") {
-        Some((Charset::Utf16Be, 2))
-    } else if bytes.starts_with(b"\xFF\xFE") {
-        Some((Charset::Utf16Le, 2))
-    } else {
-        None
+    if let Some(rest) = bytes.strip_prefix(b"\xEF\xBB\xBF") {
+        return Some((Charset::Utf8, rest));
     }
+    if let Some(rest) = bytes.strip_prefix(b"\xFE\xFF") {
+        return Some((Charset::Utf16Be, rest));
+    }
+    if let Some(rest) = bytes.strip_prefix(b"\xFF\xFE") {
+        return Some((Charset::Utf16Le, rest));
+    }
+    None
 }
 
-/// The Latin-1 text of the bytes: one character for each byte, the one of its number, from U+0000 to
-/// U+00FF (ISO/IEC 8859-1).
+/// The Latin-1 text of the bytes: one character for each byte, the one of its number, from U+0000
+/// to U+00FF (ISO/IEC 8859-1).
 ///
-/// Where all bytes are ASCII, and only there, it borrows them; then it takes no memory and succeeds.
-/// The error is want of memory.
+/// Where all bytes are ASCII, and only there, it borrows them; then it takes no memory and
+/// succeeds. The error comes where memory runs out.
+///
+/// `decode_latin1(alloc, b"caf\xE9")` is `café`.
 pub fn decode_latin1(alloc: Global, bytes: &[u8]) -> Result<CowStr<'_>, AllocError>
     ensures text { IfOk result (λ t. cow_str_bytes t ≡ latin1_text bytes.now) }
     ensures borrowed { IfOk result (λ t. IsBorrowedStr t ↔ IsAscii bytes.now) }
@@ -103,8 +111,10 @@ pub fn decode_latin1(alloc: Global, bytes: &[u8]) -> Result<CowStr<'_>, AllocErr
 
 /// The ASCII text of the bytes, with U+FFFD for each byte at or above 0x80.
 ///
-/// Where all bytes are ASCII, and only there, it borrows them; then it takes no memory and succeeds.
-/// The error is want of memory.
+/// Where all bytes are ASCII, and only there, it borrows them; then it takes no memory and
+/// succeeds. The error comes where memory runs out.
+///
+/// `decode_ascii(alloc, b"caf\xE9")` is `caf` and U+FFFD.
 pub fn decode_ascii(alloc: Global, bytes: &[u8]) -> Result<CowStr<'_>, AllocError>
     ensures text { IfOk result (λ t. cow_str_bytes t ≡ ascii_text bytes.now) }
     ensures borrowed { IfOk result (λ t. IsBorrowedStr t ↔ IsAscii bytes.now) }

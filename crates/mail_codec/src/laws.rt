@@ -1,27 +1,49 @@
-//! What the definitions mean, as laws over all bytes. Each function does nothing; its contract is the
-//! law.
-ghost use Rattle.std.specs.Prelude.{◌≡◌, ◌↔◌, ℕ, Bool, List, Ok, Err};
+//! What the definitions mean, as laws over all bytes. Each function does nothing; its contract is
+//! the law.
+ghost use Rattle.std.specs.Prelude.{◌≡◌, ◌↔◌, ◌≤◌, ℕ, Bool, List, Option, Ok, Err, length};
 ghost use Rattle.mail_codec.specs.Base64.{base64, IsBase64, IsBase64Fault};
-ghost use Rattle.mail_codec.specs.Places.{first_place, IsFirstPlace};
+ghost use Rattle.mail_codec.specs.Places.{byte_place, first_place, place_from, text_place, HasByteAt, HasTextAt, IsFirstOf, IsFirstPlace, IsFirstPlaceFrom};
 ghost use Rattle.mail_codec.specs.QuotedPrintable.{AreLines, IsQuotedPrintable, Line, lines_of, quoted_printable};
 
 /// `first_place` gives the least place with a property, and no other place is the least.
 pub fn first_place_is_least()
-    ensures least { (test : List ℕ → Bool) (bytes : List ℕ) → IsFirstPlace test bytes (first_place test bytes) }
+    ensures least { (test : List ℕ → Bool) (bytes : List ℕ) →
+        IsFirstPlace test bytes (first_place test bytes) }
     ensures only { (test : List ℕ → Bool) (bytes : List ℕ) (p : ℕ) →
         IsFirstPlace test bytes p → p ≡ first_place test bytes }
 {}
 
+/// `place_from` gives the least place at or after a start with a property, and no other place is
+/// the least.
+pub fn place_from_is_least()
+    ensures least { (test : List ℕ → Bool) (bytes : List ℕ) (s : ℕ) →
+        s ≤ length bytes → IsFirstPlaceFrom test bytes s (place_from test bytes s) }
+    ensures only { (test : List ℕ → Bool) (bytes : List ℕ) (s : ℕ) (p : ℕ) →
+        IsFirstPlaceFrom test bytes s p → p ≡ place_from test bytes s }
+{}
+
+/// What `find_byte` and `find` answer is the first place where the byte, or the text, stands, and
+/// `None` exactly where it stands nowhere; the empty text stands nowhere.
+pub fn searches_find_first_places()
+    ensures byte { (bytes : List ℕ) (byte : ℕ) (found : Option ℕ) →
+        (found ≡ byte_place bytes byte) ↔ IsFirstOf (HasByteAt bytes byte) found }
+    ensures text { (bytes : List ℕ) (text : List ℕ) (found : Option ℕ) →
+        (found ≡ text_place bytes text) ↔ IsFirstOf (HasTextAt bytes text) found }
+{}
+
 /// The function that reads Base64 gives the bytes that a text stands for in groups, and no others;
-/// and its fault is the number of the first group of no known form, and no other number.
+/// and its fault is the number of the first invalid group, and no other number.
 pub fn base64_is_groups()
-    ensures reads { (text : List ℕ) → (bytes : List ℕ) → (base64 text ≡ Ok bytes) ↔ IsBase64 text bytes }
+    ensures reads { (text : List ℕ) → (bytes : List ℕ) →
+        (base64 text ≡ Ok bytes) ↔ IsBase64 text bytes }
     ensures faults { (text : List ℕ) → (n : ℕ) → (base64 text ≡ Err n) ↔ IsBase64Fault text n }
 {}
 
-/// Exactly one list of lines fits a text, and the function that reads quoted-printable gives the bytes
-/// of these lines, and no others.
+/// Exactly one list of lines fits a text, and the function that reads quoted-printable gives the
+/// bytes of these lines, and no others.
 pub fn quoted_printable_is_lines()
-    ensures once { (text : List ℕ) → (lines : List Line) → AreLines text lines ↔ (lines ≡ lines_of text) }
-    ensures reads { (text : List ℕ) → (bytes : List ℕ) → IsQuotedPrintable text bytes ↔ (bytes ≡ quoted_printable text) }
+    ensures once { (text : List ℕ) → (lines : List Line) →
+        AreLines text lines ↔ (lines ≡ lines_of text) }
+    ensures reads { (text : List ℕ) → (bytes : List ℕ) →
+        IsQuotedPrintable text bytes ↔ (bytes ≡ quoted_printable text) }
 {}

@@ -2,8 +2,8 @@
 //!
 //! What is small is inlined: the searches are fast where the compiler knows what ends a run.
 ghost use Rattle.std.specs.Prelude.{◌≡◌, ◌≤◌, ◌++◌, length, OnOk, false};
-ghost use Rattle.std.specs.List.{position_or_len};
-ghost use Rattle.mail_codec.specs.Runs.{ends_run, NoneEnds, without_ends};
+ghost use Rattle.mail_codec.specs.Places.{begins, first_place};
+ghost use Rattle.mail_codec.specs.private.Runs.{ends_run, NoneEnds, without_ends};
 
 use std::alloc::AllocError;
 
@@ -34,8 +34,8 @@ impl RunEnd {
         }
     }
 
-    /// Whether the byte may end a run: no byte that ends one is passed over, and a block of bytes is
-    /// tested in few instructions.
+    /// Whether the byte may end a run: no byte that ends one is passed over, and a block of bytes
+    /// is tested in few instructions.
     #[inline(always)]
     fn may_be_met_by(self, byte: u8) -> bool
         ensures { result ≡ false → ends_run self byte ≡ false }
@@ -48,7 +48,7 @@ impl RunEnd {
     }
 }
 
-/// Appends the bytes that end no run, in order.
+/// Appends the bytes that end no run, in order. The error comes where memory runs out.
 #[inline(always)]
 pub(crate) fn push_runs(kept: &mut Vec<u8>, bytes: &[u8], end: RunEnd) -> Result<(), AllocError>
     ensures { OnOk result (kept.new.items ≡ kept.old.items ++ without_ends end bytes.now) }
@@ -65,11 +65,11 @@ pub(crate) fn push_runs(kept: &mut Vec<u8>, bytes: &[u8], end: RunEnd) -> Result
     Ok(())
 }
 
-/// The least place of a byte that ends a run, or the length where there is none. Goes by blocks, and
-/// byte by byte from the first block that may hold such a byte.
+/// The least place of a byte that ends a run, or the length where there is none. Goes by blocks,
+/// and byte by byte from the first block that may hold such a byte.
 #[inline(always)]
 pub(crate) fn run_len(bytes: &[u8], end: RunEnd) -> usize
-    ensures least { result ≡ position_or_len (ends_run end) bytes.now }
+    ensures least { result ≡ first_place (begins (ends_run end)) bytes.now }
     ensures within { result ≤ length bytes.now }
 {
     let mut at = free_len(bytes, end);
@@ -82,8 +82,8 @@ pub(crate) fn run_len(bytes: &[u8], end: RunEnd) -> usize
     at
 }
 
-/// The length of the blocks at the front in which no run ends. A block is tested as a whole, with no
-/// way out before its end, which the compiler turns into few instructions.
+/// The length of the blocks at the front in which no run ends. A block is tested as a whole, with
+/// no way out before its end, which the compiler turns into few instructions.
 #[inline(always)]
 fn free_len(bytes: &[u8], end: RunEnd) -> usize
     ensures within { result ≤ length bytes.now }

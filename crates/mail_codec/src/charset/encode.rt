@@ -3,6 +3,9 @@ ghost use Rattle.std.specs.Prelude.{◌≡◌, ◌+◌, ◌≤◌, ◌++◌, len
 ghost use Rattle.std.specs.Char.{IsScalar};
 
 /// Writes the character at `at`, and answers where it ends.
+///
+/// Written by hand, since `char::encode_utf8` promises what text it lends, but not what the buffer
+/// holds afterwards.
 pub(crate) fn put_char(buffer: &mut [u8], at: usize, character: char) -> usize
     requires { at + 4 ≤ length buffer.old }
     ensures written { take result buffer.new ≡ take at buffer.old ++ encode_utf8 character }

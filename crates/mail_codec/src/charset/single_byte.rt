@@ -1,7 +1,8 @@
 //! Charsets in which each byte is one character.
 ghost use Rattle.std.specs.Prelude.{◌≡◌, ◌*◌, ◌≤◌, ◌↔◌, ◌++◌, length, take, map, IfOk, OnOk, IsOk, IsAscii, IsUtf8, encode_utf8_all, string_bytes};
 ghost use Rattle.std.specs.Cow.{cow_str_bytes, IsBorrowedStr};
-ghost use Rattle.mail_codec.specs.Charset.{single_byte_char, windows_1252_char};
+ghost use Rattle.mail_codec.specs.Charset.{windows_1252_char};
+ghost use Rattle.mail_codec.specs.private.SingleByte.{single_byte_char};
 
 use super::encode::put_char;
 use std::alloc::{AllocError, Global};
@@ -62,13 +63,14 @@ pub(crate) static ASCII: HighHalf = ['\u{FFFD}'; 128];
 
 /// The text of the bytes in windows-1252.
 pub(crate) fn decode_windows_1252(alloc: Global, bytes: &[u8]) -> Result<String, AllocError>
-    ensures { IfOk result (λ t. string_bytes t ≡ encode_utf8_all (map windows_1252_char bytes.now)) }
+    ensures { IfOk result
+        (λ t. string_bytes t ≡ encode_utf8_all (map windows_1252_char bytes.now)) }
 {
     decode(alloc, &WINDOWS_1252, bytes)?.into_owned(alloc)
 }
 
-/// The text of the bytes, in which a byte below 0x80 is its own character. Where all are, and only there,
-/// it borrows them.
+/// The text of the bytes, in which a byte below 0x80 is its own character. Where all are, and only
+/// there, it borrows them.
 pub(crate) fn decode<'a>(
     alloc: Global,
     high: &HighHalf,
@@ -80,6 +82,7 @@ pub(crate) fn decode<'a>(
     ensures succeeds { IsAscii bytes.now → IsOk result }
 {
     if bytes.is_ascii() {
+        // SAFETY: ASCII is UTF-8.
         return Ok(CowStr::Borrowed(unsafe { str::from_utf8_unchecked(bytes) }));
     }
     let mut text = String::with_capacity(alloc, bytes.len())?;
@@ -97,11 +100,13 @@ fn push_text(text: &mut String, high: &HighHalf, bytes: &[u8]) -> Result<(), All
     'rest: while !rest.is_empty() {
         let run = ascii_blocks_length(rest);
         if run > 0 {
+            // SAFETY: the run is ASCII, and ASCII is UTF-8.
             text.push_str(unsafe { str::from_utf8_unchecked(&rest[..run]) })?;
             rest = &rest[run..];
         } else {
             let (block, others) = rest.split_at(rest.len().min(MIXED));
             let length = encode_block(&mut buffer, high, block);
+            // SAFETY: `encode_block` writes whole characters.
             text.push_str(unsafe { str::from_utf8_unchecked(&buffer[..length]) })?;
             rest = others;
         }
@@ -112,7 +117,8 @@ fn push_text(text: &mut String, high: &HighHalf, bytes: &[u8]) -> Result<(), All
 /// Writes the text of the bytes to the front of the buffer, and answers its length.
 fn encode_block(buffer: &mut [u8], high: &HighHalf, bytes: &[u8]) -> usize
     requires { 4 * length bytes.now ≤ length buffer.old }
-    ensures text { take result buffer.new ≡ encode_utf8_all (map (single_byte_char high.now) bytes.now) }
+    ensures text { take result buffer.new
+        ≡ encode_utf8_all (map (single_byte_char high.now) bytes.now) }
     ensures utf8 { IsUtf8 (take result buffer.new) }
     ensures within { result ≤ length buffer.old }
 {

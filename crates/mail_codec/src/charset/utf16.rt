@@ -1,7 +1,8 @@
 //! UTF-16, two bytes a unit (the WHATWG Encoding Standard, section 14).
 ghost use Rattle.std.specs.Prelude.{◌≡◌, ◌<◌, ◌≤◌, ◌∷◌, ◌++◌, length, take, drop, IsUtf8, if◌then◌else◌, IsTrue, IfOk, encode_utf8_all, string_bytes};
 ghost use Rattle.std.specs.Char.Utf16.{is_high_surrogate, is_low_surrogate, surrogate_pair_char};
-ghost use Rattle.mail_codec.specs.Charset.{unit_of, utf_16_chars};
+ghost use Rattle.mail_codec.specs.Charset.{utf_16_chars};
+ghost use Rattle.mail_codec.specs.private.ByteOrder.{unit_of};
 
 use super::encode::put_char;
 use std::alloc::{AllocError, Global};
@@ -33,25 +34,29 @@ impl ByteOrder {
 
 /// The text of the bytes.
 pub(crate) fn decode(alloc: Global, order: ByteOrder, bytes: &[u8]) -> Result<String, AllocError>
-    ensures { IfOk result (λ t. string_bytes t ≡ encode_utf8_all (utf_16_chars order bytes.now)) }
+    ensures { IfOk result
+        (λ t. string_bytes t ≡ encode_utf8_all (utf_16_chars (unit_of order) bytes.now)) }
 {
     let mut text = String::with_capacity(alloc, bytes.len() / 2)?;
     let mut buffer = [0; BUFFER];
     let mut rest = bytes;
     'rest: while !rest.is_empty() {
         let (taken, length) = encode_front(&mut buffer, order, rest);
+        // SAFETY: `encode_front` writes whole characters.
         text.push_str(unsafe { str::from_utf8_unchecked(&buffer[..length]) })?;
         rest = &rest[taken..];
     }
     Ok(text)
 }
 
-/// Writes as many characters as there is room for, and answers how many bytes they take here and there.
+/// Writes as many characters as there is room for, and answers how many bytes were read and
+/// written.
 fn encode_front(buffer: &mut [u8], order: ByteOrder, bytes: &[u8]) -> (usize, usize)
     requires room { 4 ≤ length buffer.old }
     requires some { 0 < length bytes.now }
-    ensures text { encode_utf8_all (utf_16_chars order bytes.now)
-        ≡ take result.1 buffer.new ++ encode_utf8_all (utf_16_chars order (drop result.0 bytes.now)) }
+    ensures text { encode_utf8_all (utf_16_chars (unit_of order) bytes.now)
+        ≡ take result.1 buffer.new
+        ++ encode_utf8_all (utf_16_chars (unit_of order) (drop result.0 bytes.now)) }
     ensures utf8 { IsUtf8 (take result.1 buffer.new) }
     ensures takes_some { 0 < result.0 }
     ensures takes_within { result.0 ≤ length bytes.now }
@@ -70,7 +75,8 @@ fn encode_front(buffer: &mut [u8], order: ByteOrder, bytes: &[u8]) -> (usize, us
 /// The character at the front, and how many bytes it takes.
 fn first_char(order: ByteOrder, bytes: &[u8]) -> (char, usize)
     requires { 0 < length bytes.now }
-    ensures chars { utf_16_chars order bytes.now ≡ result.0 ∷ utf_16_chars order (drop result.1 bytes.now) }
+    ensures chars { utf_16_chars (unit_of order) bytes.now
+        ≡ result.0 ∷ utf_16_chars (unit_of order) (drop result.1 bytes.now) }
     ensures takes_some { 0 < result.1 }
     ensures takes_within { result.1 ≤ length bytes.now }
 {
@@ -98,7 +104,8 @@ fn first_char(order: ByteOrder, bytes: &[u8]) -> (char, usize)
 /// The character of a high surrogate and the unit after it, where that is a low one.
 fn pair(high: u16, low: u16) -> Option<char>
     requires { IsTrue (is_high_surrogate high) }
-    ensures { result ≡ (if is_low_surrogate low then Some (surrogate_pair_char high low) else None) }
+    ensures { result
+        ≡ (if is_low_surrogate low then Some (surrogate_pair_char high low) else None) }
 {
     if low < 0xDC00 || 0xE000 <= low {
         return None;

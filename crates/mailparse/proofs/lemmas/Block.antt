@@ -5,7 +5,7 @@ use Rattle.std.proofs.lemmas.Bool.{cases_lt}
 use Rattle.std.proofs.lemmas.List.{drop-drop}
 use Rattle.std.proofs.Math.ListN.{drop_of_length-le}
 use Rattle.mail_codec.specs.Places.{stands, is_empty, values_below}
-use Rattle.mail_codec.proofs.PlaceLemmas.{least-is, least-before, least-passes, stands-starts_with}
+use Rattle.mail_codec.proofs.lemmas.Places.{least-is, least-before, least-passes, stands-starts_with}
 use Rattle.mailparse.specs.Refusal.{Refusal, empty_string, leading_space, lone_carriage_return}
 use Rattle.mailparse.specs.Header.{Header, header_of, header_length, read_header}
 use Rattle.mailparse.proofs.lemmas.Header.{header_length-≤, header_length->}

@@ -10,7 +10,7 @@ use Rattle.mailparse.specs.private.Cuts.{IsCut, IsOpening, KeepsClosing}
 use Rattle.mail_codec.specs.Places.{stands, place_from}
 use Rattle.mailparse.specs.Tokens.{white_space, plain_text, opening, closing, begins_closing, begins_with_boundary, is_boundary, is_white}
 use Rattle.mailparse.specs.Value.{outside_token}
-use Rattle.mail_codec.proofs.PlaceFromLemmas.{place_from_same, place_from_bounds, place_from_weaker, place_from_here, place_from_next, place_from_passes}
+use Rattle.mail_codec.proofs.lemmas.Places.{place_from_same, place_from_bounds, place_from_weaker, place_from_here, place_from_next, place_from_passes}
 use Rattle.mailparse.proofs.lemmas.Places.{place_from_via}
 use Rattle.mailparse.proofs.lemmas.Tokens.{pair_stands, opening_stands, closing_stands}
 

@@ -5,7 +5,7 @@ use Rattle.std.specs.Option.{option_map_or}
 use Rattle.std.proofs.lemmas.Bool.{cases_lt, false≢true}
 use Rattle.mail_codec.specs.Charset.{four_charsets}
 use Rattle.mail_codec.specs.Places.{begins, stands, byte_place, least, values_below}
-use Rattle.mail_codec.proofs.PlaceLemmas.{least-is, least-≤, least-before, least-passes}
+use Rattle.mail_codec.proofs.lemmas.Places.{least-is, least-≤, least-before, least-passes}
 use Rattle.mailparse.specs.Refusal.{Refusal, Reads, read_map, read_then, recursion_limit}
 use Rattle.mailparse.specs.Header.{Header, is_line_feed}
 use Rattle.mailparse.specs.Block.{HeaderList, read_headers}

@@ -2,8 +2,7 @@
 use Rattle.std.proofs.Common.{◌≡◌, ◌⊎◌, ℕ, ◌+◌, ◌<◌, ◌≤◌, Bool, true, false, cond, ltb, List, length, drop, Option, is_some, Some, None, refl, sym, ap, ◌∙◌, ⊎_elim, arith, length-drop}
 use Rattle.std.proofs.lemmas.Bool.{cond-true, cond-false, lt-ltb, le-ltb, cases_lt}
 use Rattle.mail_codec.specs.Places.{first_place, place, place_from}
-use Rattle.mail_codec.proofs.PlaceLemmas.{first_place-≤}
-use Rattle.mail_codec.proofs.PlaceFromLemmas.{place_from_bounds, place_from_same, place_from_weaker}
+use Rattle.mail_codec.proofs.lemmas.Places.{first_place-≤, place_from_bounds, place_from_same, place_from_weaker}
 
 -- where a search found nothing
 pub place_none : (test : List ℕ → Bool) (bytes : List ℕ) → None ≡ place test bytes → first_place test bytes ≡ length bytes

@@ -10,7 +10,7 @@ use Rattle.mailparse.specs.EncodedWord.{word_text}
 use Rattle.mail_codec.specs.Charset.{Charsets}
 use Rattle.mail_codec.specs.Places.{stands, place_from}
 use Rattle.mailparse.specs.Tokens.{TokenRange, Group, IsGroup, no_opening, no_boundary, no_closing, decodes, stays_text, AreTokensFrom, last_group, next_group, AreTokens, begins_closing, opening, closing, boundary_before, outside, text_at, inside, group_at, group_of_opening, group_of_word, tokens_within, token_ranges, Adjoin, token_source}
-use Rattle.mail_codec.proofs.PlaceFromLemmas.{place_from_bounds, place_from_passes}
+use Rattle.mail_codec.proofs.lemmas.Places.{place_from_bounds, place_from_passes}
 
 -- ---- how far a group goes
 

@@ -2,7 +2,7 @@ use Rattle.std.proofs.Common.{arith, drop, sym, ◌∙◌}
 use Rattle.std.proofs.lemmas.List.{take_rest}
 use Rattle.std.proofs.lemmas.Grind.{common_steps}
 use Rattle.mail_codec.specs.Places.{first_place, stands}
-use Rattle.mail_codec.proofs.PlaceLemmas.{place-found, PassedTo-more, stands-starts_with}
+use Rattle.mail_codec.proofs.lemmas.Places.{place-found, PassedTo-more, stands-starts_with}
 use Rattle.mail_codec.proofs.bytescan.find.Goals as goal
 
 pub returns-then-starts_with : goal.returns-then-starts_with

@@ -1,5 +1,5 @@
 use Rattle.mail_codec.specs.Places.{first_place, stands}
-use Rattle.mail_codec.proofs.PlaceLemmas.{PassedTo}
+use Rattle.mail_codec.proofs.lemmas.Places.{PassedTo}
 use Rattle.mail_codec.proofs.bytescan.find.Given as goal
 
 abbrev pub invariant-loop-place : goal.invariant-loop-place

@@ -1,6 +1,6 @@
 use Rattle.std.proofs.Common.{eqb}
 use Rattle.mail_codec.specs.Places.{first_place, begins}
-use Rattle.mail_codec.proofs.PlaceLemmas.{PassedTo}
+use Rattle.mail_codec.proofs.lemmas.Places.{PassedTo}
 use Rattle.mail_codec.proofs.bytescan.find_byte.Given as goal
 
 abbrev pub invariant-loop-place : goal.invariant-loop-place

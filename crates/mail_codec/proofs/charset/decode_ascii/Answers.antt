@@ -1,6 +1,6 @@
 use Rattle.std.proofs.Common.{◌∙◌}
 use Rattle.std.proofs.lemmas.Result.{IfOk-weaker}
-use Rattle.mail_codec.proofs.OneByte.{spelled_ascii}
+use Rattle.mail_codec.proofs.lemmas.CharsetSingleByte.{spelled_ascii}
 use Rattle.mail_codec.proofs.charset.decode_ascii.Goals as goal
 
 pub returns-clause-text : goal.returns-clause-text

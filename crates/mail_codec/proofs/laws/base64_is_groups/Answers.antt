@@ -1,4 +1,4 @@
-use Rattle.mail_codec.proofs.Base64Law.{base64_reads, base64_faults}
+use Rattle.mail_codec.proofs.lemmas.Base64Law.{base64_reads, base64_faults}
 use Rattle.mail_codec.proofs.laws.base64_is_groups.Goals as goal
 
 pub returns-clause-reads : goal.returns-clause-reads

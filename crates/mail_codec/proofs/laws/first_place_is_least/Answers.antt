@@ -1,5 +1,5 @@
 use Rattle.mail_codec.specs.Places.{first_place}
-use Rattle.mail_codec.proofs.PlaceLemmas.{first_place-is_first, IsFirstPlace-unique}
+use Rattle.mail_codec.proofs.lemmas.Places.{first_place-is_first, IsFirstPlace-unique}
 use Rattle.mail_codec.proofs.laws.first_place_is_least.Goals as goal
 
 pub returns-clause-least : goal.returns-clause-least

@@ -1,4 +1,4 @@
-use Rattle.mail_codec.proofs.QuotedPrintableLaw.{lines_once, quoted_printable_reads}
+use Rattle.mail_codec.proofs.lemmas.QuotedPrintableLaw.{lines_once, quoted_printable_reads}
 use Rattle.mail_codec.proofs.laws.quoted_printable_is_lines.Goals as goal
 
 pub returns-clause-once : goal.returns-clause-once

@@ -1,7 +1,7 @@
 use Rattle.std.proofs.Common.{◌≡◌, ℕ, ◌+◌, ◌-◌, ◌≤◌, List, length, take, drop, get_or, arith, inl, inr, ap, ◌∙◌}
 use Rattle.std.proofs.lemmas.Bool.{cases_lt}
 use Rattle.std.proofs.lemmas.List.{get_or-take, get_or-drop, length-take-le, length-drop}
-use Rattle.mail_codec.specs.Runs.{NoneEnds}
+use Rattle.mail_codec.specs.private.Runs.{NoneEnds}
 use Rattle.mail_codec.specs.declared.bytescan.runs.RunEnd.{RunEnd}
 use Rattle.mail_codec.proofs.bytescan.runs.free_len.Goals as goal
 

@@ -1,5 +1,5 @@
 use Rattle.std.proofs.Common.{length, ◌-◌, ◌≤◌}
-use Rattle.mail_codec.specs.Runs.{NoneEnds}
+use Rattle.mail_codec.specs.private.Runs.{NoneEnds}
 use Rattle.mail_codec.proofs.bytescan.runs.free_len.Given as goal
 
 abbrev pub invariant-skips : goal.invariant-skips

@@ -1,5 +1,5 @@
 use Rattle.std.proofs.Common.{◌≡◌, false}
-use Rattle.mail_codec.specs.Runs.{NoneEnds}
+use Rattle.mail_codec.specs.private.Runs.{NoneEnds}
 use Rattle.mail_codec.proofs.bytescan.runs.may_hold_end.Given as goal
 
 abbrev pub invariant-loop-byte : goal.invariant-loop-byte

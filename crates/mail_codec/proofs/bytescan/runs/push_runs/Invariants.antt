@@ -1,5 +1,5 @@
 use Rattle.std.proofs.Common.{length, drop, filter, not, ◌-◌, ◌≡◌, ◌≤◌, ◌++◌}
-use Rattle.mail_codec.specs.Runs.{ends_run}
+use Rattle.mail_codec.specs.private.Runs.{ends_run}
 use Rattle.mail_codec.proofs.bytescan.runs.push_runs.Given as goal
 
 -- what was appended, then the runs of the rest, is all

@@ -1,5 +1,5 @@
 use Rattle.std.proofs.Common.{refl}
-use Rattle.mail_codec.proofs.EncodeLemmas.{encode_two, encode_three, encode_four, stored_two, stored_three, stored_four}
+use Rattle.mail_codec.proofs.lemmas.CharsetUtf8.{encode_two, encode_three, encode_four, stored_two, stored_three, stored_four}
 use Rattle.mail_codec.proofs.charset.encode.put_char.Goals as goal
 
 pub returns-then-code-lt2048-clause-written : goal.returns-then-code-lt2048-clause-written

@@ -1,5 +1,5 @@
 use Rattle.std.proofs.Common.{arith}
-use Rattle.mail_codec.proofs.OneByte.{IsAscii-block}
+use Rattle.mail_codec.proofs.lemmas.CharsetSingleByte.{IsAscii-block}
 use Rattle.mail_codec.proofs.charset.single_byte.ascii_blocks_length.Goals as goal
 
 pub loop-at-preserved : goal.loop-at-preserved

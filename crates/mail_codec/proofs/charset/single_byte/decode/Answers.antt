@@ -1,6 +1,6 @@
 use Rattle.std.proofs.Common.{sym, ◌∙◌}
 use Rattle.std.proofs.lemmas.Str.{IsUtf8-from_ascii}
-use Rattle.mail_codec.proofs.OneByte.{spelled_low}
+use Rattle.mail_codec.proofs.lemmas.CharsetSingleByte.{spelled_low}
 use Rattle.mail_codec.proofs.charset.single_byte.decode.Goals as goal
 
 pub from_utf8_unchecked-requires : goal.from_utf8_unchecked-requires

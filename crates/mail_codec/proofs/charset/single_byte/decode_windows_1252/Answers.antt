@@ -1,6 +1,6 @@
 use Rattle.std.proofs.Common.{◌∙◌}
 use Rattle.std.proofs.lemmas.Result.{IfOk-weaker}
-use Rattle.mail_codec.proofs.OneByte.{spelled_windows_1252}
+use Rattle.mail_codec.proofs.lemmas.CharsetSingleByte.{spelled_windows_1252}
 use Rattle.mail_codec.proofs.charset.single_byte.decode_windows_1252.Goals as goal
 
 pub returns : goal.returns

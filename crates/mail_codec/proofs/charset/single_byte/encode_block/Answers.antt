@@ -1,6 +1,6 @@
 use Rattle.std.proofs.Common.{◌∙◌, ap, encode_utf8, arith}
 use Rattle.std.proofs.lemmas.Str.{IsUtf8-append, IsUtf8-encode}
-use Rattle.mail_codec.proofs.OneByte.{spelled_more}
+use Rattle.mail_codec.proofs.lemmas.CharsetSingleByte.{spelled_more}
 use Rattle.mail_codec.proofs.charset.single_byte.encode_block.Goals as goal
 
 pub loop-byte-preserved : goal.loop-byte-preserved

@@ -1,5 +1,5 @@
 use Rattle.std.proofs.Common.{◌≡◌, ◌*◌, ◌≤◌, take, IsUtf8}
-use Rattle.mail_codec.proofs.OneByte.{spelled}
+use Rattle.mail_codec.proofs.lemmas.CharsetSingleByte.{spelled}
 use Rattle.mail_codec.proofs.charset.single_byte.encode_block.Given as goal
 
 -- the text of the bytes so far stands at the front of the buffer

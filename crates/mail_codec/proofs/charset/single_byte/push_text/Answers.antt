@@ -1,7 +1,7 @@
 use Rattle.std.proofs.Common.{refl, sym, ap, ◌∙◌}
 use Rattle.std.proofs.lemmas.List.{take_rest}
 use Rattle.std.proofs.lemmas.Str.{IsUtf8-from_ascii}
-use Rattle.mail_codec.proofs.OneByte.{spelled, front_pushed, spelled_low}
+use Rattle.mail_codec.proofs.lemmas.CharsetSingleByte.{spelled, front_pushed, spelled_low}
 use Rattle.mail_codec.proofs.charset.single_byte.push_text.Goals as goal
 
 pub from_utf8_unchecked-requires : goal.from_utf8_unchecked-requires

@@ -1,5 +1,5 @@
 use Rattle.std.proofs.Common.{◌≡◌, ◌++◌, length, string_bytes}
-use Rattle.mail_codec.proofs.OneByte.{spelled}
+use Rattle.mail_codec.proofs.lemmas.CharsetSingleByte.{spelled}
 use Rattle.mail_codec.proofs.charset.single_byte.push_text.Given as goal
 
 -- what was made, and then the text of the rest, is all

@@ -1,6 +1,7 @@
 use Rattle.std.proofs.Common.{sym, eqb-true}
-use Rattle.mail_codec.proofs.UnitLemmas.{chars_done}
+use Rattle.mail_codec.specs.private.ByteOrder.{unit_of}
+use Rattle.mail_codec.proofs.lemmas.CharsetUtf16.{chars_done}
 use Rattle.mail_codec.proofs.charset.utf16.decode.Goals as goal
 
 pub returns : goal.returns
-returns c = chars_done c.args.order _ c.rest.rest.now _ (eqb-true _ _ (sym c.rest-test.ensures)) c.rest.invariant
+returns c = chars_done (unit_of c.args.order) _ c.rest.rest.now _ (eqb-true _ _ (sym c.rest-test.ensures)) c.rest.invariant

@@ -1,10 +1,11 @@
 use Rattle.std.proofs.Common.{◌≡◌, ◌++◌, length, encode_utf8_all, string_bytes}
 use Rattle.mail_codec.specs.Charset.{utf_16_chars}
+use Rattle.mail_codec.specs.private.ByteOrder.{unit_of}
 use Rattle.mail_codec.proofs.charset.utf16.decode.Given as goal
 
 -- what was made, and then the text of the rest, is all
 abbrev pub invariant-rest : goal.invariant-rest
-invariant-rest l = string_bytes l.text ++ encode_utf8_all (utf_16_chars l.order l.rest) ≡ encode_utf8_all (utf_16_chars l.order l.bytes)
+invariant-rest l = string_bytes l.text ++ encode_utf8_all (utf_16_chars (unit_of l.order) l.rest) ≡ encode_utf8_all (utf_16_chars (unit_of l.order) l.bytes)
 
 abbrev pub decreases-rest : goal.decreases-rest
 decreases-rest l = length l.rest

@@ -1,5 +1,6 @@
 use Rattle.std.proofs.Common.{◌≡◌, ◌-◌, ◌*◌, ◌≤◌, ◌++◌, length, take, drop, encode_utf8_all, IsUtf8}
 use Rattle.mail_codec.specs.Charset.{utf_16_chars}
+use Rattle.mail_codec.specs.private.ByteOrder.{unit_of}
 use Rattle.mail_codec.proofs.charset.utf16.encode_front.Given as goal
 
 -- what stands in the buffer, and then the text of the other bytes, is all
@@ -8,7 +9,7 @@ invariant-loop-taken l = record {
   taken_within : l.taken ≤ length l.bytes;
   at_within : l.at ≤ length l.buffer;
   few : l.at ≤ 4 * l.taken;
-  text : encode_utf8_all (utf_16_chars l.order l.bytes) ≡ take l.at l.buffer ++ encode_utf8_all (utf_16_chars l.order (drop l.taken l.bytes));
+  text : encode_utf8_all (utf_16_chars (unit_of l.order) l.bytes) ≡ take l.at l.buffer ++ encode_utf8_all (utf_16_chars (unit_of l.order) (drop l.taken l.bytes));
   utf8 : IsUtf8 (take l.at l.buffer);
 }
 

@@ -1,6 +1,6 @@
 use Rattle.std.proofs.Common.{not, eqb}
 use Rattle.mail_codec.specs.Places.{first_place, begins}
-use Rattle.mail_codec.proofs.PlaceLemmas.{PassedTo}
+use Rattle.mail_codec.proofs.lemmas.Places.{PassedTo}
 use Rattle.mailparse.proofs.header.parse.trim_spaces.Given as goal
 
 abbrev pub invariant-loop-place : goal.invariant-loop-place

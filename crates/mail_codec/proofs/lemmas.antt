@@ -1,0 +1,17 @@
+pub mod Places
+pub mod PlacesLaw
+pub mod Runs
+pub mod CharsetUtf8
+pub mod CharsetLabels
+pub mod CharsetMarks
+pub mod CharsetSingleByte
+pub mod CharsetUtf16
+pub mod Base64Letters
+pub mod Base64Engine
+pub mod Base64Groups
+pub mod Base64Steps
+pub mod Padding
+pub mod Base64Law
+pub mod QuotedPrintableEscapes
+pub mod QuotedPrintableLines
+pub mod QuotedPrintableLaw

@@ -1,0 +1,86 @@
+-- Texts in which each byte is one character: the tables, ASCII, and texts in pieces.
+use Rattle.std.proofs.Common.{◌≡◌, ℕ, ◌+◌, ◌-◌, ◌<◌, Bool, true, List, [], ◌∷◌, ◌++◌, map, take, drop, length, get_or, IsAscii, refl, sym, ap, append-nil, take-append-drop, ◌∙◌, encode_utf8, encode_utf8_all, append_assoc, arith, suc-le-suc, Fits, w8, map-id, ap₂, zero, suc, ◌==◌, ◌&&◌}
+use Rattle.std.proofs.lemmas.Bool.Decides.{nat_tests, Decides-below_and, Decides-eqb}
+use Rattle.std.proofs.Math.Seq.{take-add}
+use Rattle.std.proofs.lemmas.Str.{IsAscii-append, encodes-IsAscii, encodes-append}
+use Rattle.std.proofs.lemmas.List.{map-append, take_more}
+use Rattle.mail_codec.specs.Charset.{windows_1252_char, ascii_char, ascii_text}
+use Rattle.mail_codec.specs.private.SingleByte.{single_byte_char}
+use Rattle.mail_codec.specs.Latin1.{latin1_text}
+use Rattle.mail_codec.specs.declared.charset.single_byte.TheConstants.{LATIN_1, WINDOWS_1252, ASCII}
+
+-- the text of bytes under a high half
+abbrev pub spelled : List ℕ → List ℕ → List ℕ
+spelled high bytes = encode_utf8_all (map (single_byte_char high) bytes)
+
+-- ASCII bytes and then a block of ASCII bytes are ASCII bytes
+pub IsAscii-block : (bs : List ℕ) (n k : ℕ) → IsAscii (take n bs) → IsAscii (take ((n + k) - n) (drop n bs)) → IsAscii (take (n + k) bs)
+IsAscii-block bs n k front block = let e : (n + k) - n ≡ k = omega arith in rw take-add (IsAscii-append (take n bs) (take k (drop n bs)) front (rw e at block))
+
+-- whether the two give the same of each number below n
+abbrev pub agree_below : (ℕ → ℕ) → (ℕ → ℕ) → ℕ → Bool
+agree_below f g zero = true
+agree_below f g (suc n) = (f n == g n) && agree_below f g n
+
+-- what gives the same of each number below n gives the same of a list of such numbers
+pub map_agree : (f g : ℕ → ℕ) (n : ℕ) → ((b : ℕ) → b < n → f b ≡ g b) → (bs : List ℕ) → ((k : ℕ) → k < length bs → get_or bs k 0 < n) → map f bs ≡ map g bs
+map_agree f g n same [] low = refl
+map_agree f g n same (b ∷ bs) low = ap₂ (λ x y. x ∷ y) (same b (low 0 (omega arith))) (map_agree f g n same bs (λ k h. low (suc k) (suc-le-suc h)))
+
+-- what the test finds
+agree : (f g : ℕ → ℕ) (n : ℕ) → agree_below f g n ≡ true → (b : ℕ) → b < n → f b ≡ g b
+agree f g n = (Decides-below_and (λ k. f k == g k) (λ k. f k ≡ g k) (agree_below f g) (λ k. Decides-eqb (f k) (g k)) refl (λ _. refl) n).0
+
+-- each high half gives, of each byte, the character of its charset
+LATIN_1-is : (b : ℕ) → b < 256 → single_byte_char LATIN_1 b ≡ b
+LATIN_1-is = agree (single_byte_char LATIN_1) (λ b. b) 256 refl
+
+WINDOWS_1252-is : (b : ℕ) → b < 256 → single_byte_char WINDOWS_1252 b ≡ windows_1252_char b
+WINDOWS_1252-is = agree (single_byte_char WINDOWS_1252) windows_1252_char 256 refl
+
+ASCII-is : (b : ℕ) → b < 256 → single_byte_char ASCII b ≡ ascii_char b
+ASCII-is = agree (single_byte_char ASCII) ascii_char 256 refl
+
+-- each number of the list is a byte
+abbrev pub AreBytes : List ℕ → Type 0
+AreBytes bs = (k : ℕ) → Fits w8 (get_or bs k 0)
+
+byte_below : (bs : List ℕ) → AreBytes bs → (k : ℕ) → get_or bs k 0 < 256
+byte_below bs bytes k = let fits : Fits w8 (get_or bs k 0) = bytes k in omega arith
+
+-- and so of a list of bytes
+pub spelled_latin1 : (bs : List ℕ) → AreBytes bs → spelled LATIN_1 bs ≡ latin1_text bs
+spelled_latin1 bs bytes = ap encode_utf8_all (map_agree (single_byte_char LATIN_1) (λ b. b) 256 LATIN_1-is bs (λ k _. byte_below bs bytes k) ∙ map-id bs)
+
+pub spelled_windows_1252 : (bs : List ℕ) → AreBytes bs → spelled WINDOWS_1252 bs ≡ encode_utf8_all (map windows_1252_char bs)
+spelled_windows_1252 bs bytes = ap encode_utf8_all (map_agree (single_byte_char WINDOWS_1252) windows_1252_char 256 WINDOWS_1252-is bs (λ k _. byte_below bs bytes k))
+
+pub spelled_ascii : (bs : List ℕ) → AreBytes bs → spelled ASCII bs ≡ ascii_text bs
+spelled_ascii bs bytes = ap encode_utf8_all (map_agree (single_byte_char ASCII) ascii_char 256 ASCII-is bs (λ k _. byte_below bs bytes k))
+
+-- ASCII bytes are their own text
+single_byte_char_low : (high : List ℕ) (b : ℕ) → b < 128 → single_byte_char high b ≡ b
+single_byte_char_low high b h = grind (arith, nat_tests)
+
+pub spelled_low : (high bs : List ℕ) → IsAscii bs → spelled high bs ≡ bs
+spelled_low high bs low = ap encode_utf8_all (map_agree (single_byte_char high) (λ b. b) 128 (single_byte_char_low high) bs (λ k _. low k) ∙ map-id bs) ∙ encodes-IsAscii bs low
+
+-- the text of bytes in a row
+pub spelled-append : (high xs ys : List ℕ) → spelled high (xs ++ ys) ≡ spelled high xs ++ spelled high ys
+spelled-append high xs ys = ap encode_utf8_all (map-append (single_byte_char high) xs ys) ∙ encodes-append (map (single_byte_char high) xs) (map (single_byte_char high) ys)
+
+-- some bytes at the front, and then the others
+spelled_cut : (high bs : List ℕ) (n : ℕ) → spelled high bs ≡ spelled high (take n bs) ++ spelled high (drop n bs)
+spelled_cut high bs n = ap (spelled high) (sym (take-append-drop n bs)) ∙ spelled-append high (take n bs) (drop n bs)
+
+-- what was made, and then the text of the rest, stays all when the text of some bytes at the front is added
+pub front_pushed : (high rest made total pushed others : List ℕ) (n : ℕ) → made ++ spelled high rest ≡ total
+    → pushed ≡ spelled high (take n rest) → others ≡ drop n rest → (made ++ pushed) ++ spelled high others ≡ total
+front_pushed high rest made total pushed others n h front back =
+    rw (front, back, append_assoc) (rw (← spelled_cut high rest n) h)
+
+-- the text of one byte more
+pub spelled_more : (high bs made character : List ℕ) (i : ℕ) → i < length bs → made ≡ spelled high (take i bs) → character ≡ encode_utf8 (single_byte_char high (get_or bs i 0))
+    → made ++ character ≡ spelled high (take (i + 1) bs)
+spelled_more high bs made character i below h one =
+    rw (h, one, take_more bs i 0, spelled-append) (ap (λ x. spelled high (take i bs) ++ x) (sym (append-nil (encode_utf8 (single_byte_char high (get_or bs i 0))))))

@@ -1,0 +1,7 @@
+use Rattle.std.proofs.Common.{◌≡◌, ◌*◌, ◌++◌, drop}
+use Rattle.mail_codec.specs.private.Padding.{cut_groups}
+use Rattle.mail_codec.proofs.transfer.base_64.padded.push_cut_groups.Given as goal
+
+-- what was appended, then what is cut of the groups that are left, is all
+abbrev pub invariant-groups : goal.invariant-groups
+invariant-groups l = l.bytes.items ++ cut_groups (drop (4 * l.number) l.letters) (drop (3 * l.number) l.decoded) ≡ l.initial.bytes.items ++ cut_groups l.letters l.decoded

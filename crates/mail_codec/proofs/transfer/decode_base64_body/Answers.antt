@@ -1,5 +1,0 @@
-use Rattle.mail_codec.proofs.Base64Groups.{base64_without_white}
-use Rattle.mail_codec.proofs.transfer.decode_base64_body.Goals as goal
-
-pub returns : goal.returns
-returns c = rw (base64_without_white c.args.body.now) c.decode_base64_without.ensures

@@ -1,7 +1,0 @@
-use Rattle.std.proofs.Common.{◌≡◌, ◌*◌, ◌++◌, drop}
-use Rattle.mail_codec.specs.Padding.{filled}
-use Rattle.mail_codec.proofs.transfer.filled_up.Given as goal
-
--- what was made, then what is made of the groups that are left, is all
-abbrev pub invariant-groups : goal.invariant-groups
-invariant-groups l = l.full.items ++ filled (drop (4 * l.number) l.letters) ≡ filled l.letters

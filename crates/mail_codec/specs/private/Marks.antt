@@ -1,0 +1,15 @@
+-- What is found at the start of bytes with a byte order mark; the crate's own words for a private
+-- function.
+use Rattle.std.specs.Prelude.{ℕ, List, length, drop, Option, option_map}
+use Rattle.std.specs.Borrow.{Bor}
+use Rattle.mail_codec.specs.Charset.{mark_at_start}
+use Rattle.mail_codec.specs.declared.charset.Charset.{Charset}
+
+-- the charset of the mark that the bytes begin with, and the bytes after it
+abbrev pub marked : List ℕ → Option (Charset × List ℕ)
+marked bytes =
+    option_map {U = Charset × List ℕ} (λ mark. (mark.0, drop (length mark.1) bytes)) (mark_at_start bytes)
+
+-- the same with bytes that are lent
+abbrev pub seen : Option (Charset × Bor (List ℕ)) → Option (Charset × List ℕ)
+seen found = option_map {U = Charset × List ℕ} (λ f. (f.0, f.1.now)) found

@@ -1,0 +1,178 @@
+//! Base64, over bytes (RFC 4648, section 4; RFC 2045, section 6.8).
+ghost use Rattle.std.specs.Prelude.{◌≡◌, ◌+◌, ◌*◌, ◌/◌, ◌%◌, ◌^◌, ◌<◌, ◌≤◌, ◌≢◌, ◌++◌, length, drop, vec_len, IfOk, OnOk, option_map, if◌then◌else◌};
+ghost use Rattle.mail_codec.specs.Base64.{base64, bytes_of_values, group_bytes, groups_from, items_or_fault, letter_value, prepend};
+ghost use Rattle.mail_codec.specs.private.Base64.{answer_over};
+ghost use Rattle.mail_codec.specs.Places.{without_ascii_whitespace};
+ghost use Rattle.mail_codec.specs.private.Runs.{without_ends};
+
+mod padded;
+
+use self::padded::{decode_padded_groups, filled_pair, group_len};
+use crate::bytescan::runs::{RunEnd, push_runs};
+use base64::DecodeAllocError;
+use base64::engine::general_purpose::STANDARD;
+use std::alloc::{AllocError, Global};
+
+/// How many bytes of a Base64 text are read at a time.
+const WINDOW: usize = 4096;
+
+/// The bytes that a Base64 text stands for (RFC 4648, section 4). CR and LF count as absent
+/// wherever they stand, groups with padding may stand anywhere, and bits that make no whole byte
+/// are ignored.
+///
+/// The inner error is the number, from 0, of the first invalid group of four; a short last group is
+/// invalid. The outer error comes where memory runs out: the answer takes memory, which is reserved
+/// at once, and so do a few kilobytes of letters on the way.
+///
+/// `decode_base64(alloc, b"aG\r\nk=")` is the bytes `hi`; of `aGk=a` the inner error is 1.
+#[tactic(auto, unfolding(crate::specs::Base64::base64))]
+pub fn decode_base64(alloc: Global, text: &[u8]) -> Result<Result<Vec<u8>, usize>, AllocError>
+    ensures { IfOk result (λ answer. items_or_fault answer ≡ base64 text.now) }
+{
+    decode_base64_without(alloc, text, RunEnd::LineEnd)
+}
+
+/// The bytes that a Base64 body stands for (RFC 2045, section 6.8), in which all ASCII white space
+/// counts as absent: space, tab, LF, FF and CR, but not 0x0B. Errors and memory are as for
+/// `decode_base64`; no copy of the body is made.
+///
+/// `decode_base64_body(alloc, b"aG k=")` is the bytes `hi`.
+pub fn decode_base64_body(alloc: Global, body: &[u8]) -> Result<Result<Vec<u8>, usize>, AllocError>
+    ensures { IfOk result
+        (λ answer. items_or_fault answer ≡ base64 (without_ascii_whitespace body.now)) }
+{
+    decode_base64_without(alloc, body, RunEnd::White)
+}
+
+/// The bytes of the groups of a text without what counts as absent, a window of the text at a time.
+#[inline(always)]
+fn decode_base64_without(
+    alloc: Global,
+    text: &[u8],
+    absent: RunEnd,
+) -> Result<Result<Vec<u8>, usize>, AllocError>
+    ensures { IfOk result
+        (λ answer. items_or_fault answer ≡ groups_from 0 (without_ends absent text.now)) }
+{
+    let mut bytes = Vec::with_capacity(alloc, text.len() / 4 * 3)?;
+    let mut letters = Vec::with_capacity(alloc, text.len().min(WINDOW + 3))?;
+    let mut full = Vec::new(alloc);
+    let mut decoded = Vec::new(alloc);
+    let mut groups = 0;
+    let mut at = 0;
+    'windows: while at < text.len() {
+        let end = (text.len() - at).min(WINDOW) + at;
+        push_runs(&mut letters, &text[at..end], absent)?;
+        let whole = letters.len() / 4;
+        let window = &letters[..4 * whole];
+        if let Err(group) = decode_groups(&mut bytes, window, groups, &mut full, &mut decoded)? {
+            return Ok(Err(group));
+        }
+        keep_from(&mut letters, 4 * whole);
+        groups += whole;
+        at = end;
+    }
+    if letters.is_empty() {
+        Ok(Ok(bytes))
+    } else {
+        Ok(Err(groups))
+    }
+}
+
+/// Drops the letters before place `at`.
+fn keep_from(letters: &mut Vec<u8>, at: usize)
+    requires { at ≤ vec_len letters.old }
+    ensures { letters.new.items ≡ drop at letters.old.items }
+{
+    let left = letters.len() - at;
+    letters.as_mut_slice().copy_within(at.., 0);
+    letters.truncate(left);
+}
+
+/// Appends the bytes of whole groups, of which the first has number `first`, or answers the number
+/// of the first invalid one. `full` and `decoded` are lent to be written over.
+fn decode_groups(
+    bytes: &mut Vec<u8>,
+    letters: &[u8],
+    first: usize,
+    full: &mut Vec<u8>,
+    decoded: &mut Vec<u8>,
+) -> Result<Result<(), usize>, AllocError>
+    requires whole { length letters.now % 4 ≡ 0 }
+    requires few { first + length letters.now / 4 < 2 ^ 64 }
+    ensures { IfOk result (λ answer. prepend bytes.old.items (groups_from first letters.now)
+        ≡ answer_over answer bytes.new.items) }
+{
+    match STANDARD.decode_vec(letters, bytes) {
+        Ok(()) => Ok(Ok(())),
+        Err(DecodeAllocError::OutOfMemory) => Err(AllocError),
+        Err(DecodeAllocError::DecodeError(_)) => {
+            if decode_padded_groups(bytes, letters, full, decoded)? {
+                return Ok(Ok(()));
+            }
+            decode_each_group(bytes, letters, first)
+        }
+    }
+}
+
+/// The same as `decode_groups`, a group at a time, so that the first invalid one is found.
+fn decode_each_group(
+    bytes: &mut Vec<u8>,
+    letters: &[u8],
+    first: usize,
+) -> Result<Result<(), usize>, AllocError>
+    requires whole { length letters.now % 4 ≡ 0 }
+    requires few { first + length letters.now / 4 < 2 ^ 64 }
+    ensures { IfOk result (λ answer. prepend bytes.old.items (groups_from first letters.now)
+        ≡ answer_over answer bytes.new.items) }
+{
+    'groups: for number in 0..letters.len() / 4 {
+        let at = 4 * number;
+        if !push_group(
+            bytes,
+            letters[at],
+            letters[at + 1],
+            letters[at + 2],
+            letters[at + 3],
+        )? {
+            return Ok(Err(first + number));
+        }
+    }
+    Ok(Ok(()))
+}
+
+/// Appends the bytes of a group and answers true, or answers false where it is invalid. The missing
+/// letters of a group with padding are filled up with `A`, whose value is 0, and their bytes cut
+/// off.
+fn push_group(bytes: &mut Vec<u8>, p: u8, q: u8, r: u8, s: u8) -> Result<bool, AllocError>
+    ensures { IfOk result (λ is_group. option_map (λ decoded. bytes.old.items ++ decoded)
+        (group_bytes p q r s)
+        ≡ (if is_group then Some bytes.new.items else None)) }
+{
+    let (third, fourth) = filled_pair(r, s);
+    push_bytes(bytes, p, q, third, fourth, group_len(r, s))
+}
+
+/// Appends the first `len` bytes of four letters and answers true, or answers false where not all
+/// four are letters.
+fn push_bytes(
+    bytes: &mut Vec<u8>,
+    p: u8,
+    q: u8,
+    r: u8,
+    s: u8,
+    len: usize,
+) -> Result<bool, AllocError>
+    requires unpadded { s ≢ 61 }
+    requires short { len ≤ 3 }
+    ensures { IfOk result (λ are_letters. option_map (λ decoded. bytes.old.items ++ decoded)
+        (bytes_of_values len (letter_value p) (letter_value q) (letter_value r) (letter_value s))
+        ≡ (if are_letters then Some bytes.new.items else None)) }
+{
+    let mut decoded = [0u8; 3];
+    if STANDARD.decode_slice(&[p, q, r, s], &mut decoded).is_err() {
+        return Ok(false);
+    }
+    bytes.extend_from_slice(&decoded[..len])?;
+    Ok(true)
+}

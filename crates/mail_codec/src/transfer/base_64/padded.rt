@@ -1,0 +1,95 @@
+//! Base64 groups with padding, read together with others.
+ghost use Rattle.std.specs.Prelude.{◌≡◌, ℕ, Ok, true, false, ◌+◌, ◌*◌, ◌/◌, ◌%◌, ◌≤◌, ◌++◌, length, IfOk, OnOk};
+ghost use Rattle.mail_codec.specs.Base64.{groups_from, prepend};
+ghost use Rattle.mail_codec.specs.private.Padding.{cut_groups, filled, fourth, group_len, third};
+
+use base64::DecodeAllocError;
+use base64::engine::general_purpose::STANDARD;
+use std::alloc::AllocError;
+
+/// Appends the bytes of whole groups and answers true where all of them are groups, some padded
+/// perhaps; or appends nothing and answers false. The engine takes padding in the last group alone,
+/// so the missing letters are filled up, all groups are read at once, and then each is cut. `full`
+/// and `decoded` are lent to be written over, so that all windows share them.
+pub(crate) fn decode_padded_groups(
+    bytes: &mut Vec<u8>,
+    letters: &[u8],
+    full: &mut Vec<u8>,
+    decoded: &mut Vec<u8>,
+) -> Result<bool, AllocError>
+    requires whole { length letters.now % 4 ≡ 0 }
+    ensures read { IfOk result (λ is_read. is_read ≡ true →
+        (n : ℕ) → prepend bytes.old.items (groups_from n letters.now) ≡ Ok bytes.new.items) }
+    ensures kept { IfOk result (λ is_read. is_read ≡ false →
+        bytes.new.items ≡ bytes.old.items) }
+{
+    fill_up(full, letters)?;
+    decoded.clear();
+    match STANDARD.decode_vec(full.as_slice(), decoded) {
+        Ok(()) => {
+            push_cut_groups(bytes, letters, decoded.as_slice())?;
+            Ok(true)
+        }
+        Err(DecodeAllocError::OutOfMemory) => Err(AllocError),
+        Err(DecodeAllocError::DecodeError(_)) => Ok(false),
+    }
+}
+
+/// Makes the list whole groups with their padding filled up.
+fn fill_up(full: &mut Vec<u8>, letters: &[u8]) -> Result<(), AllocError>
+    requires whole { length letters.now % 4 ≡ 0 }
+    ensures { OnOk result (full.new.items ≡ filled letters.now) }
+{
+    full.clear();
+    full.reserve(letters.len())?;
+    'groups: for number in 0..letters.len() / 4 {
+        let at = 4 * number;
+        let (third, fourth) = filled_pair(letters[at + 2], letters[at + 3]);
+        full.extend_from_slice(&[letters[at], letters[at + 1], third, fourth])?;
+    }
+    Ok(())
+}
+
+/// The third and the fourth byte of a group, `A` in the place of padding: its value is 0.
+pub(crate) fn filled_pair(r: u8, s: u8) -> (u8, u8)
+    ensures third { result.0 ≡ third r s }
+    ensures fourth { result.1 ≡ fourth s }
+{
+    if s != b'=' {
+        return (r, s);
+    }
+    if r != b'=' {
+        return (r, b'A');
+    }
+    (b'A', b'A')
+}
+
+/// Appends, of three bytes for each group, those that the group stands for.
+fn push_cut_groups(bytes: &mut Vec<u8>, letters: &[u8], decoded: &[u8]) -> Result<(), AllocError>
+    requires whole { length letters.now % 4 ≡ 0 }
+    requires three { length decoded.now ≡ 3 * (length letters.now / 4) }
+    ensures { OnOk result
+        (bytes.new.items ≡ bytes.old.items ++ cut_groups letters.now decoded.now) }
+{
+    'groups: for number in 0..letters.len() / 4 {
+        let at = 4 * number;
+        let len = group_len(letters[at + 2], letters[at + 3]);
+        let place = 3 * number;
+        bytes.extend_from_slice(&decoded[place..place + len])?;
+    }
+    Ok(())
+}
+
+/// How many bytes a group stands for, by its third and its fourth byte.
+pub(crate) fn group_len(r: u8, s: u8) -> usize
+    ensures len { result ≡ group_len r s }
+    ensures few { result ≤ 3 }
+{
+    if s != b'=' {
+        return 3;
+    }
+    if r != b'=' {
+        return 2;
+    }
+    1
+}
