@@ -98,7 +98,7 @@ fn push_encoding(
 fn push_reading(alloc: Global, line: &mut String, body: Body<'_>) -> Result<(), LineFault>
     ensures { (kind : BodyKind) (content : Content) → IsBody kind content body.entry →
         Writes result line.old line.new
-        (reading_fields kind (string_bytes content.ctype.charset) content.raw) }
+        (reading_fields kind content.ctype.charset content.raw) }
 {
     match body {
         Body::Base64(body) => push_encoded(alloc, line, "base64", body),
@@ -142,7 +142,7 @@ fn push_encoded(
 ) -> Result<(), LineFault>
     ensures { let content = encoded_content body.entry in let coding = encoded_kind body.entry in
         Writes result line.old line.new (body_fields kind.now (decoded coding content.raw)
-        (decoded_text coding (string_bytes content.ctype.charset) content.raw)) }
+        (decoded_text coding content.ctype.charset content.raw)) }
 {
     line.push_str(kind)?;
     line.push_str(" ")?;
