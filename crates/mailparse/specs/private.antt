@@ -1,3 +1,5 @@
 -- Words that private functions alone need; no public clause speaks of them.
 pub mod Cuts
 pub mod Unfolding
+pub mod Dates
+pub mod IdRows

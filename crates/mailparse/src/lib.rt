@@ -3,16 +3,20 @@
 
 pub mod body;
 mod content_type;
+mod date;
 mod error;
 mod header;
 pub mod headers;
 mod lossy_text;
 mod mail;
+mod message_ids;
 
 pub use content_type::ParsedContentType;
+pub use date::dateparse;
 pub use error::{Base64Fault, MailParseError, QuotedPrintableFault, Wrapped};
 pub use header::MailHeader;
 pub use header::parse::parse_header;
 pub use headers::block::parse_headers;
 pub use headers::map::MailHeaderMap;
 pub use mail::{ParsedMail, parse_mail};
+pub use message_ids::{MessageIdList, msgidparse};
