@@ -1,5 +1,5 @@
 -- The date of a header in seconds: RFC 5322, sections 3.3 and 4.3, read as leniently as mail is written.
-use Rattle.std.specs.Prelude.{ℕ, zero, suc, ◌+◌, ◌*◌, ◌/◌, ◌%◌, ◌-◌, ◌^◌, Bool, not, ◌&&◌, ◌||◌, ◌==◌, nat_lt, nat_le, List, [], ◌∷◌, take, drop, sum, filter, find, ℤ, pos, negsuc, ◌+ℤ◌, neg_ℤ, Option, Some, None, option_map, is_some, ok_or, Result, Ok, Err, codes, if◌then◌else◌}
+use Rattle.std.specs.Prelude.{ℕ, zero, suc, ◌+◌, ◌*◌, ◌/◌, ◌%◌, ◌-◌, ◌^◌, Bool, not, ◌&&◌, ◌||◌, ◌==◌, nat_lt, nat_le, List, [], ◌∷◌, take, drop, sum, filter, find, ℤ, pos, negsuc, ◌+ℤ◌, neg_ℤ, Option, Some, None, option_map, is_some, ok_or, unsigned_abs, Result, Ok, Err, codes, if◌then◌else◌}
 use Rattle.std.specs.Int.{is_in_range}
 use Rattle.std.specs.List.{slice_split, position_or_len}
 use Rattle.std.specs.Str.{all_ascii_digits, str_eq_ignore_ascii_case}
@@ -141,8 +141,7 @@ zones =
 
 -- a zone is at most 24 hours from Greenwich
 abbrev pub zone_of_number : ℤ → Result ℤ Refusal
-zone_of_number (pos n) = if nat_le n 2400 then Ok (pos n) else Err invalid_zone
-zone_of_number (negsuc n) = if nat_lt n 2400 then Ok (negsuc n) else Err invalid_zone
+zone_of_number zone = if nat_le (unsigned_abs zone) 2400 then Ok zone else Err invalid_zone
 
 abbrev pub zone_if_read : Option ℤ → List ℕ → Result ℤ Refusal
 zone_if_read (Some z) word = zone_of_number z

@@ -71,10 +71,10 @@ fn time_of_day(text: &str) -> Result<i64, MailParseError>
         return Ok(0);
     };
     let Some((minute, rest)) = next_number(rest, "Invalid minute")? else {
-        return Ok(3600 * hour);
+        return Ok(i64::from(3600 * hour));
     };
     let Some((second, rest)) = next_number(rest, "Invalid second")? else {
-        return Ok(3600 * hour + 60 * minute);
+        return Ok(i64::from(3600 * hour + 60 * minute));
     };
-    Ok(3600 * hour + 60 * minute + second + zone_seconds(rest)?)
+    Ok(i64::from(3600 * hour + 60 * minute + second) + zone_seconds(rest)?)
 }

@@ -1,16 +1,20 @@
 -- Dates: numbers that words write, words of a text, and days of years.
-use Rattle.std.proofs.Common.{◌≡◌, ◌≢◌, ℕ, zero, suc, ◌+◌, ◌-◌, ◌*◌, ◌/◌, ◌%◌, ◌^◌, ◌<◌, ◌≤◌, Bool, true, false, cond, not, ◌&&◌, ◌||◌, eqb, ltb, List, [], ◌∷◌, ◌++◌, length, take, drop, Option, Some, None, Result, Ok, Err, refl, sym, ap, ◌∙◌, subst, get_or, map, arith, length-take}
-use Rattle.std.specs.List.{filter, slice_split, onto_first, prefix_len}
+use Rattle.std.proofs.Common.{◌≡◌, ◌≢◌, ℕ, zero, suc, ◌+◌, ◌-◌, ◌*◌, ◌/◌, ◌%◌, ◌^◌, ◌<◌, ◌≤◌, Bool, true, false, cond, not, ◌&&◌, ◌||◌, eqb, ltb, List, [], ◌∷◌, ◌++◌, length, take, drop, Option, Some, None, Result, Ok, Err, refl, sym, ap, ◌∙◌, subst, get_or, leb, map, arith, length-take}
+use Rattle.std.specs.List.{filter, list_all, slice_split, onto_first, prefix_len}
 use Rattle.std.specs.Result.{result_ok}
 use Rattle.std.specs.Borrow.{Bor}
-use Rattle.std.specs.Str.{IsCharBoundary, IsUtf8, all_ascii_digits}
+use Rattle.std.specs.Prelude.{ℤ, pos, negsuc, FitsSigned, option_map, find, unsigned_abs}
+use Rattle.std.specs.Int.{w32}
+use Rattle.std.proofs.lemmas.Int.{ints}
+use Rattle.std.specs.Str.{IsCharBoundary, IsUtf8, all_ascii_digits, str_eq_ignore_ascii_case}
 use Rattle.std.proofs.lemmas.List.Sums.{prefix_len-le-length, prefix_len_passes, prefix_len_stops}
 use Rattle.std.proofs.lemmas.Str.{IsCharBoundary-after_ascii}
 use Rattle.std.specs.Str.Parse.{AllDigits, IsNumeral, ParsesUnsigned, ParsesSigned, digits_value, signed_digits_value, without_leading_plus, without_leading_sign}
-use Rattle.std.proofs.lemmas.Bool.{lt-ltb, ltb-true, eqb-true, eqb-false}
+use Rattle.std.proofs.lemmas.Bool.{lt-ltb, ltb-true, leb-true, eqb-true, eqb-false}
 use Rattle.std.proofs.lemmas.Str.Parse.{IsNumeralModel, numerals_by_value, tells_all_ascii_digits}
 use Rattle.mail_codec.specs.Places.{is_empty}
-use Rattle.mailparse.specs.Date.{is_separator, words, number_below, days_of_years, year_length, year_of, year_if_read}
+use Rattle.mailparse.specs.Date.{fits_32_bits, is_separator, look_up, words, zones, signed_number, number_below, days_of_years, year_length, year_of, year_if_read}
+use Rattle.mailparse.specs.private.Dates.{IsNear}
 
 -- ---- numbers
 
@@ -184,6 +188,73 @@ cut_after_word rest end count = (omega (arith, prefix_len-le-length (λ b. not (
 -- a row as a definition sees it
 abbrev pub row_view : {A : Type 0} → Bor (List ℕ) × A → List ℕ × A
 row_view row = (row.0.now, row.1)
+
+-- a zone that has a name is at most 24 hours from Greenwich
+abbrev is_near : ℤ → Bool
+is_near (pos n) = leb n 2400
+is_near (negsuc n) = ltb n 2400
+
+near : (z : ℤ) → is_near z ≡ true → IsNear 2400 z
+near (pos n) h = let le = leb-true _ _ h in (omega (arith, ints), omega (arith, ints))
+near (negsuc n) h = let lt = ltb-true _ _ h in (omega (arith, ints), omega (arith, ints))
+
+look_up-near : (table : List (List ℕ × ℤ)) (word : List ℕ) (z : ℤ) → list_all (λ row. is_near row.1) table ≡ true → look_up table word ≡ Some z → IsNear 2400 z
+look_up-near [] word z all h = absurd (clash h)
+  where
+    clash : None ≡ Some z → ⊥
+    clash e = cc
+look_up-near (row ∷ table) word z all h = go (look_up-near table word z) (str_eq_ignore_ascii_case word row.0) (is_near row.1) refl all h
+  where
+    go : (list_all (λ row. is_near row.1) table ≡ true → look_up table word ≡ Some z → IsNear 2400 z) → (t n : Bool) → is_near row.1 ≡ n
+        → n && list_all (λ row. is_near row.1) table ≡ true
+        → option_map (λ row. row.1) (cond t (Some row) (find (λ row. str_eq_ignore_ascii_case word row.0) table)) ≡ Some z → IsNear 2400 z
+    go later t false e all h = absurd (cc)
+    go later true true e all h = let same : row.1 ≡ z = cc in near z (ap is_near (sym same) ∙ e)
+    go later false true e all h = later all h
+
+pub zones-near : (word : List ℕ) (z : ℤ) → look_up zones word ≡ Some z → IsNear 2400 z
+zones-near word z h = look_up-near zones word z refl h
+
+-- a zone of that size is near, and a number of 32 bits
+pub near_fits : (most : ℕ) (z : ℤ) → most < 2 ^ 31 → IsNear most z → FitsSigned w32 z
+near_fits most (pos n) lt h = record { sfits = omega (arith, ints, h.0, h.1) }
+near_fits most (negsuc n) lt h = record { sfits = omega (arith, ints, h.0, h.1) }
+
+pub near_size : (z : ℤ) → unsigned_abs z ≤ 2400 → IsNear 2400 z
+near_size (pos n) h = (omega (arith, ints), omega (arith, ints))
+near_size (negsuc n) h = (omega (arith, ints), omega (arith, ints))
+
+-- what `parse` reads as a zone
+pub signed_number-parse : {E : Type 0} (word : List ℕ) (r : Result ℤ E) → ParsesSigned w32 10 word r → signed_number word ≡ result_ok r
+unfolding signed_number
+signed_number-parse word (Ok x) h =
+    let d = without_leading_sign word in
+    let some : is_empty d ≡ false = not_empty d h.0.0.0 in
+    let all : all_ascii_digits d ≡ true = own.from d h.0.0.1 in
+    let fits : fits_32_bits (signed_digits_value 10 word) ≡ true = fits_true _ h.0.1 in
+    rw (some, all, fits) (ap Some (sym h.1))
+  where
+    fits_true : (z : ℤ) → FitsSigned w32 z → fits_32_bits z ≡ true
+    fits_true (pos n) f = lt-ltb _ _ f.sfits
+    fits_true (negsuc n) f = lt-ltb _ _ f.sfits
+signed_number-parse word (Err e) h = go (is_empty d) (all_ascii_digits d) (fits_32_bits v) refl refl refl
+  where
+    d : List ℕ
+    d = without_leading_sign word
+
+    v : ℤ
+    v = signed_digits_value 10 word
+
+    true_fits : (z : ℤ) → fits_32_bits z ≡ true → FitsSigned w32 z
+    true_fits (pos n) e = record { sfits = ltb-true _ _ e }
+    true_fits (negsuc n) e = record { sfits = ltb-true _ _ e }
+
+    go : (none all fits : Bool) → is_empty d ≡ none → all_ascii_digits d ≡ all → fits_32_bits v ≡ fits
+        → cond (not none && (all && fits)) (Some v) None ≡ None
+    go true all fits p q r = refl
+    go false false fits p q r = refl
+    go false true false p q r = refl
+    go false true true p q r = absurd (h ((some_digit d p, own.to d q), true_fits v r))
 
 -- ---- days of years
 

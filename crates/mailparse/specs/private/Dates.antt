@@ -7,21 +7,17 @@ use Rattle.mailparse.specs.Refusal.{Refusal}
 abbrev pub IsNear : ℕ → ℤ → Type 0
 IsNear most z = (neg_ℤ (pos most) ≤ℤ z) × (z ≤ℤ pos most)
 
--- a number that a byte holds
-abbrev pub IsByte : ℤ → Type 0
-IsByte z = (pos 0 ≤ℤ z) × (z ≤ℤ pos 255)
-
 -- a number that is the first word of a date, and the text after it
 pub record IsFirstNumber (date : List ℕ) (number : ℕ) (rest : List ℕ) : Type 0 where
   pub word : List ℕ
   pub first : date_words (words date) ≡ word ∷ words rest
   pub reads : number_below 256 word ≡ Some number
 
-abbrev pub number_or : Refusal → Option ℕ → List (List ℕ) → Result (Option (ℤ × List (List ℕ))) Refusal
+abbrev pub number_or : Refusal → Option ℕ → List (List ℕ) → Result (Option (ℕ × List (List ℕ))) Refusal
 number_or refusal None after = Err refusal
-number_or refusal (Some n) after = Ok (Some (pos n, after))
+number_or refusal (Some n) after = Ok (Some (n, after))
 
 -- the number that the first word writes, and the words after it
-abbrev pub next_number : Refusal → List (List ℕ) → Result (Option (ℤ × List (List ℕ))) Refusal
+abbrev pub next_number : Refusal → List (List ℕ) → Result (Option (ℕ × List (List ℕ))) Refusal
 next_number refusal [] = Ok None
 next_number refusal (word ∷ after) = number_or refusal (number_below 256 word) after

@@ -3,7 +3,7 @@ ghost use Rattle.std.specs.Prelude.{◌≡◌, ◌≤◌, ◌<◌, ◌^◌, IfOk
 ghost use Rattle.mailparse.specs.Date.{from_zone, month_of, words, year_of, zone_of};
 ghost use Rattle.mailparse.specs.Outcome.{Answers};
 ghost use Rattle.mailparse.specs.Refusal.{generic};
-ghost use Rattle.mailparse.specs.private.Dates.{IsByte, IsNear, next_number};
+ghost use Rattle.mailparse.specs.private.Dates.{IsNear, next_number};
 
 use super::words::{look_up, next_word};
 use crate::error::MailParseError;
@@ -111,16 +111,16 @@ pub(super) fn year_number(word: &str) -> Result<u32, MailParseError>
 pub(super) fn next_number<'t>(
     text: &'t str,
     refusal: &'static str,
-) -> Result<Option<(i64, &'t str)>, MailParseError>
+) -> Result<Option<(u32, &'t str)>, MailParseError>
     ensures read { Answers (λ found. option_map (λ p. (p.0, words p.1.now)) found) result
         (next_number (generic refusal.now) (words text.now)) }
-    ensures bounds { IfOk result (λ found. IfSome found (λ p. IsByte p.0)) }
+    ensures bound { IfOk result (λ found. IfSome found (λ p. p.0 < 256)) }
 {
     let Some((word, rest)) = next_word(text) else {
         return Ok(None);
     };
     match word.parse::<u8>() {
-        Ok(number) => Ok(Some((i64::from(number), rest))),
+        Ok(number) => Ok(Some((u32::from(number), rest))),
         Err(_) => Err(MailParseError::Generic(refusal)),
     }
 }
@@ -135,7 +135,7 @@ pub(super) fn zone_seconds(text: &str) -> Result<i64, MailParseError>
     };
     let zone = zone_number(word)?;
     let size = zone.unsigned_abs();
-    let seconds = 3600 * i64::from(size / 100) + 60 * i64::from(size % 100);
+    let seconds = i64::from(3600 * (size / 100) + 60 * (size % 100));
     if zone < 0 { Ok(seconds) } else { Ok(-seconds) }
 }
 
@@ -150,7 +150,7 @@ fn zone_number(word: &str) -> Result<i32, MailParseError>
             None => Err(MailParseError::Generic("Invalid timezone")),
         };
     };
-    if zone < -2400 || zone > 2400 {
+    if zone.unsigned_abs() > 2400 {
         return Err(MailParseError::Generic("Invalid timezone"));
     }
     Ok(zone)
