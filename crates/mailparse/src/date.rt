@@ -55,7 +55,7 @@ fn first_number(date: &str) -> Option<(u8, &str)>
     while let Some((word, after)) = next_word(rest) {
         rest = after;
         if let Ok(number) = word.parse::<u8>() {
-            return Some((number, rest));
+            return Some((number, after));
         }
     }
     None

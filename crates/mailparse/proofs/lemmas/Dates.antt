@@ -3,7 +3,7 @@ use Rattle.std.proofs.Common.{◌≡◌, ◌≢◌, ℕ, zero, suc, ◌+◌, ◌
 use Rattle.std.specs.List.{filter, list_all, slice_split, onto_first, prefix_len}
 use Rattle.std.specs.Result.{result_ok}
 use Rattle.std.specs.Borrow.{Bor}
-use Rattle.std.specs.Prelude.{ℤ, pos, negsuc, FitsSigned, option_map, find, unsigned_abs}
+use Rattle.std.specs.Prelude.{ℤ, pos, negsuc, FitsSigned, option_map, find, unsigned_abs, ◌+ℤ◌}
 use Rattle.std.specs.Int.{w32}
 use Rattle.std.proofs.lemmas.Int.{ints}
 use Rattle.std.specs.Str.{IsCharBoundary, IsUtf8, all_ascii_digits, str_eq_ignore_ascii_case}
@@ -13,8 +13,9 @@ use Rattle.std.specs.Str.Parse.{AllDigits, IsNumeral, ParsesUnsigned, ParsesSign
 use Rattle.std.proofs.lemmas.Bool.{lt-ltb, ltb-true, leb-true, eqb-true, eqb-false}
 use Rattle.std.proofs.lemmas.Str.Parse.{IsNumeralModel, numerals_by_value, tells_all_ascii_digits}
 use Rattle.mail_codec.specs.Places.{is_empty}
-use Rattle.mailparse.specs.Date.{fits_32_bits, is_separator, look_up, words, zones, signed_number, number_below, days_of_years, year_length, year_of, year_if_read}
-use Rattle.mailparse.specs.private.Dates.{IsNear}
+use Rattle.mailparse.specs.Date.{fits_32_bits, is_separator, look_up, words, zones, date_words, from_hour, from_minute, from_second, from_zone, plus, units, invalid_hour, invalid_minute, invalid_second, signed_number, number_below, days_of_years, year_length, year_of, year_if_read}
+use Rattle.mailparse.specs.private.Dates.{IsNear, next_number, number_or}
+use Rattle.mailparse.specs.Refusal.{Refusal}
 
 -- ---- numbers
 
@@ -255,6 +256,82 @@ signed_number-parse word (Err e) h = go (is_empty d) (all_ascii_digits d) (fits_
     go false false fits p q r = refl
     go false true false p q r = refl
     go false true true p q r = absurd (h ((some_digit d p, own.to d q), true_fits v r))
+
+-- ---- parts of a date
+
+-- a number that was found at the front of words
+pub next_some : (refusal : Refusal) (ws : List (List ℕ)) (n : ℕ) (after : List (List ℕ)) → next_number refusal ws ≡ Ok (Some (n, after))
+    → (word : List ℕ) × ((ws ≡ word ∷ after) × (number_below 256 word ≡ Some n))
+next_some refusal [] n after h = absurd (clash h)
+  where
+    clash : ◌≡◌ {A = Result (Option (ℕ × List (List ℕ))) Refusal} (Ok None) (Ok (Some (n, after))) → ⊥
+    clash e = cc
+next_some refusal (word ∷ ws) n after h = go (number_below 256 word) refl h
+  where
+    go : (read : Option ℕ) → number_below 256 word ≡ read → number_or refusal read ws ≡ Ok (Some (n, after))
+        → (found : List ℕ) × ((word ∷ ws ≡ found ∷ after) × (number_below 256 found ≡ Some n))
+    go None e h = absurd (cc)
+    go (Some m) e h =
+        let pair : ◌≡◌ {A = ℕ × List (List ℕ)} (m, ws) (n, after) = cc in
+        (word, (ap (λ p. word ∷ p.1) pair, e ∙ ap (λ p. Some p.0) pair))
+
+next_none : (refusal : Refusal) (ws : List (List ℕ)) → next_number refusal ws ≡ Ok None → ws ≡ []
+next_none refusal [] h = refl
+next_none refusal (word ∷ ws) h = go (number_below 256 word) h
+  where
+    go : (read : Option ℕ) → number_or refusal read ws ≡ Ok None → word ∷ ws ≡ []
+    go None h = absurd (cc)
+    go (Some m) h = absurd (cc)
+
+-- a unit of time, and what follows it
+unit_then : (seconds : ℕ) (refusal : Refusal) (later : List (List ℕ) → Result ℤ Refusal) (word : List ℕ) (n : ℕ) (after : List (List ℕ))
+    → number_below 256 word ≡ Some n → plus (units seconds refusal word) (later after) ≡ plus (Ok (pos (seconds * n))) (later after)
+unit_then seconds refusal later word n after h = rw h refl
+
+from_hour-next : (ws after : List (List ℕ)) (n : ℕ) → next_number invalid_hour ws ≡ Ok (Some (n, after))
+    → from_hour ws ≡ plus (Ok (pos (3600 * n))) (from_minute after)
+from_hour-next ws after n h =
+    let found = next_some invalid_hour ws n after h in
+    ap from_hour found.1.0 ∙ unit_then 3600 invalid_hour from_minute found.0 n after found.1.1
+
+from_minute-next : (ws after : List (List ℕ)) (n : ℕ) → next_number invalid_minute ws ≡ Ok (Some (n, after))
+    → from_minute ws ≡ plus (Ok (pos (60 * n))) (from_second after)
+from_minute-next ws after n h =
+    let found = next_some invalid_minute ws n after h in
+    ap from_minute found.1.0 ∙ unit_then 60 invalid_minute from_second found.0 n after found.1.1
+
+from_second-next : (ws after : List (List ℕ)) (n : ℕ) → next_number invalid_second ws ≡ Ok (Some (n, after))
+    → from_second ws ≡ plus (Ok (pos (1 * n))) (from_zone after)
+from_second-next ws after n h =
+    let found = next_some invalid_second ws n after h in
+    ap from_second found.1.0 ∙ unit_then 1 invalid_second from_zone found.0 n after found.1.1
+
+-- a refusal of what follows is the refusal of both
+pub plus-refused : (a : ℤ) (later : Result ℤ Refusal) (refusal : Refusal) → later ≡ Err refusal → plus (Ok a) later ≡ Err refusal
+plus-refused a later refusal h = rw h refl
+
+pub plus-sum : (a b : ℤ) (later : Result ℤ Refusal) → later ≡ Ok b → plus (Ok a) later ≡ Ok (a +ℤ b)
+plus-sum a b later h = rw h refl
+
+-- an hour, a minute and a second together, before a zone
+clock_sum : (a b c : ℕ) (later : Result ℤ Refusal) → plus (Ok (pos a)) (plus (Ok (pos b)) (plus (Ok (pos (1 * c))) later)) ≡ plus (Ok (pos (a + b + c))) later
+clock_sum a b c (Err refusal) = refl
+clock_sum a b c (Ok z) = ap Ok (omega (arith, ints))
+
+pub from_hour-clock : (ws ws1 ws2 ws3 : List (List ℕ)) (h m s : ℕ) → next_number invalid_hour ws ≡ Ok (Some (h, ws1))
+    → next_number invalid_minute ws1 ≡ Ok (Some (m, ws2)) → next_number invalid_second ws2 ≡ Ok (Some (s, ws3))
+    → from_hour ws ≡ plus (Ok (pos (3600 * h + 60 * m + s))) (from_zone ws3)
+from_hour-clock ws ws1 ws2 ws3 h m s hour minute second =
+    from_hour-next ws ws1 h hour
+    ∙ ap (plus (Ok (pos (3600 * h)))) (from_minute-next ws1 ws2 m minute ∙ ap (plus (Ok (pos (60 * m)))) (from_second-next ws2 ws3 s second))
+    ∙ clock_sum (3600 * h) (60 * m) s (from_zone ws3)
+
+-- the words before the first number are passed over
+pub date_words-here : (word : List ℕ) (after : List (List ℕ)) (n : ℕ) → number_below 256 word ≡ Some n → date_words (word ∷ after) ≡ word ∷ after
+date_words-here word after n h = rw h refl
+
+pub date_words-past : (word : List ℕ) (after : List (List ℕ)) → number_below 256 word ≡ None → date_words (word ∷ after) ≡ date_words after
+date_words-past word after h = rw h refl
 
 -- ---- days of years
 
