@@ -3,3 +3,4 @@ pub mod Cuts
 pub mod Unfolding
 pub mod Dates
 pub mod IdRows
+pub mod MessageIds

@@ -1,8 +1,10 @@
 //! Lists of message ids (RFC 5322, section 3.6.4).
-ghost use Rattle.std.specs.Prelude.{◌≡◌, false, Ok, Some};
-ghost use Rattle.mailparse.specs.MessageIds.{begins_with_id, ids_at_end, message_ids, written_ids};
-ghost use Rattle.mailparse.specs.Outcome.{Answers, AnswersOrMemory};
+ghost use Rattle.std.specs.Prelude.{◌≡◌, false, [], ◌∷◌, Ok, Some, MatchOption, MatchResult};
+ghost use Rattle.std.specs.List.{slice_split};
+ghost use Rattle.mailparse.specs.MessageIds.{begins_with_id, ids_at_end, is_closing, message_ids, opens_id, written_ids};
+ghost use Rattle.mailparse.specs.Outcome.{Answers, AnswersOrMemory, IsRefusal};
 ghost use Rattle.mailparse.specs.MessageIdViews.{ids_of};
+ghost use Rattle.mailparse.specs.private.MessageIds.{IsCutAtClosing, IsNextIdOrNone, IsOpenedId};
 
 use crate::error::MailParseError;
 use std::alloc::Global;
@@ -58,14 +60,12 @@ impl fmt::Display for MessageIdList {
     ghost output = { λ list. Some (written_ids (ids_of list)) };
 
     fn fmt<W: Write>(&self, f: &mut fmt::Formatter<W>) -> fmt::Result {
-        let mut is_first = true;
-        for id in &self.0 {
-            if is_first {
-                is_first = false;
-            } else {
-                f.write_str(" ")?;
-            }
-            write!(f, "<{id}>")?;
+        let Some((first, others)) = self.0.as_slice().split_first() else {
+            return Ok(());
+        };
+        write!(f, "<{first}>")?;
+        for id in others {
+            write!(f, " <{id}>")?;
         }
         Ok(())
     }
@@ -88,25 +88,50 @@ pub fn msgidparse(alloc: Global, ids: &str) -> Result<MessageIdList, MailParseEr
 {
     let mut found = Vec::new(alloc);
     let mut rest = ids;
-    while let Some((piece, after)) = rest.split_once('>') {
-        let Some(id) = piece.trim_start().strip_prefix('<') else {
-            return Err(MailParseError::Generic("Message IDs must start with <"));
-        };
+    while let Some((id, after)) = next_id(rest)? {
         found.push(String::from_str(alloc, id)?)?;
         rest = after;
     }
-    check_end(rest.trim_start())?;
+    check_end(rest)?;
     Ok(MessageIdList(found))
 }
 
-/// Refuses what stands after the last `>`, without the white at its front, if it is not empty.
-fn check_end(rest: &str) -> Result<(), MailParseError>
+/// The id that a text begins with, after white, and the text after its `>`; `None` where no `>` is left.
+fn next_id(text: &str) -> Result<Option<(&str, &str)>, MailParseError>
+    ensures { MatchResult result (λ found. IsNextIdOrNone text.now found) (λ e. IsRefusal e (message_ids text.now)) }
 {
-    if rest.is_empty() {
+    let Some((piece, after)) = cut_at_closing(text) else {
+        return Ok(None);
+    };
+    match opened_id(piece) {
+        Some(id) => Ok(Some((id, after))),
+        None => Err(MailParseError::Generic("Message IDs must start with <")),
+    }
+}
+
+/// What stands before and after the first `>`, if there is one.
+fn cut_at_closing(text: &str) -> Option<(&str, &str)>
+    ensures { MatchOption result (slice_split is_closing text.now ≡ text.now ∷ []) (λ p. IsCutAtClosing text.now p.0.now p.1.now) }
+{
+    text.split_once('>')
+}
+
+/// What stands after white and a `<` at the front of a text, if these stand there.
+fn opened_id(text: &str) -> Option<&str>
+    ensures { MatchOption result (opens_id text.now ≡ false) (λ id. IsOpenedId text.now id.now) }
+{
+    text.trim_start().strip_prefix('<')
+}
+
+/// Refuses what stands after the last `>`, if it is not white.
+fn check_end(text: &str) -> Result<(), MailParseError>
+    ensures { Answers (λ _. []) result (ids_at_end text.now) }
+{
+    if text.trim_start().is_empty() {
         return Ok(());
     }
-    if rest.starts_with('<') {
-        return Err(MailParseError::Generic("Message IDs must end with >"));
+    match opened_id(text) {
+        Some(_) => Err(MailParseError::Generic("Message IDs must end with >")),
+        None => Err(MailParseError::Generic("Message IDs must start with <")),
     }
-    Err(MailParseError::Generic("Message IDs must start with <"))
 }
