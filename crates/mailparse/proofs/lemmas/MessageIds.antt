@@ -50,7 +50,7 @@ split_none (b ∷ bytes) h = go (split_none bytes) (is_closing b) h
     go later false h = ap (onto_first b) (later h)
 
 -- at the first `>`
-split_first : (bytes : List ℕ) → list_any is_closing bytes ≡ true
+pub split_first : (bytes : List ℕ) → list_any is_closing bytes ≡ true
     → slice_split is_closing bytes ≡ before_first is_closing bytes ∷ slice_split is_closing (after_first is_closing bytes)
 split_first [] h = absurd (cc)
 split_first (b ∷ bytes) h = go (split_first bytes) (is_closing b) h
@@ -91,7 +91,7 @@ unfolding message_ids
 message_ids-end text h = ap ids_of_pieces h
 
 -- a piece before others
-pieces_step : (piece : List ℕ) (bytes : List ℕ)
+pub pieces_step : (piece : List ℕ) (bytes : List ℕ)
     → ids_of_pieces (piece ∷ slice_split is_closing bytes)
     ≡ cond (opens_id piece) (with_id (id_of_piece piece) (ids_of_pieces (slice_split is_closing bytes))) (Err id_not_opened)
 pieces_step piece bytes = go (slice_split is_closing bytes) (split_some is_closing bytes)
