@@ -1,7 +1,7 @@
 -- The date of a header in seconds: RFC 5322, sections 3.3 and 4.3, read as leniently as mail is written.
-use Rattle.std.specs.Prelude.{ℕ, zero, suc, ◌+◌, ◌*◌, ◌/◌, ◌%◌, ◌-◌, ◌^◌, Bool, not, ◌&&◌, ◌||◌, ◌==◌, nat_lt, nat_le, List, [], ◌∷◌, take, drop, sum, filter, find, ℤ, pos, negsuc, ◌+ℤ◌, neg_ℤ, Option, Some, None, option_map, is_some, ok_or, unsigned_abs, Result, Ok, Err, codes, if◌then◌else◌}
+use Rattle.std.specs.Prelude.{ℕ, zero, suc, ◌+◌, ◌*◌, ◌/◌, ◌%◌, ◌-◌, ◌^◌, Bool, not, ◌&&◌, ◌||◌, ◌==◌, nat_lt, nat_le, List, [], ◌∷◌, take, sum, filter, find, ℤ, pos, negsuc, ◌+ℤ◌, neg_ℤ, Option, Some, None, option_map, is_some, ok_or, unsigned_abs, Result, Ok, Err, codes, if◌then◌else◌}
 use Rattle.std.specs.Int.{is_in_range}
-use Rattle.std.specs.List.{slice_split, position_or_len}
+use Rattle.std.specs.List.{slice_split}
 use Rattle.std.specs.Str.{all_ascii_digits, str_eq_ignore_ascii_case}
 use Rattle.std.specs.Str.Parse.{digits_value, signed_digits_value, without_leading_plus, without_leading_sign}
 use Rattle.mail_codec.specs.Places.{is_empty}

@@ -1,5 +1,5 @@
 -- Dates: numbers that words write, words of a text, and days of years.
-use Rattle.std.proofs.Common.{◌≡◌, ◌≢◌, ℕ, zero, suc, ◌+◌, ◌-◌, ◌*◌, ◌/◌, ◌%◌, ◌^◌, ◌<◌, ◌≤◌, Bool, true, false, cond, not, ◌&&◌, ◌||◌, eqb, ltb, List, [], ◌∷◌, ◌++◌, length, take, drop, Option, Some, None, Result, Ok, Err, refl, sym, ap, ◌∙◌, subst, get_or, leb, map, arith, length-take}
+use Rattle.std.proofs.Common.{◌≡◌, ℕ, zero, suc, ◌+◌, ◌-◌, ◌*◌, ◌/◌, ◌%◌, ◌^◌, ◌<◌, ◌≤◌, Bool, true, false, cond, not, ◌&&◌, ◌||◌, eqb, ltb, List, [], ◌∷◌, length, take, drop, Option, Some, None, Result, Ok, Err, refl, sym, ap, ◌∙◌, subst, get_or, leb, arith, length-take}
 use Rattle.std.specs.List.{filter, list_all, slice_split, onto_first, prefix_len}
 use Rattle.std.specs.Result.{result_ok}
 use Rattle.std.specs.Borrow.{Bor}
@@ -9,7 +9,7 @@ use Rattle.std.proofs.lemmas.Int.{ints}
 use Rattle.std.specs.Str.{IsCharBoundary, IsUtf8, all_ascii_digits, str_eq_ignore_ascii_case}
 use Rattle.std.proofs.lemmas.List.Sums.{prefix_len-le-length, prefix_len_passes, prefix_len_stops}
 use Rattle.std.proofs.lemmas.Str.{IsCharBoundary-after_ascii}
-use Rattle.std.specs.Str.Parse.{AllDigits, IsNumeral, ParsesUnsigned, ParsesSigned, digits_value, signed_digits_value, without_leading_plus, without_leading_sign}
+use Rattle.std.specs.Str.Parse.{ParsesUnsigned, ParsesSigned, digits_value, signed_digits_value, without_leading_plus, without_leading_sign}
 use Rattle.std.proofs.lemmas.Bool.{lt-ltb, ltb-true, leb-true, eqb-true, eqb-false}
 use Rattle.std.proofs.lemmas.Str.Parse.{IsNumeralModel, numerals_by_value, tells_all_ascii_digits}
 use Rattle.mail_codec.specs.Places.{is_empty}
@@ -86,11 +86,13 @@ first_piece test (b ∷ bytes) = go (first_piece test bytes) (test b) refl
         × ((cond t ([] ∷ slice_split test bytes) (onto_first b (slice_split test bytes)) ≡ take (cond (not t) (1 + m) 0) (b ∷ bytes) ∷ more)
         × (slice_split test (drop (cond (not t) (1 + m) 0) (b ∷ bytes)) ≡ [] ∷ more))
     go later true e = (slice_split test bytes, (refl, rw e refl))
-    go later false e =
-        (later.0, (
-          ap (onto_first b) later.1.0 ∙ ap (λ front. front ∷ later.0) (sym taken),
-          ap (slice_split test) dropped ∙ later.1.1,
-        ))
+    go later false e = (
+      later.0,
+      (
+        ap (onto_first b) later.1.0 ∙ ap (λ front. front ∷ later.0) (sym taken),
+        ap (slice_split test) dropped ∙ later.1.1,
+      ),
+    )
 
 -- separators in front do not count
 pub words-skip : (bytes : List ℕ) → words (drop (prefix_len is_separator bytes) bytes) ≡ words bytes

@@ -1,5 +1,5 @@
 -- What the private functions of dates tell each other.
-use Rattle.std.specs.Prelude.{◌≡◌, ◌<◌, ◌≤◌, ℕ, List, [], ◌∷◌, ℤ, pos, neg_ℤ, ◌≤ℤ◌, Option, Some, None, Result, Ok, Err}
+use Rattle.std.specs.Prelude.{◌≡◌, ℕ, List, [], ◌∷◌, ℤ, pos, neg_ℤ, ◌≤ℤ◌, Option, Some, None, Result, Ok, Err}
 use Rattle.mailparse.specs.Date.{date_words, number_below, words}
 use Rattle.mailparse.specs.Refusal.{Refusal}
 

@@ -1,4 +1,4 @@
-use Rattle.std.proofs.Common.{◌≡◌, ◌<◌, ◌≤◌, Some, None, Ok, true, false, leb, sym, refl, ap, subst, ◌∙◌, arith, rules}
+use Rattle.std.proofs.Common.{◌≡◌, Some, None, Ok, true, false, leb, sym, refl, ap, subst, ◌∙◌, arith, rules}
 use Rattle.std.specs.Prelude.{ok_or, unsigned_abs, FitsSigned}
 use Rattle.std.specs.Int.{w32}
 use Rattle.std.specs.Result.{result_ok}
@@ -6,7 +6,7 @@ use Rattle.std.proofs.lemmas.Bool.{le-leb, lt-leb}
 use Rattle.std.proofs.lemmas.Int.{to_z-of_z}
 use Rattle.mailparse.specs.Date.{look_up, invalid_zone, signed_number, zone_if_read, zone_of, zones}
 use Rattle.mailparse.specs.private.Dates.{IsNear}
-use Rattle.mailparse.proofs.lemmas.Dates.{near_fits, near_size, signed_number-parse, zones-near}
+use Rattle.mailparse.proofs.lemmas.Dates.{near_fits, signed_number-parse, zones-near}
 use Rattle.mailparse.proofs.date.fields.zone_number.Goals as goal
 
 pub returns-in-Some-clause-read : goal.returns-in-Some-clause-read

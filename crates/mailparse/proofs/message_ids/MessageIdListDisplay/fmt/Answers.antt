@@ -1,4 +1,4 @@
-use Rattle.std.proofs.Common.{refl, ◌≡◌, map, take, ◌+◌, ◌∷◌}
+use Rattle.std.proofs.Common.{refl, map, take, ◌+◌, ◌∷◌}
 use Rattle.std.proofs.lemmas.Grind.{put_two}
 use Rattle.std.specs.String.{string_bytes}
 use Rattle.mailparse.specs.MessageIds.{written_id, written_ids}
