@@ -1,5 +1,6 @@
 //! The laws. Each function does nothing; its contract is the law.
-ghost use Rattle.std.specs.Prelude.{◌≡◌, ◌<◌, ◌≤◌, ◌+◌, ◌-◌, ◌*◌, ◌/◌, ◌++◌, ℕ, All, List, length, slice_index, take, Ok};
+ghost use Rattle.std.specs.Prelude.{◌≡◌, ◌<◌, ◌≤◌, ◌+◌, ◌-◌, ◌*◌, ◌/◌, ◌++◌, ℕ, Ok};
+ghost use Rattle.std.specs.Prelude.{All, List, length, slice_index, take};
 ghost use Rattle.std.specs.List.{flat_map};
 ghost use Rattle.std.specs.Str.{IsUtf8};
 ghost use Rattle.mailparse.specs.Header.{Header, read_header};
@@ -53,26 +54,31 @@ pub fn utf8_value_agrees()
     ensures succeeds { (bytes value : List ℕ) → strict_value bytes ≡ Ok value → lenient_value bytes ≡ value }
 {}
 
-/// The days of the years from 1970 up to a year, one after the other, are 365 for each and the leap
-/// days that the closed count gives, whatever the year is.
+/// The days of the years from 1970 up to a year, one after another, are 365 for each and a day for
+/// each leap year, which is each fourth, but of the full centuries each fourth alone; 477 of them
+/// stand before 1970.
 pub fn leap_days_are_counted()
     ensures { (year : ℕ) → 1970 ≤ year →
-        days_of_years (year - 1970) + ((year - 1) / 100 + 477) ≡ 365 * (year - 1970) + ((year - 1) / 4 + (year - 1) / 400) }
+        days_of_years (year - 1970) + ((year - 1) / 100 + 477)
+        ≡ 365 * (year - 1970) + ((year - 1) / 4 + (year - 1) / 400) }
 {}
 
-/// The seconds of a day and of the next differ by 86,400: within a month, from the last day of a month
-/// to the first of the next, and from 31 December to 1 January.
+/// The seconds of a day and of the next differ by 86,400: within a month, from the last day of a
+/// month to the first of the next, and from 31 December to 1 January.
 pub fn days_follow_each_other()
     ensures in_month { (year month day : ℕ) → 1 ≤ day →
         86400 * day_number year month (day + 1) ≡ 86400 * day_number year month day + 86400 }
     ensures to_next_month { (year month : ℕ) → month < 11 →
-        86400 * day_number year (month + 1) 1 ≡ 86400 * day_number year month (slice_index (month_lengths year) month) + 86400 }
+        86400 * day_number year (month + 1) 1
+        ≡ 86400 * day_number year month (slice_index (month_lengths year) month) + 86400 }
     ensures to_next_year { (year : ℕ) → 1970 ≤ year →
         86400 * day_number (year + 1) 0 1 ≡ 86400 * day_number year 11 31 + 86400 }
 {}
 
 /// The text of a list of message ids reads back as the list exactly if no id holds a `>`.
 pub fn message_ids_read_back()
-    ensures reads { (ids : List (List ℕ)) → All IsUtf8 ids → All HoldsNoClosing ids → message_ids (written_ids ids) ≡ Ok ids }
-    ensures only { (ids : List (List ℕ)) → All IsUtf8 ids → message_ids (written_ids ids) ≡ Ok ids → All HoldsNoClosing ids }
+    ensures reads { (ids : List (List ℕ)) → All IsUtf8 ids →
+        All HoldsNoClosing ids → message_ids (written_ids ids) ≡ Ok ids }
+    ensures only { (ids : List (List ℕ)) → All IsUtf8 ids →
+        message_ids (written_ids ids) ≡ Ok ids → All HoldsNoClosing ids }
 {}

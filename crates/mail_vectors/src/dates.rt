@@ -1,7 +1,7 @@
 //! Dates as seconds.
 //!
-//! The rows of months and zones are those of RFC 5322, sections 3.3 and 4.3; where nothing else is said,
-//! the answers are those of the Rust crate.
+//! The names of months and zones are those of RFC 5322, sections 3.3 and 4.3. The seconds are those of
+//! the Rust crate.
 use crate::texts::refusal;
 use mailparse::{MailHeaderMap, MailParseError, dateparse, parse_mail};
 use std::alloc::Global;

@@ -15,15 +15,16 @@ use words::next_word;
 
 /// The seconds from 1 January 1970, 0 h UTC, to a date as mail writes it.
 ///
-/// The words between spaces and colons are a day, a month, a year, an hour, a minute, a second and a
-/// zone, in this order; what stands before the first number below 256 and what stands after the zone
-/// is passed over. Words at the end may be absent: a date without a year is 0. Leap seconds do not
-/// count. It takes no memory.
+/// The words between spaces and colons are a day, a month, a year, an hour, a minute, a second and
+/// a zone, in this order. What stands before the first number below 256 is passed over, and so is
+/// what stands after the zone. Words at the end may be absent: a text without a year is 0. A number
+/// of two digits is a year from 1970 to 2069. It takes no memory.
 ///
 /// The error is a `Generic`: `Invalid day` for a day that is not 1 to 31, `Unrecognized month`,
-/// `Invalid year` for one that is no number, `Disallowed year` for one from 100 to 1969, `Invalid hour`,
-/// `Invalid minute` and `Invalid second` for one that is no number below 256, and `Invalid timezone` for
-/// a zone that is neither a number from -2400 to 2400 nor a name. The first invalid word counts.
+/// `Invalid year` for one that is no number below 2^32, `Disallowed year` for one from 100 to 1969,
+/// `Invalid hour`, `Invalid minute` and `Invalid second` for one that is no number below 256, and
+/// `Invalid timezone` for a zone that is neither a number from -2400 to 2400 nor a name. The first
+/// invalid word counts.
 ///
 /// `dateparse("Sun, 02 Oct 2016 07:06:22 -0700 (PDT)")` is 1475417182.
 #[tactic(auto, unfolding(crate::specs::Date::date_seconds))]
@@ -49,7 +50,8 @@ pub fn dateparse(date: &str) -> Result<i64, MailParseError>
 
 /// The first word that is a number below 256, and the text after it.
 fn first_number(date: &str) -> Option<(u8, &str)>
-    ensures { MatchOption result (date_words (words date.now) ≡ []) (λ p. IsFirstNumber date.now p.0 p.1.now) }
+    ensures { MatchOption result (date_words (words date.now) ≡ [])
+        (λ p. IsFirstNumber date.now p.0 p.1.now) }
 {
     let mut rest = date;
     while let Some((word, after)) = next_word(rest) {

@@ -1,7 +1,8 @@
 //! Lists of message ids (RFC 5322, section 3.6.4).
 ghost use Rattle.std.specs.Prelude.{◌≡◌, false, [], ◌∷◌, Ok, Some, MatchOption, MatchResult};
 ghost use Rattle.std.specs.List.{slice_split};
-ghost use Rattle.mailparse.specs.MessageIds.{begins_with_id, ids_at_end, is_closing, message_ids, opens_id, written_ids};
+ghost use Rattle.mailparse.specs.MessageIds.{begins_with_id, ids_at_end, is_closing, opens_id};
+ghost use Rattle.mailparse.specs.MessageIds.{message_ids, written_ids};
 ghost use Rattle.mailparse.specs.Outcome.{Answers, AnswersOrMemory, IsRefusal};
 ghost use Rattle.mailparse.specs.MessageIdViews.{ids_of};
 ghost use Rattle.mailparse.specs.private.MessageIds.{IsCutAtClosing, IsNextIdOrNone, IsOpenedId};
@@ -13,8 +14,8 @@ use std::ops::{Deref, DerefMut};
 
 /// The ids of a header such as `References`, in order, each without its angle brackets.
 ///
-/// It is read and changed as the vector that it holds. It is shown as mail writes it: each id in angle
-/// brackets, one space between each two.
+/// It is read and changed as the vector that it holds. It is shown as mail writes it: each id in
+/// angle brackets, one space between each two.
 #[derive(Debug, Drop, PartialEq)]
 pub struct MessageIdList(pub Vec<String>);
 
@@ -36,7 +37,8 @@ impl DerefMut for MessageIdList {
     ghost deref_mut_gives = { λ list ids. ids ≡ list.0 };
 
     fn deref_mut(&mut self) -> &mut Vec<String>
-        ensures* writes_back { sem 𝓛 (Lends the_row ids_row self.entry result (λ ids. record { 0 = ids })) }
+        ensures* writes_back { sem 𝓛 (Lends the_row ids_row self.entry result
+            (λ ids. record { 0 = ids })) }
         ensures value { result.now ≡ self.old.0 }
     {
         &mut self.0
@@ -73,18 +75,19 @@ impl fmt::Display for MessageIdList {
 
 /// Reads the ids of a header such as `Message-ID`, `In-Reply-To` or `References`.
 ///
-/// Each id is what stands between a `<` and the first `>` after it; it may be empty, and may hold white
-/// and any other character. Before, between and after ids stands white or nothing. A text of white
-/// alone is the empty list, and takes no memory.
+/// Each id is what stands between a `<` and the first `>` after it. It may be empty, and may hold
+/// white and any other character. Before, between and after ids stands white or nothing. A text of
+/// white alone is the empty list, and takes no memory.
 ///
-/// The error is the `Generic` with the text `Message IDs must start with <` where something else stands,
-/// the one with the text `Message IDs must end with >` where no `>` follows, whichever comes first, or
-/// that memory ran out; before the first id it takes no memory.
+/// The error is the `Generic` with the text `Message IDs must start with <` where something else
+/// stands, the one with the text `Message IDs must end with >` where no `>` follows a `<`, whichever
+/// comes first, or that memory ran out; before the first id it takes no memory.
 ///
 /// `msgidparse(alloc, "<one@a> <two@b>")` is the list of `one@a` and `two@b`.
 pub fn msgidparse(alloc: Global, ids: &str) -> Result<MessageIdList, MailParseError>
     ensures read { AnswersOrMemory ids_of result (message_ids ids.now) }
-    ensures no_memory { begins_with_id ids.now ≡ false → Answers ids_of result (message_ids ids.now) }
+    ensures no_memory { begins_with_id ids.now ≡ false →
+        Answers ids_of result (message_ids ids.now) }
 {
     let mut found = Vec::new(alloc);
     let mut rest = ids;
@@ -96,9 +99,11 @@ pub fn msgidparse(alloc: Global, ids: &str) -> Result<MessageIdList, MailParseEr
     Ok(MessageIdList(found))
 }
 
-/// The id that a text begins with, after white, and the text after its `>`; `None` where no `>` is left.
+/// The id that a text begins with, after white, and the text after its `>`; `None` where no `>` is
+/// left.
 fn next_id(text: &str) -> Result<Option<(&str, &str)>, MailParseError>
-    ensures { MatchResult result (λ found. IsNextIdOrNone text.now found) (λ e. IsRefusal e (message_ids text.now)) }
+    ensures { MatchResult result (λ found. IsNextIdOrNone text.now found)
+        (λ e. IsRefusal e (message_ids text.now)) }
 {
     let Some((piece, after)) = cut_at_closing(text) else {
         return Ok(None);
@@ -111,7 +116,8 @@ fn next_id(text: &str) -> Result<Option<(&str, &str)>, MailParseError>
 
 /// What stands before and after the first `>`, if there is one.
 fn cut_at_closing(text: &str) -> Option<(&str, &str)>
-    ensures { MatchOption result (slice_split is_closing text.now ≡ text.now ∷ []) (λ p. IsCutAtClosing text.now p.0.now p.1.now) }
+    ensures { MatchOption result (slice_split is_closing text.now ≡ text.now ∷ [])
+        (λ p. IsCutAtClosing text.now p.0.now p.1.now) }
 {
     text.split_once('>')
 }

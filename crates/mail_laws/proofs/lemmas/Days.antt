@@ -37,7 +37,7 @@ pub to_next_month : (year month : ℕ) → month < 11
     → 86400 * day_number year (month + 1) 1 ≡ 86400 * day_number year month (get_or (month_lengths year) month 0) + 86400
 to_next_month year month h =
     let more : sum (take (month + 1) (month_lengths year)) ≡ sum (take month (month_lengths year)) + get_or (month_lengths year) month 0 =
-        fold_more (λ a b. a + b) 0 (month_lengths year) month 0 (omega arith) in
+    fold_more (λ a b. a + b) 0 (month_lengths year) month 0 (omega arith) in
     let some = month_some (is_leap_year year) month (omega arith) in
     omega (arith, more, some)
 

@@ -155,7 +155,7 @@ cut_id : (s : Bool) (id rest : List ℕ) → IsUtf8 id → list_any is_closing i
     ≡ with_id (before_first is_closing id) (ids_of_pieces (slice_split is_closing (after_first is_closing id ++ rest)))
 cut_id s id rest utf8 closing =
     let whole : id ++ rest ≡ before_first is_closing id ++ 62 ∷ (after_first is_closing id ++ rest) =
-        ap (λ t. t ++ rest) (sym (parts id closing)) ∙ append_assoc (before_first is_closing id) (62 ∷ after_first is_closing id) rest in
+    ap (λ t. t ++ rest) (sym (parts id closing)) ∙ append_assoc (before_first is_closing id) (62 ∷ after_first is_closing id) rest in
     ap (λ t. ids_of_pieces (slice_split is_closing (front s (60 ∷ t)))) whole
     ∙ one_id s (before_first is_closing id) (after_first is_closing id ++ rest) (before_utf8 id utf8 closing) (free_before id)
 

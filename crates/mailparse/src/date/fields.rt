@@ -35,7 +35,7 @@ static MONTHS: [(&str, usize); 23] = [
     ("December", 11),
 ];
 
-/// The names of zones, with their distance from Greenwich: hours times 100, those in the west negative.
+/// The names of zones, with how far they are east of Greenwich, in hours times 100.
 static ZONES: [(&str, i32); 36] = [
     ("UTC", 0),
     ("UT", 0),
@@ -106,8 +106,8 @@ pub(super) fn year_number(word: &str) -> Result<u32, MailParseError>
     Ok(year)
 }
 
-/// The number below 256 that the first word of a text writes, and the text after it; or the refusal
-/// with this text.
+/// The number below 256 that the first word of a text writes, and the text after it; without a
+/// word `None`, and with another word the refusal with this text.
 pub(super) fn next_number<'t>(
     text: &'t str,
     refusal: &'static str,

@@ -6,7 +6,8 @@ ghost use Rattle.mailparse.specs.Date.{is_separator, look_up, words};
 
 /// The first word of a text, and the text after it.
 pub(super) fn next_word(text: &str) -> Option<(&str, &str)>
-    ensures first { MatchOption result (words text.now ≡ []) (λ p. words text.now ≡ p.0.now ∷ words p.1.now) }
+    ensures first { MatchOption result (words text.now ≡ [])
+        (λ p. words text.now ≡ p.0.now ∷ words p.1.now) }
     ensures shorter { IfSome result (λ p. length p.1.now < length text.now) }
 {
     let start = separators(text.as_bytes());
