@@ -11,3 +11,4 @@ pub use Rattle.mailparse.specs.Value
 pub use Rattle.mailparse.specs.Pieces
 pub use Rattle.mailparse.specs.Pairs
 pub use Rattle.mailparse.specs.Disposition
+pub mod Ids

@@ -1,5 +1,5 @@
 //! The laws. Each function does nothing; its contract is the law.
-ghost use Rattle.std.specs.Prelude.{◌≡◌, ◌<◌, ◌≤◌, ◌++◌, ℕ, suc, List, [], ◌∷◌, codes, length, take, Decides, Ok};
+ghost use Rattle.std.specs.Prelude.{◌≡◌, ◌<◌, ◌≤◌, ◌++◌, ℕ, suc, List, [], ◌∷◌, codes, length, take, Decides, Ok, ◌+◌, ◌-◌, ◌*◌, ◌/◌, All, slice_index};
 ghost use Rattle.std.specs.List.{flat_map};
 ghost use Rattle.std.specs.Str.{IsUtf8};
 ghost use Rattle.mailparse.specs.Header.{Header, read_header};
@@ -19,6 +19,9 @@ ghost use Rattle.mailparse.specs.Value.{IsPlain, Token, lenient_value, newline, 
 ghost use Rattle.mail_codec.specs.Places.{values_below};
 ghost use Rattle.mail_laws.specs.WordTokens.{white, word};
 ghost use Rattle.mail_laws.specs.Spans.{StandBefore, blank_span, header_at, header_spans, key_range, value_range};
+ghost use Rattle.mailparse.specs.Date.{day_number, days_of_years, month_lengths};
+ghost use Rattle.mailparse.specs.MessageIds.{message_ids, written_ids};
+ghost use Rattle.mail_laws.specs.Ids.{HoldsNoClosing};
 
 /// A header that is read takes at least one byte and at most the input.
 pub fn header_consumes()
@@ -119,4 +122,33 @@ pub fn plain_boundary_is_the_only_pair()
         value_of (boundary_type boundary) ≡ codes "multipart/mixed" }
     ensures pairs { (boundary : List ℕ) → IsAlphanumeric boundary →
         pairs_of (boundary_type boundary) ≡ (codes "boundary", boundary) ∷ [] }
+{}
+
+/// The days of the years from 1970 up to a year, one after another, are 365 for each and a day for
+/// each leap year, which is each fourth, but of the full centuries each fourth alone; 477 of them
+/// stand before 1970.
+pub fn leap_days_are_counted()
+    ensures { (year : ℕ) → 1970 ≤ year →
+        days_of_years (year - 1970) + ((year - 1) / 100 + 477)
+        ≡ 365 * (year - 1970) + ((year - 1) / 4 + (year - 1) / 400) }
+{}
+
+/// The seconds of a day and of the next differ by 86,400: within a month, from the last day of a
+/// month to the first of the next, and from 31 December to 1 January.
+pub fn days_follow_each_other()
+    ensures in_month { (year month day : ℕ) → 1 ≤ day →
+        86400 * day_number year month (day + 1) ≡ 86400 * day_number year month day + 86400 }
+    ensures to_next_month { (year month : ℕ) → month < 11 →
+        86400 * day_number year (month + 1) 1
+        ≡ 86400 * day_number year month (slice_index (month_lengths year) month) + 86400 }
+    ensures to_next_year { (year : ℕ) → 1970 ≤ year →
+        86400 * day_number (year + 1) 0 1 ≡ 86400 * day_number year 11 31 + 86400 }
+{}
+
+/// The text of a list of message ids reads back as the list exactly if no id holds a `>`.
+pub fn message_ids_read_back()
+    ensures reads { (ids : List (List ℕ)) → All IsUtf8 ids →
+        All HoldsNoClosing ids → message_ids (written_ids ids) ≡ Ok ids }
+    ensures only { (ids : List (List ℕ)) → All IsUtf8 ids →
+        message_ids (written_ids ids) ≡ Ok ids → All HoldsNoClosing ids }
 {}

@@ -5,6 +5,8 @@
 #[cfg(test)]
 mod bodies;
 #[cfg(test)]
+mod dates;
+#[cfg(test)]
 mod debug_texts;
 #[cfg(test)]
 mod errors;
@@ -12,6 +14,8 @@ mod errors;
 mod headers;
 #[cfg(test)]
 mod looking_up;
+#[cfg(test)]
+mod message_ids;
 #[cfg(test)]
 mod messages;
 #[cfg(test)]

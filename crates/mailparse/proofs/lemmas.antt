@@ -20,3 +20,5 @@ pub mod Copied
 pub mod Types
 pub mod Trees
 pub mod Apart
+pub mod Dates
+pub mod MessageIds

@@ -4,3 +4,6 @@ pub mod Unfolding
 pub mod DelimiterLines
 pub mod Pieces
 pub mod Pairs
+pub mod Dates
+pub mod IdRows
+pub mod MessageIds

@@ -34,7 +34,7 @@ join_empty : (c : ℕ) (pieces : List (List ℕ)) → pieces ≢ [] → join_wit
 join_empty c [] h = absurd (h refl)
 join_empty c (p ∷ pieces) h = refl
 
-split_some : (test : ℕ → Bool) (bytes : List ℕ) → slice_split test bytes ≢ []
+pub split_some : (test : ℕ → Bool) (bytes : List ℕ) → slice_split test bytes ≢ []
 split_some test [] e = cc
 split_some test (b ∷ bytes) e = go (test b) e
   where
@@ -64,7 +64,7 @@ ltb_suc m n =
     ⊎_elim (λ h. lt-ltb m n h ∙ sym (lt-ltb (1 + m) (suc n) (omega arith))) (λ h. le-ltb m n h ∙ sym (le-ltb (1 + m) (suc n) (omega arith)))
     (cases_lt m n)
 
-any_from_place : (test : ℕ → Bool) (bytes : List ℕ) → list_any test bytes ≡ ltb (position_or_len test bytes) (length bytes)
+pub any_from_place : (test : ℕ → Bool) (bytes : List ℕ) → list_any test bytes ≡ ltb (position_or_len test bytes) (length bytes)
 any_from_place test [] = refl
 any_from_place test (b ∷ bytes) = go (test b) refl (any_from_place test bytes)
   where

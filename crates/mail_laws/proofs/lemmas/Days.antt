@@ -1,0 +1,54 @@
+-- Days that follow each other.
+use Rattle.std.proofs.Common.{◌≡◌, ℕ, zero, suc, ◌+◌, ◌-◌, ◌*◌, ◌/◌, ◌<◌, ◌≤◌, Bool, ◌&&◌, true, false, cond, ltb, List, [], ◌∷◌, length, take, get_or, sum, refl, sym, ap, ◌∙◌, arith}
+use Rattle.std.specs.List.{list_all}
+use Rattle.std.proofs.lemmas.Bool.{ltb-true}
+use Rattle.std.proofs.lemmas.List.Sums.{fold_more}
+use Rattle.mailparse.specs.Date.{day_number, days_of_years, is_leap_year, month_lengths, year_length}
+use Rattle.mailparse.proofs.lemmas.Dates.{days_of_years-closed}
+
+pub leap_days : (year : ℕ) → 1970 ≤ year
+    → days_of_years (year - 1970) + ((year - 1) / 100 + 477) ≡ 365 * (year - 1970) + ((year - 1) / 4 + (year - 1) / 400)
+leap_days year h =
+    let same : 1969 + (year - 1970) ≡ year - 1 = omega arith in
+    rw (sym same) (days_of_years-closed (year - 1970))
+
+pub in_month : (year month day : ℕ) → 1 ≤ day → 86400 * day_number year month (day + 1) ≡ 86400 * day_number year month day + 86400
+in_month year month day h = omega arith
+
+and_left : (a b : Bool) → a && b ≡ true → a ≡ true
+and_left true b h = refl
+and_left false b h = absurd (cc)
+
+and_right : (a b : Bool) → a && b ≡ true → b ≡ true
+and_right true b h = h
+and_right false b h = absurd (cc)
+
+all_some : (xs : List ℕ) (k : ℕ) → list_all (λ n. ltb 0 n) xs ≡ true → k < length xs → 1 ≤ get_or xs k 0
+all_some [] k all h = absurd (omega arith)
+all_some (x ∷ xs) zero all h = let some : ltb 0 x ≡ true = and_left _ _ all in let lt = ltb-true _ _ some in omega arith
+all_some (x ∷ xs) (suc k) all h = let later = all_some xs k (and_right (ltb 0 x) _ all) (omega arith) in later
+
+-- each month has a day
+month_some : (leap : Bool) (k : ℕ) → k < 12 → 1 ≤ get_or (31 ∷ cond leap 29 28 ∷ 31 ∷ 30 ∷ 31 ∷ 30 ∷ 31 ∷ 31 ∷ 30 ∷ 31 ∷ 30 ∷ 31 ∷ []) k 0
+month_some true k h = all_some (31 ∷ 29 ∷ 31 ∷ 30 ∷ 31 ∷ 30 ∷ 31 ∷ 31 ∷ 30 ∷ 31 ∷ 30 ∷ 31 ∷ []) k refl h
+month_some false k h = all_some (31 ∷ 28 ∷ 31 ∷ 30 ∷ 31 ∷ 30 ∷ 31 ∷ 31 ∷ 30 ∷ 31 ∷ 30 ∷ 31 ∷ []) k refl h
+
+pub to_next_month : (year month : ℕ) → month < 11
+    → 86400 * day_number year (month + 1) 1 ≡ 86400 * day_number year month (get_or (month_lengths year) month 0) + 86400
+to_next_month year month h =
+    let more : sum (take (month + 1) (month_lengths year)) ≡ sum (take month (month_lengths year)) + get_or (month_lengths year) month 0 =
+    fold_more (λ a b. a + b) 0 (month_lengths year) month 0 (omega arith) in
+    let some = month_some (is_leap_year year) month (omega arith) in
+    omega (arith, more, some)
+
+-- a year has the days of its months
+year_sum : (leap : Bool) → sum (take 11 (31 ∷ cond leap 29 28 ∷ 31 ∷ 30 ∷ 31 ∷ 30 ∷ 31 ∷ 31 ∷ 30 ∷ 31 ∷ 30 ∷ 31 ∷ [])) + 31 ≡ cond leap 366 365
+year_sum true = refl
+year_sum false = refl
+
+pub to_next_year : (year : ℕ) → 1970 ≤ year → 86400 * day_number (year + 1) 0 1 ≡ 86400 * day_number year 11 31 + 86400
+to_next_year year h =
+    let next : (year + 1) - 1970 ≡ suc (year - 1970) = omega arith in
+    let same : 1970 + (year - 1970) ≡ year = omega arith in
+    let step : days_of_years ((year + 1) - 1970) ≡ days_of_years (year - 1970) + year_length year = ap days_of_years next ∙ ap (λ y. days_of_years (year - 1970) + year_length y) same in
+    omega (arith, step, year_sum (is_leap_year year))

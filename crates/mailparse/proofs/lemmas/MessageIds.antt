@@ -1,0 +1,152 @@
+-- Lists of message ids, as they are written and read.
+use Rattle.std.proofs.Common.{◌≡◌, ◌≢◌, ℕ, suc, ◌+◌, ◌<◌, Bool, true, false, cond, not, ◌&&◌, ◌||◌, eqb, List, [], ◌∷◌, ◌++◌, length, map, take, drop, get_or, Option, Some, None, Result, Ok, Err, refl, sym, ap, ◌∙◌, arith, append_assoc, length-drop, append-nil, lit<}
+use Rattle.std.proofs.lemmas.List.{length-map, length-take, map_push, take_more}
+use Rattle.std.proofs.lemmas.Str.{encode_ascii}
+use Rattle.std.proofs.lemmas.Grind.{get_or_after_one}
+use Rattle.std.specs.Prelude.{String, string_bytes}
+use Rattle.std.specs.Global.{Global}
+use Rattle.std.specs.List.{join_with_byte, list_any, slice_split, onto_first, position_or_len, before_first, after_first}
+use Rattle.mailparse.specs.MessageIds.{begins_with_id, id_not_opened, id_of_piece, ids_at_end, ids_of_pieces, is_closing, message_ids, opens_id, with_id, written_id, written_ids}
+use Rattle.mailparse.specs.Refusal.{Refusal}
+use Rattle.mailparse.specs.private.MessageIds.{IsCutAtClosing, IsNextId, IsOpenedId, with_ids}
+use Rattle.std.specs.Borrow.{Bor}
+use Rattle.std.specs.Option.{MatchOption}
+use Rattle.std.specs.Char.{encode_utf8}
+use Rattle.std.specs.Str.{trim_start}
+use Rattle.std.specs.Str.Pattern.{FindsCharPrefix, StripsPrefix}
+use Rattle.std.proofs.lemmas.Bool.{lt-ltb, le-ltb, eqb-true}
+use Rattle.mail_codec.specs.Places.{stands}
+use Rattle.mailparse.proofs.lemmas.EncodedWord.{any_from_place, join_next, split_some}
+
+-- ---- what is written
+
+-- one id more
+pub written_ids-push : (ids : List (List ℕ)) (id : List ℕ) → length ids ≢ 0 → written_ids ids ++ (32 ∷ written_id id) ≡ written_ids (ids ++ id ∷ [])
+written_ids-push ids id some =
+    let count : length (map written_id ids) ≢ 0 = λ e. some (sym (length-map ids written_id) ∙ e) in
+    sym (ap (join_with_byte 32) (map_push written_id ids id) ∙ join_next 32 (map written_id ids) (written_id id) count ∙ append_assoc (join_with_byte 32 (map written_id ids)) (32 ∷ []) (written_id id))
+
+-- the id after those that were taken
+pub written_ids-next : (all others : List (String Global)) (x : String Global) (i : ℕ) → others ≡ drop 1 all → i < length others → x ≡ get_or others i x
+    → written_ids (map string_bytes (take (i + 1) all)) ++ (32 ∷ written_id (string_bytes x)) ≡ written_ids (map string_bytes (take (i + 1 + 1) all))
+written_ids-next all others x i rest lt at =
+    let within : i + 1 < length all = omega (arith, ap length rest, length-drop 1 all) in
+    let here : x ≡ get_or all (i + 1) x = at ∙ ap (λ xs. get_or xs i x) rest ∙ get_or_after_one all i x ∙ ap (λ k. get_or all k x) (omega arith) in
+    let taken : take (i + 1 + 1) all ≡ take (i + 1) all ++ x ∷ [] = take_more all (i + 1) x within ∙ ap (λ y. take (i + 1) all ++ y ∷ []) (sym here) in
+    let some : length (map string_bytes (take (i + 1) all)) ≢ 0 = λ e. absurd (omega (arith, e, length-map (take (i + 1) all) string_bytes, length-take (i + 1) all)) in
+    written_ids-push (map string_bytes (take (i + 1) all)) (string_bytes x) some
+    ∙ ap written_ids (sym (ap (map string_bytes) taken ∙ map_push string_bytes (take (i + 1) all) x))
+
+-- ---- what is read
+
+-- without a `>`
+split_none : (bytes : List ℕ) → list_any is_closing bytes ≡ false → slice_split is_closing bytes ≡ bytes ∷ []
+split_none [] h = refl
+split_none (b ∷ bytes) h = go (split_none bytes) (is_closing b) h
+  where
+    go : (list_any is_closing bytes ≡ false → slice_split is_closing bytes ≡ bytes ∷ []) → (t : Bool) → t || list_any is_closing bytes ≡ false
+        → cond t ([] ∷ slice_split is_closing bytes) (onto_first b (slice_split is_closing bytes)) ≡ (b ∷ bytes) ∷ []
+    go later true h = absurd (cc)
+    go later false h = ap (onto_first b) (later h)
+
+-- at the first `>`
+pub split_first : (bytes : List ℕ) → list_any is_closing bytes ≡ true
+    → slice_split is_closing bytes ≡ before_first is_closing bytes ∷ slice_split is_closing (after_first is_closing bytes)
+split_first [] h = absurd (cc)
+split_first (b ∷ bytes) h = go (split_first bytes) (is_closing b) h
+  where
+    m : ℕ
+    m = position_or_len is_closing bytes
+
+    go : (list_any is_closing bytes ≡ true → slice_split is_closing bytes ≡ before_first is_closing bytes ∷ slice_split is_closing (after_first is_closing bytes))
+        → (t : Bool) → t || list_any is_closing bytes ≡ true
+        → cond t ([] ∷ slice_split is_closing bytes) (onto_first b (slice_split is_closing bytes))
+        ≡ take (cond (not t) (1 + m) 0) (b ∷ bytes) ∷ slice_split is_closing (drop (cond (not t) (1 + m) 0 + 1) (b ∷ bytes))
+    go later true h = refl
+    go later false h =
+        let taken : take (1 + m) (b ∷ bytes) ≡ b ∷ take m bytes = let e : 1 + m ≡ suc m = omega arith in rw e refl in
+        let dropped : drop (1 + m + 1) (b ∷ bytes) ≡ drop (m + 1) bytes = let e : 1 + m + 1 ≡ suc (m + 1) = omega arith in rw e refl in
+        ap (onto_first b) (later h) ∙ ap (λ front. front ∷ slice_split is_closing (drop (m + 1) bytes)) (sym taken)
+        ∙ ap (λ rest. take (1 + m) (b ∷ bytes) ∷ slice_split is_closing rest) (sym dropped)
+
+-- what `split_once` at a `>` says
+pub cut_from_closing : (bytes : List ℕ) (r : Option (Bor (List ℕ) × Bor (List ℕ)))
+    → MatchOption r (position_or_len (λ b. eqb b 62) bytes ≡ length bytes)
+    (λ x. (position_or_len (λ b. eqb b 62) bytes < length bytes) × (x.0.now ≡ before_first (λ b. eqb b 62) bytes) × (x.1.now ≡ after_first (λ b. eqb b 62) bytes))
+    → MatchOption r (slice_split is_closing bytes ≡ bytes ∷ []) (λ p. IsCutAtClosing bytes p.0.now p.1.now)
+cut_from_closing bytes None h = split_none bytes (any_from_place is_closing bytes ∙ le-ltb _ _ (omega arith))
+cut_from_closing bytes (Some x) h =
+    let closed : list_any is_closing bytes ≡ true = any_from_place is_closing bytes ∙ lt-ltb _ _ h.0 in
+    record {
+      closed = closed;
+      before = h.1;
+      pieces = split_first bytes closed ∙ ap (λ piece. piece ∷ slice_split is_closing (after_first is_closing bytes)) (sym h.1)
+          ∙ ap (λ rest. x.0.now ∷ slice_split is_closing rest) (sym h.2);
+      shorter = omega (arith, h.0, ap length h.2, length-drop (position_or_len is_closing bytes + 1) bytes);
+    }
+
+-- a text without a `>` ends the list
+pub message_ids-end : (text : List ℕ) → slice_split is_closing text ≡ text ∷ [] → message_ids text ≡ ids_at_end text
+unfolding message_ids
+message_ids-end text h = ap ids_of_pieces h
+
+-- a piece before others
+pub pieces_step : (piece : List ℕ) (bytes : List ℕ)
+    → ids_of_pieces (piece ∷ slice_split is_closing bytes)
+    ≡ cond (opens_id piece) (with_id (id_of_piece piece) (ids_of_pieces (slice_split is_closing bytes))) (Err id_not_opened)
+pieces_step piece bytes = go (slice_split is_closing bytes) (split_some is_closing bytes)
+  where
+    go : (pieces : List (List ℕ)) → pieces ≢ []
+        → ids_of_pieces (piece ∷ pieces) ≡ cond (opens_id piece) (with_id (id_of_piece piece) (ids_of_pieces pieces)) (Err id_not_opened)
+    go [] some = absurd (some refl)
+    go (next ∷ more) some = refl
+
+pub message_ids-refused : (text piece after : List ℕ) → IsCutAtClosing text piece after → opens_id piece ≡ false → message_ids text ≡ Err id_not_opened
+unfolding message_ids
+message_ids-refused text piece after cut h = ap ids_of_pieces cut.pieces ∙ pieces_step piece after ∙ rw h refl
+
+pub message_ids-next : (text piece after id : List ℕ) → IsCutAtClosing text piece after → IsOpenedId piece id → IsNextId text id after
+unfolding message_ids begins_with_id
+message_ids-next text piece after id cut opened =
+    let opens : opens_id (before_first is_closing text) ≡ true = ap opens_id (sym cut.before) ∙ opened.opens in
+    record {
+      begins = ap (λ t. t && opens_id (before_first is_closing text)) cut.closed ∙ opens;
+      all = ap ids_of_pieces cut.pieces ∙ pieces_step piece after
+          ∙ ap (λ t. cond t (with_id (id_of_piece piece) (ids_of_pieces (slice_split is_closing after))) (Err id_not_opened)) opened.opens
+          ∙ ap (λ i. with_id i (ids_of_pieces (slice_split is_closing after))) (sym opened.is);
+      shorter = cut.shorter;
+    }
+
+-- the ids so far, and one more
+pub with_ids-push : (front : List (List ℕ)) (id : List ℕ) (later : Result (List (List ℕ)) Refusal)
+    → with_ids front (with_id id later) ≡ with_ids (front ++ id ∷ []) later
+with_ids-push front id (Err refusal) = refl
+with_ids-push front id (Ok ids) = ap Ok (sym (append_assoc front (id ∷ []) ids))
+
+pub with_ids-refused : (front : List (List ℕ)) (later : Result (List (List ℕ)) Refusal) (refusal : Refusal) → later ≡ Err refusal → with_ids front later ≡ Err refusal
+with_ids-refused front later refusal h = ap (with_ids front) h
+
+pub with_ids-all : (front : List (List ℕ)) (later : Result (List (List ℕ)) Refusal) → later ≡ Ok [] → with_ids front later ≡ Ok front
+with_ids-all front later h = ap (with_ids front) h ∙ ap Ok (append-nil front)
+
+-- a `<` at the front, or none
+pub opens_from_strip : (piece text : List ℕ) (r : Option (Bor (List ℕ))) → text ≡ trim_start piece
+    → MatchOption r (FindsCharPrefix 60 text None) (λ x. StripsPrefix (FindsCharPrefix 60) text x.now)
+    → MatchOption r (opens_id piece ≡ false) (λ id. IsOpenedId piece id.now)
+opens_from_strip piece text None e h = ap (stands (60 ∷ [])) (sym e) ∙ go text h
+  where
+    go : (text : List ℕ) → ((rest : List ℕ) → text ≢ encode_utf8 60 ++ rest) → stands (60 ∷ []) text ≡ false
+    go [] h = refl
+    go (b ∷ text) h = at (eqb 60 b) refl
+      where
+        at : (t : Bool) → eqb 60 b ≡ t → eqb 60 b && true ≡ false
+        at true p = absurd (h text (ap (λ c. c ∷ text) (sym (eqb-true _ _ p)) ∙ ap (λ r. r ++ text) (sym (encode_ascii 60 (lit< tt)))))
+        at false p = rw p refl
+opens_from_strip piece text (Some x) e h =
+    let n = h.0 in
+    let front : text ≡ 60 ∷ drop n text = h.1.split ∙ ap (λ r. r ++ drop n text) (encode_ascii 60 (lit< tt)) in
+    let one : n ≡ 1 = h.1.ends in
+    record {
+      opens = ap (stands (60 ∷ [])) (sym e ∙ front);
+      is = h.2 ∙ ap (λ k. drop k text) one ∙ ap (drop 1) e;
+    }

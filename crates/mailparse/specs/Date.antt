@@ -1,0 +1,229 @@
+-- The date of a header in seconds: RFC 5322, sections 3.3 and 4.3, read as leniently as mail is written.
+use Rattle.std.specs.Prelude.{ℕ, zero, suc, ◌+◌, ◌*◌, ◌/◌, ◌%◌, ◌-◌, ◌^◌, Bool, not, ◌&&◌, ◌||◌, ◌==◌, nat_lt, nat_le, List, [], ◌∷◌, take, sum, filter, find, ℤ, pos, negsuc, ◌+ℤ◌, neg_ℤ, Option, Some, None, option_map, is_some, ok_or, unsigned_abs, Result, Ok, Err, codes, if◌then◌else◌}
+use Rattle.std.specs.Int.{is_in_range}
+use Rattle.std.specs.List.{slice_split}
+use Rattle.std.specs.Str.{all_ascii_digits, str_eq_ignore_ascii_case}
+use Rattle.std.specs.Str.Parse.{digits_value, signed_digits_value, without_leading_plus, without_leading_sign}
+use Rattle.mail_codec.specs.Places.{is_empty}
+use Rattle.mailparse.specs.Refusal.{Refusal, generic}
+
+-- Refusals: of a day, a month, a year (no number, or one from 100 to 1969), a time of day and a zone.
+
+abbrev pub invalid_day : Refusal
+invalid_day = generic (codes "Invalid day")
+
+abbrev pub unrecognized_month : Refusal
+unrecognized_month = generic (codes "Unrecognized month")
+
+abbrev pub invalid_year : Refusal
+invalid_year = generic (codes "Invalid year")
+
+abbrev pub disallowed_year : Refusal
+disallowed_year = generic (codes "Disallowed year")
+
+abbrev pub invalid_hour : Refusal
+invalid_hour = generic (codes "Invalid hour")
+
+abbrev pub invalid_minute : Refusal
+invalid_minute = generic (codes "Invalid minute")
+
+abbrev pub invalid_second : Refusal
+invalid_second = generic (codes "Invalid second")
+
+abbrev pub invalid_zone : Refusal
+invalid_zone = generic (codes "Invalid timezone")
+
+-- Words.
+
+-- a space or a colon separates two words
+abbrev pub is_separator : ℕ → Bool
+is_separator b = b == 32 || b == 58
+
+-- the words of a text: what stands between separators and is not empty
+abbrev pub words : List ℕ → List (List ℕ)
+words text = filter (λ word. not (is_empty word)) (slice_split is_separator text)
+
+-- the number that a word writes in decimal digits, after a `+` or not, if it is below the limit
+unfoldable pub number_below : ℕ → List ℕ → Option ℕ
+number_below limit word =
+    let digits = without_leading_plus word in
+    if not (is_empty digits) && (all_ascii_digits digits && nat_lt (digits_value 10 digits) limit)
+    then Some (digits_value 10 digits) else None
+
+-- a number that 32 bits hold beside its sign
+abbrev pub fits_32_bits : ℤ → Bool
+fits_32_bits (pos n) = nat_lt n (2 ^ 31)
+fits_32_bits (negsuc n) = nat_lt n (2 ^ 31)
+
+-- the number that a word writes in decimal digits, after a `+`, a `-` or neither, if 32 bits hold it
+unfoldable pub signed_number : List ℕ → Option ℤ
+signed_number word =
+    let digits = without_leading_sign word in
+    if not (is_empty digits) && (all_ascii_digits digits && fits_32_bits (signed_digits_value 10 word))
+    then Some (signed_digits_value 10 word) else None
+
+-- what a table has for a word, ignoring ASCII case
+abbrev pub look_up : {A : Type 0} → List (List ℕ × A) → List ℕ → Option A
+look_up table word = option_map (λ row. row.1) (find (λ row. str_eq_ignore_ascii_case word row.0) table)
+
+-- Days of the Gregorian calendar.
+
+-- a year is a leap year: every fourth, but of the full centuries only every fourth
+abbrev pub is_leap_year : ℕ → Bool
+is_leap_year year = year % 4 == 0 && (not (year % 100 == 0) || year % 400 == 0)
+
+-- the days of a year
+abbrev pub year_length : ℕ → ℕ
+year_length year = if is_leap_year year then 366 else 365
+
+-- the days of the months of a year, from January on
+abbrev pub month_lengths : ℕ → List ℕ
+month_lengths year =
+    31 ∷ (if is_leap_year year then 29 else 28) ∷ 31 ∷ 30 ∷ 31 ∷ 30 ∷ 31 ∷ 31 ∷ 30 ∷ 31 ∷ 30 ∷ 31 ∷ []
+
+-- the days of the first n years from 1970 on
+abbrev pub days_of_years : ℕ → ℕ
+days_of_years zero = 0
+days_of_years (suc n) = days_of_years n + year_length (1970 + n)
+
+-- the days from 1 January 1970 to a day, by its year, its month counted from 0, and its number in the month, which may
+-- go on past the month's last day
+abbrev pub day_number : ℕ → ℕ → ℕ → ℕ
+day_number year month day = days_of_years (year - 1970) + (sum (take month (month_lengths year)) + (day - 1))
+
+-- Months, years and zones.
+
+-- the names of the months, the first three letters and the whole, with the month's number from 0
+abbrev pub months : List (List ℕ × ℕ)
+months =
+    (codes "Jan", 0) ∷ (codes "January", 0) ∷ (codes "Feb", 1) ∷ (codes "February", 1)
+    ∷ (codes "Mar", 2) ∷ (codes "March", 2) ∷ (codes "Apr", 3) ∷ (codes "April", 3)
+    ∷ (codes "May", 4) ∷ (codes "Jun", 5) ∷ (codes "June", 5)
+    ∷ (codes "Jul", 6) ∷ (codes "July", 6) ∷ (codes "Aug", 7) ∷ (codes "August", 7)
+    ∷ (codes "Sep", 8) ∷ (codes "September", 8) ∷ (codes "Oct", 9) ∷ (codes "October", 9)
+    ∷ (codes "Nov", 10) ∷ (codes "November", 10) ∷ (codes "Dec", 11) ∷ (codes "December", 11) ∷ []
+
+-- the month that a word names
+unfoldable pub month_of : List ℕ → Result ℕ Refusal
+month_of word = ok_or (look_up months word) unrecognized_month
+
+-- the year that a number writes: below 70 it is of the years from 2000, below 100 of those from 1900; from there up to
+-- 1969 there is none
+abbrev pub year_of_number : ℕ → Result ℕ Refusal
+year_of_number n =
+    if nat_lt n 70 then Ok (2000 + n) else
+    if nat_lt n 100 then Ok (1900 + n) else
+    if nat_lt n 1970 then Err disallowed_year else Ok n
+
+abbrev pub year_if_read : Option ℕ → Result ℕ Refusal
+year_if_read None = Err invalid_year
+year_if_read (Some n) = year_of_number n
+
+-- the year that a word writes
+unfoldable pub year_of : List ℕ → Result ℕ Refusal
+year_of word = year_if_read (number_below (2 ^ 32) word)
+
+abbrev pub west : ℕ → ℤ
+west size = neg_ℤ (pos size)
+
+-- the names of zones: how far they are east of Greenwich, or west of it, hours times 100
+abbrev pub zones : List (List ℕ × ℤ)
+zones =
+    (codes "UTC", pos 0) ∷ (codes "UT", pos 0) ∷ (codes "GMT", pos 0) ∷ (codes "Z", pos 0)
+    ∷ (codes "EDT", west 400) ∷ (codes "EST", west 500) ∷ (codes "CDT", west 500) ∷ (codes "CST", west 600)
+    ∷ (codes "MDT", west 600) ∷ (codes "MST", west 700) ∷ (codes "PDT", west 700) ∷ (codes "PST", west 800)
+    ∷ (codes "A", west 100) ∷ (codes "B", west 200) ∷ (codes "C", west 300) ∷ (codes "D", west 400)
+    ∷ (codes "E", west 500) ∷ (codes "F", west 600) ∷ (codes "G", west 700) ∷ (codes "H", west 800)
+    ∷ (codes "I", west 900) ∷ (codes "K", west 1000) ∷ (codes "L", west 1100) ∷ (codes "M", west 1200)
+    ∷ (codes "N", pos 100) ∷ (codes "O", pos 200) ∷ (codes "P", pos 300) ∷ (codes "Q", pos 400)
+    ∷ (codes "R", pos 500) ∷ (codes "S", pos 600) ∷ (codes "T", pos 700) ∷ (codes "U", pos 800)
+    ∷ (codes "V", pos 900) ∷ (codes "W", pos 1000) ∷ (codes "X", pos 1100) ∷ (codes "Y", pos 1200) ∷ []
+
+-- a zone is at most 24 hours from Greenwich
+abbrev pub zone_of_number : ℤ → Result ℤ Refusal
+zone_of_number zone = if nat_le (unsigned_abs zone) 2400 then Ok zone else Err invalid_zone
+
+abbrev pub zone_if_read : Option ℤ → List ℕ → Result ℤ Refusal
+zone_if_read (Some z) word = zone_of_number z
+zone_if_read None word = ok_or (look_up zones word) invalid_zone
+
+-- the zone that a word writes, hours times 100 and minutes: a number, or a name
+unfoldable pub zone_of : List ℕ → Result ℤ Refusal
+zone_of word = zone_if_read (signed_number word) word
+
+-- the seconds of a zone's size: its hundreds are hours, what is left is minutes
+abbrev pub zone_size : ℕ → ℕ
+zone_size n = 3600 * (n / 100) + 60 * (n % 100)
+
+-- what a zone adds to the seconds: time in the east is earlier
+abbrev pub zone_seconds : ℤ → ℤ
+zone_seconds (pos n) = neg_ℤ (pos (zone_size n))
+zone_seconds (negsuc n) = pos (zone_size (suc n))
+
+-- The date: each word has its meaning by its place.
+
+-- two parts of a date together: the first refusal is the refusal of both
+abbrev pub plus : Result ℤ Refusal → Result ℤ Refusal → Result ℤ Refusal
+plus (Err refusal) later = Err refusal
+plus (Ok seconds) (Err refusal) = Err refusal
+plus (Ok seconds) (Ok more) = Ok (seconds +ℤ more)
+
+-- what follows where a word was read
+abbrev pub then_with : {A : Type 0} → Result A Refusal → (A → Result ℤ Refusal) → Result ℤ Refusal
+then_with (Err refusal) later = Err refusal
+then_with (Ok x) later = later x
+
+-- the seconds of a number below 256 of units
+abbrev pub units : ℕ → Refusal → List ℕ → Result ℤ Refusal
+units seconds refusal word = then_with (ok_or (number_below 256 word) refusal) (λ n. Ok (pos (seconds * n)))
+
+-- the seconds that the words say from the zone on, from the second, from the minute and from the hour on; words that
+-- are not there add nothing
+abbrev pub from_zone : List (List ℕ) → Result ℤ Refusal
+from_zone [] = Ok (pos 0)
+from_zone (word ∷ after) = then_with (zone_of word) (λ zone. Ok (zone_seconds zone))
+
+abbrev pub from_second : List (List ℕ) → Result ℤ Refusal
+from_second [] = Ok (pos 0)
+from_second (word ∷ after) = plus (units 1 invalid_second word) (from_zone after)
+
+abbrev pub from_minute : List (List ℕ) → Result ℤ Refusal
+from_minute [] = Ok (pos 0)
+from_minute (word ∷ after) = plus (units 60 invalid_minute word) (from_second after)
+
+abbrev pub from_hour : List (List ℕ) → Result ℤ Refusal
+from_hour [] = Ok (pos 0)
+from_hour (word ∷ after) = plus (units 3600 invalid_hour word) (from_minute after)
+
+-- the seconds that the words say from the year on, of a day of a month; without a year there are none
+abbrev pub from_year : ℕ → ℕ → List (List ℕ) → Result ℤ Refusal
+from_year month day [] = Ok (pos 0)
+from_year month day (word ∷ after) =
+    then_with (year_of word) (λ year. plus (Ok (pos (86400 * day_number year month day))) (from_hour after))
+
+-- from the month on, of a day
+abbrev pub from_month : ℕ → List (List ℕ) → Result ℤ Refusal
+from_month day [] = Ok (pos 0)
+from_month day (word ∷ after) = then_with (month_of word) (λ month. from_year month day after)
+
+-- a day of a month is 1 to 31, whatever the month
+abbrev pub day_if_read : Option ℕ → Result ℕ Refusal
+day_if_read None = Err invalid_day
+day_if_read (Some day) = if is_in_range 1 31 day then Ok day else Err invalid_day
+
+abbrev pub day_of : List ℕ → Result ℕ Refusal
+day_of word = day_if_read (number_below 256 word)
+
+-- from the day on
+abbrev pub from_day : List (List ℕ) → Result ℤ Refusal
+from_day [] = Ok (pos 0)
+from_day (word ∷ after) = then_with (day_of word) (λ day. from_month day after)
+
+-- the words from the first on that reads as a number below 256
+abbrev pub date_words : List (List ℕ) → List (List ℕ)
+date_words [] = []
+date_words (word ∷ after) = if is_some (number_below 256 word) then word ∷ after else date_words after
+
+-- the seconds from 1 January 1970, 0 h, to the date of a text
+unfoldable pub date_seconds : List ℕ → Result ℤ Refusal
+date_seconds text = from_day (date_words (words text))

@@ -1,0 +1,82 @@
+//! The date of a header as seconds (RFC 5322, sections 3.3 and 4.3).
+ghost use Rattle.std.specs.Prelude.{◌≡◌, [], IfOk, MatchOption};
+ghost use Rattle.mailparse.specs.Date.{date_seconds, date_words, from_hour, words};
+ghost use Rattle.mailparse.specs.Outcome.{Answers};
+ghost use Rattle.mailparse.specs.private.Dates.{IsFirstNumber, IsNear};
+
+mod calendar;
+mod fields;
+mod words;
+
+use crate::error::MailParseError;
+use calendar::day_number;
+use fields::{month_number, next_number, year_number, zone_seconds};
+use words::next_word;
+
+/// The seconds from 1 January 1970, 0 h UTC, to a date as mail writes it.
+///
+/// The words between spaces and colons are a day, a month, a year, an hour, a minute, a second and
+/// a zone, in this order. What stands before the first number below 256 is passed over, and so is
+/// what stands after the zone. Words at the end may be absent: a text without a year is 0. A number
+/// of two digits is a year from 1970 to 2069. It takes no memory.
+///
+/// The error is a `Generic`: `Invalid day` for a day that is not 1 to 31, `Unrecognized month`,
+/// `Invalid year` for one that is no number below 2^32, `Disallowed year` for one from 100 to 1969,
+/// `Invalid hour`, `Invalid minute` and `Invalid second` for one that is no number below 256, and
+/// `Invalid timezone` for a zone that is neither a number from -2400 to 2400 nor a name. The first
+/// invalid word counts.
+///
+/// `dateparse("Sun, 02 Oct 2016 07:06:22 -0700 (PDT)")` is 1475417182.
+#[tactic(auto, unfolding(crate::specs::Date::date_seconds))]
+pub fn dateparse(date: &str) -> Result<i64, MailParseError>
+    ensures { Answers (λ seconds. seconds) result (date_seconds date.now) }
+{
+    let Some((day, rest)) = first_number(date) else {
+        return Ok(0);
+    };
+    if day < 1 || day > 31 {
+        return Err(MailParseError::Generic("Invalid day"));
+    }
+    let Some((word, rest)) = next_word(rest) else {
+        return Ok(0);
+    };
+    let month = month_number(word)?;
+    let Some((word, rest)) = next_word(rest) else {
+        return Ok(0);
+    };
+    let year = year_number(word)?;
+    Ok(86_400 * day_number(year, month, day) + time_of_day(rest)?)
+}
+
+/// The first word that is a number below 256, and the text after it.
+fn first_number(date: &str) -> Option<(u8, &str)>
+    ensures { MatchOption result (date_words (words date.now) ≡ [])
+        (λ p. IsFirstNumber date.now p.0 p.1.now) }
+{
+    let mut rest = date;
+    while let Some((word, after)) = next_word(rest) {
+        rest = after;
+        if let Ok(number) = word.parse::<u8>() {
+            return Some((number, after));
+        }
+    }
+    None
+}
+
+/// The seconds of the hour, the minute, the second and the zone that a text begins with, as far as
+/// they are there.
+fn time_of_day(text: &str) -> Result<i64, MailParseError>
+    ensures sum { Answers (λ seconds. seconds) result (from_hour (words text.now)) }
+    ensures bounds { IfOk result (IsNear 1100000) }
+{
+    let Some((hour, rest)) = next_number(text, "Invalid hour")? else {
+        return Ok(0);
+    };
+    let Some((minute, rest)) = next_number(rest, "Invalid minute")? else {
+        return Ok(i64::from(3600 * hour));
+    };
+    let Some((second, rest)) = next_number(rest, "Invalid second")? else {
+        return Ok(i64::from(3600 * hour + 60 * minute));
+    };
+    Ok(i64::from(3600 * hour + 60 * minute + second) + zone_seconds(rest)?)
+}

@@ -1,0 +1,143 @@
+//! Lists of message ids (RFC 5322, section 3.6.4).
+ghost use Rattle.std.specs.Prelude.{◌≡◌, false, [], ◌∷◌, Ok, Some, MatchOption, MatchResult};
+ghost use Rattle.std.specs.List.{slice_split};
+ghost use Rattle.mailparse.specs.MessageIds.{begins_with_id, ids_at_end, is_closing, opens_id};
+ghost use Rattle.mailparse.specs.MessageIds.{message_ids, written_ids};
+ghost use Rattle.mailparse.specs.Outcome.{Answers, AnswersOrMemory, IsRefusal};
+ghost use Rattle.mailparse.specs.MessageIdViews.{ids_of};
+ghost use Rattle.mailparse.specs.private.MessageIds.{IsCutAtClosing, IsNextIdOrNone, IsOpenedId};
+
+use crate::error::MailParseError;
+use std::alloc::Global;
+use std::fmt::{self, Write};
+use std::ops::{Deref, DerefMut};
+
+/// The ids of a header such as `References`, in order, each without its angle brackets.
+///
+/// It is read and changed as the vector that it holds. It is shown as mail writes it: each id in
+/// angle brackets, one space between each two.
+#[derive(Debug, Drop, PartialEq)]
+pub struct MessageIdList(pub Vec<String>);
+
+impl Deref for MessageIdList {
+    type Target = Vec<String>;
+
+    ghost deref_gives = { λ list ids. ids ≡ list.0 };
+
+    fn deref(&self) -> &Vec<String> {
+        &self.0
+    }
+}
+
+impl DerefMut for MessageIdList {
+    ghost use Rattle.std.specs.Borrow.{Lends, sem};
+    ghost use Rattle.mailparse.specs.contracts.message_ids.MessageIdList.{the_row};
+    ghost use Rattle.mailparse.specs.private.IdRows.{ids_row};
+
+    ghost deref_mut_gives = { λ list ids. ids ≡ list.0 };
+
+    fn deref_mut(&mut self) -> &mut Vec<String>
+        ensures* writes_back { sem 𝓛 (Lends the_row ids_row self.entry result
+            (λ ids. record { 0 = ids })) }
+        ensures value { result.now ≡ self.old.0 }
+    {
+        &mut self.0
+    }
+}
+
+impl MessageIdList {
+    /// An equal list in memory of its own. The error is that memory ran out.
+    pub fn clone(&self, alloc: Global) -> Result<MessageIdList, MailParseError>
+        ensures { AnswersOrMemory ids_of result (Ok (ids_of self.now)) }
+    {
+        let mut ids = Vec::new(alloc);
+        for id in &self.0 {
+            ids.push(String::from_str(alloc, id.as_str())?)?;
+        }
+        Ok(MessageIdList(ids))
+    }
+}
+
+impl fmt::Display for MessageIdList {
+    ghost output = { λ list. Some (written_ids (ids_of list)) };
+
+    fn fmt<W: Write>(&self, f: &mut fmt::Formatter<W>) -> fmt::Result {
+        let Some((first, others)) = self.0.as_slice().split_first() else {
+            return Ok(());
+        };
+        write!(f, "<{first}>")?;
+        for id in others {
+            write!(f, " <{id}>")?;
+        }
+        Ok(())
+    }
+}
+
+/// Reads the ids of a header such as `Message-ID`, `In-Reply-To` or `References`.
+///
+/// Each id is what stands between a `<` and the first `>` after it. It may be empty, and may hold
+/// white and any other character. Before, between and after ids stands white or nothing. A text of
+/// white alone is the empty list, and takes no memory.
+///
+/// The error is the `Generic` with the text `Message IDs must start with <` where something else
+/// stands, the one with the text `Message IDs must end with >` where no `>` follows a `<`, whichever
+/// comes first, or that memory ran out; before the first id it takes no memory.
+///
+/// `msgidparse(alloc, "<one@a> <two@b>")` is the list of `one@a` and `two@b`.
+pub fn msgidparse(alloc: Global, ids: &str) -> Result<MessageIdList, MailParseError>
+    ensures read { AnswersOrMemory ids_of result (message_ids ids.now) }
+    ensures no_memory { begins_with_id ids.now ≡ false →
+        Answers ids_of result (message_ids ids.now) }
+{
+    let mut found = Vec::new(alloc);
+    let mut rest = ids;
+    while let Some((id, after)) = next_id(rest)? {
+        found.push(String::from_str(alloc, id)?)?;
+        rest = after;
+    }
+    check_end(rest)?;
+    Ok(MessageIdList(found))
+}
+
+/// The id that a text begins with, after white, and the text after its `>`; `None` where no `>` is
+/// left.
+fn next_id(text: &str) -> Result<Option<(&str, &str)>, MailParseError>
+    ensures { MatchResult result (λ found. IsNextIdOrNone text.now found)
+        (λ e. IsRefusal e (message_ids text.now)) }
+{
+    let Some((piece, after)) = cut_at_closing(text) else {
+        return Ok(None);
+    };
+    match opened_id(piece) {
+        Some(id) => Ok(Some((id, after))),
+        None => Err(MailParseError::Generic("Message IDs must start with <")),
+    }
+}
+
+/// What stands before and after the first `>`, if there is one.
+fn cut_at_closing(text: &str) -> Option<(&str, &str)>
+    ensures { MatchOption result (slice_split is_closing text.now ≡ text.now ∷ [])
+        (λ p. IsCutAtClosing text.now p.0.now p.1.now) }
+{
+    text.split_once('>')
+}
+
+/// What stands after white and a `<` at the front of a text, if these stand there.
+fn opened_id(text: &str) -> Option<&str>
+    ensures { MatchOption result (opens_id text.now ≡ false) (λ id. IsOpenedId text.now id.now) }
+{
+    text.trim_start().strip_prefix('<')
+}
+
+/// Refuses what stands after the last `>`, if it is not white.
+fn check_end(text: &str) -> Result<(), MailParseError>
+    ensures { Answers (λ _. []) result (ids_at_end text.now) }
+{
+    if text.trim_start().is_empty() {
+        return Ok(());
+    }
+    match opened_id(text) {
+        Some(_) => Err(MailParseError::Generic("Message IDs must end with >")),
+        None => Err(MailParseError::Generic("Message IDs must start with <")),
+    }
+}
