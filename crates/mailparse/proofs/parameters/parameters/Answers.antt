@@ -1,4 +1,4 @@
-use Rattle.std.proofs.Common.{ℕ, List, sym, ap, ◌∙◌}
+use Rattle.std.proofs.Common.{sym, ap, ◌∙◌}
 use Rattle.mailparse.specs.Pairs.{last_of, pairs_of}
 use Rattle.mailparse.specs.private.Pieces.{pieces_of_rest}
 use Rattle.mailparse.proofs.lemmas.Pairs.{value_of-first, pairs_of-later}
