@@ -1,10 +1,10 @@
 -- Lemmas on the places of one header, for the searches that find them.
-use Rattle.std.proofs.Common.{◌≡◌, ℕ, suc, ◌+◌, ◌-◌, ◌<◌, ◌≤◌, Bool, true, false, ◌&&◌, ◌||◌, not, cond, eqb, min, Some, None, List, [], ◌∷◌, ◌++◌, length, take, drop, get_or, Ok, Err, refl, sym, ap, subst, ◌∙◌, inl, inr, ⊎_elim, arith, ne_eqb, add-one, add-zero, zero-add, slice_range, append_assoc, length-append, length-drop, length-take}
+use Rattle.std.proofs.Common.{◌≡◌, ◌≢◌, ℕ, suc, ◌+◌, ◌-◌, ◌<◌, ◌≤◌, ◌⊎◌, Bool, true, false, ◌&&◌, ◌||◌, not, cond, eqb, min, Option, Some, None, List, [], ◌∷◌, ◌++◌, length, take, drop, get_or, Ok, Err, refl, sym, ap, subst, ◌∙◌, inl, inr, ⊎_elim, arith, ne_eqb, add-one, add-zero, zero-add, slice_range, append_assoc, append-nil, length-append, length-drop, length-take}
 use Rattle.std.specs.List.{list_all}
-use Rattle.std.proofs.lemmas.Bool.{cases_lt, eqb-true}
+use Rattle.std.proofs.lemmas.Bool.{cases_lt, eqb-true, false≢true}
 use Rattle.std.proofs.lemmas.List.{drop_more, drop-take, drop-drop, take-take, get_or-take}
 use Rattle.std.proofs.Math.ListN.{drop_of_length-le}
-use Rattle.std.proofs.Math.Seq.{take-append_seam}
+use Rattle.std.proofs.Math.Seq.{drop-length, take-append_seam}
 use Rattle.mail_codec.specs.Places.{first_place, place, place_from, begins, IsFirstPlace}
 use Rattle.mail_codec.proofs.PlaceLemmas.{first_place-≤, first_place-here, first_place-past, first_place-passes, first_place-before, first_place-is_first, IsFirstPlace-unique, begins-at}
 use Rattle.mail_codec.proofs.PlaceFromLemmas.{place_from_same, place_from_here, place_from_next, place_from_passes}

@@ -1,8 +1,8 @@
 -- Lemmas on what a call answered beside what a definition gives.
-use Rattle.std.proofs.Common.{◌≡◌, Option, Some, None, Result, Err}
+use Rattle.std.proofs.Common.{◌≡◌, Option, Some, None, Result, Ok, Err, subst}
 use Rattle.std.specs.Cow.{cow_str_bytes}
 use Rattle.mailparse.specs.Refusal.{Refusal, generic, encoding, base64_fault}
-use Rattle.mailparse.specs.Outcome.{refusal_of, Refuses, IsRefusal, IsRefusalOrMemory}
+use Rattle.mailparse.specs.Outcome.{refusal_of, Refuses, IsRefusal, IsRefusalOrMemory, AnswersOrMemory}
 use Rattle.mailparse.specs.declared.error.MailParseError.{MailParseError}
 use Rattle.mailparse.specs.declared.error.MailParseError.TheVariants.{QuotedPrintableDecodeError, Base64DecodeError, EncodingError, Generic, Memory}
 

@@ -1,5 +1,5 @@
 -- What the answer of a search says of least places.
-use Rattle.std.proofs.Common.{◌≡◌, ℕ, ◌+◌, ◌<◌, ◌≤◌, Bool, true, false, List, length, drop, Option, is_some, Some, None, refl, sym, ◌∙◌, ⊎_elim, arith, length-drop}
+use Rattle.std.proofs.Common.{◌≡◌, ◌⊎◌, ℕ, ◌+◌, ◌<◌, ◌≤◌, Bool, true, false, cond, ltb, List, length, drop, Option, is_some, Some, None, refl, sym, ap, ◌∙◌, ⊎_elim, arith, length-drop}
 use Rattle.std.proofs.lemmas.Bool.{cond-true, cond-false, lt-ltb, le-ltb, cases_lt}
 use Rattle.mail_codec.specs.Places.{first_place, place, place_from}
 use Rattle.mail_codec.proofs.PlaceLemmas.{first_place-≤}
