@@ -1,5 +1,6 @@
 pub mod Spans
 pub mod Dispositions
+pub mod StarFree
 pub mod Boundaries
 pub mod WordTokens
 pub mod Days

@@ -1,5 +1,6 @@
 pub mod Spans
 pub mod WordTokens
+pub mod StarFree
 pub mod Boundaries
 pub use Rattle.mailparse.specs.Refusal
 pub use Rattle.mailparse.specs.Outcome
@@ -10,5 +11,7 @@ pub use Rattle.mailparse.specs.Tokens
 pub use Rattle.mailparse.specs.Value
 pub use Rattle.mailparse.specs.Pieces
 pub use Rattle.mailparse.specs.Pairs
+pub use Rattle.mailparse.specs.Continuations
+pub use Rattle.mailparse.specs.ContentType
 pub use Rattle.mailparse.specs.Disposition
 pub mod Ids

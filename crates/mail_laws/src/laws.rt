@@ -8,13 +8,16 @@ ghost use Rattle.mailparse.specs.ContentType.{ContentType};
 ghost use Rattle.mailparse.specs.Mail.{cut_of};
 ghost use Rattle.mailparse.specs.Ranges.{Apart};
 ghost use Rattle.mail_codec.specs.Charset.{Charsets};
-ghost use Rattle.mailparse.specs.Pairs.{pairs_of, value_of};
+ghost use Rattle.mailparse.specs.ContentType.{content_type_in};
+ghost use Rattle.mailparse.specs.Continuations.{parameters_in};
+ghost use Rattle.mailparse.specs.Pairs.{last_of, pairs_of};
 ghost use Rattle.mailparse.specs.Pieces.{ArePieces, pieces};
 ghost use Rattle.mailparse.specs.Tokens.{Adjoin, AreTokens, TokenRange, token_ranges, token_source};
 ghost use Rattle.mailparse.specs.contracts.disposition.DispositionTypePartialEq.TheImpl.{ghosts};
 ghost use Rattle.mailparse.specs.declared.disposition.DispositionType.{DispositionType};
 ghost use Rattle.mailparse.specs.Views.{kind};
-ghost use Rattle.mail_laws.specs.Boundaries.{IsAlphanumeric, boundary_type};
+ghost use Rattle.mail_laws.specs.Boundaries.{IsAlphanumeric, boundary_type, one_text};
+ghost use Rattle.mail_laws.specs.StarFree.{AreStarFree};
 ghost use Rattle.mailparse.specs.Value.{IsPlain, Token, lenient_value, newline, shown_tokens, strict_value};
 ghost use Rattle.mail_codec.specs.Places.{values_below};
 ghost use Rattle.mail_laws.specs.WordTokens.{white, word};
@@ -115,13 +118,25 @@ pub fn dispositions_equal_by_kind()
     ensures { (a b : DispositionType) → Decides (ghosts.eq a b) (kind a ≡ kind b) }
 {}
 
-/// A text of exactly `multipart/mixed; boundary=B`, where B is letters and digits, has that value and
-/// one pair, the boundary B.
-pub fn plain_boundary_is_the_only_pair()
-    ensures value { (boundary : List ℕ) → IsAlphanumeric boundary →
-        value_of (boundary_type boundary) ≡ codes "multipart/mixed" }
+/// Where no key holds a star, the parameters are the pairs, of equal keys the last, whatever charsets
+/// are known.
+pub fn pairs_without_stars_are_parameters()
+    ensures { (known : Charsets) (pairs : List (List ℕ × List ℕ)) → AreStarFree pairs →
+        (name : List ℕ) → parameters_in known pairs name ≡ last_of pairs name }
+{}
+
+/// A text of exactly `multipart/mixed; boundary=B`, where B is letters and digits, has one pair, the
+/// boundary B, and names that type with that one parameter, whatever charsets are known.
+pub fn plain_boundary_is_read()
     ensures pairs { (boundary : List ℕ) → IsAlphanumeric boundary →
         pairs_of (boundary_type boundary) ≡ (codes "boundary", boundary) ∷ [] }
+    ensures named { (known : Charsets) (boundary : List ℕ) → IsAlphanumeric boundary →
+        content_type_in known (boundary_type boundary)
+        ≡ record {
+          mimetype = codes "multipart/mixed";
+          charset = codes "us-ascii";
+          params = one_text (codes "boundary") boundary;
+        } }
 {}
 
 /// The days of the years from 1970 up to a year, one after another, are 365 for each and a day for

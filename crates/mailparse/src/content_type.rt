@@ -26,7 +26,7 @@ pub struct ParsedContentType {
 
 impl ParsedContentType {
     /// The type where nothing says it: `text/plain` in `us-ascii`, without parameters (RFC 2045,
-    /// section 5.2). The error is want of memory.
+    /// section 5.2). The error is that memory ran out.
     pub fn default(alloc: Global) -> Result<ParsedContentType, MailParseError>
         ensures { AnswersOrMemory content_type result (Ok default_type) }
     {
@@ -44,7 +44,7 @@ impl ParsedContentType {
 /// The type is what stands before the first semicolon, without white around it and in ASCII lower
 /// case; it need not be one that anybody knows. The charset is the parameter of that name, which
 /// stays among the parameters, or `us-ascii` where there is none. Every text is read; the error is
-/// want of memory.
+/// that memory ran out.
 ///
 /// `text/html; charset=utf-8` is the type `text/html` in the charset `utf-8`, with one parameter.
 pub fn parse_content_type(alloc: Global, text: &str) -> Result<ParsedContentType, MailParseError>

@@ -1,9 +1,9 @@
 -- Lemmas on types and dispositions, from their values and their parameters.
-use Rattle.std.proofs.Common.{◌≡◌, ℕ, List, Ok, unwrap_or, codes, sym, ap, ◌∙◌}
+use Rattle.std.proofs.Common.{◌≡◌, ℕ, List, Ok, sym, ap, ◌∙◌}
 use Rattle.std.specs.Prelude.{Result}
 use Rattle.std.specs.Str.{str_to_ascii_lowercase}
 use Rattle.mail_codec.specs.Charset.{four_charsets}
-use Rattle.mailparse.specs.ContentType.{ContentType, content_type_in, content_type_of, charset_named, type_with}
+use Rattle.mailparse.specs.ContentType.{ContentType, content_type_in, content_type_of, charset_named}
 use Rattle.mailparse.specs.Continuations.{parameters_in}
 use Rattle.mailparse.specs.Disposition.{Disposition, Kind, kind_named, disposition_in, disposition_of}
 use Rattle.mailparse.specs.Pairs.{Texts, pairs_of, value_of}

@@ -13,9 +13,9 @@ pub(crate) fn resolve(
     alloc: Global,
     pairs: &BTreeMap<String, String>,
 ) -> Result<BTreeMap<String, String>, MailParseError>
-    ensures found { (all : List (List ℕ × List ℕ)) → HasTexts pairs.now (last_of all) →
-        IfOk result (λ m. HasTexts m (parameters_of all)) }
-    ensures fault { IfErr result IsMemory }
+    ensures parameters { IfOk result (λ m. (all : List (List ℕ × List ℕ)) →
+        HasTexts pairs.now (last_of all) → HasTexts m (parameters_of all)) }
+    ensures memory { IfErr result IsMemory }
 {
     Ok(pairs.clone()?)
 }

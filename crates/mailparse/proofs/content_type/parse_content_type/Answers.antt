@@ -1,5 +1,4 @@
-use Rattle.std.proofs.Common.{string_bytes, ap, ◌∙◌}
-use Rattle.std.specs.Str.{str_to_ascii_lowercase}
+use Rattle.std.proofs.Common.{string_bytes}
 use Rattle.mailparse.specs.Pairs.{text_at}
 use Rattle.mailparse.proofs.lemmas.Types.{type_is}
 use Rattle.mailparse.proofs.content_type.parse_content_type.Goals as goal
