@@ -53,7 +53,10 @@ fn push_part_line(
 ) -> Result<(), AllocError>
     ensures { OnOk result (string_bytes text.new ≡ string_bytes text.old ++ part_line number mimetype.now headers body) }
 {
-    write!(text, "part {number}: {mimetype}, {headers} headers, {body} body bytes\n")
+    write!(
+        text,
+        "part {number}: {mimetype}, {headers} headers, {body} body bytes\n"
+    )
 }
 
 /// How many bytes the body of a part has, as it stands in the message.

@@ -44,15 +44,15 @@ unfolding pick
 least_from-out test start end p e =
     let k = least (λ n. test (start + n)) (end - start) in
     ⊎_elim (λ small.
-        let here : Some (start + k) ≡ Some p = sym (cond-true (nat_lt k (end - start)) (Some (start + k)) None (lt-ltb k (end - start) small)) ∙ e in
-        let same : start + k ≡ p = unwrap here in
-        record {
-          low = omega arith;
-          high = omega arith;
-          passes = subst (λ q. test q ≡ true) same (least-passes (λ n. test (start + n)) (end - start) small);
-          before = λ j low high.
-              ap test (omega arith) ∙ least-before (λ n. test (start + n)) (end - start) (j - start) (omega arith);
-        })
+    let here : Some (start + k) ≡ Some p = sym (cond-true (nat_lt k (end - start)) (Some (start + k)) None (lt-ltb k (end - start) small)) ∙ e in
+    let same : start + k ≡ p = unwrap here in
+    record {
+      low = omega arith;
+      high = omega arith;
+      passes = subst (λ q. test q ≡ true) same (least-passes (λ n. test (start + n)) (end - start) small);
+      before = λ j low high.
+          ap test (omega arith) ∙ least-before (λ n. test (start + n)) (end - start) (j - start) (omega arith);
+    })
     (λ ge. absurd (clash (sym (cond-false (nat_lt k (end - start)) (Some (start + k)) None (le-ltb k (end - start) ge)) ∙ e)))
     (cases_lt k (end - start))
   where
@@ -141,10 +141,10 @@ no_delimiter_before : (key bytes : List ℕ) (start from j : ℕ) → 0 < length
 no_delimiter_before key bytes start from j some none first k low high =
     ⊎_elim (λ below. none k low below)
     (λ above.
-        let there : drop (k - from) (drop from bytes) ≡ drop k bytes = drop-drop (k - from) from bytes ∙ ap (λ n. drop n bytes) (omega arith) in
-        let fails : stands (take 1 key) (drop (k - from) (drop from bytes)) ≡ false =
-        first_place-before (stands (take 1 key)) (drop from bytes) (k - from) (omega (arith, first)) in
-        and_right (starts_line bytes start k) _ (stands_first key (drop k bytes) some (ap (stands (take 1 key)) (sym there) ∙ fails)))
+    let there : drop (k - from) (drop from bytes) ≡ drop k bytes = drop-drop (k - from) from bytes ∙ ap (λ n. drop n bytes) (omega arith) in
+    let fails : stands (take 1 key) (drop (k - from) (drop from bytes)) ≡ false =
+    first_place-before (stands (take 1 key)) (drop from bytes) (k - from) (omega (arith, first)) in
+    and_right (starts_line bytes start k) _ (stands_first key (drop k bytes) some (ap (stands (take 1 key)) (sym there) ∙ fails)))
     (cases_lt k from)
 
 -- no first byte of the key is left
@@ -171,12 +171,12 @@ no_delimiter_on_line : (key bytes : List ℕ) (start at j : ℕ) → start ≤ a
 no_delimiter_on_line key bytes start at j after none here feed k low high =
     ⊎_elim (λ below. none k low below)
     (λ above. ⊎_elim (λ same. subst (λ p. is_delimiter key bytes start p ≡ false) (sym same) here)
-        (λ other.
-            let i = k - 1 - at in
-            let there : drop i (drop at bytes) ≡ drop (k - 1) bytes = drop-drop i at bytes ∙ ap (λ n. drop n bytes) (omega arith) in
-            let fails : begins is_line_feed (drop i (drop at bytes)) ≡ false = first_place-before (begins is_line_feed) (drop at bytes) i (omega (arith, feed, other)) in
-            and_left (starts_line bytes start k) _ (or_false (eqb k start) _ (ne_eqb k start (λ e. other (omega arith))) (ap (begins is_line_feed) (sym there) ∙ fails)))
-        (cases_eq k at))
+    (λ other.
+    let i = k - 1 - at in
+    let there : drop i (drop at bytes) ≡ drop (k - 1) bytes = drop-drop i at bytes ∙ ap (λ n. drop n bytes) (omega arith) in
+    let fails : begins is_line_feed (drop i (drop at bytes)) ≡ false = first_place-before (begins is_line_feed) (drop at bytes) i (omega (arith, feed, other)) in
+    and_left (starts_line bytes start k) _ (or_false (eqb k start) _ (ne_eqb k start (λ e. other (omega arith))) (ap (begins is_line_feed) (sym there) ∙ fails)))
+    (cases_eq k at))
     (cases_lt k at)
 
 -- no line starts after this one
@@ -235,10 +235,10 @@ none_to : (d bytes : List ℕ) (start to : ℕ) → start ≤ length bytes → t
 none_to d bytes start to within fits first none k low high =
     ⊎_elim (λ same. subst (λ p. is_delimiter d bytes start p ≡ false) (sym same) (is_delimiter-start d bytes start ∙ first))
     (λ other.
-        let i = k - 1 - start in
-        let there : drop i (drop start bytes) ≡ drop (k - 1) bytes = drop-drop i start bytes ∙ ap (λ n. drop n bytes) (omega (arith, other)) in
-        is_delimiter-line d bytes start k (omega (arith, other)) ∙ ap (stands (10 ∷ d)) (sym there)
-        ∙ by_test i (omega (arith, other)) (stands (10 ∷ d) (drop i (drop start bytes))) refl)
+    let i = k - 1 - start in
+    let there : drop i (drop start bytes) ≡ drop (k - 1) bytes = drop-drop i start bytes ∙ ap (λ n. drop n bytes) (omega (arith, other)) in
+    is_delimiter-line d bytes start k (omega (arith, other)) ∙ ap (stands (10 ∷ d)) (sym there)
+    ∙ by_test i (omega (arith, other)) (stands (10 ∷ d) (drop i (drop start bytes))) refl)
     (cases_eq k start)
   where
     by_test : (i : ℕ) → i < to → (t : Bool) → stands (10 ∷ d) (drop i (drop start bytes)) ≡ t → t ≡ false
@@ -251,7 +251,7 @@ pub found_nowhere : (d bytes : List ℕ) (start : ℕ) → start ≤ length byte
 found_nowhere d bytes start within first none =
     let len = length-drop start bytes in
     delimiter_from-none d bytes start (λ k low high.
-        none_to d bytes start (length (drop start bytes)) within (omega arith) first (λ j least small occurs. none j least (omega arith) occurs) k low (omega arith))
+    none_to d bytes start (length (drop start bytes)) within (omega arith) first (λ j least small occurs. none j least (omega arith) occurs) k low (omega arith))
 
 -- where it found a place
 pub found_line : (d bytes : List ℕ) (start k : ℕ) → 0 < length d → start ≤ length bytes → stands d (drop start bytes) ≡ false → FindsNeedle (drop start bytes) (10 ∷ d) 0 (Some k)
@@ -261,10 +261,9 @@ found_line d bytes start k some within first found =
     let fits = found.1.fits in
     let there : drop k (drop start bytes) ≡ drop (start + k + 1 - 1) bytes = drop-drop k start bytes ∙ ap (λ n. drop n bytes) (omega arith) in
     let at : is_delimiter d bytes start (start + k + 1) ≡ true =
-    is_delimiter-line d bytes start (start + k + 1) (omega arith) ∙ ap (stands (10 ∷ d)) (sym there) ∙ occurs_stands (10 ∷ d) (drop start bytes) k found.1 in
-    (
+    is_delimiter-line d bytes start (start + k + 1) (omega arith) ∙ ap (stands (10 ∷ d)) (sym there) ∙ occurs_stands (10 ∷ d) (drop start bytes) k found.1 in (
       delimiter_from-some d bytes start (start + k + 1) (omega arith) (omega arith) at
-      (λ j low high. none_to d bytes start k within (omega arith) first (λ i least small occurs. found.0.before i least small occurs) j low (omega arith)),
+          (λ j low high. none_to d bytes start k within (omega arith) first (λ i least small occurs. found.0.before i least small occurs) j low (omega arith)),
       omega arith,
     )
 

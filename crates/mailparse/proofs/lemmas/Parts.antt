@@ -241,12 +241,12 @@ module _ (levels : ℕ) (in_digest : Bool) (raw : List ℕ) (headers : List Head
       → node_type four_charsets in_digest headers ≡ ctype → delimiter_of ctype ≡ Some d
       → read_levels four_charsets levels in_digest raw
       ≡ read_map (tree (record { bytes = raw; block = take index raw; headers = headers; ctype = ctype; body = slice_range raw index (end_from d raw index index) }))
-          (parts_from (levels - 1) (is_digest ctype) d raw (first_part d raw index))
+      (parts_from (levels - 1) (is_digest ctype) d raw (first_part d raw index))
   unfolding cut_parts
   read_levels-parts d some read type delimiter =
       typed some read type
       ∙ ap (λ (cut : Cut). read_map (tree (node_with raw (record { headers = headers; index = index }) ctype cut))
-          (read_each (read_levels four_charsets (levels - 1) (is_digest ctype)) (map (slice raw) cut.parts))) (cut_at d delimiter)
+      (read_each (read_levels four_charsets (levels - 1) (is_digest ctype)) (map (slice raw) cut.parts))) (cut_at d delimiter)
 
 -- ---- the delimiter of a type, and the LF before it
 
@@ -296,11 +296,11 @@ pub read_levels-whole : (levels : ℕ) (in_digest : Bool) (raw : List ℕ) (head
     → Some line ≡ option_map (λ d. 10 ∷ d) (delimiter_of ctype) → digest ≡ is_digest ctype → end ≡ end_from (drop 1 line) raw index index
     → read_levels four_charsets levels in_digest raw
     ≡ read_map (tree (record { bytes = raw; block = take index raw; headers = headers; ctype = ctype; body = slice_range raw index end }))
-        (parts_from (levels - 1) digest (drop 1 line) raw (first_part (drop 1 line) raw index))
+    (parts_from (levels - 1) digest (drop 1 line) raw (first_part (drop 1 line) raw index))
 read_levels-whole levels in_digest raw headers index ctype line digest end some read type delimiter is ends =
     let d = drop 1 line in
     read_levels-parts levels in_digest raw headers index ctype d some read type (line_some line (delimiter_of ctype) delimiter).0
     ∙ ap (λ (b : Bool). read_map (tree (record { bytes = raw; block = take index raw; headers = headers; ctype = ctype; body = slice_range raw index (end_from d raw index index) }))
-        (parts_from (levels - 1) b d raw (first_part d raw index))) (sym is)
+    (parts_from (levels - 1) b d raw (first_part d raw index))) (sym is)
     ∙ ap (λ (n : ℕ). read_map (tree (record { bytes = raw; block = take index raw; headers = headers; ctype = ctype; body = slice_range raw index n }))
-        (parts_from (levels - 1) digest d raw (first_part d raw index))) (sym ends)
+    (parts_from (levels - 1) digest d raw (first_part d raw index))) (sym ends)

@@ -76,7 +76,7 @@ returns-in_err-parse_mail_recursive-clause-read t c =
     let some : 0 < c.args.levels = omega (arith, c.if-levels-eq0.false) in
     let type = unwrap (node_type four_charsets c.args.in_digest headers) ctype c.in_ok-ctype.ensures in
     let whole = read_levels-whole c.args.levels c.args.in_digest raw headers index ctype line digest (end_from (drop 1 line) raw index index) some c.in_ok-headers.ensures.read type
-        (made c.in_ok-line.field-0 c.in-Some.line _ c.in-Some.is c.in_ok-line.ensures.line) c.is_digest-is_digest.ensures refl in
+    (made c.in_ok-line.field-0 c.in-Some.line _ c.in-Some.is c.in_ok-line.ensures.line) c.is_digest-is_digest.ensures refl in
     let start = c.in-Some-next.start in
     let part_end = c.cut_part-part_end.result.0 in
     let ends : part_end ≡ end_from (drop 1 line) raw start (length raw) = c.cut_part-part_end.ensures.end ∙ ap (λ (l : List ℕ). end_from (drop 1 l) raw start (length raw)) c.as_slice-in-Some-next.ensures.value in
@@ -85,7 +85,7 @@ returns-in_err-parse_mail_recursive-clause-read t c =
     rw (p.1, p.2) (IsRefusalOrMemory-along c.in_err-parse_mail_recursive.field-0.0 (read_levels four_charsets levels digest (slice_range raw start part_end))
     (read_levels four_charsets c.args.levels c.args.in_digest raw)
     (λ r e. whole ∙ ap (read_map (tree (record { bytes = raw; block = take index raw; headers = headers; ctype = ctype; body = slice_range raw index (end_from (drop 1 line) raw index index) })))
-        (parts_refused levels digest (drop 1 line) raw (map tree_of c.loop-next.subparts.items) all start part_end r ends e before))
+    (parts_refused levels digest (drop 1 line) raw (map tree_of c.loop-next.subparts.items) all start part_end r ends e before))
     c.in_err-parse_mail_recursive.ensures.read)
 
 pub loop-next-preserved : goal.loop-next-preserved
@@ -126,7 +126,7 @@ returns-clause-read t c =
     let end = c.cut_body-end.result.0 in
     let ends : end ≡ end_from (drop 1 line) raw index index = c.cut_body-end.ensures.end ∙ ap (λ (l : List ℕ). end_from (drop 1 l) raw index index) c.as_slice.ensures.value in
     let whole = read_levels-whole c.args.levels c.args.in_digest raw headers index ctype line digest end some c.in_ok-headers.ensures.read type
-        (made c.in_ok-line.field-0 c.in-Some.line _ c.in-Some.is c.in_ok-line.ensures.line) c.is_digest-is_digest.ensures ends in
+    (made c.in_ok-line.field-0 c.in-Some.line _ c.in-Some.is c.in_ok-line.ensures.line) c.is_digest-is_digest.ensures ends in
     let all = parts_from levels digest (drop 1 line) raw (first_part (drop 1 line) raw index) in
     let done = subst (λ (o : Option ℕ). with_trees (map tree_of c.loop-next.subparts.items) (parts_from levels digest (drop 1 line) raw o) ≡ all) c.in_default-next.is c.loop-next.invariant.all in
     whole ∙ ap (read_map (tree (record { bytes = raw; block = take index raw; headers = headers; ctype = ctype; body = slice_range raw index end })))

@@ -30,5 +30,5 @@ returns-in_default-clause-least c =
 pub returns-clause-least : goal.returns-clause-least
 returns-clause-least c =
     (found_line (drop 1 c.args.line.now) c.args.raw.now c.args.start c.in-Some.place c.requires.line.some c.requires.within
-        (sym (tested c.args.raw.now c.args.line.now c.args.start) ∙ sym c.starts_with.ensures.value ∙ c.if-starts_with.false)
-        (sought c.args.raw.now c.args.line.now c.args.start (Some c.in-Some.place) c.requires.line.feed c.in-Some.ensures)).0
+    (sym (tested c.args.raw.now c.args.line.now c.args.start) ∙ sym c.starts_with.ensures.value ∙ c.if-starts_with.false)
+    (sought c.args.raw.now c.args.line.now c.args.start (Some c.in-Some.place) c.requires.line.feed c.in-Some.ensures)).0
