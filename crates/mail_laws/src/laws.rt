@@ -53,7 +53,8 @@ pub fn tokens_make_up_line()
 pub fn parts_apart()
     ensures { (ctype : ContentType) (bytes : List ℕ) (block : HeaderList) → read_headers bytes ≡ Ok block →
         let cut = cut_of ctype bytes block.index in
-        (cut.body.start ≡ block.index) × (block.index ≤ cut.body.end) × Apart 3 cut.body.end cut.parts (length bytes) }
+        (cut.body.start ≡ block.index) × (block.index ≤ cut.body.end)
+        × Apart 3 cut.body.end cut.parts (length bytes) }
 {}
 
 /// A value of printable ASCII that does not begin with a space and holds no `=?` reads as itself.

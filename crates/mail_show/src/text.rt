@@ -30,7 +30,8 @@ fn push_part(
     number: u64,
     part: &ParsedMail<'_>,
 ) -> Result<(), MailParseError>
-    ensures ok { OnOk result (string_bytes text.new ≡ string_bytes text.old ++ part_text number (root (tree_of part.now))) }
+    ensures ok { OnOk result (string_bytes text.new
+        ≡ string_bytes text.old ++ part_text number (root (tree_of part.now))) }
     ensures fault { IfErr result IsMemory }
 {
     let headers = part.headers.len();
@@ -51,7 +52,8 @@ fn push_part_line(
     headers: usize,
     body: usize,
 ) -> Result<(), AllocError>
-    ensures { OnOk result (string_bytes text.new ≡ string_bytes text.old ++ part_line number mimetype.now headers body) }
+    ensures { OnOk result (string_bytes text.new
+        ≡ string_bytes text.old ++ part_line number mimetype.now headers body) }
 {
     write!(
         text,
