@@ -113,37 +113,61 @@ impl Write for TestWriter {
 }
 
 /// Messages and the text that shows each.
-const SHOWN: [(&[u8], &str); 12] = [
+const SHOWN: [(&[u8], &str); 14] = [
     (
         b"A: 1\r\nB:2\r\n\r\nxyz",
-        "part 0: 2 headers, 3 body bytes\n  A: 1\n  B: 2\n",
+        "part 0: text/plain, 2 headers, 3 body bytes\n  A: 1\n  B: 2\n",
     ),
-    (b"", "part 0: 0 headers, 0 body bytes\n"),
-    (b"A: \xE9", "part 0: 1 headers, 0 body bytes\n  A: \u{E9}\n"),
+    (b"", "part 0: text/plain, 0 headers, 0 body bytes\n"),
+    (
+        b"A: \xE9",
+        "part 0: text/plain, 1 headers, 0 body bytes\n  A: \u{E9}\n",
+    ),
     (
         b"Subject: Test\n\nHi",
-        "part 0: 1 headers, 2 body bytes\n  Subject: Test\n",
+        "part 0: text/plain, 1 headers, 2 body bytes\n  Subject: Test\n",
     ),
-    (b"\xE9: 1", "part 0: 1 headers, 0 body bytes\n  \u{E9}: 1\n"),
-    (b"\n\nbody", "part 0: 0 headers, 5 body bytes\n"),
-    (b"A : b", "part 0: 1 headers, 0 body bytes\n  A : b\n"),
+    (
+        b"\xE9: 1",
+        "part 0: text/plain, 1 headers, 0 body bytes\n  \u{E9}: 1\n",
+    ),
+    (b"\n\nbody", "part 0: text/plain, 0 headers, 5 body bytes\n"),
+    (
+        b"A : b",
+        "part 0: text/plain, 1 headers, 0 body bytes\n  A : b\n",
+    ),
     (
         b":x\nKey",
-        "part 0: 2 headers, 0 body bytes\n  : x\n  Key: \n",
+        "part 0: text/plain, 2 headers, 0 body bytes\n  : x\n  Key: \n",
     ),
     (
         b"Subject: =?utf-8?Q?a?=\n =?utf-8?Q?b?=\n\nHi",
-        "part 0: 1 headers, 2 body bytes\n  Subject: ab\n",
+        "part 0: text/plain, 1 headers, 2 body bytes\n  Subject: ab\n",
     ),
     (
         b"\xC3\xA9: \xC3\xA9\n",
-        "part 0: 1 headers, 0 body bytes\n  \u{C3}\u{A9}: \u{E9}\n",
+        "part 0: text/plain, 1 headers, 0 body bytes\n  \u{C3}\u{A9}: \u{E9}\n",
     ),
     (
         b"A: x\r\n\ty =?latin1?q?=E9?=",
-        "part 0: 1 headers, 0 body bytes\n  A: x y \u{E9}\n",
+        "part 0: text/plain, 1 headers, 0 body bytes\n  A: x y \u{E9}\n",
     ),
-    (b"\r\n\xFF\0", "part 0: 0 headers, 2 body bytes\n"),
+    (
+        b"\r\n\xFF\0",
+        "part 0: text/plain, 0 headers, 2 body bytes\n",
+    ),
+    (
+        b"Content-Type: multipart/mixed; boundary=b\n\npre\n--b\n\none\n--bX\n\ntwo\n--b--\nrest",
+        "part 0: multipart/mixed, 1 headers, 3 body bytes\n  Content-Type: multipart/mixed; boundary=b\n\
+            part 1: text/plain, 0 headers, 3 body bytes\npart 2: text/plain, 0 headers, 3 body bytes\n",
+    ),
+    (
+        b"Content-Type: multipart/mixed; boundary=o\n\n--o\nContent-Type: multipart/mixed; boundary=i\n\n\
+            --i\n\nx\n--i--\n--o\n\nyy\n--o--\n",
+        "part 0: multipart/mixed, 1 headers, 0 body bytes\n  Content-Type: multipart/mixed; boundary=o\n\
+            part 1: multipart/mixed, 1 headers, 0 body bytes\n\x20 Content-Type: multipart/mixed; boundary=i\n\
+            part 2: text/plain, 0 headers, 1 body bytes\npart 3: text/plain, 0 headers, 2 body bytes\n",
+    ),
 ];
 
 #[test]
@@ -174,7 +198,10 @@ fn more_than_one_read_can_give(rt: HostRuntime) -> Result<(), Fail> {
     input.extend_from_slice(letters.as_slice())?;
     input.extend_from_slice(b"\n\n")?;
     input.extend_from_slice(letters.as_slice())?;
-    let mut text = String::from_str(rt.alloc(), "part 0: 1 headers, 200000 body bytes\n  A: ")?;
+    let mut text = String::from_str(
+        rt.alloc(),
+        "part 0: text/plain, 1 headers, 200000 body bytes\n  A: ",
+    )?;
     for _ in 0..200_000u32 {
         text.push('x')?;
     }
@@ -190,12 +217,20 @@ fn more_than_one_read_can_give(rt: HostRuntime) -> Result<(), Fail> {
 
 #[test]
 fn input_that_is_refused(rt: HostRuntime) -> Result<(), Fail> {
-    let rows: [(&[u8], &str); 5] = [
+    let rows: [(&[u8], &str); 7] = [
         (b"A: 1\n\rB", LONE_CR),
         (b"\r", LONE_CR),
         (b" x", LEADING_SPACE),
         (b"abc\n def", LEADING_SPACE),
         (b"A: 1\nB: 2\r\n\rbody", LONE_CR),
+        (
+            b"Content-Type: multipart/mixed; boundary=b\n\n--b\nA: 1\n\rB\n--b--\n",
+            LONE_CR,
+        ),
+        (
+            b"Content-Type: multipart/mixed; boundary=b\n\n--b\n x\n--b\n\rz\n--b--\n",
+            LEADING_SPACE,
+        ),
     ];
     for (input, wanted) in rows {
         let mut reader = TestReader::new(input, 1, Trouble::Interrupts);
@@ -214,7 +249,7 @@ fn input_that_is_refused(rt: HostRuntime) -> Result<(), Fail> {
 
 const INPUT: &[u8] = b"A: 1\r\nB:2\r\n\r\nxyz";
 
-const TEXT: &[u8] = b"part 0: 2 headers, 3 body bytes\n  A: 1\n  B: 2\n";
+const TEXT: &[u8] = b"part 0: text/plain, 2 headers, 3 body bytes\n  A: 1\n  B: 2\n";
 
 #[test]
 fn each_read_failing(rt: HostRuntime) -> Result<(), Fail> {

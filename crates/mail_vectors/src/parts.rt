@@ -17,7 +17,14 @@ fn outline(alloc: Global, raw: &[u8]) -> Result<String, MailParseError> {
     let mut text = String::new(alloc);
     for part in mail.parts(alloc)? {
         let body = part.get_body(alloc)?;
-        write!(text, "{} {} {} [{}] ", part.ctype.mimetype, part.headers.len(), part.subparts.len(), body)?;
+        write!(
+            text,
+            "{} {} {} [{}] ",
+            part.ctype.mimetype,
+            part.headers.len(),
+            part.subparts.len(),
+            body
+        )?;
     }
     Ok(text)
 }
@@ -126,7 +133,10 @@ fn whole_messages(rt: HostRuntime) -> Result<(), Fail> {
 fn nested(alloc: Global, levels: usize) -> Result<Vec<u8>, MailParseError> {
     let mut raw = String::new(alloc);
     for level in 0..levels {
-        write!(raw, "Content-Type: multipart/mixed; boundary=b{level:03}\n\n--b{level:03}\n")?;
+        write!(
+            raw,
+            "Content-Type: multipart/mixed; boundary=b{level:03}\n\n--b{level:03}\n"
+        )?;
     }
     Ok(Vec::from_slice(alloc, raw.as_bytes())?)
 }
@@ -142,7 +152,10 @@ fn how_deep_parts_may_stand(rt: HostRuntime) -> Result<(), Fail> {
     assert_eq!(rt; deep.len(), 5300);
     assert_eq!(rt; count_of_parts(rt.alloc(), deep.as_slice())?, 101);
     let deeper = nested(rt.alloc(), 101)?;
-    assert_eq!(rt; refusal(parse_mail(rt.alloc(), deeper.as_slice())), TOO_DEEP);
+    assert_eq!(rt;
+        refusal(parse_mail(rt.alloc(), deeper.as_slice())),
+        TOO_DEEP
+    );
     Ok(())
 }
 
@@ -187,7 +200,10 @@ fn a_body_in_base64(rt: HostRuntime) -> Result<(), Fail> {
     let raw = b"Content-Transfer-Encoding: base64\r\n\r\naGVsbG 8gd\r\n29ybGQ=";
     let mail = parse_mail(rt.alloc(), raw)?;
     assert_eq!(rt; mail.get_body(rt.alloc())?.as_str(), "hello world");
-    assert_eq!(rt; mail.get_body_raw(rt.alloc())?.as_slice(), b"hello world".as_slice());
+    assert_eq!(rt;
+        mail.get_body_raw(rt.alloc())?.as_slice(),
+        b"hello world".as_slice()
+    );
     Ok(())
 }
 
@@ -213,7 +229,10 @@ fn two_parts_in_different_codings(rt: HostRuntime) -> Result<(), Fail> {
     assert_eq!(rt; mail.subparts.len(), 2);
     assert_eq!(rt; mail.get_body_raw(rt.alloc())?.len(), 0);
     let plain = mail.subparts[0].get_body(rt.alloc())?;
-    assert_eq!(rt; plain.as_str(), "This is the plaintext version, in utf-8. Proof by Euro: €");
+    assert_eq!(rt;
+        plain.as_str(),
+        "This is the plaintext version, in utf-8. Proof by Euro: €"
+    );
     assert_eq!(rt; mail.subparts[1].ctype.mimetype.as_str(), "text/html");
     assert!(rt; mail.subparts[1].get_body(rt.alloc())?.starts_with("<html>"));
     Ok(())

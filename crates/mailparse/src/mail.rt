@@ -1,17 +1,18 @@
 //! A message: its header block, its type, its body and its parts.
-ghost use Rattle.std.specs.Prelude.{◌≡◌, ◌<◌, ◌^◌, ◌∷◌, length, option_map, IfErr, IfOk, IsErr, Ok};
+ghost use Rattle.std.specs.Prelude.{◌≡◌, ◌<◌, ◌^◌, length, IfErr, IfOk, IsErr, Ok};
 ghost use Rattle.mail_codec.specs.Charset.{four_charsets};
 ghost use Rattle.mailparse.specs.Block.{header_count, read_headers};
 ghost use Rattle.mailparse.specs.BodyViews.{IsBody, content_of};
-ghost use Rattle.mailparse.specs.Mail.{block_of, body_bytes, body_kind, body_text, root, shown_as, trees_within, delimiter_of, is_digest, node_type, part_type, read_levels, read_mail};
+ghost use Rattle.mailparse.specs.Mail.{block_of, body_bytes, body_kind, body_text, root, shown_as, trees_within, read_levels, read_mail};
 ghost use Rattle.mailparse.specs.Outcome.{Answers, AnswersOrMemory, IsMemory, ReadsText, ReadsBytes};
-ghost use Rattle.mailparse.specs.Views.{content_type, disposition, tree_of, trees_left};
+ghost use Rattle.mailparse.specs.Views.{disposition, tree_of, trees_left};
 
 mod delimiters;
 mod parts;
+mod types;
 
 use crate::body::Body;
-use crate::content_type::{ParsedContentType, parse_content_type};
+use crate::content_type::ParsedContentType;
 use crate::disposition::{ParsedContentDisposition, parse_content_disposition};
 use crate::error::MailParseError;
 use crate::header::MailHeader;
@@ -22,7 +23,7 @@ use delimiters::{cut_body, cut_part};
 pub use parts::PartsIterator;
 use parts::push_parts;
 use std::alloc::Global;
-use std::collections::BTreeMap;
+use types::{delimiter_line, is_digest, node_type};
 
 /// How many levels of parts may stand below a message: parts inside parts.
 const MAX_LEVELS: u8 = 100;
@@ -57,7 +58,8 @@ impl<'a> ParsedMail<'a> {
     /// `Content-Transfer-Encoding` names, in any case, and otherwise `7bit`. Nothing is decoded yet.
     /// The one error is that memory ran out.
     pub fn get_body_encoded(&self, alloc: Global) -> Result<Body<'_>, MailParseError>
-        ensures body { IfOk result (IsBody (body_kind (root (tree_of self.now))) (content_of (root (tree_of self.now)))) }
+        ensures body { let node = root (tree_of self.now) in
+            IfOk result (IsBody (body_kind node) (content_of node)) }
         ensures fault { IfErr result IsMemory }
     {
         let mut encoding = self
@@ -147,7 +149,8 @@ impl<'a> ParsedMail<'a> {
 #[tactic(auto, unfolding(crate::specs::Mail::read_mail, crate::specs::Mail::read_mail_in))]
 pub fn parse_mail(alloc: Global, raw: &[u8]) -> Result<ParsedMail<'_>, MailParseError>
     ensures read { AnswersOrMemory tree_of result (read_mail raw.now) }
-    ensures no_memory { header_count raw.now ≡ 0 → IsErr (read_headers raw.now) → Answers tree_of result (read_mail raw.now) }
+    ensures no_memory { header_count raw.now ≡ 0 → IsErr (read_headers raw.now) →
+        Answers tree_of result (read_mail raw.now) }
 {
     parse_mail_recursive(alloc, raw, false, MAX_LEVELS + 1)
 }
@@ -196,63 +199,4 @@ fn parse_mail_recursive(
         body_bytes: &raw[index..end],
         subparts,
     })
-}
-
-/// The type of a message with these headers: what its first `Content-Type` says, and otherwise the
-/// type of a part without one. The error is that memory ran out.
-fn node_type(
-    alloc: Global,
-    headers: &Vec<MailHeader<'_>>,
-    in_digest: bool,
-) -> Result<ParsedContentType, MailParseError>
-    ensures { AnswersOrMemory content_type result (Ok (node_type four_charsets in_digest headers.now.items)) }
-{
-    match headers.get_first_value(alloc, "Content-Type")? {
-        Some(value) => parse_content_type(alloc, value.as_str()),
-        None => part_type(alloc, in_digest),
-    }
-}
-
-/// The type of a part without one of its own: plain text, and a message in a digest. The error is
-/// that memory ran out.
-fn part_type(alloc: Global, in_digest: bool) -> Result<ParsedContentType, MailParseError>
-    ensures { AnswersOrMemory content_type result (Ok (part_type in_digest)) }
-{
-    if !in_digest {
-        return ParsedContentType::default(alloc);
-    }
-    Ok(ParsedContentType {
-        mimetype: String::from_str(alloc, "message/rfc822")?,
-        charset: String::from_str(alloc, "us-ascii")?,
-        params: BTreeMap::new(alloc),
-    })
-}
-
-/// Whether the parts of this type are messages where nothing else is said.
-fn is_digest(ctype: &ParsedContentType) -> bool
-    ensures { result ≡ is_digest (content_type ctype.now) }
-{
-    ctype.mimetype.as_str() == "multipart/digest"
-}
-
-/// A LF, and then what the delimiters between the parts of this type begin with, if there may be
-/// parts. The error is that memory ran out.
-fn delimiter_line(
-    alloc: Global,
-    ctype: &ParsedContentType,
-) -> Result<Option<Vec<u8>>, MailParseError>
-    ensures line { IfOk result (λ line. option_map (λ l. l.items) line
-        ≡ option_map (λ d. 10 ∷ d) (delimiter_of (content_type ctype.now))) }
-    ensures fault { IfErr result IsMemory }
-{
-    if !ctype.mimetype.starts_with("multipart") {
-        return Ok(None);
-    }
-    let Some(boundary) = ctype.params.get("boundary") else {
-        return Ok(None);
-    };
-    let mut line = Vec::with_capacity(alloc, 3 + boundary.len())?;
-    line.extend_from_slice(b"\n--")?;
-    line.extend_from_slice(boundary.as_bytes())?;
-    Ok(Some(line))
 }

@@ -77,7 +77,7 @@ parts_apart-from d bytes (suc n) from s gap within fuel =
   where
     rest : (o : Option ℕ) → next_part d bytes s ≡ o
         → ((next : ℕ) → end_from d bytes s (length bytes) + suc (length d) ≤ next → next ≤ length bytes → length bytes - next < n
-            → Apart (suc (length d)) (end_from d bytes s (length bytes)) (part_ranges d bytes (Some next)) (length bytes))
+        → Apart (suc (length d)) (end_from d bytes s (length bytes)) (part_ranges d bytes (Some next)) (length bytes))
         → Apart (suc (length d)) (end_from d bytes s (length bytes)) (part_ranges d bytes o) (length bytes)
     rest None e ih =
         subst (λ (rs : List Range). Apart (suc (length d)) (end_from d bytes s (length bytes)) rs (length bytes)) (sym (part_ranges-none d bytes))

@@ -1,8 +1,8 @@
 -- Lemmas on what a call answered beside what a definition gives.
-use Rattle.std.proofs.Common.{◌≡◌, Option, Some, None, Result, Ok, Err, IfOk, IfErr, sym, ap, subst}
+use Rattle.std.proofs.Common.{◌≡◌, Option, Some, None, Result, Ok, Err, subst}
 use Rattle.std.specs.Cow.{cow_str_bytes}
 use Rattle.mailparse.specs.Refusal.{Refusal, generic, encoding, base64_fault}
-use Rattle.mailparse.specs.Outcome.{refusal_of, Refuses, IsRefusal, IsRefusalOrMemory, IsMemory, AnswersOrMemory}
+use Rattle.mailparse.specs.Outcome.{refusal_of, Refuses, IsRefusal, IsRefusalOrMemory, AnswersOrMemory}
 use Rattle.mailparse.specs.declared.error.MailParseError.{MailParseError}
 use Rattle.mailparse.specs.declared.error.MailParseError.TheVariants.{QuotedPrintableDecodeError, Base64DecodeError, EncodingError, Generic, Memory}
 
@@ -32,17 +32,3 @@ IsRefusalOrMemory-from (Memory e) x h = absurd h
 -- what an exact answer that is a value was given by
 pub AnswersOrMemory-ok : {X Y : Type 0} (view : X → Y) (result : Result X MailParseError) (given : Result Y Refusal) (x : X) → result ≡ Ok x → AnswersOrMemory view result given → given ≡ Ok (view x)
 AnswersOrMemory-ok {X = X} {Y = Y} view result given x e h = subst (λ (r : Result X MailParseError). AnswersOrMemory view r given) e h
-
--- memory that ran out is no refusal
-pub IsRefusalOrMemory-memory : {Y : Type 0} (e : MailParseError) (y : Result Y Refusal) → IsMemory e → IsRefusalOrMemory e y
-IsRefusalOrMemory-memory (QuotedPrintableDecodeError fault) y h = absurd h
-IsRefusalOrMemory-memory (Base64DecodeError fault) y h = absurd h
-IsRefusalOrMemory-memory (EncodingError text) y h = absurd h
-IsRefusalOrMemory-memory (Generic text) y h = absurd h
-IsRefusalOrMemory-memory (Memory e) y h = tt
-
--- a call that gives what the definition gives, or runs out of memory
-pub AnswersOrMemory-from : {X Y : Type 0} (view : X → Y) (result : Result X MailParseError) (y : Y) → IfOk result (λ x. view x ≡ y) → IfErr result IsMemory
-    → AnswersOrMemory view result (Ok y)
-AnswersOrMemory-from view (Ok x) y ok err = sym (ap Ok ok)
-AnswersOrMemory-from view (Err e) y ok err = IsRefusalOrMemory-memory e (Ok y) err

@@ -66,7 +66,8 @@ fn find_delimiter(raw: &[u8], start: usize, line: &[u8]) -> Option<usize>
     requires line { IsDelimiterLine line.now }
     requires within { start ≤ length raw.now }
     ensures least { result ≡ delimiter_from (drop 1 line.now) raw.now start }
-    ensures bounds { IfSome result (λ at. (start ≤ at) × (at + length (drop 1 line.now) ≤ length raw.now)) }
+    ensures bounds { IfSome result (λ at.
+        (start ≤ at) × (at + length (drop 1 line.now) ≤ length raw.now)) }
 {
     let delimiter = &line[1..];
     if find_byte(delimiter, b'\n').is_none() {
@@ -91,7 +92,8 @@ fn find_from_u8_line_prefix(line: &[u8], ix_start: usize, key: &[u8]) -> Option<
     requires some { 0 < length key.now }
     requires within { ix_start ≤ length line.now }
     ensures least { result ≡ delimiter_from key.now line.now ix_start }
-    ensures bounds { IfSome result (λ at. (ix_start ≤ at) × (at + length key.now ≤ length line.now)) }
+    ensures bounds { IfSome result (λ at.
+        (ix_start ≤ at) × (at + length key.now ≤ length line.now)) }
 {
     let mut from = ix_start;
     while let Some(at) = find_from_u8(line, from, &key[..1]) {
@@ -110,7 +112,8 @@ fn find_from_u8_line_prefix(line: &[u8], ix_start: usize, key: &[u8]) -> Option<
 fn find_from_u8(line: &[u8], ix_start: usize, key: &[u8]) -> Option<usize>
     requires some { 0 < length key.now }
     requires within { ix_start ≤ length line.now }
-    ensures least { result ≡ option_map (λ k. ix_start + k) (text_place (drop ix_start line.now) key.now) }
+    ensures least { result
+        ≡ option_map (λ k. ix_start + k) (text_place (drop ix_start line.now) key.now) }
     ensures bounds { IfSome result (λ at. (ix_start ≤ at) × (at < length line.now)) }
 {
     let place = find(&line[ix_start..], key)?;

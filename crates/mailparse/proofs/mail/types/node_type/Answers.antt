@@ -5,7 +5,7 @@ use Rattle.mailparse.specs.Keys.{text_found}
 use Rattle.mailparse.specs.Outcome.{AnswersOrMemory}
 use Rattle.mailparse.specs.Views.{content_type}
 use Rattle.mailparse.proofs.lemmas.NodeType.{node_type-found}
-use Rattle.mailparse.proofs.mail.node_type.Goals as goal
+use Rattle.mailparse.proofs.mail.types.node_type.Goals as goal
 
 pub returns-in-Some : goal.returns-in-Some
 returns-in-Some c =
