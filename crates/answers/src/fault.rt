@@ -14,7 +14,7 @@ pub enum LineFault {
     /// A field of the question is absent, empty, or of another form.
     #[error("not the fields of this call")]
     Fields,
-    /// A field is no hexadecimal text.
+    /// A field is not hexadecimal.
     #[error("{0}")]
     Hex(FromHexError),
     /// The library refuses what it has to read.

@@ -13,7 +13,7 @@ use Rattle.mail_codec.specs.Places.{trimmed_at_start, trimmed_at_end}
 use Rattle.mail_codec.specs.declared.charset.Charset.{Charset}
 use Rattle.mail_codec.specs.declared.charset.Charset.TheVariants.{Utf8, Windows1252, Utf16Le, Utf16Be}
 
--- the character that stands for what is no character
+-- the character that stands for what is not a character
 abbrev pub replacement : ℕ
 replacement = 0xFFFD
 

@@ -1,4 +1,4 @@
--- Quoted-printable (RFC 2045, section 6.7), read so that no text is refused: what is no escape
+-- Quoted-printable (RFC 2045, section 6.7), read so that no text is refused: what is not an escape
 -- stays as it is, which is this crate's own rule.
 use Rattle.std.specs.Prelude.{◌≡◌, ℕ, ◌+◌, ◌-◌, ◌*◌, ◌==◌, Bool, false, ◌||◌, if◌then◌else◌, ◌⊎◌, ◌≢◌, List, [], ◌∷◌, ◌++◌, length, take, All, Option, Some, None}
 use Rattle.std.specs.Int.{is_in_range}

@@ -44,7 +44,7 @@ impl Charset {
     /// The text of the bytes in this charset, or in the one whose byte order mark they begin with:
     /// a mark is removed, and overrules the charset (the WHATWG Encoding Standard, section 6).
     ///
-    /// What is no character reads as U+FFFD. The error comes where memory runs out.
+    /// What is not a character reads as U+FFFD. The error comes where memory runs out.
     ///
     /// `Charset::Windows1252.decode(alloc, b"\xEF\xBB\xBFa")` is `a`.
     pub fn decode(self, alloc: Global, bytes: &[u8]) -> Result<String, AllocError>
@@ -59,7 +59,7 @@ impl Charset {
     /// The text of the bytes in this charset, a byte order mark read as any other bytes are (the
     /// WHATWG Encoding Standard, sections 8, 9.1 and 14).
     ///
-    /// What is no character reads as U+FFFD. The error comes where memory runs out.
+    /// What is not a character reads as U+FFFD. The error comes where memory runs out.
     ///
     /// `Charset::Utf16Be.decode_without_bom_handling(alloc, b"\0a\0")` is `a` and U+FFFD.
     pub fn decode_without_bom_handling(

@@ -5,3 +5,4 @@ pub mod Boundaries
 pub mod WordTokens
 pub mod Days
 pub mod Ids
+pub mod IdLists

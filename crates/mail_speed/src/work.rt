@@ -26,10 +26,10 @@ pub enum Work {
 /// Why a work was not done.
 #[derive(Debug, Drop, Error)]
 pub enum WorkFault {
-    /// The input is no Base64.
-    #[error("the input is no Base64")]
+    /// The input is not Base64.
+    #[error("the input is not Base64")]
     Base64,
-    /// The input is no message, or memory ran out.
+    /// The message is refused, or memory ran out.
     #[error("{0}")]
     Mail(MailParseError),
     /// Memory ran out.

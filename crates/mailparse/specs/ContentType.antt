@@ -11,11 +11,11 @@ pub record ContentType : Type 0 where
   pub charset : List ℕ
   pub params : Texts
 
--- the charset where nothing says it
+-- the charset if none is given
 abbrev pub default_charset : List ℕ
 default_charset = codes "us-ascii"
 
--- the type where nothing says it: plain text in US-ASCII, without parameters
+-- the type if none is given: plain text in US-ASCII, without parameters
 abbrev pub default_type : ContentType
 default_type = record { mimetype = codes "text/plain"; charset = default_charset; params = no_texts }
 

@@ -50,7 +50,7 @@ number_below limit word =
     if not (is_empty digits) && (all_ascii_digits digits && nat_lt (digits_value 10 digits) limit)
     then Some (digits_value 10 digits) else None
 
--- a number that 32 bits hold beside its sign
+-- a number that 32 bits hold, its sign among them
 abbrev pub fits_32_bits : ℤ → Bool
 fits_32_bits (pos n) = nat_lt n (2 ^ 31)
 fits_32_bits (negsuc n) = nat_lt n (2 ^ 31)
@@ -107,14 +107,15 @@ months =
 unfoldable pub month_of : List ℕ → Result ℕ Refusal
 month_of word = ok_or (look_up months word) unrecognized_month
 
--- the year that a number writes: below 70 it is of the years from 2000, below 100 of those from 1900; from there up to
--- 1969 there is none
+-- the year that a number writes: below 70 it is of the years from 2000, below 100 of those from 1900; from 100
+-- to 1969 it is refused
 abbrev pub year_of_number : ℕ → Result ℕ Refusal
 year_of_number n =
     if nat_lt n 70 then Ok (2000 + n) else
     if nat_lt n 100 then Ok (1900 + n) else
     if nat_lt n 1970 then Err disallowed_year else Ok n
 
+-- the year of a number, if there is one
 abbrev pub year_if_read : Option ℕ → Result ℕ Refusal
 year_if_read None = Err invalid_year
 year_if_read (Some n) = year_of_number n
@@ -123,6 +124,7 @@ year_if_read (Some n) = year_of_number n
 unfoldable pub year_of : List ℕ → Result ℕ Refusal
 year_of word = year_if_read (number_below (2 ^ 32) word)
 
+-- so far west of Greenwich
 abbrev pub west : ℕ → ℤ
 west size = neg_ℤ (pos size)
 
@@ -139,10 +141,11 @@ zones =
     ∷ (codes "R", pos 500) ∷ (codes "S", pos 600) ∷ (codes "T", pos 700) ∷ (codes "U", pos 800)
     ∷ (codes "V", pos 900) ∷ (codes "W", pos 1000) ∷ (codes "X", pos 1100) ∷ (codes "Y", pos 1200) ∷ []
 
--- a zone is at most 24 hours from Greenwich
+-- a zone that is a number lies from -2400 to 2400
 abbrev pub zone_of_number : ℤ → Result ℤ Refusal
 zone_of_number zone = if nat_le (unsigned_abs zone) 2400 then Ok zone else Err invalid_zone
 
+-- the zone of a number, or of a name where there is no number
 abbrev pub zone_if_read : Option ℤ → List ℕ → Result ℤ Refusal
 zone_if_read (Some z) word = zone_of_number z
 zone_if_read None word = ok_or (look_up zones word) invalid_zone
@@ -155,7 +158,7 @@ zone_of word = zone_if_read (signed_number word) word
 abbrev pub zone_size : ℕ → ℕ
 zone_size n = 3600 * (n / 100) + 60 * (n % 100)
 
--- what a zone adds to the seconds: time in the east is earlier
+-- what a zone adds to the seconds: clocks in the east are ahead, so their zone is taken away
 abbrev pub zone_seconds : ℤ → ℤ
 zone_seconds (pos n) = neg_ℤ (pos (zone_size n))
 zone_seconds (negsuc n) = pos (zone_size (suc n))

@@ -11,7 +11,7 @@ pub data Kind : Type 0 where
   inline attachment form_data : Kind
   extension : List ℕ → Kind
 
--- the kinds that have names
+-- the kind is not an extension
 abbrev pub IsNamed : Kind → Type 0
 IsNamed (extension name) = ⊥
 IsNamed _ = Unit {0}
@@ -21,7 +21,7 @@ pub record Disposition : Type 0 where
   pub kind : Kind
   pub params : Texts
 
--- the disposition where nothing says it
+-- the disposition if none is given
 abbrev pub default_disposition : Disposition
 default_disposition = record { kind = inline; params = no_texts }
 

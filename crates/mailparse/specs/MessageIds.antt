@@ -30,7 +30,7 @@ abbrev pub with_id : List ℕ → Result (List (List ℕ)) Refusal → Result (L
 with_id id (Ok ids) = Ok (id ∷ ids)
 with_id id (Err refusal) = Err refusal
 
--- what stands after the last `>` is white
+-- what follows the last `>`: no ids if it is white, otherwise a refusal
 abbrev pub ids_at_end : List ℕ → Result (List (List ℕ)) Refusal
 ids_at_end bytes =
     if is_empty (trim_start bytes) then Ok [] else
@@ -43,7 +43,7 @@ ids_of_pieces (last ∷ []) = ids_at_end last
 ids_of_pieces (piece ∷ next ∷ more) =
     if opens_id piece then with_id (id_of_piece piece) (ids_of_pieces (next ∷ more)) else Err id_not_opened
 
--- the ids of a text, or the refusal at the first place where it is none
+-- the ids of a text, or the refusal at the first place that breaks the form
 unfoldable pub message_ids : List ℕ → Result (List (List ℕ)) Refusal
 message_ids text = ids_of_pieces (slice_split is_closing text)
 

@@ -1,5 +1,5 @@
--- The value and the pairs of a text that has parameters: RFC 2045, section 5.1, as this crate reads it. Keys are compared
--- ignoring ASCII case, and of equal keys the last one counts.
+-- The value and the pairs of a text that has parameters: RFC 2045, section 5.1, as this crate reads it. Keys are put
+-- into ASCII lower case, and of equal keys the last one counts.
 use Rattle.std.specs.Prelude.{◌≡◌, ℕ, Bool, ◌==◌, nat_lt, List, [], ◌∷◌, length, drop, flat_map, Option, Some, None, option_map, option_to_list, String, string_bytes, if◌then◌else◌}
 use Rattle.std.specs.BTreeMap.{BTreeMap, get_by_text}
 use Rattle.std.specs.List.{position_or_len, before_first, after_first}
@@ -15,7 +15,7 @@ Texts = List ℕ → Option (List ℕ)
 abbrev pub no_texts : Texts
 no_texts name = None
 
--- what a map has by name
+-- the text under a name in a map
 abbrev pub text_at : {Y Z : Type 0} → BTreeMap (String Y) (String Z) → Texts
 text_at m name = option_map string_bytes (get_by_text m name)
 
@@ -27,6 +27,7 @@ HasTexts m texts = (name : List ℕ) → text_at m name ≡ texts name
 abbrev pub last_of : List (List ℕ × List ℕ) → Texts
 last_of pairs = update_all bytes_eq no_texts pairs
 
+-- a `=`
 abbrev pub is_equals : ℕ → Bool
 is_equals b = b == 61
 

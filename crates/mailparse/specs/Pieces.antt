@@ -48,7 +48,7 @@ pub data ArePieces : List ℕ → List (List ℕ) → Type 0 where
   more_pieces : {piece rest text : List ℕ} {more : List (List ℕ)} → IsPiece true piece → ArePieces rest more
       → text ≡ piece ++ semicolon ∷ rest → ArePieces text (piece ∷ more)
 
--- ---- the same as a function, which contracts cite
+-- ---- the same as a function, which contracts cite; exactly this list fits the grammar, as the law `one_list_of_pieces_fits` says
 
 -- how a byte stands: outside of quoted runs, within one, or within one directly after a `\` that escapes it
 pub data Within : Type 0 where

@@ -21,8 +21,8 @@ use words::next_word;
 /// of two digits is a year from 1970 to 2069. It takes no memory.
 ///
 /// The error is a `Generic`: `Invalid day` for a day that is not 1 to 31, `Unrecognized month`,
-/// `Invalid year` for one that is no number below 2^32, `Disallowed year` for one from 100 to 1969,
-/// `Invalid hour`, `Invalid minute` and `Invalid second` for one that is no number below 256, and
+/// `Invalid year` for one that is not a number below 2^32, `Disallowed year` for one from 100 to 1969,
+/// `Invalid hour`, `Invalid minute` and `Invalid second` for one that is not a number below 256, and
 /// `Invalid timezone` for a zone that is neither a number from -2400 to 2400 nor a name. The first
 /// invalid word counts.
 ///

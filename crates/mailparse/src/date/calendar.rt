@@ -2,7 +2,7 @@
 ghost use Rattle.std.specs.Prelude.{◌≡◌, ◌≤◌, ◌<◌, ◌*◌, ◌^◌, take, sum, pos};
 ghost use Rattle.mailparse.specs.Date.{day_number, days_of_years, is_leap_year, month_lengths};
 
-/// The days of the months before each month, in a year that is no leap year.
+/// The days of the months before each month, in a common year.
 static DAYS_BEFORE: [u64; 12] = [0, 31, 59, 90, 120, 151, 181, 212, 243, 273, 304, 334];
 
 /// The days from 1 January 1970 to a day; months count from 0.

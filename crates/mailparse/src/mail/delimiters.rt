@@ -39,23 +39,23 @@ pub(super) fn cut_part(raw: &[u8], start: usize, line: &[u8]) -> (usize, Option<
         return (raw.len(), None);
     };
     let end = before_line_end(raw, start, at);
-    let behind = at + (line.len() - 1);
-    if is_last(raw, behind) {
+    let after = at + (line.len() - 1);
+    if is_last(raw, after) {
         return (end, None);
     }
-    (end, line_after(raw, behind))
+    (end, line_after(raw, after))
 }
 
-/// Whether the delimiter that ends at `behind` is the last: fewer than two bytes follow it, or `--`
+/// Whether the delimiter that ends at `after` is the last: fewer than two bytes follow it, or `--`
 /// does.
-fn is_last(raw: &[u8], behind: usize) -> bool
-    requires { behind ≤ length raw.now }
-    ensures { (at : ℕ) (d : List ℕ) → at + length d ≡ behind → result ≡ is_last d raw.now at }
+fn is_last(raw: &[u8], after: usize) -> bool
+    requires { after ≤ length raw.now }
+    ensures { (at : ℕ) (d : List ℕ) → at + length d ≡ after → result ≡ is_last d raw.now at }
 {
-    if raw.len() - behind < 2 {
+    if raw.len() - after < 2 {
         return true;
     }
-    raw[behind..].starts_with(b"--")
+    raw[after..].starts_with(b"--")
 }
 
 /// The place of the first delimiter at or after `start`, where `start` counts as the start of a line.
