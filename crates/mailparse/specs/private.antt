@@ -1,3 +1,4 @@
 -- Words that private functions alone need; no public clause speaks of them.
 pub mod Cuts
 pub mod Unfolding
+pub mod StarredKeys

@@ -8,6 +8,7 @@ mod header;
 pub mod headers;
 mod lossy_text;
 mod mail;
+mod parameters;
 
 pub use content_type::ParsedContentType;
 pub use error::{Base64Fault, MailParseError, QuotedPrintableFault, Wrapped};

@@ -1,0 +1,54 @@
+-- What the readers of starred keys hold; private to them.
+use Rattle.std.specs.Prelude.{ℕ, suc, zero, Bool, ◌&&◌, ◌+◌, ◌-◌, nat_eq, List, [], ◌∷◌, take, length, slice_index_or, Option, None, option_map, String, string_bytes, if◌then◌else◌}
+use Rattle.std.specs.BTreeMap.{BTreeMap, get_by_text}
+use Rattle.std.specs.Global.{Global}
+use Rattle.std.specs.List.{filter, flat_map, starts_with, ends_with}
+use Rattle.std.specs.Option.{is_some}
+use Rattle.mail_codec.specs.Charset.{charset_of_label, text_of}
+use Rattle.mail_codec.specs.declared.charset.Charset.{Charset}
+use Rattle.mailparse.specs.Continuations as joined
+use Rattle.mailparse.specs.Continuations.{numbered}
+use Rattle.mailparse.specs.Pairs.{Texts}
+use Rattle.mailparse.specs.StarredKeys.{is_waiting, label_in, starred}
+use Rattle.mailparse.specs.declared.parameters.starred.Part.{Part}
+use Rattle.mailparse.specs.declared.parameters.starred.Part.TheVariants as code
+use Rattle.mailparse.specs.declared.parameters.starred.waiting.Waiting.{Waiting}
+
+-- a part of the code, as the definitions have it
+abbrev pub part_view : Part → joined.Part
+part_view (code.Text t) = joined.text (string_bytes t)
+part_view (code.Octets charset bytes) = joined.octets (text_of charset) bytes.items
+
+-- what a map of parts has at a name
+abbrev pub parts_at : {Y : Type 0} → BTreeMap (String Y) Part → List ℕ → Option joined.Part
+parts_at m name = option_map part_view (get_by_text m name)
+
+-- what stands at a name whose extended value has these bytes
+abbrev pub extended_part : List ℕ → (List ℕ → List ℕ) → List ℕ → joined.Part
+extended_part name reading bytes = if is_some (numbered name) then joined.octets reading bytes else joined.text (reading bytes)
+
+-- an entry of a map of texts, by its bytes
+abbrev pub pair_view : String Global × String Global → List ℕ × List ℕ
+pair_view e = (string_bytes e.0, string_bytes e.1)
+
+-- a name that waits, by its bytes: the name, the value of its starred key and the charset that this names
+abbrev pub Found : Type 0
+Found = List ℕ × List ℕ × Option Charset
+
+abbrev pub waiting_view : Waiting → Found
+waiting_view w = (w.name.now, w.value.now, w.charset)
+
+-- the key of an entry without its last byte
+abbrev pub name_of_key : List ℕ × List ℕ → List ℕ
+name_of_key e = take (length e.0 - 1) e.0
+
+-- the name of an entry waits, if its key is that name with a star after it
+abbrev pub found_at : Texts → List ℕ × List ℕ → List Found
+found_at keys e =
+    if ends_with nat_eq e.0 (42 ∷ []) && is_waiting keys (name_of_key e)
+    then (name_of_key e, e.1, charset_of_label (label_in e.1)) ∷ []
+    else []
+
+-- the names that wait, in the order of the entries
+abbrev pub waiting_entries : Texts → List (List ℕ × List ℕ) → List Found
+waiting_entries keys entries = flat_map (found_at keys) entries

@@ -1,0 +1,3 @@
+//! The parameters of a header.
+mod continuations;
+mod starred;

@@ -1,0 +1,156 @@
+//! Values that are cut into numbered pieces (RFC 2231, section 3).
+ghost use Rattle.std.specs.Prelude.{◌≡◌, option_map};
+ghost use Rattle.mailparse.specs.Continuations.{numbered};
+
+mod joining;
+
+use self::joining::Joining;
+use super::starred::{Part, parts_of};
+use crate::error::MailParseError;
+use std::alloc::{AllocError, Global};
+use std::collections::BTreeMap;
+
+/// The base and the number of a name: what stands before its last star, and the number after it.
+pub(super) fn numbered(name: &str) -> Option<(&str, u64)>
+    ensures { option_map (λ n. (n.0.now, n.1)) result ≡ numbered name.now }
+{
+    let (base, text) = name.rsplit_once('*')?;
+    match text.parse::<u64>() {
+        Ok(number) => Some((base, number)),
+        Err(_) => None,
+    }
+}
+
+/// The text that the pieces of a base make, and their number.
+#[derive(Drop)]
+struct Joined {
+    text: String,
+    count: u64,
+}
+
+/// Joins the pieces of a base.
+fn join(
+    alloc: Global,
+    parts: &BTreeMap<String, Part>,
+    base: &str,
+) -> Result<Joined, AllocError>
+{
+    let mut joining = Joining::new(alloc);
+    let mut count: u64 = 0;
+    while count < u64::MAX {
+        let name = format!(in alloc; "{base}*{count}")?;
+        let Some(part) = parts.get(name.as_str()) else {
+            return Ok(Joined {
+                text: joining.finish(alloc)?,
+                count,
+            });
+        };
+        joining.push(alloc, part)?;
+        count += 1;
+    }
+    Ok(Joined {
+        text: joining.finish(alloc)?,
+        count,
+    })
+}
+
+/// The bases: the text of each, and the number of its pieces.
+#[derive(Drop)]
+struct Bases {
+    texts: BTreeMap<String, String>,
+    counts: BTreeMap<String, u64>,
+}
+
+/// Whether a text stands at a name.
+fn has_text(parts: &BTreeMap<String, Part>, name: &str) -> bool
+{
+    matches!(parts.get(name), Some(Part::Text(_)))
+}
+
+/// The base of a name with the number 0, if no text stands there.
+fn first_base<'n>(parts: &BTreeMap<String, Part>, name: &'n str) -> Option<&'n str>
+{
+    let (base, number) = numbered(name)?;
+    if number != 0 {
+        return None;
+    }
+    if has_text(parts, base) {
+        return None;
+    }
+    Some(base)
+}
+
+/// Joins the pieces of each base.
+fn bases_of(alloc: Global, parts: &BTreeMap<String, Part>) -> Result<Bases, AllocError>
+{
+    let mut texts = BTreeMap::new(alloc);
+    let mut counts = BTreeMap::new(alloc);
+    for (name, _) in parts {
+        if let Some(base) = first_base(parts, name.as_str()) {
+            if !counts.contains_key(base) {
+                let joined = join(alloc, parts, base)?;
+                texts.insert(String::from_str(alloc, base)?, joined.text)?;
+                counts.insert(String::from_str(alloc, base)?, joined.count)?;
+            }
+        }
+    }
+    Ok(Bases { texts, counts })
+}
+
+/// Whether a name is that of a piece that was joined.
+fn is_used(
+    alloc: Global,
+    counts: &BTreeMap<String, u64>,
+    name: &str,
+) -> Result<bool, AllocError>
+{
+    let Some((base, number)) = numbered(name) else {
+        return Ok(false);
+    };
+    let Some(count) = counts.get(base) else {
+        return Ok(false);
+    };
+    if number >= *count {
+        return Ok(false);
+    }
+    let piece = format!(in alloc; "{base}*{number}")?;
+    Ok(piece.as_str() == name)
+}
+
+/// The text of a part alone.
+fn text_alone(alloc: Global, part: &Part) -> Result<String, AllocError>
+{
+    match part {
+        Part::Text(text) => Ok(text.clone()?),
+        Part::Octets(charset, bytes) => {
+            charset.decode_without_bom_handling(alloc, bytes.as_slice())
+        }
+    }
+}
+
+/// The texts of the bases, and those of the parts that were not joined.
+fn left_and_joined(
+    alloc: Global,
+    parts: &BTreeMap<String, Part>,
+) -> Result<BTreeMap<String, String>, AllocError>
+{
+    let bases = bases_of(alloc, parts)?;
+    let mut texts = bases.texts;
+    for (name, part) in parts {
+        if !is_used(alloc, &bases.counts, name.as_str())? {
+            texts.insert(name.clone()?, text_alone(alloc, part)?)?;
+        }
+    }
+    Ok(texts)
+}
+
+/// The parameters that pairs of a key and a value give: extended values are read, and pieces are
+/// joined. The one error is that memory runs out.
+pub(crate) fn resolve(
+    alloc: Global,
+    pairs: &BTreeMap<String, String>,
+) -> Result<BTreeMap<String, String>, MailParseError>
+{
+    let parts = parts_of(alloc, pairs)?;
+    Ok(left_and_joined(alloc, &parts)?)
+}
