@@ -10,3 +10,4 @@ pub mod Unfolding
 pub mod Value
 pub mod Plain
 pub mod Lines
+pub mod Numbers

@@ -2,3 +2,4 @@
 pub mod Cuts
 pub mod Unfolding
 pub mod StarredKeys
+pub mod Deciders
