@@ -11,3 +11,4 @@ pub mod Value
 pub mod Plain
 pub mod Lines
 pub mod Numbers
+pub mod StarredKeys

@@ -1,6 +1,6 @@
 -- Values that are cut into numbered pieces, `name*0`, `name*1` and so on (RFC 2231, section 3), and the parameters that pairs give
 -- in the end. How pieces of several charsets join is this project's own choice.
-use Rattle.std.specs.Prelude.{ℕ, zero, suc, Bool, true, false, not, ◌&&◌, ◌==◌, ◌^◌, ◌-◌, nat_lt, List, [], ◌∷◌, ◌++◌, length, map, take, Option, Some, None, option_map, if◌then◌else◌}
+use Rattle.std.specs.Prelude.{ℕ, zero, suc, Bool, true, false, not, ◌&&◌, ◌==◌, ◌^◌, ◌-◌, nat_lt, List, [], ◌∷◌, ◌++◌, length, map, Option, Some, None, option_map, if◌then◌else◌}
 use Rattle.std.specs.Fmt.{decimal}
 use Rattle.std.specs.List.{before_last, after_last, flat_map, list_any}
 use Rattle.std.specs.Option.{is_some, option_map_or, option_or}
@@ -8,7 +8,7 @@ use Rattle.std.specs.Str.{bytes_eq, all_ascii_digits}
 use Rattle.std.specs.Str.Parse.{digits_value, without_leading_plus}
 use Rattle.mail_codec.specs.Charset.{Charsets, four_charsets}
 use Rattle.mailparse.specs.Pairs.{Texts, last_of}
-use Rattle.mailparse.specs.StarredKeys.{starred, octets_of, reading_of}
+use Rattle.mailparse.specs.StarredKeys.{is_starred, name_under, octets_of, reading_of}
 
 -- a star
 abbrev pub is_star : ℕ → Bool
@@ -100,7 +100,7 @@ joined_at at names name =
 
 -- the names at which something may stand: the keys, and the keys without their last byte
 abbrev pub names_of : List (List ℕ) → List (List ℕ)
-names_of keys = flat_map (λ key. key ∷ take (length key - 1) key ∷ []) keys
+names_of keys = flat_map (λ key. key ∷ name_under key ∷ []) keys
 
 -- Under the charsets that are known.
 module _ (known : Charsets) where
@@ -112,9 +112,7 @@ module _ (known : Charsets) where
 
   -- a key ends in a star and leaves the map, since its name waits and its label is known
   abbrev pub has_left : Texts → List ℕ → Bool
-  has_left keys key =
-      let name = take (length key - 1) key in
-      bytes_eq key (starred name) && is_some (reading_of known keys name)
+  has_left keys key = is_starred key && is_some (reading_of known keys (name_under key))
 
   -- what stands at a name once the starred keys are read
   unfoldable pub part_at : Texts → List ℕ → Option Part

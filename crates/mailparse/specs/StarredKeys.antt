@@ -1,6 +1,6 @@
 -- Keys that end in `*`: extended values, with a charset and percent pairs (RFC 2231, section 4). Which key says the charset where
 -- a value is cut into pieces is this project's own choice.
-use Rattle.std.specs.Prelude.{ℕ, Bool, not, ◌&&◌, ◌==◌, List, [], ◌∷◌, ◌++◌, map, Option, Some, None, if◌then◌else◌}
+use Rattle.std.specs.Prelude.{ℕ, ◌-◌, Bool, not, ◌&&◌, ◌==◌, List, [], ◌∷◌, ◌++◌, length, map, take, Option, Some, None, if◌then◌else◌}
 use Rattle.std.specs.Cmp.Lexicographic.{slice_cmp}
 use Rattle.std.specs.List.{before_first, after_first, filter}
 use Rattle.std.specs.Option.{is_some, unwrap_or}
@@ -17,6 +17,14 @@ is_apostrophe b = b == 39
 -- the key of a name's extended value: the name with a star after it
 abbrev pub starred : List ℕ → List ℕ
 starred name = name ++ 42 ∷ []
+
+-- a key less its last byte
+abbrev pub name_under : List ℕ → List ℕ
+name_under key = take (length key - 1) key
+
+-- a key ends in a star
+abbrev pub is_starred : List ℕ → Bool
+is_starred key = bytes_eq key (starred (name_under key))
 
 -- a name waits if it is no key, and with a star after it is one
 abbrev pub is_waiting : Texts → List ℕ → Bool

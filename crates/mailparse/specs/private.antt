@@ -3,3 +3,4 @@ pub mod Cuts
 pub mod Unfolding
 pub mod StarredKeys
 pub mod Deciders
+pub mod Continuations

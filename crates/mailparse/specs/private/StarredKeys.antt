@@ -1,15 +1,16 @@
 -- What the readers of starred keys hold; private to them.
-use Rattle.std.specs.Prelude.{ℕ, suc, zero, Bool, ◌&&◌, ◌+◌, ◌-◌, nat_eq, List, [], ◌∷◌, take, length, slice_index_or, Option, None, option_map, String, string_bytes, if◌then◌else◌}
+use Rattle.std.specs.Prelude.{ℕ, suc, zero, Bool, not, ◌&&◌, ◌+◌, ◌-◌, nat_eq, List, [], ◌∷◌, map, take, length, slice_index_or, Option, Some, None, option_map, String, string_bytes, if◌then◌else◌}
 use Rattle.std.specs.BTreeMap.{BTreeMap, get_by_text}
 use Rattle.std.specs.Global.{Global}
 use Rattle.std.specs.List.{filter, flat_map, starts_with, ends_with}
 use Rattle.std.specs.Option.{is_some}
+use Rattle.std.specs.Str.{bytes_eq}
 use Rattle.mail_codec.specs.Charset.{charset_of_label, text_of}
 use Rattle.mail_codec.specs.declared.charset.Charset.{Charset}
 use Rattle.mailparse.specs.Continuations as joined
 use Rattle.mailparse.specs.Continuations.{numbered}
 use Rattle.mailparse.specs.Pairs.{Texts}
-use Rattle.mailparse.specs.StarredKeys.{is_waiting, label_in, starred}
+use Rattle.mailparse.specs.StarredKeys.{is_starred, label_in, name_under}
 use Rattle.mailparse.specs.declared.parameters.starred.Part.{Part}
 use Rattle.mailparse.specs.declared.parameters.starred.Part.TheVariants as code
 use Rattle.mailparse.specs.declared.parameters.starred.waiting.Waiting.{Waiting}
@@ -38,17 +39,25 @@ Found = List ℕ × List ℕ × Option Charset
 abbrev pub waiting_view : Waiting → Found
 waiting_view w = (w.name.now, w.value.now, w.charset)
 
--- the key of an entry without its last byte
-abbrev pub name_of_key : List ℕ × List ℕ → List ℕ
-name_of_key e = take (length e.0 - 1) e.0
+-- a key less the star that it ends in
+abbrev pub star_taken : List ℕ → Option (List ℕ)
+star_taken key = if is_starred key then Some (name_under key) else None
 
--- the name of an entry waits, if its key is that name with a star after it
+-- the name of an entry, if its key ends in a star and the name is no key
 abbrev pub found_at : Texts → List ℕ × List ℕ → List Found
 found_at keys e =
-    if ends_with nat_eq e.0 (42 ∷ []) && is_waiting keys (name_of_key e)
-    then (name_of_key e, e.1, charset_of_label (label_in e.1)) ∷ []
+    if is_starred e.0 && not (is_some (keys (name_under e.0)))
+    then (name_under e.0, e.1, charset_of_label (label_in e.1)) ∷ []
     else []
 
 -- the names that wait, in the order of the entries
 abbrev pub waiting_entries : Texts → List (List ℕ × List ℕ) → List Found
 waiting_entries keys entries = flat_map (found_at keys) entries
+
+-- a key ends in a star, its name is no key, and something stands at it
+abbrev pub has_left_by : Texts → (List ℕ → Option joined.Part) → List ℕ → Bool
+has_left_by keys at key = is_starred key && (not (is_some (keys (name_under key))) && is_some (at (name_under key)))
+
+-- the names of some that wait
+abbrev pub names_of : List Waiting → List (List ℕ)
+names_of waiting = map (λ w. w.name.now) waiting

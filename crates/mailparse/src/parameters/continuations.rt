@@ -1,6 +1,11 @@
 //! Values that are cut into numbered pieces (RFC 2231, section 3).
-ghost use Rattle.std.specs.Prelude.{◌≡◌, option_map};
-ghost use Rattle.mailparse.specs.Continuations.{numbered};
+ghost use Rattle.std.specs.Prelude.{◌≡◌, ℕ, List, option_map, IfOk, IfErr, string_bytes};
+ghost use Rattle.std.specs.BTreeMap.{get_by_text};
+ghost use Rattle.mailparse.specs.Continuations.{alone, is_text, joined_at, numbered, parameters_of};
+ghost use Rattle.mailparse.specs.Outcome.{IsMemory};
+ghost use Rattle.mailparse.specs.Pairs.{last_of, text_at};
+ghost use Rattle.mailparse.specs.private.Continuations.{IsJoined, base_count, base_text, first_base_of, is_used_by, names_in};
+ghost use Rattle.mailparse.specs.private.StarredKeys.{part_view, parts_at};
 
 mod joining;
 
@@ -34,6 +39,7 @@ fn join(
     parts: &BTreeMap<String, Part>,
     base: &str,
 ) -> Result<Joined, AllocError>
+    ensures { IfOk result (IsJoined (parts_at parts.now) base.now) }
 {
     let mut joining = Joining::new(alloc);
     let mut count: u64 = 0;
@@ -63,12 +69,14 @@ struct Bases {
 
 /// Whether a text stands at a name.
 fn has_text(parts: &BTreeMap<String, Part>, name: &str) -> bool
+    ensures { result ≡ is_text (parts_at parts.now name.now) }
 {
     matches!(parts.get(name), Some(Part::Text(_)))
 }
 
 /// The base of a name with the number 0, if no text stands there.
 fn first_base<'n>(parts: &BTreeMap<String, Part>, name: &'n str) -> Option<&'n str>
+    ensures { option_map (λ base. base.now) result ≡ first_base_of (parts_at parts.now) name.now }
 {
     let (base, number) = numbered(name)?;
     if number != 0 {
@@ -82,6 +90,8 @@ fn first_base<'n>(parts: &BTreeMap<String, Part>, name: &'n str) -> Option<&'n s
 
 /// Joins the pieces of each base.
 fn bases_of(alloc: Global, parts: &BTreeMap<String, Part>) -> Result<Bases, AllocError>
+    ensures texts { IfOk result (λ bases. (q : List ℕ) → text_at bases.texts q ≡ base_text (parts_at parts.now) (names_in parts.now) q) }
+    ensures counts { IfOk result (λ bases. (q : List ℕ) → get_by_text bases.counts q ≡ base_count (parts_at parts.now) (names_in parts.now) q) }
 {
     let mut texts = BTreeMap::new(alloc);
     let mut counts = BTreeMap::new(alloc);
@@ -103,6 +113,7 @@ fn is_used(
     counts: &BTreeMap<String, u64>,
     name: &str,
 ) -> Result<bool, AllocError>
+    ensures { IfOk result (λ used. used ≡ is_used_by (get_by_text counts.now) name.now) }
 {
     let Some((base, number)) = numbered(name) else {
         return Ok(false);
@@ -119,6 +130,7 @@ fn is_used(
 
 /// The text of a part alone.
 fn text_alone(alloc: Global, part: &Part) -> Result<String, AllocError>
+    ensures { IfOk result (λ text. string_bytes text ≡ alone (part_view part.now)) }
 {
     match part {
         Part::Text(text) => Ok(text.clone()?),
@@ -133,6 +145,7 @@ fn left_and_joined(
     alloc: Global,
     parts: &BTreeMap<String, Part>,
 ) -> Result<BTreeMap<String, String>, AllocError>
+    ensures { IfOk result (λ texts. (q : List ℕ) → text_at texts q ≡ joined_at (parts_at parts.now) (names_in parts.now) q) }
 {
     let bases = bases_of(alloc, parts)?;
     let mut texts = bases.texts;
@@ -150,6 +163,8 @@ pub(crate) fn resolve(
     alloc: Global,
     pairs: &BTreeMap<String, String>,
 ) -> Result<BTreeMap<String, String>, MailParseError>
+    ensures parameters { IfOk result (λ texts. (ps : List (List ℕ × List ℕ)) → ((q : List ℕ) → text_at pairs.now q ≡ last_of ps q) → (q : List ℕ) → text_at texts q ≡ parameters_of ps q) }
+    ensures memory { IfErr result IsMemory }
 {
     let parts = parts_of(alloc, pairs)?;
     Ok(left_and_joined(alloc, &parts)?)

@@ -4,14 +4,14 @@ ghost use Rattle.mail_codec.specs.Charset.{four_charsets, text_of};
 ghost use Rattle.mailparse.specs.Continuations.{extended_at, part_at};
 ghost use Rattle.mailparse.specs.Pairs.{text_at};
 ghost use Rattle.mailparse.specs.StarredKeys.{text_in};
-ghost use Rattle.mailparse.specs.private.StarredKeys.{extended_part, part_view, parts_at};
+ghost use Rattle.mailparse.specs.private.StarredKeys.{extended_part, has_left_by, part_view, parts_at};
 ghost use Rattle.percent_encoding.specs.Percent.{percent_decode};
 
 mod deciders;
 mod waiting;
 
 use self::deciders::deciders;
-use self::waiting::waiting_names;
+use self::waiting::{waiting_names, without_star};
 use super::continuations::numbered;
 use mail_codec::charset::Charset;
 use percent_encoding::percent_decode;
@@ -96,8 +96,9 @@ fn has_left(
     parts: &BTreeMap<String, Part>,
     key: &str,
 ) -> bool
+    ensures { result ≡ has_left_by (text_at pairs.now) (parts_at parts.now) key.now }
 {
-    match key.strip_suffix('*') {
+    match without_star(key) {
         None => false,
         Some(name) => !pairs.contains_key(name) && parts.contains_key(name),
     }

@@ -1,5 +1,8 @@
 //! Which of the waiting names says the charset of each.
-ghost use Rattle.std.specs.Prelude.{◌<◌, length};
+ghost use Rattle.std.specs.Prelude.{◌≡◌, ◌≤◌, ◌<◌, ◌-◌, ℕ, length, map, nat_eq, slice_index_or, true, false, IfOk};
+ghost use Rattle.std.specs.List.{starts_with};
+ghost use Rattle.mailparse.specs.private.Deciders.{AreInOrder, decided, name_at};
+ghost use Rattle.mailparse.specs.private.StarredKeys.{names_of};
 
 use super::waiting::Waiting;
 use std::alloc::{AllocError, Global};
@@ -7,6 +10,9 @@ use std::alloc::{AllocError, Global};
 /// The first place from which on, up to a place, all names begin with the prefix.
 fn first_with(waiting: &[Waiting<'_>], place: usize, prefix: &[u8]) -> usize
     requires { place < length waiting.now }
+    ensures bound { result ≤ place }
+    ensures all { (k : ℕ) → result ≤ k → k < place → starts_with nat_eq (name_at (names_of waiting.now) k) prefix.now ≡ true }
+    ensures first { 0 < result → starts_with nat_eq (name_at (names_of waiting.now) (result - 1)) prefix.now ≡ false }
 {
     let mut first = place;
     while first > 0 {
@@ -21,6 +27,10 @@ fn first_with(waiting: &[Waiting<'_>], place: usize, prefix: &[u8]) -> usize
 /// The place before which, from after a place, all names begin with the prefix.
 fn end_with(waiting: &[Waiting<'_>], place: usize, prefix: &[u8]) -> usize
     requires { place < length waiting.now }
+    ensures bound { place < result }
+    ensures within { result ≤ length waiting.now }
+    ensures all { (k : ℕ) → place < k → k < result → starts_with nat_eq (name_at (names_of waiting.now) k) prefix.now ≡ true }
+    ensures last { result < length waiting.now → starts_with nat_eq (name_at (names_of waiting.now) result) prefix.now ≡ false }
 {
     let mut end = place + 1;
     while end < waiting.len() {
@@ -34,6 +44,8 @@ fn end_with(waiting: &[Waiting<'_>], place: usize, prefix: &[u8]) -> usize
 
 /// For each of some places the place itself.
 fn own_places(alloc: Global, count: usize) -> Result<Vec<usize>, AllocError>
+    ensures long { IfOk result (λ places. length places.items ≡ count) }
+    ensures own { IfOk result (λ places. (k : ℕ) → k < count → slice_index_or places.items k 0 ≡ k) }
 {
     let mut places = Vec::with_capacity(alloc, count)?;
     let mut place = 0;
@@ -49,6 +61,9 @@ pub(super) fn deciders(
     alloc: Global,
     waiting: &[Waiting<'_>],
 ) -> Result<Vec<usize>, AllocError>
+    ensures long { IfOk result (λ places. length places.items ≡ length waiting.now) }
+    ensures decided { AreInOrder (names_of waiting.now) → IfOk result (λ places. (k : ℕ) → k < length waiting.now →
+        slice_index_or places.items k 0 ≡ decided (names_of waiting.now) (length waiting.now) k) }
 {
     let mut places = own_places(alloc, waiting.len())?;
     let mut place = 0;

@@ -1,9 +1,9 @@
 //! The names that are no keys, and with a star after them are.
-ghost use Rattle.std.specs.Prelude.{◌≡◌, map, IfOk};
+ghost use Rattle.std.specs.Prelude.{◌≡◌, map, option_map, IfOk};
 ghost use Rattle.mail_codec.specs.Charset.{charset_of_label};
 ghost use Rattle.mailparse.specs.Pairs.{text_at};
 ghost use Rattle.mailparse.specs.StarredKeys.{label_in};
-ghost use Rattle.mailparse.specs.private.StarredKeys.{pair_view, waiting_entries, waiting_view};
+ghost use Rattle.mailparse.specs.private.StarredKeys.{pair_view, star_taken, waiting_entries, waiting_view};
 
 use mail_codec::charset::Charset;
 use std::alloc::{AllocError, Global};
@@ -18,6 +18,13 @@ pub(super) struct Waiting<'a> {
     pub(super) value: &'a str,
     /// The charset that this value names.
     pub(super) charset: Option<Charset>,
+}
+
+/// A key without the star that it ends in.
+pub(super) fn without_star(key: &str) -> Option<&str>
+    ensures { option_map (λ name. name.now) result ≡ star_taken key.now }
+{
+    key.strip_suffix('*')
 }
 
 /// The charset whose label stands before the first apostrophe of a value, or is the whole value where
@@ -41,7 +48,7 @@ pub(super) fn waiting_names<'a>(
 {
     let mut found = Vec::new(alloc);
     for (key, value) in pairs {
-        if let Some(name) = key.strip_suffix('*') {
+        if let Some(name) = without_star(key.as_str()) {
             if !pairs.contains_key(name) {
                 let charset = charset_in(value.as_str());
                 found.push(Waiting {
