@@ -1,6 +1,7 @@
 -- What the readers of starred keys hold; private to them.
 use Rattle.std.specs.Prelude.{ℕ, suc, zero, Bool, not, ◌&&◌, ◌+◌, ◌-◌, nat_eq, List, [], ◌∷◌, map, take, length, slice_index_or, Option, Some, None, option_map, String, string_bytes, if◌then◌else◌}
 use Rattle.std.specs.BTreeMap.{BTreeMap, get_by_text}
+use Rattle.std.specs.Borrow.{Bor}
 use Rattle.std.specs.Global.{Global}
 use Rattle.std.specs.List.{filter, flat_map, starts_with, ends_with}
 use Rattle.std.specs.Option.{is_some}
@@ -31,6 +32,10 @@ extended_part name reading bytes = if is_some (numbered name) then joined.octets
 -- an entry of a map of texts, by its bytes
 abbrev pub pair_view : String Global × String Global → List ℕ × List ℕ
 pair_view e = (string_bytes e.0, string_bytes e.1)
+
+-- an entry that a walk showed, by its bytes
+abbrev pub shown_view : Bor (String Global) × Bor (String Global) → List ℕ × List ℕ
+shown_view e = (string_bytes e.0.now, string_bytes e.1.now)
 
 -- a name that waits, by its bytes: the name, the value of its starred key and the charset that this names
 abbrev pub Found : Type 0
