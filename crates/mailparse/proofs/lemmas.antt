@@ -12,3 +12,5 @@ pub mod Plain
 pub mod Lines
 pub mod Numbers
 pub mod StarredKeys
+pub mod Deciders
+pub mod Joining

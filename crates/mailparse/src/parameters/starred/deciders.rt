@@ -7,6 +7,14 @@ ghost use Rattle.mailparse.specs.private.StarredKeys.{names_of};
 use super::waiting::Waiting;
 use std::alloc::{AllocError, Global};
 
+/// Whether the name at a place begins with the prefix.
+fn begins_with(waiting: &[Waiting<'_>], place: usize, prefix: &[u8]) -> bool
+    requires { place < length waiting.now }
+    ensures { result ≡ starts_with nat_eq (name_at (names_of waiting.now) place) prefix.now }
+{
+    waiting[place].name.as_bytes().starts_with(prefix)
+}
+
 /// The first place from which on, up to a place, all names begin with the prefix.
 fn first_with(waiting: &[Waiting<'_>], place: usize, prefix: &[u8]) -> usize
     requires { place < length waiting.now }
@@ -16,7 +24,7 @@ fn first_with(waiting: &[Waiting<'_>], place: usize, prefix: &[u8]) -> usize
 {
     let mut first = place;
     while first > 0 {
-        if !waiting[first - 1].name.as_bytes().starts_with(prefix) {
+        if !begins_with(waiting, first - 1, prefix) {
             return first;
         }
         first -= 1;
@@ -34,7 +42,7 @@ fn end_with(waiting: &[Waiting<'_>], place: usize, prefix: &[u8]) -> usize
 {
     let mut end = place + 1;
     while end < waiting.len() {
-        if !waiting[end].name.as_bytes().starts_with(prefix) {
+        if !begins_with(waiting, end, prefix) {
             return end;
         }
         end += 1;

@@ -7,10 +7,10 @@ use Rattle.mailparse.proofs.parameters.continuations.join.Given as goal
 
 abbrev pub invariant-loop-count : goal.invariant-loop-count
 invariant-loop-count l = record {
-  bound : l.count ≤ most_parts;
+  bound : l.count ≤ 18446744073709551615;
   text : joined_with l.joining (parts_from (parts_at l.parts) l.base (most_parts - l.count) l.count) ≡ joined (parts_of (parts_at l.parts) l.base);
   count : l.count + length (parts_from (parts_at l.parts) l.base (most_parts - l.count) l.count) ≡ length (parts_of (parts_at l.parts) l.base);
 }
 
-pub decreases-loop-count : goal.decreases-loop-count
-decreases-loop-count l = most_parts - l.count
+abbrev pub decreases-loop-count : goal.decreases-loop-count
+decreases-loop-count l = 18446744073709551615 - l.count

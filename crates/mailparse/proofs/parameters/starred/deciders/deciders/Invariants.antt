@@ -12,5 +12,5 @@ invariant-loop-place l = record {
   decided : AreInOrder (names_of l.waiting) → (k : ℕ) → k < length l.waiting → slice_index_or l.places.items k 0 ≡ decided (names_of l.waiting) l.place k;
 }
 
-pub decreases-loop-place : goal.decreases-loop-place
+abbrev pub decreases-loop-place : goal.decreases-loop-place
 decreases-loop-place l = length l.waiting - l.place

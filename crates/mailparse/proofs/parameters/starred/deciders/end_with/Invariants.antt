@@ -12,5 +12,5 @@ invariant-loop-end l = record {
   all : (k : ℕ) → l.place < k → k < l.end → starts_with nat_eq (name_at (names_of l.waiting) k) l.prefix ≡ true;
 }
 
-pub decreases-loop-end : goal.decreases-loop-end
+abbrev pub decreases-loop-end : goal.decreases-loop-end
 decreases-loop-end l = length l.waiting - l.end

@@ -11,5 +11,5 @@ invariant-loop-first l = record {
   all : (k : ℕ) → l.first ≤ k → k < l.place → starts_with nat_eq (name_at (names_of l.waiting) k) l.prefix ≡ true;
 }
 
-pub decreases-loop-first : goal.decreases-loop-first
+abbrev pub decreases-loop-first : goal.decreases-loop-first
 decreases-loop-first l = l.first

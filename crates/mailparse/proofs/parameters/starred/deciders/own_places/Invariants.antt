@@ -10,5 +10,5 @@ invariant-loop-place l = record {
   own : (k : ℕ) → k < l.place → slice_index_or l.places.items k 0 ≡ k;
 }
 
-pub decreases-loop-place : goal.decreases-loop-place
+abbrev pub decreases-loop-place : goal.decreases-loop-place
 decreases-loop-place l = l.count - l.place
