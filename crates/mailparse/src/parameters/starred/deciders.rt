@@ -1,7 +1,7 @@
 //! Which of the waiting names says the charset of each.
-ghost use Rattle.std.specs.Prelude.{◌≡◌, ◌≤◌, ◌<◌, ◌-◌, ℕ, length, map, nat_eq, slice_index_or, true, false, IfOk};
+ghost use Rattle.std.specs.Prelude.{◌≡◌, ◌≤◌, ◌<◌, ◌-◌, ℕ, length, map, nat_eq, slice_index_or, true, false, IfOk, if◌then◌else◌};
 ghost use Rattle.std.specs.List.{starts_with};
-ghost use Rattle.mailparse.specs.private.Deciders.{AreInOrder, decided, name_at};
+ghost use Rattle.mailparse.specs.private.Deciders.{AreInOrder, decided, name_at, speaks_for};
 ghost use Rattle.mailparse.specs.private.StarredKeys.{names_of};
 
 use super::waiting::Waiting;
@@ -64,6 +64,41 @@ fn own_places(alloc: Global, count: usize) -> Result<Vec<usize>, AllocError>
     Ok(places)
 }
 
+/// Writes a place at those from one up to another.
+fn write_range(places: &mut Vec<usize>, first: usize, end: usize, place: usize)
+    requires order { first ≤ end }
+    requires within { end ≤ length places.old.items }
+    ensures long { length places.new.items ≡ length places.old.items }
+    ensures before { (k : ℕ) → k < first → slice_index_or places.new.items k 0 ≡ slice_index_or places.old.items k 0 }
+    ensures inside { (k : ℕ) → first ≤ k → k < end → slice_index_or places.new.items k 0 ≡ place }
+    ensures after { (k : ℕ) → end ≤ k → slice_index_or places.new.items k 0 ≡ slice_index_or places.old.items k 0 }
+{
+    let mut at = first;
+    while at < end {
+        places[at] = place;
+        at += 1;
+    }
+}
+
+/// Where the name at a place may speak for others, it does so for those that begin with it, less its
+/// last byte.
+fn speak(waiting: &[Waiting<'_>], place: usize, places: &mut Vec<usize>)
+    requires within { place < length waiting.now }
+    requires long { length places.old.items ≡ length waiting.now }
+    ensures long { length places.new.items ≡ length places.old.items }
+    ensures spoken { AreInOrder (names_of waiting.now) → (k : ℕ) → k < length waiting.now → slice_index_or places.new.items k 0
+        ≡ (if speaks_for (name_at (names_of waiting.now) place) (name_at (names_of waiting.now) k) then place else slice_index_or places.old.items k 0) }
+{
+    let name = waiting[place].name.as_bytes();
+    if !name.ends_with(b"*0") {
+        return;
+    }
+    let prefix = &name[..name.len() - 1];
+    let first = first_with(waiting, place, prefix);
+    let end = end_with(waiting, place, prefix);
+    write_range(places, first, end, place);
+}
+
 /// The place of the name that decides for each: the last that speaks for it, otherwise its own.
 pub(super) fn deciders(
     alloc: Global,
@@ -76,13 +111,7 @@ pub(super) fn deciders(
     let mut places = own_places(alloc, waiting.len())?;
     let mut place = 0;
     while place < waiting.len() {
-        let name = waiting[place].name.as_bytes();
-        if name.ends_with(b"*0") {
-            let prefix = &name[..name.len() - 1];
-            let first = first_with(waiting, place, prefix);
-            let end = end_with(waiting, place, prefix);
-            places[first..end].fill(place);
-        }
+        speak(waiting, place, &mut places);
         place += 1;
     }
     Ok(places)
