@@ -14,3 +14,4 @@ pub mod Numbers
 pub mod StarredKeys
 pub mod Deciders
 pub mod Joining
+pub mod Speakers

@@ -35,10 +35,10 @@ below_cases a b xs ys h =
     (λ apart. ⊎_elim (λ lt. inl lt) (λ gt. let no : false ≡ true = sym (ap (λ o. is_lt (ordering_then o (slice_cmp nat_cmp xs ys))) (cmp_greater a b gt)) ∙ h in absurd (cc)) apart)
     (cases_order a b)
 
-first_same : (p b : ℕ) (prefix xs : List ℕ) → starts_with nat_eq (b ∷ xs) (p ∷ prefix) ≡ true → (p ≡ b) × (starts_with nat_eq xs prefix ≡ true)
+pub first_same : (p b : ℕ) (prefix xs : List ℕ) → starts_with nat_eq (b ∷ xs) (p ∷ prefix) ≡ true → (p ≡ b) × (starts_with nat_eq xs prefix ≡ true)
 first_same p b prefix xs h = let parts = and_parts _ _ h in (eqb-true p b parts.0, parts.1)
 
-first_more : (p b : ℕ) (prefix xs : List ℕ) → p ≡ b → starts_with nat_eq xs prefix ≡ true → starts_with nat_eq (b ∷ xs) (p ∷ prefix) ≡ true
+pub first_more : (p b : ℕ) (prefix xs : List ℕ) → p ≡ b → starts_with nat_eq xs prefix ≡ true → starts_with nat_eq (b ∷ xs) (p ∷ prefix) ≡ true
 first_more p b prefix xs e h = and_from _ _ (eq-eqb p b e) h
 
 pub between : (prefix x y z : List ℕ) → is_lt (slice_cmp nat_cmp (starred x) (starred y)) ≡ true → is_lt (slice_cmp nat_cmp (starred y) (starred z)) ≡ true
