@@ -15,3 +15,4 @@ pub mod StarredKeys
 pub mod Deciders
 pub mod Joining
 pub mod Speakers
+pub mod Waiting

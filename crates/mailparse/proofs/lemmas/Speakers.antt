@@ -52,7 +52,7 @@ in_map_from : {A B : Type 0} (f : A → B) (x : A) (xs : List A) → In x xs →
 in_map_from f x [] h = absurd h
 in_map_from f x (y ∷ xs) h = ⊎_elim (λ same. inl (ap f same)) (λ rest. inr (in_map_from f x xs rest)) h
 
-in_append : {A : Type 0} (z : A) (xs ys : List A) → In z (xs ++ ys) → In z xs ⊎ In z ys
+pub in_append : {A : Type 0} (z : A) (xs ys : List A) → In z (xs ++ ys) → In z xs ⊎ In z ys
 in_append z [] ys h = inr h
 in_append z (x ∷ xs) ys h = ⊎_elim (λ same. inl (inl same)) (λ rest. ⊎_elim (λ l. inl (inr l)) (λ r. inr r) (in_append z xs ys rest)) h
 

@@ -1,6 +1,6 @@
 -- The names that wait: which they are, and that they stand in order.
 use Rattle.std.proofs.Common.{◌≡◌, ◌⊎◌, inl, inr, ℕ, zero, suc, ◌+◌, ◌<◌, Bool, true, false, not, ◌&&◌, cond, List, [], ◌∷◌, ◌++◌, length, get_or, map, Option, Some, None, is_some, option_map, String, string_bytes, BTreeMap, refl, sym, ap, subst, ◌∙◌, arith, ⊎_elim}
-use Rattle.std.proofs.lemmas.Bool.{and_left, and_parts, cond-false, cond-true, not-true}
+use Rattle.std.proofs.lemmas.Bool.{and_from, and_parts, cond-false, cond-true, not-true}
 use Rattle.std.proofs.lemmas.List.{length-map}
 use Rattle.std.proofs.lemmas.Map.Keys.{Less-from_sorted}
 use Rattle.std.proofs.lemmas.Map.Lookups.{exact_bytes}
@@ -10,14 +10,16 @@ use Rattle.std.specs.Global.{Global}
 use Rattle.std.specs.List.{AllByRecursion}
 use Rattle.std.specs.List.Sorted.{IsStrictlySortedBy}
 use Rattle.std.specs.Map.{lookup}
-use Rattle.std.specs.Ordering.{Ordering, is_eq, is_lt, nat_cmp}
+use Rattle.std.specs.Ordering.{is_eq, is_lt, nat_cmp}
 use Rattle.std.specs.String.{string_cmp}
+use Rattle.std.specs.declared.cmp.Ordering.{Ordering}
 use Rattle.std.specs.declared.cmp.Ordering.TheVariants.{Less, Equal, Greater}
 use Rattle.mail_codec.specs.Charset.{charset_of_label}
 use Rattle.mailparse.specs.Pairs.{Texts, text_at}
 use Rattle.mailparse.specs.StarredKeys.{is_starred, is_waiting, label_in, name_under, starred}
+use Rattle.mailparse.specs.private.Deciders.{AreInOrder, name_at}
 use Rattle.mailparse.specs.private.StarredKeys.{Found, found_at, pair_view, waiting_entries}
-use Rattle.mailparse.proofs.lemmas.Speakers.{In, in_left, in_right, name_under_starred}
+use Rattle.mailparse.proofs.lemmas.Speakers.{In, in_append, in_left, in_right, name_under_starred}
 use Rattle.mailparse.proofs.lemmas.StarredKeys.{equal_bytes, same_bytes}
 
 -- ---- the entries of a map
@@ -47,13 +49,88 @@ pub record IsFound (keys : Texts) (entries : List (List ℕ × List ℕ)) (w : F
 
 pub in_found : (keys : Texts) (entries : List (List ℕ × List ℕ)) (w : Found) → In w (waiting_entries keys entries) → IsFound keys entries w
 in_found keys [] w h = absurd h
-in_found keys (e ∷ entries) w h = ⊎_elim none some (found_cases keys e)
+in_found keys (e ∷ entries) w h =
+    ⊎_elim (λ i. found_here (found_cases keys e) i) (λ i. let r = in_found keys entries w i in record { entry = inr r.entry; none = r.none; charset = r.charset })
+    (in_append w (found_at keys e) (waiting_entries keys entries) h)
   where
-    ih : In w (waiting_entries keys entries) → IsFound keys (e ∷ entries) w
-    ih = ?
+    found_here : (found_at keys e ≡ [])
+        ⊎ ((starred (name_under e.0) ≡ e.0) × (is_some (keys (name_under e.0)) ≡ false) × (found_at keys e ≡ (name_under e.0, e.1, charset_of_label (label_in e.1)) ∷ []))
+        → In w (found_at keys e) → IsFound keys (e ∷ entries) w
+    found_here (inl none) i = absurd (subst (λ xs. In w xs) none i)
+    found_here (inr some) i =
+        let made : IsFound keys (e ∷ entries) (name_under e.0, e.1, charset_of_label (label_in e.1)) =
+            record { entry = inl (ap (λ key. (key, e.1)) some.0); none = some.1; charset = refl } in
+        ⊎_elim (λ same. subst (λ x. IsFound keys (e ∷ entries) x) (sym same) made) (λ n. absurd n) (subst (λ xs. In w xs) some.2 i)
 
-    none : found_at keys e ≡ [] → IsFound keys (e ∷ entries) w
-    none = ?
+-- an entry whose key is a name with a star, where the name is no key
+pub found_in : (keys : Texts) (entries : List (List ℕ × List ℕ)) (name value : List ℕ) → In (starred name, value) entries → is_some (keys name) ≡ false
+    → In (name, value, charset_of_label (label_in value)) (waiting_entries keys entries)
+found_in keys [] name value h none = absurd h
+found_in keys (e ∷ entries) name value h none =
+    ⊎_elim
+    (λ same. in_left _ (found_at keys e) (waiting_entries keys entries)
+        (subst (λ x. In (name, value, charset_of_label (label_in value)) (found_at keys x)) same here))
+    (λ rest. in_right _ (found_at keys e) (waiting_entries keys entries) (found_in keys entries name value rest none))
+    h
+  where
+    under : name_under (starred name) ≡ name
+    under = name_under_starred name
 
-    some : (starred (name_under e.0) ≡ e.0) × (is_some (keys (name_under e.0)) ≡ false) × (found_at keys e ≡ (name_under e.0, e.1, charset_of_label (label_in e.1)) ∷ []) → IsFound keys (e ∷ entries) w
-    some = ?
+    passes : (is_starred (starred name) && not (is_some (keys (name_under (starred name))))) ≡ true
+    passes = and_from _ _ (same_bytes _ _ (sym (ap starred under))) (ap not (ap (λ n. is_some (keys n)) under ∙ none))
+
+    here : In (name, value, charset_of_label (label_in value)) (found_at keys (starred name, value))
+    here = subst (λ xs. In (name, value, charset_of_label (label_in value)) xs) (sym (cond-true _ _ _ passes)) (inl (ap (λ n. (n, value, charset_of_label (label_in value))) (sym under)))
+
+-- ---- their order
+
+less_found : (keys : Texts) (key : List ℕ) (entries : List (List ℕ × List ℕ)) → AllByRecursion (λ k. slice_cmp nat_cmp key k ≡ Less) (map (λ e. e.0) entries)
+    → AllByRecursion (λ n. slice_cmp nat_cmp key (starred n) ≡ Less) (map (λ w. w.0) (waiting_entries keys entries))
+less_found keys key [] h = tt
+less_found keys key (e ∷ entries) h = go (found_cases keys e) (less_found keys key entries h.1)
+  where
+    After : List Found → Type 0
+    After ws = AllByRecursion (λ n. slice_cmp nat_cmp key (starred n) ≡ Less) (map (λ (w : Found). w.0) (ws ++ waiting_entries keys entries))
+
+    go : (found_at keys e ≡ [])
+        ⊎ ((starred (name_under e.0) ≡ e.0) × (is_some (keys (name_under e.0)) ≡ false) × (found_at keys e ≡ (name_under e.0, e.1, charset_of_label (label_in e.1)) ∷ []))
+        → AllByRecursion (λ n. slice_cmp nat_cmp key (starred n) ≡ Less) (map (λ w. w.0) (waiting_entries keys entries)) → After (found_at keys e)
+    go (inl none) ih = subst After (sym none) ih
+    go (inr some) ih = subst After (sym some.2) (ap (slice_cmp nat_cmp key) some.0 ∙ h.0, ih)
+
+abbrev by_star : List ℕ → List ℕ → Ordering
+by_star x y = slice_cmp nat_cmp (starred x) (starred y)
+
+sorted_found : (keys : Texts) (entries : List (List ℕ × List ℕ)) → IsStrictlySortedBy (slice_cmp nat_cmp) (map (λ e. e.0) entries)
+    → IsStrictlySortedBy by_star (map (λ w. w.0) (waiting_entries keys entries))
+unfolding IsStrictlySortedBy
+sorted_found keys [] h = tt
+sorted_found keys (e ∷ entries) h = go (found_cases keys e) (sorted_found keys entries h.1)
+  where
+    After : List Found → Type 0
+    After ws = IsStrictlySortedBy by_star (map (λ (w : Found). w.0) (ws ++ waiting_entries keys entries))
+
+    go : (found_at keys e ≡ [])
+        ⊎ ((starred (name_under e.0) ≡ e.0) × (is_some (keys (name_under e.0)) ≡ false) × (found_at keys e ≡ (name_under e.0, e.1, charset_of_label (label_in e.1)) ∷ []))
+        → IsStrictlySortedBy by_star (map (λ w. w.0) (waiting_entries keys entries)) → After (found_at keys e)
+    go (inl none) ih = subst After (sym none) ih
+    go (inr some) ih =
+        subst After (sym some.2)
+        (subst (λ k. AllByRecursion (λ n. slice_cmp nat_cmp k (starred n) ≡ Less) (map (λ w. w.0) (waiting_entries keys entries))) (sym some.0) (less_found keys e.0 entries h.0), ih)
+
+-- ---- by places
+
+pub in_at : {A : Type 0} (z d : A) (xs : List A) → In z xs → (i : ℕ) × (i < length xs) × (get_or xs i d ≡ z)
+in_at z d [] h = absurd h
+in_at z d (x ∷ xs) h = ⊎_elim (λ same. (0, omega arith, sym same)) (λ rest. let r = in_at z d xs rest in (suc r.0, omega (arith, r.1), r.2)) h
+
+pub at_in : {A : Type 0} (d : A) (xs : List A) (i : ℕ) → i < length xs → In (get_or xs i d) xs
+at_in d [] i h = absurd (omega arith)
+at_in d (x ∷ xs) zero h = inl refl
+at_in d (x ∷ xs) (suc i) h = inr (at_in d xs i (omega arith))
+
+-- what the names that were found are, in their order
+pub record AreWaiting (keys : Texts) (names : List (List ℕ)) : Type 0 where
+  pub order : AreInOrder names
+  pub sound : (i : ℕ) → i < length names → is_waiting keys (name_at names i) ≡ true
+  pub complete : (name : List ℕ) → is_waiting keys name ≡ true → (i : ℕ) × (i < length names) × (name_at names i ≡ name)
