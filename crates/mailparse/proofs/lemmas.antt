@@ -16,3 +16,4 @@ pub mod Deciders
 pub mod Joining
 pub mod Speakers
 pub mod Waiting
+pub mod Filled

@@ -4,3 +4,4 @@ pub mod Unfolding
 pub mod StarredKeys
 pub mod Deciders
 pub mod Continuations
+pub mod Filled

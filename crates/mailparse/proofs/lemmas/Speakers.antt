@@ -228,6 +228,10 @@ decided_cases names (suc last) k = go (speaks_for (name_at names last) (name_at 
                 (λ apart. ⊎_elim (λ lt. f.1 i lt) (λ gt. absurd (omega arith)) apart) (cases_order i last)))
         ih
 
+pub decided_within : (names : List (List ℕ)) (k : ℕ) → k < length names → decided names (length names) k < length names
+decided_within names k below =
+    ⊎_elim (λ f. omega (arith, f.1, f.2)) (λ f. omega (arith, f.0)) (decided_cases names (length names) k)
+
 pub decider_at_place : (keys : Texts) (names : List (List ℕ)) → AreInOrder names → ((i : ℕ) → i < length names → is_waiting keys (name_at names i) ≡ true)
     → ((name : List ℕ) → is_waiting keys name ≡ true → (i : ℕ) × (i < length names) × (name_at names i ≡ name)) → (k : ℕ) → k < length names
     → name_at names (decided names (length names) k) ≡ decider keys (name_at names k)

@@ -4,14 +4,18 @@ use Rattle.std.proofs.lemmas.Bool.{and_from, and_parts, cond-false, cond-true, n
 use Rattle.std.proofs.lemmas.List.{length-map}
 use Rattle.std.proofs.lemmas.Map.Keys.{Less-from_sorted}
 use Rattle.std.proofs.lemmas.Map.Lookups.{exact_bytes}
-use Rattle.std.specs.BTreeMap.{IsOrdered, get_by_text}
+use Rattle.std.proofs.Math.ListN.{get_or-map}
+use Rattle.std.proofs.lemmas.List.Elements.{All-head, All-tail}
+use Rattle.std.proofs.lemmas.Map.Text.{is_eq-slice_cmp}
+use Rattle.std.proofs.lemmas.Map.Views.{All-found}
+use Rattle.std.specs.BTreeMap.{IsOrdered, get, get_by_text}
 use Rattle.std.specs.Cmp.Lexicographic.{slice_cmp}
 use Rattle.std.specs.Global.{Global}
-use Rattle.std.specs.List.{AllByRecursion}
+use Rattle.std.specs.List.{All, AllByRecursion}
 use Rattle.std.specs.List.Sorted.{IsStrictlySortedBy}
 use Rattle.std.specs.Map.{lookup}
 use Rattle.std.specs.Ordering.{is_eq, is_lt, nat_cmp}
-use Rattle.std.specs.String.{string_cmp}
+use Rattle.std.specs.String.{string_cmp, string_cmp_total}
 use Rattle.std.specs.declared.cmp.Ordering.{Ordering}
 use Rattle.std.specs.declared.cmp.Ordering.TheVariants.{Less, Equal, Greater}
 use Rattle.mail_codec.specs.Charset.{charset_of_label}
@@ -134,3 +138,86 @@ pub record AreWaiting (keys : Texts) (names : List (List ℕ)) : Type 0 where
   pub order : AreInOrder names
   pub sound : (i : ℕ) → i < length names → is_waiting keys (name_at names i) ≡ true
   pub complete : (name : List ℕ) → is_waiting keys name ≡ true → (i : ℕ) × (i < length names) × (name_at names i ≡ name)
+
+pub are_waiting : (keys : Texts) (entries : List (List ℕ × List ℕ)) → IsMapOf keys entries → AreWaiting keys (map (λ w. w.0) (waiting_entries keys entries))
+are_waiting keys entries map_of = record { order = order; sound = sound; complete = complete }
+  where
+    found : List Found
+    found = waiting_entries keys entries
+
+    nothing : Found
+    nothing = ([], [], None)
+
+    long : length (map (λ (w : Found). w.0) found) ≡ length found
+    long = length-map found (λ (w : Found). w.0)
+
+    order : AreInOrder (map (λ (w : Found). w.0) found)
+    order i j below within = ap is_lt (Less-from_sorted by_star (map (λ (w : Found). w.0) found) i j [] (sorted_found keys entries map_of.sorted) below within)
+
+    sound : (i : ℕ) → i < length (map (λ (w : Found). w.0) found) → is_waiting keys (name_at (map (λ (w : Found). w.0) found) i) ≡ true
+    sound i below =
+        let f = in_found keys entries (get_or found i nothing) (at_in nothing found i (omega (arith, long))) in
+        ap (is_waiting keys) (get_or-map (λ (w : Found). w.0) found i nothing)
+        ∙ and_from _ _ (ap is_some (map_of.holds _ f.entry)) (ap not f.none)
+
+    complete : (name : List ℕ) → is_waiting keys name ≡ true → (i : ℕ) × (i < length (map (λ (w : Found). w.0) found)) × (name_at (map (λ (w : Found). w.0) found) i ≡ name)
+    complete name waits =
+        let parts = and_parts _ _ waits in go (keys (starred name)) refl parts.0 (not-true _ parts.1)
+      where
+        go : (o : Option (List ℕ)) → keys (starred name) ≡ o → is_some o ≡ true → is_some (keys name) ≡ false
+            → (i : ℕ) × (i < length (map (λ (w : Found). w.0) found)) × (name_at (map (λ (w : Found). w.0) found) i ≡ name)
+        go None is some none = absurd (cc)
+        go (Some value) is some none =
+            let at = in_at _ nothing found (found_in keys entries name value (map_of.finds (starred name) value is) none) in
+            (at.0, omega (arith, long, at.1), get_or-map (λ (w : Found). w.0) found at.0 nothing ∙ ap (λ (w : Found). w.0) at.2)
+
+-- ---- the entries of a map of texts
+
+text_found : (q : List ℕ) (entries : List (String Global × String Global)) (value : String Global)
+    → lookup (λ k. is_eq (slice_cmp nat_cmp q (string_bytes k))) entries ≡ Some value → In (q, string_bytes value) (map pair_view entries)
+text_found q [] value h = absurd (cc)
+text_found q (e ∷ entries) value h = go (is_eq (slice_cmp nat_cmp q (string_bytes e.0))) refl (λ i. text_found q entries value i) h
+  where
+    go : (b : Bool) → is_eq (slice_cmp nat_cmp q (string_bytes e.0)) ≡ b
+        → (lookup (λ k. is_eq (slice_cmp nat_cmp q (string_bytes k))) entries ≡ Some value → In (q, string_bytes value) (map pair_view entries))
+        → cond b (Some e.1) (lookup (λ k. is_eq (slice_cmp nat_cmp q (string_bytes k))) entries) ≡ Some value → In (q, string_bytes value) (map pair_view (e ∷ entries))
+    go true is ih i =
+        let same : e.1 ≡ value = cc in
+        let key : q ≡ string_bytes e.0 = equal_bytes q (string_bytes e.0) (sym (is_eq-slice_cmp q (string_bytes e.0)) ∙ is) in
+        inl (ap (λ v. (q, string_bytes v)) (sym same) ∙ ap (λ k. (k, string_bytes e.1)) key)
+    go false is ih i = inr (ih i)
+
+abbrev holds_entry : BTreeMap (String Global) (String Global) → String Global × String Global → Type 0
+holds_entry m e = get string_cmp m e.0 ≡ Some e.1
+
+texts_hold : (m : BTreeMap (String Global) (String Global)) (entries : List (String Global × String Global)) → All (holds_entry m) entries
+    → (e : List ℕ × List ℕ) → In e (map pair_view entries) → text_at m e.0 ≡ Some e.1
+texts_hold m [] all e i = absurd i
+texts_hold m (x ∷ entries) all e i =
+    ⊎_elim
+    (λ same. let at : get_by_text m (string_bytes x.0) ≡ Some x.1 = All-head (holds_entry m) x entries all in
+        ap (λ (p : List ℕ × List ℕ). text_at m p.0) same ∙ ap (option_map string_bytes) at ∙ sym (ap (λ (p : List ℕ × List ℕ). Some p.1) same))
+    (λ rest. texts_hold m entries (All-tail (holds_entry m) x entries all) e rest)
+    i
+
+texts_sorted : (entries : List (String Global × String Global)) → IsStrictlySortedBy string_cmp (map (λ e. e.0) entries)
+    → IsStrictlySortedBy (slice_cmp nat_cmp) (map (λ e. e.0) (map pair_view entries))
+unfolding IsStrictlySortedBy
+texts_sorted [] h = tt
+texts_sorted (e ∷ entries) h = (less e.0 entries h.0, texts_sorted entries h.1)
+  where
+    less : (key : String Global) (es : List (String Global × String Global)) → AllByRecursion (λ k. string_cmp key k ≡ Less) (map (λ e. e.0) es)
+        → AllByRecursion (λ k. slice_cmp nat_cmp (string_bytes key) k ≡ Less) (map (λ e. e.0) (map pair_view es))
+    less key [] h = tt
+    less key (x ∷ es) h = (h.0, less key es h.1)
+
+pub map_of_texts : (m : BTreeMap (String Global) (String Global)) → IsOrdered string_cmp m → IsMapOf (text_at m) (map pair_view m.entries)
+map_of_texts m ordered = record {
+  holds = texts_hold m m.entries (All-found string_cmp_total m ordered);
+  finds = λ q value h. finds (get_by_text m q) q value refl h;
+  sorted = texts_sorted m.entries ordered;
+}
+  where
+    finds : (o : Option (String Global)) (q value : List ℕ) → get_by_text m q ≡ o → option_map string_bytes o ≡ Some value → In (q, value) (map pair_view m.entries)
+    finds None q value is h = absurd (cc)
+    finds (Some s) q value is h = let same : string_bytes s ≡ value = cc in subst (λ v. In (q, v) (map pair_view m.entries)) same (text_found q m.entries s is)

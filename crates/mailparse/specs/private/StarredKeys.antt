@@ -1,5 +1,5 @@
 -- What the readers of starred keys hold; private to them.
-use Rattle.std.specs.Prelude.{ℕ, suc, zero, Bool, not, ◌&&◌, ◌+◌, ◌-◌, nat_eq, List, [], ◌∷◌, map, take, length, slice_index_or, Option, Some, None, option_map, String, string_bytes, if◌then◌else◌}
+use Rattle.std.specs.Prelude.{ℕ, suc, zero, Bool, not, ◌&&◌, ◌-◌, ◌==◌, List, [], ◌∷◌, map, take, length, slice_index_or, Option, Some, None, option_map, String, string_bytes, if◌then◌else◌}
 use Rattle.std.specs.BTreeMap.{BTreeMap, get_by_text}
 use Rattle.std.specs.Borrow.{Bor}
 use Rattle.std.specs.Global.{Global}
@@ -11,7 +11,8 @@ use Rattle.mail_codec.specs.declared.charset.Charset.{Charset}
 use Rattle.mailparse.specs.Continuations as joined
 use Rattle.mailparse.specs.Continuations.{numbered}
 use Rattle.mailparse.specs.Pairs.{Texts}
-use Rattle.mailparse.specs.StarredKeys.{is_starred, label_in, name_under}
+use Rattle.mailparse.specs.StarredKeys.{is_starred, label_in, name_under, text_in}
+use Rattle.percent_encoding.specs.Percent.{percent_decode}
 use Rattle.mailparse.specs.declared.parameters.starred.Part.{Part}
 use Rattle.mailparse.specs.declared.parameters.starred.Part.TheVariants as code
 use Rattle.mailparse.specs.declared.parameters.starred.waiting.Waiting.{Waiting}
@@ -66,3 +67,13 @@ has_left_by keys at key = is_starred key && (not (is_some (keys (name_under key)
 -- the names of some that wait
 abbrev pub names_of : List Waiting → List (List ℕ)
 names_of waiting = map (λ w. w.name.now) waiting
+
+-- the name at a place among those that were found
+abbrev pub found_by_place : List Found → ℕ → Found
+found_by_place found place = slice_index_or found place ([], [], None)
+
+-- what stands at the name at a place, where the one at another decides
+abbrev pub extended_by : List Found → ℕ → ℕ → Option joined.Part
+extended_by found place last =
+    let one = found_by_place found place in
+    option_map (λ charset. extended_part one.0 (text_of charset) (percent_decode (if last == place then text_in one.1 else one.1))) (found_by_place found last).2

@@ -1,17 +1,17 @@
 //! Keys that end in `*`: extended values, with a charset and percent pairs (RFC 2231, section 4).
-ghost use Rattle.std.specs.Prelude.{◌≡◌, ℕ, List, IfOk};
+ghost use Rattle.std.specs.Prelude.{◌≡◌, ◌<◌, ℕ, List, length, map, option_map, IfOk, if◌then◌else◌};
 ghost use Rattle.mail_codec.specs.Charset.{four_charsets, text_of};
 ghost use Rattle.mailparse.specs.Continuations.{extended_at, part_at};
 ghost use Rattle.mailparse.specs.Pairs.{text_at};
 ghost use Rattle.mailparse.specs.StarredKeys.{text_in};
-ghost use Rattle.mailparse.specs.private.StarredKeys.{extended_part, has_left_by, part_view, parts_at};
+ghost use Rattle.mailparse.specs.private.StarredKeys.{extended_by, extended_part, has_left_by, part_view, parts_at, waiting_view};
 ghost use Rattle.percent_encoding.specs.Percent.{percent_decode};
 
 mod deciders;
 mod waiting;
 
 use self::deciders::deciders;
-use self::waiting::{waiting_names, without_star};
+use self::waiting::{Waiting, waiting_names, without_star};
 use super::continuations::numbered;
 use mail_codec::charset::Charset;
 use percent_encoding::percent_decode;
@@ -65,6 +65,33 @@ fn extended_part(
     Ok(Part::Text(text))
 }
 
+/// The percent pairs of an extended value: where the name decides for itself, without the label and
+/// the language.
+fn encoded_in(value: &str, decides: bool) -> &str
+    ensures { result.now ≡ (if decides then text_in value.now else value.now) }
+{
+    if decides { text_in(value) } else { value }
+}
+
+/// What stands at the name at a place, if its label is known.
+fn extended_at(
+    alloc: Global,
+    waiting: &[Waiting<'_>],
+    place: usize,
+    decider: usize,
+) -> Result<Option<Part>, AllocError>
+    requires place { place < length waiting.now }
+    requires decider { decider < length waiting.now }
+    ensures { IfOk result (λ part. option_map part_view part ≡ extended_by (map waiting_view waiting.now) place decider) }
+{
+    let one = waiting[place];
+    let Some(charset) = waiting[decider].charset else {
+        return Ok(None);
+    };
+    let bytes = octets_of(alloc, encoded_in(one.value, decider == place))?;
+    Ok(Some(extended_part(alloc, one.name, charset, bytes)?))
+}
+
 /// What stands at the names that wait, as far as their labels are known.
 fn extended_parts(
     alloc: Global,
@@ -77,13 +104,8 @@ fn extended_parts(
     let mut parts = BTreeMap::new(alloc);
     let mut place = 0;
     while place < waiting.len() {
-        let decider = deciders[place];
-        if let Some(charset) = waiting[decider].charset {
-            let one = waiting[place];
-            let encoded = if decider == place { text_in(one.value) } else { one.value };
-            let bytes = octets_of(alloc, encoded)?;
-            let part = extended_part(alloc, one.name, charset, bytes)?;
-            parts.insert(String::from_str(alloc, one.name)?, part)?;
+        if let Some(part) = extended_at(alloc, waiting.as_slice(), place, deciders[place])? {
+            parts.insert(String::from_str(alloc, waiting[place].name)?, part)?;
         }
         place += 1;
     }

@@ -1,5 +1,7 @@
 //! The names that are no keys, and with a star after them are.
 ghost use Rattle.std.specs.Prelude.{◌≡◌, map, option_map, IfOk};
+ghost use Rattle.std.specs.BTreeMap.{IsOrdered};
+ghost use Rattle.std.specs.String.{string_cmp};
 ghost use Rattle.mail_codec.specs.Charset.{charset_of_label};
 ghost use Rattle.mailparse.specs.Pairs.{text_at};
 ghost use Rattle.mailparse.specs.StarredKeys.{label_in};
@@ -44,7 +46,8 @@ pub(super) fn waiting_names<'a>(
     alloc: Global,
     pairs: &'a BTreeMap<String, String>,
 ) -> Result<Vec<Waiting<'a>>, AllocError>
-    ensures { IfOk result (λ found. map waiting_view found.items ≡ waiting_entries (text_at pairs.now) (map pair_view pairs.now.entries)) }
+    ensures ordered { IfOk result (λ _. IsOrdered string_cmp pairs.now) }
+    ensures found { IfOk result (λ found. map waiting_view found.items ≡ waiting_entries (text_at pairs.now) (map pair_view pairs.now.entries)) }
 {
     let mut found = Vec::new(alloc);
     for (key, value) in pairs {

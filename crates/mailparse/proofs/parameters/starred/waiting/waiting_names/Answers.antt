@@ -38,4 +38,7 @@ loop-key-preserved c =
 pub returns : goal.returns
 returns c =
     let all = YieldsList-end (YieldsList-from_rest c.args.pairs.now.entries c.into_iter-key-iterator.ensures.into_iter_gives.0) c.loop-key.yielded _ c.loop-key.yielded_by _ _ c.in-None.is c.next.ensures.steps in
-    c.loop-key.invariant ∙ ap (waiting_entries (text_at c.args.pairs.now)) (shown_all c.loop-key.yielded c.args.pairs.now.entries all.0)
+    record {
+      ordered = c.into_iter-key-iterator.ensures.into_iter_gives.5;
+      found = c.loop-key.invariant ∙ ap (waiting_entries (text_at c.args.pairs.now)) (shown_all c.loop-key.yielded c.args.pairs.now.entries all.0);
+    }
