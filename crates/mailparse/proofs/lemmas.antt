@@ -17,3 +17,4 @@ pub mod Joining
 pub mod Speakers
 pub mod Waiting
 pub mod Filled
+pub mod ExtendedParts

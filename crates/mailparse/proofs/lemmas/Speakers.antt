@@ -144,7 +144,7 @@ speaker_in keys name z waits speaks =
 
 -- ---- the last in the order of the starred keys
 
-abbrev is_before : List ℕ → List ℕ → Bool
+abbrev pub is_before : List ℕ → List ℕ → Bool
 is_before x y = is_lt (slice_cmp nat_cmp (starred x) (starred y))
 
 neither : (o p : Ordering) → o ≡ ordering_reverse p → is_lt o ≡ false → is_lt p ≡ false → o ≡ Equal
@@ -167,7 +167,7 @@ same_place x z a b =
 not_back : (x z : List ℕ) → is_before x z ≡ true → is_before z x ≡ false
 not_back x z h = one_way _ _ (nat_list_cmp_total.antisymm (starred z) (starred x)) h
 
-not_itself : (x : List ℕ) → is_before x x ≡ false
+pub not_itself : (x : List ℕ) → is_before x x ≡ false
 not_itself x = go (is_before x x) refl
   where
     go : (b : Bool) → is_before x x ≡ b → is_before x x ≡ false

@@ -1,5 +1,6 @@
 //! Keys that end in `*`: extended values, with a charset and percent pairs (RFC 2231, section 4).
-ghost use Rattle.std.specs.Prelude.{◌≡◌, ◌<◌, ℕ, List, length, map, option_map, IfOk, if◌then◌else◌};
+ghost use Rattle.std.specs.Prelude.{◌≡◌, ◌<◌, ℕ, List, length, map, option_map, IfOk, OnOk, Some, if◌then◌else◌};
+ghost use Rattle.std.specs.Str.{bytes_eq};
 ghost use Rattle.mail_codec.specs.Charset.{four_charsets, text_of};
 ghost use Rattle.mailparse.specs.Continuations.{extended_at, part_at};
 ghost use Rattle.mailparse.specs.Pairs.{text_at};
@@ -92,6 +93,20 @@ fn extended_at(
     Ok(Some(extended_part(alloc, one.name, charset, bytes)?))
 }
 
+/// Writes what stands at a name.
+fn put(
+    alloc: Global,
+    parts: &mut BTreeMap<String, Part>,
+    name: &str,
+    part: Part,
+) -> Result<(), AllocError>
+    ensures { OnOk result ((q : List ℕ) → parts_at parts.new q ≡ (if bytes_eq name.now q then Some (part_view part) else parts_at parts.old q)) }
+{
+    let name = String::from_str(alloc, name)?;
+    parts.insert(name, part)?;
+    Ok(())
+}
+
 /// What stands at the names that wait, as far as their labels are known.
 fn extended_parts(
     alloc: Global,
@@ -105,7 +120,7 @@ fn extended_parts(
     let mut place = 0;
     while place < waiting.len() {
         if let Some(part) = extended_at(alloc, waiting.as_slice(), place, deciders[place])? {
-            parts.insert(String::from_str(alloc, waiting[place].name)?, part)?;
+            put(alloc, &mut parts, waiting[place].name, part)?;
         }
         place += 1;
     }
@@ -136,7 +151,7 @@ pub(super) fn parts_of(
     let mut parts = extended_parts(alloc, pairs)?;
     for (key, value) in pairs {
         if !has_left(pairs, &parts, key.as_str()) {
-            parts.insert(key.clone()?, Part::Text(value.clone()?))?;
+            put(alloc, &mut parts, key.as_str(), Part::Text(value.clone()?))?;
         }
     }
     Ok(parts)
