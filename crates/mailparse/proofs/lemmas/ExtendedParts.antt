@@ -1,8 +1,9 @@
 -- What stands at the names that wait.
-use Rattle.std.proofs.Common.{◌≡◌, ℕ, ◌+◌, ◌<◌, Bool, true, false, not, cond, eqb, List, [], ◌∷◌, ◌++◌, length, take, get_or, map, Option, Some, None, is_some, option_map, refl, sym, ap, subst, ◌∙◌, arith, ⊎_elim}
+use Rattle.std.proofs.Common.{◌≡◌, ℕ, zero, suc, ◌+◌, ◌<◌, ◌≤◌, Bool, true, false, not, cond, eqb, List, [], ◌∷◌, ◌++◌, length, take, get_or, map, Option, Some, None, is_some, option_map, refl, sym, ap, subst, ◌∙◌, arith, ⊎_elim}
 use Rattle.std.proofs.Math.ListN.{get_or-map}
 use Rattle.std.proofs.lemmas.Bool.{and_from, cases_order, cond-false, cond-true, eq-eqb, ne_eqb}
-use Rattle.std.proofs.lemmas.List.{length-map}
+use Rattle.std.proofs.lemmas.List.{get_or-map as get_or-bounded, get_or_default, length-map, take_all}
+use Rattle.std.proofs.lemmas.List.Folds.{list_any_at}
 use Rattle.std.specs.Option.{unwrap_or}
 use Rattle.std.specs.Ordering.{is_lt}
 use Rattle.std.specs.Str.{bytes_eq}
@@ -13,8 +14,10 @@ use Rattle.mailparse.specs.Continuations.{extended_at}
 use Rattle.mailparse.specs.Pairs.{Texts}
 use Rattle.mailparse.specs.StarredKeys.{decider, extended_value, is_waiting, label_in, octets_of, reading_of, starred, text_in}
 use Rattle.mailparse.specs.private.Deciders.{AreInOrder, decided, name_at}
+use Rattle.mailparse.specs.private.Filled.{filled, holds_name}
 use Rattle.mailparse.specs.private.StarredKeys.{Found, extended_by, extended_part, found_by_place, names_of, waiting_entries, waiting_view}
 use Rattle.mailparse.specs.declared.parameters.starred.waiting.Waiting.{Waiting}
+use Rattle.mailparse.proofs.lemmas.Filled.{filled_all, filled_push, filled_skip}
 use Rattle.mailparse.proofs.lemmas.Speakers.{decided_within, decider_at_place, is_before, not_itself}
 use Rattle.mailparse.proofs.lemmas.StarredKeys.{equal_bytes, same_bytes}
 use Rattle.mailparse.proofs.lemmas.Waiting.{AreWaiting, IsFound, IsMapOf, are_waiting, at_in, in_found}
@@ -135,3 +138,65 @@ extended_is keys entries waiting place last map_of found below is =
 
     reading : reading_of four_charsets keys w.0 ≡ option_map text_of z.2
     reading = reading_found keys entries w z map_of fw fz decides
+
+-- ---- a walk over the places
+
+take_next : {A : Type 0} (d : A) (xs : List A) (i : ℕ) → i < length xs → take (suc i) xs ≡ take i xs ++ get_or xs i d ∷ []
+take_next d [] i h = absurd (omega arith)
+take_next d (x ∷ xs) zero h = refl
+take_next d (x ∷ xs) (suc i) h = ap (λ r. x ∷ r) (take_next d xs i (omega arith))
+
+take_push : {A : Type 0} (d : A) (xs : List A) (i : ℕ) → i < length xs → take (i + 1) xs ≡ take i xs ++ get_or xs i d ∷ []
+take_push d xs i h = let same : i + 1 ≡ suc i = omega arith in ap (λ k. take k xs) same ∙ take_next d xs i h
+
+pub place_written : (f g : List ℕ → Option joined.Part) (names : List (List ℕ)) (place : ℕ) → place < length names → (q name : List ℕ) (part : joined.Part) (old new : Option joined.Part)
+    → old ≡ filled f g (take place names) q → name ≡ name_at names place → Some part ≡ f (name_at names place) → new ≡ cond (bytes_eq name q) (Some part) old
+    → new ≡ filled f g (take (place + 1) names) q
+place_written f g names place below q name part old new before is some step =
+    filled_push f g (take place names) (name_at names place) q old new before
+        (step ∙ ap (λ n. cond (bytes_eq n q) (Some part) old) is ∙ ap (λ o. cond (bytes_eq (name_at names place) q) o old) some)
+    ∙ ap (λ ns. filled f g ns q) (sym (take_push [] names place below))
+
+pub place_passed : (f g : List ℕ → Option joined.Part) (names : List (List ℕ)) (place : ℕ) → place < length names → (q : List ℕ) (old : Option joined.Part)
+    → old ≡ filled f g (take place names) q → f (name_at names place) ≡ g (name_at names place) → old ≡ filled f g (take (place + 1) names) q
+place_passed f g names place below q old before same =
+    filled_skip f g (take place names) (name_at names place) q old before same ∙ ap (λ ns. filled f g ns q) (sym (take_push [] names place below))
+
+pub name_read : (waiting : List Waiting) (place : ℕ) (one : Waiting) → place < length waiting → one ≡ get_or waiting place one → one.name.now ≡ name_at (names_of waiting) place
+name_read waiting place one below is = ap (λ (w : Waiting). w.name.now) is ∙ sym (get_or-bounded (λ (w : Waiting). w.name.now) waiting place one [] below)
+
+-- the place of the name that decides, as it was read
+pub place_read : (waiting slice : List Waiting) (items : List ℕ) (place at : ℕ) → slice ≡ waiting → AreInOrder (names_of waiting) → length items ≡ length slice
+    → (AreInOrder (names_of slice) → (k : ℕ) → k < length slice → get_or items k 0 ≡ decided (names_of slice) (length slice) k) → place < length waiting → at ≡ get_or items place at
+    → at ≡ decided (names_of waiting) (length waiting) place
+place_read waiting slice items place at same order long decides below is =
+    let len = ap length same in
+    is ∙ get_or_default items place at 0 (omega arith)
+    ∙ decides (subst (λ ws. AreInOrder (names_of ws)) (sym same) order) place (omega arith)
+    ∙ ap (λ ws. decided (names_of ws) (length ws) place) same
+
+pub place_within : (waiting : List Waiting) (place : ℕ) → place < length waiting → decided (names_of waiting) (length waiting) place < length waiting
+place_within waiting place below =
+    let long = length-map waiting (λ (w : Waiting). w.name.now) in
+    let within = decided_within (names_of waiting) place (omega arith) in
+    let same = ap (λ n. decided (names_of waiting) n place) long in
+    omega (arith, within, same)
+
+-- a name that does not wait has nothing
+pub extended_none : (keys : Texts) (q : List ℕ) → is_waiting keys q ≡ false → extended_at four_charsets keys q ≡ None
+unfolding reading_of
+extended_none keys q h = ap (option_map (λ reading. extended_part q reading (octets_of keys q))) (cond-false _ _ _ h)
+
+-- all names that wait were passed
+pub extended_all : (keys : Texts) (names : List (List ℕ)) (place : ℕ) → AreWaiting keys names → length names ≤ place → (q : List ℕ) (old : Option joined.Part)
+    → old ≡ filled (extended_at four_charsets keys) (λ _. None) (take place names) q → old ≡ extended_at four_charsets keys q
+extended_all keys names place all full q old before =
+    filled_all (extended_at four_charsets keys) (λ _. None) names q old (before ∙ ap (λ ns. filled (extended_at four_charsets keys) (λ _. None) ns q) (take_all place names full))
+    (λ none. extended_none keys q (go (is_waiting keys q) refl none))
+  where
+    go : (b : Bool) → is_waiting keys q ≡ b → holds_name names q ≡ false → is_waiting keys q ≡ false
+    go false is none = is
+    go true is none =
+        let at = all.complete q is in
+        let some = list_any_at (λ n. bytes_eq n q) names at.0 [] at.1 (same_bytes _ _ at.2) in
+        let clash : true ≡ false = sym some ∙ none in absurd (cc)

@@ -1,7 +1,12 @@
 -- A map that is filled name by name.
-use Rattle.std.proofs.Common.{◌≡◌, ℕ, ◌+◌, ◌<◌, Bool, true, false, ◌||◌, cond, List, [], ◌∷◌, ◌++◌, length, take, get_or, Option, refl, sym, ap, ◌∙◌}
+use Rattle.std.proofs.Common.{◌≡◌, ℕ, ◌+◌, ◌<◌, Bool, true, false, ◌||◌, cond, List, [], ◌∷◌, ◌++◌, length, take, get_or, Option, Some, option_map, BTreeMap, String, string_bytes, refl, sym, ap, ◌∙◌}
 use Rattle.std.proofs.lemmas.Bool.{cond-false, cond-true}
+use Rattle.std.proofs.lemmas.Map.Text.{btree_map_updates_text}
+use Rattle.std.specs.BTreeMap.{UpdatesBy, get_by_text}
+use Rattle.std.specs.Cmp.Lexicographic.{slice_cmp}
 use Rattle.std.specs.List.{list_any}
+use Rattle.std.specs.Ordering.{nat_cmp}
+use Rattle.std.specs.String.{string_cmp}
 use Rattle.std.specs.Str.{bytes_eq}
 use Rattle.mailparse.specs.private.Filled.{filled, holds_name}
 use Rattle.mailparse.proofs.lemmas.StarredKeys.{equal_bytes, same_bytes}
@@ -66,3 +71,13 @@ filled_all {A = A} f g names q old before same = go (holds_name names q) refl
     go : (b : Bool) → holds_name names q ≡ b → old ≡ f q
     go true is = before ∙ cond-true _ _ _ is
     go false is = before ∙ cond-false _ _ _ is ∙ sym (same is)
+
+-- ---- what a write leaves at each name
+
+mapped : {A B : Type 0} (f : A → B) (b : Bool) (v : A) (o : Option A) → option_map f (cond b (Some v) o) ≡ cond b (Some (f v)) (option_map f o)
+mapped f true v o = refl
+mapped f false v o = refl
+
+pub stored : {Y X B : Type 0} (f : X → B) (name : List ℕ) (old new : BTreeMap (String Y) X) (v : X) → UpdatesBy string_cmp (λ k. slice_cmp nat_cmp name (string_bytes k)) old new (Some v)
+    → (q : List ℕ) → option_map f (get_by_text new q) ≡ cond (bytes_eq name q) (Some (f v)) (option_map f (get_by_text old q))
+stored f name old new v updates q = ap (option_map f) (btree_map_updates_text name old new (Some v) updates q) ∙ mapped f (bytes_eq name q) v (get_by_text old q)
