@@ -18,3 +18,4 @@ pub mod Speakers
 pub mod Waiting
 pub mod Filled
 pub mod ExtendedParts
+pub mod PartsOf

@@ -1,6 +1,7 @@
 //! Values that are cut into numbered pieces (RFC 2231, section 3).
-ghost use Rattle.std.specs.Prelude.{◌≡◌, ℕ, List, option_map, IfOk, IfErr, string_bytes};
+ghost use Rattle.std.specs.Prelude.{◌≡◌, ℕ, List, Some, option_map, IfOk, IfErr, OnOk, string_bytes, if◌then◌else◌};
 ghost use Rattle.std.specs.BTreeMap.{get_by_text};
+ghost use Rattle.std.specs.Str.{bytes_eq};
 ghost use Rattle.mailparse.specs.Continuations.{alone, is_text, joined_at, numbered, parameters_of};
 ghost use Rattle.mailparse.specs.Outcome.{IsMemory};
 ghost use Rattle.mailparse.specs.Pairs.{last_of, text_at};
@@ -88,6 +89,34 @@ fn first_base<'n>(parts: &BTreeMap<String, Part>, name: &'n str) -> Option<&'n s
     Some(base)
 }
 
+/// Writes a text under a name.
+fn put_text(
+    alloc: Global,
+    texts: &mut BTreeMap<String, String>,
+    name: &str,
+    text: String,
+) -> Result<(), AllocError>
+    ensures { OnOk result ((q : List ℕ) → text_at texts.new q ≡ (if bytes_eq name.now q then Some (string_bytes text) else text_at texts.old q)) }
+{
+    let name = String::from_str(alloc, name)?;
+    texts.insert(name, text)?;
+    Ok(())
+}
+
+/// Writes a count under a name.
+fn put_count(
+    alloc: Global,
+    counts: &mut BTreeMap<String, u64>,
+    name: &str,
+    count: u64,
+) -> Result<(), AllocError>
+    ensures { OnOk result ((q : List ℕ) → get_by_text counts.new q ≡ (if bytes_eq name.now q then Some count else get_by_text counts.old q)) }
+{
+    let name = String::from_str(alloc, name)?;
+    counts.insert(name, count)?;
+    Ok(())
+}
+
 /// Joins the pieces of each base.
 fn bases_of(alloc: Global, parts: &BTreeMap<String, Part>) -> Result<Bases, AllocError>
     ensures texts { IfOk result (λ bases. (q : List ℕ) → text_at bases.texts q ≡ base_text (parts_at parts.now) (names_in parts.now) q) }
@@ -99,8 +128,8 @@ fn bases_of(alloc: Global, parts: &BTreeMap<String, Part>) -> Result<Bases, Allo
         if let Some(base) = first_base(parts, name.as_str()) {
             if !counts.contains_key(base) {
                 let joined = join(alloc, parts, base)?;
-                texts.insert(String::from_str(alloc, base)?, joined.text)?;
-                counts.insert(String::from_str(alloc, base)?, joined.count)?;
+                put_text(alloc, &mut texts, base, joined.text)?;
+                put_count(alloc, &mut counts, base, joined.count)?;
             }
         }
     }
@@ -151,7 +180,7 @@ fn left_and_joined(
     let mut texts = bases.texts;
     for (name, part) in parts {
         if !is_used(alloc, &bases.counts, name.as_str())? {
-            texts.insert(name.clone()?, text_alone(alloc, part)?)?;
+            put_text(alloc, &mut texts, name.as_str(), text_alone(alloc, part)?)?;
         }
     }
     Ok(texts)

@@ -1,11 +1,12 @@
-use Rattle.std.proofs.Common.{◌≡◌, ℕ, List, option_map, IfOk, IfErr, string_bytes, ◌+◌, ◌-◌, ◌*◌, ◌<◌, ◌≤◌, length}
-use Rattle.std.specs.BTreeMap.{get_by_text}
-use Rattle.mailparse.specs.Continuations.{alone, is_text, joined_at, numbered, parameters_of}
-use Rattle.mailparse.specs.Outcome.{IsMemory}
-use Rattle.mailparse.specs.Pairs.{last_of, text_at}
-use Rattle.mailparse.specs.private.Continuations.{IsJoined, base_count, base_text, first_base_of, is_used_by, names_in}
-use Rattle.mailparse.specs.private.StarredKeys.{part_view, parts_at}
+-- The names so far have what they have in the end, and the others the texts of the bases.
+use Rattle.std.proofs.Common.{◌≡◌, ℕ, List, map}
+use Rattle.mailparse.specs.Continuations.{joined_at}
+use Rattle.mailparse.specs.Pairs.{text_at}
+use Rattle.mailparse.specs.private.Continuations.{base_text, names_in}
+use Rattle.mailparse.specs.private.Filled.{filled, shown_name}
+use Rattle.mailparse.specs.private.StarredKeys.{parts_at}
 use Rattle.mailparse.proofs.parameters.continuations.left_and_joined.Given as goal
 
 abbrev pub invariant-loop-name : goal.invariant-loop-name
-invariant-loop-name l = ?
+invariant-loop-name l =
+    (q : List ℕ) → text_at l.texts q ≡ filled (joined_at (parts_at l.parts) (names_in l.parts)) (base_text (parts_at l.parts) (names_in l.parts)) (map shown_name l.yielded) q
