@@ -19,3 +19,4 @@ pub mod Waiting
 pub mod Filled
 pub mod ExtendedParts
 pub mod PartsOf
+pub mod Bases

@@ -26,7 +26,7 @@ or_none : {A : Type 0} (o : Option A) → option_or o None ≡ o
 or_none None = refl
 or_none (Some x) = refl
 
-cond_none : {A : Type 0} (b : Bool) → cond b None (None {A}) ≡ None
+pub cond_none : {A : Type 0} (b : Bool) → cond {A = Option A} b None None ≡ None
 cond_none true = refl
 cond_none false = refl
 
@@ -103,7 +103,7 @@ lookup_unnamed q (e ∷ entries) h =
 
     other : (b : Bool) → bytes_eq q (string_bytes e.0) ≡ b → bytes_eq (string_bytes e.0) q ≡ false → bytes_eq q (string_bytes e.0) ≡ false
     other false is h = is
-    other true is h = let clash : false ≡ true = sym h ∙ same_bytes _ _ (sym (equal_bytes _ _ is)) in absurd (cc)
+    other true is h = let clash : false ≡ true = sym h ∙ same_bytes (string_bytes e.0) q (sym (equal_bytes q (string_bytes e.0) is)) in absurd (cc)
 
 pub unnamed : {X : Type 0} (q : List ℕ) (m : BTreeMap (String Global) X) → holds_name (map (λ e. string_bytes e.0) m.entries) q ≡ false → get_by_text m q ≡ None
 unnamed q m h = lookup_unnamed q m.entries h
