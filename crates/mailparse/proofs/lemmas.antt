@@ -20,3 +20,4 @@ pub mod Filled
 pub mod ExtendedParts
 pub mod PartsOf
 pub mod Bases
+pub mod Resolved
