@@ -7,3 +7,7 @@ pub mod Pairs
 pub mod Dates
 pub mod IdRows
 pub mod MessageIds
+pub mod StarredKeys
+pub mod Deciders
+pub mod Continuations
+pub mod Filled
