@@ -1,7 +1,7 @@
 -- The delimiters that cut the body of a message into parts, and the ranges of the parts (RFC 2046, section 5.1.1, read as
 -- leniently as mail is written). A delimiter line begins with d, which is `--` and the boundary; what else stands on the line does
 -- not count. Places are counted from the first of the bytes.
-use Rattle.std.specs.Prelude.{ℕ, zero, suc, ◌+◌, ◌-◌, Bool, ◌||◌, ◌&&◌, ◌==◌, nat_lt, List, [], ◌∷◌, length, drop, Option, Some, None, is_none, option_map, option_and_then, unwrap_or, codes, if◌then◌else◌}
+use Rattle.std.specs.Prelude.{ℕ, zero, suc, ◌+◌, ◌-◌, Bool, ◌||◌, ◌&&◌, ◌==◌, nat_lt, List, length, drop, Option, Some, None, is_none, option_map, option_and_then, unwrap_or, codes, if◌then◌else◌}
 use Rattle.std.specs.Option.{option_map_or}
 use Rattle.mail_codec.specs.Places.{begins, stands, byte_place, least, values_below}
 use Rattle.mailparse.specs.Header.{line_feed, carriage_return, is_line_feed}

@@ -1,11 +1,10 @@
 -- Lemmas on the parts of a message, one after another, and on its reading.
-use Rattle.std.proofs.Common.{◌≡◌, ◌⊎◌, ℕ, zero, suc, ◌+◌, ◌-◌, ◌<◌, ◌≤◌, Bool, true, false, List, [], ◌∷◌, ◌++◌, length, map, take, drop, slice_range, Option, Some, None, option_map, Result, Ok, Err, refl, sym, ap, ◌∙◌, subst, ⊎_elim, arith, length-drop, length-append}
-use Rattle.std.specs.Prelude.{is_none, option_and_then, unwrap_or, codes, nat_lt, if◌then◌else◌}
-use Rattle.std.specs.Option.{option_map_or}
+use Rattle.std.proofs.Common.{◌≡◌, ℕ, zero, suc, ◌+◌, ◌-◌, ◌<◌, ◌≤◌, Bool, true, false, List, [], ◌∷◌, ◌++◌, length, map, take, drop, slice_range, Option, Some, None, option_map, Ok, Err, refl, sym, ap, ◌∙◌, subst, ⊎_elim, arith, length-drop}
+use Rattle.std.specs.Prelude.{is_none, option_and_then, unwrap_or, codes, if◌then◌else◌}
 use Rattle.std.proofs.lemmas.Bool.{cases_lt, false≢true}
 use Rattle.mail_codec.specs.Charset.{four_charsets}
 use Rattle.mail_codec.specs.Places.{begins, stands, byte_place, least, values_below}
-use Rattle.mail_codec.proofs.PlaceLemmas.{least-is, least-≤, least-before, least-passes}
+use Rattle.mail_codec.proofs.PlaceLemmas.{least-is, least-before, least-passes}
 use Rattle.mailparse.specs.Refusal.{Refusal, Reads, read_map, read_then, recursion_limit}
 use Rattle.mailparse.specs.Header.{Header, is_line_feed}
 use Rattle.mailparse.specs.Block.{HeaderList, read_headers}
