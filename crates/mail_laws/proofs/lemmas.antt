@@ -1,3 +1,5 @@
 pub mod Spans
 pub mod Dispositions
+pub mod StarFree
 pub mod Boundaries
+pub mod WordTokens

@@ -1,2 +1,16 @@
 pub mod Spans
+pub mod WordTokens
+pub mod StarFree
 pub mod Boundaries
+pub use Rattle.mailparse.specs.Refusal
+pub use Rattle.mailparse.specs.Outcome
+pub use Rattle.mailparse.specs.Ranges
+pub use Rattle.mailparse.specs.Header
+pub use Rattle.mailparse.specs.Block
+pub use Rattle.mailparse.specs.Tokens
+pub use Rattle.mailparse.specs.Value
+pub use Rattle.mailparse.specs.Pieces
+pub use Rattle.mailparse.specs.Pairs
+pub use Rattle.mailparse.specs.Continuations
+pub use Rattle.mailparse.specs.ContentType
+pub use Rattle.mailparse.specs.Disposition

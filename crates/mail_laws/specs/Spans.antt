@@ -1,9 +1,10 @@
--- Where the headers of a block stand in the bytes; the project's own words.
-use Rattle.std.specs.Prelude.{ℕ, List, take}
+-- Where the headers of a block, their keys and their values stand in the bytes; the project's own words.
+use Rattle.std.specs.Prelude.{ℕ, ◌+◌, ◌≤◌, List, take}
 use Rattle.std.specs.List.{flat_map}
 use Rattle.mail_codec.specs.Places.{values_below}
-use Rattle.mailparse.specs.Header.{header_length}
-use Rattle.mailparse.specs.Block.{blank_line, rest_at, header_count}
+use Rattle.mailparse.specs.Header.{Header, header_length, key_end, value_start, value_end}
+use Rattle.mailparse.specs.Block.{blank_line, header_place, rest_at, header_count}
+use Rattle.mailparse.specs.Ranges.{Range, slice}
 
 -- the bytes of the header with this number, its line end among them
 abbrev pub header_span : List ℕ → ℕ → List ℕ
@@ -13,6 +14,28 @@ header_span raw j = take (header_length (rest_at raw j)) (rest_at raw j)
 abbrev pub header_spans : List ℕ → List ℕ
 header_spans raw = flat_map (λ span. span) (values_below (header_count raw) (header_span raw))
 
--- the bytes of the blank line behind them, or none
+-- the bytes of the blank line after them, or none
 abbrev pub blank_span : List ℕ → List ℕ
 blank_span raw = take (blank_line (rest_at raw (header_count raw))) (rest_at raw (header_count raw))
+
+-- where the key of the header with this number stands
+abbrev pub key_range : List ℕ → ℕ → Range
+key_range raw j = record { start = header_place raw j; end = header_place raw j + key_end (rest_at raw j) }
+
+-- where its value stands
+abbrev pub value_range : List ℕ → ℕ → Range
+value_range raw j = record {
+  start = header_place raw j + value_start (rest_at raw j);
+  end = header_place raw j + value_end (rest_at raw j);
+}
+
+-- the header of those bytes
+abbrev pub header_at : List ℕ → ℕ → Header
+header_at raw j = record { key = slice raw (key_range raw j); value = slice raw (value_range raw j) }
+
+-- two ranges, the second after the first, and both before a place
+pub record StandBefore (first second : Range) (place : ℕ) : Type 0 where
+  pub first_is_range : first.start ≤ first.end
+  pub apart : first.end ≤ second.start
+  pub second_is_range : second.start ≤ second.end
+  pub ends : second.end ≤ place

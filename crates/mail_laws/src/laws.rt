@@ -1,22 +1,26 @@
 //! The laws. Each function does nothing; its contract is the law.
-ghost use Rattle.std.specs.Prelude.{Decides, ◌≡◌, ◌<◌, ◌≤◌, ◌++◌, ◌∷◌, [], ℕ, List, codes, length, take, Ok};
+ghost use Rattle.std.specs.Prelude.{◌≡◌, ◌<◌, ◌≤◌, ◌++◌, ℕ, suc, List, [], ◌∷◌, codes, length, take, Decides, Ok};
 ghost use Rattle.std.specs.List.{flat_map};
 ghost use Rattle.std.specs.Str.{IsUtf8};
 ghost use Rattle.mailparse.specs.Header.{Header, read_header};
-ghost use Rattle.mailparse.specs.Block.{HeaderList, read_headers};
-ghost use Rattle.mailparse.specs.ContentType.{ContentType};
+ghost use Rattle.mailparse.specs.Block.{HeaderList, header_count, header_place, read_headers};
 ghost use Rattle.mailparse.specs.Mail.{cut_of};
 ghost use Rattle.mailparse.specs.Ranges.{Apart};
 ghost use Rattle.mail_codec.specs.Charset.{Charsets};
-ghost use Rattle.mailparse.specs.Pairs.{pairs_of, value_of};
+ghost use Rattle.mailparse.specs.ContentType.{ContentType, content_type_in};
+ghost use Rattle.mailparse.specs.Continuations.{parameters_in};
+ghost use Rattle.mailparse.specs.Pairs.{last_of, pairs_of};
 ghost use Rattle.mailparse.specs.Pieces.{ArePieces, pieces};
 ghost use Rattle.mailparse.specs.Tokens.{Adjoin, AreTokens, TokenRange, token_ranges, token_source};
 ghost use Rattle.mailparse.specs.contracts.disposition.DispositionTypePartialEq.TheImpl.{ghosts};
 ghost use Rattle.mailparse.specs.declared.disposition.DispositionType.{DispositionType};
 ghost use Rattle.mailparse.specs.Views.{kind};
-ghost use Rattle.mailparse.specs.Value.{IsPlain, lenient_value, strict_value};
-ghost use Rattle.mail_laws.specs.Boundaries.{IsAlphanumeric, boundary_type};
-ghost use Rattle.mail_laws.specs.Spans.{header_spans, blank_span};
+ghost use Rattle.mail_laws.specs.Boundaries.{IsAlphanumeric, boundary_type, one_text};
+ghost use Rattle.mail_laws.specs.StarFree.{AreStarFree};
+ghost use Rattle.mailparse.specs.Value.{IsPlain, Token, lenient_value, newline, shown_tokens, strict_value};
+ghost use Rattle.mail_codec.specs.Places.{values_below};
+ghost use Rattle.mail_laws.specs.WordTokens.{white, word};
+ghost use Rattle.mail_laws.specs.Spans.{StandBefore, blank_span, header_at, header_spans, key_range, value_range};
 
 /// A header that is read takes at least one byte and at most the input.
 pub fn header_consumes()
@@ -31,10 +35,23 @@ pub fn block_covers()
         header_spans raw ++ blank_span raw ≡ take block.index raw }
 {}
 
+/// The key and the value of each header of a block have the bytes of their ranges. In each header the
+/// range of the key comes first, then that of the value, and then the next header; all stand before
+/// the index of the block.
+pub fn keys_and_values_stand_apart()
+    ensures bytes { (raw : List ℕ) (block : HeaderList) → read_headers raw ≡ Ok block →
+        block.headers ≡ values_below (header_count raw) (header_at raw) }
+    ensures apart { (raw : List ℕ) (j : ℕ) →
+        StandBefore (key_range raw j) (value_range raw j) (key_range raw (suc j)).start }
+    ensures within { (raw : List ℕ) (block : HeaderList) (j : ℕ) → read_headers raw ≡ Ok block →
+        j < header_count raw → (value_range raw j).end ≤ block.index }
+{}
+
 /// Exactly one list of tokens fits a line of a value, the one that is computed, whatever charsets are
 /// known.
 pub fn one_list_of_tokens_fits()
-    ensures fits { (known : Charsets) (line : List ℕ) → AreTokens known line (token_ranges known line) }
+    ensures fits { (known : Charsets) (line : List ℕ)
+        → AreTokens known line (token_ranges known line) }
     ensures only { (known : Charsets) (line : List ℕ) (tokens : List TokenRange)
         → AreTokens known line tokens → tokens ≡ token_ranges known line }
 {}
@@ -42,7 +59,8 @@ pub fn one_list_of_tokens_fits()
 /// The tokens of a line stand one after another from its start to its end, so that their bytes make up
 /// the line.
 pub fn tokens_make_up_line()
-    ensures adjoin { (known : Charsets) (line : List ℕ) → Adjoin 0 (token_ranges known line) (length line) }
+    ensures adjoin { (known : Charsets) (line : List ℕ)
+        → Adjoin 0 (token_ranges known line) (length line) }
     ensures bytes { (known : Charsets) (line : List ℕ)
         → flat_map (token_source line) (token_ranges known line) ≡ line }
 {}
@@ -57,6 +75,18 @@ pub fn parts_apart()
         × Apart 3 cut.body.end cut.parts (length bytes) }
 {}
 
+/// Between two adjacent decoded words neither white nor the end of a line ever shows: a value shows
+/// what it would show if the second word stood directly after the first. (White at the start of a
+/// line is not part of it, so the token before a word there is empty.)
+pub fn adjacent_words_join()
+    ensures white_between { (before rest : List Token) (first gap second : List ℕ) →
+        shown_tokens (before ++ word first ∷ white gap ∷ word second ∷ rest)
+        ≡ shown_tokens (before ++ word first ∷ word second ∷ rest) }
+    ensures line_end_between { (before rest : List Token) (first gap second : List ℕ) →
+        shown_tokens (before ++ word first ∷ white gap ∷ newline ∷ white [] ∷ word second ∷ rest)
+        ≡ shown_tokens (before ++ word first ∷ word second ∷ rest) }
+{}
+
 /// A value of printable ASCII that does not begin with a space and holds no `=?` reads as itself.
 pub fn plain_value_reads_as_itself()
     ensures { (value : List ℕ) → IsPlain value → lenient_value value ≡ value }
@@ -65,14 +95,17 @@ pub fn plain_value_reads_as_itself()
 /// Where the bytes of a value are UTF-8, the strict reading succeeds and agrees with the lenient one;
 /// and where the strict reading succeeds, it agrees with the lenient one.
 pub fn utf8_value_agrees()
-    ensures agrees { (bytes : List ℕ) → IsUtf8 bytes → strict_value bytes ≡ Ok (lenient_value bytes) }
-    ensures succeeds { (bytes value : List ℕ) → strict_value bytes ≡ Ok value → lenient_value bytes ≡ value }
+    ensures agrees { (bytes : List ℕ) → IsUtf8 bytes →
+        strict_value bytes ≡ Ok (lenient_value bytes) }
+    ensures succeeds { (bytes value : List ℕ) → strict_value bytes ≡ Ok value →
+        lenient_value bytes ≡ value }
 {}
 
 /// Exactly one list of pieces fits a text, the one that is computed.
 pub fn one_list_of_pieces_fits()
     ensures fits { (text : List ℕ) → ArePieces text (pieces text) }
-    ensures only { (text : List ℕ) (found : List (List ℕ)) → ArePieces text found → found ≡ pieces text }
+    ensures only { (text : List ℕ) (found : List (List ℕ)) → ArePieces text found →
+        found ≡ pieces text }
 {}
 
 /// Two dispositions are equal exactly if their kinds are, and the texts of extensions.
@@ -80,11 +113,23 @@ pub fn dispositions_equal_by_kind()
     ensures { (a b : DispositionType) → Decides (ghosts.eq a b) (kind a ≡ kind b) }
 {}
 
-/// A text of exactly `multipart/mixed; boundary=B`, where B is letters and digits, has that value and
-/// one pair, the boundary B.
-pub fn plain_boundary_is_the_only_pair()
-    ensures value { (boundary : List ℕ) → IsAlphanumeric boundary →
-        value_of (boundary_type boundary) ≡ codes "multipart/mixed" }
+/// Where no key holds a star, the parameters are the pairs, of equal keys the last, whatever charsets
+/// are known.
+pub fn pairs_without_stars_are_parameters()
+    ensures { (known : Charsets) (pairs : List (List ℕ × List ℕ)) → AreStarFree pairs →
+        (name : List ℕ) → parameters_in known pairs name ≡ last_of pairs name }
+{}
+
+/// A text of exactly `multipart/mixed; boundary=B`, where B is letters and digits, has one pair, the
+/// boundary B, and names that type with that one parameter, whatever charsets are known.
+pub fn plain_boundary_is_read()
     ensures pairs { (boundary : List ℕ) → IsAlphanumeric boundary →
         pairs_of (boundary_type boundary) ≡ (codes "boundary", boundary) ∷ [] }
+    ensures named { (known : Charsets) (boundary : List ℕ) → IsAlphanumeric boundary →
+        content_type_in known (boundary_type boundary)
+        ≡ record {
+          mimetype = codes "multipart/mixed";
+          charset = codes "us-ascii";
+          params = one_text (codes "boundary") boundary;
+        } }
 {}

@@ -19,18 +19,22 @@ abbrev pub RefusesInput : Option (List ℕ) → Option (List ℕ) → MailParseE
 RefusesInput left_before left (Memory e) = Unit {0}
 RefusesInput left_before left e = IsAtEnd left × IfSome left_before (λ input. IsRefusal e (shown input))
 
--- what reading to the end gives: all that the reader had left; a fault is want of memory or of the input
+-- if the fault is one of the message, this holds of its error
+abbrev pub IfMail : (MailParseError → Type 0) → ShowFault → Type 0
+IfMail P (Mail e) = P e
+IfMail P Input = Unit {0}
+IfMail P Output = Unit {0}
+
+-- if the fault is one of the input, this holds
+abbrev pub IfInput : Type 0 → ShowFault → Type 0
+IfInput P (Mail e) = Unit {0}
+IfInput P Input = P
+IfInput P Output = Unit {0}
+
+-- what reading to the end gives: all that the reader had left; a fault is that memory ran out, or one of the input
 abbrev pub IsRead : (left_before left : Option (List ℕ)) → Result (Vec ℕ) ShowFault → Type 0
 IsRead left_before left (Ok input) = IsAtEnd left × IfSome left_before (λ all. input.items ≡ all)
 IsRead left_before left (Err (Mail (Memory e))) = Unit {0}
 IsRead left_before left (Err (Mail e)) = ⊥
 IsRead left_before left (Err Input) = Unit {0}
 IsRead left_before left (Err Output) = ⊥
-
--- what a run leaves: after a fault of the mail or of the input nothing is written, and a fault of the mail is that of the
--- whole input
-abbrev pub Runs : (left_before left held_before held : Option (List ℕ)) → Result (Unit {0}) ShowFault → Type 0
-Runs left_before left held_before held (Ok done) = HasShown left_before left held_before held
-Runs left_before left held_before held (Err (Mail e)) = Keeps held_before held × RefusesInput left_before left e
-Runs left_before left held_before held (Err Input) = Keeps held_before held
-Runs left_before left held_before held (Err Output) = Unit {0}

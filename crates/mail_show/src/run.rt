@@ -1,6 +1,7 @@
 //! A run of the program over any reader and writer.
-ghost use Rattle.std.specs.Prelude.{◌≡◌, ◌<◌, IfOk, vec_len};
-ghost use Rattle.mail_show.specs.Run.{IsRead, Runs};
+ghost use Rattle.std.specs.Io.KnownBytes.{Keeps};
+ghost use Rattle.std.specs.Prelude.{◌≡◌, ◌<◌, IfErr, IfOk, vec_len};
+ghost use Rattle.mail_show.specs.Run.{HasShown, IfInput, IfMail, IsRead, RefusesInput};
 
 use crate::text::text_of;
 use mailparse::{MailParseError, parse_mail};
@@ -11,7 +12,7 @@ use thiserror::Error;
 /// Why nothing, or not all, was shown.
 #[derive(Debug, Drop, Error)]
 pub enum ShowFault {
-    /// The input is no mail, or memory ran out.
+    /// The message is refused, or memory ran out.
     #[error("{0}")]
     Mail(MailParseError),
     /// A read failed.
@@ -56,7 +57,13 @@ pub fn run<R: Read, W: Write>(
     reader: &mut R,
     writer: &mut W,
 ) -> Result<(), ShowFault>
-    ensures { Runs (R.remaining reader.old) (R.remaining reader.new) (W.contents writer.old) (W.contents writer.new) result }
+    ensures shown { IfOk result (λ done. HasShown (R.remaining reader.old) (R.remaining reader.new)
+        (W.contents writer.old) (W.contents writer.new)) }
+    ensures refused { IfErr result (IfMail (λ e.
+        Keeps (W.contents writer.old) (W.contents writer.new)
+        × RefusesInput (R.remaining reader.old) (R.remaining reader.new) e)) }
+    ensures input_failed { IfErr result (IfInput
+        (Keeps (W.contents writer.old) (W.contents writer.new))) }
 {
     let input = read_input(alloc, reader)?;
     let parsed = parse_mail(alloc, input.as_slice())?;

@@ -82,7 +82,8 @@ fn push_header_line(
     text: &mut String,
     field: &MailHeader<'_>,
 ) -> Result<(), MailParseError>
-    ensures ok { OnOk result (string_bytes text.new ≡ string_bytes text.old ++ header_line field.now) }
+    ensures ok { OnOk result
+        (string_bytes text.new ≡ string_bytes text.old ++ header_line field.now) }
     ensures fault { IfErr result IsMemory }
 {
     text.push_str("  ")?;

@@ -19,10 +19,13 @@ default_charset = codes "us-ascii"
 abbrev pub default_type : ContentType
 default_type = record { mimetype = codes "text/plain"; charset = default_charset; params = no_texts }
 
--- the type with these parameters: the charset is the parameter of that name
+-- the charset that parameters name: the parameter of that name
+abbrev pub charset_named : Texts → List ℕ
+charset_named params = unwrap_or (params (codes "charset")) default_charset
+
+-- the type with these parameters
 abbrev pub type_with : List ℕ → Texts → ContentType
-type_with mimetype params =
-    record { mimetype = mimetype; charset = unwrap_or (params (codes "charset")) default_charset; params = params }
+type_with mimetype params = record { mimetype = mimetype; charset = charset_named params; params = params }
 
 -- Under the charsets that are known.
 module _ (known : Charsets) where

@@ -49,7 +49,7 @@ key_end raw = first_place (begins ends_key) raw
 unfoldable pub has_colon : List ℕ → Bool
 has_colon raw = begins (λ b. b == colon) (drop (key_end raw) raw)
 
--- the header ends at the first LF behind its colon that no blank follows, without a colon where the key
+-- the header ends at the first LF after its colon that no blank follows, without a colon where the key
 -- ends, and at the end where there is no such LF
 unfoldable pub header_end : List ℕ → ℕ
 header_end raw = if has_colon raw then place_from ends_header raw (suc (key_end raw)) else key_end raw
@@ -58,7 +58,7 @@ header_end raw = if has_colon raw then place_from ends_header raw (suc (key_end 
 unfoldable pub header_length : List ℕ → ℕ
 header_length raw = min (suc (header_end raw)) (length raw)
 
--- the value starts behind the colon and the spaces there; without a colon it is empty
+-- the value starts after the colon and the spaces there; without a colon it is empty
 unfoldable pub value_start : List ℕ → ℕ
 value_start raw = if has_colon raw then place_from (begins (λ b. not (b == space))) (take (header_end raw) raw) (suc (key_end raw)) else key_end raw
 
@@ -75,7 +75,7 @@ pub record Header : Type 0 where
 abbrev pub header_of : List ℕ → Header
 header_of raw = record { key = take (key_end raw) raw; value = slice_range raw (value_start raw) (value_end raw) }
 
--- the header at the front of the bytes and its length, or why there is none
+-- the header at the front of the bytes and its length, or why it is refused
 unfoldable pub read_header : List ℕ → Result (Header × ℕ) Refusal
 read_header raw =
     if is_empty raw then Err empty_string

@@ -1,12 +1,12 @@
 -- What a call answered, set beside what a definition gives; the crate's own words.
-use Rattle.std.specs.Prelude.{◌≡◌, ℕ, List, Option, Some, None, Result, Ok, Err, String, string_bytes}
+use Rattle.std.specs.Prelude.{◌≡◌, ℕ, List, map, Option, Some, None, Result, Ok, Err, String, string_bytes}
 use Rattle.std.specs.Global.{Global, Vec}
 use Rattle.std.specs.Cow.{cow_str_bytes}
 use Rattle.mailparse.specs.Refusal.{Refusal, generic, encoding, base64_fault}
 use Rattle.mailparse.specs.declared.error.MailParseError.{MailParseError}
 use Rattle.mailparse.specs.declared.error.MailParseError.TheVariants.{QuotedPrintableDecodeError, Base64DecodeError, EncodingError, Generic, Memory}
 
--- the refusal that an error is; want of memory is none, nor is a fault of quoted-printable, which refuses nothing
+-- the refusal that an error is; that memory ran out is not one, nor is a fault of quoted-printable, which refuses nothing
 abbrev pub refusal_of : MailParseError → Option Refusal
 refusal_of (QuotedPrintableDecodeError fault) = None
 refusal_of (Base64DecodeError fault) = Some (base64_fault fault.group)
@@ -49,6 +49,10 @@ IsMemory _ = ⊥
 -- the call gave that text, or memory ran out
 abbrev pub GivesText : Result (String Global) MailParseError → List ℕ → Type 0
 GivesText result text = AnswersOrMemory (λ t. string_bytes t) result (Ok text)
+
+-- the call gave those texts, or memory ran out
+abbrev pub GivesTexts : Result (Vec (String Global)) MailParseError → List (List ℕ) → Type 0
+GivesTexts result texts = AnswersOrMemory (λ v. map (λ t. string_bytes t) v.items) result (Ok texts)
 
 -- the call read the text that a definition gives, or answered its refusal, unless memory ran out
 abbrev pub ReadsText : Result (String Global) MailParseError → Result (List ℕ) Refusal → Type 0

@@ -19,6 +19,10 @@ no_texts name = None
 abbrev pub text_at : {Y Z : Type 0} → BTreeMap (String Y) (String Z) → Texts
 text_at m name = option_map string_bytes (get_by_text m name)
 
+-- a map has these texts and no others
+abbrev pub HasTexts : {Y Z : Type 0} → BTreeMap (String Y) (String Z) → Texts → Type 0
+HasTexts m texts = (name : List ℕ) → text_at m name ≡ texts name
+
 -- of equal keys the last pair stays
 abbrev pub last_of : List (List ℕ × List ℕ) → Texts
 last_of pairs = update_all bytes_eq no_texts pairs

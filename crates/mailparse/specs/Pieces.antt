@@ -1,7 +1,7 @@
 -- The pieces of a value that has parameters, and the text that a quoted one stands for: RFC 2045, section 5.1, as this crate
 -- reads it. The text is cut at each `;` that stands outside of all quoted runs. A quoted run goes from a `"` to the next `"`
 -- that no `\` escapes, or to the end of the text.
-use Rattle.std.specs.Prelude.{◌≡◌, ◌≢◌, ℕ, zero, suc, ◌-◌, Bool, true, false, not, ◌&&◌, ◌==◌, nat_lt, List, [], ◌∷◌, ◌++◌, length, slice_index, slice_range, codes, if◌then◌else◌}
+use Rattle.std.specs.Prelude.{◌≡◌, ◌≢◌, ℕ, zero, suc, ◌-◌, Bool, true, false, not, ◌&&◌, ◌==◌, nat_lt, List, [], ◌∷◌, ◌++◌, length, slice_index, slice_range, if◌then◌else◌}
 use Rattle.std.specs.Str.{chars, encode_utf8_all}
 
 abbrev pub quote : ℕ

@@ -1,12 +1,12 @@
--- Ranges of places in a list of bytes; the project's own words.
+-- Ranges of a list of bytes, counted from 0; the project's own words.
 use Rattle.std.specs.Prelude.{ℕ, ◌+◌, ◌≤◌, List, [], ◌∷◌, slice_range}
 
--- the bytes from one place up to, and not including, another
+-- from the place `start` up to, and not including, the place `end`
 pub record Range : Type 0 where
   pub start : ℕ
   pub end : ℕ
 
--- the bytes that stand there
+-- the bytes of a range
 abbrev pub slice : List ℕ → Range → List ℕ
 slice bytes range = slice_range bytes range.start range.end
 

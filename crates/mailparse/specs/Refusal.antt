@@ -1,7 +1,7 @@
 -- The refusals of the library, each told from the others; the crate's own rule.
 use Rattle.std.specs.Prelude.{ℕ, List, codes, Result, Ok, Err}
 
--- a refusal that is a plain text, one of an encoding that is a text, or the number of the Base64 group that is none
+-- a refusal that is a plain text, one of an encoding that is a text, or the index of the first invalid Base64 group
 pub data Refusal : Type 0 where
   generic : List ℕ → Refusal
   encoding : List ℕ → Refusal
@@ -19,7 +19,7 @@ leading_space = generic (codes "Header cannot start with a space; it is likely a
 abbrev pub lone_carriage_return : Refusal
 lone_carriage_return = generic (codes "Headers were followed by an unexpected lone CR character!")
 
--- a value that is no UTF-8 where only UTF-8 is taken
+-- a value that is not UTF-8 where only UTF-8 is taken
 abbrev pub value_not_utf8 : Refusal
 value_not_utf8 = encoding (codes "Invalid UTF-8 in header value")
 

@@ -24,7 +24,7 @@ pub record TokenRange : Type 0 where
 abbrev pub is_boundary : ℕ → Bool
 is_boundary c = is_whitespace c || list_any (λ d. c == d) (34 ∷ 40 ∷ 41 ∷ 60 ∷ 62 ∷ 44 ∷ [])
 
--- whether the first of the characters is a boundary, or there is none
+-- whether the first of the characters is a boundary, or there are no characters
 abbrev pub begins_with_boundary : List ℕ → Bool
 begins_with_boundary [] = true
 begins_with_boundary (c ∷ _) = is_boundary c
@@ -90,7 +90,7 @@ module _ (known : Charsets) where
   pub data IsGroup (line : List ℕ) (s : ℕ) : List TokenRange → Option ℕ → Type 0 where
     -- no `=?` stands at or after s: the rest of the line is the last token
     no_opening : opening line s ≡ length line → IsGroup line s (outside line s (length line) ∷ []) None
-    -- the least `=?` has a character before it that is no boundary: text, up to the end of that `=?`
+    -- the least `=?` has a character before it that is not a boundary: text, up to the end of that `=?`
     no_boundary : {v : ℕ} → opening line s ≡ v → v ≢ length line → boundary_before line v ≡ false
         → IsGroup line s (text_at s (v + 2) ∷ []) (Some (v + 2))
     -- the least `=?` may begin a word, and no `?=` after it may end one: what stands before it, and that `=?` alone as text

@@ -1,12 +1,12 @@
 //! The type of a message's content.
-ghost use Rattle.std.specs.Prelude.{◌≡◌, IfOk, Ok, codes, string_bytes, unwrap_or};
-ghost use Rattle.mailparse.specs.ContentType.{content_type_of, default_charset, default_type};
+ghost use Rattle.std.specs.Prelude.{◌≡◌, IfOk, Ok, string_bytes};
+ghost use Rattle.mailparse.specs.ContentType.{charset_named, content_type_of, default_type};
 ghost use Rattle.mailparse.specs.Outcome.{AnswersOrMemory};
 ghost use Rattle.mailparse.specs.Pairs.{text_at};
 ghost use Rattle.mailparse.specs.Views.{content_type};
 
 use crate::error::MailParseError;
-use crate::parameters::parameters;
+use crate::parameters::{lower_case, parameters};
 use std::alloc::{AllocError, Global};
 use std::collections::BTreeMap;
 
@@ -26,7 +26,7 @@ pub struct ParsedContentType {
 
 impl ParsedContentType {
     /// The type where nothing says it: `text/plain` in `us-ascii`, without parameters (RFC 2045,
-    /// section 5.2). The error is want of memory.
+    /// section 5.2). The error is that memory ran out.
     pub fn default(alloc: Global) -> Result<ParsedContentType, MailParseError>
         ensures { AnswersOrMemory content_type result (Ok default_type) }
     {
@@ -44,15 +44,14 @@ impl ParsedContentType {
 /// The type is what stands before the first semicolon, without white around it and in ASCII lower
 /// case; it need not be one that anybody knows. The charset is the parameter of that name, which
 /// stays among the parameters, or `us-ascii` where there is none. Every text is read; the error is
-/// want of memory.
+/// that memory ran out.
 ///
 /// `text/html; charset=utf-8` is the type `text/html` in the charset `utf-8`, with one parameter.
 pub fn parse_content_type(alloc: Global, text: &str) -> Result<ParsedContentType, MailParseError>
     ensures { AnswersOrMemory content_type result (Ok (content_type_of text.now)) }
 {
     let (value, params) = parameters(alloc, text)?;
-    let mut mimetype = String::from_str(alloc, value)?;
-    mimetype.make_ascii_lowercase();
+    let mimetype = lower_case(alloc, value)?;
     let charset = charset_of(alloc, &params)?;
     Ok(ParsedContentType {
         mimetype,
@@ -63,7 +62,7 @@ pub fn parse_content_type(alloc: Global, text: &str) -> Result<ParsedContentType
 
 /// The charset that the parameters name, or the default one.
 fn charset_of(alloc: Global, params: &BTreeMap<String, String>) -> Result<String, AllocError>
-    ensures { IfOk result (λ label. string_bytes label ≡ unwrap_or (text_at params.now (codes "charset")) default_charset) }
+    ensures { IfOk result (λ label. string_bytes label ≡ charset_named (text_at params.now)) }
 {
     match params.get("charset") {
         Some(label) => String::from_str(alloc, label.as_str()),

@@ -6,7 +6,7 @@ ghost use Rattle.mailparse.specs.Outcome.{AnswersOrMemory};
 ghost use Rattle.mailparse.specs.Views.{disposition, kind};
 
 use crate::error::MailParseError;
-use crate::parameters::parameters;
+use crate::parameters::{lower_case, parameters};
 use std::alloc::{AllocError, Global};
 use std::collections::BTreeMap;
 
@@ -37,8 +37,8 @@ impl Default for DispositionType {
 }
 
 impl DispositionType {
-    /// An equal value. It takes memory for the text of an `Extension` alone; the error is want of
-    /// it.
+    /// An equal value. It takes memory for the text of an `Extension` alone; the error is that
+    /// memory ran out.
     pub fn clone(&self, alloc: Global) -> Result<DispositionType, MailParseError>
         ensures same { AnswersOrMemory kind result (Ok (kind self.now)) }
         ensures no_memory { IsNamed (kind self.now) → IsOk result }
@@ -82,7 +82,8 @@ impl ParsedContentDisposition {
 ///
 /// The kind is what stands before the first semicolon, without white around it and in ASCII lower
 /// case: `inline`, `attachment` and `form-data` have names of their own, any other text is an
-/// `Extension`, and no text at all means `Inline`. Every text is read; the error is want of memory.
+/// `Extension`, and no text at all means `Inline`. Every text is read; the error is that memory ran
+/// out.
 ///
 /// `attachment; filename="a b"` is an `Attachment` with one parameter.
 pub fn parse_content_disposition(
@@ -102,8 +103,7 @@ pub fn parse_content_disposition(
 fn kind_named(alloc: Global, value: &str) -> Result<DispositionType, AllocError>
     ensures { IfOk result (λ d. kind d ≡ kind_named (str_to_ascii_lowercase value.now)) }
 {
-    let mut name = String::from_str(alloc, value)?;
-    name.make_ascii_lowercase();
+    let name = lower_case(alloc, value)?;
     match name.as_str() {
         "" | "inline" => Ok(DispositionType::Inline),
         "attachment" => Ok(DispositionType::Attachment),

@@ -9,10 +9,10 @@ use thiserror::Error;
 /// Why a call gave no answer.
 #[derive(Debug, Drop, Error)]
 pub enum MailParseError {
-    /// A body that is no quoted-printable text. No call answers it: every text is read.
+    /// A body that is not quoted-printable. No call answers it: every text is read.
     #[error("QuotedPrintable decode error: {0}")]
     QuotedPrintableDecodeError(QuotedPrintableFault),
-    /// A body that is no Base64.
+    /// A body that is not Base64.
     #[error("Base64 decode error: {0}")]
     Base64DecodeError(Base64Fault),
     /// Bytes that are no text in the encoding that was asked for; the text says which.
@@ -35,7 +35,7 @@ pub struct QuotedPrintableFault;
 #[derive(Clone, Copy, Debug, PartialEq, Eq, Error)]
 #[error("group {group} is no Base64 group")]
 pub struct Base64Fault {
-    /// The number, from 0, of the first group of four that is none.
+    /// The index, from 0, of the first invalid group of four.
     pub group: usize,
 }
 
@@ -49,7 +49,7 @@ pub enum Wrapped<'a> {
 }
 
 impl MailParseError {
-    /// The fault that the error wraps: that of the two decode errors, else `None`.
+    /// The fault that the error wraps: that of the two decode errors, otherwise `None`.
     pub fn source(&self) -> Option<Wrapped<'_>>
         ensures { HasSource self.now result }
     {

@@ -36,7 +36,7 @@ impl<'a> Model for MailHeader<'a> {
 
 impl<'a> MailHeader<'a> {
     /// The text of the key: one character for each byte, the one of its number (ISO/IEC 8859-1).
-    /// The error is want of memory.
+    /// The error is that memory ran out.
     pub fn get_key(&self, alloc: Global) -> Result<String, MailParseError>
         ensures { GivesText result (key_text self.now) }
     {
@@ -45,9 +45,10 @@ impl<'a> MailHeader<'a> {
     }
 
     /// The text of the key, borrowed exactly where all its bytes are ASCII: then it takes no memory
-    /// and succeeds. Else the error is want of memory.
+    /// and succeeds. Otherwise the error is that memory ran out.
     pub fn get_key_ref(&self, alloc: Global) -> Result<CowStr<'_>, MailParseError>
-        ensures text { AnswersOrMemory (λ text. cow_str_bytes text) result (Ok (key_text self.now)) }
+        ensures text { AnswersOrMemory (λ text. cow_str_bytes text) result
+            (Ok (key_text self.now)) }
         ensures borrowed { IfOk result (λ text. IsBorrowedStr text ↔ IsAscii self.now.key) }
         ensures no_memory { IsAscii self.now.key → IsOk result }
     {
@@ -56,7 +57,7 @@ impl<'a> MailHeader<'a> {
 
     /// The text of the value: its lines are joined, a space for each line end that shows, and its
     /// encoded words decoded (RFC 5322, section 2.2.3; RFC 2047, sections 2, 4 and 6.2). Bytes that
-    /// are no UTF-8 are read as Latin-1, one character for each byte. The error is want of memory.
+    /// are not UTF-8 are read as Latin-1, one character for each byte. The error is that memory ran out.
     ///
     /// The value `=?utf-8?Q?caf=C3=A9?=` reads as `café`.
     #[tactic(auto, unfolding(crate::specs::Value::lenient_value))]
@@ -73,19 +74,19 @@ impl<'a> MailHeader<'a> {
     }
 
     /// The text of the value as `get_value` reads it, where its bytes are UTF-8; other bytes are
-    /// refused before any memory is taken. Else the error is want of memory.
+    /// refused before any memory is taken. Otherwise the error is that memory ran out.
     #[tactic(auto, unfolding(crate::specs::Value::strict_value))]
     pub fn get_value_utf8(&self, alloc: Global) -> Result<String, MailParseError>
         ensures read { ReadsText result (strict_value self.now.value) }
         ensures no_memory { IsErr (strict_value self.now.value) →
             Answers (λ text. string_bytes text) result (strict_value self.now.value) }
     {
-        match str::from_utf8(self.get_value_raw()) {
-            Ok(text) => Ok(unfolded_value(alloc, text)?),
-            Err(_) => Err(MailParseError::EncodingError(CowStr::Borrowed(
+        let Ok(text) = str::from_utf8(self.get_value_raw()) else {
+            return Err(MailParseError::EncodingError(CowStr::Borrowed(
                 "Invalid UTF-8 in header value",
-            ))),
-        }
+            )));
+        };
+        Ok(unfolded_value(alloc, text)?)
     }
 
     /// The bytes of the key, as they stand in the message, spaces before the colon among them.
@@ -97,7 +98,7 @@ impl<'a> MailHeader<'a> {
     }
 
     /// The bytes of the value, as they stand in the message: without the spaces at its front and
-    /// the line end behind it, with the line ends inside it. Takes no memory.
+    /// the line end after it, with the line ends inside it. Takes no memory.
     pub fn get_value_raw(&self) -> &[u8]
         ensures { result.now ≡ self.now.value }
     {

@@ -1,9 +1,9 @@
 //! The parameters of a value (RFC 2045, section 5.1; RFC 2231, sections 3 and 4).
-ghost use Rattle.std.specs.Prelude.{◌≡◌, ℕ, List, IfErr, IfOk};
-ghost use Rattle.mail_codec.specs.Charset.{four_charsets};
-ghost use Rattle.mailparse.specs.Continuations.{parameters_in};
+ghost use Rattle.std.specs.Prelude.{◌≡◌, IfErr, IfOk, string_bytes};
+ghost use Rattle.std.specs.Str.{str_to_ascii_lowercase};
+ghost use Rattle.mailparse.specs.Continuations.{parameters_of};
 ghost use Rattle.mailparse.specs.Outcome.{IsMemory};
-ghost use Rattle.mailparse.specs.Pairs.{pairs_of, text_at, value_of};
+ghost use Rattle.mailparse.specs.Pairs.{HasTexts, pairs_of, value_of};
 
 mod continuations;
 mod pairs;
@@ -13,7 +13,7 @@ use crate::error::MailParseError;
 use continuations::resolve;
 use pairs::pairs;
 use pieces::cut_piece;
-use std::alloc::Global;
+use std::alloc::{AllocError, Global};
 use std::collections::BTreeMap;
 
 /// The value of a text, without white around it, and its parameters by name.
@@ -22,10 +22,19 @@ pub(crate) fn parameters(
     text: &str,
 ) -> Result<(&str, BTreeMap<String, String>), MailParseError>
     ensures value { IfOk result (λ found. found.0.now ≡ value_of text.now) }
-    ensures params { IfOk result (λ found. (name : List ℕ) → text_at found.1 name ≡ parameters_in four_charsets (pairs_of text.now) name) }
+    ensures params { IfOk result (λ found. HasTexts found.1 (parameters_of (pairs_of text.now))) }
     ensures fault { IfErr result IsMemory }
 {
     let (value, rest) = cut_piece(text);
     let pairs = pairs(alloc, rest)?;
     Ok((value.trim(), resolve(alloc, &pairs)?))
+}
+
+/// A text in ASCII lower case.
+pub(crate) fn lower_case(alloc: Global, text: &str) -> Result<String, AllocError>
+    ensures { IfOk result (λ lower. string_bytes lower ≡ str_to_ascii_lowercase text.now) }
+{
+    let mut lower = String::from_str(alloc, text)?;
+    lower.make_ascii_lowercase();
+    Ok(lower)
 }

@@ -1,6 +1,6 @@
 -- The text `multipart/mixed; boundary=B`, where B is letters and digits.
-use Rattle.std.proofs.Common.{◌≡◌, ◌≢◌, ◌⊎◌, ℕ, suc, ◌+◌, ◌<◌, ◌≤◌, Bool, true, false, cond, eqb, not, ◌&&◌, List, [], ◌∷◌, ◌++◌, length, Option, Some, get_or, codes, refl, sym, ap, ◌∙◌, ⊎_elim, arith, length-append}
-use Rattle.std.proofs.lemmas.Bool.{cond-false, cond-true, ne_eqb, eqb-false, and_left, and_right, and_parts, or_from, le-ltb, cases_lt}
+use Rattle.std.proofs.Common.{◌≡◌, ◌≢◌, ◌⊎◌, ℕ, zero, suc, ◌≤◌, Bool, true, false, eqb, not, ◌&&◌, List, [], ◌∷◌, ◌++◌, length, Some, codes, refl, ap, ◌∙◌, ⊎_elim, arith, length-append}
+use Rattle.std.proofs.lemmas.Bool.{cond-false, ne_eqb, eqb-false, and_left, and_right, and_parts, cases_lt}
 use Rattle.std.proofs.lemmas.List.{get_or_past}
 use Rattle.std.proofs.lemmas.List.Elements.{All-head, All-tail}
 use Rattle.std.proofs.lemmas.Str.{chars-IsAscii, encodes-IsAscii}
@@ -8,12 +8,17 @@ use lib.Utf8.{encode}
 use Rattle.std.specs.Char.{is_whitespace}
 use Rattle.std.specs.List.{All, list_all}
 use Rattle.std.specs.Str.{IsAscii, chars, encode_utf8_all, trim, trim_start, trim_end, skip_leading_whitespace, drop_trailing_whitespace, str_to_ascii_lowercase}
-use Rattle.mailparse.specs.Pairs.{pair_of, pairs_of, pairs_in, value_of}
-use Rattle.mailparse.specs.Pieces.{quote, semicolon, Within, outside, with_front, pieces, pieces_from, unescape}
+use Rattle.mailparse.specs.Pairs.{pair_of, pairs_of, value_of}
+use Rattle.mailparse.specs.Pieces.{quote, semicolon, outside, with_front, pieces, pieces_from, unescape}
 use Rattle.mailparse.proofs.lemmas.Pairs.{pair_of-some, pairs_in-some, pairs_of-later, value_of-first}
-use Rattle.mailparse.proofs.lemmas.Pieces.{with_front-append, at_other}
+use Rattle.mailparse.proofs.lemmas.Pieces.{at_other}
 use Rattle.mailparse.proofs.lemmas.Plain.{graphic_no_white}
-use Rattle.mail_laws.specs.Boundaries.{IsAlphanumeric, boundary_type}
+use Rattle.mail_codec.specs.Charset.{Charsets}
+use Rattle.mail_laws.specs.Boundaries.{IsAlphanumeric, boundary_type, one_text}
+use Rattle.mailparse.specs.ContentType.{content_type_in, type_with}
+use Rattle.mailparse.specs.Continuations.{parameters_in}
+use Rattle.mail_laws.specs.StarFree.{AreStarFree}
+use Rattle.mail_laws.proofs.lemmas.StarFree.{parameters_are_pairs}
 
 -- ---- graphic bytes
 
@@ -132,3 +137,20 @@ pub boundary_pairs : (boundary : List ℕ) → IsAlphanumeric boundary → pairs
 boundary_pairs boundary h =
     pairs_of-later (boundary_type boundary) (codes "multipart/mixed") _ (boundary_pieces boundary h)
     ∙ pairs_in-some (codes " boundary=" ++ boundary) [] (codes "boundary") boundary (boundary_pair boundary h)
+
+-- ---- its type
+
+no_star : (boundary : List ℕ) → AreStarFree ((codes "boundary", boundary) ∷ [])
+no_star boundary zero d lt = refl
+no_star boundary (suc i) d lt = absurd (omega arith)
+
+pub boundary_content_type : (known : Charsets) (boundary : List ℕ) → IsAlphanumeric boundary
+    → content_type_in known (boundary_type boundary)
+    ≡ record { mimetype = codes "multipart/mixed"; charset = codes "us-ascii"; params = one_text (codes "boundary") boundary }
+unfolding content_type_in
+boundary_content_type known boundary h =
+    let params : parameters_in known ((codes "boundary", boundary) ∷ []) ≡ one_text (codes "boundary") boundary =
+    λ i name. parameters_are_pairs known ((codes "boundary", boundary) ∷ []) (no_star boundary) name i in
+    ap (λ value. type_with (str_to_ascii_lowercase value) (parameters_in known (pairs_of (boundary_type boundary)))) (boundary_value boundary h)
+    ∙ ap (λ pairs. type_with (codes "multipart/mixed") (parameters_in known pairs)) (boundary_pairs boundary h)
+    ∙ ap (λ texts. type_with (codes "multipart/mixed") texts) params

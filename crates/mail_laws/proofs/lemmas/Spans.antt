@@ -1,12 +1,15 @@
--- Lemmas on where the headers of a block stand.
-use Rattle.std.proofs.Common.{◌≡◌, ℕ, zero, suc, ◌+◌, List, ◌++◌, take, drop, Ok, sym, ap, ◌∙◌, arith}
+-- Lemmas on where the headers of a block, their keys and their values stand.
+use Rattle.std.proofs.Common.{◌≡◌, ℕ, zero, suc, ◌+◌, ◌-◌, ◌<◌, ◌≤◌, ◌⊎◌, inl, inr, List, ◌++◌, take, drop, slice_range, Ok, refl, sym, ap, ◌∙◌, arith}
 use Rattle.std.specs.List.{flat_map}
-use Rattle.std.proofs.lemmas.List.{take-take, drop-take, take-append-drop}
+use Rattle.std.proofs.lemmas.Bool.{cases_lt}
+use Rattle.std.proofs.lemmas.List.{take-take, drop-take, drop-drop, take-append-drop}
 use Rattle.mail_codec.specs.Places.{values_below}
-use Rattle.mailparse.specs.Header.{header_length}
+use Rattle.mailparse.specs.Header.{Header, header_length, header_of, key_end, value_start, value_end}
 use Rattle.mailparse.specs.Block.{HeaderList, blank_line, header_place, rest_at, header_count, read_headers}
-use Rattle.mailparse.proofs.lemmas.Block.{rest_at-first, rest_at-more, header_place-more, header_place-first, read_headers-index, values_below-same}
-use Rattle.mail_laws.specs.Spans.{header_span, header_spans, blank_span}
+use Rattle.mailparse.specs.Ranges.{slice}
+use Rattle.mailparse.proofs.lemmas.Header.{value-in_order}
+use Rattle.mailparse.proofs.lemmas.Block.{rest_at-first, rest_at-more, header_place-more, header_place-first, read_headers-index, read_headers-list, values_below-same}
+use Rattle.mail_laws.specs.Spans.{header_span, header_spans, blank_span, key_range, value_range, header_at, StandBefore}
 
 -- two parts that adjoin
 take-take-drop : (a b : ℕ) (xs : List ℕ) → take a xs ++ take b (drop a xs) ≡ take (a + b) xs
@@ -33,3 +36,52 @@ spans-cover raw block e =
     ap (λ (x : List ℕ). x ++ blank_span raw) (spans-below (header_count raw) raw)
     ∙ take-take-drop (header_place raw (header_count raw)) (blank_line (rest_at raw (header_count raw))) raw
     ∙ ap (λ k. take k raw) (sym (read_headers-index raw block e))
+
+-- a range of what follows a place is a range of the whole
+slice-after : (raw : List ℕ) (place from to : ℕ) → slice_range (drop place raw) from to ≡ slice_range raw (place + from) (place + to)
+slice-after raw place from to =
+    let size : to - from ≡ (place + to) - (place + from) = omega arith in
+    ap (take (to - from)) (drop-drop from place raw) ∙ ap (λ n. take n (drop (place + from) raw)) size
+
+-- the front of what follows a place is a range of the whole
+front-after : (raw : List ℕ) (place to : ℕ) → take to (drop place raw) ≡ slice_range raw place (place + to)
+front-after raw place to = let size : to ≡ (place + to) - place = omega arith in ap (λ n. take n (drop place raw)) size
+
+-- the header with a number has the bytes of its two ranges
+header-at : (raw : List ℕ) (j : ℕ) → header_of (rest_at raw j) ≡ header_at raw j
+header-at raw j =
+    let rest = rest_at raw j in
+    ap (λ (key : List ℕ). header key (slice_range rest (value_start rest) (value_end rest))) (front-after raw (header_place raw j) (key_end rest))
+    ∙ ap (header (slice raw (key_range raw j))) (slice-after raw (header_place raw j) (value_start rest) (value_end rest))
+  where
+    header : List ℕ → List ℕ → Header
+    header key value = record { key = key; value = value }
+
+pub headers-at_ranges : (raw : List ℕ) (block : HeaderList) → read_headers raw ≡ Ok block → block.headers ≡ values_below (header_count raw) (header_at raw)
+headers-at_ranges raw block e = read_headers-list raw block e ∙ values_below-same (header_count raw) (λ j. header_of (rest_at raw j)) (header_at raw) (header-at raw)
+
+-- the next header starts where this one ends
+place-next : (raw : List ℕ) (j : ℕ) → header_place raw (suc j) ≡ header_place raw j + header_length (rest_at raw j)
+unfolding header_place
+place-next raw j = refl
+
+pub ranges-in_order : (raw : List ℕ) (j : ℕ) → StandBefore (key_range raw j) (value_range raw j) (header_place raw (suc j))
+ranges-in_order raw j =
+    let order = value-in_order (rest_at raw j) in
+    let next = place-next raw j in
+    record { first_is_range = omega arith; apart = omega arith; second_is_range = omega arith; ends = omega arith }
+
+-- the places go on
+place-later : (raw : List ℕ) (j n : ℕ) → j ≤ n → header_place raw j ≤ header_place raw n
+place-later raw j zero low = let e : j ≡ 0 = omega arith in rw e (omega arith)
+place-later raw j (suc n) low = by_last (λ below. place-later raw j n below) (cases_lt n j)
+  where
+    by_last : (j ≤ n → header_place raw j ≤ header_place raw n) → (n < j) ⊎ (j ≤ n) → header_place raw j ≤ header_place raw (suc n)
+    by_last more (inl last) = let e : j ≡ suc n = omega arith in rw e (omega arith)
+    by_last more (inr below) = let before = more below in let next = place-next raw n in omega arith
+
+pub place-within : (raw : List ℕ) (block : HeaderList) (j : ℕ) → read_headers raw ≡ Ok block → j < header_count raw → header_place raw (suc j) ≤ block.index
+place-within raw block j e low =
+    let later = place-later raw (suc j) (header_count raw) (omega arith) in
+    let index = read_headers-index raw block e in
+    omega arith

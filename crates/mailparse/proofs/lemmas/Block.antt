@@ -78,7 +78,7 @@ header_count-past raw above =
 pub header_count-stops : (raw : List ℕ) → has_header (rest_at raw (header_count raw)) ≡ false
 header_count-stops raw = elim (cases_lt (header_count raw) (length raw)) [ inl below ↦ header_count-below raw below | inr above ↦ header_count-past raw above ]
 
--- the places behind the first header are those of the rest
+-- the places after the first header are those of the rest
 pub header_place-more : (raw : List ℕ) (j : ℕ) → header_place raw (suc j) ≡ header_length raw + header_place (drop (header_length raw) raw) j
 unfolding header_place
 header_place-more raw zero = omega arith
@@ -141,7 +141,7 @@ end_at-front front found n place stop = by_end (headers_end stop) (stands (13 �
     by_end false true = refl
     by_end false false = refl
 
--- a block that begins with a header is that header and the block behind it
+-- a block that begins with a header is that header and the block after it
 pub read_headers-more : (raw : List ℕ) → has_header raw ≡ true → read_headers raw ≡ with_front (header_of raw ∷ []) (header_length raw) (read_headers (drop (header_length raw) raw))
 read_headers-more raw h =
     let n = header_length raw in
@@ -276,7 +276,7 @@ block_end-found raw found e read = by_tests (headers_end raw) (stands (13 ∷ []
         let same : found ≡ (header_of raw, header_length raw) = let f : ◌≡◌ {A = Result (Header × ℕ) Refusal} (Ok (header_of raw, header_length raw)) (Ok found) = sym (read_header-at raw false (is_empty-from_headers_end raw ends) leads) ∙ read in cc in
         (has_header-at raw false false ends return false leads, same)
 
--- so it goes in front of the block behind it, and adds one to their number
+-- so it goes in front of the block after it, and adds one to their number
 pub read_headers-found : (raw : List ℕ) (found : Header × ℕ) → block_end raw ≡ Ok None → read_header raw ≡ Ok found → read_headers raw ≡ with_front (found.0 ∷ []) found.1 (read_headers (drop found.1 raw))
 read_headers-found raw found e read =
     let is = block_end-found raw found e read in
@@ -342,7 +342,7 @@ block_end-≤ raw taken e = by_tests (headers_end raw) (stands (13 ∷ []) raw) 
     by_tests false true ends return = let f : ◌≡◌ {A = Result (Option ℕ) Refusal} (Err lone_carriage_return) (Ok (Some taken)) = sym (block_end-at raw false true ends return) ∙ e in absurd (cc)
     by_tests false false ends return = let f : ◌≡◌ {A = Result (Option ℕ) Refusal} (Ok None) (Ok (Some taken)) = sym (block_end-at raw false false ends return) ∙ e in absurd (cc)
 
--- one header fewer is left behind a header
+-- one header fewer is left after a header
 pub count_further : (raw : List ℕ) (place : ℕ) (found : Header × ℕ) → block_end (drop place raw) ≡ Ok None → read_header (drop place raw) ≡ Ok found → header_count (drop place raw) ≡ suc (header_count (drop (place + found.1) raw))
 count_further raw place found e read = header_count-found (drop place raw) found e read ∙ ap (λ (xs : List ℕ). suc (header_count xs)) (drop-drop found.1 place raw)
 
@@ -410,26 +410,32 @@ read_header-bounds (b ∷ raw) found e = by_test (stands (32 ∷ []) (b ∷ raw)
         let high = header_length-≤ (b ∷ raw) in
         (omega arith, omega arith)
 
--- the index of a block is the place where its headers stop, and the blank line behind it
-pub read_headers-index : (raw : List ℕ) (block : HeaderList) → read_headers raw ≡ Ok block → block.index ≡ header_place raw (header_count raw) + blank_line (rest_at raw (header_count raw))
-read_headers-index raw block e = by_tests (headers_end (rest_at raw (header_count raw))) (stands (13 ∷ []) (rest_at raw (header_count raw))) refl refl
+-- what a block is that is read: the headers at its places, and the place after the blank line
+abbrev block_read : List ℕ → HeaderList
+block_read raw = record {
+  headers = values_below (header_count raw) (λ j. header_of (rest_at raw j));
+  index = header_place raw (header_count raw) + blank_line (rest_at raw (header_count raw));
+}
+
+read_headers-is : (raw : List ℕ) (block : HeaderList) → read_headers raw ≡ Ok block → block_read raw ≡ block
+read_headers-is raw block e = by_tests (headers_end stop) (stands (13 ∷ []) stop) refl refl
   where
     stop : List ℕ
     stop = rest_at raw (header_count raw)
 
-    found : List Header
-    found = values_below (header_count raw) (λ j. header_of (rest_at raw j))
-
-    at : (h r : Bool) → headers_end stop ≡ h → stands (13 ∷ []) stop ≡ r → cond h (Ok (record { headers = found; index = header_place raw (header_count raw) + blank_line stop })) (cond r (Err lone_carriage_return) (Err leading_space)) ≡ Ok block
+    at : (h r : Bool) → headers_end stop ≡ h → stands (13 ∷ []) stop ≡ r → cond h (Ok (block_read raw)) (cond r (Err lone_carriage_return) (Err leading_space)) ≡ Ok block
     at h r ends return = sym (read_headers-end_at raw ∙ (rw (ends, return) refl)) ∙ e
 
-    by_tests : (h r : Bool) → headers_end stop ≡ h → stands (13 ∷ []) stop ≡ r → block.index ≡ header_place raw (header_count raw) + blank_line stop
-    by_tests true r ends return =
-        let f = at true r ends return in
-        let same : ◌≡◌ {A = HeaderList} (record { headers = found; index = header_place raw (header_count raw) + blank_line stop }) block = cc in
-        sym (ap (λ (b : HeaderList). b.index) same)
+    by_tests : (h r : Bool) → headers_end stop ≡ h → stands (13 ∷ []) stop ≡ r → block_read raw ≡ block
+    by_tests true r ends return = let f = at true r ends return in cc
     by_tests false true ends return = let f = at false true ends return in absurd (cc)
     by_tests false false ends return = let f = at false false ends return in absurd (cc)
+
+pub read_headers-index : (raw : List ℕ) (block : HeaderList) → read_headers raw ≡ Ok block → block.index ≡ header_place raw (header_count raw) + blank_line (rest_at raw (header_count raw))
+read_headers-index raw block e = sym (ap (λ (b : HeaderList). b.index) (read_headers-is raw block e))
+
+pub read_headers-list : (raw : List ℕ) (block : HeaderList) → read_headers raw ≡ Ok block → block.headers ≡ values_below (header_count raw) (λ j. header_of (rest_at raw j))
+read_headers-list raw block e = sym (ap (λ (b : HeaderList). b.headers) (read_headers-is raw block e))
 
 pub header_place-first : (raw : List ℕ) → header_place raw 0 ≡ 0
 unfolding header_place

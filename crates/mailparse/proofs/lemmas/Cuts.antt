@@ -27,13 +27,6 @@ KeepsClosing_none line k above below = absurd (omega arith)
 
 -- ---- pairs of bytes
 
--- fewer than two bytes hold no pair
-pub pair_end : (a b : ℕ) (bytes : List ℕ) (at : ℕ) → at ≤ length bytes → length bytes - at ≤ 1
-    → place_from (stands (a ∷ b ∷ [])) bytes at ≡ length bytes
-pair_end a b bytes at fits few =
-    ⊎_elim (λ e. e) (λ some. let stands = pair_stands a b bytes at _ fits refl some in absurd (omega arith))
-    (cases_eq (place_from (stands (a ∷ b ∷ [])) bytes at) (length bytes))
-
 closing_is_pair : (rest : List ℕ) → begins_closing rest ≡ true → stands (63 ∷ 61 ∷ []) rest ≡ true
 closing_is_pair rest h = (and_parts (stands (63 ∷ 61 ∷ []) rest) (begins_with_boundary (chars (drop 2 rest))) h).0
 
@@ -56,7 +49,7 @@ pub closing_here : (line : List ℕ) (at : ℕ) → at < length line → place_f
 closing_here line at some found beside =
     place_from_here begins_closing line at some (and_from _ _ (pair_here line at some found) (closing_beside line at ∙ beside))
 
--- and one without is none
+-- and a text without one has none
 pub closing_next : (line : List ℕ) (at : ℕ) → at < length line → begins_with_boundary (chars (drop (at + 2) line)) ≡ false
     → closing line at ≡ closing line (at + 1)
 closing_next line at some beside =

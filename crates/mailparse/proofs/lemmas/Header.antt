@@ -161,17 +161,6 @@ pub record TrimmedTo (bytes rest : List ℕ) : Type 0 where
   pub whole : bytes ≡ rest ++ tail
   pub after : list_all is_line_end tail ≡ true
 
-pub TrimmedTo-start : (bytes : List ℕ) → TrimmedTo bytes bytes
-TrimmedTo-start bytes = record { tail = []; whole = sym (append-nil bytes); after = refl }
-
--- one more byte goes
-pub TrimmedTo-more : (bytes rest front : List ℕ) (b : ℕ) → TrimmedTo bytes rest → rest ≡ front ++ b ∷ [] → is_line_end b ≡ true → TrimmedTo bytes front
-TrimmedTo-more bytes rest front b h cut e = record {
-  tail = b ∷ h.tail;
-  whole = h.whole ∙ ap (λ (xs : List ℕ). xs ++ h.tail) cut ∙ append_assoc front (b ∷ []) h.tail;
-  after = rw e h.after;
-}
-
 list_all-none : (front tail : List ℕ) (b : ℕ) → is_line_end b ≡ false → list_all is_line_end (front ++ b ∷ tail) ≡ false
 list_all-none [] tail b e = rw e refl
 list_all-none (x ∷ front) tail b e = rw (list_all-none front tail b e) (elim (is_line_end x) as (λ v. (v && false) ≡ false) [ true ↦ refl | false ↦ refl ])
@@ -189,13 +178,6 @@ TrimmedTo-last bytes rest front b h cut e =
     let place : first_place (list_all is_line_end) bytes ≡ suc (length front) = ap (first_place (list_all is_line_end)) whole ∙ trimmed_place front h.tail b e h.after in
     let size : length rest ≡ suc (length front) = ap length cut ∙ length-append front (b ∷ []) ∙ omega arith in
     sym (ap (λ n. take n bytes) (place ∙ sym size) ∙ ap (take (length rest)) h.whole ∙ take-append_seam rest h.tail)
-
--- or where none is left
-pub TrimmedTo-all : (bytes rest : List ℕ) → TrimmedTo bytes rest → length rest ≡ 0 → rest ≡ take (first_place (list_all is_line_end) bytes) bytes
-TrimmedTo-all bytes [] h e =
-    let all : list_all is_line_end bytes ≡ true = rw h.whole h.after in
-    rw (first_place-here (list_all is_line_end) bytes all) refl
-TrimmedTo-all bytes (b ∷ rest) h e = absurd (omega arith)
 
 -- the key ends within the bytes
 pub key_end-≤ : (raw : List ℕ) → key_end raw ≤ length raw
@@ -338,3 +320,37 @@ header_length-≤ raw = omega arith
 pub header_length-> : (raw : List ℕ) → 0 < length raw → 0 < header_length raw
 unfolding header_length
 header_length-> raw h = omega arith
+
+-- without a colon the value stands, empty, where the key ends
+no_start : (raw : List ℕ) → has_colon raw ≡ false → value_start raw ≡ key_end raw
+unfolding value_start
+no_start raw e = rw e refl
+
+no_end : (raw : List ℕ) → has_colon raw ≡ false → value_end raw ≡ key_end raw
+unfolding value_end
+no_end raw e = rw e refl
+
+-- a header's key, value and end stand in this order
+pub value-in_order : (raw : List ℕ) → (key_end raw ≤ value_start raw) × (value_start raw ≤ value_end raw) × (value_end raw ≤ header_length raw)
+unfolding header_length
+value-in_order raw = by_colon (has_colon raw) refl
+  where
+    without : has_colon raw ≡ false → (value_start raw ≡ key_end raw) × (value_end raw ≡ key_end raw)
+    without e = (no_start raw e, no_end raw e)
+
+    by_colon : (v : Bool) → has_colon raw ≡ v → (key_end raw ≤ value_start raw) × (value_start raw ≤ value_end raw) × (value_end raw ≤ min (suc (header_end raw)) (length raw))
+    by_colon true e =
+        let starts = value_start-colon raw e in
+        let ends = value_end-colon raw e in
+        let size = length-cut raw e in
+        let order = header_end-> raw e in
+        let within = header_end-≤ raw in
+        let front = first_place-≤ (begins (λ b. not (eqb b 32))) (cut raw) in
+        let back = first_place-≤ (list_all is_line_end) (drop (spaces raw) (cut raw)) in
+        let rest = length-drop (spaces raw) (cut raw) in
+        (omega arith, omega arith, omega arith)
+    by_colon false e =
+        let same = without e in
+        let at = header_end-key raw e in
+        let within = key_end-≤ raw in
+        (omega arith, omega arith, omega arith)

@@ -16,22 +16,22 @@ pub same-none : (rest name : List ℕ) (n : ℕ) → n < length name → length 
 same-none [] name n low e = ap (pointwise eq_ignore_ascii_case []) (drop_more name n 0 low) ∙ refl
 same-none (b ∷ rest) name n low e = absurd (omega arith)
 
-step : (rest name : List ℕ) (n byte character : ℕ) (behind : List ℕ) → rest ≡ byte ∷ behind → n < length name → character ≡ get_or name n character
-    → pointwise eq_ignore_ascii_case rest (drop n name) ≡ (eq_ignore_ascii_case byte character && pointwise eq_ignore_ascii_case behind (drop (n + 1) name))
-step rest name n byte character behind cut low is =
+step : (rest name : List ℕ) (n byte character : ℕ) (others : List ℕ) → rest ≡ byte ∷ others → n < length name → character ≡ get_or name n character
+    → pointwise eq_ignore_ascii_case rest (drop n name) ≡ (eq_ignore_ascii_case byte character && pointwise eq_ignore_ascii_case others (drop (n + 1) name))
+step rest name n byte character others cut low is =
     ap (λ (x : List ℕ). pointwise eq_ignore_ascii_case x (drop n name)) cut
-    ∙ ap (pointwise eq_ignore_ascii_case (byte ∷ behind)) (drop_more name n character low)
-    ∙ ap (λ x. eq_ignore_ascii_case byte x && pointwise eq_ignore_ascii_case behind (drop (n + 1) name)) (sym is)
+    ∙ ap (pointwise eq_ignore_ascii_case (byte ∷ others)) (drop_more name n character low)
+    ∙ ap (λ x. eq_ignore_ascii_case byte x && pointwise eq_ignore_ascii_case others (drop (n + 1) name)) (sym is)
 
 -- a byte that is not the character
-pub same-differs : (rest name : List ℕ) (n byte character : ℕ) (behind : List ℕ) → rest ≡ byte ∷ behind → n < length name → character ≡ get_or name n character
+pub same-differs : (rest name : List ℕ) (n byte character : ℕ) (others : List ℕ) → rest ≡ byte ∷ others → n < length name → character ≡ get_or name n character
     → eq_ignore_ascii_case byte character ≡ false → pointwise eq_ignore_ascii_case rest (drop n name) ≡ false
-same-differs rest name n byte character behind cut low is e = step rest name n byte character behind cut low is ∙ (rw e refl)
+same-differs rest name n byte character others cut low is e = step rest name n byte character others cut low is ∙ (rw e refl)
 
 -- a byte that is
-pub same-more : (rest name : List ℕ) (n byte character : ℕ) (behind : List ℕ) → rest ≡ byte ∷ behind → n < length name → character ≡ get_or name n character
-    → eq_ignore_ascii_case byte character ≡ true → pointwise eq_ignore_ascii_case rest (drop n name) ≡ pointwise eq_ignore_ascii_case behind (drop (n + 1) name)
-same-more rest name n byte character behind cut low is e = step rest name n byte character behind cut low is ∙ (rw e refl)
+pub same-more : (rest name : List ℕ) (n byte character : ℕ) (others : List ℕ) → rest ≡ byte ∷ others → n < length name → character ≡ get_or name n character
+    → eq_ignore_ascii_case byte character ≡ true → pointwise eq_ignore_ascii_case rest (drop n name) ≡ pointwise eq_ignore_ascii_case others (drop (n + 1) name)
+same-more rest name n byte character others cut low is e = step rest name n byte character others cut low is ∙ (rw e refl)
 
 -- the end of the name
 pub same-end : (rest name : List ℕ) (n : ℕ) → length name ≤ n → (answer : Bool) → answer ≡ eqb (length rest) 0 → pointwise eq_ignore_ascii_case rest (drop n name) ≡ answer
@@ -59,7 +59,7 @@ low_below c small = ⊎_elim (λ h. subst (λ n. n < 128) (sym (cond-true _ _ _ 
     past : 65 ≤ c → 91 ≤ c → low c < 128
     past h i = subst (λ n. n < 128) (sym (low_past c i)) small
 
--- the letters of a character's bytes are those of the character: a byte of a character past ASCII is no letter
+-- the letters of a character's bytes are those of the character: a byte of a character past ASCII is not a letter
 stays : List ℕ → Type 0
 stays bytes = map low bytes ≡ bytes
 

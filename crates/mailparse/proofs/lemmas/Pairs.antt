@@ -1,20 +1,19 @@
 -- Lemmas on the pairs of a text, and on the map that holds them.
-use Rattle.std.proofs.Common.{◌≡◌, ◌≢◌, ℕ, suc, ◌+◌, ◌<◌, ◌≤◌, Bool, true, false, cond, eqb, ltb, List, [], ◌∷◌, ◌++◌, length, drop, Option, Some, None, refl, sym, ap, ◌∙◌, arith}
+use Rattle.std.proofs.Common.{◌≡◌, ℕ, suc, ◌<◌, Bool, true, false, cond, ltb, List, ◌∷◌, ◌++◌, length, drop, Option, Some, None, refl, sym, ap, ◌∙◌, arith}
 use Rattle.std.proofs.lemmas.Bool.{cond-true, cond-false, lt-ltb, le-ltb}
 use Rattle.std.proofs.lemmas.Map.Text.{btree_map_updates_text}
 use Rattle.std.specs.Borrow.{Bor}
 use Rattle.std.specs.BTreeMap.{BTreeMap, UpdatesBy}
 use Rattle.std.specs.Global.{Global}
-use Rattle.std.specs.List.{position_or_len, before_first, after_first, flat_map}
+use Rattle.std.specs.List.{position_or_len, before_first, after_first}
 use Rattle.std.specs.Map.{update, update_all}
 use Rattle.std.specs.Option.{option_map, option_to_list}
 use Rattle.std.specs.Prelude.{String, string_bytes}
 use Rattle.std.specs.Str.{bytes_eq, str_to_ascii_lowercase, trim}
 use Rattle.std.specs.String.{string_cmp}
-use Rattle.mailparse.specs.Pairs.{Texts, text_at, last_of, is_equals, pair_of, pairs_in, pairs_of, first_piece, value_of}
+use Rattle.mailparse.specs.Pairs.{Texts, text_at, is_equals, pair_of, pairs_in, pairs_of, first_piece, value_of}
 use Rattle.mailparse.specs.Pieces.{pieces, unescape}
 use Rattle.mailparse.specs.private.Pairs.{pair}
-use Rattle.mailparse.specs.private.Pieces.{pieces_of_rest}
 
 -- ---- the map
 

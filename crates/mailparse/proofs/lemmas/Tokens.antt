@@ -42,7 +42,7 @@ pub opening_stands : (line : List ℕ) (s v : ℕ) → s ≤ length line → ope
     → (s ≤ v) × (v + 2 ≤ length line) × (get_or line v 0 ≡ 61) × (get_or line (v + 1) 0 ≡ 63)
 opening_stands = pair_stands 61 63
 
--- where `?=` is found it stands, within the line, with a boundary behind it
+-- where `?=` is found it stands, within the line, with a boundary after it
 pub closing_stands : (line : List ℕ) (s e : ℕ) → s ≤ length line → closing line s ≡ e → e ≢ length line
     → (s ≤ e) × (e + 2 ≤ length line) × (get_or line e 0 ≡ 63) × (get_or line (e + 1) 0 ≡ 61)
 closing_stands line s e h at some =

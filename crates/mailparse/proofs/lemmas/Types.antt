@@ -1,9 +1,9 @@
 -- Lemmas on types and dispositions, from their values and their parameters.
-use Rattle.std.proofs.Common.{◌≡◌, ℕ, List, Ok, unwrap_or, codes, sym, ap, ◌∙◌}
+use Rattle.std.proofs.Common.{◌≡◌, ℕ, List, Ok, sym, ap, ◌∙◌}
 use Rattle.std.specs.Prelude.{Result}
 use Rattle.std.specs.Str.{str_to_ascii_lowercase}
 use Rattle.mail_codec.specs.Charset.{four_charsets}
-use Rattle.mailparse.specs.ContentType.{ContentType, content_type_in, content_type_of, default_charset, type_with}
+use Rattle.mailparse.specs.ContentType.{ContentType, content_type_in, content_type_of, charset_named}
 use Rattle.mailparse.specs.Continuations.{parameters_in}
 use Rattle.mailparse.specs.Disposition.{Disposition, Kind, kind_named, disposition_in, disposition_of}
 use Rattle.mailparse.specs.Pairs.{Texts, pairs_of, value_of}
@@ -12,14 +12,14 @@ use Rattle.mailparse.specs.Refusal.{Refusal}
 -- a type is told by its value, its charset and its parameters
 pub type_is : (text value mimetype charset : List ℕ) (params : Texts) → value ≡ value_of text → mimetype ≡ str_to_ascii_lowercase value
     → ((name : List ℕ) → params name ≡ parameters_in four_charsets (pairs_of text) name)
-    → charset ≡ unwrap_or (params (codes "charset")) default_charset
+    → charset ≡ charset_named params
     → ◌≡◌ {A = Result ContentType Refusal} (Ok (content_type_of text)) (Ok (record { mimetype = mimetype; charset = charset; params = params }))
 unfolding content_type_in
 type_is text value mimetype charset params is name same label =
     let here : params ≡ parameters_in four_charsets (pairs_of text) = λ i n. same n i in
     sym (λ i. Ok (record {
       mimetype = (name ∙ ap str_to_ascii_lowercase is) i;
-      charset = (label ∙ ap (λ (p : Texts). unwrap_or (p (codes "charset")) default_charset) here) i;
+      charset = (label ∙ ap charset_named here) i;
       params = here i;
     }))
 

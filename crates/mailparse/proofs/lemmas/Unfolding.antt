@@ -12,7 +12,7 @@ use Rattle.mailparse.specs.Value.{Token, is_word, is_white_space, is_held, is_re
 use Rattle.mailparse.specs.declared.header.value.Held.{Held}
 use Rattle.mailparse.specs.declared.header.value.Held.TheVariants as held
 use Rattle.mailparse.specs.declared.header.value.ShownValue.{ShownValue}
-use Rattle.mailparse.specs.private.Unfolding.{Shows, released, shown_behind, shown_with, white_token}
+use Rattle.mailparse.specs.private.Unfolding.{Shows, released, shown_held, shown_with, white_token}
 use Rattle.mailparse.proofs.lemmas.Tokens.{token_ranges_only}
 
 pub boundary_of_front : (line front : List ℕ) (v : ℕ) (b : Bool) → front ≡ slice_range line 0 v → b ≡ begins_with_boundary (reverse (chars front)) → boundary_before line v ≡ b
@@ -82,7 +82,7 @@ on_push (Err x) new whole old e f = tt
 
 -- what is shown so far, and what is shown when these tokens follow
 abbrev pub shown_of : List ℕ → Held → List Token → List ℕ
-shown_of text h tokens = text ++ shown_behind h tokens
+shown_of text h tokens = text ++ shown_held h tokens
 
 -- text shows, and releases what is held back
 pub takes_text : (text t : List ℕ) (h : Held) (rest : List Token)
@@ -92,7 +92,7 @@ takes_text text t h rest = ap (λ r. text ++ r) (go h) ∙ sym (append_assoc tex
     after : (e b : Option TokenKind) → is_word b ≡ false → (is_white_space b && is_word e) ≡ false → t ++ shown_after e b rest ≡ t ++ shown_after None None rest
     after e b h i = ap (λ r. t ++ r) (settled e b rest h i)
 
-    go : (h : Held) → shown_behind h (record { kind = plain_text; shown = t } ∷ rest) ≡ released h ++ (t ++ shown_after None None rest)
+    go : (h : Held) → shown_held h (record { kind = plain_text; shown = t } ∷ rest) ≡ released h ++ (t ++ shown_after None None rest)
     go held.Nothing = after None (Some plain_text) refl refl
     go held.Word = after (Some decoded_word) (Some plain_text) refl refl
     go (held.White white) = ap (λ r. white.now ++ r) (after (Some white_space) (Some plain_text) refl refl)
@@ -103,16 +103,11 @@ pub takes_word : (text t : List ℕ) (h : Held) (rest : List Token)
     → shown_of text h (record { kind = decoded_word; shown = t } ∷ rest) ≡ shown_of (text ++ t) held.Word rest
 takes_word text t h rest = ap (λ r. text ++ r) (go h) ∙ sym (append_assoc text t (shown_after None (Some decoded_word) rest))
   where
-    go : (h : Held) → shown_behind h (record { kind = decoded_word; shown = t } ∷ rest) ≡ t ++ shown_after None (Some decoded_word) rest
+    go : (h : Held) → shown_held h (record { kind = decoded_word; shown = t } ∷ rest) ≡ t ++ shown_after None (Some decoded_word) rest
     go held.Nothing = refl
     go held.Word = ap (λ r. t ++ r) (word_alike (Some decoded_word) rest)
     go (held.White white) = ap (λ r. t ++ r) (word_alike (Some white_space) rest)
     go (held.LineEnd white) = refl
-
--- white after a decoded word is held back
-pub holds_white : (text : List ℕ) (white : Bor (List ℕ)) (rest : List Token)
-    → shown_of text held.Word (white_token white.now ∷ rest) ≡ shown_of text (held.White white) rest
-holds_white text white rest = refl
 
 -- and other white shows
 pub takes_white : (text t : List ℕ) (h : Held) (rest : List Token) → h ≢ held.Word
@@ -122,7 +117,7 @@ takes_white text t h rest other = ap (λ r. text ++ r) (go h other) ∙ sym (app
     after : (e : Option TokenKind) → is_word e ≡ false → t ++ shown_after e (Some white_space) rest ≡ t ++ shown_after None None rest
     after e h = ap (λ r. t ++ r) (settled e (Some white_space) rest refl h)
 
-    go : (h : Held) → h ≢ held.Word → shown_behind h (white_token t ∷ rest) ≡ t ++ shown_after None None rest
+    go : (h : Held) → h ≢ held.Word → shown_held h (white_token t ∷ rest) ≡ t ++ shown_after None None rest
     go held.Nothing other = after None refl
     go held.Word other = absurd (other refl)
     go (held.White white) other = after (Some white_space) refl
@@ -157,7 +152,7 @@ pub takes_line_end : (text : List ℕ) (h : Held) (rest : List Token) → h ≢ 
 takes_line_end text h rest other no_white = ap (λ r. text ++ r) (go h other no_white) ∙ sym (append_assoc text (32 ∷ []) (shown_after None None rest))
   where
     go : (h : Held) → h ≢ held.Word → ((white : Bor (List ℕ)) → h ≢ held.White white)
-        → shown_behind h (newline ∷ rest) ≡ 32 ∷ shown_after None None rest
+        → shown_held h (newline ∷ rest) ≡ 32 ∷ shown_after None None rest
     go held.Nothing other no_white = ap (λ r. 32 ∷ r) (settled None (Some line_end) rest refl refl)
     go held.Word other no_white = absurd (other refl)
     go (held.White white) other no_white = absurd (no_white white refl)
@@ -171,7 +166,7 @@ starts_here value tokens e h = ap (λ t. shown_of t value.held tokens) e ∙ ap 
 pub ends_here : (value : ShownValue) → shown_with value [] ≡ string_bytes value.text
 ends_here value = ap (λ r. string_bytes value.text ++ r) (go value.held) ∙ append-nil (string_bytes value.text)
   where
-    go : (h : Held) → shown_behind h [] ≡ []
+    go : (h : Held) → shown_held h [] ≡ []
     go held.Nothing = refl
     go held.Word = refl
     go (held.White white) = refl
@@ -214,7 +209,7 @@ module _ (known : Charsets) where
       → Shows value (map (token_of known line) group) new → Completes line s before value → Shows before (line_tokens known line) new
   Completes_last line s group before value new g shows all rest = all group (last_group g) rest ∙ shows rest
 
-  -- a `=?` after a character that is no boundary
+  -- a `=?` after a character that is not a boundary
   pub step_no_boundary : (line : List ℕ) (s v : ℕ) (before value new : ShownValue) (bytes : List ℕ) → opening line s ≡ v → v ≢ length line
       → boundary_before line v ≡ false → bytes ≡ slice_range line s (v + 2) → Shows value (record { kind = plain_text; shown = bytes } ∷ []) new
       → Completes line s before value → Completes line (v + 2) before new

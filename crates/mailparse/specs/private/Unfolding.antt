@@ -28,19 +28,19 @@ released (held.White white) = white.now
 released (held.LineEnd white) = white.now ++ 32 ∷ []
 
 -- what is shown when these tokens follow: what was held back, where they release it, and what they show themselves
-abbrev pub shown_behind : Held → List Token → List ℕ
-shown_behind held.Nothing tokens = shown_after None None tokens
-shown_behind held.Word tokens = shown_after None (Some decoded_word) tokens
-shown_behind (held.White white) tokens =
+abbrev pub shown_held : Held → List Token → List ℕ
+shown_held held.Nothing tokens = shown_after None None tokens
+shown_held held.Word tokens = shown_after None (Some decoded_word) tokens
+shown_held (held.White white) tokens =
     (if is_released white_space (kinds tokens) then white.now else [])
     ++ shown_after (Some decoded_word) (Some white_space) tokens
-shown_behind (held.LineEnd white) tokens =
+shown_held (held.LineEnd white) tokens =
     (if is_released line_end (kinds tokens) then white.now ++ 32 ∷ [] else [])
     ++ shown_after None None tokens
 
 -- what a value shows whose tokens so far made this, when these follow
 abbrev pub shown_with : ShownValue → List Token → List ℕ
-shown_with value tokens = string_bytes value.text ++ shown_behind value.held tokens
+shown_with value tokens = string_bytes value.text ++ shown_held value.held tokens
 
 -- a reader went on over these tokens
 abbrev pub Shows : ShownValue → List Token → ShownValue → Type 0

@@ -51,7 +51,7 @@ fn outside_token(text: &str) -> HeaderToken<'_>
     }
 }
 
-/// The least place at or after `from` where these two bytes stand, or the length where there is none.
+/// The least place at or after `from` where these two bytes stand, or the length if they do not.
 fn find_pair(bytes: &[u8], from: usize, first: u8, second: u8) -> usize
     requires { from ≤ length bytes.now }
     ensures { result ≡ place_from (stands (first ∷ second ∷ [])) bytes.now from }
@@ -65,7 +65,8 @@ fn find_pair(bytes: &[u8], from: usize, first: u8, second: u8) -> usize
 /// The least place at or after `from` where `=?` stands.
 fn find_opening(line: &str, from: usize) -> Option<usize>
     requires { from ≤ length line.now }
-    ensures { MatchOption result (opening line.now from ≡ length line.now) (λ v. IsOpening line.now from v) }
+    ensures { MatchOption result (opening line.now from ≡ length line.now)
+        (λ v. IsOpening line.now from v) }
 {
     let bytes = line.as_bytes();
     let open = find_pair(bytes, from, b'=', b'?');
@@ -110,7 +111,7 @@ fn find_closing_or_keep(line: &str, from: usize, kept: usize) -> usize
 /// Takes the tokens of one line, in order.
 ///
 /// It takes time in the line's length alone: the end of a word that was found is kept until the
-/// search is past it, and so is that there is none.
+/// search is past it; that there is none is kept too.
 pub(crate) fn push_line<'a>(
     alloc: Global,
     line: &'a str,

@@ -50,7 +50,7 @@ fn cut_header(raw: &[u8]) -> (MailHeader<'_>, usize)
     (MailHeader { key, value }, length_to(raw, end))
 }
 
-/// The least place of an LF at or after `from`, or the length where there is none.
+/// The least place of an LF at or after `from`, or the length if there is none.
 fn line_feed_from(raw: &[u8], from: usize) -> usize
     requires { from ≤ length raw.now }
     ensures least { result ≡ place_from (begins is_line_feed) raw.now from }

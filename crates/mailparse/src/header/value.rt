@@ -64,7 +64,8 @@ impl<'a> ShownValue<'a> {
 
     /// Shows what is held back, since text comes next.
     fn release(&mut self) -> Result<(), AllocError>
-        ensures text { OnOk result (string_bytes self.new.text ≡ string_bytes self.old.text ++ released self.old.held) }
+        ensures text { OnOk result
+            (string_bytes self.new.text ≡ string_bytes self.old.text ++ released self.old.held) }
         ensures held { OnOk result (self.new.held ≡ Held.Nothing) }
     {
         match self.held {
@@ -91,7 +92,7 @@ impl<'a> ShownValue<'a> {
         self.text.push_str(white)
     }
 
-    /// Takes a line's end, which is held directly after a decoded word and after white that is held.
+    /// Takes a line's end, held directly after a decoded word and after white that is held.
     fn push_newline(&mut self) -> Result<(), AllocError>
         ensures { OnOk result (Shows self.old (newline ∷ []) self.new) }
     {

@@ -11,7 +11,8 @@ use std::alloc::{AllocError, Global};
 
 /// What stands before and after the first question mark, if there is one.
 fn cut_at_question_mark(text: &str) -> Option<(&str, &str)>
-    ensures { MatchOption result (has_question_mark text.now ≡ false) (λ p. IsCutAtMark text.now p.0.now p.1.now) }
+    ensures { MatchOption result (has_question_mark text.now ≡ false)
+        (λ p. IsCutAtMark text.now p.0.now p.1.now) }
 {
     text.split_once('?')
 }
@@ -52,7 +53,8 @@ fn decode_encoded(
     encoding: &str,
     encoded: &str,
 ) -> Result<Option<Vec<u8>>, AllocError>
-    ensures { IfOk result (λ bytes. option_map (λ b. b.items) bytes ≡ encoded_bytes encoding.now encoded.now) }
+    ensures { IfOk result (λ bytes.
+        option_map (λ b. b.items) bytes ≡ encoded_bytes encoding.now encoded.now) }
 {
     match encoding {
         "B" | "b" => Ok(decode_base64(alloc, encoded.as_bytes())?.ok()),
@@ -64,7 +66,8 @@ fn decode_encoded(
 /// The text of what stands inside an encoded word, if it decodes. A byte order mark is read as any
 /// other bytes are.
 pub(crate) fn decode_word(alloc: Global, inside: &str) -> Result<Option<String>, AllocError>
-    ensures { IfOk result (λ text. option_map string_bytes text ≡ word_text four_charsets inside.now) }
+    ensures { IfOk result (λ text.
+        option_map string_bytes text ≡ word_text four_charsets inside.now) }
 {
     let Some((label, rest)) = cut_at_question_mark(inside) else {
         return Ok(None);

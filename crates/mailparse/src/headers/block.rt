@@ -10,10 +10,10 @@ use crate::header::parse::parse_header;
 use std::alloc::Global;
 
 /// Reads the headers at the front of `raw` up to the blank line that ends them, or to the end of
-/// input, and tells the place behind the blank line (RFC 5322, section 2.1).
+/// input, and tells the offset just after the blank line (RFC 5322, section 2.1).
 ///
 /// A blank line is LF or CR LF. Refuses a header that begins with a space and a CR without LF
-/// where a header or the blank line is wanted, and nothing else but want of memory. It takes memory
+/// where a header or the blank line is wanted, and otherwise only where memory runs out. It takes memory
 /// for the list of headers alone: before the first header nothing but those two is refused.
 ///
 /// `parse_headers(alloc, b"Subject: Hi\n\nbody")` is one header, and 13.
@@ -22,8 +22,10 @@ pub fn parse_headers(
     raw: &[u8],
 ) -> Result<(Vec<MailHeader<'_>>, usize), MailParseError>
     ensures read { AnswersOrMemory header_list result (read_headers raw.now) }
-    ensures bounds { IfOk result (λ found. (vec_len found.0 ≤ found.1) × (found.1 ≤ length raw.now)) }
-    ensures no_memory { header_count raw.now ≡ 0 → Answers header_list result (read_headers raw.now) }
+    ensures bounds { IfOk result (λ found.
+        (vec_len found.0 ≤ found.1) × (found.1 ≤ length raw.now)) }
+    ensures no_memory { header_count raw.now ≡ 0 →
+        Answers header_list result (read_headers raw.now) }
 {
     let mut headers = Vec::new(alloc);
     let mut place = 0;

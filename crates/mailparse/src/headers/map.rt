@@ -4,7 +4,7 @@ ghost use Rattle.std.specs.Option.{option_copied};
 ghost use Rattle.std.specs.Str.{str_eq_ignore_ascii_case};
 ghost use Rattle.mail_codec.specs.Latin1.{latin1_text};
 ghost use Rattle.mailparse.specs.Keys.{first_with_key, all_with_key, first_value, all_values, text_found};
-ghost use Rattle.mailparse.specs.Outcome.{AnswersOrMemory};
+ghost use Rattle.mailparse.specs.Outcome.{AnswersOrMemory, GivesTexts};
 
 use super::Headers;
 use crate::error::MailParseError;
@@ -25,25 +25,27 @@ pub trait MailHeaderMap {
         ensures { option_copied result ≡ first_with_key key.now (present self.now) };
 
     /// The value of the first header with this name, by `get_value`, or `None` where there is none;
-    /// then it takes no memory and succeeds. Else the one error is want of memory.
+    /// then it takes no memory and succeeds. Otherwise the one error is that memory ran out.
     fn get_first_value(&self, alloc: Global, key: &str) -> Result<Option<String>, MailParseError>
-        ensures found { AnswersOrMemory text_found result (Ok (first_value key.now (present self.now))) }
+        ensures found { AnswersOrMemory text_found result
+            (Ok (first_value key.now (present self.now))) }
         ensures no_memory { IsNone (first_with_key key.now (present self.now)) → IsOk result };
 
     /// The values of all headers with this name, by `get_value`, in the order of the message. Without
-    /// one it takes no memory and succeeds; else the one error is want of memory.
+    /// one it takes no memory and succeeds; otherwise the one error is that memory ran out.
     fn get_all_values(&self, alloc: Global, key: &str) -> Result<Vec<String>, MailParseError>
-        ensures found { AnswersOrMemory (λ v. map (λ t. string_bytes t) v.items) result (Ok (all_values key.now (present self.now))) }
+        ensures found { GivesTexts result (all_values key.now (present self.now)) }
         ensures no_memory { IsNone (first_with_key key.now (present self.now)) → IsOk result };
 
     /// All headers with this name, in the order of the message. Without one it takes no memory and
-    /// succeeds; else the one error is want of memory.
+    /// succeeds; otherwise the one error is that memory ran out.
     fn get_all_headers(
         &self,
         alloc: Global,
         key: &str,
     ) -> Result<Vec<&MailHeader<'_>>, MailParseError>
-        ensures found { AnswersOrMemory (λ v. map (λ h. h.now) v.items) result (Ok (all_with_key key.now (present self.now))) }
+        ensures found { AnswersOrMemory (λ v. map (λ h. h.now) v.items) result
+            (Ok (all_with_key key.now (present self.now))) }
         ensures no_memory { IsNone (first_with_key key.now (present self.now)) → IsOk result };
 }
 
@@ -128,7 +130,7 @@ fn all_values<'h>(
     list: &'h [MailHeader<'h>],
     key: &str,
 ) -> Result<Vec<String>, MailParseError>
-    ensures found { AnswersOrMemory (λ v. map (λ t. string_bytes t) v.items) result (Ok (all_values key.now list.now)) }
+    ensures found { GivesTexts result (all_values key.now list.now) }
     ensures no_memory { IsNone (first_with_key key.now list.now) → IsOk result }
 {
     let mut found = Vec::new(alloc);
@@ -146,7 +148,8 @@ fn all_headers<'h>(
     list: &'h [MailHeader<'h>],
     key: &str,
 ) -> Result<Vec<&'h MailHeader<'h>>, MailParseError>
-    ensures found { AnswersOrMemory (λ v. map (λ h. h.now) v.items) result (Ok (all_with_key key.now list.now)) }
+    ensures found { AnswersOrMemory (λ v. map (λ h. h.now) v.items) result
+        (Ok (all_with_key key.now list.now)) }
     ensures no_memory { IsNone (first_with_key key.now list.now) → IsOk result }
 {
     let mut found = Vec::new(alloc);

@@ -102,7 +102,8 @@ pub(crate) fn unescape(alloc: Global, text: &str) -> Result<String, AllocError>
 
 /// A text without the backslashes that no backslash escapes.
 fn without_escapes(alloc: Global, text: &str) -> Result<String, AllocError>
-    ensures { IfOk result (λ plain. string_bytes plain ≡ encode_utf8_all (without_escapes 0 (chars text.now))) }
+    ensures { IfOk result (λ plain.
+        string_bytes plain ≡ encode_utf8_all (without_escapes 0 (chars text.now))) }
 {
     let mut plain = String::with_capacity(alloc, text.len())?;
     let mut is_escaped = false;

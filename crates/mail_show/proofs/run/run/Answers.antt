@@ -6,14 +6,14 @@ use Rattle.mailparse.specs.Views.{tree_of}
 use Rattle.mail_show.proofs.RunLemmas.{run-refused, run-shown, text-of_ok, OnOk-at}
 use Rattle.mail_show.proofs.run.run.Goals as goal
 
-pub returns-in_err-parsed : goal.returns-in_err-parsed
-returns-in_err-parsed g c =
+pub returns-in_err-parsed-clause-refused : goal.returns-in_err-parsed-clause-refused
+returns-in_err-parsed-clause-refused g c =
     let p = err_from_is_err_and c.from_residual-in_err-parsed.result c.from_residual-in_err-parsed.ensures.1 in
     rw (p.1, p.2) (run-refused _ _ _ c.in_ok-input.input.items c.in_err-parsed.field-0.0 c.in_ok-input.ensures
     (subst (λ (input : List ℕ). IsRefusalOrMemory c.in_err-parsed.field-0.0 (read_mail input)) c.as_slice.ensures.value c.in_err-parsed.ensures.read))
 
-pub returns : goal.returns
-returns g c =
+pub returns-clause-shown : goal.returns-clause-shown
+returns-clause-shown g c =
     run-shown _ _ _ _ _ c.in_ok-input.input.items _ (tree_of c.in_ok-parsed.parsed) c.in_ok-input.ensures
     (ap read_mail (sym c.as_slice.ensures.value) ∙ c.in_ok-parsed.ensures.read) (c.as_bytes.ensures.value ∙ text-of_ok _ _ c.in_ok-text.ensures)
     (OnOk-at _ c.write_all.result (sym c.is_err.ensures.value ∙ c.if-is_err.false) c.write_all.ensures.bytes) c.flush.ensures.bytes

@@ -1,4 +1,4 @@
-use Rattle.std.proofs.Common.{ℕ, List, sym, ap, ◌∙◌}
+use Rattle.std.proofs.Common.{sym, ap, ◌∙◌}
 use Rattle.mailparse.specs.Pairs.{last_of, pairs_of}
 use Rattle.mailparse.specs.private.Pieces.{pieces_of_rest}
 use Rattle.mailparse.proofs.lemmas.Pairs.{value_of-first, pairs_of-later}
@@ -10,4 +10,4 @@ returns-clause-value c = c.trim.ensures.trim ∙ sym (value_of-first c.args.text
 pub returns-clause-params : goal.returns-clause-params
 returns-clause-params c =
     let pairs = pairs_of-later c.args.text.now _ (pieces_of_rest c.cut_piece.result.1) c.cut_piece.ensures.cut in
-    c.in_ok-resolve.ensures.found (pairs_of c.args.text.now) (λ name. c.in_ok-pairs.ensures name ∙ ap (λ ps. last_of ps name) (sym pairs))
+    c.in_ok-resolve.ensures.parameters (pairs_of c.args.text.now) (λ name. c.in_ok-pairs.ensures name ∙ ap (λ ps. last_of ps name) (sym pairs))

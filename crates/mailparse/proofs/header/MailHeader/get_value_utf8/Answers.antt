@@ -5,20 +5,20 @@ use Rattle.mailparse.specs.Value.{shown_value}
 use Rattle.mailparse.proofs.lemmas.Value.{strict-utf8, strict-refused, strict-not_err}
 use Rattle.mailparse.proofs.header.MailHeader.get_value_utf8.Goals as goal
 
-pub returns-in_err-unfolded_value-in-Ok-clause-no_memory : goal.returns-in_err-unfolded_value-in-Ok-clause-no_memory
-returns-in_err-unfolded_value-in-Ok-clause-no_memory c = λ refused.
+pub returns-in_err-unfolded_value-clause-no_memory : goal.returns-in_err-unfolded_value-clause-no_memory
+returns-in_err-unfolded_value-clause-no_memory c = λ refused.
     absurd (strict-not_err c.args.self.now.value (subst IsUtf8 c.get_value_raw.ensures c.in-Ok.ensures.cases.1) refused)
 
-pub returns-in_ok-unfolded_value-in-Ok-clause-read : goal.returns-in_ok-unfolded_value-in-Ok-clause-read
-returns-in_ok-unfolded_value-in-Ok-clause-read c =
+pub returns-clause-read : goal.returns-clause-read
+returns-clause-read c =
     let value = c.get_value_raw.ensures in
     strict-utf8 c.args.self.now.value (subst IsUtf8 value c.in-Ok.ensures.cases.1)
-    ∙ ap (λ t. Ok t) (ap (shown_value four_charsets) (sym (c.in-Ok.ensures.cases.0 ∙ value)) ∙ sym c.in_ok-unfolded_value-in-Ok.ensures)
+    ∙ ap (λ t. Ok t) (ap (shown_value four_charsets) (sym (c.in-Ok.ensures.cases.0 ∙ value)) ∙ sym c.in_ok-unfolded_value.ensures)
 
-pub returns-in_ok-unfolded_value-in-Ok-clause-no_memory : goal.returns-in_ok-unfolded_value-in-Ok-clause-no_memory
-returns-in_ok-unfolded_value-in-Ok-clause-no_memory c = λ refused.
+pub returns-clause-no_memory : goal.returns-clause-no_memory
+returns-clause-no_memory c = λ refused.
     absurd (strict-not_err c.args.self.now.value (subst IsUtf8 c.get_value_raw.ensures c.in-Ok.ensures.cases.1) refused)
 
-pub returns-in-Err-clause-read : goal.returns-in-Err-clause-read
-returns-in-Err-clause-read c =
-    strict-refused c.args.self.now.value (λ utf8. c.in-Err.ensures.cases.0 (subst IsUtf8 (sym c.get_value_raw.ensures) utf8))
+pub returns-in_default-clause-read : goal.returns-in_default-clause-read
+returns-in_default-clause-read c =
+    strict-refused c.args.self.now.value (λ utf8. c.in_default.ensures.cases.0 (subst IsUtf8 (sym c.get_value_raw.ensures) utf8))

@@ -10,7 +10,7 @@ returns-in_default c = sym (pair_of-none c.args.piece.now (c.in_default.ensures.
 pub returns : goal.returns
 returns c =
     let cut = c.in-Some.ensures.byte (omega arith) (λ w o x. x) in
-    pair_is (c.make_ascii_lowercase.new.self, c.in_ok-unescape.field-0) _
-    (c.make_ascii_lowercase.ensures.bytes ∙ ap str_to_ascii_lowercase (c.in_ok-key.ensures.ok ∙ c.trim.ensures.trim ∙ ap trim cut.0))
+    pair_is (c.in_ok-key.key, c.in_ok-unescape.field-0) _
+    (c.in_ok-key.ensures ∙ ap str_to_ascii_lowercase (c.trim.ensures.trim ∙ ap trim cut.0))
     (c.in_ok-unescape.ensures ∙ ap unescape (c.trim-2.ensures.trim ∙ ap trim cut.1))
     ∙ sym (pair_of-some c.args.piece.now cut.2)

@@ -6,7 +6,7 @@ use Rattle.mailparse.proofs.lemmas.Pairs.{stores, rest_length}
 use Rattle.mailparse.proofs.parameters.pairs.pairs.Given as goal
 
 abbrev pub invariant-loop-left : goal.invariant-loop-left
-invariant-loop-left l = stores (text_at l.found) (pairs_in (pieces_of_rest l.left)) ≡ last_of (pairs_in (pieces_of_rest l.text))
+invariant-loop-left l = stores (text_at l.found) (pairs_in (pieces_of_rest l.left)) ≡ last_of (pairs_in (pieces_of_rest l.fn.rest))
 
 abbrev pub decreases-loop-left : goal.decreases-loop-left
 decreases-loop-left l = rest_length l.left

@@ -1,0 +1,6 @@
+-- Pairs none of whose keys holds a star: none of them is extended or a piece.
+use Rattle.std.specs.Prelude.{◌≡◌, ℕ, false, ◌==◌, List, All}
+use Rattle.std.specs.List.{list_any}
+
+abbrev pub AreStarFree : List (List ℕ × List ℕ) → Type 0
+AreStarFree pairs = All (λ pair. list_any (λ b. b == 42) pair.0 ≡ false) pairs
