@@ -1,6 +1,6 @@
 -- The parts of a message stand at ranges that lie apart, and so take no more bytes than there are.
-use Rattle.std.proofs.Common.{◌≡◌, ℕ, zero, suc, ◌+◌, ◌-◌, ◌<◌, ◌≤◌, Bool, true, false, ◌&&◌, cond, List, [], ◌∷◌, length, drop, Option, Some, None, refl, sym, ap, ◌∙◌, subst, arith}
-use Rattle.std.specs.Prelude.{nat_eq, nat_lt, option_and_then, option_map, if◌then◌else◌}
+use Rattle.std.proofs.Common.{◌≡◌, ℕ, zero, suc, ◌+◌, ◌-◌, ◌<◌, ◌≤◌, Bool, true, false, ◌&&◌, cond, List, [], ◌∷◌, length, drop, Option, Some, None, refl, sym, ap, subst, arith}
+use Rattle.std.specs.Prelude.{nat_eq, nat_lt, option_and_then, if◌then◌else◌}
 use Rattle.std.specs.List.{sum_by}
 use Rattle.std.specs.Option.{option_map_or}
 use Rattle.std.proofs.lemmas.List.Sums.{sum_by-cons}
@@ -8,7 +8,7 @@ use Rattle.std.proofs.lemmas.Bool.{and_parts, ltb-true}
 use Rattle.mail_codec.specs.Places.{begins}
 use Rattle.mailparse.specs.ContentType.{ContentType}
 use Rattle.mailparse.specs.Ranges.{Range, Apart}
-use Rattle.mailparse.specs.Delimiters.{before_byte, before_line_end, delimiter_from, end_from, is_last, part_after, first_part, next_part, part_range, part_ranges, Cut, cut_parts}
+use Rattle.mailparse.specs.Delimiters.{before_byte, before_line_end, delimiter_from, end_from, is_last, part_after, first_part, next_part, part_ranges, cut_parts}
 use Rattle.mailparse.specs.Mail.{delimiter_of, cut_of}
 use Rattle.mailparse.proofs.lemmas.Delimiters.{delimiter_from-out, is_delimiter-fits}
 use Rattle.mailparse.proofs.lemmas.Parts.{line_after-bounds, part_ranges-none, part_ranges-some, delimiter_of-length}

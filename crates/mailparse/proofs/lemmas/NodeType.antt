@@ -1,5 +1,5 @@
 -- The type of a message by its headers.
-use Rattle.std.proofs.Common.{◌≡◌, ℕ, Bool, List, None, Some, Option, Result, Ok, option_map, sym, ap, ◌∙◌}
+use Rattle.std.proofs.Common.{◌≡◌, ℕ, Bool, List, None, Some, Option, Result, Ok, option_map, sym, ap}
 use Rattle.std.specs.Option.{option_map_or}
 use Rattle.std.specs.Prelude.{codes}
 use Rattle.mail_codec.specs.Charset.{four_charsets}

@@ -1,5 +1,5 @@
 -- A message and its parts, one after another.
-use Rattle.std.proofs.Common.{◌≡◌, ◌∷◌, List, map, sym, ap, ◌∙◌}
+use Rattle.std.proofs.Common.{◌≡◌, ◌∷◌, map, sym, ap, ◌∙◌}
 use Rattle.mailparse.specs.Mail.{Tree, forest, trees_within, trees_in}
 use Rattle.mailparse.specs.Views.{tree_step, tree_of}
 use Rattle.mailparse.specs.declared.mail.ParsedMail.{ParsedMail}

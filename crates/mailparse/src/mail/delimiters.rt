@@ -177,3 +177,6 @@ fn before_byte(raw: &[u8], start: usize, at: usize, byte: u8) -> usize
         at
     }
 }
+
+#[cfg(test)]
+mod tests;

@@ -1,14 +1,14 @@
-use Rattle.std.proofs.Common.{◌≡◌, ℕ, ◌+◌, ◌-◌, ◌<◌, ◌∷◌, [], ◌++◌, Bool, List, Option, Some, None, option_map, length, map, take, drop, slice_range, Result, Ok, Err, refl, sym, ap, ◌∙◌, subst, arith}
+use Rattle.std.proofs.Common.{◌≡◌, ℕ, ◌-◌, ◌<◌, ◌∷◌, [], ◌++◌, List, Option, Some, None, option_map, length, map, take, drop, slice_range, Ok, refl, sym, ap, ◌∙◌, subst, arith}
 use Rattle.std.specs.Global.{Vec}
 use Rattle.std.proofs.lemmas.List.{map-append}
 use Rattle.std.proofs.lemmas.Option.{IfSome_then}
 use Rattle.std.proofs.lemmas.Result.{err_from_is_err_and}
 use Rattle.mail_codec.specs.Charset.{four_charsets}
-use Rattle.mailparse.specs.Refusal.{Refusal, Reads, read_map}
+use Rattle.mailparse.specs.Refusal.{Reads, read_map}
 use Rattle.mailparse.specs.Block.{read_headers}
 use Rattle.mailparse.specs.ContentType.{ContentType}
 use Rattle.mailparse.specs.Delimiters.{end_from, first_part, next_part}
-use Rattle.mailparse.specs.Mail.{Node, Tree, tree, Forest, no_parts, forest, delimiter_of, node_type, read_levels}
+use Rattle.mailparse.specs.Mail.{Tree, tree, Forest, no_parts, forest, delimiter_of, node_type, read_levels}
 use Rattle.mailparse.specs.Views.{content_type, tree_step, tree_of}
 use Rattle.mailparse.specs.declared.mail.ParsedMail.{ParsedMail}
 use Rattle.mailparse.specs.declared.mail.ParsedMail.TheFolds.{fold-roll-ParsedMail}

@@ -1,5 +1,4 @@
-use Rattle.std.proofs.Common.{◌≡◌, ◌<◌, length, true, false, sym, ap, ◌∙◌, arith, rules}
-use Rattle.mailparse.specs.Delimiters.{is_delimiter, delimiter_from}
+use Rattle.std.proofs.Common.{sym, ◌∙◌, arith}
 use Rattle.mailparse.proofs.lemmas.Delimiters.{no_delimiter_to, no_delimiter_left, no_delimiter_to_line, no_delimiter_on_last_line, delimiter_from-some, delimiter_from-none, is_delimiter-fits}
 use Rattle.mailparse.proofs.mail.delimiters.find_from_u8_line_prefix.Goals as goal
 

@@ -1,6 +1,6 @@
-use Rattle.std.proofs.Common.{◌≡◌, ◌++◌, ◌∷◌, [], Bor, List, map, drop, sym, ap, ◌∙◌, append_assoc, arith}
+use Rattle.std.proofs.Common.{◌≡◌, ◌++◌, ◌∷◌, [], Bor, List, map, drop, sym, ap, ◌∙◌, append_assoc}
 use Rattle.std.proofs.lemmas.List.{map-append, append-nil, drop_all}
-use Rattle.mailparse.specs.Mail.{Tree, forest, trees_within, trees_in}
+use Rattle.mailparse.specs.Mail.{Tree, forest, trees_in}
 use Rattle.mailparse.specs.Views.{tree_of}
 use Rattle.mailparse.specs.declared.mail.ParsedMail.{ParsedMail}
 use Rattle.mailparse.proofs.lemmas.Trees.{trees_within-out}
