@@ -1,13 +1,15 @@
 //! The laws. Each function does nothing; its contract is the law.
-ghost use Rattle.std.specs.Prelude.{◌≡◌, ◌<◌, ◌≤◌, ◌++◌, ℕ, List, length, take, Ok};
-ghost use Rattle.std.specs.List.{flat_map};
+ghost use Rattle.std.specs.Prelude.{◌≡◌, ◌<◌, ◌≤◌, ◌++◌, ℕ, false, List, length, take, Ok};
+ghost use Rattle.std.specs.List.{flat_map, list_any};
 ghost use Rattle.std.specs.Str.{IsUtf8};
 ghost use Rattle.mailparse.specs.Header.{Header, read_header};
 ghost use Rattle.mailparse.specs.Block.{HeaderList, read_headers};
 ghost use Rattle.mail_codec.specs.Charset.{Charsets};
 ghost use Rattle.mailparse.specs.Tokens.{Adjoin, AreTokens, TokenRange, token_ranges, token_source};
 ghost use Rattle.mailparse.specs.Value.{IsPlain, lenient_value, strict_value};
+ghost use Rattle.mail_laws.specs.Percent.{is_percent};
 ghost use Rattle.mail_laws.specs.Spans.{header_spans, blank_span};
+ghost use Rattle.percent_encoding.specs.Percent.{percent_decode};
 
 /// A header that is read takes at least one byte and at most the input.
 pub fn header_consumes()
@@ -48,4 +50,9 @@ pub fn plain_value_reads_as_itself()
 pub fn utf8_value_agrees()
     ensures agrees { (bytes : List ℕ) → IsUtf8 bytes → strict_value bytes ≡ Ok (lenient_value bytes) }
     ensures succeeds { (bytes value : List ℕ) → strict_value bytes ≡ Ok value → lenient_value bytes ≡ value }
+{}
+
+/// Percent decoding of a text without `%` gives its bytes.
+pub fn percent_free()
+    ensures { (text : List ℕ) → list_any is_percent text ≡ false → percent_decode text ≡ text }
 {}
