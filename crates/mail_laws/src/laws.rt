@@ -1,14 +1,13 @@
 //! The laws. Each function does nothing; its contract is the law.
-ghost use Rattle.std.specs.Prelude.{◌≡◌, ◌<◌, ◌≤◌, ◌++◌, ℕ, suc, List, [], ◌∷◌, codes, length, take, Decides, Ok, ◌+◌, ◌-◌, ◌*◌, ◌/◌, All, slice_index};
-ghost use Rattle.std.specs.List.{flat_map};
+ghost use Rattle.std.specs.Prelude.{◌≡◌, ◌<◌, ◌≤◌, ◌++◌, ℕ, suc, List, [], ◌∷◌, codes, length, take, Decides, Ok, ◌+◌, ◌-◌, ◌*◌, ◌/◌, All, slice_index, false};
+ghost use Rattle.std.specs.List.{flat_map, list_any};
 ghost use Rattle.std.specs.Str.{IsUtf8};
 ghost use Rattle.mailparse.specs.Header.{Header, read_header};
 ghost use Rattle.mailparse.specs.Block.{HeaderList, header_count, header_place, read_headers};
-ghost use Rattle.mailparse.specs.ContentType.{ContentType};
+ghost use Rattle.mailparse.specs.ContentType.{ContentType, content_type_in};
 ghost use Rattle.mailparse.specs.Mail.{cut_of};
 ghost use Rattle.mailparse.specs.Ranges.{Apart};
 ghost use Rattle.mail_codec.specs.Charset.{Charsets};
-ghost use Rattle.mailparse.specs.ContentType.{content_type_in};
 ghost use Rattle.mailparse.specs.Continuations.{parameters_in};
 ghost use Rattle.mailparse.specs.Pairs.{last_of, pairs_of};
 ghost use Rattle.mailparse.specs.Pieces.{ArePieces, pieces};
@@ -28,6 +27,8 @@ ghost use Rattle.mail_laws.specs.Ids.{HoldsNoClosing};
 ghost use Rattle.mailparse.specs.MessageIdViews.{ids_of};
 ghost use Rattle.mailparse.specs.contracts.message_ids.MessageIdListPartialEq.TheImpl.{ghosts as id_lists};
 ghost use Rattle.mailparse.specs.declared.message_ids.MessageIdList.{MessageIdList};
+ghost use Rattle.mail_laws.specs.Percent.{is_percent};
+ghost use Rattle.percent_encoding.specs.Percent.{percent_decode};
 
 /// A header that is read takes at least one byte and at most the input.
 pub fn header_consumes()
@@ -174,4 +175,9 @@ pub fn message_ids_read_back()
 /// Two lists of message ids are equal exactly if their ids are, in order.
 pub fn message_id_lists_equal_by_ids()
     ensures { (a b : MessageIdList) → Decides (id_lists.eq a b) (ids_of a ≡ ids_of b) }
+{}
+
+/// Percent decoding of a text without `%` gives its bytes.
+pub fn percent_free()
+    ensures { (text : List ℕ) → list_any is_percent text ≡ false → percent_decode text ≡ text }
 {}
