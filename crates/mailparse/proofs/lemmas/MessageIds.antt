@@ -3,7 +3,8 @@ use Rattle.std.proofs.Common.{◌≡◌, ◌≢◌, ℕ, suc, ◌+◌, ◌<◌, 
 use Rattle.std.proofs.lemmas.List.{length-map, length-take, map_push, take_more}
 use Rattle.std.proofs.lemmas.Str.{encode_ascii}
 use Rattle.std.proofs.lemmas.Grind.{get_or_after_one}
-use Rattle.std.specs.Prelude.{String, string_bytes}
+use Rattle.std.specs.Prelude.{String, bytes_eq, string_bytes, string_eq}
+use Rattle.std.specs.Cmp.Lexicographic.{pointwise}
 use Rattle.std.specs.Global.{Global}
 use Rattle.std.specs.List.{join_with_byte, list_any, slice_split, onto_first, position_or_len, before_first, after_first}
 use Rattle.mailparse.specs.MessageIds.{begins_with_id, id_not_opened, id_of_piece, ids_at_end, ids_of_pieces, is_closing, message_ids, opens_id, with_id, written_id, written_ids}
@@ -150,3 +151,12 @@ opens_from_strip piece text (Some x) e h =
       opens = ap (stands (60 ∷ [])) (sym e ∙ front);
       is = h.2 ∙ ap (λ k. drop k text) one ∙ ap (drop 1) e;
     }
+
+-- ---- which lists are equal
+
+-- strings are equal exactly if their bytes are
+pub same_ids : (a b : List (String Global)) → pointwise string_eq a b ≡ pointwise bytes_eq (map string_bytes a) (map string_bytes b)
+same_ids [] [] = refl
+same_ids [] (y ∷ b) = refl
+same_ids (x ∷ a) [] = refl
+same_ids (x ∷ a) (y ∷ b) = ap (λ t. string_eq x y && t) (same_ids a b)
