@@ -118,18 +118,6 @@ message_ids-next text piece after id cut opened =
       shorter = cut.shorter;
     }
 
--- the ids so far, and one more
-pub with_ids-push : (front : List (List ℕ)) (id : List ℕ) (later : Result (List (List ℕ)) Refusal)
-    → with_ids front (with_id id later) ≡ with_ids (front ++ id ∷ []) later
-with_ids-push front id (Err refusal) = refl
-with_ids-push front id (Ok ids) = ap Ok (sym (append_assoc front (id ∷ []) ids))
-
-pub with_ids-refused : (front : List (List ℕ)) (later : Result (List (List ℕ)) Refusal) (refusal : Refusal) → later ≡ Err refusal → with_ids front later ≡ Err refusal
-with_ids-refused front later refusal h = ap (with_ids front) h
-
-pub with_ids-all : (front : List (List ℕ)) (later : Result (List (List ℕ)) Refusal) → later ≡ Ok [] → with_ids front later ≡ Ok front
-with_ids-all front later h = ap (with_ids front) h ∙ ap Ok (append-nil front)
-
 -- a `<` at the front, or none
 pub opens_from_strip : (piece text : List ℕ) (r : Option (Bor (List ℕ))) → text ≡ trim_start piece
     → MatchOption r (FindsCharPrefix 60 text None) (λ x. StripsPrefix (FindsCharPrefix 60) text x.now)
