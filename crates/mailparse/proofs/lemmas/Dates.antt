@@ -3,7 +3,7 @@ use Rattle.std.proofs.Common.{◌≡◌, ℕ, zero, suc, ◌+◌, ◌-◌, ◌*�
 use Rattle.std.specs.List.{filter, list_all, slice_split, onto_first, prefix_len}
 use Rattle.std.specs.Result.{result_ok}
 use Rattle.std.specs.Borrow.{Bor}
-use Rattle.std.specs.Prelude.{ℤ, pos, negsuc, FitsSigned, option_map, find, unsigned_abs, ◌+ℤ◌}
+use Rattle.std.specs.Prelude.{ℤ, pos, negsuc, FitsSigned, option_map, find, ◌+ℤ◌}
 use Rattle.std.specs.Int.{w32}
 use Rattle.std.proofs.lemmas.Int.{ints}
 use Rattle.std.specs.Str.{IsCharBoundary, IsUtf8, all_ascii_digits, str_eq_ignore_ascii_case}

@@ -1,5 +1,5 @@
 -- Lists of message ids, as they are written and read.
-use Rattle.std.proofs.Common.{◌≡◌, ◌≢◌, ℕ, suc, ◌+◌, ◌<◌, Bool, true, false, cond, not, ◌&&◌, ◌||◌, eqb, List, [], ◌∷◌, ◌++◌, length, map, take, drop, get_or, Option, Some, None, Result, Ok, Err, refl, sym, ap, ◌∙◌, arith, append_assoc, length-drop, append-nil, lit<}
+use Rattle.std.proofs.Common.{◌≡◌, ◌≢◌, ℕ, suc, ◌+◌, ◌<◌, Bool, true, false, cond, not, ◌&&◌, ◌||◌, eqb, List, [], ◌∷◌, ◌++◌, length, map, take, drop, get_or, Option, Some, None, Err, refl, sym, ap, ◌∙◌, arith, append_assoc, length-drop, lit<}
 use Rattle.std.proofs.lemmas.List.{length-map, length-take, map_push, take_more}
 use Rattle.std.proofs.lemmas.Str.{encode_ascii}
 use Rattle.std.proofs.lemmas.Grind.{get_or_after_one}
@@ -8,8 +8,7 @@ use Rattle.std.specs.Cmp.Lexicographic.{pointwise}
 use Rattle.std.specs.Global.{Global}
 use Rattle.std.specs.List.{join_with_byte, list_any, slice_split, onto_first, position_or_len, before_first, after_first}
 use Rattle.mailparse.specs.MessageIds.{begins_with_id, id_not_opened, id_of_piece, ids_at_end, ids_of_pieces, is_closing, message_ids, opens_id, with_id, written_id, written_ids}
-use Rattle.mailparse.specs.Refusal.{Refusal}
-use Rattle.mailparse.specs.private.MessageIds.{IsCutAtClosing, IsNextId, IsOpenedId, with_ids}
+use Rattle.mailparse.specs.private.MessageIds.{IsCutAtClosing, IsNextId, IsOpenedId}
 use Rattle.std.specs.Borrow.{Bor}
 use Rattle.std.specs.Option.{MatchOption}
 use Rattle.std.specs.Char.{encode_utf8}
