@@ -5,5 +5,4 @@ pub mod Boundaries
 pub mod WordTokens
 pub mod Days
 pub mod Ids
-pub mod IdLists
 pub mod Percent

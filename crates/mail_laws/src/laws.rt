@@ -24,9 +24,6 @@ ghost use Rattle.mail_laws.specs.Spans.{StandBefore, blank_span, header_at, head
 ghost use Rattle.mailparse.specs.Date.{day_number, days_of_years, month_lengths};
 ghost use Rattle.mailparse.specs.MessageIds.{message_ids, written_ids};
 ghost use Rattle.mail_laws.specs.Ids.{HoldsNoClosing};
-ghost use Rattle.mailparse.specs.MessageIdViews.{ids_of};
-ghost use Rattle.mailparse.specs.contracts.message_ids.MessageIdListPartialEq.TheImpl.{ghosts as id_lists};
-ghost use Rattle.mailparse.specs.declared.message_ids.MessageIdList.{MessageIdList};
 ghost use Rattle.mail_laws.specs.Percent.{is_percent};
 ghost use Rattle.percent_encoding.specs.Percent.{percent_decode};
 
@@ -170,11 +167,6 @@ pub fn message_ids_read_back()
         All HoldsNoClosing ids → message_ids (written_ids ids) ≡ Ok ids }
     ensures only { (ids : List (List ℕ)) → All IsUtf8 ids →
         message_ids (written_ids ids) ≡ Ok ids → All HoldsNoClosing ids }
-{}
-
-/// Two lists of message ids are equal exactly if their ids are, in order.
-pub fn message_id_lists_equal_by_ids()
-    ensures { (a b : MessageIdList) → Decides (id_lists.eq a b) (ids_of a ≡ ids_of b) }
 {}
 
 /// Percent decoding of a text without `%` gives its bytes.

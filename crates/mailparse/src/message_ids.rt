@@ -1,6 +1,8 @@
 //! Lists of message ids (RFC 5322, section 3.6.4).
 ghost use Rattle.std.specs.Prelude.{◌≡◌, false, [], ◌∷◌, Ok, Some, MatchOption, MatchResult};
+ghost use Rattle.std.specs.Cmp.Lexicographic.{pointwise};
 ghost use Rattle.std.specs.List.{slice_split};
+ghost use Rattle.std.specs.Str.{bytes_eq};
 ghost use Rattle.mailparse.specs.MessageIds.{begins_with_id, ids_at_end, is_closing, opens_id};
 ghost use Rattle.mailparse.specs.MessageIds.{message_ids, written_ids};
 ghost use Rattle.mailparse.specs.Outcome.{Answers, AnswersOrMemory, IsRefusal};
@@ -16,8 +18,22 @@ use std::ops::{Deref, DerefMut};
 ///
 /// It is read and changed as the vector that it holds. It is shown as mail writes it: each id in
 /// angle brackets, one space between each two.
-#[derive(Debug, Drop, PartialEq)]
+#[derive(Debug, Drop)]
 pub struct MessageIdList(pub Vec<String>);
+
+/// Two lists are equal exactly if their ids are, in order.
+impl PartialEq for MessageIdList {
+    ghost use Rattle.std.specs.Cmp.{on_per, partial_equiv_from_equiv};
+    ghost use Rattle.std.specs.Cmp.Lexicographic.{lists_per, nat_list_eq_equiv};
+
+    ghost eq = { λ a b. pointwise bytes_eq (ids_of a) (ids_of b) };
+
+    ghost laws = { on_per ids_of (lists_per (partial_equiv_from_equiv nat_list_eq_equiv)) };
+
+    fn eq(&self, other: &MessageIdList) -> bool {
+        self.0 == other.0
+    }
+}
 
 impl Deref for MessageIdList {
     type Target = Vec<String>;

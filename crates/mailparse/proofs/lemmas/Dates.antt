@@ -3,7 +3,7 @@ use Rattle.std.proofs.Common.{◌≡◌, ℕ, zero, suc, ◌+◌, ◌-◌, ◌*�
 use Rattle.std.specs.List.{filter, list_all, slice_split, onto_first, prefix_len}
 use Rattle.std.specs.Result.{result_ok}
 use Rattle.std.specs.Borrow.{Bor}
-use Rattle.std.specs.Prelude.{ℤ, pos, negsuc, FitsSigned, option_map, find, unsigned_abs, ◌+ℤ◌}
+use Rattle.std.specs.Prelude.{ℤ, pos, negsuc, FitsSigned, option_map, find, ◌+ℤ◌}
 use Rattle.std.specs.Int.{w32}
 use Rattle.std.proofs.lemmas.Int.{ints}
 use Rattle.std.specs.Str.{IsCharBoundary, IsUtf8, all_ascii_digits, str_eq_ignore_ascii_case}
@@ -223,10 +223,6 @@ pub near_fits : (most : ℕ) (z : ℤ) → most < 2 ^ 31 → IsNear most z → F
 near_fits most (pos n) lt h = record { sfits = omega (arith, ints, h.0, h.1) }
 near_fits most (negsuc n) lt h = record { sfits = omega (arith, ints, h.0, h.1) }
 
-pub near_size : (z : ℤ) → unsigned_abs z ≤ 2400 → IsNear 2400 z
-near_size (pos n) h = (omega (arith, ints), omega (arith, ints))
-near_size (negsuc n) h = (omega (arith, ints), omega (arith, ints))
-
 -- what `parse` reads as a zone
 pub signed_number-parse : {E : Type 0} (word : List ℕ) (r : Result ℤ E) → ParsesSigned w32 10 word r → signed_number word ≡ result_ok r
 unfolding signed_number
@@ -276,14 +272,6 @@ next_some refusal (word ∷ ws) n after h = go (number_below 256 word) refl h
     go (Some m) e h =
         let pair : ◌≡◌ {A = ℕ × List (List ℕ)} (m, ws) (n, after) = cc in
         (word, (ap (λ p. word ∷ p.1) pair, e ∙ ap (λ p. Some p.0) pair))
-
-next_none : (refusal : Refusal) (ws : List (List ℕ)) → next_number refusal ws ≡ Ok None → ws ≡ []
-next_none refusal [] h = refl
-next_none refusal (word ∷ ws) h = go (number_below 256 word) h
-  where
-    go : (read : Option ℕ) → number_or refusal read ws ≡ Ok None → word ∷ ws ≡ []
-    go None h = absurd (cc)
-    go (Some m) h = absurd (cc)
 
 -- a unit of time, and what follows it
 unit_then : (seconds : ℕ) (refusal : Refusal) (later : List (List ℕ) → Result ℤ Refusal) (word : List ℕ) (n : ℕ) (after : List (List ℕ))

@@ -1,14 +1,14 @@
 -- Lists of message ids, as they are written and read.
-use Rattle.std.proofs.Common.{◌≡◌, ◌≢◌, ℕ, suc, ◌+◌, ◌<◌, Bool, true, false, cond, not, ◌&&◌, ◌||◌, eqb, List, [], ◌∷◌, ◌++◌, length, map, take, drop, get_or, Option, Some, None, Result, Ok, Err, refl, sym, ap, ◌∙◌, arith, append_assoc, length-drop, append-nil, lit<}
+use Rattle.std.proofs.Common.{◌≡◌, ◌≢◌, ℕ, suc, ◌+◌, ◌<◌, Bool, true, false, cond, not, ◌&&◌, ◌||◌, eqb, List, [], ◌∷◌, ◌++◌, length, map, take, drop, get_or, Option, Some, None, Err, refl, sym, ap, ◌∙◌, arith, append_assoc, length-drop, lit<}
 use Rattle.std.proofs.lemmas.List.{length-map, length-take, map_push, take_more}
 use Rattle.std.proofs.lemmas.Str.{encode_ascii}
 use Rattle.std.proofs.lemmas.Grind.{get_or_after_one}
-use Rattle.std.specs.Prelude.{String, string_bytes}
+use Rattle.std.specs.Prelude.{String, bytes_eq, string_bytes, string_eq}
+use Rattle.std.specs.Cmp.Lexicographic.{pointwise}
 use Rattle.std.specs.Global.{Global}
 use Rattle.std.specs.List.{join_with_byte, list_any, slice_split, onto_first, position_or_len, before_first, after_first}
 use Rattle.mailparse.specs.MessageIds.{begins_with_id, id_not_opened, id_of_piece, ids_at_end, ids_of_pieces, is_closing, message_ids, opens_id, with_id, written_id, written_ids}
-use Rattle.mailparse.specs.Refusal.{Refusal}
-use Rattle.mailparse.specs.private.MessageIds.{IsCutAtClosing, IsNextId, IsOpenedId, with_ids}
+use Rattle.mailparse.specs.private.MessageIds.{IsCutAtClosing, IsNextId, IsOpenedId}
 use Rattle.std.specs.Borrow.{Bor}
 use Rattle.std.specs.Option.{MatchOption}
 use Rattle.std.specs.Char.{encode_utf8}
@@ -117,18 +117,6 @@ message_ids-next text piece after id cut opened =
       shorter = cut.shorter;
     }
 
--- the ids so far, and one more
-pub with_ids-push : (front : List (List ℕ)) (id : List ℕ) (later : Result (List (List ℕ)) Refusal)
-    → with_ids front (with_id id later) ≡ with_ids (front ++ id ∷ []) later
-with_ids-push front id (Err refusal) = refl
-with_ids-push front id (Ok ids) = ap Ok (sym (append_assoc front (id ∷ []) ids))
-
-pub with_ids-refused : (front : List (List ℕ)) (later : Result (List (List ℕ)) Refusal) (refusal : Refusal) → later ≡ Err refusal → with_ids front later ≡ Err refusal
-with_ids-refused front later refusal h = ap (with_ids front) h
-
-pub with_ids-all : (front : List (List ℕ)) (later : Result (List (List ℕ)) Refusal) → later ≡ Ok [] → with_ids front later ≡ Ok front
-with_ids-all front later h = ap (with_ids front) h ∙ ap Ok (append-nil front)
-
 -- a `<` at the front, or none
 pub opens_from_strip : (piece text : List ℕ) (r : Option (Bor (List ℕ))) → text ≡ trim_start piece
     → MatchOption r (FindsCharPrefix 60 text None) (λ x. StripsPrefix (FindsCharPrefix 60) text x.now)
@@ -150,3 +138,12 @@ opens_from_strip piece text (Some x) e h =
       opens = ap (stands (60 ∷ [])) (sym e ∙ front);
       is = h.2 ∙ ap (λ k. drop k text) one ∙ ap (drop 1) e;
     }
+
+-- ---- which lists are equal
+
+-- strings are equal exactly if their bytes are
+pub same_ids : (a b : List (String Global)) → pointwise string_eq a b ≡ pointwise bytes_eq (map string_bytes a) (map string_bytes b)
+same_ids [] [] = refl
+same_ids [] (y ∷ b) = refl
+same_ids (x ∷ a) [] = refl
+same_ids (x ∷ a) (y ∷ b) = ap (λ t. string_eq x y && t) (same_ids a b)
