@@ -3,3 +3,4 @@ pub mod Dispositions
 pub mod StarFree
 pub mod Boundaries
 pub mod WordTokens
+pub mod Percent

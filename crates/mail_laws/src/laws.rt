@@ -1,6 +1,6 @@
 //! The laws. Each function does nothing; its contract is the law.
-ghost use Rattle.std.specs.Prelude.{◌≡◌, ◌<◌, ◌≤◌, ◌++◌, ℕ, suc, List, [], ◌∷◌, codes, length, take, Decides, Ok};
-ghost use Rattle.std.specs.List.{flat_map};
+ghost use Rattle.std.specs.Prelude.{◌≡◌, ◌<◌, ◌≤◌, ◌++◌, ℕ, suc, false, List, [], ◌∷◌, codes, length, take, Decides, Ok};
+ghost use Rattle.std.specs.List.{flat_map, list_any};
 ghost use Rattle.std.specs.Str.{IsUtf8};
 ghost use Rattle.mailparse.specs.Header.{Header, read_header};
 ghost use Rattle.mailparse.specs.Block.{HeaderList, header_count, header_place, read_headers};
@@ -19,6 +19,8 @@ ghost use Rattle.mailparse.specs.Value.{IsPlain, Token, lenient_value, newline, 
 ghost use Rattle.mail_codec.specs.Places.{values_below};
 ghost use Rattle.mail_laws.specs.WordTokens.{white, word};
 ghost use Rattle.mail_laws.specs.Spans.{StandBefore, blank_span, header_at, header_spans, key_range, value_range};
+ghost use Rattle.mail_laws.specs.Percent.{is_percent};
+ghost use Rattle.percent_encoding.specs.Percent.{percent_decode};
 
 /// A header that is read takes at least one byte and at most the input.
 pub fn header_consumes()
@@ -120,4 +122,9 @@ pub fn plain_boundary_is_read()
           charset = codes "us-ascii";
           params = one_text (codes "boundary") boundary;
         } }
+{}
+
+/// Percent decoding of a text without `%` gives its bytes.
+pub fn percent_free()
+    ensures { (text : List ℕ) → list_any is_percent text ≡ false → percent_decode text ≡ text }
 {}

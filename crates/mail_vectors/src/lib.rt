@@ -5,6 +5,8 @@
 #[cfg(test)]
 mod bodies;
 #[cfg(test)]
+mod continuations;
+#[cfg(test)]
 mod debug_texts;
 #[cfg(test)]
 mod errors;

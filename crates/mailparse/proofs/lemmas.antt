@@ -13,5 +13,15 @@ pub mod Lines
 pub mod Pieces
 pub mod Quoted
 pub mod Pairs
-pub mod Copied
 pub mod Types
+pub mod Numbers
+pub mod StarredKeys
+pub mod Deciders
+pub mod Joining
+pub mod Speakers
+pub mod Waiting
+pub mod Filled
+pub mod ExtendedParts
+pub mod PartsOf
+pub mod Bases
+pub mod Resolved

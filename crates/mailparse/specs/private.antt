@@ -3,3 +3,7 @@ pub mod Cuts
 pub mod Unfolding
 pub mod Pieces
 pub mod Pairs
+pub mod StarredKeys
+pub mod Deciders
+pub mod Continuations
+pub mod Filled

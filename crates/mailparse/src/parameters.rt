@@ -8,6 +8,7 @@ ghost use Rattle.mailparse.specs.Pairs.{HasTexts, pairs_of, value_of};
 mod continuations;
 mod pairs;
 mod pieces;
+mod starred;
 
 use crate::error::MailParseError;
 use continuations::resolve;

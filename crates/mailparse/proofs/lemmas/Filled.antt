@@ -1,0 +1,83 @@
+-- A map that is filled name by name.
+use Rattle.std.proofs.Common.{◌≡◌, ℕ, ◌+◌, ◌<◌, Bool, true, false, ◌||◌, cond, List, [], ◌∷◌, ◌++◌, length, take, get_or, Option, Some, option_map, BTreeMap, String, string_bytes, refl, sym, ap, ◌∙◌}
+use Rattle.std.proofs.lemmas.Bool.{cond-false, cond-true}
+use Rattle.std.proofs.lemmas.Map.Text.{btree_map_updates_text}
+use Rattle.std.specs.BTreeMap.{UpdatesBy, get_by_text}
+use Rattle.std.specs.Cmp.Lexicographic.{slice_cmp}
+use Rattle.std.specs.List.{list_any}
+use Rattle.std.specs.Ordering.{nat_cmp}
+use Rattle.std.specs.String.{string_cmp}
+use Rattle.std.specs.Str.{bytes_eq}
+use Rattle.mailparse.specs.private.Filled.{filled, holds_name}
+use Rattle.mailparse.proofs.lemmas.StarredKeys.{equal_bytes, same_bytes}
+
+pub any_push : (test : List ℕ → Bool) (names : List (List ℕ)) (name : List ℕ) → list_any test (names ++ name ∷ []) ≡ (list_any test names || test name)
+any_push test [] name = go (test name)
+  where
+    go : (b : Bool) → (b || false) ≡ b
+    go true = refl
+    go false = refl
+any_push test (n ∷ names) name = ap (λ b. test n || b) (any_push test names name) ∙ go (test n)
+  where
+    go : (b : Bool) → (b || (list_any test names || test name)) ≡ ((b || list_any test names) || test name)
+    go true = refl
+    go false = refl
+
+pub or_true : (a : Bool) → (a || true) ≡ true
+or_true true = refl
+or_true false = refl
+
+pub or_false : (a : Bool) → (a || false) ≡ a
+or_false true = refl
+or_false false = refl
+
+-- one more name was written
+pub filled_push : {A : Type 0} (f g : List ℕ → Option A) (names : List (List ℕ)) (name q : List ℕ) (old new : Option A) → old ≡ filled f g names q
+    → new ≡ cond (bytes_eq name q) (f name) old → new ≡ filled f g (names ++ name ∷ []) q
+filled_push {A = A} f g names name q old new before step = go (bytes_eq name q) refl
+  where
+    any : holds_name (names ++ name ∷ []) q ≡ (holds_name names q || bytes_eq name q)
+    any = any_push (λ n. bytes_eq n q) names name
+
+    go : (b : Bool) → bytes_eq name q ≡ b → new ≡ filled f g (names ++ name ∷ []) q
+    go true is =
+        step ∙ cond-true _ _ _ is ∙ ap f (equal_bytes name q is)
+        ∙ sym (cond-true _ _ _ (any ∙ ap (λ b. holds_name names q || b) is ∙ or_true (holds_name names q)))
+    go false is =
+        step ∙ cond-false _ _ _ is ∙ before
+        ∙ ap (λ b. cond b (f q) (g q)) (sym (any ∙ ap (λ b. holds_name names q || b) is ∙ or_false (holds_name names q)))
+
+-- one more name was passed over, where both say the same
+pub filled_skip : {A : Type 0} (f g : List ℕ → Option A) (names : List (List ℕ)) (name q : List ℕ) (old : Option A) → old ≡ filled f g names q
+    → f name ≡ g name → old ≡ filled f g (names ++ name ∷ []) q
+filled_skip {A = A} f g names name q old before same = go (bytes_eq name q) refl
+  where
+    any : holds_name (names ++ name ∷ []) q ≡ (holds_name names q || bytes_eq name q)
+    any = any_push (λ n. bytes_eq n q) names name
+
+    here : bytes_eq name q ≡ true → (b : Bool) → cond b (f q) (g q) ≡ f q
+    here is true = refl
+    here is false = ap g (sym (equal_bytes name q is)) ∙ sym same ∙ ap f (equal_bytes name q is)
+
+    go : (b : Bool) → bytes_eq name q ≡ b → old ≡ filled f g (names ++ name ∷ []) q
+    go true is = before ∙ here is (holds_name names q) ∙ sym (here is (holds_name (names ++ name ∷ []) q))
+    go false is = before ∙ ap (λ b. cond b (f q) (g q)) (sym (any ∙ ap (λ b. holds_name names q || b) is ∙ or_false (holds_name names q)))
+
+-- all names that one says something of were passed
+pub filled_all : {A : Type 0} (f g : List ℕ → Option A) (names : List (List ℕ)) (q : List ℕ) (old : Option A) → old ≡ filled f g names q
+    → (holds_name names q ≡ false → f q ≡ g q) → old ≡ f q
+filled_all {A = A} f g names q old before same = go (holds_name names q) refl
+  where
+    go : (b : Bool) → holds_name names q ≡ b → old ≡ f q
+    go true is = before ∙ cond-true _ _ _ is
+    go false is = before ∙ cond-false _ _ _ is ∙ sym (same is)
+
+-- ---- what a write leaves at each name
+
+mapped : {A B : Type 0} (f : A → B) (b : Bool) (v : A) (o : Option A) → option_map f (cond b (Some v) o) ≡ cond b (Some (f v)) (option_map f o)
+mapped f true v o = refl
+mapped f false v o = refl
+
+pub stored : {Y X B : Type 0} (f : X → B) (name : List ℕ) (old new : BTreeMap (String Y) X) (v : X) → UpdatesBy string_cmp (λ k. slice_cmp nat_cmp name (string_bytes k)) old new (Some v)
+    → (q : List ℕ) → option_map f (get_by_text new q) ≡ cond (bytes_eq name q) (Some (f v)) (option_map f (get_by_text old q))
+stored f name old new v updates q = ap (option_map f) (btree_map_updates_text name old new (Some v) updates q) ∙ mapped f (bytes_eq name q) v (get_by_text old q)

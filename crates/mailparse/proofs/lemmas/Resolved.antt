@@ -1,0 +1,141 @@
+-- The parameters do not depend on the order in which the names are walked.
+use Rattle.std.proofs.Common.{◌≡◌, ◌⊎◌, inl, inr, ℕ, Bool, true, false, not, ◌&&◌, ◌||◌, cond, List, [], ◌∷◌, ◌++◌, ltb, length, map, Option, Some, None, is_some, option_map, BTreeMap, String, refl, sym, ap, ◌∙◌, ⊎_elim}
+use Rattle.std.proofs.lemmas.Bool.{and_parts, cond-false, cond-true}
+use Rattle.std.specs.BTreeMap.{get_by_text}
+use Rattle.std.specs.Global.{Global}
+use Rattle.std.specs.List.{list_any}
+use Rattle.std.specs.Map.{update, update_all}
+use Rattle.std.specs.Option.{option_map_or, option_or}
+use Rattle.std.specs.Str.{bytes_eq}
+use Rattle.mail_codec.specs.Charset.{four_charsets}
+use Rattle.mailparse.specs.Continuations as joined
+use Rattle.mailparse.specs.Continuations.{extended_at, is_base, is_first_of, is_text, joined_at, names_of, parameters_of, part_at}
+use Rattle.mailparse.specs.Pairs.{Texts, last_of, text_at}
+use Rattle.mailparse.specs.StarredKeys.{is_waiting, name_under, reading_of, starred}
+use Rattle.mailparse.specs.private.Continuations.{names_in}
+use Rattle.mailparse.specs.private.Filled.{holds_name}
+use Rattle.mailparse.specs.private.StarredKeys.{part_view, parts_at}
+use Rattle.mailparse.specs.declared.parameters.starred.Part.{Part}
+use Rattle.mailparse.proofs.lemmas.ExtendedParts.{extended_none}
+use Rattle.mailparse.proofs.lemmas.PartsOf.{part_none, unnamed}
+use Rattle.mailparse.proofs.lemmas.Speakers.{name_under_starred}
+use Rattle.mailparse.proofs.lemmas.StarredKeys.{equal_bytes, is_some_map, same_bytes}
+
+-- ---- a test that passes only names of two lists answers the same of both
+
+or_left : (a b : Bool) → a ≡ true → (a || b) ≡ true
+or_left true b h = refl
+or_left false b h = absurd (cc)
+
+or_right : (a b : Bool) → b ≡ true → (a || b) ≡ true
+or_right true b h = refl
+or_right false b h = h
+
+or_either : (a b : Bool) → (a || b) ≡ true → (a ≡ true) ⊎ (b ≡ true)
+or_either true b h = inl refl
+or_either false b h = inr h
+
+any_of : (test : List ℕ → Bool) (names : List (List ℕ)) → list_any test names ≡ true → (z : List ℕ) × (test z ≡ true)
+any_of test [] h = absurd (cc)
+any_of test (n ∷ names) h = ⊎_elim (λ here. (n, here)) (λ rest. any_of test names rest) (or_either (test n) (list_any test names) h)
+
+any_at : (test : List ℕ → Bool) (names : List (List ℕ)) (z : List ℕ) → test z ≡ true → holds_name names z ≡ true → list_any test names ≡ true
+any_at test [] z t h = absurd (cc)
+any_at test (n ∷ names) z t h =
+    ⊎_elim (λ here. or_left (test n) (list_any test names) (ap test (equal_bytes n z here) ∙ t)) (λ rest. or_right (test n) (list_any test names) (any_at test names z t rest))
+    (or_either (bytes_eq n z) (holds_name names z) h)
+
+any_same : (test : List ℕ → Bool) (xs ys : List (List ℕ)) → ((z : List ℕ) → test z ≡ true → holds_name xs z ≡ true) → ((z : List ℕ) → test z ≡ true → holds_name ys z ≡ true)
+    → list_any test xs ≡ list_any test ys
+any_same test xs ys inx iny = go (list_any test xs) (list_any test ys) refl refl
+  where
+    go : (a b : Bool) → list_any test xs ≡ a → list_any test ys ≡ b → a ≡ b
+    go true true p q = refl
+    go false false p q = refl
+    go true false p q = let z = any_of test xs p in let clash : true ≡ false = sym (any_at test ys z.0 z.1 (iny z.0 z.1)) ∙ q in absurd (cc)
+    go false true p q = let z = any_of test ys q in let clash : true ≡ false = sym (any_at test xs z.0 z.1 (inx z.0 z.1)) ∙ p in absurd (cc)
+
+base_names : (at : List ℕ → Option joined.Part) (xs ys : List (List ℕ)) → ((z : List ℕ) → is_some (at z) ≡ true → holds_name xs z ≡ true)
+    → ((z : List ℕ) → is_some (at z) ≡ true → holds_name ys z ≡ true) → (q : List ℕ) → is_base at xs q ≡ is_base at ys q
+base_names at xs ys inx iny q =
+    ap (λ b. not (is_text (at q)) && b)
+    (any_same (λ n. is_some (at n) && is_first_of q n) xs ys (λ z h. inx z (and_parts _ _ h).0) (λ z h. iny z (and_parts _ _ h).0))
+
+-- what a name has in the end, by a test of the bases
+abbrev joined_by : (List ℕ → Bool) → (List ℕ → Option joined.Part) → List ℕ → Option (List ℕ)
+joined_by base at name =
+    option_or
+    (cond (option_map_or (λ n. base n.0 && (ltb n.1 (length (joined.parts_of at n.0)) && bytes_eq name (joined.piece_name n.0 n.1))) (joined.numbered name) false)
+        None (option_map joined.alone (at name)))
+    (cond (base name) (Some (joined.joined (joined.parts_of at name))) None)
+
+by_base : (at : List ℕ → Option joined.Part) (names : List (List ℕ)) (q : List ℕ) → joined_at at names q ≡ joined_by (is_base at names) at q
+unfolding joined_at
+by_base at names q = refl
+
+joined_same : (at : List ℕ → Option joined.Part) (xs ys : List (List ℕ)) → ((z : List ℕ) → is_some (at z) ≡ true → holds_name xs z ≡ true)
+    → ((z : List ℕ) → is_some (at z) ≡ true → holds_name ys z ≡ true) → (q : List ℕ) → joined_at at xs q ≡ joined_at at ys q
+joined_same at xs ys inx iny q =
+    let same : is_base at xs ≡ is_base at ys = λ i b. base_names at xs ys inx iny b i in
+    by_base at xs q ∙ ap (λ base. joined_by base at q) same ∙ sym (by_base at ys q)
+
+-- ---- the names where something stands
+
+some_of : {A : Type 0} (o : Option A) → o ≡ None → is_some o ≡ true → ⊥
+some_of o e h = let clash : false ≡ true = sym (ap is_some e) ∙ h in cc
+
+last_holds : (pairs : List (List ℕ × List ℕ)) (start : Texts) (q : List ℕ) → is_some (update_all bytes_eq start pairs q) ≡ true
+    → (is_some (start q) ≡ true) ⊎ (holds_name (map (λ p. p.0) pairs) q ≡ true)
+last_holds [] start q h = inl h
+last_holds (p ∷ pairs) start q h =
+    ⊎_elim (λ before. go (bytes_eq p.0 q) refl before) (λ rest. inr (or_right (bytes_eq p.0 q) (holds_name (map (λ r. r.0) pairs) q) rest))
+    (last_holds pairs (update bytes_eq start p.0 (Some p.1)) q h)
+  where
+    go : (b : Bool) → bytes_eq p.0 q ≡ b → is_some (cond (bytes_eq p.0 q) (Some p.1) (start q)) ≡ true → (is_some (start q) ≡ true) ⊎ (holds_name (map (λ r. r.0) (p ∷ pairs)) q ≡ true)
+    go true is some = inr (or_left (bytes_eq p.0 q) (holds_name (map (λ r. r.0) pairs) q) is)
+    go false is some = inl (sym (ap is_some (cond-false _ (Some p.1) (start q) is)) ∙ some)
+
+key_held : (pairs : List (List ℕ × List ℕ)) (q : List ℕ) → is_some (last_of pairs q) ≡ true → holds_name (map (λ p. p.0) pairs) q ≡ true
+key_held pairs q h = ⊎_elim (λ none. let clash : false ≡ true = none in absurd (cc)) (λ held. held) (last_holds pairs (λ _. None) q h)
+
+names_key : (keys : List (List ℕ)) (q : List ℕ) → holds_name keys q ≡ true → holds_name (names_of keys) q ≡ true
+names_key [] q h = absurd (cc)
+names_key (k ∷ keys) q h =
+    ⊎_elim (λ here. or_left (bytes_eq k q) _ here) (λ rest. or_right (bytes_eq k q) _ (or_right (bytes_eq (name_under k) q) _ (names_key keys q rest)))
+    (or_either (bytes_eq k q) (holds_name keys q) h)
+
+names_under : (keys : List (List ℕ)) (q : List ℕ) → holds_name keys (starred q) ≡ true → holds_name (names_of keys) q ≡ true
+names_under [] q h = absurd (cc)
+names_under (k ∷ keys) q h =
+    ⊎_elim
+    (λ here. or_right (bytes_eq k q) _ (or_left (bytes_eq (name_under k) q) _ (same_bytes (name_under k) q (ap name_under (equal_bytes k (starred q) here) ∙ name_under_starred q))))
+    (λ rest. or_right (bytes_eq k q) _ (or_right (bytes_eq (name_under k) q) _ (names_under keys q rest)))
+    (or_either (bytes_eq k (starred q)) (holds_name keys (starred q)) h)
+
+part_named : (pairs : List (List ℕ × List ℕ)) (q : List ℕ) → is_some (part_at four_charsets (last_of pairs) q) ≡ true → holds_name (names_of (map (λ p. p.0) pairs)) q ≡ true
+part_named pairs q h = go (last_of pairs q) refl
+  where
+    waits : last_of pairs q ≡ None → (b : Bool) → is_waiting (last_of pairs) q ≡ b → holds_name (names_of (map (λ p. p.0) pairs)) q ≡ true
+    waits none true is = names_under (map (λ p. p.0) pairs) q (key_held pairs (starred q) (and_parts _ _ is).0)
+    waits none false is = absurd (some_of _ (part_none (last_of pairs) q none ∙ extended_none (last_of pairs) q is) h)
+
+    go : (o : Option (List ℕ)) → last_of pairs q ≡ o → holds_name (names_of (map (λ p. p.0) pairs)) q ≡ true
+    go (Some v) is = names_key (map (λ p. p.0) pairs) q (key_held pairs q (ap is_some is))
+    go None is = waits is (is_waiting (last_of pairs) q) refl
+
+entry_named : (parts : BTreeMap (String Global) Part) (q : List ℕ) → is_some (parts_at parts q) ≡ true → holds_name (names_in parts) q ≡ true
+entry_named parts q h = go (holds_name (names_in parts) q) refl
+  where
+    go : (b : Bool) → holds_name (names_in parts) q ≡ b → holds_name (names_in parts) q ≡ true
+    go true is = is
+    go false is = absurd (some_of _ (unnamed q parts is) (sym (is_some_map part_view (get_by_text parts q)) ∙ h))
+
+pub resolved : (keys : Texts) (parts : BTreeMap (String Global) Part) (given : Option (List ℕ)) (q : List ℕ) → ((z : List ℕ) → parts_at parts z ≡ part_at four_charsets keys z)
+    → given ≡ joined_at (parts_at parts) (names_in parts) q → (pairs : List (List ℕ × List ℕ)) → ((z : List ℕ) → keys z ≡ last_of pairs z) → given ≡ parameters_of pairs q
+resolved keys parts given q read made pairs holds =
+    let known : keys ≡ last_of pairs = λ i z. holds z i in
+    let same : parts_at parts ≡ part_at four_charsets (last_of pairs) = λ i z. (read z ∙ ap (λ k. part_at four_charsets k z) known) i in
+    made
+    ∙ joined_same (parts_at parts) (names_in parts) (names_of (map (λ p. p.0) pairs)) (λ z h. entry_named parts z h)
+        (λ z h. part_named pairs z (sym (ap (λ at. is_some (at z)) same) ∙ h)) q
+    ∙ ap (λ at. joined_at at (names_of (map (λ p. p.0) pairs)) q) same

@@ -1,0 +1,25 @@
+use Rattle.std.proofs.Common.{◌≡◌, ap, sym, ◌∙◌, false, true, nat_eq, arith}
+use Rattle.std.specs.List.{ends_with}
+use Rattle.mailparse.specs.private.Deciders.{is_speaker, name_at}
+use Rattle.mailparse.specs.private.StarredKeys.{names_of}
+use Rattle.mailparse.proofs.lemmas.Deciders.{long_names, name_of_place, range_found, spoken, unspoken}
+use Rattle.mailparse.proofs.parameters.starred.deciders.speak.Goals as goal
+
+pub returns-then-not-ends_with-clause-spoken : goal.returns-then-not-ends_with-clause-spoken
+returns-then-not-ends_with-clause-spoken c = λ order k below.
+    let name = c.as_bytes-name.ensures.value ∙ name_of_place c.args.waiting.now c.args.place in
+    let no : is_speaker (name_at (names_of c.args.waiting.now) c.args.place) ≡ false = ap is_speaker (sym name) ∙ sym c.if-not-ends_with.ensures.value in
+    unspoken (names_of c.args.waiting.now) c.args.place no _ k
+
+pub returns-clause-spoken : goal.returns-clause-spoken
+returns-clause-spoken c = λ order k below.
+    let name = c.as_bytes-name.ensures.value ∙ name_of_place c.args.waiting.now c.args.place in
+    let long = long_names c.args.waiting.now in
+    let yes : is_speaker (name_at (names_of c.args.waiting.now) c.args.place) ≡ true = ap is_speaker (sym name) ∙ sym c.if-not-ends_with.ensures.value in
+    let first = c.first_with-first.ensures in
+    let end = c.end_with-end.ensures in
+    let range = range_found c.args.waiting.now c.as_bytes-name.result.now c.args.place c.first_with-first.result c.end_with-end.result name
+        first.bound end.bound first.all end.all first.first end.last in
+    let write = c.write_range.ensures in
+    spoken (names_of c.args.waiting.now) c.args.place c.first_with-first.result c.end_with-end.result order (omega (arith, c.requires.within)) yes range
+    _ _ write.before write.inside write.after k (omega arith)

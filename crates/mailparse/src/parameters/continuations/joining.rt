@@ -1,0 +1,79 @@
+//! The text that pieces make, joined in turn.
+ghost use Rattle.std.specs.Prelude.{◌≡◌, ◌∷◌, ◌++◌, [], List, None, option_map, IfOk, OnOk, string_bytes};
+ghost use Rattle.mail_codec.specs.Charset.{text_of};
+ghost use Rattle.mailparse.specs.Continuations as joined;
+ghost use Rattle.mailparse.specs.private.Continuations.{joined_with};
+ghost use Rattle.mailparse.specs.private.StarredKeys.{part_view};
+
+use crate::parameters::starred::Part;
+use mail_codec::charset::Charset;
+use std::alloc::{AllocError, Global};
+
+/// The text so far, and the run of pieces that is still to be read.
+#[derive(Drop)]
+pub(super) struct Joining {
+    text: String,
+    run: Vec<u8>,
+    charset: Option<Charset>,
+}
+
+impl Joining {
+    /// No parts yet.
+    pub(super) fn new(alloc: Global) -> Joining
+        ensures { (parts : List joined.Part) → joined_with result parts ≡ joined.joined parts }
+    {
+        Joining {
+            text: String::new(alloc),
+            run: Vec::new(alloc),
+            charset: None,
+        }
+    }
+
+    /// The text of the run.
+    fn run_text(&self, alloc: Global) -> Result<String, AllocError>
+        ensures { IfOk result (λ text. string_bytes text ≡ joined.run_text (option_map text_of self.now.charset) self.now.run.items) }
+    {
+        match self.charset {
+            Some(charset) => charset.decode_without_bom_handling(alloc, self.run.as_slice()),
+            None => Ok(String::new(alloc)),
+        }
+    }
+
+    /// Ends the run, and joins its text.
+    fn close(&mut self, alloc: Global) -> Result<(), AllocError>
+        ensures text { OnOk result (string_bytes self.new.text ≡ string_bytes self.old.text ++ joined.run_text (option_map text_of self.old.charset) self.old.run.items) }
+        ensures run { OnOk result (self.new.run.items ≡ []) }
+        ensures charset { OnOk result (self.new.charset ≡ None) }
+    {
+        let text = self.run_text(alloc)?;
+        self.text.push_str(text.as_str())?;
+        self.run.clear();
+        self.charset = None;
+        Ok(())
+    }
+
+    /// Joins one more part.
+    pub(super) fn push(&mut self, alloc: Global, part: &Part) -> Result<(), AllocError>
+        ensures { OnOk result ((rest : List joined.Part) → joined_with self.old (part_view part.now ∷ rest) ≡ joined_with self.new rest) }
+    {
+        match part {
+            Part::Text(text) => {
+                self.close(alloc)?;
+                self.text.push_str(text.as_str())
+            }
+            Part::Octets(charset, bytes) => {
+                self.run.extend_from_slice(bytes.as_slice())?;
+                self.charset = Some(*charset);
+                Ok(())
+            }
+        }
+    }
+
+    /// The text of all parts.
+    pub(super) fn finish(mut self, alloc: Global) -> Result<String, AllocError>
+        ensures { IfOk result (λ text. string_bytes text ≡ joined_with self []) }
+    {
+        self.close(alloc)?;
+        Ok(self.text)
+    }
+}
