@@ -4,7 +4,7 @@ use Rattle.std.proofs.lemmas.Bool.{and_left, and_right, cond-false, cond-true}
 use Rattle.std.specs.List.{list_any}
 use Rattle.std.specs.Option.{option_and_then, option_map_or, option_or}
 use Rattle.std.specs.Str.{bytes_eq}
-use Rattle.mailparse.specs.Continuations.{Part, alone, is_base, is_first_of, is_text, is_used, joined, joined_at, numbered, parts_of, piece_name}
+use Rattle.mailparse.specs.Continuations.{Part, alone, is_base, is_first_of, is_text, is_used, joined_at, numbered, parts_of, piece_name}
 use Rattle.mailparse.specs.private.Continuations.{base_count, base_text, first_base_of, is_used_by}
 use Rattle.mailparse.proofs.lemmas.Filled.{any_push, or_false, or_true}
 use Rattle.mailparse.proofs.lemmas.PartsOf.{cond_none}

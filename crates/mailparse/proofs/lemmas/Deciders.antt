@@ -1,5 +1,5 @@
 -- Which of the names that wait says the charset of each.
-use Rattle.std.proofs.Common.{◌≡◌, ℕ, zero, suc, ◌+◌, ◌-◌, ◌<◌, ◌≤◌, Bool, true, false, cond, List, [], ◌∷◌, ◌++◌, length, get_or, map, take, Option, Some, None, refl, sym, ap, subst, ◌∙◌, arith, nat_eq, ◌⊎◌, inl, inr, ⊎_elim}
+use Rattle.std.proofs.Common.{◌≡◌, ℕ, zero, suc, ◌-◌, ◌<◌, ◌≤◌, Bool, true, false, cond, List, [], ◌∷◌, ◌++◌, length, get_or, take, None, refl, sym, ap, subst, ◌∙◌, arith, nat_eq, ◌⊎◌, inl, inr, ⊎_elim}
 use Rattle.std.proofs.Math.ListN.{get_or-map}
 use Rattle.std.proofs.lemmas.Bool.{and_from, and_left, and_parts, and_right, both_ways, cases_lt, cases_order, cond-false, cond-true, eq-eqb, eqb-true, le-ltb, ne_eqb}
 use Rattle.std.proofs.lemmas.List.{length-map}
@@ -63,9 +63,9 @@ between (p ∷ prefix) (a ∷ x) (b ∷ y) (c ∷ z) xy yz bx bz =
     ⊎_elim
     (λ lt. ⊎_elim (λ more. absurd (omega (arith, px.0, pz.0))) (λ same. absurd (omega (arith, px.0, pz.0, same.0))) (below_cases b c (y ++ 42 ∷ []) (z ++ 42 ∷ []) yz))
     (λ same.
-        ⊎_elim (λ more. absurd (omega (arith, px.0, pz.0, same.0)))
-        (λ like. first_more p b prefix y (px.0 ∙ same.0) (between prefix x y z same.1 like.1 px.1 pz.1))
-        (below_cases b c (y ++ 42 ∷ []) (z ++ 42 ∷ []) yz))
+    ⊎_elim (λ more. absurd (omega (arith, px.0, pz.0, same.0)))
+    (λ like. first_more p b prefix y (px.0 ∙ same.0) (between prefix x y z same.1 like.1 px.1 pz.1))
+    (below_cases b c (y ++ 42 ∷ []) (z ++ 42 ∷ []) yz))
     (below_cases a b (x ++ 42 ∷ []) (y ++ 42 ∷ []) xy)
 
 -- ---- the names that one speaks for stand together
@@ -100,24 +100,24 @@ range_before : (names : List (List ℕ)) (prefix : List ℕ) (place first end : 
 range_before names prefix place first end order within r k below =
     let until = r.until in
     by_absence _ (λ begins.
-        ⊎_elim
-        (λ lt. both_ways _ (r.before (omega arith))
-            (between prefix (name_at names k) (name_at names (first - 1)) (name_at names place) (order k (first - 1) lt (omega arith)) (order (first - 1) place (omega arith) within) begins r.own))
-        (λ ge. let same : k ≡ first - 1 = omega arith in
-            both_ways _ (r.before (omega arith)) (sym (ap (λ j. starts_with nat_eq (name_at names j) prefix) same) ∙ begins))
-        (cases_lt k (first - 1)))
+    ⊎_elim
+    (λ lt. both_ways _ (r.before (omega arith))
+    (between prefix (name_at names k) (name_at names (first - 1)) (name_at names place) (order k (first - 1) lt (omega arith)) (order (first - 1) place (omega arith) within) begins r.own))
+    (λ ge. let same : k ≡ first - 1 = omega arith in
+    both_ways _ (r.before (omega arith)) (sym (ap (λ j. starts_with nat_eq (name_at names j) prefix) same) ∙ begins))
+    (cases_lt k (first - 1)))
 
 range_after : (names : List (List ℕ)) (prefix : List ℕ) (place first end : ℕ) → AreInOrder names → IsRange names prefix place first end
     → (k : ℕ) → end ≤ k → k < length names → starts_with nat_eq (name_at names k) prefix ≡ false
 range_after names prefix place first end order r k above within =
     let from = r.from in
     by_absence _ (λ begins.
-        ⊎_elim
-        (λ lt. both_ways _ (r.after (omega arith))
-            (between prefix (name_at names place) (name_at names end) (name_at names k) (order place end from (omega arith)) (order end k lt within) r.own begins))
-        (λ ge. let same : k ≡ end = omega arith in
-            both_ways _ (r.after (omega arith)) (sym (ap (λ j. starts_with nat_eq (name_at names j) prefix) same) ∙ begins))
-        (cases_lt end k))
+    ⊎_elim
+    (λ lt. both_ways _ (r.after (omega arith))
+    (between prefix (name_at names place) (name_at names end) (name_at names k) (order place end from (omega arith)) (order end k lt within) r.own begins))
+    (λ ge. let same : k ≡ end = omega arith in
+    both_ways _ (r.after (omega arith)) (sym (ap (λ j. starts_with nat_eq (name_at names j) prefix) same) ∙ begins))
+    (cases_lt end k))
 
 -- the places after a name that may speak was written over its range
 pub spoken : (names : List (List ℕ)) (place first end : ℕ) → AreInOrder names → place < length names → is_speaker (name_at names place) ≡ true
@@ -130,10 +130,10 @@ spoken names place first end order within speaker r old new before inside after 
     ⊎_elim
     (λ lt. before k lt ∙ sym (cond-false _ _ _ (and_right _ _ (range_before names prefix place first end order within r k lt))))
     (λ ge.
-        ⊎_elim
-        (λ lt. inside k ge lt ∙ sym (cond-true _ _ _ (and_from _ _ speaker (range_inside names prefix place first end r k ge lt))))
-        (λ past. after k past ∙ sym (cond-false _ _ _ (and_right _ _ (range_after names prefix place first end order r k past below))))
-        (cases_lt k end))
+    ⊎_elim
+    (λ lt. inside k ge lt ∙ sym (cond-true _ _ _ (and_from _ _ speaker (range_inside names prefix place first end r k ge lt))))
+    (λ past. after k past ∙ sym (cond-false _ _ _ (and_right _ _ (range_after names prefix place first end order r k past below))))
+    (cases_lt k end))
     (cases_lt k first)
 
 -- the places after a name that may not

@@ -5,14 +5,12 @@ use Rattle.std.proofs.lemmas.Bool.{and_from, cases_order, cond-false, cond-true,
 use Rattle.std.proofs.lemmas.List.{get_or-map as get_or-bounded, get_or_default, length-map, take_all}
 use Rattle.std.proofs.lemmas.List.Folds.{list_any_at}
 use Rattle.std.specs.Option.{unwrap_or}
-use Rattle.std.specs.Ordering.{is_lt}
 use Rattle.std.specs.Str.{bytes_eq}
-use Rattle.mail_codec.specs.Charset.{charset_of_label, four_charsets, text_of}
-use Rattle.mail_codec.specs.declared.charset.Charset.{Charset}
+use Rattle.mail_codec.specs.Charset.{four_charsets, text_of}
 use Rattle.mailparse.specs.Continuations as joined
 use Rattle.mailparse.specs.Continuations.{extended_at}
 use Rattle.mailparse.specs.Pairs.{Texts}
-use Rattle.mailparse.specs.StarredKeys.{decider, extended_value, is_waiting, label_in, octets_of, reading_of, starred, text_in}
+use Rattle.mailparse.specs.StarredKeys.{decider, extended_value, is_waiting, label_in, octets_of, reading_of, text_in}
 use Rattle.mailparse.specs.private.Deciders.{AreInOrder, decided, name_at}
 use Rattle.mailparse.specs.private.Filled.{filled, holds_name}
 use Rattle.mailparse.specs.private.StarredKeys.{Found, extended_by, extended_part, found_by_place, names_of, waiting_entries, waiting_view}
@@ -58,8 +56,8 @@ apart : (names : List (List ℕ)) → AreInOrder names → (i j : ℕ) → i < l
 apart names order i j below within =
     ⊎_elim (λ same. same_bytes _ _ (ap (name_at names) same) ∙ sym (eq-eqb i j same))
     (λ other. go (bytes_eq (name_at names i) (name_at names j)) refl
-        (λ e. ⊎_elim (λ lt. clash (name_at names i) (name_at names j) (equal_bytes _ _ e) (order i j lt within)) (λ gt. clash (name_at names j) (name_at names i) (sym (equal_bytes _ _ e)) (order j i gt below)) other)
-      ∙ sym (ne_eqb i j (λ e. ⊎_elim (λ lt. absurd (omega arith)) (λ gt. absurd (omega arith)) other)))
+    (λ e. ⊎_elim (λ lt. clash (name_at names i) (name_at names j) (equal_bytes _ _ e) (order i j lt within)) (λ gt. clash (name_at names j) (name_at names i) (sym (equal_bytes _ _ e)) (order j i gt below)) other)
+    ∙ sym (ne_eqb i j (λ e. ⊎_elim (λ lt. absurd (omega arith)) (λ gt. absurd (omega arith)) other)))
     (cases_order i j)
   where
     clash : (x y : List ℕ) → x ≡ y → is_before x y ≡ true → ⊥
@@ -154,7 +152,7 @@ pub place_written : (f g : List ℕ → Option joined.Part) (names : List (List 
     → new ≡ filled f g (take (place + 1) names) q
 place_written f g names place below q name part old new before is some step =
     filled_push f g (take place names) (name_at names place) q old new before
-        (step ∙ ap (λ n. cond (bytes_eq n q) (Some part) old) is ∙ ap (λ o. cond (bytes_eq (name_at names place) q) o old) some)
+    (step ∙ ap (λ n. cond (bytes_eq n q) (Some part) old) is ∙ ap (λ o. cond (bytes_eq (name_at names place) q) o old) some)
     ∙ ap (λ ns. filled f g ns q) (sym (take_push [] names place below))
 
 pub place_passed : (f g : List ℕ → Option joined.Part) (names : List (List ℕ)) (place : ℕ) → place < length names → (q : List ℕ) (old : Option joined.Part)

@@ -1,6 +1,6 @@
 -- The base and the number of a name.
 use Rattle.std.proofs.Common.{◌≡◌, ℕ, suc, ◌+◌, ◌-◌, ◌<◌, ◌^◌, Bool, true, false, not, ◌&&◌, ◌||◌, cond, eqb, ltb, List, [], ◌∷◌, length, length-drop, take, drop, get_or, Option, Some, None, option_map, Ok, Err, refl, sym, ap, ◌∙◌, arith, ⊎_elim}
-use Rattle.std.proofs.lemmas.Bool.{cond-true, cond-false, lt-ltb, ltb-true, eqb-true, eq-eqb, ne_eqb, and_from, and_parts, cases_lt}
+use Rattle.std.proofs.lemmas.Bool.{cond-true, cond-false, lt-ltb, ltb-true, eq-eqb, ne_eqb, and_from, and_parts, cases_lt}
 use Rattle.std.proofs.lemmas.List.{get_or-drop}
 use Rattle.std.proofs.lemmas.List.Folds.{list_any_at}
 use Rattle.std.proofs.lemmas.List.Sums.{suffix_len_is}
@@ -70,8 +70,8 @@ last_star name i j none at below =
     let byte : get_or name i 0 ≡ 42 = at.byte (omega arith) in
     let before : j - 1 ≡ i = omega arith in
     let suffix : suffix_len (λ b. not (is_star b)) name ≡ length name - j =
-        suffix_len_is (λ b. not (is_star b)) name j 0 (omega arith) (λ k from within. no_star_after name j k none (omega arith) within)
-        (λ some. ap not (eq-eqb _ _ (ap (λ k. get_or name k 0) before ∙ byte)))
+    suffix_len_is (λ b. not (is_star b)) name j 0 (omega arith) (λ k from within. no_star_after name j k none (omega arith) within)
+    (λ some. ap not (eq-eqb _ _ (ap (λ k. get_or name k 0) before ∙ byte)))
     in
     let front : length name - suffix_len (λ b. not (is_star b)) name - 1 ≡ i = omega arith in
     let rest : length name - suffix_len (λ b. not (is_star b)) name ≡ j = omega arith in

@@ -1,7 +1,6 @@
 -- What stands at each name once the starred keys are read.
-use Rattle.std.proofs.Common.{◌≡◌, ℕ, Bool, true, false, not, ◌&&◌, ◌||◌, cond, List, [], ◌∷◌, ◌++◌, map, Option, Some, None, is_some, option_map, BTreeMap, String, string_bytes, refl, sym, ap, ◌∙◌, ⊎_elim}
-use Rattle.std.proofs.lemmas.Bool.{and_left, and_right, cond-false, cond-true}
-use Rattle.std.proofs.lemmas.List.{map_push}
+use Rattle.std.proofs.Common.{◌≡◌, ℕ, Bool, true, false, not, ◌&&◌, ◌||◌, cond, List, [], ◌∷◌, map, Option, Some, None, is_some, option_map, BTreeMap, String, string_bytes, refl, sym, ap, ◌∙◌}
+use Rattle.std.proofs.lemmas.Bool.{and_right, cond-false, cond-true}
 use Rattle.std.proofs.lemmas.Map.Text.{is_eq-slice_cmp}
 use Rattle.std.specs.BTreeMap.{get_by_text}
 use Rattle.std.specs.Borrow.{Bor}
@@ -15,11 +14,10 @@ use Rattle.mail_codec.specs.Charset.{four_charsets}
 use Rattle.mailparse.specs.Continuations as joined
 use Rattle.mailparse.specs.Continuations.{extended_at, has_left, part_at}
 use Rattle.mailparse.specs.Pairs.{Texts}
-use Rattle.mailparse.specs.StarredKeys.{is_starred, is_waiting, name_under, reading_of}
+use Rattle.mailparse.specs.StarredKeys.{is_starred, name_under, reading_of}
 use Rattle.mailparse.specs.private.Filled.{filled, holds_name, shown_name}
 use Rattle.mailparse.specs.private.StarredKeys.{has_left_by}
 use Rattle.mailparse.proofs.lemmas.ExtendedParts.{extended_none}
-use Rattle.mailparse.proofs.lemmas.Filled.{filled_push, filled_skip}
 use Rattle.mailparse.proofs.lemmas.StarredKeys.{equal_bytes, is_some_map, same_bytes}
 
 or_none : {A : Type 0} (o : Option A) → option_or o None ≡ o

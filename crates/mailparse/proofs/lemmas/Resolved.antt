@@ -1,6 +1,6 @@
 -- The parameters do not depend on the order in which the names are walked.
-use Rattle.std.proofs.Common.{◌≡◌, ◌⊎◌, inl, inr, ℕ, Bool, true, false, not, ◌&&◌, ◌||◌, cond, List, [], ◌∷◌, ◌++◌, ltb, length, map, Option, Some, None, is_some, option_map, BTreeMap, String, refl, sym, ap, ◌∙◌, ⊎_elim}
-use Rattle.std.proofs.lemmas.Bool.{and_parts, cond-false, cond-true}
+use Rattle.std.proofs.Common.{◌≡◌, ◌⊎◌, inl, inr, ℕ, Bool, true, false, not, ◌&&◌, ◌||◌, cond, List, [], ◌∷◌, ltb, length, map, Option, Some, None, is_some, option_map, BTreeMap, String, refl, sym, ap, ◌∙◌, ⊎_elim}
+use Rattle.std.proofs.lemmas.Bool.{and_parts, cond-false}
 use Rattle.std.specs.BTreeMap.{get_by_text}
 use Rattle.std.specs.Global.{Global}
 use Rattle.std.specs.List.{list_any}
@@ -10,8 +10,8 @@ use Rattle.std.specs.Str.{bytes_eq}
 use Rattle.mail_codec.specs.Charset.{four_charsets}
 use Rattle.mailparse.specs.Continuations as joined
 use Rattle.mailparse.specs.Continuations.{extended_at, is_base, is_first_of, is_text, joined_at, names_of, parameters_of, part_at}
-use Rattle.mailparse.specs.Pairs.{Texts, last_of, text_at}
-use Rattle.mailparse.specs.StarredKeys.{is_waiting, name_under, reading_of, starred}
+use Rattle.mailparse.specs.Pairs.{Texts, last_of}
+use Rattle.mailparse.specs.StarredKeys.{is_waiting, name_under, starred}
 use Rattle.mailparse.specs.private.Continuations.{names_in}
 use Rattle.mailparse.specs.private.Filled.{holds_name}
 use Rattle.mailparse.specs.private.StarredKeys.{part_view, parts_at}
@@ -66,7 +66,7 @@ abbrev joined_by : (List ℕ → Bool) → (List ℕ → Option joined.Part) →
 joined_by base at name =
     option_or
     (cond (option_map_or (λ n. base n.0 && (ltb n.1 (length (joined.parts_of at n.0)) && bytes_eq name (joined.piece_name n.0 n.1))) (joined.numbered name) false)
-        None (option_map joined.alone (at name)))
+    None (option_map joined.alone (at name)))
     (cond (base name) (Some (joined.joined (joined.parts_of at name))) None)
 
 by_base : (at : List ℕ → Option joined.Part) (names : List (List ℕ)) (q : List ℕ) → joined_at at names q ≡ joined_by (is_base at names) at q
@@ -137,5 +137,5 @@ resolved keys parts given q read made pairs holds =
     let same : parts_at parts ≡ part_at four_charsets (last_of pairs) = λ i z. (read z ∙ ap (λ k. part_at four_charsets k z) known) i in
     made
     ∙ joined_same (parts_at parts) (names_in parts) (names_of (map (λ p. p.0) pairs)) (λ z h. entry_named parts z h)
-        (λ z h. part_named pairs z (sym (ap (λ at. is_some (at z)) same) ∙ h)) q
+    (λ z h. part_named pairs z (sym (ap (λ at. is_some (at z)) same) ∙ h)) q
     ∙ ap (λ at. joined_at at (names_of (map (λ p. p.0) pairs)) q) same

@@ -1,5 +1,5 @@
 -- The name that decides, among those that wait in the order of their starred keys.
-use Rattle.std.proofs.Common.{◌≡◌, ◌⊎◌, inl, inr, ℕ, zero, suc, ◌+◌, ◌-◌, ◌<◌, ◌≤◌, Bool, true, false, cond, eqb, List, [], ◌∷◌, ◌++◌, length, take, drop, map, Option, Some, None, refl, sym, ap, subst, ◌∙◌, arith, nat_eq, ⊎_elim, append_assoc}
+use Rattle.std.proofs.Common.{◌≡◌, ◌⊎◌, inl, inr, ℕ, zero, suc, ◌-◌, ◌<◌, Bool, true, false, cond, eqb, List, [], ◌∷◌, ◌++◌, length, take, map, Option, Some, None, refl, sym, ap, subst, ◌∙◌, arith, nat_eq, ⊎_elim, append_assoc}
 use Rattle.std.proofs.Math.Seq.{take-append_seam}
 use Rattle.std.proofs.lemmas.Bool.{and_from, and_parts, cases_order, cond-false, cond-true, eq-eqb, eqb-true}
 use Rattle.std.proofs.lemmas.Bool.Decides.{Decides-eqb}
@@ -8,14 +8,14 @@ use Rattle.std.proofs.lemmas.List.{length-append}
 use Rattle.std.proofs.lemmas.Map.Lookups.{exact_bytes}
 use Rattle.std.proofs.lemmas.Slice.Eq.{ends_is}
 use Rattle.std.specs.Cmp.Lexicographic.{slice_cmp}
-use Rattle.std.specs.List.{ends_with, filter, starts_with}
+use Rattle.std.specs.List.{filter, starts_with}
 use Rattle.std.specs.Option.{unwrap_or}
 use Rattle.std.specs.Ordering.{is_lt, nat_cmp, ordering_reverse}
 use Rattle.std.specs.declared.cmp.Ordering.{Ordering}
 use Rattle.std.specs.declared.cmp.Ordering.TheVariants.{Less, Equal, Greater}
 use Rattle.mailparse.specs.Pairs.{Texts}
 use Rattle.mailparse.specs.StarredKeys.{decider, is_waiting, last_starred, later, name_under, speakers, starred, starred_prefixes}
-use Rattle.mailparse.specs.private.Deciders.{AreInOrder, decided, is_speaker, name_at, speaks_for}
+use Rattle.mailparse.specs.private.Deciders.{AreInOrder, decided, name_at, speaks_for}
 use Rattle.mailparse.proofs.lemmas.Deciders.{first_more, first_same}
 
 -- ---- the members of a list
@@ -100,7 +100,7 @@ prefix_in (b ∷ name) (a ∷ front) h =
     let first = first_same a b (front ++ 42 ∷ []) name h in
     in_right (a ∷ (front ++ 42 ∷ [])) (cond (eqb b 42) ((b ∷ []) ∷ []) []) (map (λ prefix. b ∷ prefix) (starred_prefixes name))
     (subst (λ x. In (x ∷ (front ++ 42 ∷ [])) (map (λ prefix. b ∷ prefix) (starred_prefixes name))) (sym first.0)
-      (in_map_from (λ prefix. b ∷ prefix) (front ++ 42 ∷ []) (starred_prefixes name) (prefix_in name front first.1)))
+    (in_map_from (λ prefix. b ∷ prefix) (front ++ 42 ∷ []) (starred_prefixes name) (prefix_in name front first.1)))
 
 -- ---- the names that may speak for another
 
@@ -139,7 +139,7 @@ speaker_in keys name z waits speaks =
     let s = speaks_to z name speaks in
     in_filter_from (is_waiting keys) z (map (λ prefix. prefix ++ 48 ∷ []) (starred_prefixes name))
     (subst (λ x. In x (map (λ prefix. prefix ++ 48 ∷ []) (starred_prefixes name))) (sym s.1)
-      (in_map_from (λ prefix. prefix ++ 48 ∷ []) (s.0 ++ 42 ∷ []) (starred_prefixes name) (prefix_in name s.0 s.2)))
+    (in_map_from (λ prefix. prefix ++ 48 ∷ []) (s.0 ++ 42 ∷ []) (starred_prefixes name) (prefix_in name s.0 s.2)))
     waits
 
 -- ---- the last in the order of the starred keys
@@ -209,7 +209,7 @@ last_is (x ∷ xs) z h least = ⊎_elim first (λ i. rest i (last_is xs z i (λ 
 abbrev Decided : List (List ℕ) → ℕ → ℕ → Type 0
 Decided names count k =
     ((j : ℕ) × (j < count) × (decided names count k ≡ j) × (speaks_for (name_at names j) (name_at names k) ≡ true)
-      × ((i : ℕ) → j < i → i < count → speaks_for (name_at names i) (name_at names k) ≡ false))
+    × ((i : ℕ) → j < i → i < count → speaks_for (name_at names i) (name_at names k) ≡ false))
     ⊎ ((decided names count k ≡ k) × ((i : ℕ) → i < count → speaks_for (name_at names i) (name_at names k) ≡ false))
 
 decided_cases : (names : List (List ℕ)) (count k : ℕ) → Decided names count k
@@ -220,12 +220,19 @@ decided_cases names (suc last) k = go (speaks_for (name_at names last) (name_at 
     go true is ih = inl (last, omega arith, cond-true _ _ _ is, is, λ i above below. absurd (omega arith))
     go false is ih =
         ⊎_elim
-        (λ f. inl (f.0, omega (arith, f.1), cond-false _ _ _ is ∙ f.2, f.3,
-            λ i above below. ⊎_elim (λ same. ap (λ n. speaks_for (name_at names n) (name_at names k)) same ∙ is)
-                (λ apart. ⊎_elim (λ lt. f.4 i above lt) (λ gt. absurd (omega arith)) apart) (cases_order i last)))
-        (λ f. inr (cond-false _ _ _ is ∙ f.0,
-            λ i below. ⊎_elim (λ same. ap (λ n. speaks_for (name_at names n) (name_at names k)) same ∙ is)
-                (λ apart. ⊎_elim (λ lt. f.1 i lt) (λ gt. absurd (omega arith)) apart) (cases_order i last)))
+        (λ f. inl (
+          f.0,
+          omega (arith, f.1),
+          cond-false _ _ _ is ∙ f.2,
+          f.3,
+          λ i above below. ⊎_elim (λ same. ap (λ n. speaks_for (name_at names n) (name_at names k)) same ∙ is)
+              (λ apart. ⊎_elim (λ lt. f.4 i above lt) (λ gt. absurd (omega arith)) apart) (cases_order i last),
+        ))
+        (λ f. inr (
+          cond-false _ _ _ is ∙ f.0,
+          λ i below. ⊎_elim (λ same. ap (λ n. speaks_for (name_at names n) (name_at names k)) same ∙ is)
+              (λ apart. ⊎_elim (λ lt. f.1 i lt) (λ gt. absurd (omega arith)) apart) (cases_order i last),
+        ))
         ih
 
 pub decided_within : (names : List (List ℕ)) (k : ℕ) → k < length names → decided names (length names) k < length names
@@ -243,9 +250,9 @@ decider_at_place keys names order sound complete k below = ⊎_elim some none (d
     none : (decided names (length names) k ≡ k) × ((i : ℕ) → i < length names → speaks_for (name_at names i) name ≡ false) → name_at names (decided names (length names) k) ≡ decider keys name
     none h =
         let empty = none_in (speakers keys name) (λ w i.
-            let s = in_speakers keys name w i in
-            let at = complete w s.0 in
-            let clash : false ≡ true = sym (h.1 at.0 at.1) ∙ ap (λ x. speaks_for x name) at.2 ∙ s.1 in absurd (cc)) in
+        let s = in_speakers keys name w i in
+        let at = complete w s.0 in
+        let clash : false ≡ true = sym (h.1 at.0 at.1) ∙ ap (λ x. speaks_for x name) at.2 ∙ s.1 in absurd (cc)) in
         ap (name_at names) h.0 ∙ sym (ap (λ zs. unwrap_or (last_starred zs) name) empty)
 
     some : (j : ℕ) × (j < length names) × (decided names (length names) k ≡ j) × (speaks_for (name_at names j) name ≡ true)
@@ -253,12 +260,12 @@ decider_at_place keys names order sound complete k below = ⊎_elim some none (d
     some h =
         let z = name_at names h.0 in
         let last = last_is (speakers keys name) z (speaker_in keys name z (sound h.0 h.1) h.3) (λ w i.
-            let s = in_speakers keys name w i in
-            let at = complete w s.0 in
-            let speaks = ap (λ x. speaks_for x name) at.2 ∙ s.1 in
-            ap (is_before z) (sym at.2)
-            ∙ ⊎_elim (λ same. ap (λ n. is_before z (name_at names n)) same ∙ not_itself z)
-                (λ apart. ⊎_elim (λ lt. not_back (name_at names at.0) z (order at.0 h.0 lt h.1))
-                    (λ gt. let clash : false ≡ true = sym (h.4 at.0 gt at.1) ∙ speaks in absurd (cc)) apart)
-                (cases_order at.0 h.0)) in
+        let s = in_speakers keys name w i in
+        let at = complete w s.0 in
+        let speaks = ap (λ x. speaks_for x name) at.2 ∙ s.1 in
+        ap (is_before z) (sym at.2)
+        ∙ ⊎_elim (λ same. ap (λ n. is_before z (name_at names n)) same ∙ not_itself z)
+        (λ apart. ⊎_elim (λ lt. not_back (name_at names at.0) z (order at.0 h.0 lt h.1))
+        (λ gt. let clash : false ≡ true = sym (h.4 at.0 gt at.1) ∙ speaks in absurd (cc)) apart)
+        (cases_order at.0 h.0)) in
         ap (name_at names) h.2 ∙ sym (ap (λ o. unwrap_or o name) last)

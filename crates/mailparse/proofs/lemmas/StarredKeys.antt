@@ -1,5 +1,5 @@
 -- Keys that end in a star.
-use Rattle.std.proofs.Common.{◌≡◌, ◌≢◌, ℕ, ◌-◌, Bool, true, false, not, ◌&&◌, cond, List, [], ◌∷◌, ◌++◌, length, map, take, drop, Option, Some, None, String, is_some, option_map, refl, sym, ap, ◌∙◌, arith}
+use Rattle.std.proofs.Common.{◌≡◌, ◌≢◌, ℕ, ◌-◌, Bool, true, false, not, cond, List, [], ◌∷◌, ◌++◌, length, map, take, drop, Option, Some, None, String, is_some, option_map, refl, sym, ap, ◌∙◌, arith}
 use Rattle.std.proofs.lemmas.Bool.{and_from, and_left, and_right, cond-true, cond-false}
 use Rattle.std.proofs.lemmas.List.{append-nil, drop_all, flat_map_more, map_push, take-append-drop}
 use Rattle.std.proofs.lemmas.Slice.Eq.{bytes_eq-Decides}
@@ -38,9 +38,9 @@ pub star_some : (key name : List ℕ) (n : ℕ) → n ≡ 1 → name ≡ take (l
 star_some key name n one taken star =
     let under : name ≡ name_under key = taken ∙ ap (λ m. take (length key - m) key) one in
     let whole : key ≡ starred (name_under key) =
-        sym (take-append-drop (length key - n) key)
-        ∙ ap (λ rest. take (length key - n) key ++ rest) (star ∙ ap (λ rest. 42 ∷ rest) (drop_all (length key) key (omega arith)))
-        ∙ ap (λ front. front ++ 42 ∷ []) (ap (λ m. take (length key - m) key) one)
+    sym (take-append-drop (length key - n) key)
+    ∙ ap (λ rest. take (length key - n) key ++ rest) (star ∙ ap (λ rest. 42 ∷ rest) (drop_all (length key) key (omega arith)))
+    ∙ ap (λ front. front ++ 42 ∷ []) (ap (λ m. take (length key - m) key) one)
     in
     cond-true _ _ _ (same_bytes _ _ whole) ∙ ap Some (sym under)
 

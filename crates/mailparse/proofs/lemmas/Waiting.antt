@@ -1,9 +1,8 @@
 -- The names that wait: which they are, and that they stand in order.
-use Rattle.std.proofs.Common.{◌≡◌, ◌⊎◌, inl, inr, ℕ, zero, suc, ◌+◌, ◌<◌, Bool, true, false, not, ◌&&◌, cond, List, [], ◌∷◌, ◌++◌, length, get_or, map, Option, Some, None, is_some, option_map, String, string_bytes, BTreeMap, refl, sym, ap, subst, ◌∙◌, arith, ⊎_elim}
+use Rattle.std.proofs.Common.{◌≡◌, ◌⊎◌, inl, inr, ℕ, zero, suc, ◌<◌, Bool, true, false, not, ◌&&◌, cond, List, [], ◌∷◌, ◌++◌, length, get_or, map, Option, Some, None, is_some, option_map, String, string_bytes, BTreeMap, refl, sym, ap, subst, ◌∙◌, arith, ⊎_elim}
 use Rattle.std.proofs.lemmas.Bool.{and_from, and_parts, cond-false, cond-true, not-true}
 use Rattle.std.proofs.lemmas.List.{length-map}
 use Rattle.std.proofs.lemmas.Map.Keys.{Less-from_sorted}
-use Rattle.std.proofs.lemmas.Map.Lookups.{exact_bytes}
 use Rattle.std.proofs.Math.ListN.{get_or-map}
 use Rattle.std.proofs.lemmas.List.Elements.{All-head, All-tail}
 use Rattle.std.proofs.lemmas.Map.Text.{is_eq-slice_cmp}
@@ -17,7 +16,7 @@ use Rattle.std.specs.Map.{lookup}
 use Rattle.std.specs.Ordering.{is_eq, is_lt, nat_cmp}
 use Rattle.std.specs.String.{string_cmp, string_cmp_total}
 use Rattle.std.specs.declared.cmp.Ordering.{Ordering}
-use Rattle.std.specs.declared.cmp.Ordering.TheVariants.{Less, Equal, Greater}
+use Rattle.std.specs.declared.cmp.Ordering.TheVariants.{Less}
 use Rattle.mail_codec.specs.Charset.{charset_of_label}
 use Rattle.mailparse.specs.Pairs.{Texts, text_at}
 use Rattle.mailparse.specs.StarredKeys.{is_starred, is_waiting, label_in, name_under, starred}
@@ -63,7 +62,7 @@ in_found keys (e ∷ entries) w h =
     found_here (inl none) i = absurd (subst (λ xs. In w xs) none i)
     found_here (inr some) i =
         let made : IsFound keys (e ∷ entries) (name_under e.0, e.1, charset_of_label (label_in e.1)) =
-            record { entry = inl (ap (λ key. (key, e.1)) some.0); none = some.1; charset = refl } in
+        record { entry = inl (ap (λ key. (key, e.1)) some.0); none = some.1; charset = refl } in
         ⊎_elim (λ same. subst (λ x. IsFound keys (e ∷ entries) x) (sym same) made) (λ n. absurd n) (subst (λ xs. In w xs) some.2 i)
 
 -- an entry whose key is a name with a star, where the name is no key
@@ -73,7 +72,7 @@ found_in keys [] name value h none = absurd h
 found_in keys (e ∷ entries) name value h none =
     ⊎_elim
     (λ same. in_left _ (found_at keys e) (waiting_entries keys entries)
-        (subst (λ x. In (name, value, charset_of_label (label_in value)) (found_at keys x)) same here))
+    (subst (λ x. In (name, value, charset_of_label (label_in value)) (found_at keys x)) same here))
     (λ rest. in_right _ (found_at keys e) (waiting_entries keys entries) (found_in keys entries name value rest none))
     h
   where
@@ -196,7 +195,7 @@ texts_hold m [] all e i = absurd i
 texts_hold m (x ∷ entries) all e i =
     ⊎_elim
     (λ same. let at : get_by_text m (string_bytes x.0) ≡ Some x.1 = All-head (holds_entry m) x entries all in
-        ap (λ (p : List ℕ × List ℕ). text_at m p.0) same ∙ ap (option_map string_bytes) at ∙ sym (ap (λ (p : List ℕ × List ℕ). Some p.1) same))
+    ap (λ (p : List ℕ × List ℕ). text_at m p.0) same ∙ ap (option_map string_bytes) at ∙ sym (ap (λ (p : List ℕ × List ℕ). Some p.1) same))
     (λ rest. texts_hold m entries (All-tail (holds_entry m) x entries all) e rest)
     i
 

@@ -35,11 +35,7 @@ struct Joined {
 }
 
 /// Joins the pieces of a base.
-fn join(
-    alloc: Global,
-    parts: &BTreeMap<String, Part>,
-    base: &str,
-) -> Result<Joined, AllocError>
+fn join(alloc: Global, parts: &BTreeMap<String, Part>, base: &str) -> Result<Joined, AllocError>
     ensures { IfOk result (IsJoined (parts_at parts.now) base.now) }
 {
     let mut joining = Joining::new(alloc);
@@ -137,11 +133,7 @@ fn bases_of(alloc: Global, parts: &BTreeMap<String, Part>) -> Result<Bases, Allo
 }
 
 /// Whether a name is that of a piece that was joined.
-fn is_used(
-    alloc: Global,
-    counts: &BTreeMap<String, u64>,
-    name: &str,
-) -> Result<bool, AllocError>
+fn is_used(alloc: Global, counts: &BTreeMap<String, u64>, name: &str) -> Result<bool, AllocError>
     ensures { IfOk result (λ used. used ≡ is_used_by (get_by_text counts.now) name.now) }
 {
     let Some((base, number)) = numbered(name) else {

@@ -128,11 +128,7 @@ fn extended_parts(
 }
 
 /// Whether a key ends in `*` and its name, which is no key, is among the names that were read.
-fn has_left(
-    pairs: &BTreeMap<String, String>,
-    parts: &BTreeMap<String, Part>,
-    key: &str,
-) -> bool
+fn has_left(pairs: &BTreeMap<String, String>, parts: &BTreeMap<String, Part>, key: &str) -> bool
     ensures { result ≡ has_left_by (text_at pairs.now) (parts_at parts.now) key.now }
 {
     match without_star(key) {

@@ -100,10 +100,7 @@ fn speak(waiting: &[Waiting<'_>], place: usize, places: &mut Vec<usize>)
 }
 
 /// The place of the name that decides for each: the last that speaks for it, otherwise its own.
-pub(super) fn deciders(
-    alloc: Global,
-    waiting: &[Waiting<'_>],
-) -> Result<Vec<usize>, AllocError>
+pub(super) fn deciders(alloc: Global, waiting: &[Waiting<'_>]) -> Result<Vec<usize>, AllocError>
     ensures long { IfOk result (λ places. length places.items ≡ length waiting.now) }
     ensures decided { AreInOrder (names_of waiting.now) → IfOk result (λ places. (k : ℕ) → k < length waiting.now →
         slice_index_or places.items k 0 ≡ decided (names_of waiting.now) (length waiting.now) k) }

@@ -1,4 +1,4 @@
-use Rattle.std.proofs.Common.{◌≡◌, ◌++◌, [], ◌∷◌, false, true, cond, List, ℕ, Option, Some, None, String, map, length, option_map, is_some, sym, ap, ◌∙◌}
+use Rattle.std.proofs.Common.{◌≡◌, true, cond, Some, None, String, map, length, option_map, is_some, sym, ap, ◌∙◌}
 use Rattle.std.proofs.lemmas.Iterator.Consumers.{YieldsList-end, YieldsList-from_rest}
 use Rattle.std.proofs.lemmas.List.{map_push}
 use Rattle.std.proofs.lemmas.Map.Views.{All-turn}
@@ -7,15 +7,14 @@ use Rattle.std.specs.Borrow.{Bor}
 use Rattle.std.specs.Global.{Global}
 use Rattle.std.specs.Str.{bytes_eq}
 use Rattle.std.specs.String.{string_bytes, string_cmp}
-use Rattle.mailparse.specs.Continuations.{alone, is_base, is_used, joined, joined_at, parts_of}
+use Rattle.mailparse.specs.Continuations.{is_base, joined, parts_of}
 use Rattle.mailparse.specs.Pairs.{text_at}
-use Rattle.mailparse.specs.private.Continuations.{base_count, base_text, first_base_of, is_used_by, names_in}
-use Rattle.mailparse.specs.private.Filled.{filled, holds_name, shown_name}
+use Rattle.mailparse.specs.private.Continuations.{base_count, base_text, first_base_of}
+use Rattle.mailparse.specs.private.Filled.{shown_name}
 use Rattle.mailparse.specs.private.StarredKeys.{part_view, parts_at}
 use Rattle.mailparse.specs.declared.parameters.starred.Part.{Part}
-use Rattle.mailparse.proofs.lemmas.Bases.{base_known, base_put, base_same, hit_base, hit_none, left_none, left_unused, left_used, used_same}
-use Rattle.mailparse.proofs.lemmas.Filled.{filled_all, filled_push, filled_skip}
-use Rattle.mailparse.proofs.lemmas.PartsOf.{names_shown, unnamed}
+use Rattle.mailparse.proofs.lemmas.Bases.{base_known, base_put, base_same, hit_base, hit_none}
+use Rattle.mailparse.proofs.lemmas.PartsOf.{names_shown}
 use Rattle.mailparse.proofs.parameters.continuations.bases_of.Goals as goal
 
 pub loop-name-preserved-in-Continue-branch-3 : goal.loop-name-preserved-in-Continue-branch-3
@@ -26,7 +25,7 @@ loop-name-preserved-in-Continue-branch-3 c =
     let e : Bor (String Global) × Bor Part = (c.in-Some.name, c.in-Some.field-0-1) in
     let gives = c.into_iter-name-iterator.ensures.into_iter_gives in
     let turn : get string_cmp c.args.parts.now c.in-Some.name.now ≡ Some c.in-Some.field-0-1.now =
-        All-turn _ (λ (e : String Global × Part). get string_cmp c.args.parts.now e.0 ≡ Some e.1) c.args.parts.now.entries c.loop-name.yielded _ _ _ _ _ gives.6 gives.0 c.loop-name.yielded_by c.in-Some.is c.next.ensures.steps in
+    All-turn _ (λ (e : String Global × Part). get string_cmp c.args.parts.now e.0 ≡ Some e.1) c.args.parts.now.entries c.loop-name.yielded _ _ _ _ _ gives.6 gives.0 c.loop-name.yielded_by c.in-Some.is c.next.ensures.steps in
     let here : at name ≡ Some (part_view c.in-Some.field-0-1.now) = ap (option_map part_view) turn in
     let base = c.in-Some-first_base.base.now in
     let first : first_base_of at name ≡ Some base = ap (first_base_of at) (sym c.as_str.ensures.value) ∙ sym c.in-Some-first_base.ensures in
@@ -34,11 +33,11 @@ loop-name-preserved-in-Continue-branch-3 c =
     record {
       texts = λ q.
           base_put (λ b. joined (parts_of at b)) at names name base q (text_at c.loop-name.texts q) _ (ap is_some here) first (c.loop-name.invariant.texts q)
-              (c.in_ok-put_text.ensures q ∙ ap (λ t. cond (bytes_eq base q) (Some t) (text_at c.loop-name.texts q)) c.in_ok-joined.ensures.text)
+          (c.in_ok-put_text.ensures q ∙ ap (λ t. cond (bytes_eq base q) (Some t) (text_at c.loop-name.texts q)) c.in_ok-joined.ensures.text)
           ∙ ap (λ ns. base_text at ns q) pushed;
       counts = λ q.
           base_put (λ b. length (parts_of at b)) at names name base q (get_by_text c.loop-name.counts q) _ (ap is_some here) first (c.loop-name.invariant.counts q)
-              (c.in_ok-put_count.ensures q ∙ ap (λ n. cond (bytes_eq base q) (Some n) (get_by_text c.loop-name.counts q)) c.in_ok-joined.ensures.count)
+          (c.in_ok-put_count.ensures q ∙ ap (λ n. cond (bytes_eq base q) (Some n) (get_by_text c.loop-name.counts q)) c.in_ok-joined.ensures.count)
           ∙ ap (λ ns. base_count at ns q) pushed;
     }
 
@@ -50,7 +49,7 @@ loop-name-preserved-else-not-contains_key c =
     let e : Bor (String Global) × Bor Part = (c.in-Some.name, c.in-Some.field-0-1) in
     let gives = c.into_iter-name-iterator.ensures.into_iter_gives in
     let turn : get string_cmp c.args.parts.now c.in-Some.name.now ≡ Some c.in-Some.field-0-1.now =
-        All-turn _ (λ (e : String Global × Part). get string_cmp c.args.parts.now e.0 ≡ Some e.1) c.args.parts.now.entries c.loop-name.yielded _ _ _ _ _ gives.6 gives.0 c.loop-name.yielded_by c.in-Some.is c.next.ensures.steps in
+    All-turn _ (λ (e : String Global × Part). get string_cmp c.args.parts.now e.0 ≡ Some e.1) c.args.parts.now.entries c.loop-name.yielded _ _ _ _ _ gives.6 gives.0 c.loop-name.yielded_by c.in-Some.is c.next.ensures.steps in
     let here : at name ≡ Some (part_view c.in-Some.field-0-1.now) = ap (option_map part_view) turn in
     let base = c.in-Some-first_base.base.now in
     let first : first_base_of at name ≡ Some base = ap (first_base_of at) (sym c.as_str.ensures.value) ∙ sym c.in-Some-first_base.ensures in
@@ -73,7 +72,7 @@ loop-name-preserved c =
     let e : Bor (String Global) × Bor Part = (c.in-Some.name, c.in-Some.field-0-1) in
     let gives = c.into_iter-name-iterator.ensures.into_iter_gives in
     let turn : get string_cmp c.args.parts.now c.in-Some.name.now ≡ Some c.in-Some.field-0-1.now =
-        All-turn _ (λ (e : String Global × Part). get string_cmp c.args.parts.now e.0 ≡ Some e.1) c.args.parts.now.entries c.loop-name.yielded _ _ _ _ _ gives.6 gives.0 c.loop-name.yielded_by c.in-Some.is c.next.ensures.steps in
+    All-turn _ (λ (e : String Global × Part). get string_cmp c.args.parts.now e.0 ≡ Some e.1) c.args.parts.now.entries c.loop-name.yielded _ _ _ _ _ gives.6 gives.0 c.loop-name.yielded_by c.in-Some.is c.next.ensures.steps in
     let here : at name ≡ Some (part_view c.in-Some.field-0-1.now) = ap (option_map part_view) turn in
     let first : first_base_of at name ≡ None = ap (first_base_of at) (sym c.as_str.ensures.value) ∙ sym c.in_default.ensures in
     let pushed = sym (map_push shown_name c.loop-name.yielded e) in

@@ -1,5 +1,5 @@
-use Rattle.std.proofs.Common.{◌≡◌, ◌++◌, ◌∷◌, ◌+◌, ◌-◌, List, ℕ, length, Some, None, option_map, sym, ap, ◌∙◌, arith}
-use Rattle.mailparse.specs.Continuations.{most_parts, parts_from, piece_name}
+use Rattle.std.proofs.Common.{◌≡◌, ◌-◌, length, option_map, sym, ap, ◌∙◌, arith}
+use Rattle.mailparse.specs.Continuations.{most_parts, piece_name}
 use Rattle.mailparse.specs.private.Continuations.{joined_with}
 use Rattle.mailparse.specs.private.StarredKeys.{part_view, parts_at}
 use Rattle.mailparse.proofs.lemmas.Joining.{most, parts_none, parts_some, parts_end}

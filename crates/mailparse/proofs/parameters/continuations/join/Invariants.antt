@@ -1,5 +1,5 @@
 -- The parts so far and those from the number on are all.
-use Rattle.std.proofs.Common.{◌≡◌, ◌≤◌, ◌-◌, ◌+◌, ℕ, length}
+use Rattle.std.proofs.Common.{◌≡◌, ◌≤◌, ◌-◌, ◌+◌, length}
 use Rattle.mailparse.specs.Continuations.{joined, most_parts, parts_from, parts_of}
 use Rattle.mailparse.specs.private.Continuations.{joined_with}
 use Rattle.mailparse.specs.private.StarredKeys.{parts_at}

@@ -1,5 +1,4 @@
-use Rattle.std.proofs.Common.{◌≡◌, Some, None, sym, ap, ◌∙◌, arith, option_map}
-use Rattle.mailparse.specs.Continuations.{number_in, numbered}
+use Rattle.std.proofs.Common.{Some, None, sym, ap, ◌∙◌, arith, option_map}
 use Rattle.mailparse.proofs.lemmas.Numbers.{number_parsed, number_refused, numbered_no_star, numbered_cut, last_star}
 use Rattle.mailparse.proofs.parameters.continuations.numbered.Goals as goal
 

@@ -1,8 +1,8 @@
-use Rattle.std.proofs.Common.{◌≡◌, ◌<◌, Some, None, List, ℕ, length, map, option_map, sym, ap, subst, ◌∙◌, arith}
+use Rattle.std.proofs.Common.{◌≡◌, ◌<◌, None, length, map, option_map, sym, ap, ◌∙◌, arith}
 use Rattle.mail_codec.specs.Charset.{four_charsets}
 use Rattle.mailparse.specs.Continuations.{extended_at}
 use Rattle.mailparse.specs.Pairs.{text_at}
-use Rattle.mailparse.specs.private.Deciders.{decided, name_at}
+use Rattle.mailparse.specs.private.Deciders.{name_at}
 use Rattle.mailparse.specs.private.StarredKeys.{extended_by, names_of, pair_view, part_view, parts_at, waiting_view}
 use Rattle.mailparse.proofs.lemmas.Deciders.{long_names}
 use Rattle.mailparse.proofs.lemmas.ExtendedParts.{extended_all, extended_is, name_read, place_passed, place_read, place_within, place_written, waiting_found}
@@ -17,7 +17,7 @@ extended_at-requires-clause-decider c =
     let all = waiting_found _ _ waiting map_of c.in_ok-waiting.ensures.found in
     let below = c.loop-place-test.true in
     let at = place_read waiting c.as_slice.result.now c.in_ok-deciders.deciders.items c.loop-place.place c.index.result.now c.as_slice.ensures.value all.order
-        c.in_ok-deciders.ensures.long c.in_ok-deciders.ensures.decided (omega (arith, below, c.len.ensures)) c.index.ensures in
+    c.in_ok-deciders.ensures.long c.in_ok-deciders.ensures.decided (omega (arith, below, c.len.ensures)) c.index.ensures in
     let within = place_within waiting c.loop-place.place (omega (arith, below, c.len.ensures)) in
     omega (arith, at, within, ap length c.as_slice-in-loop-place.ensures.value)
 
@@ -30,10 +30,10 @@ loop-place-preserved c =
     let below : c.loop-place.place < length waiting = omega (arith, c.loop-place-test.true, c.len.ensures) in
     let long = long_names waiting in
     let at = place_read waiting c.as_slice.result.now c.in_ok-deciders.deciders.items c.loop-place.place c.index.result.now c.as_slice.ensures.value all.order
-        c.in_ok-deciders.ensures.long c.in_ok-deciders.ensures.decided below c.index.ensures in
+    c.in_ok-deciders.ensures.long c.in_ok-deciders.ensures.decided below c.index.ensures in
     let given : option_map part_view c.in_ok-part.field-0 ≡ extended_at four_charsets keys (name_at (names_of waiting) c.loop-place.place) =
-        c.in_ok-part.ensures ∙ ap (λ ws. extended_by (map waiting_view ws) c.loop-place.place c.index.result.now) c.as_slice-in-loop-place.ensures.value
-        ∙ extended_is keys (map pair_view c.args.pairs.now.entries) waiting c.loop-place.place c.index.result.now map_of c.in_ok-waiting.ensures.found below at in
+    c.in_ok-part.ensures ∙ ap (λ ws. extended_by (map waiting_view ws) c.loop-place.place c.index.result.now) c.as_slice-in-loop-place.ensures.value
+    ∙ extended_is keys (map pair_view c.args.pairs.now.entries) waiting c.loop-place.place c.index.result.now map_of c.in_ok-waiting.ensures.found below at in
     record {
       bound = omega arith;
       parts = elim c.match-branch-4.branch [

@@ -1,4 +1,4 @@
-use Rattle.std.proofs.Common.{◌≡◌, ap, ◌∙◌, nat_eq}
+use Rattle.std.proofs.Common.{ap, ◌∙◌, nat_eq}
 use Rattle.std.specs.List.{starts_with}
 use Rattle.mailparse.proofs.lemmas.Deciders.{name_of_place}
 use Rattle.mailparse.proofs.parameters.starred.deciders.begins_with.Goals as goal

@@ -1,4 +1,4 @@
-use Rattle.std.proofs.Common.{◌≡◌, ap, sym, ◌∙◌, nat_eq, ◌-◌, arith, ⊎_elim}
+use Rattle.std.proofs.Common.{sym, ◌-◌, arith, ⊎_elim}
 use Rattle.std.proofs.lemmas.Bool.{cases_lt}
 use Rattle.mailparse.proofs.lemmas.Deciders.{at_same_place}
 use Rattle.mailparse.proofs.parameters.starred.deciders.first_with.Goals as goal

@@ -1,5 +1,4 @@
-use Rattle.std.proofs.Common.{◌≡◌, ap, sym, ◌∙◌, false, true, nat_eq, arith}
-use Rattle.std.specs.List.{ends_with}
+use Rattle.std.proofs.Common.{◌≡◌, ap, sym, ◌∙◌, false, true, arith}
 use Rattle.mailparse.specs.private.Deciders.{is_speaker, name_at}
 use Rattle.mailparse.specs.private.StarredKeys.{names_of}
 use Rattle.mailparse.proofs.lemmas.Deciders.{long_names, name_of_place, range_found, spoken, unspoken}
@@ -19,7 +18,7 @@ returns-clause-spoken c = λ order k below.
     let first = c.first_with-first.ensures in
     let end = c.end_with-end.ensures in
     let range = range_found c.args.waiting.now c.as_bytes-name.result.now c.args.place c.first_with-first.result c.end_with-end.result name
-        first.bound end.bound first.all end.all first.first end.last in
+    first.bound end.bound first.all end.all first.first end.last in
     let write = c.write_range.ensures in
     spoken (names_of c.args.waiting.now) c.args.place c.first_with-first.result c.end_with-end.result order (omega (arith, c.requires.within)) yes range
     _ _ write.before write.inside write.after k (omega arith)

@@ -1,4 +1,4 @@
-use Rattle.std.proofs.Common.{◌≡◌, ◌++◌, [], ◌∷◌, false, true, List, ℕ, Option, String, Some, None, map, is_some, sym, ap, ◌∙◌}
+use Rattle.std.proofs.Common.{◌≡◌, ◌++◌, String, Some, None, map, sym, ap, ◌∙◌}
 use Rattle.std.proofs.lemmas.Iterator.Consumers.{YieldsList-end, YieldsList-from_rest}
 use Rattle.std.specs.Borrow.{Bor}
 use Rattle.std.specs.Global.{Global}
@@ -15,7 +15,7 @@ loop-key-preserved-in-Continue-1 c =
     let taken : star_taken (string_bytes c.in-Some.key.now) ≡ Some c.in-Some-without_star.name.now = ap star_taken (sym c.as_str.ensures.value) ∙ sym c.in-Some-without_star.ensures in
     let none = is_some_map string_bytes _ ∙ sym c.if-not-contains_key.ensures in
     let found = found_name keys (shown_view e) c.in-Some-without_star.name.now taken none in
-    found_more keys c.loop-key.yielded e _ _ c.loop-key.invariant 
+    found_more keys c.loop-key.yielded e _ _ c.loop-key.invariant
     (found_push c.loop-key.found.items c.push.new.self.items _ (string_bytes c.in-Some.value.now) c.as_str-then-not-contains_key.result.now
     c.in_ok-push.ensures.items c.as_str-then-not-contains_key-2.ensures.value c.as_str-then-not-contains_key.ensures.value c.charset_in-charset.ensures
     ∙ ap (λ r. map waiting_view c.loop-key.found.items ++ r) (sym found))
