@@ -2,6 +2,7 @@ pub mod Spans
 pub mod WordTokens
 pub mod StarFree
 pub mod Boundaries
+pub mod Percent
 pub use Rattle.mailparse.specs.Refusal
 pub use Rattle.mailparse.specs.Outcome
 pub use Rattle.mailparse.specs.Ranges
