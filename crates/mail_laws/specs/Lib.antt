@@ -16,4 +16,3 @@ pub use Rattle.mailparse.specs.Continuations
 pub use Rattle.mailparse.specs.ContentType
 pub use Rattle.mailparse.specs.Disposition
 pub mod Ids
-pub mod Percent
