@@ -21,15 +21,27 @@ static STARRED: [ParameterRow; 25] = [
     ("x; a*00=y", "a=\na*00=y\n"),
     ("x; a*0=x; a*00=y", "a=x\na*00=y\n"),
     ("x; a*0*0=p; a*0*=utf-8''q", "a=q\na*0=p\n"),
-    ("x; t*0=a; t*1*=iso-8859-1''%E9; t*2*=utf-8''%C3%A9", "t=a\u{FFFD}\u{E9}\n"),
+    (
+        "x; t*0=a; t*1*=iso-8859-1''%E9; t*2*=utf-8''%C3%A9",
+        "t=a\u{FFFD}\u{E9}\n",
+    ),
     ("x; f*0*=utf-8''a; f*1*=%62", "f=ab\n"),
     ("x; f*0*=utf-8''a; f*1*=utf-8''b", "f=autf-8''b\n"),
     ("x; f*0*=utf-8''%C3; f*1*=%A9", "f=\u{E9}\n"),
-    ("x; filename*0*=utf-8''%E2%82; filename*1*=%AC.txt", "filename=\u{20AC}.txt\n"),
+    (
+        "x; filename*0*=utf-8''%E2%82; filename*1*=%AC.txt",
+        "filename=\u{20AC}.txt\n",
+    ),
     ("a; name*00=x", "name=\nname*00=x\n"),
-    ("x; u*!x*0*=iso-8859-1''%E9; u*0*=utf-8''a", "u=a\nu*!x=iso-8859-1''\u{FFFD}\n"),
+    (
+        "x; u*!x*0*=iso-8859-1''%E9; u*0*=utf-8''a",
+        "u=a\nu*!x=iso-8859-1''\u{FFFD}\n",
+    ),
     ("x; n*1*=utf-8''A; n*1*0=b", "n*1=A\n"),
-    ("x; t*0*=utf-8''%C3; t*1=z; t*2*=%A9", "t=\u{FFFD}z\u{FFFD}\n"),
+    (
+        "x; t*0*=utf-8''%C3; t*1=z; t*2*=%A9",
+        "t=\u{FFFD}z\u{FFFD}\n",
+    ),
     ("x; f=z; f*0=a; f*1=b", "f=z\nf*0=a\nf*1=b\n"),
     ("x; f*1=b; f*2=c", "f*1=b\nf*2=c\n"),
 ];
