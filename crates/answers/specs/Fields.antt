@@ -1,5 +1,6 @@
 -- The fields of a line; the program's own form.
-use Rattle.std.specs.Prelude.{ℕ, List, [], ◌∷◌, ◌++◌, codes, decimal, Option, Some, None, Result, Ok, Err}
+use Rattle.std.specs.Prelude.{ℕ, List, [], ◌∷◌, ◌++◌, codes, decimal, ℤ, Option, Some, None, Result, Ok, Err}
+use Rattle.std.specs.Fmt.{signed_decimal}
 use Rattle.hex.specs.Hex.{encode_lower}
 use Rattle.mailparse.specs.Refusal.{Refusal, generic, encoding, base64_fault}
 
@@ -23,3 +24,8 @@ refusal_field (base64_fault group) = codes "e" ++ decimal group
 abbrev pub outcome_field : Result (List ℕ) Refusal → List ℕ
 outcome_field (Ok bytes) = codes "d" ++ encode_lower bytes
 outcome_field (Err refusal) = refusal_field refusal
+
+-- seconds, after the letter d, in decimal digits, after a minus sign where they are negative; or a refusal
+abbrev pub seconds_field : Result ℤ Refusal → List ℕ
+seconds_field (Ok seconds) = codes "d" ++ signed_decimal seconds
+seconds_field (Err refusal) = refusal_field refusal

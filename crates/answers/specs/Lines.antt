@@ -2,10 +2,11 @@
 -- program's own form. Between two fields stands a space.
 use Rattle.std.specs.Prelude.{ℕ, List, ◌++◌, codes, Option, Result, Ok, Err}
 use Rattle.mailparse.specs.Body.{BodyKind, in_base64, in_quoted_printable, in_7bit, in_8bit, in_binary, kind_named, decoded, decoded_text}
+use Rattle.mailparse.specs.Date.{date_seconds}
 use Rattle.mailparse.specs.Header.{Header, read_header}
 use Rattle.mailparse.specs.Refusal.{Refusal}
 use Rattle.mailparse.specs.Value.{lenient_value, strict_value}
-use Rattle.answers.specs.Fields.{bytes_field, option_field, outcome_field}
+use Rattle.answers.specs.Fields.{bytes_field, option_field, outcome_field, seconds_field}
 
 -- what the strict reading of a value gives: its text, or an exclamation mark where it is refused
 abbrev pub strict_field : Result (List ℕ) Refusal → List ℕ
@@ -56,3 +57,7 @@ body_question encoding label body =
 abbrev pub body_line : Option (List ℕ) → (label body : List ℕ) → List ℕ
 body_line encoding label body =
     body_question encoding label body ++ reading_fields (kind_named encoding) label body
+
+-- a line on a date: its text, and its seconds
+unfoldable pub date_line : List ℕ → List ℕ
+date_line text = codes "date " ++ bytes_field text ++ codes " " ++ seconds_field (date_seconds text)

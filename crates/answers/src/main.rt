@@ -12,6 +12,7 @@
 #![tactic(auto)]
 
 mod body;
+mod date;
 mod fault;
 mod field;
 mod judge;
