@@ -1,5 +1,5 @@
 -- The fields of a line; the program's own form.
-use Rattle.std.specs.Prelude.{ℕ, List, [], ◌∷◌, ◌++◌, codes, decimal, ℤ, Option, Some, None, Result, Ok, Err}
+use Rattle.std.specs.Prelude.{ℕ, List, [], ◌∷◌, ◌++◌, codes, flat_map, decimal, ℤ, Option, Some, None, Result, Ok, Err}
 use Rattle.std.specs.Fmt.{signed_decimal}
 use Rattle.hex.specs.Hex.{encode_lower}
 use Rattle.mailparse.specs.Refusal.{Refusal, generic, encoding, base64_fault}
@@ -25,7 +25,17 @@ abbrev pub outcome_field : Result (List ℕ) Refusal → List ℕ
 outcome_field (Ok bytes) = codes "d" ++ encode_lower bytes
 outcome_field (Err refusal) = refusal_field refusal
 
--- seconds, after the letter d, in decimal digits, after a minus sign where they are negative; or a refusal
+-- seconds in decimal digits, with a minus sign where they are negative, after the letter d; or a
+-- refusal
 abbrev pub seconds_field : Result ℤ Refusal → List ℕ
 seconds_field (Ok seconds) = codes "d" ++ signed_decimal seconds
 seconds_field (Err refusal) = refusal_field refusal
+
+-- an id of a list: its bytes, and a comma after them
+abbrev pub id_field : List ℕ → List ℕ
+id_field id = encode_lower id ++ codes ","
+
+-- ids, after the letter d, or a refusal
+abbrev pub ids_field : Result (List (List ℕ)) Refusal → List ℕ
+ids_field (Ok ids) = codes "d" ++ flat_map id_field ids
+ids_field (Err refusal) = refusal_field refusal

@@ -4,9 +4,10 @@ use Rattle.std.specs.Prelude.{ℕ, List, ◌++◌, codes, Option, Result, Ok, Er
 use Rattle.mailparse.specs.Body.{BodyKind, in_base64, in_quoted_printable, in_7bit, in_8bit, in_binary, kind_named, decoded, decoded_text}
 use Rattle.mailparse.specs.Date.{date_seconds}
 use Rattle.mailparse.specs.Header.{Header, read_header}
+use Rattle.mailparse.specs.MessageIds.{message_ids}
 use Rattle.mailparse.specs.Refusal.{Refusal}
 use Rattle.mailparse.specs.Value.{lenient_value, strict_value}
-use Rattle.answers.specs.Fields.{bytes_field, option_field, outcome_field, seconds_field}
+use Rattle.answers.specs.Fields.{bytes_field, option_field, ids_field, outcome_field, seconds_field}
 
 -- what the strict reading of a value gives: its text, or an exclamation mark where it is refused
 abbrev pub strict_field : Result (List ℕ) Refusal → List ℕ
@@ -61,3 +62,7 @@ body_line encoding label body =
 -- a line on a date: its text, and its seconds
 unfoldable pub date_line : List ℕ → List ℕ
 date_line text = codes "date " ++ bytes_field text ++ codes " " ++ seconds_field (date_seconds text)
+
+-- a line on message ids: their text, and the ids
+unfoldable pub msgid_line : List ℕ → List ℕ
+msgid_line text = codes "msgid " ++ bytes_field text ++ codes " " ++ ids_field (message_ids text)

@@ -16,6 +16,7 @@ mod date;
 mod fault;
 mod field;
 mod judge;
+mod msgid;
 mod replay;
 mod value;
 
