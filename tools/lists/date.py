@@ -40,7 +40,7 @@ def chosen():
         "1 Jan 2000 0:256", "1 Jan 2000 0:0:256", "1 Jan 2000 0:0:0 1\u00e9", "1 Jan 2000 0:0:0 \u212a",
     ]
     for name in NAMES:
-        for word in {name, name[:3], name[:4], name[:2], name + "x"}:
+        for word in (name, name[:3], name[:4], name[:2], name + "x"):
             for form in (word, word.lower(), word.upper(), word.swapcase()):
                 yield f"2 {form} 2001"
     for zone in ZONES + ["AKST", "UTCX", "EDT.", "ZZ", "EST5EDT"]:
