@@ -1,7 +1,9 @@
 -- Lines and lists that hold; the program's own words.
 use Rattle.std.specs.Prelude.{◌≡◌, ℕ, List, [], Option}
 use Rattle.std.specs.Io.BufRead.{first_line, drop_through}
-use Rattle.answers.specs.Lines.{value_line, body_line, date_line, msgid_line}
+use Rattle.mailparse.specs.ContentType.{content_type_of}
+use Rattle.answers.specs.Lines.{value_line, body_line, ctype_line, date_line, msgid_line}
+use Rattle.answers.specs.Params.{Lists, Pairs}
 
 -- a line holds: it is byte for byte what the definitions give for what it asks
 pub data Holds (line : List ℕ) : Type 0 where
@@ -10,6 +12,8 @@ pub data Holds (line : List ℕ) : Type 0 where
       → line ≡ body_line encoding label body → Holds line
   of_date : (text : List ℕ) → line ≡ date_line text → Holds line
   of_msgid : (text : List ℕ) → line ≡ msgid_line text → Holds line
+  of_ctype : (text : List ℕ) (pairs : Pairs) → Lists pairs (content_type_of text).params
+      → line ≡ ctype_line text pairs → Holds line
 
 -- a list holds: it has no line, or its first line holds, and the list of the lines after it
 pub data ListHolds : List ℕ → Type 0 where

@@ -12,11 +12,13 @@
 #![tactic(auto)]
 
 mod body;
+mod ctype;
 mod date;
 mod fault;
 mod field;
 mod judge;
 mod msgid;
+mod params;
 mod replay;
 mod value;
 
