@@ -2,6 +2,7 @@
 use Rattle.std.specs.Prelude.{ℕ, List, [], ◌∷◌, ◌++◌, codes, flat_map, decimal, ℤ, Option, Some, None, Result, Ok, Err}
 use Rattle.std.specs.Fmt.{signed_decimal}
 use Rattle.hex.specs.Hex.{encode_lower}
+use Rattle.mailparse.specs.Disposition.{Kind, inline, attachment, form_data, extension}
 use Rattle.mailparse.specs.Refusal.{Refusal, generic, encoding, base64_fault}
 
 -- bytes: two hexadecimal digits for each, or a dash for none
@@ -39,3 +40,10 @@ id_field id = encode_lower id ++ codes ","
 abbrev pub ids_field : Result (List (List ℕ)) Refusal → List ℕ
 ids_field (Ok ids) = codes "d" ++ flat_map id_field ids
 ids_field (Err refusal) = refusal_field refusal
+
+-- a kind of disposition: its name, or the letter x and the bytes of a name that is none of the three
+abbrev pub kind_field : Kind → List ℕ
+kind_field inline = codes "inline"
+kind_field attachment = codes "attachment"
+kind_field form_data = codes "form-data"
+kind_field (extension name) = codes "x" ++ encode_lower name

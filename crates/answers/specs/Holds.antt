@@ -2,7 +2,8 @@
 use Rattle.std.specs.Prelude.{◌≡◌, ℕ, List, [], Option}
 use Rattle.std.specs.Io.BufRead.{first_line, drop_through}
 use Rattle.mailparse.specs.ContentType.{content_type_of}
-use Rattle.answers.specs.Lines.{value_line, body_line, ctype_line, date_line, msgid_line}
+use Rattle.mailparse.specs.Disposition.{disposition_of}
+use Rattle.answers.specs.Lines.{value_line, body_line, ctype_line, date_line, dispo_line, msgid_line}
 use Rattle.answers.specs.Params.{Lists, Pairs}
 
 -- a line holds: it is byte for byte what the definitions give for what it asks
@@ -14,6 +15,8 @@ pub data Holds (line : List ℕ) : Type 0 where
   of_msgid : (text : List ℕ) → line ≡ msgid_line text → Holds line
   of_ctype : (text : List ℕ) (pairs : Pairs) → Lists pairs (content_type_of text).params
       → line ≡ ctype_line text pairs → Holds line
+  of_dispo : (text : List ℕ) (pairs : Pairs) → Lists pairs (disposition_of text).params
+      → line ≡ dispo_line text pairs → Holds line
 
 -- a list holds: it has no line, or its first line holds, and the list of the lines after it
 pub data ListHolds : List ℕ → Type 0 where

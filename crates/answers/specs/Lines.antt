@@ -4,11 +4,12 @@ use Rattle.std.specs.Prelude.{ℕ, List, ◌++◌, codes, Option, Result, Ok, Er
 use Rattle.mailparse.specs.Body.{BodyKind, in_base64, in_quoted_printable, in_7bit, in_8bit, in_binary, kind_named, decoded, decoded_text}
 use Rattle.mailparse.specs.ContentType.{ContentType, content_type_of}
 use Rattle.mailparse.specs.Date.{date_seconds}
+use Rattle.mailparse.specs.Disposition.{Disposition, disposition_of}
 use Rattle.mailparse.specs.Header.{Header, read_header}
 use Rattle.mailparse.specs.MessageIds.{message_ids}
 use Rattle.mailparse.specs.Refusal.{Refusal}
 use Rattle.mailparse.specs.Value.{lenient_value, strict_value}
-use Rattle.answers.specs.Fields.{bytes_field, option_field, ids_field, outcome_field, seconds_field}
+use Rattle.answers.specs.Fields.{bytes_field, option_field, ids_field, kind_field, outcome_field, seconds_field}
 use Rattle.answers.specs.Params.{Pairs, pairs_field}
 
 -- what the strict reading of a value gives: its text, or an exclamation mark where it is refused
@@ -81,3 +82,15 @@ ctype_fields ctype pairs =
 -- a line on a type: what is asked of it, and what it is
 abbrev pub ctype_line : (text : List ℕ) → Pairs → List ℕ
 ctype_line text pairs = ctype_question text ++ ctype_fields (content_type_of text) pairs
+
+-- what is asked of a disposition: its text
+unfoldable pub dispo_question : List ℕ → List ℕ
+dispo_question text = codes "dispo " ++ bytes_field text ++ codes " "
+
+-- what a disposition is: its kind, and the pairs that list its parameters
+abbrev pub dispo_fields : Disposition → Pairs → List ℕ
+dispo_fields disposition pairs = kind_field disposition.kind ++ codes " " ++ pairs_field pairs
+
+-- a line on a disposition: what is asked of it, and what it is
+abbrev pub dispo_line : (text : List ℕ) → Pairs → List ℕ
+dispo_line text pairs = dispo_question text ++ dispo_fields (disposition_of text) pairs

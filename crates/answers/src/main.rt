@@ -14,6 +14,7 @@
 mod body;
 mod ctype;
 mod date;
+mod dispo;
 mod fault;
 mod field;
 mod judge;
