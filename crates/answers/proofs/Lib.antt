@@ -1,3 +1,5 @@
 pub mod LineLemmas
+pub mod ParamLemmas
 pub mod ReadingLemmas
 pub mod ReplayLemmas
+pub mod TypeLemmas

@@ -2,8 +2,8 @@
 use Rattle.std.proofs.Common.{◌≡◌, ℕ, List, Option, Result, Ok, Err, IfOk, String, string_bytes, sym, subst, ◌++◌}
 use Rattle.std.specs.Global.{Global}
 use Rattle.mailparse.specs.Body.{kind_named}
-use Rattle.answers.specs.Lines.{value_line, body_line, body_question, reading_fields}
-use Rattle.answers.specs.Holds.{Holds, of_value, of_body}
+use Rattle.answers.specs.Lines.{value_line, body_line, body_question, date_line, msgid_line, reading_fields}
+use Rattle.answers.specs.Holds.{Holds, of_value, of_body, of_date, of_msgid}
 
 -- a line that was made for a question holds
 pub value_holds : {E : Type 0} (value : List ℕ) (r : Result (String Global) E)
@@ -15,6 +15,16 @@ pub body_holds : {E : Type 0} (encoding : Option (List ℕ)) (label body : List 
     → IfOk r (λ line. string_bytes line ≡ body_line encoding label body) → IfOk r (λ line. Holds (string_bytes line))
 body_holds encoding label body (Ok line) e = of_body encoding label body e
 body_holds encoding label body (Err fault) e = tt
+
+pub date_holds : {E : Type 0} (text : List ℕ) (r : Result (String Global) E)
+    → IfOk r (λ line. string_bytes line ≡ date_line text) → IfOk r (λ line. Holds (string_bytes line))
+date_holds text (Ok line) e = of_date text e
+date_holds text (Err fault) e = tt
+
+pub msgid_holds : {E : Type 0} (text : List ℕ) (r : Result (String Global) E)
+    → IfOk r (λ line. string_bytes line ≡ msgid_line text) → IfOk r (λ line. Holds (string_bytes line))
+msgid_holds text (Ok line) e = of_msgid text e
+msgid_holds text (Err fault) e = tt
 
 -- a line that is equal to one that holds
 pub equal_holds : (line other : List ℕ) → line ≡ other → Holds line → Holds other

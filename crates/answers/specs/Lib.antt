@@ -1,4 +1,5 @@
 pub mod Fields
+pub mod Params
 pub mod Lines
 pub mod Holds
 pub mod Outcomes

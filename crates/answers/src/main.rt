@@ -12,9 +12,14 @@
 #![tactic(auto)]
 
 mod body;
+mod ctype;
+mod date;
+mod dispo;
 mod fault;
 mod field;
 mod judge;
+mod msgid;
+mod params;
 mod replay;
 mod value;
 

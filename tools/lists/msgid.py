@@ -1,0 +1,73 @@
+"""Answers on lists of message ids: lines `msgid TEXT IDS`.
+
+TEXT is the text of a header, IDS `d` and each id with a comma after it, or `g` and the text of the
+refusal.
+
+To `msgid` and a text the oracle answers `ids ok COUNT`, then a line `id HEX` for each and the line
+`idtext HEX` with the text that shows them; or `ids err TEXT`.
+
+The texts are chosen ones, ones made of ids and white, and ones of these two with a few characters
+changed.
+"""
+import random
+
+from .oracle import add_new, answers, hex_or_dash
+
+SEED = 3640
+MADE = 320
+MUTATED = 260
+
+PIECES = ["<", ">", " ", "a", "b@c", "<a>", "<b@c.d>", "<>", "\t", "\r\n ", "\u00a0", "\u3000", "\u0085", "\u200b", "\u00e9", ",", "<a b>", "<<", ">>", "\x0b", "\x00"]
+WHITE = ["", " ", "  ", "\t", "\r\n ", "\n", "\u00a0", "\u2003", "\x0b", "\x0c", "\u0085", "\u3000"]
+IDS = ["", "a", "a@b", "one.two@three.four", "a b", " a ", "<", "<<", "a<b", "\u00e9@\u00fc", "\n", '"q"@x', "a,b", "[1.2.3.4]", "\U0001f600"]
+
+
+def chosen():
+    """The texts that are made for one edge each."""
+    yield from [
+        "", " ", "\u00a0\t\r\n", "<a b> <>", "<a>,<b>", "<a", "a", ">", "<", "<>", "<a><b>", "<a>\u00a0<b>", "<a<b>", "<a> <c>>", "<a>>", " <a> ", "<a> b",
+        "<a> <", "<a> >", "<msg_one@foo.com>  <msg_two@bar.com>", "x<a>", "\u200b<a>", "<a>\u200b", "<a>\x00", "< a >", "<a\n>", "<\u00e9>", "\ufeff<a>",
+    ]
+    for white in WHITE:
+        yield white + "<a>" + white + "<b>" + white
+        yield white + "<a>" + white + "x" + white
+
+
+def made(rng):
+    """Ids with white between them, or nothing."""
+    parts = [rng.choice(WHITE)]
+    for _ in range(rng.randrange(1, 6)):
+        parts += ["<" + rng.choice(IDS) + ">", rng.choice(WHITE)]
+    return "".join(parts)
+
+
+def mutated(rng, text):
+    """The text with one to three places changed."""
+    for _ in range(rng.randrange(1, 4)):
+        at = rng.randrange(len(text) + 1)
+        text = text[:at] + rng.choice([""] + PIECES) + text[at + rng.randrange(2):]
+    return text
+
+
+def questions(seed):
+    """All texts of the list, each once."""
+    rng = random.Random(seed)
+    found = dict.fromkeys(chosen())
+    add_new(found, MADE, lambda: made(rng))
+    sources = list(found)
+    add_new(found, MUTATED, lambda: mutated(rng, rng.choice(sources)))
+    return list(found)
+
+
+def answer(reply):
+    """The ids, or the refusal."""
+    if not reply[0].startswith("ids ok "):
+        return "g" + reply[0][len("ids err "):].encode("ascii").hex()
+    return "d" + "".join(line[len("id "):].replace("-", "") + "," for line in reply[1:] if line.startswith("id "))
+
+
+def lines(oracle, seed):
+    """The lines of the list."""
+    inputs = [text.encode("utf-8") for text in questions(seed)]
+    for text, reply in zip(inputs, answers(oracle, "msgid", inputs)):
+        yield f"msgid {hex_or_dash(text)} {answer(reply)}"
