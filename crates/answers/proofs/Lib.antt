@@ -1,3 +1,4 @@
 pub mod LineLemmas
 pub mod ReadingLemmas
 pub mod ReplayLemmas
+pub mod MailLemmas

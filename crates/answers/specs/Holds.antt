@@ -2,12 +2,14 @@
 use Rattle.std.specs.Prelude.{◌≡◌, ℕ, List, [], Option}
 use Rattle.std.specs.Io.BufRead.{first_line, drop_through}
 use Rattle.answers.specs.Lines.{value_line, body_line}
+use Rattle.answers.specs.MailLines.{mail_line}
 
 -- a line holds: it is byte for byte what the definitions give for what it asks
 pub data Holds (line : List ℕ) : Type 0 where
   of_value : (value : List ℕ) → line ≡ value_line value → Holds line
   of_body : (encoding : Option (List ℕ)) (label body : List ℕ)
       → line ≡ body_line encoding label body → Holds line
+  of_mail : (mail : List ℕ) → line ≡ mail_line mail → Holds line
 
 -- a list holds: it has no line, or its first line holds, and the list of the lines after it
 pub data ListHolds : List ℕ → Type 0 where

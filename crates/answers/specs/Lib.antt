@@ -1,4 +1,5 @@
 pub mod Fields
 pub mod Lines
+pub mod MailLines
 pub mod Holds
 pub mod Outcomes

@@ -3,7 +3,7 @@ ghost use Rattle.std.specs.Prelude.{◌≡◌, IfOk, string_bytes};
 ghost use Rattle.answers.specs.Holds.{Holds};
 
 use crate::fault::LineFault;
-use crate::{body, value};
+use crate::{body, mail, value};
 use std::alloc::Global;
 
 /// How the library and a line stand to each other.
@@ -52,6 +52,7 @@ fn answer_to(alloc: Global, line: &str) -> Result<String, LineFault>
     let (call, fields) = line.split_once(' ').ok_or(LineFault::Fields)?;
     match call {
         "body" => body::answer_to(alloc, fields),
+        "mail" => mail::answer_to(alloc, fields),
         "value" => value::answer_to(alloc, fields),
         _ => Err(LineFault::Call),
     }

@@ -15,6 +15,7 @@ mod body;
 mod fault;
 mod field;
 mod judge;
+mod mail;
 mod replay;
 mod value;
 
