@@ -1,7 +1,7 @@
 """Answers on whole mails: lines `mail MAIL ANSWER`.
 
 MAIL is the bytes of a mail. ANSWER is the refusal, `g` and the bytes of its text; otherwise, for the
-mail and each of its parts, each before its own parts, a semicolon and the fields: its type, the label
+mail and each of its parts, each before its own parts, a semicolon and the fields: how many parts it has, its type, the label
 of its charset, how many headers there are, for each header its key and the text that its value shows,
 the bytes of its body as they stand, the kind of the body, and what the body stands for and its text
 as in the answers on bodies.
@@ -11,8 +11,8 @@ of these are read `node ..`, `at body START END` (the places of the body in the 
 `name HEX` and `value HEX` of each header, `type HEX`, `charset HEX`, `kind NAME`, and the lines
 `decoded ..` and `text ..` of its body; HEX is two hexadecimal digits for each byte, or `-`.
 
-The mails are short ones of tools/make_mails.py without a star, which would ask for parameters in
-sections, and short ones at the edges of the rules for parts.
+The mails are short ones at the edges of the rules for parts, and short ones of tools/make_mails.py
+without a star, which would ask for parameters in sections.
 """
 import os
 import sys
@@ -24,9 +24,10 @@ sys.path.append(os.path.join(os.path.dirname(__file__), ".."))
 from make_mails import mails  # noqa: E402
 
 SEED = 2048
-MADE = 1600
+MADE = 2000
 COUNT = 360
-LONGEST = 400
+WITHOUT_PARTS = 200
+LONGEST = 550
 
 HEAD = b"Content-Type: multipart/mixed; boundary=b\n\n"
 CHOSEN = [
@@ -49,11 +50,17 @@ CHOSEN = [
 def questions(seed):
     """All mails of the list, each once."""
     found = dict.fromkeys(CHOSEN)
+    alone = 0
     for data in mails(MADE, seed):
         if len(found) == COUNT:
             break
-        if len(data) <= LONGEST and b"*" not in data:
-            found[data] = None
+        if len(data) > LONGEST or b"*" in data or data in found:
+            continue
+        if b"\n--" not in data:
+            alone += 1
+            if alone > WITHOUT_PARTS:
+                continue
+        found[data] = None
     return list(found)
 
 
@@ -65,13 +72,11 @@ def node_fields(mail, lines):
         if word == "at":
             word, _, rest = rest.partition(" ")
             word = "at " + word
-        if word == "name":
-            headers.append(rest)
-        elif word == "value":
+        if word in ("name", "value"):
             headers.append(rest)
         first.setdefault(word, rest)
     start, end = map(int, first["at body"].split())
-    fields = [first["type"], first["charset"], first["headers"]] + headers
+    fields = [first["node"].split()[-1], first["type"], first["charset"], first["headers"]] + headers
     fields += [hex_or_dash(mail[start:end]), first["kind"]]
     fields += [outcome(f"{name} {first[name]}", name) for name in ["decoded", "text"]]
     return " ".join(fields)

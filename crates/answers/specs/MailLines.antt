@@ -1,11 +1,11 @@
 -- The lines on mails: what is asked, and what the library's definitions give for it; the program's
 -- own form.
-use Rattle.std.specs.Prelude.{ℕ, List, ◌++◌, length, codes, decimal, Option, Some, None, Result, Ok, Err, ◌≡◌}
+use Rattle.std.specs.Prelude.{ℕ, suc, List, ◌++◌, length, codes, decimal, Option, Some, None, Result, Ok, Err, ◌≡◌}
 use Rattle.std.specs.List.{flat_map}
 use Rattle.mailparse.specs.ContentType.{ContentType}
 use Rattle.mailparse.specs.Header.{Header}
 use Rattle.mailparse.specs.Keys.{key_text}
-use Rattle.mailparse.specs.Mail.{Node, Tree, body_kind, read_mail, root, trees_within}
+use Rattle.mailparse.specs.Mail.{Forest, Node, Tree, body_kind, no_parts, part_and, parts_of, read_mail, root, trees_within}
 use Rattle.mailparse.specs.Refusal.{Reads, Refusal}
 use Rattle.mailparse.specs.Value.{lenient_value}
 use Rattle.answers.specs.Fields.{bytes_field, refusal_field}
@@ -30,15 +30,24 @@ node_body_fields node =
     bytes_field node.body ++ codes " "
     ++ reading_fields (body_kind node) node.ctype.charset node.body
 
--- one message by itself, after a semicolon: its type, its headers and its body
+-- how many parts a list has, without the parts of these
+abbrev pub part_count : Forest → ℕ
+part_count no_parts = 0
+part_count (part_and t ts) = suc (part_count ts)
+
+-- one message by itself: its type, its headers and its body
 unfoldable pub node_fields : Node → List ℕ
 node_fields node =
-    codes " ; " ++ type_fields node.ctype ++ codes " " ++ headers_fields node.headers
+    codes " " ++ type_fields node.ctype ++ codes " " ++ headers_fields node.headers
     ++ codes " " ++ node_body_fields node
+
+-- a message among others, after a semicolon: how many parts it has, and the message by itself
+abbrev pub one_fields : Tree → List ℕ
+one_fields t = codes " ; " ++ decimal (part_count (parts_of t)) ++ node_fields (root t)
 
 -- a message and its parts, each before its own parts
 abbrev pub tree_fields : Tree → List ℕ
-tree_fields message = flat_map (λ t. node_fields (root t)) (trees_within message)
+tree_fields message = flat_map one_fields (trees_within message)
 
 -- what is read of a mail, or the refusal
 abbrev pub mail_fields : Reads Tree → List ℕ

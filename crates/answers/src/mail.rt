@@ -1,13 +1,13 @@
 //! Lines on mails: `mail MAIL ANSWER`. MAIL is the bytes of a mail. ANSWER is the refusal, a letter
 //! for its form and then its text, or for the mail and each of its parts, each before its own parts,
-//! ` ; ` and these fields: its type and the label of its charset, how many headers there are, the
-//! key of each and the text that its value shows, the bytes of its body as they stand, and KIND,
-//! DECODED and TEXT as in the lines on bodies.
+//! ` ; ` and these fields: how many parts it has, its type and the label of its charset, how many
+//! headers there are, the key of each and the text that its value shows, the bytes of its body as
+//! they stand, and KIND, DECODED and TEXT as in the lines on bodies.
 ghost use Rattle.std.specs.Prelude.{◌≡◌, IfOk, string_bytes};
 ghost use Rattle.answers.specs.Fields.{bytes_field};
 ghost use Rattle.answers.specs.Holds.{Holds};
 ghost use Rattle.answers.specs.MailLines.{header_fields, headers_fields, mail_fields, mail_line};
-ghost use Rattle.answers.specs.MailLines.{node_body_fields, node_fields, tree_fields, type_fields};
+ghost use Rattle.answers.specs.MailLines.{node_body_fields, node_fields, one_fields, tree_fields, type_fields};
 ghost use Rattle.answers.specs.Outcomes.{Writes};
 ghost use Rattle.mailparse.specs.Mail.{read_mail, root};
 ghost use Rattle.mailparse.specs.Views.{content_type, tree_of};
@@ -56,9 +56,18 @@ fn push_tree(alloc: Global, line: &mut String, parsed: &ParsedMail<'_>) -> Resul
     ensures { Writes result line.old line.new (tree_fields (tree_of parsed.now)) }
 {
     for part in parsed.parts(alloc)? {
-        push_node(alloc, line, part)?;
+        push_one(alloc, line, part)?;
     }
     Ok(())
+}
+
+/// Writes a message among others: how many parts it has, and the message by itself.
+fn push_one(alloc: Global, line: &mut String, part: &ParsedMail<'_>) -> Result<(), LineFault>
+    ensures { Writes result line.old line.new (one_fields (tree_of part.now)) }
+{
+    let count = part.subparts.len();
+    write!(line, " ; {count}")?;
+    push_node(alloc, line, part)
 }
 
 /// Writes a message by itself.
@@ -66,7 +75,7 @@ fn push_tree(alloc: Global, line: &mut String, parsed: &ParsedMail<'_>) -> Resul
 fn push_node(alloc: Global, line: &mut String, part: &ParsedMail<'_>) -> Result<(), LineFault>
     ensures { Writes result line.old line.new (node_fields (root (tree_of part.now))) }
 {
-    line.push_str(" ; ")?;
+    line.push_str(" ")?;
     push_type(alloc, line, &part.ctype)?;
     line.push_str(" ")?;
     push_headers(alloc, line, &part.headers)?;
