@@ -15,7 +15,7 @@ first group of four that is not one.
 import importlib
 import sys
 
-KINDS = ["value", "body", "date", "msgid", "ctype", "dispo"]
+KINDS = ["value", "body", "date", "msgid", "ctype", "dispo", "mail"]
 
 
 def main():

@@ -3,3 +3,4 @@ pub mod ParamLemmas
 pub mod ReadingLemmas
 pub mod ReplayLemmas
 pub mod TypeLemmas
+pub mod MailLemmas

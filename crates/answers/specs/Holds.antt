@@ -5,6 +5,7 @@ use Rattle.mailparse.specs.ContentType.{content_type_of}
 use Rattle.mailparse.specs.Disposition.{disposition_of}
 use Rattle.answers.specs.Lines.{value_line, body_line, ctype_line, date_line, dispo_line, msgid_line}
 use Rattle.answers.specs.Params.{Lists, Pairs}
+use Rattle.answers.specs.MailLines.{mail_line}
 
 -- a line holds: it is byte for byte what the definitions give for what it asks
 pub data Holds (line : List ℕ) : Type 0 where
@@ -17,6 +18,7 @@ pub data Holds (line : List ℕ) : Type 0 where
       → line ≡ ctype_line text pairs → Holds line
   of_dispo : (text : List ℕ) (pairs : Pairs) → Lists pairs (disposition_of text).params
       → line ≡ dispo_line text pairs → Holds line
+  of_mail : (mail : List ℕ) → line ≡ mail_line mail → Holds line
 
 -- a list holds: it has no line, or its first line holds, and the list of the lines after it
 pub data ListHolds : List ℕ → Type 0 where

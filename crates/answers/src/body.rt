@@ -95,7 +95,7 @@ fn push_encoding(
 }
 
 /// Writes what the library says of a body. The bytes of a body that is not encoded are its own.
-fn push_reading(alloc: Global, line: &mut String, body: Body<'_>) -> Result<(), LineFault>
+pub fn push_reading(alloc: Global, line: &mut String, body: Body<'_>) -> Result<(), LineFault>
     ensures { (kind : BodyKind) (content : Content) → IsBody kind content body.entry →
         Writes result line.old line.new
         (reading_fields kind content.ctype.charset content.raw) }

@@ -1,7 +1,10 @@
 //! The fields of a line, read and written.
+ghost use Rattle.std.specs.Prelude.{Err, OnOk, string_bytes};
 ghost use Rattle.hex.specs.Hex.{encode_lower};
 ghost use Rattle.answers.specs.Fields.{bytes_field};
+ghost use Rattle.answers.specs.MailLines.{EndsInRefusal};
 ghost use Rattle.answers.specs.Outcomes.{Writes, WritesOutcome, WritesRefusal};
+ghost use Rattle.mailparse.specs.Outcome.{refusal_of};
 
 use crate::fault::LineFault;
 use mailparse::MailParseError;
@@ -64,7 +67,10 @@ pub fn push_outcome(
 
 /// Writes a refusal. Memory that ran out is none, nor is a fault of quoted-printable.
 pub fn push_refusal(alloc: Global, line: &mut String, e: MailParseError) -> Result<(), LineFault>
-    ensures { WritesRefusal e result line.old line.new }
+    ensures written { WritesRefusal e result line.old line.new }
+    ensures outcome { WritesOutcome (Err e) result line.old line.new }
+    ensures refusal { OnOk result
+        (EndsInRefusal (refusal_of e) (string_bytes line.old) (string_bytes line.new)) }
 {
     match e {
         MailParseError::Generic(text) => {

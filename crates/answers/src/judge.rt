@@ -3,7 +3,7 @@ ghost use Rattle.std.specs.Prelude.{◌≡◌, IfOk, string_bytes};
 ghost use Rattle.answers.specs.Holds.{Holds};
 
 use crate::fault::LineFault;
-use crate::{body, ctype, date, dispo, msgid, value};
+use crate::{body, ctype, date, dispo, mail, msgid, value};
 use std::alloc::Global;
 
 /// How the library and a line stand to each other.
@@ -56,6 +56,7 @@ fn answer_to(alloc: Global, line: &str) -> Result<String, LineFault>
         "date" => date::answer_to(alloc, fields),
         "dispo" => dispo::answer_to(alloc, fields),
         "msgid" => msgid::answer_to(alloc, fields),
+        "mail" => mail::answer_to(alloc, fields),
         "value" => value::answer_to(alloc, fields),
         _ => Err(LineFault::Call),
     }

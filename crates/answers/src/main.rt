@@ -20,6 +20,7 @@ mod field;
 mod judge;
 mod msgid;
 mod params;
+mod mail;
 mod replay;
 mod value;
 

@@ -21,6 +21,9 @@ pub enum Work {
     Parse,
     /// A message is read, and the value of each of its headers.
     Values,
+    /// A message is read, and of it and each of its parts the value of each header and the whole
+    /// body.
+    Full,
 }
 
 /// Why a work was not done.
@@ -59,11 +62,12 @@ impl Work {
             "quoted-printable" => Some(Work::QuotedPrintable),
             "parse" => Some(Work::Parse),
             "values" => Some(Work::Values),
+            "full" => Some(Work::Full),
             _ => None,
         }
     }
 
-    /// Does the work, and tells how much it made: bytes, of a message headers.
+    /// Does the work, and tells how much it made: bytes, or headers of a message.
     pub fn run(self, alloc: Global, input: &[u8]) -> Result<usize, WorkFault> {
         match self {
             Work::White => codec::white(alloc, input),
@@ -72,6 +76,7 @@ impl Work {
             Work::QuotedPrintable => codec::quoted_printable(alloc, input),
             Work::Parse => mail::parse(alloc, input),
             Work::Values => mail::values(alloc, input),
+            Work::Full => mail::full(alloc, input),
         }
     }
 }
@@ -85,6 +90,7 @@ impl fmt::Display for Work {
             Work::QuotedPrintable => "quoted-printable",
             Work::Parse => "parse",
             Work::Values => "values",
+            Work::Full => "full",
         })
     }
 }

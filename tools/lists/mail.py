@@ -1,0 +1,98 @@
+"""Answers on whole mails: lines `mail MAIL ANSWER`.
+
+MAIL is the bytes of a mail. ANSWER is the refusal, `g` and the bytes of its text; otherwise, for the
+mail and each of its parts, each before its own parts, a semicolon and the fields: how many parts it has, its type, the label
+of its charset, how many headers there are, for each header its key and the text that its value shows,
+the bytes of its body as they stand, the kind of the body, and what the body stands for and its text
+as in the answers on bodies.
+
+To `dump` and a mail the oracle answers `mail err TEXT`, or `mail ok NODES` and lines for each node;
+of these are read `node ..`, `at body START END` (the places of the body in the mail), `headers ..`,
+`name HEX` and `value HEX` of each header, `type HEX`, `charset HEX`, `kind NAME`, and the lines
+`decoded ..` and `text ..` of its body; HEX is two hexadecimal digits for each byte, or `-`.
+
+The mails are short ones at the edges of the rules for parts, and short ones of tools/make_mails.py
+without a star, which would ask for parameters in sections.
+"""
+import os
+import sys
+
+from .body import outcome
+from .oracle import answers, hex_or_dash
+
+sys.path.append(os.path.join(os.path.dirname(__file__), ".."))
+from make_mails import mails  # noqa: E402
+
+SEED = 2048
+MADE = 2000
+COUNT = 360
+WITHOUT_PARTS = 200
+LONGEST = 550
+
+HEAD = b"Content-Type: multipart/mixed; boundary=b\n\n"
+CHOSEN = [
+    b"", b"\n", b"\r\n", b"\r", b"\rx", b"A:b\r", b" A: b\n", b"\tA: b\n", b"A: b", b"A", b":\n", b"A: b\n\nbody", b"A: b\r\n\r\nbody\r\n",
+    b"Subject: =?utf-8?Q?caf=C3=A9?=\n =?utf-8?B?4oKs?=\n\n", b"\xe9: \xe9\n\n\xe9", b"Content-Type: text/html; charset=\"ISO-8859-1\"\n\n\xe9",
+    b"Content-Transfer-Encoding: base64\n\naGk=\n", b"Content-Transfer-Encoding: BASE64\n\naGk", b"Content-Transfer-Encoding: base64\n\naGk=aGk*",
+    b"Content-Transfer-Encoding: Quoted-Printable\n\na=3D=\nb ", b"Content-Transfer-Encoding: 8bit\n\n\x80", b"Content-Transfer-Encoding: binary\n\n\x80",
+    HEAD, HEAD + b"--b", HEAD + b"--b\n", HEAD + b"--b--", HEAD + b"--b\n\n--b--\n", HEAD + b"--b\na\n--b--\n", HEAD + b"--b\n\na\n--b--\n",
+    HEAD + b"--b\n\na\n--b\n\nc\n--b--\n", HEAD + b"--b\n\na\r\n--b\n\nc\r\n\r\n--b--\n", HEAD + b"pre\n--b\n\na\n--b--\nepilogue\n--b\n\nc\n",
+    HEAD + b"pre --b\n\na\n--b--\n", HEAD + b"--bc\n\na\n--b--\n", HEAD + b"--b x\n\na\n--b-\n\nc", HEAD + b"--b\n\na\n--b\r", HEAD + b"--b\n\na\n--b\n",
+    HEAD + b"--b\n x: y\n--b--\n", HEAD + b"--b\n\na\n--b\n\rx\n--b--\n", HEAD + b"--b\n" + HEAD + b"--b\n\na\n--b--\n",
+    HEAD + b"--b\nContent-Type: multipart/mixed; boundary=bb\n\n--bb\n\na\n--bb--\n--b--\n",
+    HEAD + b"--b\nContent-Type: multipart/mixed; boundary=a\n\n--a\n\na\n--a--\n--b\n\nc\n--b--\n",
+    b"Content-Type: multipart/digest; boundary=b\n\n--b\n\nSubject: x\n\na\n--b\nContent-Type: text/html\n\nc\n--b--\n",
+    b"Content-Type: multipart/mixed; boundary=\"\"\n\n--\n\na\n----\n", b"Content-Type: multipart/mixed\n\n--b\n\na\n--b--\n",
+    b"Content-Type: multipartx; boundary=b\n\n--b\n\na\n--b--\n", b"Content-Type: Multipart/Mixed; BOUNDARY=B\n\n--B\n\na\n--B--\n",
+]
+
+
+def questions(seed):
+    """All mails of the list, each once."""
+    found = dict.fromkeys(CHOSEN)
+    alone = 0
+    for data in mails(MADE, seed):
+        if len(found) == COUNT:
+            break
+        if len(data) > LONGEST or b"*" in data or data in found:
+            continue
+        if b"\n--" not in data:
+            alone += 1
+            if alone > WITHOUT_PARTS:
+                continue
+        found[data] = None
+    return list(found)
+
+
+def node_fields(mail, lines):
+    """The fields of a node, from its lines."""
+    first, headers = {}, []
+    for line in lines:
+        word, _, rest = line.partition(" ")
+        if word == "at":
+            word, _, rest = rest.partition(" ")
+            word = "at " + word
+        if word in ("name", "value"):
+            headers.append(rest)
+        first.setdefault(word, rest)
+    start, end = map(int, first["at body"].split())
+    fields = [first["node"].split()[-1], first["type"], first["charset"], first["headers"]] + headers
+    fields += [hex_or_dash(mail[start:end]), first["kind"]]
+    fields += [outcome(f"{name} {first[name]}", name) for name in ["decoded", "text"]]
+    return " ".join(fields)
+
+
+def lines(oracle, seed):
+    """The lines of the list."""
+    inputs = questions(seed)
+    for mail, reply in zip(inputs, answers(oracle, "dump", inputs)):
+        line = "mail " + hex_or_dash(mail)
+        if reply[0].startswith("mail err "):
+            yield line + " g" + reply[0][len("mail err "):].encode("utf-8").hex()
+            continue
+        nodes = []
+        for one in reply[1:]:
+            if one.startswith("node "):
+                nodes.append([])
+            nodes[-1].append(one)
+        yield line + "".join(" ; " + node_fields(mail, node) for node in nodes)
