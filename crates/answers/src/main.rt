@@ -18,9 +18,9 @@ mod dispo;
 mod fault;
 mod field;
 mod judge;
+mod mail;
 mod msgid;
 mod params;
-mod mail;
 mod replay;
 mod value;
 
