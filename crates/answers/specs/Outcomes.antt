@@ -19,12 +19,12 @@ WritesOutcome answer result before after = OnOk result
     ((given : Result (List ℕ) Refusal) → ReadsBytes answer given
     → string_bytes after ≡ string_bytes before ++ outcome_field given)
 
--- this refusal is written at the end of the line; where there is none, nothing is written
+-- this refusal was written at the end of the line; where there is none, this does not hold
 abbrev pub WroteRefusal : Option Refusal → (before after : String Global) → Type 0
 WroteRefusal None before after = ⊥
 WroteRefusal (Some refusal) before after = string_bytes after ≡ string_bytes before ++ refusal_field refusal
 
--- the call wrote the refusal that an error is, unless it failed; it fails where the error is none
+-- the call wrote the refusal that an error is, unless it failed, as it does where the error is none
 abbrev pub WritesRefusal : {T E : Type 0} → MailParseError → Result T E → (before after : String Global) → Type 0
 WritesRefusal e result before after = OnOk result (WroteRefusal (refusal_of e) before after)
 
