@@ -1,5 +1,5 @@
 -- Lemmas on what is written of a body.
-use Rattle.std.proofs.Common.{◌≡◌, ℕ, List, ◌++◌, Result, Ok, OnOk, string_bytes, refl, sym, ap, subst, ◌∙◌}
+use Rattle.std.proofs.Common.{◌≡◌, ℕ, List, ◌++◌, Result, Ok, OnOk, refl, sym, ap, subst, ◌∙◌}
 use Rattle.std.proofs.lemmas.Result.{on_ok_weaker}
 use Rattle.mailparse.specs.Body.{BodyKind, in_7bit, in_8bit, in_binary, decoded, decoded_text, text_under}
 use Rattle.mailparse.specs.BodyViews.{Content}

@@ -1,6 +1,6 @@
 -- The lines on mails: what is asked, and what the library's definitions give for it; the program's
 -- own form.
-use Rattle.std.specs.Prelude.{ℕ, suc, List, ◌++◌, length, codes, decimal, Option, Some, None, Result, Ok, Err, ◌≡◌}
+use Rattle.std.specs.Prelude.{ℕ, suc, List, ◌++◌, length, codes, decimal, Option, Some, None, Ok, Err, ◌≡◌}
 use Rattle.std.specs.List.{flat_map}
 use Rattle.mailparse.specs.ContentType.{ContentType}
 use Rattle.mailparse.specs.Header.{Header}
