@@ -7,8 +7,7 @@ use mailparse::{
 use std::alloc::Global;
 use std::test::Fail;
 
-/// What a list of mails shows of one: the date in seconds since 1970, the text of the first part that
-/// is plain text, and the names of the attachments.
+/// What a list of mails shows of one; the date is in seconds since 1970.
 #[derive(Drop)]
 struct Summary {
     subject: Option<String>,
