@@ -92,7 +92,8 @@ fn put_text(
     name: &str,
     text: String,
 ) -> Result<(), AllocError>
-    ensures { OnOk result ((q : List ℕ) → text_at texts.new q ≡ (if bytes_eq name.now q then Some (string_bytes text) else text_at texts.old q)) }
+    ensures { OnOk result ((q : List ℕ) → text_at texts.new q ≡
+        (if bytes_eq name.now q then Some (string_bytes text) else text_at texts.old q)) }
 {
     let name = String::from_str(alloc, name)?;
     texts.insert(name, text)?;
@@ -106,7 +107,8 @@ fn put_count(
     name: &str,
     count: u64,
 ) -> Result<(), AllocError>
-    ensures { OnOk result ((q : List ℕ) → get_by_text counts.new q ≡ (if bytes_eq name.now q then Some count else get_by_text counts.old q)) }
+    ensures { OnOk result ((q : List ℕ) → get_by_text counts.new q ≡
+        (if bytes_eq name.now q then Some count else get_by_text counts.old q)) }
 {
     let name = String::from_str(alloc, name)?;
     counts.insert(name, count)?;
@@ -115,8 +117,10 @@ fn put_count(
 
 /// Joins the pieces of each base.
 fn bases_of(alloc: Global, parts: &BTreeMap<String, Part>) -> Result<Bases, AllocError>
-    ensures texts { IfOk result (λ bases. (q : List ℕ) → text_at bases.texts q ≡ base_text (parts_at parts.now) (names_in parts.now) q) }
-    ensures counts { IfOk result (λ bases. (q : List ℕ) → get_by_text bases.counts q ≡ base_count (parts_at parts.now) (names_in parts.now) q) }
+    ensures texts { IfOk result (λ bases. (q : List ℕ) → text_at bases.texts q
+        ≡ base_text (parts_at parts.now) (names_in parts.now) q) }
+    ensures counts { IfOk result (λ bases. (q : List ℕ) → get_by_text bases.counts q
+        ≡ base_count (parts_at parts.now) (names_in parts.now) q) }
 {
     let mut texts = BTreeMap::new(alloc);
     let mut counts = BTreeMap::new(alloc);
@@ -166,7 +170,8 @@ fn left_and_joined(
     alloc: Global,
     parts: &BTreeMap<String, Part>,
 ) -> Result<BTreeMap<String, String>, AllocError>
-    ensures { IfOk result (λ texts. (q : List ℕ) → text_at texts q ≡ joined_at (parts_at parts.now) (names_in parts.now) q) }
+    ensures { IfOk result (λ texts. (q : List ℕ) → text_at texts q
+        ≡ joined_at (parts_at parts.now) (names_in parts.now) q) }
 {
     let bases = bases_of(alloc, parts)?;
     let mut texts = bases.texts;
@@ -184,7 +189,9 @@ pub(crate) fn resolve(
     alloc: Global,
     pairs: &BTreeMap<String, String>,
 ) -> Result<BTreeMap<String, String>, MailParseError>
-    ensures parameters { IfOk result (λ texts. (ps : List (List ℕ × List ℕ)) → ((q : List ℕ) → text_at pairs.now q ≡ last_of ps q) → (q : List ℕ) → text_at texts q ≡ parameters_of ps q) }
+    ensures parameters { IfOk result (λ texts. (ps : List (List ℕ × List ℕ)) → ((q : List ℕ) →
+        text_at pairs.now q ≡ last_of ps q) → (q : List ℕ) → text_at texts q
+        ≡ parameters_of ps q) }
     ensures memory { IfErr result IsMemory }
 {
     let parts = parts_of(alloc, pairs)?;

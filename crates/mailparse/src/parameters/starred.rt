@@ -57,7 +57,8 @@ fn extended_part(
     charset: Charset,
     bytes: Vec<u8>,
 ) -> Result<Part, AllocError>
-    ensures { IfOk result (λ part. part_view part ≡ extended_part name.now (text_of charset) bytes.items) }
+    ensures { IfOk result (λ part. part_view part
+        ≡ extended_part name.now (text_of charset) bytes.items) }
 {
     if numbered(name).is_some() {
         return Ok(Part::Octets(charset, bytes));
@@ -83,7 +84,8 @@ fn extended_at(
 ) -> Result<Option<Part>, AllocError>
     requires place { place < length waiting.now }
     requires decider { decider < length waiting.now }
-    ensures { IfOk result (λ part. option_map part_view part ≡ extended_by (map waiting_view waiting.now) place decider) }
+    ensures { IfOk result (λ part. option_map part_view part
+        ≡ extended_by (map waiting_view waiting.now) place decider) }
 {
     let one = waiting[place];
     let Some(charset) = waiting[decider].charset else {
@@ -100,7 +102,8 @@ fn put(
     name: &str,
     part: Part,
 ) -> Result<(), AllocError>
-    ensures { OnOk result ((q : List ℕ) → parts_at parts.new q ≡ (if bytes_eq name.now q then Some (part_view part) else parts_at parts.old q)) }
+    ensures { OnOk result ((q : List ℕ) → parts_at parts.new q ≡
+        (if bytes_eq name.now q then Some (part_view part) else parts_at parts.old q)) }
 {
     let name = String::from_str(alloc, name)?;
     parts.insert(name, part)?;
@@ -112,7 +115,8 @@ fn extended_parts(
     alloc: Global,
     pairs: &BTreeMap<String, String>,
 ) -> Result<BTreeMap<String, Part>, AllocError>
-    ensures { IfOk result (λ parts. (q : List ℕ) → parts_at parts q ≡ extended_at four_charsets (text_at pairs.now) q) }
+    ensures { IfOk result (λ parts. (q : List ℕ) → parts_at parts q
+        ≡ extended_at four_charsets (text_at pairs.now) q) }
 {
     let waiting = waiting_names(alloc, pairs)?;
     let deciders = deciders(alloc, waiting.as_slice())?;
@@ -142,7 +146,8 @@ pub(super) fn parts_of(
     alloc: Global,
     pairs: &BTreeMap<String, String>,
 ) -> Result<BTreeMap<String, Part>, AllocError>
-    ensures { IfOk result (λ parts. (q : List ℕ) → parts_at parts q ≡ part_at four_charsets (text_at pairs.now) q) }
+    ensures { IfOk result (λ parts. (q : List ℕ) → parts_at parts q
+        ≡ part_at four_charsets (text_at pairs.now) q) }
 {
     let mut parts = extended_parts(alloc, pairs)?;
     for (key, value) in pairs {

@@ -31,7 +31,8 @@ impl Joining {
 
     /// The text of the run.
     fn run_text(&self, alloc: Global) -> Result<String, AllocError>
-        ensures { IfOk result (λ text. string_bytes text ≡ joined.run_text (option_map text_of self.now.charset) self.now.run.items) }
+        ensures { IfOk result (λ text. string_bytes text
+            ≡ joined.run_text (option_map text_of self.now.charset) self.now.run.items) }
     {
         match self.charset {
             Some(charset) => charset.decode_without_bom_handling(alloc, self.run.as_slice()),
@@ -41,7 +42,8 @@ impl Joining {
 
     /// Ends the run, and joins its text.
     fn close(&mut self, alloc: Global) -> Result<(), AllocError>
-        ensures text { OnOk result (string_bytes self.new.text ≡ string_bytes self.old.text ++ joined.run_text (option_map text_of self.old.charset) self.old.run.items) }
+        ensures text { OnOk result (string_bytes self.new.text ≡ string_bytes self.old.text
+            ++ joined.run_text (option_map text_of self.old.charset) self.old.run.items) }
         ensures run { OnOk result (self.new.run.items ≡ []) }
         ensures charset { OnOk result (self.new.charset ≡ None) }
     {
@@ -54,7 +56,8 @@ impl Joining {
 
     /// Joins one more part.
     pub(super) fn push(&mut self, alloc: Global, part: &Part) -> Result<(), AllocError>
-        ensures { OnOk result ((rest : List joined.Part) → joined_with self.old (part_view part.now ∷ rest) ≡ joined_with self.new rest) }
+        ensures { OnOk result ((rest : List joined.Part) →
+            joined_with self.old (part_view part.now ∷ rest) ≡ joined_with self.new rest) }
     {
         match part {
             Part::Text(text) => {

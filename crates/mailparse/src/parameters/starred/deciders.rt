@@ -19,8 +19,10 @@ fn begins_with(waiting: &[Waiting<'_>], place: usize, prefix: &[u8]) -> bool
 fn first_with(waiting: &[Waiting<'_>], place: usize, prefix: &[u8]) -> usize
     requires { place < length waiting.now }
     ensures bound { result ≤ place }
-    ensures all { (k : ℕ) → result ≤ k → k < place → starts_with nat_eq (name_at (names_of waiting.now) k) prefix.now ≡ true }
-    ensures first { 0 < result → starts_with nat_eq (name_at (names_of waiting.now) (result - 1)) prefix.now ≡ false }
+    ensures all { (k : ℕ) → result ≤ k → k < place →
+        starts_with nat_eq (name_at (names_of waiting.now) k) prefix.now ≡ true }
+    ensures first { 0 < result →
+        starts_with nat_eq (name_at (names_of waiting.now) (result - 1)) prefix.now ≡ false }
 {
     let mut first = place;
     while first > 0 {
@@ -37,8 +39,10 @@ fn end_with(waiting: &[Waiting<'_>], place: usize, prefix: &[u8]) -> usize
     requires { place < length waiting.now }
     ensures bound { place < result }
     ensures within { result ≤ length waiting.now }
-    ensures all { (k : ℕ) → place < k → k < result → starts_with nat_eq (name_at (names_of waiting.now) k) prefix.now ≡ true }
-    ensures last { result < length waiting.now → starts_with nat_eq (name_at (names_of waiting.now) result) prefix.now ≡ false }
+    ensures all { (k : ℕ) → place < k → k < result →
+        starts_with nat_eq (name_at (names_of waiting.now) k) prefix.now ≡ true }
+    ensures last { result < length waiting.now →
+        starts_with nat_eq (name_at (names_of waiting.now) result) prefix.now ≡ false }
 {
     let mut end = place + 1;
     while end < waiting.len() {
@@ -53,7 +57,8 @@ fn end_with(waiting: &[Waiting<'_>], place: usize, prefix: &[u8]) -> usize
 /// For each of some places the place itself.
 fn own_places(alloc: Global, count: usize) -> Result<Vec<usize>, AllocError>
     ensures long { IfOk result (λ places. length places.items ≡ count) }
-    ensures own { IfOk result (λ places. (k : ℕ) → k < count → slice_index_or places.items k 0 ≡ k) }
+    ensures own { IfOk result (λ places. (k : ℕ) → k < count → slice_index_or places.items k 0
+        ≡ k) }
 {
     let mut places = Vec::with_capacity(alloc, count)?;
     let mut place = 0;
@@ -69,9 +74,11 @@ fn write_range(places: &mut Vec<usize>, first: usize, end: usize, place: usize)
     requires order { first ≤ end }
     requires within { end ≤ length places.old.items }
     ensures long { length places.new.items ≡ length places.old.items }
-    ensures before { (k : ℕ) → k < first → slice_index_or places.new.items k 0 ≡ slice_index_or places.old.items k 0 }
+    ensures before { (k : ℕ) → k < first → slice_index_or places.new.items k 0
+        ≡ slice_index_or places.old.items k 0 }
     ensures inside { (k : ℕ) → first ≤ k → k < end → slice_index_or places.new.items k 0 ≡ place }
-    ensures after { (k : ℕ) → end ≤ k → slice_index_or places.new.items k 0 ≡ slice_index_or places.old.items k 0 }
+    ensures after { (k : ℕ) → end ≤ k → slice_index_or places.new.items k 0
+        ≡ slice_index_or places.old.items k 0 }
 {
     let mut at = first;
     while at < end {
@@ -86,7 +93,8 @@ fn speak(waiting: &[Waiting<'_>], place: usize, places: &mut Vec<usize>)
     requires within { place < length waiting.now }
     requires long { length places.old.items ≡ length waiting.now }
     ensures long { length places.new.items ≡ length places.old.items }
-    ensures spoken { AreInOrder (names_of waiting.now) → (k : ℕ) → k < length waiting.now → slice_index_or places.new.items k 0
+    ensures spoken { AreInOrder (names_of waiting.now) → (k : ℕ) → k < length waiting.now →
+        slice_index_or places.new.items k 0
         ≡ (if speaks_for (name_at (names_of waiting.now) place) (name_at (names_of waiting.now) k) then place else slice_index_or places.old.items k 0) }
 {
     let name = waiting[place].name.as_bytes();
@@ -102,7 +110,8 @@ fn speak(waiting: &[Waiting<'_>], place: usize, places: &mut Vec<usize>)
 /// The place of the name that decides for each: the last that speaks for it, otherwise its own.
 pub(super) fn deciders(alloc: Global, waiting: &[Waiting<'_>]) -> Result<Vec<usize>, AllocError>
     ensures long { IfOk result (λ places. length places.items ≡ length waiting.now) }
-    ensures decided { AreInOrder (names_of waiting.now) → IfOk result (λ places. (k : ℕ) → k < length waiting.now →
+    ensures decided { AreInOrder (names_of waiting.now) → IfOk result (λ places. (k : ℕ) →
+        k < length waiting.now →
         slice_index_or places.items k 0 ≡ decided (names_of waiting.now) (length waiting.now) k) }
 {
     let mut places = own_places(alloc, waiting.len())?;

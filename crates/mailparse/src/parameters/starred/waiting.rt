@@ -47,7 +47,8 @@ pub(super) fn waiting_names<'a>(
     pairs: &'a BTreeMap<String, String>,
 ) -> Result<Vec<Waiting<'a>>, AllocError>
     ensures ordered { IfOk result (λ _. IsOrdered string_cmp pairs.now) }
-    ensures found { IfOk result (λ found. map waiting_view found.items ≡ waiting_entries (text_at pairs.now) (map pair_view pairs.now.entries)) }
+    ensures found { IfOk result (λ found. map waiting_view found.items
+        ≡ waiting_entries (text_at pairs.now) (map pair_view pairs.now.entries)) }
 {
     let mut found = Vec::new(alloc);
     for (key, value) in pairs {
