@@ -11,8 +11,8 @@ of these are read `node ..`, `at body START END` (the places of the body in the 
 `name HEX` and `value HEX` of each header, `type HEX`, `charset HEX`, `kind NAME`, and the lines
 `decoded ..` and `text ..` of its body; HEX is two hexadecimal digits for each byte, or `-`.
 
-The mails are short ones at the edges of the rules for parts, and short ones of tools/make_mails.py
-without a star, which would ask for parameters in sections.
+The mails are short ones at the edges of the rules for parts, every front of one with parts inside parts, and short ones of
+tools/make_mails.py.
 """
 import os
 import sys
@@ -24,10 +24,10 @@ sys.path.append(os.path.join(os.path.dirname(__file__), ".."))
 from make_mails import mails  # noqa: E402
 
 SEED = 2048
-MADE = 2000
-COUNT = 360
-WITHOUT_PARTS = 200
-LONGEST = 550
+MADE = 9000
+COUNT = 1500
+WITHOUT_PARTS = 400
+LONGEST = 600
 
 HEAD = b"Content-Type: multipart/mixed; boundary=b\n\n"
 CHOSEN = [
@@ -47,14 +47,22 @@ CHOSEN = [
 ]
 
 
+# Each front of this mail is a question too.
+NESTED = (
+    b"Subject: =?utf-8?Q?a=C3=A9?=\nContent-Type: multipart/mixed; boundary*0=o; boundary*1*=us-ascii''%75\n\npre\n"
+    b"--ou\nContent-Type: multipart/alternative;\r\n boundary=\"i\"\n\n--i\n\none\r\n--i\nContent-Transfer-Encoding: base64\n\naGk=\n--i--\n"
+    b"--ou\nContent-Disposition: attachment\nContent-Transfer-Encoding: quoted-printable\n\na=3D=\nb\n--ou--\nafter"
+)
+
+
 def questions(seed):
     """All mails of the list, each once."""
-    found = dict.fromkeys(CHOSEN)
+    found = dict.fromkeys(CHOSEN + [NESTED[:end] for end in range(len(NESTED) + 1)])
     alone = 0
     for data in mails(MADE, seed):
         if len(found) == COUNT:
             break
-        if len(data) > LONGEST or b"*" in data or data in found:
+        if len(data) > LONGEST or data in found:
             continue
         if b"\n--" not in data:
             alone += 1

@@ -2,7 +2,8 @@
 fields.
 
 The texts are chosen ones, one for each edge of the rules; ones made of pieces with white, quotes and
-escapes; and ones of these two with a few characters changed. No text holds a `*`.
+escapes; and ones of these two with a few characters changed. None of these holds a `*`. After them come texts of starred
+keys and of values in several pieces, and such texts with a few characters changed.
 """
 import random
 
@@ -10,6 +11,8 @@ from .oracle import add_new
 
 MADE = 260
 MUTATED = 220
+STARRED = 500
+STARRED_MUTATED = 250
 
 WHITE = ["", "", "", " ", "  ", "\t", "\r\n ", "\u00a0", "\x0b"]
 KEYS = ["a", "A", "b", "charset", "Charset", "CHARSET", "boundary", "name", "filename", "FileName", "", "a b", "\u00c9", "\u00e9", "'x'", "%41", "x\"y;z\""]
@@ -53,6 +56,22 @@ def mutated(rng, text):
     return text
 
 
+NAMES = ["f", "t", "F", "name", "n*1", "a*0", "u*!x", "", "a*", "f*0x"]
+STARS = ["", "*", "*", "*0", "*0*", "*0*", "*1", "*1*", "*1*", "*2", "*2*", "*00", "*00*", "*+0*", "*0*0*", "*0*1*", "*x*", "*-1", "*01*",
+         "*18446744073709551615*", "*18446744073709551616*", "*10"]
+EXTENDED = ["utf-8''%E2%82%AC", "utf-8'en'%C3", "UTF-8''a%", "iso-8859-1''%E9", "foo''x", "foo", "a", "%82%AC", "%AC.txt", "%2", "%zz", "\"%41\"", "''", "'", "utf-8",
+            "utf-8'", "utf-16''%41%00", "us-ascii''%80", "utf-8''%EF%BB%BFa", "", "\u00e9", "utf-8''\u00e9%C3%A9", " utf-8 ''b", "''%62"]
+
+
+def starred(rng, values):
+    """A value and some starred keys, few names and many pieces of each."""
+    names = rng.sample(NAMES, rng.randrange(1, 4))
+    text = rng.choice(values)
+    for _ in range(rng.randrange(1, 7)):
+        text += ";" + rng.choice(WHITE) + rng.choice(names) + rng.choice(STARS) + "=" + rng.choice(EXTENDED)
+    return text
+
+
 def texts(seed, values):
     """All texts of a list, each once."""
     rng = random.Random(seed)
@@ -60,6 +79,10 @@ def texts(seed, values):
     add_new(found, MADE, lambda: made(rng, values))
     sources = [text for text in found if len(text) <= 120]
     add_new(found, MUTATED, lambda: mutated(rng, rng.choice(sources)))
+    before = len(found)
+    add_new(found, STARRED, lambda: starred(rng, values))
+    sources = list(found)[before:]
+    add_new(found, STARRED_MUTATED, lambda: mutated(rng, rng.choice(sources)))
     return list(found)
 
 
