@@ -6,3 +6,4 @@ pub mod WordTokens
 pub mod Days
 pub mod Ids
 pub mod Percent
+pub mod IdGrammar

@@ -16,3 +16,4 @@ pub use Rattle.mailparse.specs.Continuations
 pub use Rattle.mailparse.specs.ContentType
 pub use Rattle.mailparse.specs.Disposition
 pub mod Ids
+pub mod IdGrammar

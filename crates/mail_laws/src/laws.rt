@@ -1,5 +1,5 @@
 //! The laws. Each function does nothing; its contract is the law.
-ghost use Rattle.std.specs.Prelude.{◌≡◌, ◌<◌, ◌≤◌, ◌++◌, ℕ, suc, List, [], ◌∷◌, codes, length, take, Decides, Ok, ◌+◌, ◌-◌, ◌*◌, ◌/◌, All, slice_index, false};
+ghost use Rattle.std.specs.Prelude.{◌≡◌, ◌<◌, ◌≤◌, ◌++◌, ℕ, suc, List, [], ◌∷◌, codes, length, take, Decides, Ok, ◌+◌, ◌-◌, ◌*◌, ◌/◌, All, slice_index, false, ◌↔◌, Err};
 ghost use Rattle.std.specs.List.{flat_map, list_any};
 ghost use Rattle.std.specs.Str.{IsUtf8};
 ghost use Rattle.mailparse.specs.Header.{Header, read_header};
@@ -23,7 +23,9 @@ ghost use Rattle.mail_laws.specs.WordTokens.{white, word};
 ghost use Rattle.mail_laws.specs.Spans.{StandBefore, blank_span, header_at, header_spans, key_range, value_range};
 ghost use Rattle.mailparse.specs.Date.{day_number, days_of_years, month_lengths};
 ghost use Rattle.mailparse.specs.MessageIds.{message_ids, written_ids};
+ghost use Rattle.mail_laws.specs.IdGrammar.{AreIds, Breaks};
 ghost use Rattle.mail_laws.specs.Ids.{HoldsNoClosing};
+ghost use Rattle.mailparse.specs.Refusal.{Refusal};
 ghost use Rattle.mail_laws.specs.Percent.{is_percent};
 ghost use Rattle.percent_encoding.specs.Percent.{percent_decode};
 
@@ -159,6 +161,16 @@ pub fn days_follow_each_other()
         ≡ 86400 * day_number year month (slice_index (month_lengths year) month) + 86400 }
     ensures to_next_year { (year : ℕ) → 1970 ≤ year →
         86400 * day_number (year + 1) 0 1 ≡ 86400 * day_number year 11 31 + 86400 }
+{}
+
+/// The texts that are read as message ids are exactly those of the form: white, and then any number
+/// of times `<`, an id without `>`, `>` and white. Any other text is refused for the first place that
+/// breaks the form.
+pub fn message_ids_have_a_form()
+    ensures reads { (text : List ℕ) (ids : List (List ℕ)) →
+        AreIds text ids ↔ (message_ids text ≡ Ok ids) }
+    ensures refuses { (text : List ℕ) (refusal : Refusal) →
+        Breaks text refusal ↔ (message_ids text ≡ Err refusal) }
 {}
 
 /// The text of a list of message ids reads back as the list exactly if no id holds a `>`.

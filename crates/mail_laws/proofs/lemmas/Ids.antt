@@ -45,7 +45,7 @@ opened_both true id utf8 = opened_after_space id utf8
 opened_both false id utf8 = opened id utf8
 
 -- a piece up to its `>`
-split_at : (piece rest : List ℕ) → list_any is_closing piece ≡ false → slice_split is_closing (piece ++ 62 ∷ rest) ≡ piece ∷ slice_split is_closing rest
+pub split_at : (piece rest : List ℕ) → list_any is_closing piece ≡ false → slice_split is_closing (piece ++ 62 ∷ rest) ≡ piece ∷ slice_split is_closing rest
 split_at [] rest h = refl
 split_at (b ∷ piece) rest h = go (split_at piece rest) (is_closing b) h
   where
