@@ -7,3 +7,4 @@ pub mod Days
 pub mod Ids
 pub mod Percent
 pub mod IdGrammar
+pub mod Runs

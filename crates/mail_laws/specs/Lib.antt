@@ -16,4 +16,5 @@ pub use Rattle.mailparse.specs.Continuations
 pub use Rattle.mailparse.specs.ContentType
 pub use Rattle.mailparse.specs.Disposition
 pub mod Ids
+pub mod Runs
 pub mod IdGrammar

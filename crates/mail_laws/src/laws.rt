@@ -23,6 +23,8 @@ ghost use Rattle.mail_laws.specs.WordTokens.{white, word};
 ghost use Rattle.mail_laws.specs.Spans.{StandBefore, blank_span, header_at, header_spans, key_range, value_range};
 ghost use Rattle.mailparse.specs.Date.{day_number, days_of_years, month_lengths};
 ghost use Rattle.mailparse.specs.MessageIds.{message_ids, written_ids};
+ghost use Rattle.mailparse.specs.Continuations.{Part, joined};
+ghost use Rattle.mail_laws.specs.Runs.{groups, texts_of};
 ghost use Rattle.mail_laws.specs.IdGrammar.{AreIds, Breaks};
 ghost use Rattle.mail_laws.specs.Ids.{HoldsNoClosing};
 ghost use Rattle.mailparse.specs.Refusal.{Refusal};
@@ -126,6 +128,12 @@ pub fn dispositions_equal_by_kind()
 pub fn pairs_without_stars_are_parameters()
     ensures { (known : Charsets) (pairs : List (List ℕ × List ℕ)) → AreStarFree pairs →
         (name : List ℕ) → parameters_in known pairs name ≡ last_of pairs name }
+{}
+
+/// The text that the parts of a value make is that of their groups, one after another: each text is a
+/// group, and each longest run of pieces with a charset is one, read once in the charset of its last.
+pub fn runs_are_read_once()
+    ensures { (parts : List Part) → joined parts ≡ texts_of (groups parts) }
 {}
 
 /// A text of exactly `multipart/mixed; boundary=B`, where B is letters and digits, has one pair, the
