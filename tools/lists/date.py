@@ -6,8 +6,8 @@ the refusal.
 To `date` and a text the oracle answers the line `date ok SECONDS` or `date err TEXT`.
 
 The dates are chosen ones, one for each edge of the rules; ones made by a grammar; ones of these two
-with a few characters changed; and the first and the last day of each month from 1970 to 2400, whose
-seconds the calendar of Python has to give too.
+with a few characters changed; one for each zone from -2401 to 2401; and the first and the last day of
+each month from 1970 to 2400, whose seconds the calendar of Python has to give too.
 """
 import calendar
 import datetime
@@ -104,6 +104,7 @@ def questions(seed):
     add_new(found, MADE, lambda: made(rng))
     sources = list(found)
     add_new(found, MUTATED, lambda: mutated(rng, rng.choice(sources)))
+    found.update(dict.fromkeys(f"6 Jun 2006 6:6:6 {sign}{size:04}" for size in range(2402) for sign in "+-"))
     return list(found)
 
 
