@@ -2,6 +2,7 @@
 -- id is any text without a `>`).
 use Rattle.std.specs.Prelude.{◌≡◌, ◌≢◌, ℕ, true, false, List, [], ◌∷◌, ◌++◌}
 use Rattle.std.specs.Str.{trim_start}
+use Rattle.mail_codec.specs.Ascii.{less_than, greater_than}
 use Rattle.mailparse.specs.MessageIds.{id_not_closed, id_not_opened, opens_id}
 use Rattle.mailparse.specs.Refusal.{Refusal}
 use Rattle.mail_laws.specs.Ids.{HoldsNoClosing}
@@ -11,17 +12,17 @@ pub data AreIds : List ℕ → List (List ℕ) → Type 0 where
   -- white alone, which holds no `>`, has none
   no_ids : {text : List ℕ} → HoldsNoClosing text → trim_start text ≡ [] → AreIds text []
   -- up to the first `>` stand white, `<` and an id; after it stand the others
-  one_more : {text : List ℕ} (opened id rest : List ℕ) {ids : List (List ℕ)} → text ≡ opened ++ 62 ∷ rest → HoldsNoClosing opened
-      → trim_start opened ≡ 60 ∷ id → AreIds rest ids → AreIds text (id ∷ ids)
+  one_more : {text : List ℕ} (opened id rest : List ℕ) {ids : List (List ℕ)} → text ≡ opened ++ greater_than ∷ rest → HoldsNoClosing opened
+      → trim_start opened ≡ less_than ∷ id → AreIds rest ids → AreIds text (id ∷ ids)
 
 -- a text breaks the form, and this is the refusal of the first place that does
 pub data Breaks : List ℕ → Refusal → Type 0 where
   -- something other than white and `<` stands where an id may start
   not_opened : {text : List ℕ} → HoldsNoClosing text → trim_start text ≢ [] → opens_id text ≡ false → Breaks text id_not_opened
-  not_opened_before : {text : List ℕ} (piece rest : List ℕ) → text ≡ piece ++ 62 ∷ rest → HoldsNoClosing piece → opens_id piece ≡ false
+  not_opened_before : {text : List ℕ} (piece rest : List ℕ) → text ≡ piece ++ greater_than ∷ rest → HoldsNoClosing piece → opens_id piece ≡ false
       → Breaks text id_not_opened
   -- no `>` follows a `<`
   not_closed : {text : List ℕ} → HoldsNoClosing text → opens_id text ≡ true → Breaks text id_not_closed
   -- an id is whole, and what follows its `>` breaks the form
-  later : {text : List ℕ} (opened rest : List ℕ) {refusal : Refusal} → text ≡ opened ++ 62 ∷ rest → HoldsNoClosing opened
+  later : {text : List ℕ} (opened rest : List ℕ) {refusal : Refusal} → text ≡ opened ++ greater_than ∷ rest → HoldsNoClosing opened
       → opens_id opened ≡ true → Breaks rest refusal → Breaks text refusal

@@ -1,6 +1,7 @@
 -- Pairs none of whose keys holds a star: none of them is extended or a piece.
 use Rattle.std.specs.Prelude.{◌≡◌, ℕ, false, ◌==◌, List, All}
 use Rattle.std.specs.List.{list_any}
+use Rattle.mail_codec.specs.Ascii.{asterisk}
 
 abbrev pub AreStarFree : List (List ℕ × List ℕ) → Type 0
-AreStarFree pairs = All (λ pair. list_any (λ b. b == 42) pair.0 ≡ false) pairs
+AreStarFree pairs = All (λ pair. list_any (λ b. b == asterisk) pair.0 ≡ false) pairs

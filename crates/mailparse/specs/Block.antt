@@ -1,8 +1,9 @@
 -- The block of headers at the front of a message, with the blank line that ends it (RFC 5322, section 2.1).
 use Rattle.std.specs.Prelude.{ℕ, zero, suc, ◌+◌, Bool, ◌&&◌, ◌||◌, not, nat_lt, List, [], ◌∷◌, length, drop, Option, Some, None, Result, Ok, Err, if◌then◌else◌}
+use Rattle.mail_codec.specs.Ascii.{line_feed, carriage_return, space}
 use Rattle.mail_codec.specs.Places.{stands, is_empty, least, values_below}
 use Rattle.mailparse.specs.Refusal.{Refusal, leading_space, lone_carriage_return}
-use Rattle.mailparse.specs.Header.{Header, header_of, header_length, line_feed, carriage_return, space}
+use Rattle.mailparse.specs.Header.{Header, header_of, header_length}
 
 -- the bytes of the blank line that stands here: LF or CR LF, or none
 unfoldable pub blank_line : List ℕ → ℕ

@@ -6,13 +6,14 @@ use Rattle.std.specs.List.{before_last, after_last, flat_map, list_any}
 use Rattle.std.specs.Option.{is_some, option_map_or, option_or}
 use Rattle.std.specs.Str.{bytes_eq, all_ascii_digits}
 use Rattle.std.specs.Str.Parse.{digits_value, without_leading_plus}
+use Rattle.mail_codec.specs.Ascii.{asterisk}
 use Rattle.mail_codec.specs.Charset.{Charsets, four_charsets}
 use Rattle.mailparse.specs.Pairs.{Texts, last_of}
 use Rattle.mailparse.specs.StarredKeys.{is_starred, name_under, octets_of, reading_of}
 
 -- a star
 abbrev pub is_star : ℕ → Bool
-is_star b = b == 42
+is_star b = b == asterisk
 
 -- the number that digits write, a plus before them or not, if it is a `u64`
 abbrev pub number_in : List ℕ → Option ℕ
@@ -28,7 +29,7 @@ numbered name = if list_any is_star name then option_map (λ number. (before_las
 
 -- the name of the piece of a base with that number
 abbrev pub piece_name : List ℕ → ℕ → List ℕ
-piece_name base number = base ++ 42 ∷ decimal number
+piece_name base number = base ++ asterisk ∷ decimal number
 
 -- What stands at a name: a text, or the bytes of a piece with the charset that reads them.
 pub data Part : Type 0 where

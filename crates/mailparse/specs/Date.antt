@@ -4,6 +4,7 @@ use Rattle.std.specs.Int.{is_in_range}
 use Rattle.std.specs.List.{slice_split}
 use Rattle.std.specs.Str.{all_ascii_digits, str_eq_ignore_ascii_case}
 use Rattle.std.specs.Str.Parse.{digits_value, signed_digits_value, without_leading_plus, without_leading_sign}
+use Rattle.mail_codec.specs.Ascii.{space, colon}
 use Rattle.mail_codec.specs.Places.{is_empty}
 use Rattle.mailparse.specs.Refusal.{Refusal, generic}
 
@@ -37,7 +38,7 @@ invalid_zone = generic (codes "Invalid timezone")
 
 -- a space or a colon separates two words
 abbrev pub is_separator : ℕ → Bool
-is_separator b = b == 32 || b == 58
+is_separator b = b == space || b == colon
 
 -- the words of a text: what stands between separators and is not empty
 abbrev pub words : List ℕ → List (List ℕ)

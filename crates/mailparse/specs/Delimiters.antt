@@ -3,8 +3,9 @@
 -- counts only for which delimiter is the last. Places are counted from the first of the bytes.
 use Rattle.std.specs.Prelude.{ℕ, zero, suc, ◌+◌, ◌-◌, Bool, ◌||◌, ◌&&◌, ◌==◌, nat_lt, List, [], ◌∷◌, length, drop, Option, Some, None, is_none, option_map, option_and_then, unwrap_or, codes, if◌then◌else◌}
 use Rattle.std.specs.Option.{option_map_or}
+use Rattle.mail_codec.specs.Ascii.{line_feed, carriage_return}
 use Rattle.mail_codec.specs.Places.{begins, stands, byte_place, least, values_below}
-use Rattle.mailparse.specs.Header.{line_feed, carriage_return, is_line_feed}
+use Rattle.mailparse.specs.Header.{is_line_feed}
 use Rattle.mailparse.specs.Ranges.{Range}
 
 -- the least place at or after a start and before an end that passes the test, where there is one

@@ -3,13 +3,14 @@ use Rattle.std.specs.Prelude.{◌≡◌, ℕ, Bool, true, ◌||◌, List, ◌++�
 use Rattle.std.specs.List.{before_first, after_first, list_any}
 use Rattle.std.specs.Result.{result_ok}
 use Rattle.std.specs.Str.{bytes_eq, trim_end}
+use Rattle.mail_codec.specs.Ascii.{space, question_mark, underscore}
 use Rattle.mail_codec.specs.Base64.{base64}
 use Rattle.mail_codec.specs.Charset.{Charsets}
 use Rattle.mail_codec.specs.QuotedPrintable.{quoted_printable}
 
 -- a question mark, which cuts the inside of a word
 abbrev pub is_question_mark : ℕ → Bool
-is_question_mark b = b == 63
+is_question_mark b = b == question_mark
 
 -- whether bytes hold a question mark
 abbrev pub has_question_mark : List ℕ → Bool
@@ -35,7 +36,7 @@ word_inside inside =
 
 -- a space for each `_`
 abbrev pub spaced : List ℕ → List ℕ
-spaced encoded = map (λ b. if b == 95 then 32 else b) encoded
+spaced encoded = map (λ b. if b == underscore then space else b) encoded
 
 -- the bytes of an encoded text under Q: a space stands for each `_`; white at the end is set aside, what stands before it is read
 -- as quoted-printable, and the white is put back

@@ -2,23 +2,9 @@
 -- 2.2.3, read as leniently as mail is written). Places are counted from the first of the bytes.
 use Rattle.std.specs.Prelude.{ℕ, suc, Bool, false, ◌&&◌, ◌||◌, not, ◌==◌, min, List, [], ◌∷◌, length, take, drop, slice_range, Result, Ok, Err, if◌then◌else◌}
 use Rattle.std.specs.List.{list_all}
+use Rattle.mail_codec.specs.Ascii.{tab, line_feed, carriage_return, space, colon}
 use Rattle.mail_codec.specs.Places.{first_place, place_from, begins, stands, is_empty}
 use Rattle.mailparse.specs.Refusal.{Refusal, empty_string, leading_space}
-
-abbrev pub tab : ℕ
-tab = 9
-
-abbrev pub line_feed : ℕ
-line_feed = 10
-
-abbrev pub carriage_return : ℕ
-carriage_return = 13
-
-abbrev pub space : ℕ
-space = 32
-
-abbrev pub colon : ℕ
-colon = 58
 
 -- a byte that ends a key
 abbrev pub ends_key : ℕ → Bool

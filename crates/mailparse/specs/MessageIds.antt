@@ -2,6 +2,7 @@
 use Rattle.std.specs.Prelude.{ℕ, Bool, ◌&&◌, ◌==◌, List, [], ◌∷◌, ◌++◌, map, drop, Result, Ok, Err, codes, if◌then◌else◌}
 use Rattle.std.specs.List.{slice_split, join_with_byte, list_any, before_first}
 use Rattle.std.specs.Str.{trim_start}
+use Rattle.mail_codec.specs.Ascii.{space, less_than, greater_than}
 use Rattle.mail_codec.specs.Places.{is_empty, stands}
 use Rattle.mailparse.specs.Refusal.{Refusal, generic}
 
@@ -15,7 +16,7 @@ id_not_closed = generic (codes "Message IDs must end with >")
 
 -- a `>` closes an id
 abbrev pub is_closing : ℕ → Bool
-is_closing b = b == 62
+is_closing b = b == greater_than
 
 -- whether bytes begin with an id's `<`, after white
 abbrev pub opens_id : List ℕ → Bool
@@ -53,8 +54,8 @@ begins_with_id text = list_any is_closing text && opens_id (before_first is_clos
 
 -- an id as it is written
 abbrev pub written_id : List ℕ → List ℕ
-written_id id = 60 ∷ id ++ (62 ∷ [])
+written_id id = less_than ∷ id ++ (greater_than ∷ [])
 
 -- the text of a list of ids, one space between each two
 abbrev pub written_ids : List (List ℕ) → List ℕ
-written_ids ids = join_with_byte 32 (map written_id ids)
+written_ids ids = join_with_byte space (map written_id ids)

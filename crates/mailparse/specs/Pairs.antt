@@ -5,6 +5,7 @@ use Rattle.std.specs.BTreeMap.{BTreeMap, get_by_text}
 use Rattle.std.specs.List.{position_or_len, before_first, after_first}
 use Rattle.std.specs.Map.{update_all}
 use Rattle.std.specs.Str.{bytes_eq, str_to_ascii_lowercase, trim}
+use Rattle.mail_codec.specs.Ascii.{equals_sign}
 use Rattle.mailparse.specs.Pieces.{pieces, unescape}
 
 -- texts by their names
@@ -29,7 +30,7 @@ last_of pairs = update_all bytes_eq no_texts pairs
 
 -- a `=`
 abbrev pub is_equals : ℕ → Bool
-is_equals b = b == 61
+is_equals b = b == equals_sign
 
 -- the pair of a piece that holds `=`: what stands before the first one, without white around it and in lower case, is the key;
 -- what stands after it, without white around it, stands for the value

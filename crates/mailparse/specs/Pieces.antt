@@ -3,15 +3,7 @@
 -- that no `\` escapes, or to the end of the text.
 use Rattle.std.specs.Prelude.{◌≡◌, ◌≢◌, ℕ, zero, suc, ◌-◌, Bool, true, false, not, ◌&&◌, ◌==◌, nat_lt, List, [], ◌∷◌, ◌++◌, length, slice_index, slice_range, if◌then◌else◌}
 use Rattle.std.specs.Str.{chars, encode_utf8_all}
-
-abbrev pub quote : ℕ
-quote = 34
-
-abbrev pub semicolon : ℕ
-semicolon = 59
-
-abbrev pub backslash : ℕ
-backslash = 92
+use Rattle.mail_codec.specs.Ascii.{quote, semicolon, backslash}
 
 -- ---- the grammar
 

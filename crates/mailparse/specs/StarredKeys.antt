@@ -6,17 +6,18 @@ use Rattle.std.specs.List.{before_first, after_first, filter}
 use Rattle.std.specs.Option.{is_some, unwrap_or}
 use Rattle.std.specs.Ordering.{is_lt, nat_cmp}
 use Rattle.std.specs.Str.{bytes_eq}
+use Rattle.mail_codec.specs.Ascii.{apostrophe, asterisk, digit_0}
 use Rattle.mail_codec.specs.Charset.{Charsets}
 use Rattle.mailparse.specs.Pairs.{Texts}
 use Rattle.percent_encoding.specs.Percent.{percent_decode}
 
 -- an apostrophe, which cuts an extended value
 abbrev pub is_apostrophe : ℕ → Bool
-is_apostrophe b = b == 39
+is_apostrophe b = b == apostrophe
 
 -- the key of a name's extended value: the name with a star after it
 abbrev pub starred : List ℕ → List ℕ
-starred name = name ++ 42 ∷ []
+starred name = name ++ asterisk ∷ []
 
 -- a key less its last byte
 abbrev pub name_under : List ℕ → List ℕ
@@ -41,11 +42,11 @@ text_in value = after_first is_apostrophe (after_first is_apostrophe value)
 -- the beginnings of a name that end in a star, the shortest first
 abbrev pub starred_prefixes : List ℕ → List (List ℕ)
 starred_prefixes [] = []
-starred_prefixes (b ∷ name) = (if b == 42 then (b ∷ []) ∷ [] else []) ++ map (λ prefix. b ∷ prefix) (starred_prefixes name)
+starred_prefixes (b ∷ name) = (if b == asterisk then (b ∷ []) ∷ [] else []) ++ map (λ prefix. b ∷ prefix) (starred_prefixes name)
 
 -- the first pieces that may speak for a name: those that wait among its beginnings that end in a star, with `0` after them
 abbrev pub speakers : Texts → List ℕ → List (List ℕ)
-speakers keys name = filter (is_waiting keys) (map (λ prefix. prefix ++ 48 ∷ []) (starred_prefixes name))
+speakers keys name = filter (is_waiting keys) (map (λ prefix. prefix ++ digit_0 ∷ []) (starred_prefixes name))
 
 -- of two names, the one whose starred key is the later in byte order
 abbrev pub later : List ℕ → Option (List ℕ) → List ℕ

@@ -6,6 +6,7 @@ use Rattle.std.specs.Char.{is_whitespace}
 use Rattle.std.specs.List.{list_all, list_any}
 use Rattle.std.specs.Option.{option_map_or}
 use Rattle.std.specs.Str.{chars}
+use Rattle.mail_codec.specs.Ascii.{quote, opening_parenthesis, closing_parenthesis, comma, less_than, greater_than}
 use Rattle.mail_codec.specs.Charset.{Charsets}
 use Rattle.mail_codec.specs.Places.{stands, place_from}
 use Rattle.mailparse.specs.EncodedWord.{word_text}
@@ -22,7 +23,7 @@ pub record TokenRange : Type 0 where
 
 -- a character that may stand directly beside an encoded word: white, or one of `"`, `(`, `)`, `<`, `>` and `,`
 abbrev pub is_boundary : ℕ → Bool
-is_boundary c = is_whitespace c || list_any (λ d. c == d) (34 ∷ 40 ∷ 41 ∷ 60 ∷ 62 ∷ 44 ∷ [])
+is_boundary c = is_whitespace c || list_any (λ d. c == d) (quote ∷ opening_parenthesis ∷ closing_parenthesis ∷ less_than ∷ greater_than ∷ comma ∷ [])
 
 -- whether the first of the characters is a boundary, or there are no characters
 abbrev pub begins_with_boundary : List ℕ → Bool

@@ -3,6 +3,7 @@
 use Rattle.std.specs.Prelude.{◌≡◌, ℕ, ◌-◌, Bool, true, false, ◌||◌, ◌&&◌, not, List, [], ◌∷◌, ◌++◌, map, slice_range, drop, Option, Some, None, Result, Ok, Err, unwrap_or, codes, All, ◌≤◌, if◌then◌else◌}
 use Rattle.std.specs.Str.{is_utf8, trim_start}
 use Rattle.std.specs.Str.Lines.{lines}
+use Rattle.mail_codec.specs.Ascii.{space, tilde}
 use Rattle.mail_codec.specs.Charset.{Charsets, four_charsets}
 use Rattle.mail_codec.specs.Latin1.{latin1_text}
 use Rattle.mail_codec.specs.Places.{stands}
@@ -21,7 +22,7 @@ outside_token bytes = record { kind = if is_white bytes then white_space else pl
 
 -- the token of a line's end: where it shows, it shows one space
 abbrev pub newline : Token
-newline = record { kind = line_end; shown = 32 ∷ [] }
+newline = record { kind = line_end; shown = space ∷ [] }
 
 -- whether the token is a decoded word, or white
 abbrev pub is_word : Option TokenKind → Bool
@@ -110,6 +111,6 @@ strict_value bytes = if is_utf8 bytes then Ok (shown_value four_charsets bytes) 
 
 -- a value that is plain: printable ASCII that does not begin with a space and holds no `=?`
 pub record IsPlain (value : List ℕ) : Type 0 where
-  pub printable : All (λ b. (32 ≤ b) × (b ≤ 126)) value
+  pub printable : All (λ b. (space ≤ b) × (b ≤ tilde)) value
   pub no_space : stands (codes " ") value ≡ false
   pub no_opening : (k : ℕ) → stands (codes "=?") (drop k value) ≡ false

@@ -8,8 +8,9 @@ use lib.Utf8.{encode}
 use Rattle.std.specs.Char.{is_whitespace}
 use Rattle.std.specs.List.{All, list_all}
 use Rattle.std.specs.Str.{IsAscii, chars, encode_utf8_all, trim, trim_start, trim_end, skip_leading_whitespace, drop_trailing_whitespace, str_to_ascii_lowercase}
+use Rattle.mail_codec.specs.Ascii.{quote, semicolon}
 use Rattle.mailparse.specs.Pairs.{pair_of, pairs_of, value_of}
-use Rattle.mailparse.specs.Pieces.{quote, semicolon, outside, with_front, pieces, pieces_from, unescape}
+use Rattle.mailparse.specs.Pieces.{outside, with_front, pieces, pieces_from, unescape}
 use Rattle.mailparse.proofs.lemmas.Pairs.{pair_of-some, pairs_in-some, pairs_of-later, value_of-first}
 use Rattle.mailparse.proofs.lemmas.Pieces.{at_other}
 use Rattle.mailparse.proofs.lemmas.Plain.{graphic_no_white}

@@ -2,7 +2,8 @@
 use Rattle.std.proofs.Common.{◌≡◌, ◌≢◌, ℕ, ◌+◌, ◌<◌, ◌≤◌, Bool, true, false, eqb, List, [], ◌∷◌, ◌++◌, length, take, drop, get_or, refl, sym, ap, subst, ◌∙◌, append_assoc}
 use Rattle.std.proofs.lemmas.Bool.{cond-true, cond-false, eqb-true, eqb-false, ne_eqb, false≢true}
 use Rattle.std.proofs.lemmas.List.{append-nil, drop_more, take_more, drop_all, take_all}
-use Rattle.mailparse.specs.Pieces.{quote, semicolon, backslash, IsRunAfter, closing_quote, text_ends, lone_backslash, escaped_byte, plain_byte, IsPiece, piece_ends, other_byte, closed_run, open_run, ArePieces, last_piece, more_pieces, Within, outside, quoted, escaped, after, ends, with_front, pieces_from, pieces}
+use Rattle.mail_codec.specs.Ascii.{quote, semicolon, backslash}
+use Rattle.mailparse.specs.Pieces.{IsRunAfter, closing_quote, text_ends, lone_backslash, escaped_byte, plain_byte, IsPiece, piece_ends, other_byte, closed_run, open_run, ArePieces, last_piece, more_pieces, Within, outside, quoted, escaped, after, ends, with_front, pieces_from, pieces}
 
 pub with_front-append : (a b : List ℕ) (ps : List (List ℕ)) → with_front a (with_front b ps) ≡ with_front (a ++ b) ps
 with_front-append a b [] = refl

@@ -3,11 +3,12 @@ use Rattle.std.specs.Prelude.{◌≡◌, ◌<◌, ℕ, suc, zero, Bool, true, �
 use Rattle.std.specs.Cmp.Lexicographic.{slice_cmp}
 use Rattle.std.specs.List.{starts_with, ends_with}
 use Rattle.std.specs.Ordering.{is_lt, nat_cmp}
+use Rattle.mail_codec.specs.Ascii.{asterisk, digit_0}
 use Rattle.mailparse.specs.StarredKeys.{starred}
 
 -- a name speaks for names: it ends in `*0`
 abbrev pub is_speaker : List ℕ → Bool
-is_speaker z = ends_with nat_eq z (42 ∷ 48 ∷ [])
+is_speaker z = ends_with nat_eq z (asterisk ∷ digit_0 ∷ [])
 
 -- it speaks for this one, which begins with it less its last byte
 abbrev pub speaks_for : List ℕ → List ℕ → Bool

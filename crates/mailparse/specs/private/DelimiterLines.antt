@@ -1,6 +1,6 @@
 -- What the functions that look for delimiters say to each other.
 use Rattle.std.specs.Prelude.{◌≡◌, ℕ, ◌∷◌, ◌<◌, ◌≤◌, false, List, length, drop}
-use Rattle.mailparse.specs.Header.{line_feed}
+use Rattle.mail_codec.specs.Ascii.{line_feed}
 use Rattle.mailparse.specs.Delimiters.{is_delimiter}
 
 -- a LF, and then what a delimiter begins with

@@ -1,6 +1,7 @@
 -- What a reader of a value has made of the tokens so far, and what it holds back until it has seen the next ones; private to the
 -- reader of values.
 use Rattle.std.specs.Prelude.{◌≡◌, ℕ, Bool, true, false, List, [], ◌∷◌, ◌++◌, Some, None, string_bytes, if◌then◌else◌}
+use Rattle.mail_codec.specs.Ascii.{space}
 use Rattle.mailparse.specs.Tokens.{TokenKind, plain_text, white_space, line_end, decoded_word}
 use Rattle.mailparse.specs.Value.{Token, kinds, is_released, newline, shown_after}
 use Rattle.mailparse.specs.declared.header.value.Held.{Held}
@@ -25,7 +26,7 @@ abbrev pub released : Held → List ℕ
 released held.Nothing = []
 released held.Word = []
 released (held.White white) = white.now
-released (held.LineEnd white) = white.now ++ 32 ∷ []
+released (held.LineEnd white) = white.now ++ space ∷ []
 
 -- what is shown when these tokens follow: what was held back, where they release it, and what they show themselves
 abbrev pub shown_held : Held → List Token → List ℕ
@@ -35,7 +36,7 @@ shown_held (held.White white) tokens =
     (if is_released white_space (kinds tokens) then white.now else [])
     ++ shown_after (Some decoded_word) (Some white_space) tokens
 shown_held (held.LineEnd white) tokens =
-    (if is_released line_end (kinds tokens) then white.now ++ 32 ∷ [] else [])
+    (if is_released line_end (kinds tokens) then white.now ++ space ∷ [] else [])
     ++ shown_after None None tokens
 
 -- what a value shows whose tokens so far made this, when these follow

@@ -1,8 +1,9 @@
 //! Cutting the header at the front of the bytes: where its key, its value and its end stand.
 ghost use Rattle.std.specs.Prelude.{◌≡◌, ◌==◌, ◌<◌, ◌≤◌, suc, min, not, length, take, drop, IfOk};
 ghost use Rattle.std.specs.List.{list_all};
+ghost use Rattle.mail_codec.specs.Ascii.{space};
 ghost use Rattle.mail_codec.specs.Places.{first_place, place_from, begins};
-ghost use Rattle.mailparse.specs.Header.{space, is_blank, is_line_end, is_line_feed, ends_header};
+ghost use Rattle.mailparse.specs.Header.{is_blank, is_line_end, is_line_feed, ends_header};
 ghost use Rattle.mailparse.specs.Header.{header_of, header_length, read_header};
 ghost use Rattle.mailparse.specs.Outcome.{Answers};
 

@@ -1,7 +1,8 @@
 use Rattle.std.proofs.Common.{◌≡◌, ◌∷◌, ◌+◌, true, get_or, take, drop, refl, sym, ap, ◌∙◌, arith}
 use Rattle.std.proofs.Math.Nat.{sub-zero}
 use Rattle.std.proofs.lemmas.Str.{IsCharBoundary-after_ascii}
-use Rattle.mailparse.specs.Pieces.{ends, pieces, semicolon}
+use Rattle.mail_codec.specs.Ascii.{semicolon}
+use Rattle.mailparse.specs.Pieces.{ends, pieces}
 use Rattle.mailparse.specs.private.Pieces.{within}
 use Rattle.mailparse.proofs.lemmas.Pieces.{reaches_start, reaches_semicolon, semicolon_ends}
 use Rattle.mailparse.proofs.parameters.pieces.cut_piece.Goals as goal
