@@ -24,8 +24,8 @@ fn body_length(alloc: Global, part: &ParsedMail<'_>) -> Result<usize, MailParseE
     }
 }
 
-/// How many headers, how many bytes of bodies and how many parts a message has, parts of parts among
-/// them.
+/// How many headers, how many bytes of bodies and how many parts a message has, parts of parts
+/// among them.
 fn held(alloc: Global, mail: &ParsedMail<'_>) -> Result<(usize, usize, usize), MailParseError> {
     let (mut headers, mut bytes, mut nodes) = (0usize, 0usize, 0usize);
     for node in mail.parts(alloc)? {
@@ -36,8 +36,8 @@ fn held(alloc: Global, mail: &ParsedMail<'_>) -> Result<(usize, usize, usize), M
     Ok((headers, bytes, nodes.saturating_sub(1)))
 }
 
-/// Whether the headers of a message and of its parts, the bytes of their bodies, and three bytes for
-/// each part are together no more than so many bytes.
+/// Whether the headers of a message and of its parts, the bytes of their bodies, and three bytes
+/// for each part are together no more than so many bytes.
 fn is_bounded(alloc: Global, mail: &ParsedMail<'_>, length: usize) -> Result<bool, MailParseError> {
     let (headers, bytes, parts) = held(alloc, mail)?;
     Ok(
@@ -95,8 +95,8 @@ fn a_message_of_100_levels_cut_at_every_length(rt: HostRuntime) -> Result<(), Fa
     Ok(())
 }
 
-/// A cut between the CR and the LF of a blank line leaves a CR alone: that of the message, and that of
-/// its part.
+/// A cut between the CR and the LF of a blank line leaves a CR alone: that of the message, and that
+/// of its part.
 #[test]
 fn a_message_with_carriage_returns_cut_at_every_length(rt: HostRuntime) -> Result<(), Fail> {
     assert_eq!(rt; CARRIAGE_RETURNS.len(), 63);
