@@ -5,7 +5,8 @@ ghost use Rattle.std.specs.Str.{IsUtf8};
 ghost use Rattle.mailparse.specs.Header.{Header, read_header};
 ghost use Rattle.mailparse.specs.Block.{HeaderList, header_count, header_place, read_headers};
 ghost use Rattle.mailparse.specs.ContentType.{ContentType, content_type_in};
-ghost use Rattle.mailparse.specs.Mail.{cut_of};
+ghost use Rattle.mailparse.specs.Bound.{IsBounded};
+ghost use Rattle.mailparse.specs.Mail.{Tree, cut_of, read_mail_in};
 ghost use Rattle.mailparse.specs.Ranges.{Apart};
 ghost use Rattle.mail_codec.specs.Charset.{Charsets};
 ghost use Rattle.mailparse.specs.Continuations.{parameters_in};
@@ -95,6 +96,14 @@ pub fn parts_apart()
         let cut = cut_of ctype bytes block.index in
         (cut.body.start ≡ block.index) × (block.index ≤ cut.body.end)
         × Apart 3 cut.body.end cut.parts (length bytes) }
+{}
+
+/// The headers of a message and of all its parts, the bytes of all their bodies, and three for each
+/// part are together at most the bytes of the message, so that no byte serves two of them: whatever
+/// charsets are known, and however deep parts may stand.
+pub fn nodes_bounded()
+    ensures { (known : Charsets) (greatest : ℕ) (bytes : List ℕ) (mail : Tree) →
+        read_mail_in known greatest bytes ≡ Ok mail → IsBounded mail (length bytes) }
 {}
 
 /// A value of printable ASCII that does not begin with a space and holds no `=?` reads as itself.

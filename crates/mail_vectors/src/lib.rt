@@ -7,6 +7,8 @@ mod bodies;
 #[cfg(test)]
 mod continuations;
 #[cfg(test)]
+mod cuts;
+#[cfg(test)]
 mod dates;
 #[cfg(test)]
 mod debug_texts;

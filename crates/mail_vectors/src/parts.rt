@@ -1,5 +1,6 @@
 //! Messages with parts: how they are cut, how deep they may go, and what their bodies are.
 use crate::texts::{LEADING_SPACE, LONE_CR, joined, refusal};
+use mailparse::body::Body;
 use mailparse::{MailParseError, parse_mail};
 use std::alloc::Global;
 use std::test::Fail;
@@ -8,7 +9,7 @@ use std::test::Fail;
 const TOO_DEEP: &str = "Recursion limit reached";
 
 /// The header and the blank line of a message whose boundary is `b`.
-const START: &[u8] = b"Content-Type: multipart/mixed; boundary=b\n\n";
+pub const START: &[u8] = b"Content-Type: multipart/mixed; boundary=b\n\n";
 
 /// A message and its parts, each before its own parts: its type, how many headers and how many parts
 /// it has, and the text of its body.
@@ -84,7 +85,7 @@ fn where_parts_are_cut(rt: HostRuntime) -> Result<(), Fail> {
 }
 
 /// A whole message, and what is read.
-static WHOLE: [(&[u8], &str); 9] = [
+static WHOLE: [(&[u8], &str); 10] = [
     (b"", "text/plain 0 0 [] "),
     (
         b"Content-Type: multipart/mixed; boundary=\n\n--\n\nx\n----\n",
@@ -119,6 +120,12 @@ static WHOLE: [(&[u8], &str); 9] = [
             --i\n\nx\n--i--\n--o\n\nyy\n--o--\n",
         "multipart/mixed 1 2 [] multipart/mixed 1 1 [] text/plain 0 0 [x] text/plain 0 0 [yy] ",
     ),
+    // A boundary that begins with the one outside cuts no part of its own.
+    (
+        b"Content-Type: multipart/mixed; boundary=foo\n\n--foo\n\
+            Content-Type: multipart/mixed; boundary=foobar\n\n--foobar\n\nx\n--foobar--\n--foo--\n",
+        "multipart/mixed 1 3 [] multipart/mixed 1 0 [] text/plain 0 0 [x] text/plain 0 0 [] ",
+    ),
 ];
 
 #[test]
@@ -130,7 +137,7 @@ fn whole_messages(rt: HostRuntime) -> Result<(), Fail> {
 }
 
 /// Messages inside messages, each with a boundary of its own.
-fn nested(alloc: Global, levels: usize) -> Result<Vec<u8>, MailParseError> {
+pub fn nested(alloc: Global, levels: usize) -> Result<Vec<u8>, MailParseError> {
     let mut raw = String::new(alloc);
     for level in 0..levels {
         write!(
@@ -207,8 +214,24 @@ fn a_body_in_base64(rt: HostRuntime) -> Result<(), Fail> {
     Ok(())
 }
 
+/// A message whose boundary stands in two pieces, the first of them percent-encoded.
+const BOUNDARY_IN_PIECES: &[u8] = b"Content-Type: multipart/mixed; \
+    boundary*0*=us-ascii''%62; boundary*1=x\n\n--bx\n\naGk=\n--bx--\n";
+
+#[test]
+fn a_boundary_in_pieces(rt: HostRuntime) -> Result<(), Fail> {
+    let mail = parse_mail(rt.alloc(), BOUNDARY_IN_PIECES)?;
+    assert_eq!(rt; mail.subparts.len(), 1);
+    let part = &mail.subparts[0];
+    match part.get_body_encoded(rt.alloc())? {
+        Body::SevenBit(body) => assert_eq!(rt; body.get_raw(), b"aGk=".as_slice()),
+        _ => assert!(rt; false),
+    }
+    Ok(())
+}
+
 /// A message of two parts in different transfer codings.
-const TWO_CODINGS: &[u8] = b"Subject: This is a test email\n\
+pub const TWO_CODINGS: &[u8] = b"Subject: This is a test email\n\
     Content-Type: multipart/alternative; boundary=foobar\n\
     Date: Sun, 02 Oct 2016 07:06:22 -0700 (PDT)\n\n\
     --foobar\n\

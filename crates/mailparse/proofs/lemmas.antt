@@ -19,6 +19,7 @@ pub mod Pairs
 pub mod Types
 pub mod Trees
 pub mod Apart
+pub mod Bound
 pub mod Dates
 pub mod MessageIds
 pub mod Numbers

@@ -3,6 +3,7 @@ ghost use Rattle.std.specs.Prelude.{◌≡◌, ◌<◌, ◌^◌, length, IfErr, 
 ghost use Rattle.mail_codec.specs.Charset.{four_charsets};
 ghost use Rattle.mailparse.specs.Block.{header_count, read_headers};
 ghost use Rattle.mailparse.specs.BodyViews.{IsBody, content_of};
+ghost use Rattle.mailparse.specs.Bound.{IsBounded};
 ghost use Rattle.mailparse.specs.Mail.{block_of, body_bytes, body_kind, body_text, root, shown_as, trees_within, read_levels, read_mail};
 ghost use Rattle.mailparse.specs.Outcome.{Answers, AnswersOrMemory, IsMemory, ReadsText, ReadsBytes};
 ghost use Rattle.mailparse.specs.Views.{disposition, tree_of, trees_left};
@@ -145,10 +146,14 @@ impl<'a> ParsedMail<'a> {
 /// message. A refusal that comes before the first header is answered as itself; otherwise memory may
 /// run out.
 ///
+/// However the parts are nested, the headers, the bytes of the bodies and three for each part are
+/// together at most the bytes of the message.
+///
 /// `parse_mail(alloc, b"Subject: Hi\n\nbody")` has one header, the body `body` and no parts.
 #[tactic(auto, unfolding(crate::specs::Mail::read_mail, crate::specs::Mail::read_mail_in))]
 pub fn parse_mail(alloc: Global, raw: &[u8]) -> Result<ParsedMail<'_>, MailParseError>
     ensures read { AnswersOrMemory tree_of result (read_mail raw.now) }
+    ensures bounded { IfOk result (λ mail. IsBounded (tree_of mail) (length raw.now)) }
     ensures no_memory { header_count raw.now ≡ 0 → IsErr (read_headers raw.now) →
         Answers tree_of result (read_mail raw.now) }
 {

@@ -1,0 +1,154 @@
+-- A message that was read, with its parts, takes no more than its bytes.
+use Rattle.std.proofs.Common.{◌≡◌, ℕ, zero, suc, ◌+◌, ◌-◌, ◌*◌, ◌≤◌, Bool, false, List, [], ◌∷◌, ◌++◌, length, map, take, drop, Result, Ok, Err, IfOk, refl, ap, ◌∙◌, subst, arith}
+use Rattle.std.specs.List.{sum_by}
+use Rattle.std.proofs.lemmas.List.{map-append}
+use Rattle.std.proofs.lemmas.List.Sums.{sum_by-cons, sum_by-append}
+use Rattle.mail_codec.specs.Charset.{Charsets, four_charsets}
+use Rattle.mailparse.specs.Refusal.{Reads, read_map, read_then}
+use Rattle.mailparse.specs.Outcome.{AnswersOrMemory}
+use Rattle.mailparse.specs.Block.{HeaderList, read_headers}
+use Rattle.mailparse.specs.ContentType.{ContentType}
+use Rattle.mailparse.specs.Ranges.{Range, slice}
+use Rattle.mailparse.specs.Mail.{Node, Tree, tree, Forest, no_parts, part_and, root, trees_within, trees_in, nodes, is_digest, cut_of, node_with, read_each, read_parts, node_type, read_levels, read_mail_in}
+use Rattle.mailparse.specs.Bound.{IsBounded}
+use Rattle.mailparse.specs.Views.{tree_of}
+use Rattle.mailparse.specs.declared.error.MailParseError.{MailParseError}
+use Rattle.mailparse.specs.declared.mail.ParsedMail.{ParsedMail}
+use Rattle.mailparse.proofs.lemmas.Apart.{cut_of-apart, Apart-sum}
+use Rattle.mailparse.proofs.lemmas.Block.{Bounded, read_headers-bounded}
+
+-- ---- what messages take together
+
+-- the headers, the bytes of the bodies, and three bytes for each message
+unfoldable weight : List Node → ℕ
+weight found = sum_by (λ node. length node.headers + length node.body + 3) found
+
+weight-cons : (node : Node) (found : List Node) → weight (node ∷ found) ≡ length node.headers + length node.body + 3 + weight found
+unfolding weight
+weight-cons node found = sum_by-cons (λ (x : Node). length x.headers + length x.body + 3) node found
+
+weight-append : (front rest : List Node) → weight (front ++ rest) ≡ weight front + weight rest
+unfolding weight
+weight-append front rest = sum_by-append (λ (x : Node). length x.headers + length x.body + 3) front rest
+
+weight-none : weight [] ≡ 0
+unfolding weight
+weight-none = refl
+
+weight-sums : (found : List Node) → weight found ≡ sum_by (λ node. length node.headers) found + sum_by (λ node. length node.body) found + 3 * length found
+weight-sums [] = weight-none
+weight-sums (node ∷ found) =
+    let here = weight-cons node found in
+    let rest = weight-sums found in
+    let headers = sum_by-cons (λ (x : Node). length x.headers) node found in
+    let bodies = sum_by-cons (λ (x : Node). length x.body) node found in
+    omega (arith, here, rest, headers, bodies)
+
+-- those of parts
+unfoldable weight_in : Forest → ℕ
+weight_in parts = weight (map root (trees_in parts))
+
+weight_in-none : weight_in no_parts ≡ 0
+unfolding weight_in
+weight_in-none = weight-none
+
+weight_in-and : (t : Tree) (parts : Forest) → weight_in (part_and t parts) ≡ weight (nodes t) + weight_in parts
+unfolding weight_in
+weight_in-and t parts = ap weight (map-append root (trees_within t) (trees_in parts)) ∙ weight-append (nodes t) (map root (trees_in parts))
+
+weight-tree : (node : Node) (parts : Forest) → weight (nodes (tree node parts)) ≡ length node.headers + length node.body + 3 + weight_in parts
+unfolding weight_in
+weight-tree node parts = weight-cons node (map root (trees_in parts))
+
+-- the three bytes of the message itself do not count
+IsBounded-by_weight : (size : ℕ) (t : Tree) → weight (nodes t) ≤ size + 3 → IsBounded t size
+IsBounded-by_weight size (tree node parts) fits =
+    let sums = weight-sums (nodes (tree node parts)) in
+    omega (arith, fits, sums)
+
+-- ---- what is read
+
+-- a reading takes no more than the bytes, the three of the message itself aside
+abbrev Fits : (List ℕ → Reads Tree) → Type 0
+Fits read = (bytes : List ℕ) (t : Tree) → read bytes ≡ Ok t → weight (nodes t) ≤ length bytes + 3
+
+take-length : (n : ℕ) (bytes : List ℕ) → length (take n bytes) ≤ n
+take-length zero bytes = omega arith
+take-length (suc n) [] = omega arith
+take-length (suc n) (b ∷ bytes) = let rest = take-length n bytes in omega arith
+
+slice-length : (bytes : List ℕ) (range : Range) → length (slice bytes range) ≤ range.end - range.start
+slice-length bytes range = take-length (range.end - range.start) (drop range.start bytes)
+
+-- so the parts take no more than their ranges and three bytes before each
+read_each-fits : (read : List ℕ → Reads Tree) → Fits read → (bytes : List ℕ) (ranges : List Range) (parts : Forest)
+    → read_each read (map (slice bytes) ranges) ≡ Ok parts → weight_in parts ≤ sum_by (λ r. r.end - r.start + 3) ranges
+read_each-fits read fits bytes [] parts e =
+    let same : no_parts ≡ parts = cc in
+    let none = weight_in-none in
+    subst (λ (f : Forest). weight_in f ≤ 0) same (omega (arith, none))
+read_each-fits read fits bytes (range ∷ ranges) parts e =
+    by_part (read (slice bytes range)) (read_each read (map (slice bytes) ranges)) refl refl e
+    (λ others more. read_each-fits read fits bytes ranges others more)
+  where
+    by_part : (first : Reads Tree) (rest : Reads Forest) → read (slice bytes range) ≡ first → read_each read (map (slice bytes) ranges) ≡ rest
+        → read_then first (λ t. read_map (part_and t) rest) ≡ Ok parts
+        → ((others : Forest) → read_each read (map (slice bytes) ranges) ≡ Ok others → weight_in others ≤ sum_by (λ r. r.end - r.start + 3) ranges)
+        → weight_in parts ≤ sum_by (λ r. r.end - r.start + 3) (range ∷ ranges)
+    by_part (Err refusal) rest f g h ih = absurd (cc)
+    by_part (Ok t) (Err refusal) f g h ih = absurd (cc)
+    by_part (Ok t) (Ok others) f g h ih =
+        let same : part_and t others ≡ parts = cc in
+        let both = weight_in-and t others in
+        let first = fits (slice bytes range) t f in
+        let size = slice-length bytes range in
+        let more = ih others g in
+        let sum = sum_by-cons (λ (r : Range). r.end - r.start + 3) range ranges in
+        subst (λ (f : Forest). weight_in f ≤ sum_by (λ r. r.end - r.start + 3) (range ∷ ranges)) same (omega (arith, both, first, size, more, sum))
+
+-- a message with this block, this type and these parts
+node-fits : (bytes : List ℕ) (block : HeaderList) (ctype : ContentType) (parts : Forest) → Bounded bytes block
+    → weight_in parts ≤ sum_by (λ r. r.end - r.start + 3) (cut_of ctype bytes block.index).parts
+    → weight (nodes (tree (node_with bytes block ctype (cut_of ctype bytes block.index)) parts)) ≤ length bytes + 3
+node-fits bytes block ctype parts bounded fits =
+    let cut = cut_of ctype bytes block.index in
+    let apart = cut_of-apart ctype bytes block.index bounded.index in
+    let ranges = Apart-sum 3 cut.body.end cut.parts (length bytes) apart.2 in
+    let body = slice-length bytes cut.body in
+    let whole = weight-tree (node_with bytes block ctype cut) parts in
+    omega (arith, bounded.headers, apart.0, apart.1, ranges, body, whole, fits)
+
+-- Under the charsets that are known.
+module _ (known : Charsets) where
+  read_levels-fits : (levels : ℕ) (in_digest : Bool) → Fits (read_levels known levels in_digest)
+  unfolding read_levels
+  read_levels-fits zero in_digest bytes t e = absurd (cc)
+  read_levels-fits (suc levels) in_digest bytes t e = by_block (read_headers bytes) refl e (λ digest. read_levels-fits levels digest)
+    where
+      by_parts : (block : HeaderList) (ctype : ContentType) → read_headers bytes ≡ Ok block → (parts : Reads Forest)
+          → read_each (read_levels known levels (is_digest ctype)) (map (slice bytes) (cut_of ctype bytes block.index).parts) ≡ parts
+          → read_map (tree (node_with bytes block ctype (cut_of ctype bytes block.index))) parts ≡ Ok t
+          → Fits (read_levels known levels (is_digest ctype)) → weight (nodes t) ≤ length bytes + 3
+      by_parts block ctype read (Err refusal) f h ih = absurd (cc)
+      by_parts block ctype read (Ok parts) f h ih =
+          let cut = cut_of ctype bytes block.index in
+          let same : tree (node_with bytes block ctype cut) parts ≡ t = cc in
+          let all = read_each-fits (read_levels known levels (is_digest ctype)) ih bytes cut.parts parts f in
+          subst (λ (u : Tree). weight (nodes u) ≤ length bytes + 3) same (node-fits bytes block ctype parts (read_headers-bounded bytes block read) all)
+
+      by_block : (block : Reads HeaderList) → read_headers bytes ≡ block
+          → read_then block (λ b. read_parts known (read_levels known levels) bytes b (node_type known in_digest b.headers)) ≡ Ok t
+          → ((digest : Bool) → Fits (read_levels known levels digest)) → weight (nodes t) ≤ length bytes + 3
+      by_block (Err refusal) read h ih = absurd (cc)
+      by_block (Ok block) read h ih = by_parts block (node_type known in_digest block.headers) read _ refl h (ih (is_digest (node_type known in_digest block.headers)))
+
+  -- whatever charsets are known and however deep parts may stand
+  pub read_mail_in-bounded : (greatest : ℕ) (bytes : List ℕ) (t : Tree) → read_mail_in known greatest bytes ≡ Ok t → IsBounded t (length bytes)
+  unfolding read_mail_in
+  read_mail_in-bounded greatest bytes t e = IsBounded-by_weight (length bytes) t (read_levels-fits (suc greatest) false bytes t e)
+
+-- and so what a call answered that reads a message
+pub answer-bounded : (result : Result ParsedMail MailParseError) (levels : ℕ) (in_digest : Bool) (bytes : List ℕ)
+    → AnswersOrMemory tree_of result (read_levels four_charsets levels in_digest bytes) → IfOk result (λ mail. IsBounded (tree_of mail) (length bytes))
+answer-bounded (Err e) levels in_digest bytes h = tt
+answer-bounded (Ok mail) levels in_digest bytes h = IsBounded-by_weight (length bytes) (tree_of mail) (read_levels-fits four_charsets levels in_digest bytes (tree_of mail) h)

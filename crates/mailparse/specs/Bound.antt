@@ -1,0 +1,20 @@
+-- What a message and all its parts hold together, parts of parts among them, beside a number of bytes; the project's own words.
+use Rattle.std.specs.Prelude.{ℕ, ◌+◌, ◌-◌, ◌*◌, ◌≤◌, length}
+use Rattle.std.specs.List.{sum_by}
+use Rattle.mailparse.specs.Mail.{Tree, nodes}
+
+-- how many headers they have
+abbrev pub headers_within : Tree → ℕ
+headers_within t = sum_by (λ node. length node.headers) (nodes t)
+
+-- how many bytes their bodies have
+abbrev pub body_bytes_within : Tree → ℕ
+body_bytes_within t = sum_by (λ node. length node.body) (nodes t)
+
+-- how many they are, the message itself among them
+abbrev pub nodes_within : Tree → ℕ
+nodes_within t = length (nodes t)
+
+-- one byte for each header, the bytes of the bodies, and three for each part are together at most so many: no byte serves two of them
+abbrev pub IsBounded : Tree → ℕ → Type 0
+IsBounded t bytes = headers_within t + body_bytes_within t + 3 * (nodes_within t - 1) ≤ bytes
