@@ -1,6 +1,7 @@
 pub mod Places
 pub mod PlacesLaw
 pub mod Runs
+pub mod Words
 pub mod CharsetUtf8
 pub mod CharsetLabels
 pub mod CharsetMarks

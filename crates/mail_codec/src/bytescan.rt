@@ -3,6 +3,7 @@ ghost use Rattle.std.specs.Prelude.{◌≡◌, IfOk};
 ghost use Rattle.mail_codec.specs.Places.{byte_place, text_place, without_ascii_whitespace};
 
 pub(crate) mod runs;
+mod words;
 
 use runs::{RunEnd, push_runs};
 use std::alloc::{AllocError, Global};
