@@ -5,7 +5,7 @@ ghost use Rattle.mail_codec.specs.Places.{byte_place, text_place, without_ascii_
 pub(crate) mod runs;
 mod words;
 
-use runs::{RunEnd, push_runs};
+use runs::{RunEnd, may_end_len, push_runs};
 use std::alloc::{AllocError, Global};
 
 /// The first place of `byte` in `haystack`, or `None` where it is absent. Takes no memory.
@@ -14,12 +14,11 @@ use std::alloc::{AllocError, Global};
 pub fn find_byte(haystack: &[u8], byte: u8) -> Option<usize>
     ensures { result ≡ byte_place haystack.now byte }
 {
-    for (place, b) in haystack.iter().enumerate() {
-        if *b == byte {
-            return Some(place);
-        }
+    let place = may_end_len(haystack, RunEnd::Byte(byte));
+    if place == haystack.len() {
+        return None;
     }
-    None
+    Some(place)
 }
 
 /// The first place of `haystack` from which on it begins with `needle`, or `None` where there is

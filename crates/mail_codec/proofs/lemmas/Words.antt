@@ -12,21 +12,21 @@ use Rattle.mail_codec.specs.private.Words.{IsMask, top_bit}
 
 -- ---- numbers made of bytes, the first the lowest
 
-abbrev value : List ℕ → ℕ
+abbrev pub value : List ℕ → ℕ
 value [] = 0
 value (b ∷ bs) = value bs * 256 + b
 
 -- 256 to the number of bytes
-abbrev scale : List ℕ → ℕ
+abbrev pub scale : List ℕ → ℕ
 scale [] = 1
 scale (b ∷ bs) = scale bs * 256
 
 -- as many bytes, each of them n
-abbrev repeated : ℕ → List ℕ → ℕ
+abbrev pub repeated : ℕ → List ℕ → ℕ
 repeated n [] = 0
 repeated n (b ∷ bs) = repeated n bs * 256 + n
 
-value_below : (bs : List ℕ) → AllBelowBase 256 bs → value bs < scale bs
+pub value_below : (bs : List ℕ) → AllBelowBase 256 bs → value bs < scale bs
 value_below [] h = omega arith
 value_below (b ∷ bs) h = let rest = value_below bs h.1 in let low = h.0 in omega arith
 
@@ -256,10 +256,10 @@ is_mask n hn bs h len m small is =
 
 -- ---- the two masks
 
-word_bytes : (word : ℕ) → AllBelowBase 256 (to_le_bytes w64 word)
+pub word_bytes : (word : ℕ) → AllBelowBase 256 (to_le_bytes w64 word)
 word_bytes word = (omega arith, (omega arith, (omega arith, (omega arith, (omega arith, (omega arith, (omega arith, (omega arith, tt))))))))
 
-word_value : (word : ℕ) → word < 2 ^ 64 → value (to_le_bytes w64 word) ≡ word
+pub word_value : (word : ℕ) → word < 2 ^ 64 → value (to_le_bytes w64 word) ≡ word
 word_value word h = omega arith
 
 -- a difference that wraps
