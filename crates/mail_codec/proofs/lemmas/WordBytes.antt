@@ -1,16 +1,16 @@
 -- Words read from bytes, and the masks of several tests.
-use Rattle.std.proofs.Common.{◌≡◌, ◌≢◌, ℕ, zero, suc, ◌+◌, ◌-◌, ◌*◌, ◌/◌, ◌%◌, ◌^◌, ◌<◌, ◌≤◌, ◌||◌, min, max, map, Bool, true, false, cond, List, [], ◌∷◌, length, get_or, bit_or, inl, inr, refl, sym, ap, ap₂, subst, ◌∙◌, arith}
-use Rattle.std.specs.Prelude.{nat_lt, ◌==◌, bit_xor}
+use Rattle.std.proofs.Common.{◌≡◌, ℕ, suc, ◌+◌, ◌*◌, ◌%◌, ◌^◌, ◌<◌, ◌||◌, min, map, Bool, cond, List, [], ◌∷◌, length, get_or, bit_or, inl, inr, refl, sym, ap, ap₂, subst, ◌∙◌, arith}
+use Rattle.std.specs.Prelude.{◌==◌, bit_xor}
 use Rattle.std.specs.Int.{w64, bit_at, to_le_bytes, from_le_bytes, trailing_zeros}
 use Rattle.std.specs.Int.Bits.{xor_self}
 use Rattle.std.specs.Int.Digits.{AllBelowBase}
-use Rattle.std.proofs.lemmas.Bool.{cases_lt, cases_Bool, false≢true}
-use Rattle.std.proofs.lemmas.Bool.Decides.{nat_tests, same_from_decides, Decides-eqb}
+use Rattle.std.proofs.lemmas.Bool.{cases_lt, cases_Bool}
+use Rattle.std.proofs.lemmas.Bool.Decides.{same_from_decides, Decides-eqb}
 use Rattle.std.proofs.lemmas.Nat.{xor_block, xor_lt, or_lt, le_or_l, le_or_r}
 use Rattle.std.proofs.lemmas.Nat.Bits.{bit_at_xor, bit_at_or, bit_at-lt, bit_at-zero, bit_at-trailing_zeros, same_from_bits}
 use Rattle.std.proofs.lemmas.List.{get_or-map, length-map}
 use Rattle.mail_codec.specs.Places.{first_place, begins}
-use Rattle.mail_codec.specs.private.Words.{IsMask, top_bit}
+use Rattle.mail_codec.specs.private.Words.{IsMask}
 use Rattle.mail_codec.proofs.lemmas.Places.{first_place-≤, first_place-passes, begins-at}
 use Rattle.mail_codec.proofs.lemmas.Words.{value, scale, repeated, value_below, word_bytes, word_value, lowest_bit}
 
@@ -92,8 +92,9 @@ xor_zero a b e = same_from_bits a b (λ i.
 
 xor_test : (b n : ℕ) → (bit_xor b n == 0) ≡ (b == n)
 xor_test b n = same_from_decides (bit_xor b n == 0) (b == n) (
-    (λ e. xor_zero b n ((Decides-eqb (bit_xor b n) 0).0 e)),
-    (λ e. (Decides-eqb (bit_xor b n) 0).1 (ap (λ x. bit_xor x n) e ∙ xor_self n))) (Decides-eqb b n)
+  (λ e. xor_zero b n ((Decides-eqb (bit_xor b n) 0).0 e)),
+  (λ e. (Decides-eqb (bit_xor b n) 0).1 (ap (λ x. bit_xor x n) e ∙ xor_self n)),
+) (Decides-eqb b n)
 
 -- a mask of changed bytes is one of the bytes
 first_map : (f : ℕ → ℕ) (test was : ℕ → Bool) → ((b : ℕ) → test (f b) ≡ was b) → (bs : List ℕ) → first_place (begins test) (map f bs) ≡ first_place (begins was) bs
@@ -182,17 +183,20 @@ either_mask_is bs one two m n len hm hn p q =
       | inr more ↦ let e : both ≡ f = omega arith in rw e (bit_left m n (8 * f + 7) (mask_there one bs m len p (omega arith)))
     ] in
     record {
-      none = ((λ z.
-          let a : f ≡ 8 = p.none.0 (omega (arith, le_or_l m n)) in
-          let b : g ≡ 8 = q.none.0 (omega (arith, le_or_r m n)) in
-          omega arith), clear);
+      none = (
+        (λ z.
+            let a : f ≡ 8 = p.none.0 (omega (arith, le_or_l m n)) in
+            let b : g ≡ 8 = q.none.0 (omega (arith, le_or_r m n)) in
+            omega arith),
+        clear,
+      );
       lowest = λ some. lowest_bit (bit_or m n) (8 * both + 7) (or_lt 64 m n hm hn)
           (marked (elim (cases_lt both 8) [ inl l ↦ l | inr ge ↦ absurd (some (clear (omega arith))) ]))
           (λ i l.
-            let a = mask_before one bs m hm p i (omega arith) in
-            let b = mask_before two bs n hn q i (omega arith) in
-            let e = bit_at_or m n i in
-            omega arith);
+          let a = mask_before one bs m hm p i (omega arith) in
+          let b = mask_before two bs n hn q i (omega arith) in
+          let e = bit_at_or m n i in
+          omega arith);
       each = λ k l e. elim (cases_Bool (one (get_or bs k 0))) [
         | inl o ↦ bit_left m n (8 * k + 7) (p.each k l o)
         | inr o ↦ bit_right m n (8 * k + 7) (q.each k l (sym (ap (λ v. v || two (get_or bs k 0)) o) ∙ e))

@@ -1,14 +1,14 @@
 -- What the masks of a word mark.
-use Rattle.std.proofs.Common.{◌≡◌, ◌≢◌, ℕ, zero, suc, ◌+◌, ◌-◌, ◌*◌, ◌/◌, ◌%◌, ◌^◌, ◌<◌, ◌≤◌, ◌&&◌, ◌⊎◌, min, Bool, true, false, cond, List, [], ◌∷◌, length, get_or, bit_and, inl, inr, refl, sym, ap, subst, ◌∙◌, arith}
+use Rattle.std.proofs.Common.{◌≡◌, ℕ, zero, suc, ◌+◌, ◌-◌, ◌*◌, ◌/◌, ◌%◌, ◌^◌, ◌<◌, ◌≤◌, ◌&&◌, ◌⊎◌, min, Bool, true, false, cond, List, [], ◌∷◌, length, get_or, bit_and, inl, inr, refl, sym, ap, subst, ◌∙◌, arith}
 use Rattle.std.specs.Prelude.{nat_le, nat_lt, ◌==◌}
 use Rattle.std.specs.Int.{w64, bit_at, to_le_bytes, trailing_zeros}
 use Rattle.std.specs.Int.Digits.{AllBelowBase}
-use Rattle.std.proofs.lemmas.Bool.{cases_lt, cases_Bool, false≢true, lt-ltb, le-ltb}
+use Rattle.std.proofs.lemmas.Bool.{cases_lt, lt-ltb, le-ltb}
 use Rattle.std.proofs.lemmas.Bool.Decides.{nat_tests}
 use Rattle.std.proofs.lemmas.Nat.{and_block, and_le_l, and_le_r}
 use Rattle.std.proofs.lemmas.Nat.Bits.{and_pow, bit_at_and, bit_at_cat_low, bit_at_cat_high, bit_at-zero, bit_at-trailing_zeros}
 use Rattle.mail_codec.specs.Places.{first_place, begins}
-use Rattle.mail_codec.specs.private.Words.{IsMask, top_bit}
+use Rattle.mail_codec.specs.private.Words.{IsMask}
 
 -- ---- numbers made of bytes, the first the lowest
 
@@ -191,6 +191,7 @@ lowest_bit m t small here before = go (bit_at-trailing_zeros w64 m some small)
       | inl pos ↦ pos
       | inr none ↦ absurd (let z : m ≡ 0 = omega arith in let e : bit_at 0 t ≡ 1 = subst (λ x. bit_at x t ≡ 1) z here in let y = bit_at-zero t in omega arith)
     ]
+
     go : (trailing_zeros w64 m < 64) × (bit_at m (trailing_zeros w64 m) ≡ 1) × ((i : ℕ) → i < trailing_zeros w64 m → bit_at m i ≡ 0) → trailing_zeros w64 m ≡ t
     go h = elim (cases_lt (trailing_zeros w64 m) t) [
       | inl less ↦ absurd (let e = before (trailing_zeros w64 m) less in let f = h.1 in omega arith)
@@ -240,13 +241,14 @@ is_mask n hn bs h len m small is =
       none = (
         (λ z. elim (cases_lt (first_place (begins (λ b. nat_lt b n)) bs) 8) [
           | inl l ↦ absurd (
-            let o = found l in
-            let y = bit_at-zero (8 * first_place (begins (λ b. nat_lt b n)) bs + 7) in
-            let q : bit_at 0 (8 * first_place (begins (λ b. nat_lt b n)) bs + 7) ≡ 1 = subst (λ x. bit_at x (8 * first_place (begins (λ b. nat_lt b n)) bs + 7) ≡ 1) z o in
-            omega arith)
+              let o = found l in
+              let y = bit_at-zero (8 * first_place (begins (λ b. nat_lt b n)) bs + 7) in
+              let q : bit_at 0 (8 * first_place (begins (λ b. nat_lt b n)) bs + 7) ≡ 1 = subst (λ x. bit_at x (8 * first_place (begins (λ b. nat_lt b n)) bs + 7) ≡ 1) z o in
+              omega arith)
           | inr g ↦ omega arith
         ]),
-        clear);
+        clear,
+      );
       lowest = λ some. lowest_bit m (8 * first_place (begins (λ b. nat_lt b n)) bs + 7) small
           (found (elim (cases_lt (first_place (begins (λ b. nat_lt b n)) bs) 8) [ inl l ↦ l | inr g ↦ absurd (some (clear (omega arith))) ]))
           (λ i l. ap (λ x. bit_at x i) is ∙ number_before (marks n 0 bs) i (omega arith));
@@ -292,6 +294,6 @@ below_one b = grind (arith, nat_tests)
 pub zero_byte_mask_is : (word : ℕ) → word < 2 ^ 64
     → IsMask (λ b. b == 0) (to_le_bytes w64 word) (bit_and (bit_and ((word + 18374403900871474943) % 18446744073709551616) (18446744073709551615 - word)) 9259542123273814144)
 zero_byte_mask_is word h =
-    let same : (λ b. nat_lt b 1) ≡ (λ b. b == 0) = λ i b. below_one b i in
+    let same : Path (ℕ → Bool) (λ b. nat_lt b 1) (λ b. b == 0) = λ i b. below_one b i in
     subst (λ test. IsMask test (to_le_bytes w64 word) (bit_and (bit_and ((word + 18374403900871474943) % 18446744073709551616) (18446744073709551615 - word)) 9259542123273814144))
     same (below_mask_is word 1 h (omega arith))

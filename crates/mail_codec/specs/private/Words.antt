@@ -1,6 +1,6 @@
 -- Marks of the bytes of a word: eight bytes read as one number, the first the lowest; this crate's
 -- own words.
-use Rattle.std.specs.Prelude.{◌≡◌, ◌≢◌, ℕ, ◌+◌, ◌*◌, ◌/◌, ◌%◌, ◌<◌, ◌↔◌, Bool, true, false, List, [], ◌∷◌, slice_index}
+use Rattle.std.specs.Prelude.{◌≡◌, ◌≢◌, ℕ, ◌+◌, ◌*◌, ◌/◌, ◌<◌, ◌↔◌, Bool, true, List, slice_index}
 use Rattle.std.specs.Int.{w64, bit_at, trailing_zeros}
 use Rattle.mail_codec.specs.Places.{first_place, begins}
 

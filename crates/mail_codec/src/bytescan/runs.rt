@@ -89,7 +89,10 @@ pub(crate) fn run_len(bytes: &[u8], end: RunEnd) -> usize
     let mut at = 0;
     'ends: while at < bytes.len() {
         at += may_end_len(&bytes[at..], end);
-        if at == bytes.len() || end.is_met_by(bytes[at]) {
+        if at == bytes.len() {
+            return at;
+        }
+        if end.is_met_by(bytes[at]) {
             return at;
         }
         at += 1;

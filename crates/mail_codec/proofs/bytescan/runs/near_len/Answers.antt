@@ -1,4 +1,4 @@
-use Rattle.std.proofs.Common.{◌+◌, length, get_or, [], sym, ap, ◌∙◌, arith}
+use Rattle.std.proofs.Common.{length, get_or, [], ap, ◌∙◌, arith}
 use Rattle.std.proofs.lemmas.List.{length-take-le, length-drop}
 use Rattle.mail_codec.specs.private.Runs.{may_end_run}
 use Rattle.mail_codec.proofs.lemmas.WordSearches.{PassedTo-chunk, PassedTo-found, chunk_is, marked_first}

@@ -1,5 +1,4 @@
-use Rattle.std.proofs.Common.{◌≡◌, ◌*◌, ◌/◌, length}
-use Rattle.std.specs.Simd.{first_chunks}
+use Rattle.std.proofs.Common.{◌≡◌, ◌*◌}
 use Rattle.mail_codec.specs.Places.{begins, first_place}
 use Rattle.mail_codec.specs.private.Runs.{may_end_run}
 use Rattle.mail_codec.proofs.lemmas.Places.{PassedTo}
