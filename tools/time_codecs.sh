@@ -4,22 +4,8 @@
 #
 # With ORACLE, a program whose command `bench N` reads a mail from standard input and prints a line
 # `full ..`, the time of reading it and decoding its body, its times on the same bodies stand beside.
-set -eu
-if [ $# -gt 1 ]; then
-    echo 'usage: time_codecs.sh [ORACLE]' >&2
-    exit 2
-fi
-here=$(cd "$(dirname "$0")" && pwd)
-oracle=${1:-}
-rounds=${ROUNDS:-15}
-work=$(mktemp -d)
-trap 'rm -rf "$work"' EXIT
-cd "$here/../crates/mail_speed"
-if ! rt run -- 1 white < /dev/null > "$work/build" 2>&1; then
-    cat "$work/build" >&2
-    echo 'time_codecs.sh: mail_speed was not built' >&2
-    exit 1
-fi
+. "$(dirname "$0")/timing.sh"
+build mail_speed 1 white
 python3 "$here/make_speed_bodies.py" "$work"
 
 # row BODY ENCODING WORK..: the times of each work on a body, and the oracle's on a mail with it

@@ -6,22 +6,8 @@
 # With ORACLE, a program whose command `bench N` reads a mail from standard input and prints lines
 # `parse ..` and `all ..` of the same works, its times stand beside ours, and how many times theirs
 # ours are. ROUNDS is the number of rounds, 15 without it.
-set -eu
-if [ $# -gt 1 ]; then
-    echo 'usage: time_mails.sh [ORACLE]' >&2
-    exit 2
-fi
-here=$(cd "$(dirname "$0")" && pwd)
-oracle=${1:-}
-rounds=${ROUNDS:-15}
-work=$(mktemp -d)
-trap 'rm -rf "$work"' EXIT
-cd "$here/../crates/mail_speed"
-if ! rt run -- 1 white < /dev/null > "$work/build" 2>&1; then
-    cat "$work/build" >&2
-    echo 'time_mails.sh: mail_speed was not built' >&2
-    exit 1
-fi
+. "$(dirname "$0")/timing.sh"
+build mail_speed 1 white
 python3 "$here/make_speed_mails.py" "$work"
 
 # row MAIL WORK LINE: our time of a work on a mail, and the oracle's on its line of that name

@@ -1,6 +1,9 @@
 pub mod Places
 pub mod PlacesLaw
 pub mod Runs
+pub mod Words
+pub mod WordBytes
+pub mod WordSearches
 pub mod CharsetUtf8
 pub mod CharsetLabels
 pub mod CharsetMarks

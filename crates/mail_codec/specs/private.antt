@@ -1,5 +1,6 @@
 -- Words that private functions alone need; no public clause speaks of them.
 pub mod Runs
+pub mod Words
 pub mod Padding
 pub mod ByteOrder
 pub mod Marks

@@ -3,8 +3,9 @@ ghost use Rattle.std.specs.Prelude.{◌≡◌, IfOk};
 ghost use Rattle.mail_codec.specs.Places.{byte_place, text_place, without_ascii_whitespace};
 
 pub(crate) mod runs;
+mod words;
 
-use runs::{RunEnd, push_runs};
+use runs::{RunEnd, may_end_len, push_runs};
 use std::alloc::{AllocError, Global};
 
 /// The first place of `byte` in `haystack`, or `None` where it is absent. Takes no memory.
@@ -13,28 +14,29 @@ use std::alloc::{AllocError, Global};
 pub fn find_byte(haystack: &[u8], byte: u8) -> Option<usize>
     ensures { result ≡ byte_place haystack.now byte }
 {
-    for (place, b) in haystack.iter().enumerate() {
-        if *b == byte {
-            return Some(place);
-        }
+    let place = may_end_len(haystack, RunEnd::Byte(byte));
+    if place == haystack.len() {
+        return None;
     }
-    None
+    Some(place)
 }
 
 /// The first place of `haystack` from which on it begins with `needle`, or `None` where there is
-/// none; the empty needle is found nowhere. Takes no memory.
+/// none; the empty needle is found nowhere. Takes no memory. Each place of the needle's first byte
+/// is compared in turn, so the cost grows with the needle where that byte is frequent.
 ///
 /// `find(b"hello world", b"o w")` is `Some(4)`.
 pub fn find(haystack: &[u8], needle: &[u8]) -> Option<usize>
     ensures { result ≡ text_place haystack.now needle.now }
 {
-    if needle.is_empty() {
-        return None;
-    }
-    for place in 0..haystack.len() {
+    let first = *needle.first()?;
+    let mut at = 0;
+    'candidates: while let Some(passed) = find_byte(&haystack[at..], first) {
+        let place = at + passed;
         if haystack[place..].starts_with(needle) {
             return Some(place);
         }
+        at = place + 1;
     }
     None
 }

@@ -18,7 +18,7 @@ use std::alloc::Global;
 use std::borrow::CowStr;
 use std::marker::Model;
 use std::{fmt, str};
-use value::unfolded_value;
+use value::value_ref;
 
 /// A header of a message: the bytes of its key and of its value, as they stand in the message.
 #[derive(Drop)]
@@ -64,11 +64,22 @@ impl<'a> MailHeader<'a> {
     pub fn get_value(&self, alloc: Global) -> Result<String, MailParseError>
         ensures { GivesText result (lenient_value self.now.value) }
     {
+        Ok(self.get_value_ref(alloc)?.into_owned(alloc)?)
+    }
+
+    /// The text of the value as `get_value` reads it; where it is a part of the value's bytes they are
+    /// borrowed.
+    #[tactic(auto, unfolding(crate::specs::Value::lenient_value))]
+    pub(crate) fn get_value_ref(&self, alloc: Global) -> Result<CowStr<'_>, MailParseError>
+        ensures { AnswersOrMemory (λ text. cow_str_bytes text) result
+            (Ok (lenient_value self.now.value)) }
+    {
         match str::from_utf8(self.get_value_raw()) {
-            Ok(text) => Ok(unfolded_value(alloc, text)?),
+            Ok(text) => Ok(value_ref(alloc, text)?),
             Err(_) => {
                 let text = decode_latin1(alloc, self.get_value_raw())?;
-                Ok(unfolded_value(alloc, text.as_str())?)
+                let value = value_ref(alloc, text.as_str())?.into_owned(alloc)?;
+                Ok(CowStr::Owned(value))
             }
         }
     }
@@ -86,7 +97,7 @@ impl<'a> MailHeader<'a> {
                 "Invalid UTF-8 in header value",
             )));
         };
-        Ok(unfolded_value(alloc, text)?)
+        Ok(value_ref(alloc, text)?.into_owned(alloc)?)
     }
 
     /// The bytes of the key, as they stand in the message, spaces before the colon among them.

@@ -1,14 +1,16 @@
 //! Runs of bytes, which end at certain bytes: how long the first is, and all of them put together.
 //!
 //! What is small is inlined: the searches are fast where the compiler knows what ends a run.
-ghost use Rattle.std.specs.Prelude.{◌≡◌, ◌≤◌, ◌++◌, length, OnOk, false};
+ghost use Rattle.std.specs.Prelude.{◌≡◌, ◌≤◌, ◌+◌, ◌++◌, length, drop, OnOk, false};
 ghost use Rattle.mail_codec.specs.Places.{begins, first_place};
-ghost use Rattle.mail_codec.specs.private.Runs.{ends_run, NoneEnds, without_ends};
+ghost use Rattle.mail_codec.specs.private.Runs.{ends_run, may_end_run, without_ends};
+ghost use Rattle.mail_codec.specs.private.Words.{IsMask};
 
+use super::words::{either_mask, equal_mask, first_marked, space_mask};
 use std::alloc::AllocError;
 
-/// How many bytes a search tests at a time.
-const BLOCK: usize = 16;
+/// How many bytes a search tests together where it comes to long runs: eight words.
+const STEP: usize = 64;
 
 /// Which bytes end a run.
 #[derive(Clone, Copy)]
@@ -34,16 +36,28 @@ impl RunEnd {
         }
     }
 
-    /// Whether the byte may end a run: no byte that ends one is passed over, and a block of bytes
-    /// is tested in few instructions.
+    /// Whether the byte may end a run, by a test that all bytes of a word take at once: each byte
+    /// that ends one passes, and of the others those alone that are below space.
     #[inline(always)]
     fn may_be_met_by(self, byte: u8) -> bool
-        ensures { result ≡ false → ends_run self byte ≡ false }
+        ensures { result ≡ may_end_run self byte }
     {
         match self {
             RunEnd::Byte(wanted) => byte == wanted,
-            RunEnd::LineEnd => (byte == b'\r') | (byte == b'\n'),
+            RunEnd::LineEnd => byte == b'\r' || byte == b'\n',
             RunEnd::White => byte <= b' ',
+        }
+    }
+
+    /// Marks those of eight bytes that may end a run.
+    #[inline(always)]
+    fn mask(self, bytes: &[u8; 8]) -> u64
+        ensures { IsMask (may_end_run self) bytes.now result }
+    {
+        match self {
+            RunEnd::Byte(wanted) => equal_mask(bytes, wanted),
+            RunEnd::LineEnd => either_mask(bytes, b'\r', b'\n'),
+            RunEnd::White => space_mask(bytes),
         }
     }
 }
@@ -65,15 +79,19 @@ pub(crate) fn push_runs(kept: &mut Vec<u8>, bytes: &[u8], end: RunEnd) -> Result
     Ok(())
 }
 
-/// The least place of a byte that ends a run, or the length where there is none. Goes by blocks,
-/// and byte by byte from the first block that may hold such a byte.
+/// The least place of a byte that ends a run, or the length where there is none. Where a byte that
+/// may end one does not, the search goes on after it.
 #[inline(always)]
 pub(crate) fn run_len(bytes: &[u8], end: RunEnd) -> usize
     ensures least { result ≡ first_place (begins (ends_run end)) bytes.now }
     ensures within { result ≤ length bytes.now }
 {
-    let mut at = free_len(bytes, end);
-    'bytes: while at < bytes.len() {
+    let mut at = 0;
+    'ends: while at < bytes.len() {
+        at += may_end_len(&bytes[at..], end);
+        if at == bytes.len() {
+            return at;
+        }
         if end.is_met_by(bytes[at]) {
             return at;
         }
@@ -82,31 +100,82 @@ pub(crate) fn run_len(bytes: &[u8], end: RunEnd) -> usize
     at
 }
 
-/// The length of the blocks at the front in which no run ends. A block is tested as a whole, with
-/// no way out before its end, which the compiler turns into few instructions.
+/// The least place of a byte that may end a run, or the length where there is none. Goes by steps
+/// of 64 bytes, then by words of eight.
+#[inline(always)]
+pub(crate) fn may_end_len(bytes: &[u8], end: RunEnd) -> usize
+    ensures least { result ≡ first_place (begins (may_end_run end)) bytes.now }
+    ensures within { result ≤ length bytes.now }
+{
+    let free = free_len(bytes, end);
+    free + near_len(&bytes[free..], end)
+}
+
+/// The length of the steps at the front of which no byte may end a run.
 #[inline(always)]
 fn free_len(bytes: &[u8], end: RunEnd) -> usize
     ensures within { result ≤ length bytes.now }
-    ensures free { NoneEnds end result bytes.now }
+    ensures free { first_place (begins (may_end_run end)) bytes.now
+        ≡ result + first_place (begins (may_end_run end)) (drop result bytes.now) }
 {
-    let mut at = 0;
-    'skips: while bytes.len() - at >= BLOCK {
-        if may_hold_end(&bytes[at..at + BLOCK], end) {
-            return at;
+    if let Some(word) = bytes.first_chunk::<8>() {
+        if end.mask(word) != 0 {
+            return 0;
         }
-        at += BLOCK;
     }
-    at
+    let (steps, _) = bytes.as_chunks::<STEP>();
+    let mut free = 0;
+    for step in steps {
+        if may_hold_end(step, end) {
+            return free;
+        }
+        free += STEP;
+    }
+    free
 }
 
-/// Whether a byte that may end a run is among the bytes.
+/// Whether a byte of the step may end a run. The masks of its words are put together, with no way
+/// out before the last, which the compiler turns into few instructions.
 #[inline(always)]
-fn may_hold_end(bytes: &[u8], end: RunEnd) -> bool
-    ensures { result ≡ false → NoneEnds end (length bytes.now) bytes.now }
+fn may_hold_end(step: &[u8; STEP], end: RunEnd) -> bool
+    ensures { result ≡ false → first_place (begins (may_end_run end)) step.now ≡ 64 }
 {
-    let mut holds = false;
-    for byte in bytes {
-        holds |= end.may_be_met_by(*byte);
+    let (words, _) = step.as_chunks::<8>();
+    let mut marks = 0;
+    for word in words {
+        marks |= end.mask(word);
     }
-    holds
+    marks != 0
+}
+
+/// The least place of a byte that may end a run, or the length, by words of eight.
+#[inline(always)]
+fn near_len(bytes: &[u8], end: RunEnd) -> usize
+    ensures least { result ≡ first_place (begins (may_end_run end)) bytes.now }
+    ensures within { result ≤ length bytes.now }
+{
+    let (words, tail) = bytes.as_chunks::<8>();
+    let mut at = 0;
+    for word in words {
+        let mask = end.mask(word);
+        if mask != 0 {
+            return at + first_marked(mask);
+        }
+        at += 8;
+    }
+    at + tail_len(tail, end)
+}
+
+/// The least place of a byte that may end a run, or the length, byte by byte.
+#[inline(always)]
+fn tail_len(tail: &[u8], end: RunEnd) -> usize
+    ensures least { result ≡ first_place (begins (may_end_run end)) tail.now }
+    ensures within { result ≤ length tail.now }
+{
+    for (place, byte) in tail.iter().enumerate() {
+        if end.may_be_met_by(*byte) {
+            return place;
+        }
+    }
+    tail.len()
 }

@@ -1,9 +1,9 @@
 -- Lemmas on comparing a key with a name.
-use Rattle.std.proofs.Common.{◌≡◌, ℕ, suc, ◌+◌, ◌/◌, ◌<◌, ◌≤◌, Bool, true, false, cond, ltb, ◌&&◌, eqb, List, [], ◌∷◌, ◌++◌, length, map, drop, get_or, refl, sym, ap, subst, ◌∙◌, ⊎_elim, arith}
+use Rattle.std.proofs.Common.{◌≡◌, ◌↔◌, ℕ, suc, ◌+◌, ◌/◌, ◌<◌, ◌≤◌, Bool, true, false, cond, ltb, ◌&&◌, eqb, List, [], ◌∷◌, ◌++◌, length, map, drop, get_or, refl, sym, ap, subst, ◌∙◌, ⊎_elim, arith}
 use Rattle.std.specs.Char.{eq_ignore_ascii_case, to_ascii_lowercase}
-use Rattle.std.specs.Str.{IsUtf8, bytes_eq, chars, encode_utf8_all, str_eq_ignore_ascii_case}
+use Rattle.std.specs.Str.{IsAscii, IsUtf8, bytes_eq, chars, encode_utf8_all, str_eq_ignore_ascii_case}
 use Rattle.std.proofs.lemmas.Bool.{cond-true, cond-false, lt-ltb, le-ltb, cases_lt, and_parts, and_from, false≢true}
-use Rattle.std.proofs.lemmas.Str.{chars-encodes, encodes-chars, encode_ascii, scalars-chars}
+use Rattle.std.proofs.lemmas.Str.{chars-IsAscii, chars-encodes, encodes-chars, encode_ascii, scalars-chars}
 use lib.Utf8.{encode, next, scalar, scalars}
 use Rattle.mail_codec.specs.Latin1.{latin1_text}
 use Rattle.std.proofs.lemmas.List.{drop_more, map-append}
@@ -138,3 +138,16 @@ same_name key name bytes utf8 =
     small_scalars : (bs : List ℕ) → ((i : ℕ) → get_or bs i 0 < 256) → scalars bs ≡ true
     small_scalars [] h = refl
     small_scalars (b ∷ bs) h = and_from _ _ (cond-true _ _ _ (lt-ltb b 55296 (let small = h 0 in omega arith))) (small_scalars bs (λ i. h (suc i)))
+
+-- where the name is ASCII, the key's bytes are compared with its bytes
+pub same_ascii : (key name : List ℕ) → ((i : ℕ) → get_or key i 0 < 256) → IsUtf8 name → IsAscii name → str_eq_ignore_ascii_case (latin1_text key) name ≡ bytes_eq (map low key) (map low name)
+same_ascii key name bytes utf8 ascii = same_name key name bytes utf8 ∙ ap (pointwise eq_ignore_ascii_case key) (chars-IsAscii name ascii) ∙ sym (pointwise_low key name)
+
+-- as a test of the bytes tells
+pub told_ascii : (key name : List ℕ) (told : Bool) → ((told ≡ true) ↔ (map low key ≡ map low name)) → told ≡ bytes_eq (map low key) (map low name)
+told_ascii key name told h = by_test told (bytes_eq (map low key) (map low name)) refl refl
+  where
+    by_test : (t u : Bool) → told ≡ t → bytes_eq (map low key) (map low name) ≡ u → told ≡ bytes_eq (map low key) (map low name)
+    by_test true u e f = e ∙ sym ((bytes_decides (map low key) (map low name)).1 (h.0 e))
+    by_test false false e f = e ∙ sym f
+    by_test false true e f = absurd (false≢true (sym e ∙ h.1 ((bytes_decides (map low key) (map low name)).0 f)))

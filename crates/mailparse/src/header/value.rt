@@ -1,6 +1,7 @@
 //! The text that a header's value shows: its lines are unfolded (RFC 5322, section 2.2.3) and its
 //! encoded words decoded (RFC 2047, sections 2 and 4).
 ghost use Rattle.std.specs.Prelude.{◌≡◌, ◌++◌, ◌∷◌, [], IfOk, IfSome, OnOk};
+ghost use Rattle.std.specs.Cow.{cow_str_bytes};
 ghost use Rattle.std.specs.String.{string_bytes};
 ghost use Rattle.mail_codec.specs.Charset.{four_charsets};
 ghost use Rattle.mailparse.specs.Value.{newline, shown_value};
@@ -9,6 +10,7 @@ ghost use Rattle.mailparse.specs.private.Unfolding.{Shows, released, token_view,
 use super::line::push_line;
 use mail_codec::bytescan::{find, find_byte};
 use std::alloc::{AllocError, Global};
+use std::borrow::CowStr;
 
 /// A token of a value.
 #[derive(Drop)]
@@ -122,13 +124,20 @@ fn plain_line(text: &str) -> Option<&str>
     }
 }
 
-/// The text that a value shows, whose own text is this.
-pub(crate) fn unfolded_value(alloc: Global, text: &str) -> Result<String, AllocError>
+/// The text that a value shows, whose own text is this; a part of that text is borrowed.
+pub(crate) fn value_ref(alloc: Global, text: &str) -> Result<CowStr<'_>, AllocError>
+    ensures { IfOk result (λ value. cow_str_bytes value ≡ shown_value four_charsets text.now) }
+{
+    match plain_line(text) {
+        Some(line) => Ok(CowStr::Borrowed(line)),
+        None => Ok(CowStr::Owned(unfolded_value(alloc, text)?)),
+    }
+}
+
+/// The text that a value shows, whose own text is this, whatever tokens it has.
+fn unfolded_value(alloc: Global, text: &str) -> Result<String, AllocError>
     ensures { IfOk result (λ value. string_bytes value ≡ shown_value four_charsets text.now) }
 {
-    if let Some(line) = plain_line(text) {
-        return String::from_str(alloc, line);
-    }
     let mut shown = ShownValue {
         text: String::with_capacity(alloc, text.len())?,
         held: Held::Nothing,

@@ -161,8 +161,19 @@ fn all_headers<'h>(
     Ok(found)
 }
 
-/// Whether the bytes of a key are the characters of the name, ignoring ASCII case.
+/// Whether the bytes of a key are the characters of the name, ignoring ASCII case. Where the name is
+/// ASCII, as nearly every name is, they are compared as bytes.
 fn is_key(key: &[u8], name: &str) -> bool
+    ensures { result ≡ str_eq_ignore_ascii_case (latin1_text key.now) name.now }
+{
+    if name.is_ascii() {
+        return key.eq_ignore_ascii_case(name.as_bytes());
+    }
+    is_spelled_by(key, name)
+}
+
+/// Whether the bytes of a key are the characters of the name, ignoring ASCII case.
+fn is_spelled_by(key: &[u8], name: &str) -> bool
     ensures { result ≡ str_eq_ignore_ascii_case (latin1_text key.now) name.now }
 {
     let mut rest = key;

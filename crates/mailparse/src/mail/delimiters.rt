@@ -116,8 +116,18 @@ fn find_from_u8(line: &[u8], ix_start: usize, key: &[u8]) -> Option<usize>
         ≡ option_map (λ k. ix_start + k) (text_place (drop ix_start line.now) key.now) }
     ensures bounds { IfSome result (λ at. (ix_start ≤ at) × (at < length line.now)) }
 {
-    let place = find(&line[ix_start..], key)?;
+    let place = find_key(&line[ix_start..], key)?;
     Some(ix_start + place)
+}
+
+/// The first place where `key` stands.
+fn find_key(bytes: &[u8], key: &[u8]) -> Option<usize>
+    ensures { result ≡ text_place bytes.now key.now }
+{
+    match key {
+        [byte] => find_byte(bytes, *byte),
+        _ => find(bytes, key),
+    }
 }
 
 /// Whether a line starts at `at` and begins with `key`, where `start` counts as the start of a line.

@@ -22,8 +22,8 @@ pub(super) fn node_type(
     ensures { AnswersOrMemory content_type result
         (Ok (node_type four_charsets in_digest headers.now.items)) }
 {
-    match headers.get_first_value(alloc, "Content-Type")? {
-        Some(value) => parse_content_type(alloc, value.as_str()),
+    match headers.get_first_header("Content-Type") {
+        Some(header) => parse_content_type(alloc, header.get_value_ref(alloc)?.as_str()),
         None => part_type(alloc, in_digest),
     }
 }

@@ -1,18 +1,24 @@
-use Rattle.std.proofs.Common.{arith, drop, sym, ◌∙◌}
+use Rattle.std.proofs.Common.{sym, ◌∙◌}
 use Rattle.std.proofs.lemmas.List.{take_rest}
-use Rattle.std.proofs.lemmas.Grind.{common_steps}
-use Rattle.mail_codec.specs.Places.{first_place, stands}
-use Rattle.mail_codec.proofs.lemmas.Places.{place-found, PassedTo-more, stands-starts_with}
+use Rattle.mail_codec.specs.Places.{stands}
+use Rattle.mail_codec.proofs.lemmas.Places.{PassedTo-more}
+use Rattle.mail_codec.proofs.lemmas.WordSearches.{first_item, candidate, no_candidate, text_absent, text_found}
 use Rattle.mail_codec.proofs.bytescan.find.Goals as goal
 
 pub returns-then-starts_with : goal.returns-then-starts_with
 returns-then-starts_with c =
-    let at = stands-starts_with c.args.needle.now (drop c.loop-place.place c.args.haystack.now) in
-    let found = place-found (stands c.args.needle.now) c.args.haystack.now c.loop-place.place c.loop-place.invariant c.loop-place-test.true in
-    grind (arith, common_steps)
+    let first = first_item c.args.needle.now c.in_ok-first.field-0.now c.in_ok-first.ensures.value in
+    let at = candidate c.args.needle.now c.args.haystack.now _ _ _ c.candidates.at _ first.0 first.1 c.candidates.invariant (take_rest c.args.haystack.now c.candidates.at) c.in-Some.ensures in
+    text_found c.args.needle.now c.args.haystack.now _ first.0 at.0 at.1 (rw take_rest at (sym c.starts_with.ensures.value ∙ c.if-starts_with.true))
 
-pub loop-place-preserved : goal.loop-place-preserved
-loop-place-preserved c =
-    let at = stands-starts_with c.args.needle.now (drop c.loop-place.place c.args.haystack.now) in
-    let tested = rw take_rest at c.starts_with.ensures.value in
-    PassedTo-more (stands c.args.needle.now) c.args.haystack.now (first_place (stands c.args.needle.now) c.args.haystack.now) c.loop-place.place c.loop-place.invariant c.loop-place-test.true (sym at ∙ sym tested ∙ c.if-starts_with.false)
+pub candidates-preserved : goal.candidates-preserved
+candidates-preserved c =
+    let first = first_item c.args.needle.now c.in_ok-first.field-0.now c.in_ok-first.ensures.value in
+    let at = candidate c.args.needle.now c.args.haystack.now _ _ _ c.candidates.at _ first.0 first.1 c.candidates.invariant (take_rest c.args.haystack.now c.candidates.at) c.in-Some.ensures in
+    PassedTo-more (stands c.args.needle.now) c.args.haystack.now _ _ at.0 at.1 (rw take_rest at (sym c.starts_with.ensures.value ∙ c.if-starts_with.false))
+
+pub returns : goal.returns
+returns c =
+    let first = first_item c.args.needle.now c.in_ok-first.field-0.now c.in_ok-first.ensures.value in
+    text_absent c.args.needle.now c.args.haystack.now first.0
+    (no_candidate c.args.needle.now c.args.haystack.now _ _ c.candidates.at first.0 first.1 c.candidates.invariant (take_rest c.args.haystack.now c.candidates.at) c.in_default.ensures)

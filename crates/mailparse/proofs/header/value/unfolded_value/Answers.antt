@@ -17,7 +17,7 @@ pub loop-line-preserved : goal.loop-line-preserved
 loop-line-preserved c =
     let start : ShownValue = record { text = c.in_ok-with_capacity.field-0; held = held.Nothing } in
     let items = c.loop-line.yielded in
-    let line = c.in-Some-line.line in
+    let line = c.in-Some.line in
     let now = c.trim_start.result.now in
     let new = c.push_line.new.shown in
     let value = c.loop-line.shown in

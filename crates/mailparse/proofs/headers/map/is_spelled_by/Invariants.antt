@@ -3,7 +3,7 @@ use Rattle.std.specs.Char.{eq_ignore_ascii_case}
 use Rattle.std.specs.Str.{chars, str_eq_ignore_ascii_case}
 use Rattle.mail_codec.specs.Latin1.{latin1_text}
 use lib.Pointwise.{pointwise}
-use Rattle.mailparse.proofs.headers.map.is_key.Given as goal
+use Rattle.mailparse.proofs.headers.map.is_spelled_by.Given as goal
 
 -- what is left of the key and of the name decides
 abbrev pub invariant-loop-character : goal.invariant-loop-character

@@ -1,0 +1,10 @@
+use Rattle.mail_codec.proofs.bytescan.runs.RunEnd.mask.Goals as goal
+
+pub returns-in-Byte : goal.returns-in-Byte
+returns-in-Byte c = rw c.in-Byte.is c.equal_mask.ensures
+
+pub returns-in-LineEnd : goal.returns-in-LineEnd
+returns-in-LineEnd c = rw c.in-LineEnd.is c.either_mask.ensures
+
+pub returns-in-White : goal.returns-in-White
+returns-in-White c = rw c.in-White.is c.space_mask.ensures

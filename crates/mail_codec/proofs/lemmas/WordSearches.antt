@@ -1,0 +1,197 @@
+-- Searches that go over words and steps.
+use Rattle.std.proofs.Common.{◌≡◌, ℕ, zero, suc, ◌+◌, ◌*◌, ◌/◌, ◌<◌, ◌≤◌, ◌≢◌, bit_or, Bool, true, false, cond, ◌==◌, ◌&&◌, None, Some, List, [], ◌∷◌, length, take, drop, get_or, inl, inr, refl, sym, ap, subst, ◌∙◌, arith}
+use Rattle.std.specs.Int.{w64, trailing_zeros}
+use Rattle.std.specs.List.{slice_get}
+use Rattle.std.specs.Simd.{first_chunks}
+use Rattle.std.proofs.lemmas.Bool.{cases_lt, lt-ltb, le-ltb}
+use Rattle.std.proofs.lemmas.List.{drop-drop, length-drop}
+use Rattle.std.proofs.lemmas.Nat.{le_or_l, le_or_r}
+use Rattle.std.proofs.Math.Nat.{mul-suc}
+use Rattle.mail_codec.specs.Places.{first_place, begins, place, stands, text_place}
+use Rattle.mail_codec.specs.private.Runs.{ends_run, may_end_run}
+use Rattle.mail_codec.specs.declared.bytescan.runs.RunEnd.{RunEnd}
+use Rattle.mail_codec.specs.declared.bytescan.runs.RunEnd.TheVariants.{Byte, LineEnd, White}
+use Rattle.std.proofs.lemmas.Bool.Decides.{nat_tests, Decides-eqb}
+use Rattle.mail_codec.specs.private.Words.{IsMask}
+use Rattle.mail_codec.proofs.lemmas.Places.{PassedTo, first_place-≤, first_place-drop, place_from_weaker, place-found}
+
+-- ---- chunks
+
+pub chunk_at : (n k : ℕ) (xs : List ℕ) (i : ℕ) → i < k → get_or (first_chunks n k xs) i [] ≡ take n (drop (n * i) xs)
+chunk_at n zero xs i h = absurd (omega arith)
+chunk_at n (suc k) xs zero h = ap (λ (j : ℕ). take n (drop j xs)) {x = 0} {y = n * 0} (omega arith)
+chunk_at n (suc k) xs (suc i) h = chunk_at n k (drop n xs) i (omega arith) ∙ ap (take n) (drop-drop (n * i) n xs ∙ ap (λ (j : ℕ). drop j xs) {x = n + n * i} {y = n * suc i} (omega (arith, mul-suc n i)))
+
+-- ---- a part at the front
+
+-- where no byte of it passes, the search goes on after it
+free_front : (test : ℕ → Bool) (n : ℕ) (xs : List ℕ) → n ≤ length xs → first_place (begins test) (take n xs) ≡ n
+    → first_place (begins test) xs ≡ n + first_place (begins test) (drop n xs)
+free_front test zero xs h e = omega arith
+free_front test (suc n) [] h e = absurd (omega arith)
+free_front test (suc n) (x ∷ xs) h e = go (test x) refl e (free_front test n xs (omega arith))
+  where
+    go : (v : Bool) → test x ≡ v → cond v 0 (suc (first_place (begins test) (take n xs))) ≡ suc n
+        → (first_place (begins test) (take n xs) ≡ n → first_place (begins test) xs ≡ n + first_place (begins test) (drop n xs))
+        → first_place (begins test) (x ∷ xs) ≡ suc n + first_place (begins test) (drop n xs)
+    go true t e rest = absurd (omega arith)
+    go false t e rest = rw t (let r = rest (omega arith) in omega arith)
+
+-- where one passes, it is the first of all
+found_front : (test : ℕ → Bool) (n : ℕ) (xs : List ℕ) → first_place (begins test) (take n xs) < n → n ≤ length xs
+    → first_place (begins test) xs ≡ first_place (begins test) (take n xs)
+found_front test zero xs l h = absurd (omega arith)
+found_front test (suc n) [] l h = absurd (omega arith)
+found_front test (suc n) (x ∷ xs) l h = go (test x) refl l (λ k. found_front test n xs k (omega arith))
+  where
+    go : (v : Bool) → test x ≡ v → cond v 0 (suc (first_place (begins test) (take n xs))) < suc n
+        → (first_place (begins test) (take n xs) < n → first_place (begins test) xs ≡ first_place (begins test) (take n xs))
+        → first_place (begins test) (x ∷ xs) ≡ first_place (begins test) (take (suc n) (x ∷ xs))
+    go true t l rest = rw t refl
+    go false t l rest = rw t (ap suc (rest (omega arith)))
+
+-- ---- steps of a search
+
+-- passes over a chunk
+pub PassedTo-chunk : (test : ℕ → Bool) (bytes chunk : List ℕ) (answer at n : ℕ) → PassedTo (begins test) bytes answer at → at + n ≤ length bytes
+    → chunk ≡ take n (drop at bytes) → first_place (begins test) chunk ≡ n → PassedTo (begins test) bytes answer (at + n)
+PassedTo-chunk test bytes chunk answer at n h fits is free =
+    let len = length-drop at bytes in
+    let on = free_front test n (drop at bytes) (omega arith) (sym (ap (first_place (begins test)) is) ∙ free) in
+    let later = h.later in
+    let there : first_place (begins test) (drop n (drop at bytes)) ≡ first_place (begins test) (drop (at + n) bytes) = ap (first_place (begins test)) (drop-drop n at bytes ∙ ap (λ (j : ℕ). drop j bytes) (omega arith)) in
+    record { within = fits; later = omega arith }
+
+-- has found it within a chunk
+pub PassedTo-found : (test : ℕ → Bool) (bytes chunk : List ℕ) (answer at n : ℕ) → PassedTo (begins test) bytes answer at → at + n ≤ length bytes
+    → chunk ≡ take n (drop at bytes) → first_place (begins test) chunk < n → answer ≡ at + first_place (begins test) chunk
+PassedTo-found test bytes chunk answer at n h fits is found =
+    let len = length-drop at bytes in
+    let here = found_front test n (drop at bytes) (subst (λ (xs : List ℕ). first_place (begins test) xs < n) is found) (omega arith) in
+    let same = ap (first_place (begins test)) is in
+    let later = h.later in
+    omega arith
+
+-- a chunk of a list, as a loop over the chunks meets it
+pub chunk_is : (n : ℕ) (bytes : List ℕ) (chunks : List (List ℕ)) (i at : ℕ) → chunks ≡ first_chunks n (length bytes / n) bytes
+    → i < length bytes / n → at ≡ n * i → get_or chunks i [] ≡ take n (drop at bytes)
+chunk_is n bytes chunks i at is l place =
+    ap (λ (cs : List (List ℕ)). get_or cs i []) is ∙ chunk_at n (length bytes / n) bytes i l ∙ ap (λ (j : ℕ). take n (drop j bytes)) (sym place)
+
+-- the place that a mask tells
+pub marked_first : (test : ℕ → Bool) (bs : List ℕ) (m : ℕ) → length bs ≡ 8 → IsMask test bs m → m ≢ 0
+    → (first_place (begins test) bs < 8) × (trailing_zeros w64 m / 8 ≡ first_place (begins test) bs)
+marked_first test bs m len is some =
+    let low = is.lowest some in
+    let within = first_place-≤ (begins test) bs in
+    (elim (cases_lt (first_place (begins test) bs) 8) [ inl l ↦ l | inr ge ↦ absurd (some (is.none.1 (omega arith))) ], omega arith)
+
+-- two masks put together are 0 where both are
+pub both_zero : (m n : ℕ) → bit_or m n ≡ 0 → (m ≡ 0) × (n ≡ 0)
+both_zero m n e = (omega (arith, le_or_l m n), omega (arith, le_or_r m n))
+
+-- ---- a test that lets more bytes pass
+
+-- each byte that ends a run may end one
+ends_may : (end : RunEnd) (b : ℕ) → ends_run end b ≡ true → may_end_run end b ≡ true
+ends_may (Byte wanted) b h = h
+ends_may LineEnd b h = h
+ends_may White b h = grind (arith, nat_tests)
+
+begins_may : (end : RunEnd) (rest : List ℕ) → begins (ends_run end) rest ≡ true → begins (may_end_run end) rest ≡ true
+begins_may end [] h = h
+begins_may end (b ∷ rest) h = ends_may end b h
+
+-- up to the first place with the one, there is none with the other
+pub PassedTo-weaker : (weak strong : List ℕ → Bool) → ((rest : List ℕ) → strong rest ≡ true → weak rest ≡ true)
+    → (bytes rest : List ℕ) (answer at n : ℕ) → PassedTo strong bytes answer at
+    → rest ≡ drop at bytes → n ≡ first_place weak rest → PassedTo strong bytes answer (at + n)
+PassedTo-weaker weak strong implies bytes rest answer at n h is place =
+    let weaker = place_from_weaker weak strong implies bytes at in
+    let le = first_place-≤ weak (drop at bytes) in
+    let len = length-drop at bytes in
+    let same = ap (first_place weak) is in
+    let on = first_place-drop strong (drop at bytes) n (omega arith) in
+    let there : first_place strong (drop n (drop at bytes)) ≡ first_place strong (drop (at + n) bytes) = ap (first_place strong) (drop-drop n at bytes) in
+    let within = h.within in
+    let later = h.later in
+    record { within = omega arith; later = omega arith }
+
+-- up to the first byte that may end a run, no run ends
+pub PassedTo-may : (end : RunEnd) (bytes rest : List ℕ) (answer at n : ℕ) → PassedTo (begins (ends_run end)) bytes answer at
+    → rest ≡ drop at bytes → n ≡ first_place (begins (may_end_run end)) rest → PassedTo (begins (ends_run end)) bytes answer (at + n)
+PassedTo-may end = PassedTo-weaker (begins (may_end_run end)) (begins (ends_run end)) (begins_may end)
+
+-- ---- a text found by its first byte
+
+both_first : (s t : Bool) → s && t ≡ true → s ≡ true
+both_first true t h = refl
+both_first false t h = h
+
+stands_begins : (needle rest : List ℕ) → 0 < length needle → stands needle rest ≡ true → begins (λ b. b == get_or needle 0 0) rest ≡ true
+stands_begins [] rest some h = absurd (omega arith)
+stands_begins (n ∷ needle) [] some h = h
+stands_begins (n ∷ needle) (b ∷ rest) some h = (Decides-eqb b n).1 (sym ((Decides-eqb n b).0 (both_first (n == b) _ h)))
+
+-- up to the first place of its first byte, the text stands nowhere
+pub PassedTo-first_byte : (needle bytes rest : List ℕ) (answer at n : ℕ) → 0 < length needle → PassedTo (stands needle) bytes answer at
+    → rest ≡ drop at bytes → n ≡ first_place (begins (λ b. b == get_or needle 0 0)) rest → PassedTo (stands needle) bytes answer (at + n)
+PassedTo-first_byte needle bytes rest answer at n some = PassedTo-weaker (begins (λ b. b == get_or needle 0 0)) (stands needle) (λ r. stands_begins needle r some) bytes rest answer at n
+
+-- what a place that was found says of the first place, and what it says that none was found
+pub place_some : (test : List ℕ → Bool) (bytes : List ℕ) (p : ℕ) → Some p ≡ place test bytes → (p ≡ first_place test bytes) × (first_place test bytes < length bytes)
+place_some test bytes p h = elim (cases_lt (first_place test bytes) (length bytes)) [
+  | inl l ↦ let e = lt-ltb (first_place test bytes) (length bytes) l in let s = rw e at h in (cc, l)
+  | inr g ↦ let e = le-ltb (first_place test bytes) (length bytes) g in let s = rw e at h in absurd (cc)
+]
+
+pub place_none : (test : List ℕ → Bool) (bytes : List ℕ) → None ≡ place test bytes → first_place test bytes ≡ length bytes
+place_none test bytes h = elim (cases_lt (first_place test bytes) (length bytes)) [
+  | inl l ↦ let e = lt-ltb (first_place test bytes) (length bytes) l in let s = rw e at h in absurd (cc)
+  | inr g ↦ let le = first_place-≤ test bytes in omega arith
+]
+
+-- a place of the text's first byte
+pub candidate : (needle bytes rest : List ℕ) (answer first at passed : ℕ) → 0 < length needle → first ≡ get_or needle 0 0
+    → PassedTo (stands needle) bytes answer at → rest ≡ drop at bytes → Some passed ≡ place (begins (λ b. b == first)) rest
+    → PassedTo (stands needle) bytes answer (at + passed) × (at + passed < length bytes)
+candidate needle bytes rest answer first at passed some is h there found =
+    let p = place_some (begins (λ b. b == first)) rest passed found in
+    let same : Path (ℕ → Bool) (λ b. b == first) (λ b. b == get_or needle 0 0) = λ i b. b == is i in
+    let len = length-drop at bytes in
+    let l = ap length there in
+    let w = h.within in
+    (PassedTo-first_byte needle bytes rest answer at passed some h there (p.0 ∙ ap (λ t. first_place (begins t) rest) same), omega (arith, p.0, p.1))
+
+-- no more place of the text's first byte
+pub no_candidate : (needle bytes rest : List ℕ) (first at : ℕ) → 0 < length needle → first ≡ get_or needle 0 0
+    → PassedTo (stands needle) bytes (first_place (stands needle) bytes) at → rest ≡ drop at bytes → None ≡ place (begins (λ b. b == first)) rest
+    → first_place (stands needle) bytes ≡ length bytes
+no_candidate needle bytes rest first at some is h there none =
+    let p = place_none (begins (λ b. b == first)) rest none in
+    let same : Path (ℕ → Bool) (λ b. b == first) (λ b. b == get_or needle 0 0) = λ i b. b == is i in
+    let len = length-drop at bytes in
+    let l = ap length there in
+    let w = h.within in
+    let on = PassedTo-first_byte needle bytes rest (first_place (stands needle) bytes) at (length rest) some h there (sym p ∙ ap (λ t. first_place (begins t) rest) same) in
+    let le = first_place-≤ (stands needle) bytes in
+    let later = on.later in
+    omega arith
+
+-- the answers of a search for a text
+not_empty : (text : List ℕ) → 0 < length text → (length text == 0) ≡ false
+not_empty [] h = absurd (omega arith)
+not_empty (b ∷ text) h = grind (arith, nat_tests)
+
+pub text_found : (needle bytes : List ℕ) (p : ℕ) → 0 < length needle → PassedTo (stands needle) bytes (first_place (stands needle) bytes) p
+    → p < length bytes → stands needle (drop p bytes) ≡ true → Some p ≡ text_place bytes needle
+text_found needle bytes p some h low here =
+    rw (not_empty needle some) (sym (place-found (stands needle) bytes p h low here))
+
+pub text_absent : (needle bytes : List ℕ) → 0 < length needle → first_place (stands needle) bytes ≡ length bytes → None ≡ text_place bytes needle
+text_absent needle bytes some e =
+    rw (not_empty needle some, le-ltb (first_place (stands needle) bytes) (length bytes) (omega arith)) refl
+
+pub first_item : (needle : List ℕ) (x : ℕ) → Some x ≡ slice_get needle 0 → (0 < length needle) × (x ≡ get_or needle 0 0)
+first_item [] x h = absurd (cc)
+first_item (n ∷ needle) x h = (omega arith, cc)

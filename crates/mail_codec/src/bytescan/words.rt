@@ -1,0 +1,62 @@
+//! Words of eight bytes, all of which are tested at once: a mask has a bit for each that passes.
+//!
+//! Only the lowest bit of a mask is exact: what is taken from one byte may be borrowed from the
+//! byte above, which then may be marked too.
+ghost use Rattle.std.specs.Prelude.{◌/◌, ◌≡◌, ◌≤◌, ◌==◌, ◌||◌, nat_lt};
+ghost use Rattle.std.specs.Int.{w64, to_le_bytes, trailing_zeros};
+ghost use Rattle.mail_codec.specs.private.Words.{IsMask};
+
+/// A word of eight bytes that are 1.
+const ONES: u64 = 0x0101_0101_0101_0101;
+
+/// A word of eight bytes of which only the top bit is set.
+const TOPS: u64 = 0x8080_8080_8080_8080;
+
+/// Marks the bytes of the word that are 0.
+#[inline(always)]
+pub(crate) fn zero_byte_mask(word: u64) -> u64
+    ensures { IsMask (λ b. b == 0) (to_le_bytes w64 word) result }
+{
+    word.wrapping_sub(ONES) & !word & TOPS
+}
+
+/// Marks the bytes of the word that are below `bound`.
+#[inline(always)]
+pub(crate) fn below_mask(word: u64, bound: u8) -> u64
+    requires { bound ≤ 127 }
+    ensures { IsMask (λ b. nat_lt b bound) (to_le_bytes w64 word) result }
+{
+    word.wrapping_sub(ONES.wrapping_mul(bound as u64)) & !word & TOPS
+}
+
+/// Marks those of eight bytes that are `wanted`.
+#[inline(always)]
+pub(crate) fn equal_mask(bytes: &[u8; 8], wanted: u8) -> u64
+    ensures { IsMask (λ b. b == wanted) bytes.now result }
+{
+    zero_byte_mask(u64::from_le_bytes(*bytes) ^ ONES.wrapping_mul(wanted as u64))
+}
+
+/// Marks those of eight bytes that are `first` or `second`.
+#[inline(always)]
+pub(crate) fn either_mask(bytes: &[u8; 8], first: u8, second: u8) -> u64
+    ensures { IsMask (λ b. b == first || b == second) bytes.now result }
+{
+    equal_mask(bytes, first) | equal_mask(bytes, second)
+}
+
+/// Marks those of eight bytes that are at most a space.
+#[inline(always)]
+pub(crate) fn space_mask(bytes: &[u8; 8]) -> u64
+    ensures { IsMask (λ b. nat_lt b 33) bytes.now result }
+{
+    below_mask(u64::from_le_bytes(*bytes), b'!')
+}
+
+/// The place of the byte that the lowest bit of a mask marks.
+#[inline(always)]
+pub(crate) fn first_marked(mask: u64) -> usize
+    ensures { result ≡ trailing_zeros w64 mask / 8 }
+{
+    mask.trailing_zeros() as usize / 8
+}

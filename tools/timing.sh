@@ -1,0 +1,41 @@
+# What the scripts time_*.sh begin with. Each sources it, and takes at most one argument: the oracle.
+#
+# It sets `here` (this folder), `oracle`, `rounds` (15, or what ROUNDS says) and `work` (a folder that goes
+# when the script ends).
+set -eu
+script=$(basename "$0")
+if [ $# -gt 1 ]; then
+    echo "usage: $script [ORACLE]" >&2
+    exit 2
+fi
+here=$(cd "$(dirname "$0")" && pwd)
+oracle=${1:-}
+rounds=${ROUNDS:-15}
+work=$(mktemp -d)
+trap 'rm -rf "$work"' EXIT
+
+# build CRATE [ARGUMENT..]: builds a program, which runs once with these arguments, and goes to its folder
+build() {
+    crate=$1
+    shift
+    cd "$here/../crates/$crate"
+    if ! rt run -- "$@" < /dev/null > "$work/build" 2>&1; then
+        cat "$work/build" >&2
+        echo "$script: $crate was not built" >&2
+        exit 1
+    fi
+}
+
+# seconds TURNS LIMIT COMMAND..: the least time of so many runs on the file `input`, each of which gets so
+# many seconds at most
+seconds() {
+    turns=$1
+    limit=$2
+    shift 2
+    for _turn in $(seq "$turns"); do
+        start=$(date +%s%N)
+        timeout "$limit" "$@" < "$work/input" > /dev/null 2>&1 || [ $? -ne 124 ] || { echo 'none'; return; }
+        echo $((($(date +%s%N) - start) / 1000))
+    done | sort -n | head -n 1 |
+        awk -v limit="$limit" '/^[0-9]/ { printf "%.4f", $1 / 1000000; exit } { print "more than " limit }'
+}
