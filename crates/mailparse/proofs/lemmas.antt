@@ -31,5 +31,6 @@ pub mod Waiting
 pub mod Filled
 pub mod ExtendedParts
 pub mod PartsOf
+pub mod Taken
 pub mod Bases
 pub mod Resolved

@@ -7,6 +7,7 @@ ghost use Rattle.mailparse.specs.Pairs.{HasTexts, pairs_of, value_of};
 
 mod continuations;
 mod pairs;
+mod parts;
 mod pieces;
 mod starred;
 
@@ -28,7 +29,7 @@ pub(crate) fn parameters(
 {
     let (value, rest) = cut_piece(text);
     let pairs = pairs(alloc, rest)?;
-    Ok((value.trim(), resolve(alloc, &pairs)?))
+    Ok((value.trim(), resolve(alloc, pairs)?))
 }
 
 /// A text in ASCII lower case.

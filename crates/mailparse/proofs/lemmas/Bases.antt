@@ -1,16 +1,17 @@
 -- The bases, name by name, and what is left beside them.
 use Rattle.std.proofs.Common.{◌≡◌, ℕ, Bool, true, false, not, ◌&&◌, ◌||◌, ◌==◌, cond, ltb, List, [], ◌∷◌, ◌++◌, length, Option, Some, None, is_some, option_map, refl, sym, ap, ◌∙◌}
-use Rattle.std.proofs.lemmas.Bool.{and_left, and_right, cond-false, cond-true}
+use Rattle.std.proofs.lemmas.Bool.{and_left, and_right, cond-false}
 use Rattle.std.specs.List.{list_any}
-use Rattle.std.specs.Option.{option_and_then, option_map_or, option_or}
+use Rattle.std.specs.Option.{option_and_then, option_map_or, option_or, option_to_list}
 use Rattle.std.specs.Str.{bytes_eq}
-use Rattle.mailparse.specs.Continuations.{Part, alone, is_base, is_first_of, is_text, is_used, joined_at, numbered, parts_of, piece_name}
-use Rattle.mailparse.specs.private.Continuations.{base_count, base_text, first_base_of, is_used_by}
-use Rattle.mailparse.proofs.lemmas.Filled.{any_push, or_false, or_true}
-use Rattle.mailparse.proofs.lemmas.PartsOf.{cond_none}
-use Rattle.mailparse.proofs.lemmas.StarredKeys.{equal_bytes}
+use Rattle.mailparse.specs.Continuations as words
+use Rattle.mailparse.specs.Continuations.{Part, alone, is_base, is_first_of, is_text, is_used, joined, joined_at, numbered, parts_of, piece_name}
+use Rattle.mailparse.specs.private.Continuations.{first_base_of, first_bases, is_taken, joined_text, left_by}
+use Rattle.mailparse.specs.private.Filled.{filled, holds_name}
+use Rattle.mailparse.proofs.lemmas.Filled.{filled_again, filled_skip, or_true}
+use Rattle.mailparse.proofs.lemmas.StarredKeys.{equal_bytes, same_bytes}
 
--- ---- one more name
+-- ---- the bases of names
 
 abbrev hit : Option (List ℕ) → List ℕ → Bool
 hit base q = option_map_or (λ b. bytes_eq b q) base false
@@ -46,90 +47,86 @@ hit_is at q name = go (numbered name)
     go None = and_right _ _ refl
     go (Some n) = pick n (bytes_eq n.0 q) refl
 
-base_push : (at : List ℕ → Option Part) (names : List (List ℕ)) (name q : List ℕ) → is_some (at name) ≡ true
-    → is_base at (names ++ name ∷ []) q ≡ (is_base at names q || hit (first_base_of at name) q)
-base_push at names name q some =
-    ap (λ b. not (is_text (at q)) && b) (any_push (λ n. is_some (at n) && is_first_of q n) names name)
-    ∙ ap (λ b. not (is_text (at q)) && (list_any (λ n. is_some (at n) && is_first_of q n) names || (b && is_first_of q name))) some
-    ∙ split (not (is_text (at q))) (list_any (λ n. is_some (at n) && is_first_of q n) names) (is_first_of q name)
-    ∙ ap (λ b. is_base at names q || b) (hit_is at q name)
+-- the bases of names where something stands
+pub holds_first : (at : List ℕ → Option Part) (names : List (List ℕ)) (q : List ℕ) → ((z : List ℕ) → holds_name names z ≡ true → is_some (at z) ≡ true)
+    → holds_name (first_bases at names) q ≡ is_base at names q
+holds_first at [] q some = sym (and_right _ _ refl)
+holds_first at (name ∷ names) q some =
+    one (first_base_of at name)
+    ∙ ap (λ b. hit (first_base_of at name) q || b) (holds_first at names q (λ z held. some z (ap (λ b. bytes_eq name z || b) held ∙ or_true (bytes_eq name z))))
+    ∙ ap (λ b. b || is_base at names q) (sym (hit_is at q name))
+    ∙ sym (split (not (is_text (at q))) (is_first_of q name) (list_any (λ n. is_some (at n) && is_first_of q n) names))
+    ∙ ap (λ b. not (is_text (at q)) && ((b && is_first_of q name) || list_any (λ n. is_some (at n) && is_first_of q n) names))
+    (sym (some name (ap (λ b. b || holds_name names name) (same_bytes name name refl))))
   where
+    one : (o : Option (List ℕ)) → holds_name (option_to_list o ++ first_bases at names) q ≡ (hit o q || holds_name (first_bases at names) q)
+    one None = refl
+    one (Some b) = refl
+
     split : (a x y : Bool) → (a && (x || y)) ≡ ((a && x) || (a && y))
     split true x y = refl
     split false x y = refl
 
--- no new base
-pub base_same : {A : Type 0} (v : List ℕ → A) (at : List ℕ → Option Part) (names : List (List ℕ)) (name q : List ℕ) (old : Option A) → is_some (at name) ≡ true
-    → (hit (first_base_of at name) q ≡ true → is_base at names q ≡ true) → old ≡ cond (is_base at names q) (Some (v q)) None
-    → old ≡ cond (is_base at (names ++ name ∷ []) q) (Some (v q)) None
-base_same {A = A} v at names name q old some known before =
-    before ∙ ap (λ b. cond b (Some (v q)) None) (sym (base_push at names name q some ∙ go (hit (first_base_of at name) q) refl))
-  where
-    go : (b : Bool) → hit (first_base_of at name) q ≡ b → (is_base at names q || hit (first_base_of at name) q) ≡ is_base at names q
-    go false is = ap (λ b. is_base at names q || b) is ∙ or_false (is_base at names q)
-    go true is = ap (λ b. is_base at names q || b) is ∙ or_true (is_base at names q) ∙ sym (known is)
-
--- a base that was not yet there, or is written once more
-pub base_put : {A : Type 0} (v : List ℕ → A) (at : List ℕ → Option Part) (names : List (List ℕ)) (name base q : List ℕ) (old new : Option A) → is_some (at name) ≡ true
-    → first_base_of at name ≡ Some base → old ≡ cond (is_base at names q) (Some (v q)) None → new ≡ cond (bytes_eq base q) (Some (v base)) old
-    → new ≡ cond (is_base at (names ++ name ∷ []) q) (Some (v q)) None
-base_put {A = A} v at names name base q old new some first before step = go (bytes_eq base q) refl
-  where
-    push : is_base at (names ++ name ∷ []) q ≡ (is_base at names q || bytes_eq base q)
-    push = base_push at names name q some ∙ ap (λ o. is_base at names q || hit o q) first
-
-    go : (b : Bool) → bytes_eq base q ≡ b → new ≡ cond (is_base at (names ++ name ∷ []) q) (Some (v q)) None
-    go true is =
-        step ∙ cond-true _ _ _ is ∙ ap (λ x. Some (v x)) (equal_bytes base q is)
-        ∙ sym (cond-true _ _ _ (push ∙ ap (λ b. is_base at names q || b) is ∙ or_true (is_base at names q)))
-    go false is =
-        step ∙ cond-false _ _ _ is ∙ before
-        ∙ ap (λ b. cond b (Some (v q)) None) (sym (push ∙ ap (λ b. is_base at names q || b) is ∙ or_false (is_base at names q)))
-
-pub base_known : {A : Type 0} (x : A) (b : Bool) (o : Option A) → o ≡ cond b (Some x) None → true ≡ is_some o → b ≡ true
-base_known x true o is h = refl
-base_known x false o is h = let clash : true ≡ false = h ∙ ap is_some is in absurd (cc)
-
--- a name that is hit is the base
-pub hit_base : (at : List ℕ → Option Part) (names : List (List ℕ)) (name base q : List ℕ) → first_base_of at name ≡ Some base → is_base at names base ≡ true
-    → hit (first_base_of at name) q ≡ true → is_base at names q ≡ true
-hit_base at names name base q first known h =
-    let same : bytes_eq base q ≡ true = sym (ap (λ o. hit o q) first) ∙ h in
-    ap (is_base at names) (sym (equal_bytes base q same)) ∙ known
-
-pub hit_none : (at : List ℕ → Option Part) (names : List (List ℕ)) (name q : List ℕ) → first_base_of at name ≡ None
-    → hit (first_base_of at name) q ≡ true → is_base at names q ≡ true
-hit_none at names name q first h = let clash : false ≡ true = sym (ap (λ o. hit o q) first) ∙ h in absurd (cc)
-
 -- ---- what is left
 
-pub used_same : (at : List ℕ → Option Part) (names : List (List ℕ)) (counts : List ℕ → Option ℕ) → ((q : List ℕ) → counts q ≡ base_count at names q) → (name : List ℕ)
-    → is_used_by counts name ≡ is_used at names name
-used_same at names counts same name = go (numbered name)
+-- what was joined is what was taken
+pub taken_used : (at : List ℕ → Option Part) (names bases : List (List ℕ)) → ((z : List ℕ) → holds_name bases z ≡ is_base at names z) → (q : List ℕ)
+    → is_taken at bases q ≡ is_used at names q
+taken_used at names bases same q = go (numbered q)
   where
-    pick : (n : List ℕ × ℕ) (b : Bool) → option_map_or (λ count. ltb n.1 count && bytes_eq name (piece_name n.0 n.1)) (cond b (Some (length (parts_of at n.0))) None) false
-        ≡ (b && (ltb n.1 (length (parts_of at n.0)) && bytes_eq name (piece_name n.0 n.1)))
-    pick n true = refl
-    pick n false = refl
-
-    go : (o : Option (List ℕ × ℕ)) → option_map_or (λ n. option_map_or (λ count. ltb n.1 count && bytes_eq name (piece_name n.0 n.1)) (counts n.0) false) o false
-        ≡ option_map_or (λ n. is_base at names n.0 && (ltb n.1 (length (parts_of at n.0)) && bytes_eq name (piece_name n.0 n.1))) o false
+    go : (o : Option (List ℕ × ℕ)) → option_map_or (λ n. holds_name bases n.0 && (ltb n.1 (length (parts_of at n.0)) && bytes_eq q (piece_name n.0 n.1))) o false
+        ≡ option_map_or (λ n. is_base at names n.0 && (ltb n.1 (length (parts_of at n.0)) && bytes_eq q (piece_name n.0 n.1))) o false
     go None = refl
-    go (Some n) = ap (λ c. option_map_or (λ count. ltb n.1 count && bytes_eq name (piece_name n.0 n.1)) c false) (same n.0) ∙ pick n (is_base at names n.0)
+    go (Some n) = ap (λ b. b && (ltb n.1 (length (parts_of at n.0)) && bytes_eq q (piece_name n.0 n.1))) (same n.0)
 
-pub left_unused : (at : List ℕ → Option Part) (names : List (List ℕ)) (name : List ℕ) (part : Part) → Some part ≡ at name → is_used at names name ≡ false
-    → joined_at at names name ≡ Some (alone part)
+-- the texts in the end: those of the other parts, those that were left, those of the bases
+pub in_the_end : (at : List ℕ → Option Part) (names : List (List ℕ)) (q : List ℕ) (extended : Option Part) (text base given : Option (List ℕ))
+    → ((z : List ℕ) → holds_name names z ≡ true → is_some (at z) ≡ true)
+    → option_or extended (option_map words.text text) ≡ left_by at (first_bases at names) q → base ≡ joined_text at (first_bases at names) q
+    → given ≡ option_or (option_map alone extended) (option_or text base) → given ≡ joined_at at names q
 unfolding joined_at
-left_unused at names name part is free =
-    ap (λ u. option_or (cond u None (option_map alone (at name))) (base_text at names name)) free
-    ∙ ap (λ o. option_or (option_map alone o) (base_text at names name)) (sym is)
+in_the_end at names q extended text base given some left joined_is made =
+    let bases : (z : List ℕ) → holds_name (first_bases at names) z ≡ is_base at names z = λ z. holds_first at names z some in
+    made ∙ over extended text
+    ∙ ap (λ o. option_or (option_map alone o) base) left
+    ∙ ap (λ b. option_or (option_map alone (cond b None (at q))) base) (taken_used at names (first_bases at names) bases q)
+    ∙ ap (λ o. option_or o base) (inner (is_used at names q))
+    ∙ ap (option_or (cond (is_used at names q) None (option_map alone (at q)))) (joined_is ∙ ap (λ b. cond b (Some (joined (parts_of at q))) None) (bases q))
+  where
+    over : (e : Option Part) (t : Option (List ℕ)) → option_or (option_map alone e) (option_or t base) ≡ option_or (option_map alone (option_or e (option_map words.text t))) base
+    over None None = refl
+    over None (Some t) = refl
+    over (Some e) t = refl
 
-pub left_used : (at : List ℕ → Option Part) (names : List (List ℕ)) (name : List ℕ) → is_used at names name ≡ true → joined_at at names name ≡ base_text at names name
-unfolding joined_at
-left_used at names name used = ap (λ u. option_or (cond u None (option_map alone (at name))) (base_text at names name)) used
+    inner : (b : Bool) → option_map alone (cond b None (at q)) ≡ cond b None (option_map alone (at q))
+    inner true = refl
+    inner false = refl
 
-pub left_none : (at : List ℕ → Option Part) (names : List (List ℕ)) (name : List ℕ) → at name ≡ None → joined_at at names name ≡ base_text at names name
-unfolding joined_at
-left_none at names name is =
-    ap (λ o. option_or (cond (is_used at names name) None (option_map alone o)) (base_text at names name)) is
-    ∙ ap (λ o. option_or o (base_text at names name)) (cond_none (is_used at names name))
+-- ---- texts that are written beside others
+
+-- a base where no text stands
+pub base_put : (t b : List ℕ → Option (List ℕ)) (names : List (List ℕ)) (name text : List ℕ) (old : Option (List ℕ))
+    → old ≡ filled (λ z. option_or (t z) (b z)) t names name → is_some old ≡ false → b name ≡ Some text → option_or (t name) (b name) ≡ Some text
+base_put t b names name text old before none is = go (t name) refl
+  where
+    both : (v : List ℕ) (h : Bool) → t name ≡ Some v → cond h (option_or (t name) (b name)) (t name) ≡ Some v
+    both v true e = ap (λ o. option_or o (b name)) e
+    both v false e = e
+
+    go : (o : Option (List ℕ)) → t name ≡ o → option_or (t name) (b name) ≡ Some text
+    go None e = ap (λ o. option_or o (b name)) e ∙ is
+    go (Some v) e = let clash : false ≡ true = sym none ∙ ap is_some (before ∙ both v (holds_name names name) e) in absurd (cc)
+
+-- one where a text stands
+pub base_kept : (t b : List ℕ → Option (List ℕ)) (names : List (List ℕ)) (name q : List ℕ) (old here : Option (List ℕ))
+    → old ≡ filled (λ z. option_or (t z) (b z)) t names q → here ≡ filled (λ z. option_or (t z) (b z)) t names name → is_some here ≡ true
+    → old ≡ filled (λ z. option_or (t z) (b z)) t (names ++ name ∷ []) q
+base_kept t b names name q old here before at_name some = go (t name) refl
+  where
+    go : (o : Option (List ℕ)) → t name ≡ o → old ≡ filled (λ z. option_or (t z) (b z)) t (names ++ name ∷ []) q
+    go (Some v) e = filled_skip (λ z. option_or (t z) (b z)) t names name q old before (ap (λ o. option_or o (b name)) e ∙ sym e)
+    go None e = filled_again (λ z. option_or (t z) (b z)) t names name q old before (held (holds_name names name) refl)
+      where
+        held : (h : Bool) → holds_name names name ≡ h → holds_name names name ≡ true
+        held true is = is
+        held false is = let clash : true ≡ false = sym some ∙ ap is_some (at_name ∙ cond-false _ _ _ is ∙ e) in absurd (cc)

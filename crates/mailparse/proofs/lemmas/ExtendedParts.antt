@@ -1,23 +1,27 @@
--- What stands at the names that wait.
-use Rattle.std.proofs.Common.{◌≡◌, ℕ, zero, suc, ◌+◌, ◌<◌, ◌≤◌, Bool, true, false, not, cond, eqb, List, [], ◌∷◌, ◌++◌, length, take, get_or, map, Option, Some, None, is_some, option_map, refl, sym, ap, subst, ◌∙◌, arith, ⊎_elim}
+-- How the values of the names that wait are read.
+use Rattle.std.proofs.Common.{◌≡◌, ℕ, zero, suc, ◌+◌, ◌<◌, ◌≤◌, Bool, true, false, not, ◌&&◌, ◌||◌, cond, eqb, List, [], ◌∷◌, ◌++◌, length, take, get_or, map, Option, Some, None, is_some, option_map, refl, sym, ap, subst, ◌∙◌, arith, ⊎_elim}
 use Rattle.std.proofs.Math.ListN.{get_or-map}
-use Rattle.std.proofs.lemmas.Bool.{and_from, cases_order, cond-false, cond-true, eq-eqb, ne_eqb}
+use Rattle.std.proofs.lemmas.Bool.{and_from, and_right, cases_order, cond-false, cond-true, eq-eqb, ne_eqb}
 use Rattle.std.proofs.lemmas.List.{get_or-map as get_or-bounded, get_or_default, length-map, take_all}
-use Rattle.std.proofs.lemmas.List.Folds.{list_any_at}
+use Rattle.std.proofs.lemmas.List.Folds.{list_any_at, list_any_more}
+use Rattle.std.specs.List.{All}
 use Rattle.std.specs.Option.{unwrap_or}
+use Rattle.std.specs.String.{string_bytes}
 use Rattle.std.specs.Str.{bytes_eq}
 use Rattle.mail_codec.specs.Charset.{four_charsets, text_of}
+use Rattle.mail_codec.specs.declared.charset.Charset.{Charset}
 use Rattle.mailparse.specs.Continuations as joined
 use Rattle.mailparse.specs.Continuations.{extended_at}
 use Rattle.mailparse.specs.Pairs.{Texts}
-use Rattle.mailparse.specs.StarredKeys.{decider, extended_value, is_waiting, label_in, octets_of, reading_of, text_in}
+use Rattle.mailparse.specs.StarredKeys.{decider, extended_value, starred, is_waiting, label_in, octets_of, reading_of, text_in}
 use Rattle.mailparse.specs.private.Deciders.{AreInOrder, decided, name_at}
-use Rattle.mailparse.specs.private.Filled.{filled, holds_name}
-use Rattle.mailparse.specs.private.StarredKeys.{Found, extended_by, extended_part, found_by_place, names_of, waiting_entries, waiting_view}
+use Rattle.mailparse.specs.private.Filled.{holds_name}
+use Rattle.mailparse.specs.private.StarredKeys.{Found, IsReading, Read, extended_part, found_by_place, names_of, names_read, read_part, reading_by, reading_view, waiting_entries, waiting_view}
+use Rattle.mailparse.specs.declared.parameters.starred.Reading.{Reading}
 use Rattle.mailparse.specs.declared.parameters.starred.waiting.Waiting.{Waiting}
-use Rattle.mailparse.proofs.lemmas.Filled.{filled_all, filled_push, filled_skip}
+use Rattle.mailparse.proofs.lemmas.Filled.{holds_push, or_false, or_true}
 use Rattle.mailparse.proofs.lemmas.Speakers.{decided_within, decider_at_place, is_before, not_itself}
-use Rattle.mailparse.proofs.lemmas.StarredKeys.{equal_bytes, same_bytes}
+use Rattle.mailparse.proofs.lemmas.StarredKeys.{equal_bytes, is_some_map, same_bytes}
 use Rattle.mailparse.proofs.lemmas.Waiting.{AreWaiting, IsFound, IsMapOf, are_waiting, at_in, in_found}
 use Rattle.percent_encoding.specs.Percent.{percent_decode}
 
@@ -84,7 +88,13 @@ octets_found keys entries w last decides map_of fw is same =
     ∙ ap (λ n. percent_decode (cond (bytes_eq n w.0) (text_in w.1) w.1)) (sym is)
     ∙ ap (λ b. percent_decode (cond b (text_in w.1) w.1)) same)
 
-pub extended_is : (keys : Texts) (entries : List (List ℕ × List ℕ)) (waiting : List Waiting) (place last : ℕ) → IsMapOf keys entries → map waiting_view waiting ≡ waiting_entries keys entries
+-- what stands at the name at a place, where the one at another decides
+abbrev extended_by : List Found → ℕ → ℕ → Option joined.Part
+extended_by found place last =
+    let one = found_by_place found place in
+    option_map (λ charset. extended_part one.0 (text_of charset) (percent_decode (cond (eqb last place) (text_in one.1) one.1))) (found_by_place found last).2
+
+extended_is : (keys : Texts) (entries : List (List ℕ × List ℕ)) (waiting : List Waiting) (place last : ℕ) → IsMapOf keys entries → map waiting_view waiting ≡ waiting_entries keys entries
     → place < length waiting → last ≡ decided (names_of waiting) (length waiting) place
     → extended_by (map waiting_view waiting) place last ≡ extended_at four_charsets keys (name_at (names_of waiting) place)
 extended_is keys entries waiting place last map_of found below is =
@@ -137,31 +147,83 @@ extended_is keys entries waiting place last map_of found below is =
     reading : reading_of four_charsets keys w.0 ≡ option_map text_of z.2
     reading = reading_found keys entries w z map_of fw fz decides
 
+-- how the name at a place is read
+pub reading_known : (keys : Texts) (entries : List (List ℕ × List ℕ)) (waiting : List Waiting) (place last : ℕ) → IsMapOf keys entries → map waiting_view waiting ≡ waiting_entries keys entries
+    → place < length waiting → last ≡ decided (names_of waiting) (length waiting) place
+    → is_some (reading_of four_charsets keys (name_at (names_of waiting) place)) ≡ is_some (reading_by (map waiting_view waiting) place last)
+reading_known keys entries waiting place last map_of found below is =
+    sym (is_some_map _ (reading_of four_charsets keys (name_at (names_of waiting) place)))
+    ∙ ap is_some (sym (extended_is keys entries waiting place last map_of found below is))
+    ∙ is_some_map _ (found_by_place (map waiting_view waiting) last).2
+    ∙ sym (is_some_map _ (found_by_place (map waiting_view waiting) last).2)
+
+pub reading_made : (keys : Texts) (entries : List (List ℕ × List ℕ)) (waiting : List Waiting) (place last : ℕ) (r : Read) → IsMapOf keys entries
+    → map waiting_view waiting ≡ waiting_entries keys entries → place < length waiting → last ≡ decided (names_of waiting) (length waiting) place
+    → Some r ≡ reading_by (map waiting_view waiting) place last → IsReading keys r × (r.0 ≡ name_at (names_of waiting) place)
+reading_made keys entries waiting place last r map_of found below is made = go z.2 refl
+  where
+    w : Found
+    w = found_by_place (map waiting_view waiting) place
+
+    z : Found
+    z = found_by_place (map waiting_view waiting) last
+
+    fw : IsFound keys entries w
+    fw = found_at_place keys entries waiting found place below
+
+    there : keys (starred w.0) ≡ Some w.1
+    there = map_of.holds _ fw.entry
+
+    gives : (charset : Charset) → z.2 ≡ Some charset → extended_at four_charsets keys w.0 ≡ Some (read_part (w.0, charset, eqb last place) (extended_value keys w.0))
+    gives charset e =
+        ap (extended_at four_charsets keys) (name_by_place waiting place)
+        ∙ sym (extended_is keys entries waiting place last map_of found below is)
+        ∙ ap (option_map (λ c. extended_part w.0 (text_of c) (percent_decode (cond (eqb last place) (text_in w.1) w.1)))) e
+        ∙ ap (λ v. Some (read_part (w.0, charset, eqb last place) v)) (sym (ap (λ o. unwrap_or o []) there))
+
+    go : (o : Option Charset) → z.2 ≡ o → IsReading keys r × (r.0 ≡ name_at (names_of waiting) place)
+    go None e = let clash : Some r ≡ None = made ∙ ap (option_map (λ charset. (w.0, charset, eqb last place))) e in absurd (cc)
+    go (Some charset) e =
+        let whole : Some r ≡ Some (w.0, charset, eqb last place) = made ∙ ap (option_map (λ c. (w.0, c, eqb last place))) e in
+        let same : r ≡ (w.0, charset, eqb last place) = ap (λ o. unwrap_or o r) whole in
+        (subst (IsReading keys) (sym same) (record { valued = ap is_some there; gives = gives charset e }), ap (λ (x : Read). x.0) same ∙ name_by_place waiting place)
+
 -- ---- a walk over the places
 
-take_next : {A : Type 0} (d : A) (xs : List A) (i : ℕ) → i < length xs → take (suc i) xs ≡ take i xs ++ get_or xs i d ∷ []
-take_next d [] i h = absurd (omega arith)
-take_next d (x ∷ xs) zero h = refl
-take_next d (x ∷ xs) (suc i) h = ap (λ r. x ∷ r) (take_next d xs i (omega arith))
+-- the names so far whose values are read, of those that are known
+pub names_more : (names : List (List ℕ)) (known : List ℕ → Bool) (place : ℕ) (found : List (List ℕ)) (name q : List ℕ) → place < length names
+    → name ≡ name_at names place → known (name_at names place) ≡ true → holds_name found q ≡ (holds_name (take place names) q && known q)
+    → holds_name (found ++ name ∷ []) q ≡ (holds_name (take (place + 1) names) q && known q)
+names_more names known place found name q below is known_here before =
+    holds_push found name q ∙ ap (λ b. b || bytes_eq name q) before
+    ∙ go (bytes_eq name q) refl
+    ∙ ap (λ b. b && known q) (sym (list_any_more (λ n. bytes_eq n q) names place [] below ∙ ap (λ n. holds_name (take place names) q || bytes_eq n q) (sym is)))
+  where
+    both : (h k : Bool) → k ≡ true → ((h && k) || true) ≡ ((h || true) && k)
+    both true k e = or_true (true && k) ∙ sym e
+    both false k e = sym e
 
-take_push : {A : Type 0} (d : A) (xs : List A) (i : ℕ) → i < length xs → take (i + 1) xs ≡ take i xs ++ get_or xs i d ∷ []
-take_push d xs i h = let same : i + 1 ≡ suc i = omega arith in ap (λ k. take k xs) same ∙ take_next d xs i h
+    go : (b : Bool) → bytes_eq name q ≡ b → ((holds_name (take place names) q && known q) || bytes_eq name q) ≡ ((holds_name (take place names) q || bytes_eq name q) && known q)
+    go true e =
+        ap (λ b. (holds_name (take place names) q && known q) || b) e
+        ∙ both (holds_name (take place names) q) (known q) (ap known (sym (equal_bytes name q e) ∙ is) ∙ known_here)
+        ∙ ap (λ b. (holds_name (take place names) q || b) && known q) (sym e)
+    go false e =
+        ap (λ b. (holds_name (take place names) q && known q) || b) e ∙ or_false (holds_name (take place names) q && known q)
+        ∙ ap (λ b. b && known q) (sym (ap (λ b. holds_name (take place names) q || b) e ∙ or_false (holds_name (take place names) q)))
 
-pub place_written : (f g : List ℕ → Option joined.Part) (names : List (List ℕ)) (place : ℕ) → place < length names → (q name : List ℕ) (part : joined.Part) (old new : Option joined.Part)
-    → old ≡ filled f g (take place names) q → name ≡ name_at names place → Some part ≡ f (name_at names place) → new ≡ cond (bytes_eq name q) (Some part) old
-    → new ≡ filled f g (take (place + 1) names) q
-place_written f g names place below q name part old new before is some step =
-    filled_push f g (take place names) (name_at names place) q old new before
-    (step ∙ ap (λ n. cond (bytes_eq n q) (Some part) old) is ∙ ap (λ o. cond (bytes_eq (name_at names place) q) o old) some)
-    ∙ ap (λ ns. filled f g ns q) (sym (take_push [] names place below))
-
-pub place_passed : (f g : List ℕ → Option joined.Part) (names : List (List ℕ)) (place : ℕ) → place < length names → (q : List ℕ) (old : Option joined.Part)
-    → old ≡ filled f g (take place names) q → f (name_at names place) ≡ g (name_at names place) → old ≡ filled f g (take (place + 1) names) q
-place_passed f g names place below q old before same =
-    filled_skip f g (take place names) (name_at names place) q old before same ∙ ap (λ ns. filled f g ns q) (sym (take_push [] names place below))
-
-pub name_read : (waiting : List Waiting) (place : ℕ) (one : Waiting) → place < length waiting → one ≡ get_or waiting place one → one.name.now ≡ name_at (names_of waiting) place
-name_read waiting place one below is = ap (λ (w : Waiting). w.name.now) is ∙ sym (get_or-bounded (λ (w : Waiting). w.name.now) waiting place one [] below)
+pub names_passed : (names : List (List ℕ)) (known : List ℕ → Bool) (place : ℕ) (found : List (List ℕ)) (q : List ℕ) → place < length names
+    → known (name_at names place) ≡ false → holds_name found q ≡ (holds_name (take place names) q && known q)
+    → holds_name found q ≡ (holds_name (take (place + 1) names) q && known q)
+names_passed names known place found q below unknown before =
+    before ∙ go (bytes_eq (name_at names place) q) refl
+    ∙ ap (λ b. b && known q) (sym (list_any_more (λ n. bytes_eq n q) names place [] below))
+  where
+    go : (b : Bool) → bytes_eq (name_at names place) q ≡ b → (holds_name (take place names) q && known q) ≡ ((holds_name (take place names) q || bytes_eq (name_at names place) q) && known q)
+    go true e =
+        let not_known : known q ≡ false = ap known (sym (equal_bytes (name_at names place) q e)) ∙ unknown in
+        and_right _ _ not_known ∙ sym (and_right _ _ not_known)
+    go false e = ap (λ b. b && known q) (sym (ap (λ b. holds_name (take place names) q || b) e ∙ or_false (holds_name (take place names) q)))
 
 -- the place of the name that decides, as it was read
 pub place_read : (waiting slice : List Waiting) (items : List ℕ) (place at : ℕ) → slice ≡ waiting → AreInOrder (names_of waiting) → length items ≡ length slice
@@ -186,15 +248,28 @@ unfolding reading_of
 extended_none keys q h = ap (option_map (λ reading. extended_part q reading (octets_of keys q))) (cond-false _ _ _ h)
 
 -- all names that wait were passed
-pub extended_all : (keys : Texts) (names : List (List ℕ)) (place : ℕ) → AreWaiting keys names → length names ≤ place → (q : List ℕ) (old : Option joined.Part)
-    → old ≡ filled (extended_at four_charsets keys) (λ _. None) (take place names) q → old ≡ extended_at four_charsets keys q
-extended_all keys names place all full q old before =
-    filled_all (extended_at four_charsets keys) (λ _. None) names q old (before ∙ ap (λ ns. filled (extended_at four_charsets keys) (λ _. None) ns q) (take_all place names full))
-    (λ none. extended_none keys q (go (is_waiting keys q) refl none))
+pub names_all : (keys : Texts) (names : List (List ℕ)) (place : ℕ) → AreWaiting keys names → length names ≤ place → (q : List ℕ) (found : List (List ℕ))
+    → holds_name found q ≡ (holds_name (take place names) q && is_some (reading_of four_charsets keys q)) → holds_name found q ≡ is_some (reading_of four_charsets keys q)
+unfolding reading_of
+names_all keys names place all full q found before = before ∙ ap (λ ns. holds_name ns q && is_some (reading_of four_charsets keys q)) (take_all place names full) ∙ go (is_waiting keys q) refl
   where
-    go : (b : Bool) → is_waiting keys q ≡ b → holds_name names q ≡ false → is_waiting keys q ≡ false
-    go false is none = is
-    go true is none =
+    go : (b : Bool) → is_waiting keys q ≡ b → (holds_name names q && is_some (reading_of four_charsets keys q)) ≡ is_some (reading_of four_charsets keys q)
+    go false is =
+        let none = ap is_some (cond-false (is_waiting keys q) (four_charsets (label_in (extended_value keys (decider keys q)))) None is) in
+        and_right _ _ none ∙ sym none
+    go true is =
         let at = all.complete q is in
         let some = list_any_at (λ n. bytes_eq n q) names at.0 [] at.1 (same_bytes _ _ at.2) in
-        let clash : true ≡ false = sym some ∙ none in absurd (cc)
+        ap (λ b. b && is_some (reading_of four_charsets keys q)) some
+
+-- ---- a walk over the readings
+
+pub reading_turn : (keys : Texts) (items : List Reading) (k : ℕ) (r : Reading) → All (IsReading keys) (map reading_view items) → k < length items → r ≡ get_or items k r
+    → IsReading keys (reading_view r)
+reading_turn keys items k r all below is =
+    let long = length-map items reading_view in
+    subst (IsReading keys) (get_or-map reading_view items k r ∙ ap reading_view (sym is)) (all k (reading_view r) (omega (arith, below, long)))
+
+pub names_of_all : (taken items : List Reading) → map (λ r. r) taken ≡ items → names_read taken ≡ names_read items
+names_of_all [] items h = ap names_read h
+names_of_all (r ∷ taken) items h = ap (λ ns. string_bytes r.name ∷ ns) (names_of_all taken (map (λ x. x) taken) refl) ∙ ap names_read h

@@ -1,5 +1,5 @@
 -- A map that is filled name by name.
-use Rattle.std.proofs.Common.{◌≡◌, ℕ, Bool, true, false, ◌||◌, cond, List, [], ◌∷◌, ◌++◌, Option, Some, option_map, BTreeMap, String, string_bytes, refl, sym, ap, ◌∙◌}
+use Rattle.std.proofs.Common.{◌≡◌, ℕ, Bool, true, false, ◌||◌, cond, List, [], ◌∷◌, ◌++◌, Option, Some, None, option_map, BTreeMap, String, string_bytes, refl, sym, ap, ◌∙◌}
 use Rattle.std.proofs.lemmas.Bool.{cond-false, cond-true}
 use Rattle.std.proofs.lemmas.Map.Text.{btree_map_updates_text}
 use Rattle.std.specs.BTreeMap.{UpdatesBy, get_by_text}
@@ -63,6 +63,21 @@ filled_skip {A = A} f g names name q old before same = go (bytes_eq name q) refl
     go true is = before ∙ here is (holds_name names q) ∙ sym (here is (holds_name (names ++ name ∷ []) q))
     go false is = before ∙ ap (λ b. cond b (f q) (g q)) (sym (any ∙ ap (λ b. holds_name names q || b) is ∙ or_false (holds_name names q)))
 
+-- a name that is held already
+pub holds_push : (names : List (List ℕ)) (name q : List ℕ) → holds_name (names ++ name ∷ []) q ≡ (holds_name names q || bytes_eq name q)
+holds_push names name q = any_push (λ n. bytes_eq n q) names name
+
+pub holds_again : (names : List (List ℕ)) (name q : List ℕ) → holds_name names name ≡ true → holds_name (names ++ name ∷ []) q ≡ holds_name names q
+holds_again names name q held = holds_push names name q ∙ go (bytes_eq name q) refl
+  where
+    go : (b : Bool) → bytes_eq name q ≡ b → (holds_name names q || bytes_eq name q) ≡ holds_name names q
+    go true is = ap (λ b. holds_name names q || b) is ∙ or_true (holds_name names q) ∙ sym (ap (holds_name names) (sym (equal_bytes name q is)) ∙ held)
+    go false is = ap (λ b. holds_name names q || b) is ∙ or_false (holds_name names q)
+
+pub filled_again : {A : Type 0} (f g : List ℕ → Option A) (names : List (List ℕ)) (name q : List ℕ) (old : Option A) → old ≡ filled f g names q
+    → holds_name names name ≡ true → old ≡ filled f g (names ++ name ∷ []) q
+filled_again f g names name q old before held = before ∙ ap (λ b. cond b (f q) (g q)) (sym (holds_again names name q held))
+
 -- all names that one says something of were passed
 pub filled_all : {A : Type 0} (f g : List ℕ → Option A) (names : List (List ℕ)) (q : List ℕ) (old : Option A) → old ≡ filled f g names q
     → (holds_name names q ≡ false → f q ≡ g q) → old ≡ f q
@@ -81,3 +96,12 @@ mapped f false v o = refl
 pub stored : {Y X B : Type 0} (f : X → B) (name : List ℕ) (old new : BTreeMap (String Y) X) (v : X) → UpdatesBy string_cmp (λ k. slice_cmp nat_cmp name (string_bytes k)) old new (Some v)
     → (q : List ℕ) → option_map f (get_by_text new q) ≡ cond (bytes_eq name q) (Some (f v)) (option_map f (get_by_text old q))
 stored f name old new v updates q = ap (option_map f) (btree_map_updates_text name old new (Some v) updates q) ∙ mapped f (bytes_eq name q) v (get_by_text old q)
+
+-- what a removal leaves at each name
+pub removed : {Y X B : Type 0} (f : X → B) (name : List ℕ) (old new : BTreeMap (String Y) X) → UpdatesBy string_cmp (λ k. slice_cmp nat_cmp name (string_bytes k)) old new None
+    → (q : List ℕ) → option_map f (get_by_text new q) ≡ cond (bytes_eq name q) None (option_map f (get_by_text old q))
+removed {X = X} f name old new updates q = ap (option_map f) (btree_map_updates_text name old new None updates q) ∙ go (bytes_eq name q) (get_by_text old q)
+  where
+    go : (b : Bool) (o : Option X) → option_map f (cond b None o) ≡ cond b None (option_map f o)
+    go true o = refl
+    go false o = refl

@@ -1,16 +1,19 @@
 -- The base and the number of a name.
-use Rattle.std.proofs.Common.{◌≡◌, ℕ, suc, ◌+◌, ◌-◌, ◌<◌, ◌^◌, Bool, true, false, not, ◌&&◌, ◌||◌, cond, eqb, ltb, List, [], ◌∷◌, length, length-drop, take, drop, get_or, Option, Some, None, option_map, Ok, Err, refl, sym, ap, ◌∙◌, arith, ⊎_elim}
+use Rattle.std.proofs.Common.{◌≡◌, ℕ, suc, ◌++◌, subst, ◌+◌, ◌-◌, ◌<◌, ◌^◌, Bool, true, false, not, ◌&&◌, ◌||◌, cond, eqb, ltb, List, [], ◌∷◌, length, length-drop, take, drop, get_or, Option, Some, None, option_map, Ok, Err, refl, sym, ap, ◌∙◌, arith, ⊎_elim}
 use Rattle.std.proofs.lemmas.Bool.{cond-true, cond-false, lt-ltb, ltb-true, eq-eqb, ne_eqb, and_from, and_parts, cases_lt}
-use Rattle.std.proofs.lemmas.List.{get_or-drop}
+use Rattle.std.proofs.Math.Seq.{drop-append-add, get_or-append_right, get_or-append_seam, take-append_seam}
+use Rattle.std.proofs.lemmas.Fmt.{decimal_is_IsNumeral}
+use Rattle.std.proofs.lemmas.List.{get_or-drop, length-append}
 use Rattle.std.proofs.lemmas.List.Folds.{list_any_at}
 use Rattle.std.proofs.lemmas.List.Sums.{suffix_len_is}
 use Rattle.std.proofs.lemmas.Str.{NoCharPasses-byte}
-use Rattle.std.proofs.lemmas.Str.Parse.{tells_all_ascii_digits, tells_digits}
+use Rattle.std.proofs.lemmas.Str.Parse.{digit_at, tells_all_ascii_digits, tells_digits, without_leading_plus_none}
+use Rattle.std.specs.Fmt.{decimal}
 use Rattle.std.specs.List.{list_any, suffix_len, before_last, after_last}
 use Rattle.std.specs.Str.{all_ascii_digits, NoCharPasses}
 use Rattle.std.specs.Str.Parse.{AllDigits, ParsesUnsigned, digits_value, without_leading_plus}
 use Rattle.std.specs.Str.Pattern.{HasCharAt}
-use Rattle.mailparse.specs.Continuations.{is_star, number_in, numbered}
+use Rattle.mailparse.specs.Continuations.{is_star, number_in, numbered, piece_name}
 
 -- ---- the number that digits write
 
@@ -85,3 +88,56 @@ numbered_cut name base text number (star, before, after) reads =
     cond-true _ _ _ star
     ∙ ap (option_map (λ n. (before_last is_star name, n))) (ap number_in after ∙ reads)
     ∙ ap (λ b. option_map (λ n. (b, n)) number) before
+
+-- ---- the name of a piece
+
+number_of_decimal : (n : ℕ) → n < 2 ^ 64 → number_in (decimal n) ≡ Some n
+number_of_decimal n below =
+    ap (λ ds. cond (ltb 0 (length ds) && all_ascii_digits ds && ltb (digits_value 10 ds) (2 ^ 64)) (Some (digits_value 10 ds)) None) plain
+    ∙ cond-true _ _ _ (and_from _ _ (and_from _ _ (lt-ltb 0 (length (decimal n)) d.0.0) (all_digits (decimal n) d.0.1)) (lt-ltb (digits_value 10 (decimal n)) (2 ^ 64) (subst (λ v. v < 2 ^ 64) (sym d.1) below)))
+    ∙ ap Some d.1
+  where
+    d : ((0 < length (decimal n)) × AllDigits 10 (decimal n)) × (digits_value 10 (decimal n) ≡ n)
+    d = decimal_is_IsNumeral n below
+
+    plain : without_leading_plus (decimal n) ≡ decimal n
+    plain = without_leading_plus_none (decimal n) (λ e. let at = digit_at (decimal n) 0 d.0.1 d.0.0 in omega (arith, e, at.0))
+
+cut_at_star : (base ds : List ℕ) → AllDigits 10 ds
+    → (list_any is_star (base ++ 42 ∷ ds) ≡ true) × (before_last is_star (base ++ 42 ∷ ds) ≡ base) × (after_last is_star (base ++ 42 ∷ ds) ≡ ds)
+cut_at_star base ds digits = (
+  list_any_at is_star name (length base) 0 (omega (arith, long)) (eq-eqb _ _ (get_or-append_seam base 42 ds 0)),
+  ap (λ k. take k name) front ∙ take-append_seam base (42 ∷ ds),
+  ap (λ k. drop k name) rest ∙ drop-append-add base (42 ∷ ds) 1,
+)
+  where
+    name : List ℕ
+    name = base ++ 42 ∷ ds
+
+    long : length name ≡ length base + suc (length ds)
+    long = length-append base (42 ∷ ds)
+
+    past : (k : ℕ) → length base + 1 < k + 1 → k < length name → not (is_star (get_or name k 0)) ≡ true
+    past k from within =
+        let next : k - length base ≡ suc (k - (length base + 1)) = omega arith in
+        let at = digit_at ds (k - (length base + 1)) digits (omega (arith, long)) in
+        let read = get_or-append_right base (42 ∷ ds) k 0 (omega arith) ∙ ap (λ j. get_or (42 ∷ ds) j 0) next in
+        ap not (ne_eqb _ _ (λ e. absurd (omega (arith, e, read, at.0))))
+
+    suffix : suffix_len (λ b. not (is_star b)) name ≡ length name - (length base + 1)
+    suffix =
+        suffix_len_is (λ b. not (is_star b)) name (length base + 1) 0 (omega (arith, long)) (λ k from within. past k (omega arith) within)
+        (λ some. let same : length base + 1 - 1 ≡ length base = omega arith in
+        ap not (eq-eqb _ _ (ap (λ k. get_or name k 0) same ∙ get_or-append_seam base 42 ds 0)))
+
+    front : length name - suffix_len (λ b. not (is_star b)) name - 1 ≡ length base
+    front = omega (arith, long, suffix)
+
+    rest : length name - suffix_len (λ b. not (is_star b)) name ≡ length base + 1
+    rest = omega (arith, long, suffix)
+
+-- a piece's name has its base and its number
+pub numbered_piece : (base : List ℕ) (n : ℕ) → n < 2 ^ 64 → numbered (piece_name base n) ≡ Some (base, n)
+numbered_piece base n below =
+    let d = decimal_is_IsNumeral n below in
+    numbered_cut (piece_name base n) base (decimal n) (Some n) (cut_at_star base (decimal n) d.0.1) (number_of_decimal n below)

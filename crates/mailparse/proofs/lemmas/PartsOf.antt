@@ -1,36 +1,33 @@
 -- What stands at each name once the starred keys are read.
-use Rattle.std.proofs.Common.{◌≡◌, ℕ, Bool, true, false, not, ◌&&◌, ◌||◌, cond, List, [], ◌∷◌, map, Option, Some, None, is_some, option_map, BTreeMap, String, string_bytes, refl, sym, ap, ◌∙◌}
-use Rattle.std.proofs.lemmas.Bool.{and_right, cond-false, cond-true}
+use Rattle.std.proofs.Common.{◌≡◌, ℕ, Bool, true, false, ◌&&◌, ◌||◌, cond, List, [], ◌∷◌, ◌++◌, map, Option, Some, None, is_some, option_map, BTreeMap, String, string_bytes, refl, sym, ap, ◌∙◌}
+use Rattle.std.proofs.lemmas.Bool.{and_from, and_left, cond-false, cond-true}
 use Rattle.std.proofs.lemmas.Map.Text.{is_eq-slice_cmp}
 use Rattle.std.specs.BTreeMap.{get_by_text}
 use Rattle.std.specs.Borrow.{Bor}
 use Rattle.std.specs.Global.{Global}
 use Rattle.std.specs.Cmp.Lexicographic.{slice_cmp}
 use Rattle.std.specs.Map.{lookup}
-use Rattle.std.specs.Option.{option_or}
+use Rattle.std.specs.Option.{option_or, unwrap_or}
 use Rattle.std.specs.Ordering.{is_eq, nat_cmp}
 use Rattle.std.specs.Str.{bytes_eq}
 use Rattle.mail_codec.specs.Charset.{four_charsets}
 use Rattle.mailparse.specs.Continuations as joined
 use Rattle.mailparse.specs.Continuations.{extended_at, has_left, part_at}
 use Rattle.mailparse.specs.Pairs.{Texts}
-use Rattle.mailparse.specs.StarredKeys.{is_starred, name_under, reading_of}
-use Rattle.mailparse.specs.private.Filled.{filled, holds_name, shown_name}
-use Rattle.mailparse.specs.private.StarredKeys.{has_left_by}
-use Rattle.mailparse.proofs.lemmas.ExtendedParts.{extended_none}
+use Rattle.mailparse.specs.StarredKeys.{extended_value, is_starred, name_under, reading_of, starred}
+use Rattle.mailparse.specs.private.Filled.{filled, holds_name, shown_name, taken_name}
+use Rattle.mailparse.specs.private.StarredKeys.{without_starred}
+use Rattle.mailparse.proofs.lemmas.Filled.{filled_all, holds_push, or_false, or_true}
+use Rattle.mailparse.proofs.lemmas.Speakers.{name_under_starred}
 use Rattle.mailparse.proofs.lemmas.StarredKeys.{equal_bytes, is_some_map, same_bytes}
 
-or_none : {A : Type 0} (o : Option A) → option_or o None ≡ o
+pub or_none : {A : Type 0} (o : Option A) → option_or o None ≡ o
 or_none None = refl
 or_none (Some x) = refl
 
 pub cond_none : {A : Type 0} (b : Bool) → cond {A = Option A} b None None ≡ None
 cond_none true = refl
 cond_none false = refl
-
-reading_none : (keys : Texts) (q : List ℕ) → is_some (keys q) ≡ true → reading_of four_charsets keys q ≡ None
-unfolding reading_of
-reading_none keys q h = cond-false _ _ _ (and_right _ _ (ap not h))
 
 -- a name that is no key
 pub part_none : (keys : Texts) (q : List ℕ) → keys q ≡ None → part_at four_charsets keys q ≡ extended_at four_charsets keys q
@@ -40,41 +37,80 @@ part_none keys q h =
     ∙ ap (option_or (extended_at four_charsets keys q)) (cond_none (has_left four_charsets keys q))
     ∙ or_none (extended_at four_charsets keys q)
 
--- a key that left
-pub part_left : (keys : Texts) (q : List ℕ) → has_left four_charsets keys q ≡ true → part_at four_charsets keys q ≡ extended_at four_charsets keys q
-unfolding part_at
-part_left keys q h = ap (option_or (extended_at four_charsets keys q)) (cond-true _ _ _ h) ∙ or_none (extended_at four_charsets keys q)
+-- ---- the starred keys that leave
 
--- one that stays
-pub part_text : (keys : Texts) (q value : List ℕ) → keys q ≡ Some value → has_left four_charsets keys q ≡ false → part_at four_charsets keys q ≡ Some (joined.text value)
-unfolding part_at
-part_text keys q value is h =
-    ap (λ o. option_or o (cond (has_left four_charsets keys q) None (option_map joined.text (keys q)))) none
-    ∙ cond-false _ _ _ h ∙ ap (option_map joined.text) is
+-- the key of one more name leaves
+pub starred_leaves : (keys : Texts) (names : List (List ℕ)) (name q : List ℕ) (old new : Option (List ℕ)) → old ≡ without_starred keys names q
+    → new ≡ cond (bytes_eq (starred name) q) None old → new ≡ without_starred keys (names ++ name ∷ []) q
+starred_leaves keys names name q old new before step = go (bytes_eq (starred name) q) refl
   where
-    none : extended_at four_charsets keys q ≡ None
-    none = extended_none keys q (and_right _ _ (ap not (ap is_some is)))
+    more : holds_name (names ++ name ∷ []) (name_under q) ≡ (holds_name names (name_under q) || bytes_eq name (name_under q))
+    more = holds_push names name (name_under q)
 
--- whether a key left, by what was read
-pub left_same : (keys : Texts) (at : List ℕ → Option joined.Part) (names : List (List ℕ)) (key : List ℕ)
-    → ((q : List ℕ) → at q ≡ filled (part_at four_charsets keys) (extended_at four_charsets keys) names q) → has_left_by keys at key ≡ has_left four_charsets keys key
-left_same keys at names key before = ap (λ b. is_starred key && b) (go (keys under) refl)
+    go : (b : Bool) → bytes_eq (starred name) q ≡ b → new ≡ without_starred keys (names ++ name ∷ []) q
+    go true is =
+        let whole : starred name ≡ q = equal_bytes (starred name) q is in
+        let under : name ≡ name_under q = sym (name_under_starred name) ∙ ap name_under whole in
+        let ends : is_starred q ≡ true = same_bytes q (starred (name_under q)) (sym whole ∙ ap starred under) in
+        let held : holds_name (names ++ name ∷ []) (name_under q) ≡ true =
+        more ∙ ap (λ b. holds_name names (name_under q) || b) (same_bytes name (name_under q) under) ∙ or_true (holds_name names (name_under q)) in
+        step ∙ cond-true _ _ _ is ∙ sym (cond-true _ _ _ (and_from _ _ ends held))
+    go false is = step ∙ cond-false _ _ _ is ∙ before ∙ ap (λ b. cond b None (keys q)) (sym (other (is_starred q) refl))
+      where
+        other : (b : Bool) → is_starred q ≡ b → (is_starred q && holds_name (names ++ name ∷ []) (name_under q)) ≡ (is_starred q && holds_name names (name_under q))
+        other false ends = and_left _ _ ends ∙ sym (and_left _ _ ends)
+        other true ends = ap (λ b. is_starred q && b) (more ∙ ap (λ b. holds_name names (name_under q) || b) (unlike (bytes_eq name (name_under q)) refl) ∙ or_false (holds_name names (name_under q)))
+          where
+            unlike : (b : Bool) → bytes_eq name (name_under q) ≡ b → bytes_eq name (name_under q) ≡ false
+            unlike false e = e
+            unlike true e =
+                let whole : starred name ≡ q = ap starred (equal_bytes name (name_under q) e) ∙ sym (equal_bytes q (starred (name_under q)) ends) in
+                let clash : false ≡ true = sym is ∙ same_bytes (starred name) q whole in
+                absurd (cc)
+
+starred_at : (keys : Texts) (names : List (List ℕ)) (name : List ℕ) → without_starred keys names (starred name) ≡ cond (holds_name names name) None (keys (starred name))
+starred_at keys names name =
+    ap (λ b. cond (b && holds_name names (name_under (starred name))) None (keys (starred name))) (same_bytes (starred name) (starred (name_under (starred name))) (ap starred (sym (name_under_starred name))))
+    ∙ ap (λ n. cond (holds_name names n) None (keys (starred name))) (name_under_starred name)
+
+-- the value of a name, where its key has not left
+pub value_there : (keys : Texts) (names : List (List ℕ)) (name value : List ℕ) → Some value ≡ without_starred keys names (starred name) → extended_value keys name ≡ value
+value_there keys names name value is = go (holds_name names name) (is ∙ starred_at keys names name)
   where
-    under : List ℕ
-    under = name_under key
+    go : (b : Bool) → Some value ≡ cond b None (keys (starred name)) → extended_value keys name ≡ value
+    go true h = let clash : Some value ≡ None = h in absurd (cc)
+    go false h = sym (ap (λ o. unwrap_or o []) h)
 
-    both : keys under ≡ None → (b : Bool) → cond b (part_at four_charsets keys under) (extended_at four_charsets keys under) ≡ extended_at four_charsets keys under
-    both is true = part_none keys under is
-    both is false = refl
+-- a key that is not there has left
+pub value_gone : (keys : Texts) (names : List (List ℕ)) (name : List ℕ) → is_some (keys (starred name)) ≡ true → None ≡ without_starred keys names (starred name)
+    → holds_name names name ≡ true
+value_gone keys names name some is = go (holds_name names name) refl (is ∙ starred_at keys names name)
+  where
+    go : (b : Bool) → holds_name names name ≡ b → None ≡ cond (holds_name names name) None (keys (starred name)) → holds_name names name ≡ true
+    go true e h = e
+    go false e h = let clash : true ≡ false = sym some ∙ ap is_some (sym (h ∙ cond-false _ _ _ e)) in absurd (cc)
 
-    go : (o : Option (List ℕ)) → keys under ≡ o → (not (is_some (keys under)) && is_some (at under)) ≡ is_some (reading_of four_charsets keys under)
-    go None is =
-        ap (λ o. not (is_some o) && is_some (at under)) is
-        ∙ ap is_some (before under ∙ both is (holds_name names under))
-        ∙ is_some_map _ (reading_of four_charsets keys under)
-    go (Some v) is =
-        ap (λ o. not (is_some o) && is_some (at under)) is
-        ∙ sym (ap is_some (reading_none keys under (ap is_some is)))
+-- all values were read
+pub parts_read : (keys : Texts) (names : List (List ℕ)) (q : List ℕ) (extended : Option joined.Part) (texts : Option (List ℕ))
+    → ((z : List ℕ) → holds_name names z ≡ is_some (reading_of four_charsets keys z))
+    → extended ≡ filled (extended_at four_charsets keys) (λ _. None) names q → texts ≡ without_starred keys names q
+    → option_or extended (option_map joined.text texts) ≡ part_at four_charsets keys q
+unfolding part_at
+parts_read keys names q extended texts all e t =
+    ap (λ o. option_or o (option_map joined.text texts)) (filled_all (extended_at four_charsets keys) (λ _. None) names q extended e (λ none. unread (sym (all q) ∙ none)))
+    ∙ ap (option_or (extended_at four_charsets keys q))
+    (ap (option_map joined.text) (t ∙ ap (λ b. cond (is_starred q && b) None (keys q)) (all (name_under q))) ∙ inner (has_left four_charsets keys q))
+  where
+    inner : (b : Bool) → option_map joined.text (cond b None (keys q)) ≡ cond b None (option_map joined.text (keys q))
+    inner true = refl
+    inner false = refl
+
+    unread : is_some (reading_of four_charsets keys q) ≡ false → extended_at four_charsets keys q ≡ None
+    unread none = by_none _ (is_some_map _ (reading_of four_charsets keys q) ∙ none)
+      where
+        by_none : (o : Option joined.Part) → is_some o ≡ false → o ≡ None
+        by_none None h = refl
+        by_none (Some x) h = absurd (cc)
 
 -- ---- the names of a map
 
@@ -105,3 +141,37 @@ lookup_unnamed q (e ∷ entries) h =
 
 pub unnamed : {X : Type 0} (q : List ℕ) (m : BTreeMap (String Global) X) → holds_name (map (λ e. string_bytes e.0) m.entries) q ≡ false → get_by_text m q ≡ None
 unnamed q m h = lookup_unnamed q m.entries h
+
+lookup_named : {X : Type 0} (q : List ℕ) (entries : List (String Global × X)) → holds_name (map (λ e. string_bytes e.0) entries) q ≡ true
+    → is_some (lookup (λ k. is_eq (slice_cmp nat_cmp q (string_bytes k))) entries) ≡ true
+lookup_named q [] h = absurd (cc)
+lookup_named {X = X} q (e ∷ entries) h = pick (bytes_eq (string_bytes e.0) q) refl h (lookup_named q entries)
+  where
+    either : (b : Bool) (o : Option X) → is_some o ≡ true → is_some (cond b (Some e.1) o) ≡ true
+    either true o h = refl
+    either false o h = h
+
+    pick : (b : Bool) → bytes_eq (string_bytes e.0) q ≡ b → (bytes_eq (string_bytes e.0) q || holds_name (map (λ x. string_bytes x.0) entries) q) ≡ true
+        → (holds_name (map (λ x. string_bytes x.0) entries) q ≡ true → is_some (lookup (λ k. is_eq (slice_cmp nat_cmp q (string_bytes k))) entries) ≡ true)
+        → is_some (cond (is_eq (slice_cmp nat_cmp q (string_bytes e.0))) (Some e.1) (lookup (λ k. is_eq (slice_cmp nat_cmp q (string_bytes k))) entries)) ≡ true
+    pick true is held rest = ap is_some (cond-true _ (Some e.1) _ (is_eq-slice_cmp q (string_bytes e.0) ∙ same_bytes q (string_bytes e.0) (sym (equal_bytes (string_bytes e.0) q is))))
+    pick false is held rest =
+        either (is_eq (slice_cmp nat_cmp q (string_bytes e.0))) _ (rest (sym (ap (λ b. b || holds_name (map (λ x. string_bytes x.0) entries) q) is) ∙ held))
+
+pub named : {X : Type 0} (q : List ℕ) (m : BTreeMap (String Global) X) → holds_name (map (λ e. string_bytes e.0) m.entries) q ≡ true → is_some (get_by_text m q) ≡ true
+named q m h = lookup_named q m.entries h
+
+-- all were taken
+pub names_taken : {X : Type 0} (taken entries : List (String Global × X)) → map (λ e. e) taken ≡ entries → map taken_name taken ≡ map (λ e. string_bytes e.0) entries
+names_taken {X = X} [] entries h = ap (map (λ (e : String Global × X). string_bytes e.0)) h
+names_taken {X = X} (e ∷ taken) entries h = ap (λ r. taken_name e ∷ r) (names_taken taken (map (λ x. x) taken) refl) ∙ ap (map (λ (e : String Global × X). string_bytes e.0)) h
+
+-- ---- what is taken from both maps
+
+pub taken_both : (b : Bool) (e new_e : Option joined.Part) (t new_t : Option (List ℕ)) → new_e ≡ cond b None e → new_t ≡ cond b None t
+    → option_or new_e (option_map joined.text new_t) ≡ cond b None (option_or e (option_map joined.text t))
+taken_both b e new_e t new_t first second = ap (λ o. option_or o (option_map joined.text new_t)) first ∙ ap (λ o. option_or (cond b None e) (option_map joined.text o)) second ∙ go b
+  where
+    go : (b : Bool) → option_or (cond b None e) (option_map joined.text (cond b None t)) ≡ cond b None (option_or e (option_map joined.text t))
+    go true = refl
+    go false = refl

@@ -1,6 +1,7 @@
 -- The parameters do not depend on the order in which the names are walked.
-use Rattle.std.proofs.Common.{◌≡◌, ◌⊎◌, inl, inr, ℕ, Bool, true, false, not, ◌&&◌, ◌||◌, cond, List, [], ◌∷◌, ltb, length, map, Option, Some, None, is_some, option_map, BTreeMap, String, refl, sym, ap, ◌∙◌, ⊎_elim}
+use Rattle.std.proofs.Common.{◌≡◌, ◌⊎◌, inl, inr, ℕ, Bool, true, false, not, ◌&&◌, ◌||◌, cond, List, [], ◌∷◌, ◌++◌, ltb, length, map, Option, Some, None, is_some, option_map, BTreeMap, String, string_bytes, refl, sym, ap, ◌∙◌, ⊎_elim}
 use Rattle.std.proofs.lemmas.Bool.{and_parts, cond-false}
+use Rattle.std.proofs.lemmas.List.Folds.{list_any-append}
 use Rattle.std.specs.BTreeMap.{get_by_text}
 use Rattle.std.specs.Global.{Global}
 use Rattle.std.specs.List.{list_any}
@@ -10,14 +11,15 @@ use Rattle.std.specs.Str.{bytes_eq}
 use Rattle.mail_codec.specs.Charset.{four_charsets}
 use Rattle.mailparse.specs.Continuations as joined
 use Rattle.mailparse.specs.Continuations.{extended_at, is_base, is_first_of, is_text, joined_at, names_of, parameters_of, part_at}
-use Rattle.mailparse.specs.Pairs.{Texts, last_of}
+use Rattle.mailparse.specs.Pairs.{Texts, last_of, text_at}
 use Rattle.mailparse.specs.StarredKeys.{is_waiting, name_under, starred}
-use Rattle.mailparse.specs.private.Continuations.{names_in}
+use Rattle.mailparse.specs.private.Continuations.{names_in, names_of_parts}
 use Rattle.mailparse.specs.private.Filled.{holds_name}
-use Rattle.mailparse.specs.private.StarredKeys.{part_view, parts_at}
+use Rattle.mailparse.specs.private.StarredKeys.{part_view, parts_at, stands_at}
+use Rattle.mailparse.specs.declared.parameters.parts.Parts.{Parts}
 use Rattle.mailparse.specs.declared.parameters.starred.Part.{Part}
 use Rattle.mailparse.proofs.lemmas.ExtendedParts.{extended_none}
-use Rattle.mailparse.proofs.lemmas.PartsOf.{part_none, unnamed}
+use Rattle.mailparse.proofs.lemmas.PartsOf.{named, part_none, unnamed}
 use Rattle.mailparse.proofs.lemmas.Speakers.{name_under_starred}
 use Rattle.mailparse.proofs.lemmas.StarredKeys.{equal_bytes, is_some_map, same_bytes}
 
@@ -123,19 +125,49 @@ part_named pairs q h = go (last_of pairs q) refl
     go (Some v) is = names_key (map (λ p. p.0) pairs) q (key_held pairs q (ap is_some is))
     go None is = waits is (is_waiting (last_of pairs) q) refl
 
-entry_named : (parts : BTreeMap (String Global) Part) (q : List ℕ) → is_some (parts_at parts q) ≡ true → holds_name (names_in parts) q ≡ true
-entry_named parts q h = go (holds_name (names_in parts) q) refl
+entry_named : {X : Type 0} (m : BTreeMap (String Global) X) (q : List ℕ) → is_some (get_by_text m q) ≡ true → holds_name (names_in m) q ≡ true
+entry_named m q h = go (holds_name (names_in m) q) refl
   where
-    go : (b : Bool) → holds_name (names_in parts) q ≡ b → holds_name (names_in parts) q ≡ true
+    go : (b : Bool) → holds_name (names_in m) q ≡ b → holds_name (names_in m) q ≡ true
     go true is = is
-    go false is = absurd (some_of _ (unnamed q parts is) (sym (is_some_map part_view (get_by_text parts q)) ∙ h))
+    go false is = absurd (some_of _ (unnamed q m is) h)
 
-pub resolved : (keys : Texts) (parts : BTreeMap (String Global) Part) (given : Option (List ℕ)) (q : List ℕ) → ((z : List ℕ) → parts_at parts z ≡ part_at four_charsets keys z)
-    → given ≡ joined_at (parts_at parts) (names_in parts) q → (pairs : List (List ℕ × List ℕ)) → ((z : List ℕ) → keys z ≡ last_of pairs z) → given ≡ parameters_of pairs q
-resolved keys parts given q read made pairs holds =
+-- the names of parts are those at which something stands
+holds_both : (xs ys : List (List ℕ)) (q : List ℕ) → holds_name (xs ++ ys) q ≡ (holds_name xs q || holds_name ys q)
+holds_both xs ys q = list_any-append (λ n. bytes_eq n q) xs ys
+
+pub parts_named : (parts : Parts) (q : List ℕ) → is_some (stands_at parts q) ≡ true → holds_name (names_of_parts parts) q ≡ true
+parts_named parts q h = holds_both (names_in parts.texts) (names_in parts.extended) q ∙ go (get_by_text parts.extended q) refl h
+  where
+    go : (o : Option Part) → get_by_text parts.extended q ≡ o → is_some (option_or (option_map part_view (get_by_text parts.extended q)) (option_map joined.text (text_at parts.texts q))) ≡ true
+        → (holds_name (names_in parts.texts) q || holds_name (names_in parts.extended) q) ≡ true
+    go (Some p) is some = or_right _ _ (entry_named parts.extended q (ap is_some is))
+    go None is some =
+        or_left _ _ (entry_named parts.texts q
+        (sym (is_some_map string_bytes (get_by_text parts.texts q)) ∙ sym (is_some_map joined.text (text_at parts.texts q))
+        ∙ sym (ap (λ o. is_some (option_or (option_map part_view o) (option_map joined.text (text_at parts.texts q)))) is) ∙ some))
+
+pub named_parts : (parts : Parts) (q : List ℕ) → holds_name (names_of_parts parts) q ≡ true → is_some (stands_at parts q) ≡ true
+named_parts parts q h =
+    ⊎_elim
+    (λ text. second (parts_at parts.extended q) _ (is_some_map joined.text (text_at parts.texts q) ∙ is_some_map string_bytes (get_by_text parts.texts q) ∙ named q parts.texts text))
+    (λ extended. first (option_map joined.text (text_at parts.texts q)) _ (is_some_map part_view (get_by_text parts.extended q) ∙ named q parts.extended extended))
+    (or_either _ _ (sym (holds_both (names_in parts.texts) (names_in parts.extended) q) ∙ h))
+  where
+    second : (o p : Option joined.Part) → is_some p ≡ true → is_some (option_or o p) ≡ true
+    second None p h = h
+    second (Some x) p h = refl
+
+    first : (p o : Option joined.Part) → is_some o ≡ true → is_some (option_or o p) ≡ true
+    first p None h = absurd (cc)
+    first p (Some x) h = refl
+
+pub resolved : (keys : Texts) (at : List ℕ → Option joined.Part) (names : List (List ℕ)) (given : Option (List ℕ)) (q : List ℕ) → ((z : List ℕ) → at z ≡ part_at four_charsets keys z)
+    → ((z : List ℕ) → is_some (at z) ≡ true → holds_name names z ≡ true) → given ≡ joined_at at names q
+    → (pairs : List (List ℕ × List ℕ)) → ((z : List ℕ) → keys z ≡ last_of pairs z) → given ≡ parameters_of pairs q
+resolved keys at names given q read have made pairs holds =
     let known : keys ≡ last_of pairs = λ i z. holds z i in
-    let same : parts_at parts ≡ part_at four_charsets (last_of pairs) = λ i z. (read z ∙ ap (λ k. part_at four_charsets k z) known) i in
+    let same : at ≡ part_at four_charsets (last_of pairs) = λ i z. (read z ∙ ap (λ k. part_at four_charsets k z) known) i in
     made
-    ∙ joined_same (parts_at parts) (names_in parts) (names_of (map (λ p. p.0) pairs)) (λ z h. entry_named parts z h)
-    (λ z h. part_named pairs z (sym (ap (λ at. is_some (at z)) same) ∙ h)) q
-    ∙ ap (λ at. joined_at at (names_of (map (λ p. p.0) pairs)) q) same
+    ∙ joined_same at names (names_of (map (λ p. p.0) pairs)) have (λ z h. part_named pairs z (sym (ap (λ a. is_some (a z)) same) ∙ h)) q
+    ∙ ap (λ a. joined_at a (names_of (map (λ p. p.0) pairs)) q) same

@@ -1,12 +1,13 @@
 -- What the joiner of pieces holds; private to it.
-use Rattle.std.specs.Prelude.{◌≡◌, ℕ, Bool, false, not, ◌&&◌, ◌==◌, nat_lt, List, ◌++◌, length, map, Option, Some, None, option_and_then, option_map, String, string_bytes, if◌then◌else◌}
+use Rattle.std.specs.Prelude.{ℕ, Bool, false, not, ◌&&◌, ◌==◌, nat_lt, List, ◌++◌, length, map, flat_map, Option, Some, None, option_and_then, option_map, option_to_list, String, string_bytes, if◌then◌else◌}
 use Rattle.std.specs.BTreeMap.{BTreeMap}
 use Rattle.std.specs.Option.{option_map_or}
 use Rattle.std.specs.Str.{bytes_eq}
 use Rattle.mail_codec.specs.Charset.{text_of}
-use Rattle.mailparse.specs.Continuations.{Part, is_base, is_text, joined, joined_after, numbered, parts_of, piece_name}
-use Rattle.mailparse.specs.declared.parameters.continuations.Joined.{Joined}
+use Rattle.mailparse.specs.Continuations.{Part, is_text, joined, joined_after, numbered, parts_of, piece_name}
+use Rattle.mailparse.specs.private.Filled.{holds_name}
 use Rattle.mailparse.specs.declared.parameters.continuations.joining.Joining.{Joining}
+use Rattle.mailparse.specs.declared.parameters.parts.Parts.{Parts}
 
 -- the text that is made when these parts follow
 abbrev pub joined_with : Joining → List Part → List ℕ
@@ -16,24 +17,36 @@ joined_with joining parts = string_bytes joining.text ++ joined_after (option_ma
 abbrev pub names_in : {Y X : Type 0} → BTreeMap (String Y) X → List (List ℕ)
 names_in m = map (λ e. string_bytes e.0) m.entries
 
--- the pieces of a base were joined
-pub record IsJoined (at : List ℕ → Option Part) (base : List ℕ) (made : Joined) : Type 0 where
-  pub text : string_bytes made.text ≡ joined (parts_of at base)
-  pub count : made.count ≡ length (parts_of at base)
-
 -- the base of a name with the number 0, where no text stands
 abbrev pub first_base_of : (List ℕ → Option Part) → List ℕ → Option (List ℕ)
 first_base_of at name = option_and_then (λ n. if n.1 == 0 && not (is_text (at n.0)) then Some n.0 else None) (numbered name)
 
--- the text of each base
-abbrev pub base_text : (List ℕ → Option Part) → List (List ℕ) → List ℕ → Option (List ℕ)
-base_text at names base = if is_base at names base then Some (joined (parts_of at base)) else None
+-- the bases of some names
+abbrev pub first_bases : (List ℕ → Option Part) → List (List ℕ) → List (List ℕ)
+first_bases at names = flat_map (λ name. option_to_list (first_base_of at name)) names
 
--- the number of the parts of each base
-abbrev pub base_count : (List ℕ → Option Part) → List (List ℕ) → List ℕ → Option ℕ
-base_count at names base = if is_base at names base then Some (length (parts_of at base)) else None
+-- the names at which something stands
+abbrev pub names_of_parts : Parts → List (List ℕ)
+names_of_parts parts = names_in parts.texts ++ names_in parts.extended
 
--- a part was joined, by the numbers of the parts of each base
-abbrev pub is_used_by : (List ℕ → Option ℕ) → List ℕ → Bool
-is_used_by counts name =
-    option_map_or (λ n. option_map_or (λ count. nat_lt n.1 count && bytes_eq name (piece_name n.0 n.1)) (counts n.0) false) (numbered name) false
+-- a name is that of a piece of a base, with a number below this one
+abbrev pub is_piece_below : List ℕ → ℕ → List ℕ → Bool
+is_piece_below base count name =
+    option_map_or (λ n. bytes_eq base n.0 && (nat_lt n.1 count && bytes_eq name (piece_name n.0 n.1))) (numbered name) false
+
+-- what stands at the names once the first pieces of a base are taken
+abbrev pub without_pieces : (List ℕ → Option Part) → List ℕ → ℕ → List ℕ → Option Part
+without_pieces at base count name = if is_piece_below base count name then None else at name
+
+-- the joined text of each of some bases
+abbrev pub joined_text : (List ℕ → Option Part) → List (List ℕ) → List ℕ → Option (List ℕ)
+joined_text at bases name = if holds_name bases name then Some (joined (parts_of at name)) else None
+
+-- a name is that of a piece of one of some bases
+abbrev pub is_taken : (List ℕ → Option Part) → List (List ℕ) → List ℕ → Bool
+is_taken at bases name =
+    option_map_or (λ n. holds_name bases n.0 && (nat_lt n.1 (length (parts_of at n.0)) && bytes_eq name (piece_name n.0 n.1))) (numbered name) false
+
+-- what stands at the names once the pieces of these bases are taken
+abbrev pub left_by : (List ℕ → Option Part) → List (List ℕ) → List ℕ → Option Part
+left_by at bases name = if is_taken at bases name then None else at name

@@ -16,3 +16,7 @@ filled f g names q = if holds_name names q then f q else g q
 -- the name of an entry that a walk showed
 abbrev pub shown_name : {X : Type 0} → Bor (String Global) × Bor X → List ℕ
 shown_name e = string_bytes e.0.now
+
+-- the name of an entry that a walk took
+abbrev pub taken_name : {X : Type 0} → String Global × X → List ℕ
+taken_name e = string_bytes e.0

@@ -1,19 +1,22 @@
 -- What the readers of starred keys hold; private to them.
-use Rattle.std.specs.Prelude.{ℕ, suc, zero, Bool, not, ◌&&◌, ◌-◌, ◌==◌, List, [], ◌∷◌, map, take, length, slice_index_or, Option, Some, None, option_map, String, string_bytes, if◌then◌else◌}
+use Rattle.std.specs.Prelude.{◌≡◌, ℕ, true, suc, zero, Bool, not, ◌&&◌, ◌-◌, ◌==◌, List, [], ◌∷◌, map, take, length, slice_index_or, Option, Some, None, option_map, String, string_bytes, if◌then◌else◌}
 use Rattle.std.specs.BTreeMap.{BTreeMap, get_by_text}
 use Rattle.std.specs.Borrow.{Bor}
 use Rattle.std.specs.Global.{Global}
 use Rattle.std.specs.List.{filter, flat_map, starts_with, ends_with}
-use Rattle.std.specs.Option.{is_some}
+use Rattle.std.specs.Option.{is_some, option_or}
 use Rattle.std.specs.Str.{bytes_eq}
-use Rattle.mail_codec.specs.Charset.{charset_of_label, text_of}
+use Rattle.mail_codec.specs.Charset.{charset_of_label, four_charsets, text_of}
 use Rattle.mail_codec.specs.declared.charset.Charset.{Charset}
 use Rattle.mailparse.specs.Continuations as joined
-use Rattle.mailparse.specs.Continuations.{numbered}
-use Rattle.mailparse.specs.Pairs.{Texts}
-use Rattle.mailparse.specs.StarredKeys.{is_starred, label_in, name_under, text_in}
+use Rattle.mailparse.specs.Continuations.{extended_at, numbered}
+use Rattle.mailparse.specs.Pairs.{Texts, text_at}
+use Rattle.mailparse.specs.StarredKeys.{extended_value, is_starred, label_in, name_under, starred, text_in}
 use Rattle.percent_encoding.specs.Percent.{percent_decode}
+use Rattle.mailparse.specs.private.Filled.{holds_name}
+use Rattle.mailparse.specs.declared.parameters.parts.Parts.{Parts}
 use Rattle.mailparse.specs.declared.parameters.starred.Part.{Part}
+use Rattle.mailparse.specs.declared.parameters.starred.Reading.{Reading}
 use Rattle.mailparse.specs.declared.parameters.starred.Part.TheVariants as code
 use Rattle.mailparse.specs.declared.parameters.starred.waiting.Waiting.{Waiting}
 
@@ -60,10 +63,6 @@ found_at keys e =
 abbrev pub waiting_entries : Texts → List (List ℕ × List ℕ) → List Found
 waiting_entries keys entries = flat_map (found_at keys) entries
 
--- a key ends in a star, its name is no key, and something stands at it
-abbrev pub has_left_by : Texts → (List ℕ → Option joined.Part) → List ℕ → Bool
-has_left_by keys at key = is_starred key && (not (is_some (keys (name_under key))) && is_some (at (name_under key)))
-
 -- the names of some that wait
 abbrev pub names_of : List Waiting → List (List ℕ)
 names_of waiting = map (λ w. w.name.now) waiting
@@ -72,8 +71,34 @@ names_of waiting = map (λ w. w.name.now) waiting
 abbrev pub found_by_place : List Found → ℕ → Found
 found_by_place found place = slice_index_or found place ([], [], None)
 
--- what stands at the name at a place, where the one at another decides
-abbrev pub extended_by : List Found → ℕ → ℕ → Option joined.Part
-extended_by found place last =
-    let one = found_by_place found place in
-    option_map (λ charset. extended_part one.0 (text_of charset) (percent_decode (if last == place then text_in one.1 else one.1))) (found_by_place found last).2
+-- what stands at each name: what its extended value gives, otherwise its text
+abbrev pub stands_at : Parts → List ℕ → Option joined.Part
+stands_at parts name = option_or (parts_at parts.extended name) (option_map joined.text (text_at parts.texts name))
+
+-- how the extended value of a name is read: the name, the charset, and whether the name decides for itself
+abbrev pub Read : Type 0
+Read = List ℕ × Charset × Bool
+
+abbrev pub reading_view : Reading → Read
+reading_view r = (string_bytes r.name, r.charset, r.decides)
+
+-- the names whose values are read
+abbrev pub names_read : List Reading → List (List ℕ)
+names_read readings = map (λ r. string_bytes r.name) readings
+
+-- what a value gives that is read so
+abbrev pub read_part : Read → List ℕ → joined.Part
+read_part r value = extended_part r.0 (text_of r.1) (percent_decode (if r.2 then text_in value else value))
+
+-- how the value of the name at a place is read, where the one at another decides
+abbrev pub reading_by : List Found → ℕ → ℕ → Option Read
+reading_by found place last = option_map (λ charset. ((found_by_place found place).0, charset, last == place)) (found_by_place found last).2
+
+-- the name has an extended value, and what stands at it is what this gives, read so
+pub record IsReading (keys : Texts) (r : Read) : Type 0 where
+  pub valued : is_some (keys (starred r.0)) ≡ true
+  pub gives : extended_at four_charsets keys r.0 ≡ Some (read_part r (extended_value keys r.0))
+
+-- the texts of keys, less the starred keys of some names
+abbrev pub without_starred : Texts → List (List ℕ) → Texts
+without_starred keys names key = if is_starred key && holds_name names (name_under key) then None else keys key

@@ -1,19 +1,22 @@
 //! Keys that end in `*`: extended values, with a charset and percent pairs (RFC 2231, section 4).
-ghost use Rattle.std.specs.Prelude.{◌≡◌, ◌<◌, ℕ, List, length, map, option_map, IfOk, OnOk, Some, if◌then◌else◌};
-ghost use Rattle.std.specs.Str.{bytes_eq};
+ghost use Rattle.std.specs.Prelude.{◌≡◌, ◌<◌, ℕ, List, length, map, option_map, IfOk, if◌then◌else◌};
+ghost use Rattle.std.specs.List.{All};
+ghost use Rattle.std.specs.Option.{is_some};
 ghost use Rattle.mail_codec.specs.Charset.{four_charsets, text_of};
-ghost use Rattle.mailparse.specs.Continuations.{extended_at, part_at};
+ghost use Rattle.mailparse.specs.Continuations.{part_at};
 ghost use Rattle.mailparse.specs.Pairs.{text_at};
-ghost use Rattle.mailparse.specs.StarredKeys.{text_in};
-ghost use Rattle.mailparse.specs.private.StarredKeys.{extended_by, extended_part, has_left_by, part_view, parts_at, waiting_view};
+ghost use Rattle.mailparse.specs.StarredKeys.{reading_of, text_in};
+ghost use Rattle.mailparse.specs.private.Filled.{holds_name};
+ghost use Rattle.mailparse.specs.private.StarredKeys.{IsReading, extended_part, names_read, part_view, read_part, reading_by, reading_view, stands_at, waiting_view};
 ghost use Rattle.percent_encoding.specs.Percent.{percent_decode};
 
 mod deciders;
 mod waiting;
 
 use self::deciders::deciders;
-use self::waiting::{Waiting, waiting_names, without_star};
+use self::waiting::{Waiting, waiting_names};
 use super::continuations::numbered;
+use super::parts::Parts;
 use mail_codec::charset::Charset;
 use percent_encoding::percent_decode;
 use std::alloc::{AllocError, Global};
@@ -75,85 +78,95 @@ fn encoded_in(value: &str, decides: bool) -> &str
     if decides { text_in(value) } else { value }
 }
 
-/// What stands at the name at a place, if its label is known.
-fn extended_at(
+/// How the extended value of a name is read.
+#[derive(Drop)]
+struct Reading {
+    /// The name, without the star.
+    name: String,
+    /// The charset that the value of its decider names.
+    charset: Charset,
+    /// Whether the name decides for itself.
+    decides: bool,
+}
+
+/// How the value of the name at a place is read, if its label is known.
+fn reading_at(
     alloc: Global,
     waiting: &[Waiting<'_>],
     place: usize,
     decider: usize,
-) -> Result<Option<Part>, AllocError>
+) -> Result<Option<Reading>, AllocError>
     requires place { place < length waiting.now }
     requires decider { decider < length waiting.now }
-    ensures { IfOk result (λ part. option_map part_view part
-        ≡ extended_by (map waiting_view waiting.now) place decider) }
+    ensures { IfOk result (λ reading. option_map reading_view reading
+        ≡ reading_by (map waiting_view waiting.now) place decider) }
 {
-    let one = waiting[place];
     let Some(charset) = waiting[decider].charset else {
         return Ok(None);
     };
-    let bytes = octets_of(alloc, encoded_in(one.value, decider == place))?;
-    Ok(Some(extended_part(alloc, one.name, charset, bytes)?))
+    Ok(Some(Reading {
+        name: String::from_str(alloc, waiting[place].name)?,
+        charset,
+        decides: decider == place,
+    }))
 }
 
-/// Writes what stands at a name.
-fn put(
-    alloc: Global,
-    parts: &mut BTreeMap<String, Part>,
-    name: &str,
-    part: Part,
-) -> Result<(), AllocError>
-    ensures { OnOk result ((q : List ℕ) → parts_at parts.new q ≡
-        (if bytes_eq name.now q then Some (part_view part) else parts_at parts.old q)) }
-{
-    let name = String::from_str(alloc, name)?;
-    parts.insert(name, part)?;
-    Ok(())
-}
-
-/// What stands at the names that wait, as far as their labels are known.
-fn extended_parts(
-    alloc: Global,
-    pairs: &BTreeMap<String, String>,
-) -> Result<BTreeMap<String, Part>, AllocError>
-    ensures { IfOk result (λ parts. (q : List ℕ) → parts_at parts q
-        ≡ extended_at four_charsets (text_at pairs.now) q) }
+/// How the values of the names that wait are read, as far as their labels are known.
+fn readings(alloc: Global, pairs: &BTreeMap<String, String>) -> Result<Vec<Reading>, AllocError>
+    ensures each { IfOk result (λ found. All (IsReading (text_at pairs.now))
+        (map reading_view found.items)) }
+    ensures names { IfOk result (λ found. (q : List ℕ) →
+        holds_name (names_read found.items) q
+        ≡ is_some (reading_of four_charsets (text_at pairs.now) q)) }
 {
     let waiting = waiting_names(alloc, pairs)?;
     let deciders = deciders(alloc, waiting.as_slice())?;
-    let mut parts = BTreeMap::new(alloc);
+    let mut found = Vec::new(alloc);
     let mut place = 0;
     while place < waiting.len() {
-        if let Some(part) = extended_at(alloc, waiting.as_slice(), place, deciders[place])? {
-            put(alloc, &mut parts, waiting[place].name, part)?;
+        if let Some(reading) = reading_at(alloc, waiting.as_slice(), place, deciders[place])? {
+            found.push(reading)?;
         }
         place += 1;
     }
-    Ok(parts)
+    Ok(found)
 }
 
-/// Whether a key ends in `*` and its name, which is no key, is among the names that were read.
-fn has_left(pairs: &BTreeMap<String, String>, parts: &BTreeMap<String, Part>, key: &str) -> bool
-    ensures { result ≡ has_left_by (text_at pairs.now) (parts_at parts.now) key.now }
-{
-    match without_star(key) {
-        None => false,
-        Some(name) => !pairs.contains_key(name) && parts.contains_key(name),
-    }
-}
-
-/// What stands at each name once the starred keys are read.
-pub(super) fn parts_of(
+/// What an extended value gives at a name.
+fn read(
     alloc: Global,
-    pairs: &BTreeMap<String, String>,
-) -> Result<BTreeMap<String, Part>, AllocError>
-    ensures { IfOk result (λ parts. (q : List ℕ) → parts_at parts q
-        ≡ part_at four_charsets (text_at pairs.now) q) }
+    name: &str,
+    value: &str,
+    charset: Charset,
+    decides: bool,
+) -> Result<Part, AllocError>
+    ensures { IfOk result (λ part. part_view part
+        ≡ read_part (name.now, charset, decides) value.now) }
 {
-    let mut parts = extended_parts(alloc, pairs)?;
-    for (key, value) in pairs {
-        if !has_left(pairs, &parts, key.as_str()) {
-            put(alloc, &mut parts, key.as_str(), Part::Text(value.clone()?))?;
+    let bytes = octets_of(alloc, encoded_in(value, decides))?;
+    extended_part(alloc, name, charset, bytes)
+}
+
+/// What stands at each name once the starred keys are read. A key that is read leaves the map
+/// before what it gives is written, so that no value is held twice.
+pub(super) fn parts_of(alloc: Global, pairs: BTreeMap<String, String>) -> Result<Parts, AllocError>
+    ensures { IfOk result (λ parts. (q : List ℕ) → stands_at parts q
+        ≡ part_at four_charsets (text_at pairs) q) }
+{
+    let readings = readings(alloc, &pairs)?;
+    let mut texts = pairs;
+    let mut extended = BTreeMap::new(alloc);
+    for reading in readings {
+        let Reading {
+            name,
+            charset,
+            decides,
+        } = reading;
+        let key = format!(in alloc; "{name}*")?;
+        if let Some(value) = texts.remove(key.as_str()) {
+            let part = read(alloc, name.as_str(), value.as_str(), charset, decides)?;
+            extended.insert(name, part)?;
         }
     }
-    Ok(parts)
+    Ok(Parts { texts, extended })
 }

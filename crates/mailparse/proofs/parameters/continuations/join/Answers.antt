@@ -1,38 +1,76 @@
-use Rattle.std.proofs.Common.{◌≡◌, ◌-◌, length, option_map, sym, ap, ◌∙◌, arith}
-use Rattle.mailparse.specs.Continuations.{most_parts, piece_name}
-use Rattle.mailparse.specs.private.Continuations.{joined_with}
-use Rattle.mailparse.specs.private.StarredKeys.{part_view, parts_at}
+use Rattle.std.proofs.Common.{◌≡◌, ◌<◌, ◌-◌, ◌^◌, length, Some, None, cond, sym, ap, ◌∙◌, arith}
+use Rattle.std.proofs.lemmas.Result.{IfOk-weaker}
+use Rattle.std.specs.Str.{bytes_eq}
+use Rattle.std.specs.String.{string_bytes}
+use Rattle.mailparse.specs.Continuations.{most_parts, parts_of, piece_name}
+use Rattle.mailparse.specs.private.Continuations.{joined_with, without_pieces}
+use Rattle.mailparse.specs.private.StarredKeys.{part_view, stands_at}
 use Rattle.mailparse.proofs.lemmas.Joining.{most, parts_none, parts_some, parts_end}
+use Rattle.mailparse.proofs.lemmas.Taken.{next_stands, taken_next, taken_none}
 use Rattle.mailparse.proofs.parameters.continuations.join.Goals as goal
 
-pub returns-in_default : goal.returns-in_default
-returns-in_default c =
-    let at = parts_at c.args.parts.now in
-    let name : c.as_str.result.now ≡ piece_name c.args.base.now c.loop-count.count = c.as_str.ensures.value ∙ c.in_ok-name.ensures.ok in
-    let none = ap at (sym name) ∙ ap (option_map part_view) (sym c.in_default.ensures.value) in
-    let end = parts_none at c.args.base.now (most_parts - c.loop-count.count) c.loop-count.count none in
-    record {
-      text = c.in_ok-finish.ensures ∙ ap (joined_with c.loop-count.joining) (sym end) ∙ c.loop-count.invariant.text;
-      count = let long = ap length end in omega (arith, long, c.loop-count.invariant.count);
-    }
+pub returns-in_default-clause-text : goal.returns-in_default-clause-text
+returns-in_default-clause-text c =
+    let at = stands_at c.args.parts.now in
+    let base = c.args.base.now in
+    let count = c.loop-count.count in
+    let below : count < 2 ^ 64 = let l = c.loop-count-test.true in omega (arith, l) in
+    let name : c.as_str.result.now ≡ piece_name base count = c.as_str.ensures.value ∙ c.in_ok-name.ensures.ok in
+    let none = sym (next_stands at (stands_at c.loop-count.parts) base count below c.loop-count.invariant.left) ∙ ap (stands_at c.loop-count.parts) (sym name)
+    ∙ sym c.in_default.ensures.taken in
+    let end = parts_none at base (most_parts - count) count none in
+    IfOk-weaker c.finish.result _ _ (λ text is. is ∙ ap (joined_with c.loop-count.joining) (sym end) ∙ c.loop-count.invariant.text) c.finish.ensures
+
+pub returns-in_default-clause-left : goal.returns-in_default-clause-left
+returns-in_default-clause-left c =
+    let at = stands_at c.args.parts.now in
+    let base = c.args.base.now in
+    let count = c.loop-count.count in
+    let below : count < 2 ^ 64 = let l = c.loop-count-test.true in omega (arith, l) in
+    let name : c.as_str.result.now ≡ piece_name base count = c.as_str.ensures.value ∙ c.in_ok-name.ensures.ok in
+    let none = sym (next_stands at (stands_at c.loop-count.parts) base count below c.loop-count.invariant.left) ∙ ap (stands_at c.loop-count.parts) (sym name)
+    ∙ sym c.in_default.ensures.taken in
+    let end = parts_none at base (most_parts - count) count none in
+    let long = ap length end in
+    let whole : count ≡ length (parts_of at base) = omega (arith, long, c.loop-count.invariant.count) in
+    IfOk-weaker c.finish.result _ _
+    (λ text is q.
+    taken_none at base count q (stands_at c.loop-count.parts q) _ (c.loop-count.invariant.left q) none
+    (c.in_default.ensures.left q ∙ ap (λ n. cond (bytes_eq n q) None (stands_at c.loop-count.parts q)) name)
+    ∙ ap (λ n. without_pieces at base n q) whole)
+    c.finish.ensures
 
 pub loop-count-preserved : goal.loop-count-preserved
 loop-count-preserved c =
-    let at = parts_at c.args.parts.now in
-    let name : c.as_str.result.now ≡ piece_name c.args.base.now c.loop-count.count = c.as_str.ensures.value ∙ c.in_ok-name.ensures.ok in
-    let some = ap at (sym name) ∙ ap (option_map part_view) (sym c.in-Some.ensures.value) in
-    let step = parts_some at c.args.base.now most_parts c.loop-count.count (part_view c.in-Some.part.now) (omega (arith, most, c.loop-count-test.true)) some in
+    let at = stands_at c.args.parts.now in
+    let base = c.args.base.now in
+    let count = c.loop-count.count in
+    let below : count < 2 ^ 64 = let l = c.loop-count-test.true in omega (arith, l) in
+    let name : c.as_str.result.now ≡ piece_name base count = c.as_str.ensures.value ∙ c.in_ok-name.ensures.ok in
+    let some : at (piece_name base count) ≡ Some (part_view c.in-Some.part) =
+    sym (next_stands at (stands_at c.loop-count.parts) base count below c.loop-count.invariant.left) ∙ ap (stands_at c.loop-count.parts) (sym name)
+    ∙ sym c.in-Some.ensures.taken in
+    let step = parts_some at base most_parts count (part_view c.in-Some.part) (omega (arith, most, c.loop-count-test.true)) some in
     record {
       bound = omega (arith, c.loop-count-test.true);
+      left = λ q.
+          taken_next at base count q (stands_at c.loop-count.parts q) _ below (c.loop-count.invariant.left q)
+          (c.in-Some.ensures.left q ∙ ap (λ n. cond (bytes_eq n q) None (stands_at c.loop-count.parts q)) name);
       text = sym (c.in_ok-push.ensures _) ∙ ap (joined_with c.loop-count.joining) (sym step) ∙ c.loop-count.invariant.text;
       count = let long = ap length step in omega (arith, long, c.loop-count.invariant.count);
     }
 
-pub returns : goal.returns
-returns c =
-    let at = parts_at c.args.parts.now in
+pub returns-clause-text : goal.returns-clause-text
+returns-clause-text c =
+    let at = stands_at c.args.parts.now in
     let end = parts_end at c.args.base.now most_parts c.loop-count.count (omega (arith, most, c.loop-count-test.false)) in
-    record {
-      text = c.in_ok-finish-2.ensures ∙ ap (joined_with c.loop-count.joining) (sym end) ∙ c.loop-count.invariant.text;
-      count = let long = ap length end in omega (arith, long, c.loop-count.invariant.count);
-    }
+    IfOk-weaker c.finish-2.result _ _ (λ text is. is ∙ ap (joined_with c.loop-count.joining) (sym end) ∙ c.loop-count.invariant.text) c.finish-2.ensures
+
+pub returns-clause-left : goal.returns-clause-left
+returns-clause-left c =
+    let at = stands_at c.args.parts.now in
+    let base = c.args.base.now in
+    let end = parts_end at base most_parts c.loop-count.count (omega (arith, most, c.loop-count-test.false)) in
+    let long = ap length end in
+    let whole : c.loop-count.count ≡ length (parts_of at base) = omega (arith, long, c.loop-count.invariant.count) in
+    IfOk-weaker c.finish-2.result _ _ (λ text is q. c.loop-count.invariant.left q ∙ ap (λ n. without_pieces at base n q) whole) c.finish-2.ensures

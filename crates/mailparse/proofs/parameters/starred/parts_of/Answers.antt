@@ -1,57 +1,83 @@
-use Rattle.std.proofs.Common.{◌≡◌, false, true, cond, Some, String, map, option_map, sym, ap, ◌∙◌}
-use Rattle.std.proofs.lemmas.Iterator.Consumers.{YieldsList-end, YieldsList-from_rest}
+use Rattle.std.proofs.Common.{◌≡◌, ◌<◌, List, Some, None, cond, length, map, option_map, is_some, rules, sym, ap, subst, ◌∙◌}
+use Rattle.std.proofs.lemmas.Iterator.Adapters.{YieldsList-from_vec}
+use Rattle.std.proofs.lemmas.Iterator.Consumers.{YieldsList-end, YieldsList-turn}
 use Rattle.std.proofs.lemmas.List.{map_push}
-use Rattle.std.proofs.lemmas.Map.Views.{All-turn}
-use Rattle.std.specs.BTreeMap.{get}
-use Rattle.std.specs.Borrow.{Bor}
-use Rattle.std.specs.Global.{Global}
 use Rattle.std.specs.Str.{bytes_eq}
-use Rattle.std.specs.String.{string_bytes, string_cmp}
+use Rattle.std.specs.String.{string_bytes}
 use Rattle.mail_codec.specs.Charset.{four_charsets}
-use Rattle.mailparse.specs.Continuations as joined
-use Rattle.mailparse.specs.Continuations.{extended_at, has_left, part_at}
+use Rattle.mailparse.specs.Continuations.{extended_at}
 use Rattle.mailparse.specs.Pairs.{text_at}
-use Rattle.mailparse.specs.private.Filled.{filled, holds_name, shown_name}
-use Rattle.mailparse.specs.private.StarredKeys.{has_left_by, parts_at}
-use Rattle.mailparse.proofs.lemmas.Filled.{filled_push, filled_skip, filled_all}
-use Rattle.mailparse.proofs.lemmas.PartsOf.{left_same, names_shown, part_left, part_none, part_text, unnamed}
+use Rattle.mailparse.specs.StarredKeys.{starred}
+use Rattle.mailparse.specs.private.Filled.{filled, holds_name}
+use Rattle.mailparse.specs.private.StarredKeys.{IsReading, names_read, part_view, parts_at, read_part, reading_view, without_starred}
+use Rattle.mailparse.specs.declared.parameters.starred.Reading.{Reading}
+use Rattle.mailparse.proofs.lemmas.ExtendedParts.{names_of_all, reading_turn}
+use Rattle.mailparse.proofs.lemmas.Filled.{filled_again, filled_push, removed, stored}
+use Rattle.mailparse.proofs.lemmas.PartsOf.{parts_read, starred_leaves, value_gone, value_there}
 use Rattle.mailparse.proofs.parameters.starred.parts_of.Goals as goal
 
-pub loop-key-preserved-in_ok-put : goal.loop-key-preserved-in_ok-put
-loop-key-preserved-in_ok-put c = λ q.
-    let keys = text_at c.args.pairs.now in
-    let e : Bor (String Global) × Bor (String Global) = (c.in-Some.key, c.in-Some.value) in
-    let name = string_bytes c.in-Some.key.now in
-    let gives = c.into_iter-key-iterator.ensures.into_iter_gives in
-    let turn : get string_cmp c.args.pairs.now c.in-Some.key.now ≡ Some c.in-Some.value.now =
-    All-turn _ (λ (e : String Global × String Global). get string_cmp c.args.pairs.now e.0 ≡ Some e.1) c.args.pairs.now.entries c.loop-key.yielded _ _ _ _ _ gives.6 gives.0 c.loop-key.yielded_by c.in-Some.is c.next.ensures.steps in
-    let left : has_left four_charsets keys name ≡ false =
-    sym (left_same keys (parts_at c.loop-key.parts) (map shown_name c.loop-key.yielded) name c.loop-key.invariant)
-    ∙ ap (has_left_by keys (parts_at c.loop-key.parts)) (sym c.as_str.ensures.value) ∙ sym c.if-not-has_left.ensures in
-    let is = part_text keys name (string_bytes c.in-Some.value.now) (ap (option_map string_bytes) turn) left in
-    filled_push (part_at four_charsets keys) (extended_at four_charsets keys) (map shown_name c.loop-key.yielded) name q (parts_at c.loop-key.parts q) _ (c.loop-key.invariant q)
-    (c.in_ok-put.ensures q
-    ∙ ap (λ n. cond (bytes_eq n q) (Some (joined.text (string_bytes c.in_ok-clone.field-0))) (parts_at c.loop-key.parts q)) c.as_str-then-not-has_left.ensures.value
-    ∙ ap (λ v. cond (bytes_eq name q) (Some (joined.text v)) (parts_at c.loop-key.parts q)) c.in_ok-clone.ensures.cases
-    ∙ ap (λ o. cond (bytes_eq name q) o (parts_at c.loop-key.parts q)) (sym is))
-    ∙ ap (λ ns. filled (part_at four_charsets keys) (extended_at four_charsets keys) ns q) (sym (map_push shown_name c.loop-key.yielded e))
+pub loop-reading-preserved-in-Some-remove : goal.loop-reading-preserved-in-Some-remove
+loop-reading-preserved-in-Some-remove c =
+    let keys = text_at c.args.pairs in
+    let r = c.in-Some.reading in
+    let name = string_bytes r.name in
+    let names = names_read c.loop-reading.yielded in
+    let pushed = sym (map_push (λ (x : Reading). string_bytes x.name) c.loop-reading.yielded r) in
+    let gives = c.into_iter-reading-iterator.ensures.into_iter_gives in
+    let turn = YieldsList-turn (YieldsList-from_vec c.in_ok-readings.readings.items gives.0 (search rules)) c.loop-reading.yielded c.loop-reading.reading-iterator c.loop-reading.yielded_by _ c.next.new.self _ c.in-Some.is c.next.ensures.steps in
+    let is : IsReading keys (reading_view r) = reading_turn keys c.in_ok-readings.readings.items (length c.loop-reading.yielded) r c.in_ok-readings.ensures.each turn.0 turn.1 in
+    let key : c.as_str.result.now ≡ starred name = c.as_str.ensures.value ∙ c.in_ok-key.ensures.ok in
+    let value = string_bytes c.in-Some-remove.value in
+    let there : Some value ≡ without_starred keys names (starred name) =
+    ap (option_map string_bytes) c.in-Some-remove.ensures.value ∙ ap (text_at c.loop-reading.texts) key ∙ c.loop-reading.invariant.texts (starred name) in
+    let part : part_view c.in_ok-part.part ≡ read_part (reading_view r) value =
+    c.in_ok-part.ensures ∙ ap (λ n. read_part (n, r.charset, r.decides) c.as_str-in-Some-remove-2.result.now) c.as_str-in-Some-remove.ensures.value
+    ∙ ap (read_part (reading_view r)) c.as_str-in-Some-remove-2.ensures.value in
+    let some : extended_at four_charsets keys name ≡ Some (part_view c.in_ok-part.part) =
+    is.gives ∙ ap (λ v. Some (read_part (reading_view r) v)) (value_there keys names name value there) ∙ ap Some (sym part) in
+    record {
+      extended = λ q.
+          filled_push (extended_at four_charsets keys) (λ _. None) names name q (parts_at c.loop-reading.extended q) _ (c.loop-reading.invariant.extended q)
+          (stored part_view name c.loop-reading.extended c.insert.new.self c.in_ok-part.part c.in_ok-insert.ensures.updates q
+          ∙ ap (λ o. cond (bytes_eq name q) o (parts_at c.loop-reading.extended q)) (sym some))
+          ∙ ap (λ ns. filled (extended_at four_charsets keys) (λ _. None) ns q) pushed;
+      texts = λ q.
+          starred_leaves keys names name q (text_at c.loop-reading.texts q) _ (c.loop-reading.invariant.texts q)
+          (removed string_bytes c.as_str.result.now c.loop-reading.texts c.remove.new.self c.remove.ensures.updates q
+          ∙ ap (λ n. cond (bytes_eq n q) None (text_at c.loop-reading.texts q)) key)
+          ∙ ap (λ ns. without_starred keys ns q) pushed;
+    }
 
-pub loop-key-preserved : goal.loop-key-preserved
-loop-key-preserved c = λ q.
-    let keys = text_at c.args.pairs.now in
-    let e : Bor (String Global) × Bor (String Global) = (c.in-Some.key, c.in-Some.value) in
-    let name = string_bytes c.in-Some.key.now in
-    let left : has_left four_charsets keys name ≡ true =
-    sym (left_same keys (parts_at c.loop-key.parts) (map shown_name c.loop-key.yielded) name c.loop-key.invariant)
-    ∙ ap (has_left_by keys (parts_at c.loop-key.parts)) (sym c.as_str.ensures.value) ∙ sym c.if-not-has_left.ensures in
-    filled_skip (part_at four_charsets keys) (extended_at four_charsets keys) (map shown_name c.loop-key.yielded) name q (parts_at c.loop-key.parts q) (c.loop-key.invariant q)
-    (part_left keys name left)
-    ∙ ap (λ ns. filled (part_at four_charsets keys) (extended_at four_charsets keys) ns q) (sym (map_push shown_name c.loop-key.yielded e))
+pub loop-reading-preserved : goal.loop-reading-preserved
+loop-reading-preserved c =
+    let keys = text_at c.args.pairs in
+    let r = c.in-Some.reading in
+    let name = string_bytes r.name in
+    let names = names_read c.loop-reading.yielded in
+    let pushed = sym (map_push (λ (x : Reading). string_bytes x.name) c.loop-reading.yielded r) in
+    let gives = c.into_iter-reading-iterator.ensures.into_iter_gives in
+    let turn = YieldsList-turn (YieldsList-from_vec c.in_ok-readings.readings.items gives.0 (search rules)) c.loop-reading.yielded c.loop-reading.reading-iterator c.loop-reading.yielded_by _ c.next.new.self _ c.in-Some.is c.next.ensures.steps in
+    let is : IsReading keys (reading_view r) = reading_turn keys c.in_ok-readings.readings.items (length c.loop-reading.yielded) r c.in_ok-readings.ensures.each turn.0 turn.1 in
+    let key : c.as_str.result.now ≡ starred name = c.as_str.ensures.value ∙ c.in_ok-key.ensures.ok in
+    let gone : None ≡ without_starred keys names (starred name) =
+    ap (option_map string_bytes) c.in_default.ensures.value ∙ ap (text_at c.loop-reading.texts) key ∙ c.loop-reading.invariant.texts (starred name) in
+    record {
+      extended = λ q.
+          filled_again (extended_at four_charsets keys) (λ _. None) names name q (parts_at c.loop-reading.extended q) (c.loop-reading.invariant.extended q)
+          (value_gone keys names name is.valued gone)
+          ∙ ap (λ ns. filled (extended_at four_charsets keys) (λ _. None) ns q) pushed;
+      texts = λ q.
+          starred_leaves keys names name q (text_at c.loop-reading.texts q) _ (c.loop-reading.invariant.texts q)
+          (removed string_bytes c.as_str.result.now c.loop-reading.texts c.remove.new.self c.remove.ensures.updates q
+          ∙ ap (λ n. cond (bytes_eq n q) None (text_at c.loop-reading.texts q)) key)
+          ∙ ap (λ ns. without_starred keys ns q) pushed;
+    }
 
 pub returns : goal.returns
 returns c = λ q.
-    let keys = text_at c.args.pairs.now in
-    let gives = c.into_iter-key-iterator.ensures.into_iter_gives in
-    let all = YieldsList-end (YieldsList-from_rest c.args.pairs.now.entries gives.0) c.loop-key.yielded _ c.loop-key.yielded_by _ _ c.in-None.is c.next.ensures.steps in
-    filled_all (part_at four_charsets keys) (extended_at four_charsets keys) (map shown_name c.loop-key.yielded) q (parts_at c.loop-key.parts q) (c.loop-key.invariant q)
-    (λ none. part_none keys q (ap (option_map string_bytes) (unnamed q c.args.pairs.now (ap (λ ns. holds_name ns q) (sym (names_shown c.loop-key.yielded c.args.pairs.now.entries all.0)) ∙ none))))
+    let keys = text_at c.args.pairs in
+    let gives = c.into_iter-reading-iterator.ensures.into_iter_gives in
+    let all = YieldsList-end (YieldsList-from_vec c.in_ok-readings.readings.items gives.0 (search rules)) c.loop-reading.yielded c.loop-reading.reading-iterator c.loop-reading.yielded_by _ c.next.new.self c.in-None.is c.next.ensures.steps in
+    parts_read keys (names_read c.loop-reading.yielded) q (parts_at c.loop-reading.extended q) (text_at c.loop-reading.texts q)
+    (λ z. ap (λ ns. holds_name ns z) (names_of_all c.loop-reading.yielded c.in_ok-readings.readings.items all.0) ∙ c.in_ok-readings.ensures.names z)
+    (c.loop-reading.invariant.extended q) (c.loop-reading.invariant.texts q)

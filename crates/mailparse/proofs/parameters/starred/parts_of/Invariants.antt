@@ -1,12 +1,14 @@
--- The keys so far have what stands at them.
-use Rattle.std.proofs.Common.{◌≡◌, ℕ, List, map}
+-- The values of the names so far were read, and their keys have left.
+use Rattle.std.proofs.Common.{◌≡◌, ℕ, List, None}
 use Rattle.mail_codec.specs.Charset.{four_charsets}
-use Rattle.mailparse.specs.Continuations.{extended_at, part_at}
+use Rattle.mailparse.specs.Continuations.{extended_at}
 use Rattle.mailparse.specs.Pairs.{text_at}
-use Rattle.mailparse.specs.private.Filled.{filled, shown_name}
-use Rattle.mailparse.specs.private.StarredKeys.{parts_at}
+use Rattle.mailparse.specs.private.Filled.{filled}
+use Rattle.mailparse.specs.private.StarredKeys.{names_read, parts_at, without_starred}
 use Rattle.mailparse.proofs.parameters.starred.parts_of.Given as goal
 
-abbrev pub invariant-loop-key : goal.invariant-loop-key
-invariant-loop-key l =
-    (q : List ℕ) → parts_at l.parts q ≡ filled (part_at four_charsets (text_at l.pairs)) (extended_at four_charsets (text_at l.pairs)) (map shown_name l.yielded) q
+abbrev pub invariant-loop-reading : goal.invariant-loop-reading
+invariant-loop-reading l = record {
+  extended : (q : List ℕ) → parts_at l.extended q ≡ filled (extended_at four_charsets (text_at l.fn.pairs)) (λ _. None) (names_read l.yielded) q;
+  texts : (q : List ℕ) → text_at l.texts q ≡ without_starred (text_at l.fn.pairs) (names_read l.yielded) q;
+}
