@@ -18,7 +18,7 @@ import os
 import sys
 
 from .body import outcome
-from .oracle import answers, hex_or_dash
+from .oracle import answers, hex_or_dash, refusal
 
 sys.path.append(os.path.join(os.path.dirname(__file__), ".."))
 from make_mails import mails  # noqa: E402
@@ -96,7 +96,7 @@ def lines(oracle, seed):
     for mail, reply in zip(inputs, answers(oracle, "dump", inputs)):
         line = "mail " + hex_or_dash(mail)
         if reply[0].startswith("mail err "):
-            yield line + " g" + reply[0][len("mail err "):].encode("utf-8").hex()
+            yield f"{line} {refusal(reply[0])}"
             continue
         nodes = []
         for one in reply[1:]:
