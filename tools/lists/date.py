@@ -93,9 +93,11 @@ def zones():
     return [f"6 Jun 2006 6:6:6 {sign}{size:04}" for size in range(2402) for sign in "+-"]
 
 
-def answer(line):
-    """The seconds, or the refusal."""
-    return "d" + line[len("date ok "):] if line.startswith("date ok ") else refusal(line)
+def line_of(text, reply):
+    """The line on a date, from the line on it."""
+    line = reply[0]
+    seconds = "d" + line[len("date ok "):] if line.startswith("date ok ") else refusal(line)
+    return f"date {hex_or_dash(text)} {seconds}"
 
 
 def lines(oracle, seed):
@@ -104,7 +106,7 @@ def lines(oracle, seed):
     found = questions(seed, chosen(), MADE, made, MUTATED, PIECES)
     texts = list(dict.fromkeys(list(found) + zones() + list(seconds)))
     inputs = [text.encode("utf-8") for text in texts]
-    for text, data, (reply,) in zip(texts, inputs, answers(oracle, "date", inputs)):
-        if text in seconds and reply != f"date ok {seconds[text]}":
+    for text, data, reply in zip(texts, inputs, answers(oracle, "date", inputs)):
+        if text in seconds and reply != [f"date ok {seconds[text]}"]:
             sys.exit(f"the oracle and the calendar differ on {text}")
-        yield f"date {hex_or_dash(data)} {answer(reply)}"
+        yield line_of(data, reply)

@@ -39,16 +39,16 @@ def made(rng):
     return "".join(parts)
 
 
-def answer(reply):
-    """The ids, or the refusal."""
+def line_of(text, reply):
+    """The line on ids, from the lines on them."""
     if not reply[0].startswith("ids ok "):
-        return refusal(reply[0])
-    return "d" + "".join(line[len("id "):].replace("-", "") + "," for line in reply[1:] if line.startswith("id "))
+        return f"msgid {hex_or_dash(text)} {refusal(reply[0])}"
+    ids = "".join(line[len("id "):].replace("-", "") + "," for line in reply[1:] if line.startswith("id "))
+    return f"msgid {hex_or_dash(text)} d{ids}"
 
 
 def lines(oracle, seed):
     """The lines of the list."""
     found = questions(seed, chosen(), MADE, made, MUTATED, PIECES)
     inputs = [text.encode("utf-8") for text in found]
-    for text, reply in zip(inputs, answers(oracle, "msgid", inputs)):
-        yield f"msgid {hex_or_dash(text)} {answer(reply)}"
+    yield from map(line_of, inputs, answers(oracle, "msgid", inputs))
