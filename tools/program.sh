@@ -10,7 +10,7 @@ program=$top/crates/$name/out/$name
 newer() {
     for crate in mail_codec mailparse "$name"; do
         find "$top/crates/$crate" \( -name out -o -name must-fail \) -prune \
-            -o -type f -newer "$program" -print -quit
+            -o \( -name '*.rt' -o -name '*.antt' \) -newer "$program" -print -quit
     done
 }
 
