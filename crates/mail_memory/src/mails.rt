@@ -2,7 +2,7 @@
 
 use crate::inputs::Inputs;
 use mailparse::body::Body;
-use mailparse::{DispositionType, MailParseError, ParsedMail, parse_mail};
+use mailparse::{DispositionType, MailParseError, ParsedContentType, ParsedMail, parse_mail};
 use std::alloc::Global;
 
 /// A message, and the bodies of it and its parts.
@@ -134,17 +134,26 @@ pub fn are_decoded_texts(alloc: Global, mail: &ParsedMail<'_>) -> Result<bool, M
     let [plain, html] = mail.subparts.as_slice() else {
         return Ok(false);
     };
-    Ok(reads_as(alloc, plain, PLAIN)? && reads_as(alloc, html, HTML)?)
+    let is_plain = reads_as(alloc, plain.get_body_encoded(alloc)?, PLAIN)?;
+    Ok(is_plain && reads_as(alloc, html.get_body_encoded(alloc)?, HTML)?)
 }
 
 pub fn are_plain_texts(alloc: Global, inputs: &Inputs<'_>) -> Result<bool, MailParseError> {
-    let is_text = reads_as(alloc, &inputs.attached, "\u{E9}t\u{E9}")?;
-    Ok(is_text && reads_as(alloc, &inputs.mail, "")?)
+    let is_binary = reads_as(
+        alloc,
+        inputs.attached.get_body_encoded(alloc)?,
+        "\u{E9}t\u{E9}",
+    )?;
+    Ok(is_binary && is_text(alloc, &inputs.mail.ctype, b"\x80 5")?)
 }
 
-/// Whether the body of a message has this text.
-fn reads_as(alloc: Global, mail: &ParsedMail<'_>, text: &str) -> Result<bool, MailParseError> {
-    match mail.get_body_encoded(alloc)? {
+fn is_text(alloc: Global, ctype: &ParsedContentType, raw: &[u8]) -> Result<bool, MailParseError> {
+    reads_as(alloc, Body::new(raw, ctype, &None), "\u{20AC} 5")
+}
+
+/// Whether a body has this text.
+fn reads_as(alloc: Global, body: Body<'_>, text: &str) -> Result<bool, MailParseError> {
+    match body {
         Body::Base64(body) => Ok(body.get_decoded_as_string(alloc)?.as_str() == text),
         Body::QuotedPrintable(body) => Ok(body.get_decoded_as_string(alloc)?.as_str() == text),
         Body::SevenBit(body) => Ok(body.get_as_string(alloc)?.as_str() == text),

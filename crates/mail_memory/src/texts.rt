@@ -99,11 +99,15 @@ pub fn is_same_disposition(alloc: Global, from: &DispositionType) -> Result<bool
 
 pub fn are_ids(alloc: Global) -> Result<bool, MailParseError> {
     let ids = msgidparse(alloc, "<a b> <>")?;
-    if !are_two(&ids) {
-        return Ok(false);
-    }
-    match msgidparse(alloc, "<a>,<b>") {
-        Err(MailParseError::Generic(text)) => Ok(text == "Message IDs must start with <"),
+    let is_start_refused = is_refused(alloc, "<a>,<b>", "Message IDs must start with <")?;
+    let is_end_refused = is_refused(alloc, "<a> <b", "Message IDs must end with >")?;
+    Ok(are_two(&ids) && is_start_refused && is_end_refused)
+}
+
+/// Whether a text of ids is refused so.
+fn is_refused(alloc: Global, text: &str, wanted: &str) -> Result<bool, MailParseError> {
+    match msgidparse(alloc, text) {
+        Err(MailParseError::Generic(refusal)) => Ok(refusal == wanted),
         Err(e) => Err(e),
         Ok(_) => Ok(false),
     }
