@@ -1,6 +1,6 @@
 #!/bin/sh
 # limit_memory.sh: runs mail_show on a mail of 2.4 MB under smaller and smaller limits on its memory
-# (ulimit -v), from 16 MB down to where the loader cannot start it. A run passes that writes the right
+# (ulimit -v), from 32 MB down to where the loader cannot start it. A run passes that writes the right
 # text, or that ends with status 1, writes nothing, and says that memory ran out.
 #
 # The last line is `N passed, N failed`; the status is 1 where a run failed.
@@ -26,7 +26,7 @@ program=$("$here/program.sh" mail_show)
 passed=0
 failed=0
 right=0
-limit=16000
+limit=32000
 while [ "$limit" -gt 0 ]; do
     status=0
     (ulimit -v "$limit" && exec timeout 60 "$program") < "$work/input" > "$work/out" 2> "$work/err" || status=$?
@@ -42,9 +42,9 @@ while [ "$limit" -gt 0 ]; do
         echo "FAILED under $limit KB: status $status, $(wc -c < "$work/out") bytes written"
         head -n 5 "$work/err"
     fi
-    limit=$((limit - 125))
+    limit=$((limit - 250))
 done
-echo "mail_show under $((passed + failed)) limits down to $((limit + 125)) KB: $right right, $((passed - right)) out of memory"
+echo "mail_show under $((passed + failed)) limits down to $((limit + 250)) KB: $right right, $((passed - right)) out of memory"
 # both ways to end have to be met
 if [ "$right" = 0 ] || [ "$right" = "$passed" ]; then
     echo 'FAILED: the limits do not reach from enough memory to too little'
