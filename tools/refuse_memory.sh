@@ -1,13 +1,23 @@
 #!/bin/sh
 # refuse_memory.sh: refuses the calls for memory of the programs one by one, and looks at what they
-# answer then. It runs mail_show on the samples, and the program answers, which tries each line again,
-# on some lines of its list.
+# answer then.
 #
 # For N from 1 on it refuses the Nth call alone, and then the Nth and every one after it, until a run
-# meets no refusal. A run passes that gives what it gives with ample memory, or that ends with status 1
-# and says nothing but that memory ran out. It prints for each input how many calls there were, how many
-# runs met a refusal, and how these ended; and each run that failed. The last line is `N passed, N
-# failed`; the status is 1 where a run failed.
+# meets no refusal:
+#
+#   mail_show      on the samples, and on mails that are refused
+#   answers        which tries each line again, on some lines of its list
+#   mail_memory    which makes each call of the library that takes memory, and knows the right answers:
+#                  once, and again on the same inputs where memory ran out
+#
+# A run passes that gives what it gives with ample memory, or that ends with status 1 and says nothing
+# but that memory ran out; where each call is made once, no run with a refusal passes but the latter.
+# After that mail_memory makes the calls that take no memory, while each call for memory is refused once
+# what they work on is there.
+#
+# It prints for each input how many calls for memory there were, how many runs met a refusal, and how
+# these ended; and each run that failed. The last line is `N passed, N failed`; the status is 1 where a
+# run failed. It needs a C compiler, $CC or cc.
 set -eu
 if [ $# -gt 0 ]; then
     echo 'usage: refuse_memory.sh' >&2
@@ -20,37 +30,42 @@ trap 'rm -rf "$work"' EXIT
 passed=0
 failed=0
 
-# build CRATE: builds a program
-build() {
-    if ! (cd "$top/crates/$1" && rt run < /dev/null) > "$work/build" 2>&1; then
-        cat "$work/build" >&2
-        echo "refuse_memory.sh: $1 was not built" >&2
-        exit 1
+# run PROGRAM [ARGUMENT]: runs it on the file `input`, which leaves `out`, `err` and `report`
+run() {
+    : > "$work/report"
+    status=0
+    timeout 60 env "REFUSE_REPORT=$work/report" "LD_PRELOAD=$work/refuse.so" "$@" \
+        < "$work/input" > "$work/out" 2> "$work/err" || status=$?
+    if ! read -r calls refused < "$work/report"; then
+        calls='no report, so unknown'
+        refused=0
     fi
 }
 
-# run PROGRAM [ARGUMENT]: runs it on the file `input`, which leaves `out`, `err` and `report`
-run() {
-    rm -f "$work/report"
-    status=0
-    REFUSE_REPORT=$work/report LD_PRELOAD=$work/refuse.so "$@" \
-        < "$work/input" > "$work/out" 2> "$work/err" || status=$?
+# is_right: did the run give what it gives with ample memory?
+is_right() {
+    [ "$status" = "$wanted" ] && cmp -s "$work/out" "$work/wanted.out" && cmp -s "$work/err" "$work/wanted.err"
+}
+
+# is_short: did memory run out, and the run say only that?
+is_short() {
+    [ "$status" = 1 ] && [ ! -s "$work/out" ] && [ "$(wc -l < "$work/err")" = 1 ] \
+        && grep -q 'out of memory$' "$work/err"
 }
 
 # fails WHY: the run failed
 fails() {
     failed=$((failed + 1))
-    echo "FAILED $name, $mode=$place: $1; status $status"
+    echo "FAILED $name, $mode=$place: $1; $calls calls for memory, status $status"
     head -n 5 "$work/out" "$work/err"
 }
 
-# judge: whether the run gave what it has to give, or ran out of memory and said so
+# judge: whether the run gave the right answer, or ran out of memory and said so
 judge() {
-    if [ "$status" = 0 ] && cmp -s "$work/out" "$work/wanted" && [ ! -s "$work/err" ]; then
+    if is_right && { [ "$refused" = 0 ] || [ "$may_be_right" = yes ]; }; then
         right=$((right + 1))
         passed=$((passed + 1))
-    elif [ "$status" = 1 ] && [ ! -s "$work/out" ] && [ "$(wc -l < "$work/err")" = 1 ] \
-        && grep -q 'out of memory$' "$work/err"; then
+    elif is_short && [ "$refused" != 0 ]; then
         short=$((short + 1))
         passed=$((passed + 1))
     else
@@ -58,24 +73,19 @@ judge() {
     fi
 }
 
-# sweep MODE NAME PROGRAM [ARGUMENT]: a run for each call of the program on the file `input`
+# sweep MODE PROGRAM [ARGUMENT]: a run for each call for memory on the file `input`
 sweep() {
     mode=$1
-    name=$2
-    shift 2
+    shift
     place=0
     right=0
     short=0
     refused=1
-    while [ "$refused" -gt 0 ]; do
+    while [ "$refused" != 0 ]; do
         place=$((place + 1))
         export "$mode=$place"
         run "$@"
         unset "$mode"
-        if ! read -r calls refused 2> /dev/null < "$work/report"; then
-            fails 'no report'
-            break
-        fi
         judge
     done
     echo "$name, $mode: $calls calls, $((place - 1)) runs with a refusal; $right right, $short out of memory"
@@ -85,27 +95,61 @@ sweep() {
 both() {
     name=$1
     shift
-    status=0
-    "$@" < "$work/input" > "$work/wanted" || status=$?
-    if [ "$status" != 0 ]; then
-        echo "refuse_memory.sh: $name: status $status with ample memory" >&2
-        exit 1
+    wanted=0
+    "$@" < "$work/input" > "$work/wanted.out" 2> "$work/wanted.err" || wanted=$?
+    sweep REFUSE_AT "$@"
+    sweep REFUSE_FROM "$@"
+}
+
+# takes_none: the calls that take no memory, on inputs for which more and more calls suffice
+takes_none() {
+    name='mail_memory refused'
+    mode=REFUSE_FROM
+    place=0
+    status=1
+    while [ "$status" = 1 ] && [ "$place" -lt 1000 ]; do
+        place=$((place + 1))
+        export "REFUSE_FROM=$place"
+        run "$memory" refused
+        unset REFUSE_FROM
+        if [ "$status" = 1 ] && ! is_short; then
+            fails 'a call that takes no memory'
+            return
+        fi
+    done
+    # the one call that is refused is that of a header which has to be kept
+    if [ "$status" = 0 ] && [ "$refused" = 1 ]; then
+        passed=$((passed + 1))
+        echo "$name: $(cat "$work/out")"
+    else
+        fails 'a call that takes no memory asked for some'
     fi
-    sweep REFUSE_AT "$name" "$@"
-    sweep REFUSE_FROM "$name" "$@"
 }
 
 if ! ${CC:-cc} -O1 -Wall -shared -fPIC -o "$work/refuse.so" "$here/refuse.c"; then
     echo 'refuse_memory.sh: refuse.c was not built' >&2
     exit 1
 fi
-build mail_show
-build answers
+show=$("$here/program.sh" mail_show)
+replay=$("$here/program.sh" answers)
+memory=$("$here/program.sh" mail_memory)
+
+may_be_right=no
 for sample in "$top"/samples/*.eml; do
     cp "$sample" "$work/input"
-    both "mail_show on $(basename "$sample")" "$top/crates/mail_show/out/mail_show"
+    both "mail_show on $(basename "$sample")" "$show"
 done
+printf 'A: 1\n\rB' > "$work/input"
+both 'mail_show on a lone CR' "$show"
+printf 'Content-Type: multipart/mixed; boundary=b\n\n--b\n x\n--b\n\rz\n--b--\n' > "$work/input"
+both 'mail_show on a part that begins with a space' "$show"
+: > "$work/input"
+both 'mail_memory' "$memory"
+
+may_be_right=yes
+both 'mail_memory again' "$memory" again
 awk 'NR % 97 == 1' "$top/crates/answers/stdin" > "$work/input"
-both 'answers on some lines' "$top/crates/answers/out/answers" again
+both 'answers on some lines' "$replay" again
+takes_none
 echo "$passed passed, $failed failed"
 [ "$failed" = 0 ]

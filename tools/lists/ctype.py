@@ -14,9 +14,13 @@ SEED = 2183
 VALUES = ["text/plain", "Text/HTML", "multipart/mixed", "x", "MULTIPART/\u00c9", "a b/c"]
 
 
+def line_of(text, reply):
+    """The line on a type, from the lines on it: the first two in this order, then its parameters."""
+    mimetype, charset = reply[0][len("type "):], reply[1][len("charset "):]
+    return f"ctype {hex_or_dash(text)} {mimetype} {charset} {pairs(reply, 'param')}"
+
+
 def lines(oracle, seed):
     """The lines of the list."""
     inputs = [text.encode("utf-8") for text in texts(seed, VALUES)]
-    for text, reply in zip(inputs, answers(oracle, "ctype", inputs)):
-        mimetype, charset = reply[0][len("type "):], reply[1][len("charset "):]
-        yield f"ctype {hex_or_dash(text)} {mimetype} {charset} {pairs(reply, 'param')}"
+    yield from map(line_of, inputs, answers(oracle, "ctype", inputs))

@@ -11,10 +11,9 @@ each month from 1970 to 2400, whose seconds the calendar of Python has to give t
 """
 import calendar
 import datetime
-import random
 import sys
 
-from .oracle import add_new, answers, hex_or_dash
+from .oracle import answers, hex_or_dash, questions, refusal
 
 SEED = 5322
 MADE = 600
@@ -26,6 +25,7 @@ NUMBERS = "0 00 1 01 9 23 24 31 32 59 60 61 99 100 255 256 999 +1 +0 -1 +-1 + - 
 YEARS = "0 1 49 50 69 70 99 100 999 1969 1970 1999 2000 2023 2024 2100 2400 9999 4294967295 4294967296 +70 -70 +1999 x".split()
 ZONE_NUMBERS = "0 +0 -0 +0000 -0000 0100 +0100 -0700 +0530 -0345 +99 -99 100 2400 -2400 2401 -2401 2147483647 2147483648 -2147483648".split()
 SPACES = [" ", " ", " ", "  ", ":", " :"]
+PIECES = ["", "0", "1", "9", "+", "-", " ", ":", "a", "Z", "\t", "\u00e9", ","]
 
 
 def chosen():
@@ -88,39 +88,25 @@ def made(rng):
     return "".join(word + rng.choice(SPACES) for word in words)[:-1]
 
 
-def mutated(rng, text):
-    """The text with one to three places changed."""
-    for _ in range(rng.randrange(1, 4)):
-        at = rng.randrange(len(text) + 1)
-        piece = rng.choice(["", "0", "1", "9", "+", "-", " ", ":", "a", "Z", "\t", "\u00e9", ","])
-        text = text[:at] + piece + text[at + rng.randrange(2):]
-    return text
+def zones():
+    """A date for each zone that is a number."""
+    return [f"6 Jun 2006 6:6:6 {sign}{size:04}" for size in range(2402) for sign in "+-"]
 
 
-def questions(seed):
-    """All dates of the list but the days, each once."""
-    rng = random.Random(seed)
-    found = dict.fromkeys(chosen())
-    add_new(found, MADE, lambda: made(rng))
-    sources = list(found)
-    add_new(found, MUTATED, lambda: mutated(rng, rng.choice(sources)))
-    found.update(dict.fromkeys(f"6 Jun 2006 6:6:6 {sign}{size:04}" for size in range(2402) for sign in "+-"))
-    return list(found)
-
-
-def answer(line):
-    """The seconds, or the refusal."""
-    if line.startswith("date ok "):
-        return "d" + line[len("date ok "):]
-    return "g" + line[len("date err "):].encode("ascii").hex()
+def line_of(text, reply):
+    """The line on a date, from the line on it."""
+    line = reply[0]
+    seconds = "d" + line[len("date ok "):] if line.startswith("date ok ") else refusal(line)
+    return f"date {hex_or_dash(text)} {seconds}"
 
 
 def lines(oracle, seed):
     """The lines of the list."""
     seconds = dict(days())
-    texts = list(dict.fromkeys(questions(seed) + list(seconds)))
+    found = questions(seed, chosen(), MADE, made, MUTATED, PIECES)
+    texts = list(dict.fromkeys(list(found) + zones() + list(seconds)))
     inputs = [text.encode("utf-8") for text in texts]
-    for text, data, (reply,) in zip(texts, inputs, answers(oracle, "date", inputs)):
-        if text in seconds and reply != f"date ok {seconds[text]}":
+    for text, data, reply in zip(texts, inputs, answers(oracle, "date", inputs)):
+        if text in seconds and reply != [f"date ok {seconds[text]}"]:
             sys.exit(f"the oracle and the calendar differ on {text}")
-        yield f"date {hex_or_dash(data)} {answer(reply)}"
+        yield line_of(data, reply)

@@ -20,8 +20,12 @@ def kind(line):
     return words[1] if len(words) == 2 else "x" + words[2].replace("-", "")
 
 
+def line_of(text, reply):
+    """The line on a disposition, from the lines on it: its kind first, then its parameters."""
+    return f"dispo {hex_or_dash(text)} {kind(reply[0])} {pairs(reply, 'dparam')}"
+
+
 def lines(oracle, seed):
     """The lines of the list."""
     inputs = [text.encode("utf-8") for text in texts(seed, VALUES)]
-    for text, reply in zip(inputs, answers(oracle, "dispo", inputs)):
-        yield f"dispo {hex_or_dash(text)} {kind(reply[0])} {pairs(reply, 'dparam')}"
+    yield from map(line_of, inputs, answers(oracle, "dispo", inputs))

@@ -18,7 +18,7 @@ import os
 import sys
 
 from .body import outcome
-from .oracle import answers, hex_or_dash
+from .oracle import answers, hex_or_dash, refusal
 
 sys.path.append(os.path.join(os.path.dirname(__file__), ".."))
 from make_mails import mails  # noqa: E402
@@ -90,17 +90,26 @@ def node_fields(mail, lines):
     return " ".join(fields)
 
 
+def nodes_of(reply):
+    """The lines of each node, of an answer that is no refusal."""
+    nodes = []
+    for line in reply[1:]:
+        if line.startswith("node "):
+            nodes.append([])
+        nodes[-1].append(line)
+    return nodes
+
+
+def line_of(mail, reply):
+    """The line on a mail, from the oracle's answer."""
+    if reply[0].startswith("mail err "):
+        return f"mail {hex_or_dash(mail)} {refusal(reply[0])}"
+    nodes = "".join(" ; " + node_fields(mail, node) for node in nodes_of(reply))
+    return f"mail {hex_or_dash(mail)}{nodes}"
+
+
 def lines(oracle, seed):
     """The lines of the list."""
     inputs = questions(seed)
     for mail, reply in zip(inputs, answers(oracle, "dump", inputs)):
-        line = "mail " + hex_or_dash(mail)
-        if reply[0].startswith("mail err "):
-            yield line + " g" + reply[0][len("mail err "):].encode("utf-8").hex()
-            continue
-        nodes = []
-        for one in reply[1:]:
-            if one.startswith("node "):
-                nodes.append([])
-            nodes[-1].append(one)
-        yield line + "".join(" ; " + node_fields(mail, node) for node in nodes)
+        yield line_of(mail, reply)

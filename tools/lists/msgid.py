@@ -9,15 +9,13 @@ To `msgid` and a text the oracle answers `ids ok COUNT`, then a line `id HEX` fo
 The texts are chosen ones, ones made of ids and white, and ones of these two with a few characters
 changed.
 """
-import random
-
-from .oracle import add_new, answers, hex_or_dash
+from .oracle import answers, hex_or_dash, questions, refusal
 
 SEED = 3640
 MADE = 320
 MUTATED = 260
 
-PIECES = ["<", ">", " ", "a", "b@c", "<a>", "<b@c.d>", "<>", "\t", "\r\n ", "\u00a0", "\u3000", "\u0085", "\u200b", "\u00e9", ",", "<a b>", "<<", ">>", "\x0b", "\x00"]
+PIECES = ["", "<", ">", " ", "a", "b@c", "<a>", "<b@c.d>", "<>", "\t", "\r\n ", "\u00a0", "\u3000", "\u0085", "\u200b", "\u00e9", ",", "<a b>", "<<", ">>", "\x0b", "\x00"]
 WHITE = ["", " ", "  ", "\t", "\r\n ", "\n", "\u00a0", "\u2003", "\x0b", "\x0c", "\u0085", "\u3000"]
 IDS = ["", "a", "a@b", "one.two@three.four", "a b", " a ", "<", "<<", "a<b", "\u00e9@\u00fc", "\n", '"q"@x', "a,b", "[1.2.3.4]", "\U0001f600"]
 
@@ -41,33 +39,16 @@ def made(rng):
     return "".join(parts)
 
 
-def mutated(rng, text):
-    """The text with one to three places changed."""
-    for _ in range(rng.randrange(1, 4)):
-        at = rng.randrange(len(text) + 1)
-        text = text[:at] + rng.choice([""] + PIECES) + text[at + rng.randrange(2):]
-    return text
-
-
-def questions(seed):
-    """All texts of the list, each once."""
-    rng = random.Random(seed)
-    found = dict.fromkeys(chosen())
-    add_new(found, MADE, lambda: made(rng))
-    sources = list(found)
-    add_new(found, MUTATED, lambda: mutated(rng, rng.choice(sources)))
-    return list(found)
-
-
-def answer(reply):
-    """The ids, or the refusal."""
+def line_of(text, reply):
+    """The line on ids, from the lines on them."""
     if not reply[0].startswith("ids ok "):
-        return "g" + reply[0][len("ids err "):].encode("ascii").hex()
-    return "d" + "".join(line[len("id "):].replace("-", "") + "," for line in reply[1:] if line.startswith("id "))
+        return f"msgid {hex_or_dash(text)} {refusal(reply[0])}"
+    ids = "".join(line[len("id "):].replace("-", "") + "," for line in reply[1:] if line.startswith("id "))
+    return f"msgid {hex_or_dash(text)} d{ids}"
 
 
 def lines(oracle, seed):
     """The lines of the list."""
-    inputs = [text.encode("utf-8") for text in questions(seed)]
-    for text, reply in zip(inputs, answers(oracle, "msgid", inputs)):
-        yield f"msgid {hex_or_dash(text)} {answer(reply)}"
+    found = questions(seed, chosen(), MADE, made, MUTATED, PIECES)
+    inputs = [text.encode("utf-8") for text in found]
+    yield from map(line_of, inputs, answers(oracle, "msgid", inputs))

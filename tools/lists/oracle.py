@@ -4,6 +4,7 @@ An oracle is a program that answers for another library, as the one in tools/ora
 the argument `batch`, it reads records from standard input: a line `COMMAND LENGTH`, then LENGTH
 bytes. For each record it writes lines, and then a line `.`.
 """
+import random
 import subprocess
 import sys
 
@@ -38,3 +39,27 @@ def add_new(found, count, make):
     wanted = len(found) + count
     while len(found) < wanted:
         found[make()] = None
+
+
+def changed(rng, text, pieces):
+    """The text with one to three places changed to one of the pieces each."""
+    for _ in range(rng.randrange(1, 4)):
+        at = rng.randrange(len(text) + 1)
+        piece = rng.choice(pieces)
+        text = text[:at] + piece + text[at + rng.randrange(2):]
+    return text
+
+
+def questions(seed, chosen, made_count, made, changed_count, pieces):
+    """The chosen texts, so many that `made` gives, and so many of all these changed, each once."""
+    rng = random.Random(seed)
+    found = dict.fromkeys(chosen)
+    add_new(found, made_count, lambda: made(rng))
+    sources = list(found)
+    add_new(found, changed_count, lambda: changed(rng, rng.choice(sources), pieces))
+    return found
+
+
+def refusal(line):
+    """`g` and the bytes of the text of a refusal, from a line `NAME err TEXT`."""
+    return "g" + line.split(" ", 2)[2].encode("utf-8").hex()

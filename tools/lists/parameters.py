@@ -7,7 +7,7 @@ keys and of values in several pieces, and such texts with a few characters chang
 """
 import random
 
-from .oracle import add_new
+from .oracle import add_new, changed
 
 MADE = 260
 MUTATED = 220
@@ -15,6 +15,7 @@ STARRED = 500
 STARRED_MUTATED = 250
 
 WHITE = ["", "", "", " ", "  ", "\t", "\r\n ", "\u00a0", "\x0b"]
+PIECES = ["", "", ";", "=", "\"", "\\", " ", "\t", "a", "A", "\u00e9", "\u2003", "\x00"]
 KEYS = ["a", "A", "b", "charset", "Charset", "CHARSET", "boundary", "name", "filename", "FileName", "", "a b", "\u00c9", "\u00e9", "'x'", "%41", "x\"y;z\""]
 VALUES = [
     "", "1", "utf-8", "UTF-8", "us-ascii", "\"\"", "\"a b\"", "\"a;b\"", "\"a\\\"b\"", "\"a\\\\\"", "\"", "\"a", "a\"", "\"a\"b", "a\"b;c\"d", "\\\"", "\\", "\"\\",
@@ -47,15 +48,6 @@ def made(rng, values):
     return text
 
 
-def mutated(rng, text):
-    """The text with one to three places changed."""
-    for _ in range(rng.randrange(1, 4)):
-        at = rng.randrange(len(text) + 1)
-        piece = rng.choice(["", "", ";", "=", "\"", "\\", " ", "\t", "a", "A", "\u00e9", "\u2003", "\x00"])
-        text = text[:at] + piece + text[at + rng.randrange(2):]
-    return text
-
-
 NAMES = ["f", "t", "F", "name", "n*1", "a*0", "u*!x", "", "a*", "f*0x"]
 STARS = ["", "*", "*", "*0", "*0*", "*0*", "*1", "*1*", "*1*", "*2", "*2*", "*00", "*00*", "*+0*", "*0*0*", "*0*1*", "*x*", "*-1", "*01*",
          "*18446744073709551615*", "*18446744073709551616*", "*10"]
@@ -78,11 +70,11 @@ def texts(seed, values):
     found = dict.fromkeys(chosen(values))
     add_new(found, MADE, lambda: made(rng, values))
     sources = [text for text in found if len(text) <= 120]
-    add_new(found, MUTATED, lambda: mutated(rng, rng.choice(sources)))
+    add_new(found, MUTATED, lambda: changed(rng, rng.choice(sources), PIECES))
     before = len(found)
     add_new(found, STARRED, lambda: starred(rng, values))
     sources = list(found)[before:]
-    add_new(found, STARRED_MUTATED, lambda: mutated(rng, rng.choice(sources)))
+    add_new(found, STARRED_MUTATED, lambda: changed(rng, rng.choice(sources), PIECES))
     return list(found)
 
 

@@ -211,11 +211,14 @@ def field(lines, name):
     return next(line[len(name) + 1:] for line in lines if line.startswith(name + " "))
 
 
+def line_of(value, reply):
+    """The line on a value, from the lines on its header."""
+    strict = field(reply, "utf8")
+    strict = strict[len("ok "):] if strict.startswith("ok ") else "!"
+    return f"value {hex_or_dash(value)} {field(reply, 'value')} {strict}"
+
+
 def lines(oracle, seed):
     """The lines of the list."""
     inputs = values(seed)
-    replies = answers(oracle, "header", [b"X:" + value for value in inputs])
-    for value, reply in zip(inputs, replies):
-        strict = field(reply, "utf8")
-        strict = strict[len("ok "):] if strict.startswith("ok ") else "!"
-        yield f"value {hex_or_dash(value)} {field(reply, 'value')} {strict}"
+    yield from map(line_of, inputs, answers(oracle, "header", [b"X:" + value for value in inputs]))

@@ -247,62 +247,76 @@ fn input_that_is_refused(rt: HostRuntime) -> Result<(), Fail> {
     Ok(())
 }
 
-const INPUT: &[u8] = b"A: 1\r\nB:2\r\n\r\nxyz";
-
-const TEXT: &[u8] = b"part 0: text/plain, 2 headers, 3 body bytes\n  A: 1\n  B: 2\n";
-
 #[test]
 fn each_read_failing(rt: HostRuntime) -> Result<(), Fail> {
-    let mut failed = 0usize;
-    for place in 1..100 {
-        let mut reader = TestReader::new(INPUT, 1, Trouble::FailsAt(place));
-        let mut writer = TestWriter::new(rt.alloc(), 1, Trouble::Never);
-        match run(rt.alloc(), &mut reader, &mut writer) {
-            Ok(()) => {
-                assert!(rt; reader.calls < place);
-                assert_eq!(rt; writer.held.as_slice(), TEXT);
-            }
-            Err(fault) => {
-                assert!(rt; matches!(fault, ShowFault::Input), "{place}");
-                assert_eq!(rt; reader.calls, place);
-                assert_eq!(rt; writer.calls, 0, "{place}");
-                failed = failed.saturating_add(1);
+    for (input, text) in SHOWN {
+        let reads = input.len().saturating_add(1);
+        for place in 1..=reads.saturating_add(1) {
+            let mut reader = TestReader::new(input, 1, Trouble::FailsAt(place));
+            let mut writer = TestWriter::new(rt.alloc(), 1, Trouble::Never);
+            match run(rt.alloc(), &mut reader, &mut writer) {
+                Ok(()) => {
+                    assert_eq!(rt; reads, place.saturating_sub(1), "{input:?}");
+                    assert_eq!(rt; writer.held.as_slice(), text.as_bytes());
+                }
+                Err(fault) => {
+                    assert!(rt; matches!(fault, ShowFault::Input), "{place}");
+                    assert_eq!(rt; reader.calls, place);
+                    assert_eq!(rt; writer.calls, 0, "{place}");
+                    assert_eq!(rt; writer.flushes, 0, "{place}");
+                }
             }
         }
     }
-    assert_eq!(rt; failed, INPUT.len() + 1);
     Ok(())
+}
+
+#[test]
+fn a_read_failing_after_what_would_be_refused(rt: HostRuntime) {
+    for place in 1..=3 {
+        let mut reader = TestReader::new(b" x", 1, Trouble::FailsAt(place));
+        let mut writer = TestWriter::new(rt.alloc(), 1, Trouble::Never);
+        let answer = run(rt.alloc(), &mut reader, &mut writer);
+        assert!(rt; matches!(answer, Err(ShowFault::Input)), "{place}");
+        assert_eq!(rt; writer.calls, 0, "{place}");
+    }
+}
+
+/// What a run answers whose write of this number has trouble, and what it wrote.
+fn run_with_trouble(
+    alloc: Global,
+    input: &[u8],
+    trouble: Trouble,
+) -> (Result<(), ShowFault>, TestWriter) {
+    let mut reader = TestReader::new(input, usize::MAX, Trouble::Never);
+    let mut writer = TestWriter::new(alloc, 1, trouble);
+    let answer = run(alloc, &mut reader, &mut writer);
+    (answer, writer)
 }
 
 #[test]
 fn each_write_failing_or_taking_nothing(rt: HostRuntime) -> Result<(), Fail> {
-    for takes_none in [false, true] {
-        let mut failed = 0usize;
-        for place in 1..100 {
-            let trouble = if takes_none {
-                Trouble::TakesNoneAt(place)
-            } else {
-                Trouble::FailsAt(place)
-            };
-            let mut reader = TestReader::new(INPUT, 1, Trouble::Never);
-            let mut writer = TestWriter::new(rt.alloc(), 1, trouble);
-            match run(rt.alloc(), &mut reader, &mut writer) {
-                Ok(()) => {
-                    assert!(rt; writer.calls < place);
-                    assert_eq!(rt; writer.held.as_slice(), TEXT);
-                }
-                Err(fault) => {
-                    assert!(rt; matches!(fault, ShowFault::Output), "{place}");
-                    assert_eq!(rt; writer.calls, place);
-                    assert_eq!(rt; writer.flushes, 0, "{place}");
-                    failed = failed.saturating_add(1);
-                }
+    for (input, text) in SHOWN {
+        for place in 1..=text.len() {
+            for trouble in [Trouble::FailsAt(place), Trouble::TakesNoneAt(place)] {
+                let (answer, writer) = run_with_trouble(rt.alloc(), input, trouble);
+                assert!(rt; matches!(answer, Err(ShowFault::Output)), "{place}");
+                assert_eq!(rt; writer.calls, place, "{input:?}");
+                assert_eq!(rt; writer.flushes, 0, "{place}");
+                assert!(rt; text.as_bytes().starts_with(writer.held.as_slice()));
             }
         }
-        assert_eq!(rt; failed, TEXT.len());
+        let after = Trouble::FailsAt(text.len().saturating_add(1));
+        let (answer, writer) = run_with_trouble(rt.alloc(), input, after);
+        assert!(rt; answer.is_ok(), "{input:?}");
+        assert_eq!(rt; writer.held.as_slice(), text.as_bytes());
     }
     Ok(())
 }
+
+const INPUT: &[u8] = b"A: 1\r\nB:2\r\n\r\nxyz";
+
+const TEXT: &[u8] = b"part 0: text/plain, 2 headers, 3 body bytes\n  A: 1\n  B: 2\n";
 
 #[test]
 fn a_flush_that_fails_is_not_tried_again(rt: HostRuntime) -> Result<(), Fail> {
