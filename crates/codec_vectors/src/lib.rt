@@ -11,3 +11,5 @@ mod searches;
 mod texts;
 #[cfg(test)]
 mod transfer;
+#[cfg(test)]
+mod words;

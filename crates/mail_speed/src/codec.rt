@@ -1,9 +1,34 @@
 //! Works of the decoders; each tells how many bytes it made.
 
 use crate::work::WorkFault;
-use mail_codec::bytescan::strip_ascii_whitespace;
+use mail_codec::bytescan::{find, find_byte, strip_ascii_whitespace};
 use mail_codec::transfer::{decode_base64, decode_base64_body, decode_quoted_printable};
 use std::alloc::Global;
+
+/// Each LF is found. Tells how many there are.
+pub fn lines(input: &[u8]) -> usize {
+    let mut rest = input;
+    let mut count = 0usize;
+    for _place in input {
+        let Some(place) = find_byte(rest, b'\n') else {
+            break;
+        };
+        rest = rest.get(place.saturating_add(1)..).unwrap_or(b"");
+        count = count.saturating_add(1);
+    }
+    count
+}
+
+/// A NUL is looked for; in a text there is none, so all bytes are passed over. Tells how many are.
+pub fn absent(input: &[u8]) -> usize {
+    find_byte(input, 0).unwrap_or(input.len())
+}
+
+/// A text is looked for that begins with LF and stands nowhere in a text, so each LF is looked
+/// at. Tells how many bytes are passed over.
+pub fn text(input: &[u8]) -> usize {
+    find(input, b"\n\0").unwrap_or(input.len())
+}
 
 /// ASCII white space goes.
 pub fn white(alloc: Global, input: &[u8]) -> Result<usize, WorkFault> {

@@ -9,6 +9,12 @@ use thiserror::Error;
 /// A work on the bytes of the input.
 #[derive(Clone, Copy, Debug, PartialEq, Eq)]
 pub enum Work {
+    /// Each LF is found.
+    Lines,
+    /// A byte is looked for that is absent.
+    Absent,
+    /// A text is looked for that begins with LF and is absent.
+    Text,
     /// ASCII white space goes.
     White,
     /// Base64 is decoded.
@@ -56,6 +62,9 @@ impl Work {
     /// The work of this name, if there is one.
     pub fn from_name(name: &str) -> Option<Work> {
         match name {
+            "lines" => Some(Work::Lines),
+            "absent" => Some(Work::Absent),
+            "text" => Some(Work::Text),
             "white" => Some(Work::White),
             "base64" => Some(Work::Base64),
             "base64-body" => Some(Work::Base64Body),
@@ -67,9 +76,12 @@ impl Work {
         }
     }
 
-    /// Does the work, and tells how much it made: bytes, or headers of a message.
+    /// Does the work, and tells how much it made: bytes, lines, or headers of a message.
     pub fn run(self, alloc: Global, input: &[u8]) -> Result<usize, WorkFault> {
         match self {
+            Work::Lines => Ok(codec::lines(input)),
+            Work::Absent => Ok(codec::absent(input)),
+            Work::Text => Ok(codec::text(input)),
             Work::White => codec::white(alloc, input),
             Work::Base64 => codec::base64(alloc, input),
             Work::Base64Body => codec::base64_body(alloc, input),
@@ -84,6 +96,9 @@ impl Work {
 impl fmt::Display for Work {
     fn fmt<W: fmt::Write>(&self, f: &mut fmt::Formatter<W>) -> fmt::Result {
         f.write_str(match self {
+            Work::Lines => "lines",
+            Work::Absent => "absent",
+            Work::Text => "text",
             Work::White => "white",
             Work::Base64 => "base64",
             Work::Base64Body => "base64-body",
