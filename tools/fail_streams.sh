@@ -1,7 +1,7 @@
 #!/bin/sh
-# fail_streams.sh: runs mail_show where standard input or output fails: closed, a folder, full, a pipe
-# that nobody reads. A run passes that ends with status 1 and says on standard error what failed; one
-# whose standard error is closed too, with status 1. No run may end by a signal.
+# fail_streams.sh: runs mail_show where standard input or output fails: closed, a folder, full, a
+# pipe that nobody reads. A run passes that ends with status 1 and says on standard error what
+# failed; one whose standard error is closed too, with status 1. No run may end by a signal.
 #
 # The last line is `N passed, N failed`; the status is 1 where a run failed.
 set -eu

@@ -1,7 +1,7 @@
 #!/bin/sh
-# load.sh: runs mail_show on 20,000 hostile mails one after the other, and then on one mail of 1 GB, an
-# attachment in Base64; prints the seconds that both take, and the most memory that a run held. It needs
-# GNU time (/usr/bin/time) and 1 GB of disk.
+# load.sh: runs mail_show on 20,000 hostile mails one after the other, and then on one mail of 1
+# GB, an attachment in Base64; prints the seconds that both take, and the most memory that a run
+# held. It needs GNU time (/usr/bin/time) and 1 GB of disk.
 set -eu
 if [ $# -gt 0 ]; then
     echo 'usage: load.sh' >&2
@@ -29,13 +29,17 @@ done
 awk -v nanoseconds=$((end - start)) '
     $1 > most { most = $1 }
     { ended[$2]++ }
-    END { printf "%d mails: %.1f s, at most %d KB; %d read, %d refused\n", NR, nanoseconds / 1e9, most, ended[0], ended[1] }
+    END {
+        printf "%d mails: %.1f s, at most %d KB; ", NR, nanoseconds / 1e9, most
+        printf "%d read, %d refused\n", ended[0], ended[1]
+    }
 ' "$work/runs"
 rm -r "$work/mails" "$work/runs"
 
 {
     printf 'Content-Type: application/octet-stream\r\nContent-Transfer-Encoding: base64\r\n\r\n'
-    yes 'VGhlIHF1aWNrIGJyb3duIGZveCBqdW1wcyBvdmVyIHRoZSBsYXp5IGRvZywgYW5kIHRoZW4g' | head -c 1000000000
+    yes 'VGhlIHF1aWNrIGJyb3duIGZveCBqdW1wcyBvdmVyIHRoZSBsYXp5IGRvZywgYW5kIHRoZW4g' \
+        | head -c 1000000000
 } > "$work/mail"
 measured < "$work/mail"
 awk '{ printf "a mail of 1 GB: %.1f s, %d KB; status %d\n", $3, $1, $2 }' "$work/runs"

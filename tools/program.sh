@@ -1,6 +1,7 @@
 #!/bin/sh
-# program.sh NAME: says where the program of the crate NAME is. Where it is not there, or where a source is
-# newer than it, the crate is proved and the program built first; with BUILT=only that is an error.
+# program.sh NAME: says where the program of the crate NAME is. Where it is not there, or where a
+# source is newer than it, the crate is proved and the program built first; with BUILT=only that
+# is an error.
 set -eu
 top=$(cd "$(dirname "$0")/.." && pwd)
 name=${1:?usage: program.sh NAME}

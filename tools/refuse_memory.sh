@@ -1,23 +1,23 @@
 #!/bin/sh
-# refuse_memory.sh: refuses the calls for memory of the programs one by one, and looks at what they
-# answer then.
+# refuse_memory.sh: refuses the calls for memory of the programs one by one, and looks at what
+# they answer then.
 #
-# For N from 1 on it refuses the Nth call alone, and then the Nth and every one after it, until a run
-# meets no refusal:
+# For N from 1 on it refuses the Nth call alone, and then the Nth and every one after it, until a
+# run meets no refusal:
 #
 #   mail_show      on the samples, and on mails that are refused
 #   answers        which tries each line again, on some lines of its list
-#   mail_memory    which makes each call of the library that takes memory, and knows the right answers:
-#                  once, and again on the same inputs where memory ran out
+#   mail_memory    which makes each call of the library that takes memory, and knows the right
+#                  answers: once, and again on the same inputs where memory ran out
 #
-# A run passes that gives what it gives with ample memory, or that ends with status 1 and says nothing
-# but that memory ran out; where each call is made once, no run with a refusal passes but the latter.
-# After that mail_memory makes the calls that take no memory, while each call for memory is refused once
-# what they work on is there.
+# A run passes that gives what it gives with ample memory, or that ends with status 1 and says
+# nothing but that memory ran out; where each call is made once, no run with a refusal passes but
+# the latter. After that mail_memory makes the calls that take no memory, while each call for
+# memory is refused once what they work on is there.
 #
-# It prints for each input how many calls for memory there were, how many runs met a refusal, and how
-# these ended; and each run that failed. The last line is `N passed, N failed`; the status is 1 where a
-# run failed. It needs a C compiler, $CC or cc.
+# It prints for each input how many calls for memory there were, how many runs met a refusal, and
+# how these ended; and each run that failed. The last line is `N passed, N failed`; the status is
+# 1 where a run failed. It needs a C compiler, $CC or cc.
 set -eu
 if [ $# -gt 0 ]; then
     echo 'usage: refuse_memory.sh' >&2
@@ -44,7 +44,8 @@ run() {
 
 # is_right: did the run give what it gives with ample memory?
 is_right() {
-    [ "$status" = "$wanted" ] && cmp -s "$work/out" "$work/wanted.out" && cmp -s "$work/err" "$work/wanted.err"
+    [ "$status" = "$wanted" ] && cmp -s "$work/out" "$work/wanted.out" \
+        && cmp -s "$work/err" "$work/wanted.err"
 }
 
 # is_short: did memory run out, and the run say only that?
@@ -88,7 +89,8 @@ sweep() {
         unset "$mode"
         judge
     done
-    echo "$name, $mode: $calls calls, $((place - 1)) runs with a refusal; $right right, $short out of memory"
+    echo "$name, $mode: $calls calls, $((place - 1)) runs with a refusal;" \
+        "$right right, $short out of memory"
 }
 
 # both NAME PROGRAM [ARGUMENT]: both ways to refuse, on the file `input`

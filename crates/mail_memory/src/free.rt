@@ -16,8 +16,8 @@ use thiserror::Error;
 #[error("{0}: a wrong answer without memory")]
 pub struct FreeFault(&'static str);
 
-/// Makes each of them, on a message of two parts, these parts and a default type, and tells how many
-/// gave the right answer: all of them.
+/// Makes each of them, on a message of two parts, these parts and a default type, and tells how
+/// many gave the right answer: all of them.
 pub fn count_right(
     alloc: Global,
     mail: &ParsedMail<'_>,
