@@ -1,9 +1,11 @@
 -- Lemmas on the pieces of a text.
-use Rattle.std.proofs.Common.{◌≡◌, ◌≢◌, ℕ, ◌+◌, ◌<◌, ◌≤◌, Bool, true, false, eqb, List, [], ◌∷◌, ◌++◌, length, take, drop, get_or, refl, sym, ap, subst, ◌∙◌, append_assoc}
+use Rattle.std.proofs.Common.{◌≡◌, ◌≢◌, ℕ, suc, ◌+◌, ◌<◌, ◌≤◌, Bool, true, false, cond, ◌||◌, eqb, List, [], ◌∷◌, ◌++◌, length, take, drop, get_or, refl, sym, ap, subst, ◌∙◌, append_assoc}
 use Rattle.std.proofs.lemmas.Bool.{cond-true, cond-false, eqb-true, eqb-false, ne_eqb, false≢true}
 use Rattle.std.proofs.lemmas.List.{append-nil, drop_more, take_more, drop_all, take_all}
 use Rattle.mail_codec.specs.Ascii.{quote, semicolon, backslash}
+use Rattle.mail_codec.specs.Places.{begins, first_place}
 use Rattle.mailparse.specs.Pieces.{IsRunAfter, closing_quote, text_ends, lone_backslash, escaped_byte, plain_byte, IsPiece, piece_ends, other_byte, closed_run, open_run, ArePieces, last_piece, more_pieces, Within, outside, quoted, escaped, after, ends, with_front, pieces_from, pieces}
+use Rattle.mailparse.specs.private.Pieces.{plain_len}
 
 pub with_front-append : (a b : List ℕ) (ps : List (List ℕ)) → with_front a (with_front b ps) ≡ with_front (a ++ b) ps
 with_front-append a b [] = refl
@@ -178,10 +180,6 @@ with_front-nil w (b ∷ bytes) = go (ends w b) refl
 abbrev pub Reaches : List ℕ → ℕ → Within → Type 0
 Reaches text at w = pieces text ≡ with_front (take at text) (pieces_from w (drop at text))
 
-pub reaches_start : (text : List ℕ) → Reaches text 0 outside
-unfolding pieces
-reaches_start text = sym (with_front-nil outside text)
-
 pub reaches_next : (text : List ℕ) (at : ℕ) (w : Within) (b : ℕ) → at < length text → b ≡ get_or text at 0 → false ≡ ends w b → Reaches text at w
     → Reaches text (at + 1) (after w b)
 reaches_next text at w b lt is e here =
@@ -211,3 +209,36 @@ pub semicolon_ends : (w : Within) (b : ℕ) → true ≡ ends w b → b ≡ semi
 semicolon_ends outside b e = eqb-true b semicolon (sym e)
 semicolon_ends quoted b e = absurd (false≢true (sym e))
 semicolon_ends escaped b e = absurd (false≢true (sym e))
+
+-- the bytes before all quotes and semicolons do
+pub reaches_plain : (text : List ℕ) → Reaches text (plain_len text) outside
+unfolding pieces
+reaches_plain [] = refl
+reaches_plain (b ∷ bytes) = by_test (eqb b semicolon) (eqb b quote) refl refl (reaches_plain bytes)
+  where
+    n : Bool → Bool → ℕ
+    n s q = cond (s || q) 0 (suc (plain_len bytes))
+
+    by_test : (s q : Bool) → eqb b semicolon ≡ s → eqb b quote ≡ q
+        → pieces_from outside bytes ≡ with_front (take (plain_len bytes) bytes) (pieces_from outside (drop (plain_len bytes) bytes))
+        → pieces_from outside (b ∷ bytes) ≡ with_front (take (n s q) (b ∷ bytes)) (pieces_from outside (drop (n s q) (b ∷ bytes)))
+    by_test true q e f rest = sym (with_front-nil outside (b ∷ bytes))
+    by_test false true e f rest = sym (with_front-nil outside (b ∷ bytes))
+    by_test false false e f rest =
+        at_other b bytes (eqb-false b quote f) (eqb-false b semicolon e) ∙ ap (with_front (b ∷ [])) rest
+        ∙ with_front-append (b ∷ []) (take (plain_len bytes) bytes) (pieces_from outside (drop (plain_len bytes) bytes))
+
+-- two searches find where they end
+pub plain_len-searched : (bytes : List ℕ)
+    → first_place (begins (λ b. eqb b quote)) (take (first_place (begins (λ b. eqb b semicolon)) bytes) bytes) ≡ plain_len bytes
+plain_len-searched [] = refl
+plain_len-searched (b ∷ bytes) = by_test (eqb b semicolon) (eqb b quote) refl (plain_len-searched bytes)
+  where
+    m : ℕ
+    m = first_place (begins (λ x. eqb x semicolon)) bytes
+
+    by_test : (s q : Bool) → eqb b quote ≡ q → first_place (begins (λ x. eqb x quote)) (take m bytes) ≡ plain_len bytes
+        → first_place (begins (λ x. eqb x quote)) (take (cond s 0 (suc m)) (b ∷ bytes)) ≡ cond (s || q) 0 (suc (plain_len bytes))
+    by_test true q f rest = refl
+    by_test false true f rest = cond-true _ _ _ f
+    by_test false false f rest = cond-false _ _ _ f ∙ ap suc rest

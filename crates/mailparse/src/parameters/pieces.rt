@@ -1,10 +1,12 @@
 //! The pieces of a text that has parameters, and quoted texts (RFC 2045, section 5.1).
-ghost use Rattle.std.specs.Prelude.{◌≡◌, ◌∷◌, ◌<◌, false, true, length, IfOk, IfSome, MatchOption};
+ghost use Rattle.std.specs.Prelude.{◌≡◌, ◌==◌, ◌∷◌, ◌<◌, ◌≤◌, false, true, length, IfOk, IfSome, MatchOption};
 ghost use Rattle.std.specs.Str.{chars, encode_utf8_all};
 ghost use Rattle.std.specs.String.{string_bytes};
+ghost use Rattle.mail_codec.specs.Places.{begins, first_place};
 ghost use Rattle.mailparse.specs.Pieces.{after, ends, inside_quotes, is_quoted, pieces, unescape, without_escapes};
-ghost use Rattle.mailparse.specs.private.Pieces.{pieces_of_rest, within};
+ghost use Rattle.mailparse.specs.private.Pieces.{pieces_of_rest, plain_len, within};
 
+use mail_codec::bytescan::find_byte;
 use std::alloc::{AllocError, Global};
 
 /// How a byte stands in a text.
@@ -55,6 +57,26 @@ impl Within {
     }
 }
 
+/// How many bytes stand before the first one like this, or how many there are.
+fn length_before(bytes: &[u8], byte: u8) -> usize
+    ensures least { result ≡ first_place (begins (λ b. b == byte)) bytes.now }
+    ensures within { result ≤ length bytes.now }
+{
+    match find_byte(bytes, byte) {
+        Some(place) => place,
+        None => bytes.len(),
+    }
+}
+
+/// How many bytes at the front are neither a quote nor a semicolon.
+fn plain_len(bytes: &[u8]) -> usize
+    ensures plain { result ≡ plain_len bytes.now }
+    ensures within { result ≤ length bytes.now }
+{
+    let end = length_before(bytes, b';');
+    length_before(&bytes[..end], b'"')
+}
+
 /// The first piece of a text, and what stands after its semicolon, if it has one. Takes no memory.
 pub(crate) fn cut_piece(text: &str) -> (&str, Option<&str>)
     ensures cut { pieces text.now ≡ result.0.now ∷ pieces_of_rest result.1 }
@@ -62,7 +84,7 @@ pub(crate) fn cut_piece(text: &str) -> (&str, Option<&str>)
 {
     let bytes = text.as_bytes();
     let mut within = Within::Outside;
-    for at in 0..bytes.len() {
+    for at in plain_len(bytes)..bytes.len() {
         if within.ends(bytes[at]) {
             return (&text[..at], Some(&text[at + 1..]));
         }

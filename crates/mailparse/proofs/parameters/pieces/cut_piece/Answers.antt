@@ -1,14 +1,18 @@
-use Rattle.std.proofs.Common.{◌≡◌, ◌∷◌, ◌+◌, true, get_or, take, drop, refl, sym, ap, ◌∙◌, arith}
+use Rattle.std.proofs.Common.{◌≡◌, ◌∷◌, ◌+◌, true, get_or, length, take, drop, refl, subst, sym, ap, ◌∙◌, arith}
 use Rattle.std.proofs.Math.Nat.{sub-zero}
 use Rattle.std.proofs.lemmas.Str.{IsCharBoundary-after_ascii}
 use Rattle.mail_codec.specs.Ascii.{semicolon}
-use Rattle.mailparse.specs.Pieces.{ends, pieces}
-use Rattle.mailparse.specs.private.Pieces.{within}
-use Rattle.mailparse.proofs.lemmas.Pieces.{reaches_start, reaches_semicolon, semicolon_ends}
+use Rattle.mailparse.specs.Pieces.{outside, ends, pieces}
+use Rattle.mailparse.specs.private.Pieces.{plain_len, within}
+use Rattle.mailparse.proofs.lemmas.Pieces.{Reaches, reaches_plain, reaches_semicolon, semicolon_ends}
 use Rattle.mailparse.proofs.parameters.pieces.cut_piece.Goals as goal
 
 pub loop-at-init : goal.loop-at-init
-loop-at-init c = record { in_text = omega arith; reaches = reaches_start c.args.text.now }
+loop-at-init c =
+    let within = c.plain_len-at.ensures.within in
+    let len = ap length c.as_bytes-bytes.ensures.value in
+    let at = c.plain_len-at.ensures.plain ∙ ap plain_len c.as_bytes-bytes.ensures.value in
+    record { in_text = omega arith; reaches = subst (λ n. Reaches c.args.text.now n outside) (sym at) (reaches_plain c.args.text.now) }
 
 pub range_from-requires : goal.range_from-requires
 range_from-requires c = λ _.
