@@ -1,29 +1,14 @@
--- The parts of a value in groups: each text is a group of its own, and each longest run of pieces with a charset is one (RFC 2231,
--- sections 3 and 4).
-use Rattle.std.specs.Prelude.{ℕ, List, [], ◌∷◌, ◌++◌, flat_map}
+-- The text that parts make, said by a walk over them (RFC 2231, sections 3 and 4).
+use Rattle.std.specs.Prelude.{List, ℕ, [], ◌∷◌, ◌++◌, Option, Some, None}
 use Rattle.mailparse.specs.Continuations.{Part, text, octets}
 
--- a text, or a run: the charset of its last piece, and the bytes of all its pieces
-pub data Group : Type 0 where
-  text_alone : List ℕ → Group
-  run : (List ℕ → List ℕ) → List ℕ → Group
+-- the text of the pieces that were met since the last text: nothing where there are none, otherwise it is read in the charset of the last
+abbrev pub open_text : Option (List ℕ → List ℕ) → List ℕ → List ℕ
+open_text None bytes = []
+open_text (Some reading) bytes = reading bytes
 
--- a piece in front of groups: it joins a run that stands first, otherwise it is a run of its own
-abbrev pub onto_run : (List ℕ → List ℕ) → List ℕ → List Group → List Group
-onto_run reading bytes [] = run reading bytes ∷ []
-onto_run reading bytes (text_alone t ∷ more) = run reading bytes ∷ text_alone t ∷ more
-onto_run reading bytes (run last others ∷ more) = run last (bytes ++ others) ∷ more
-
-abbrev pub groups : List Part → List Group
-groups [] = []
-groups (text t ∷ parts) = text_alone t ∷ groups parts
-groups (octets reading bytes ∷ parts) = onto_run reading bytes (groups parts)
-
--- the text of a group: a run is read once, in the charset of its last piece
-abbrev pub group_text : Group → List ℕ
-group_text (text_alone t) = t
-group_text (run last bytes) = last bytes
-
--- the texts of groups, in order
-abbrev pub texts_of : List Group → List ℕ
-texts_of found = flat_map group_text found
+-- the text that parts make after such pieces: a text ends their run
+abbrev pub walked_after : Option (List ℕ → List ℕ) → List ℕ → List Part → List ℕ
+walked_after reading bytes [] = open_text reading bytes
+walked_after reading bytes (text t ∷ parts) = open_text reading bytes ++ (t ++ walked_after None [] parts)
+walked_after reading bytes (octets last more ∷ parts) = walked_after (Some last) (bytes ++ more) parts

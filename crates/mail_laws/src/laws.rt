@@ -1,5 +1,5 @@
 //! The laws. Each function does nothing; its contract is the law.
-ghost use Rattle.std.specs.Prelude.{◌≡◌, ◌<◌, ◌≤◌, ◌++◌, ℕ, suc, List, [], ◌∷◌, codes, length, take, Decides, Ok, ◌+◌, ◌-◌, ◌*◌, ◌/◌, All, slice_index, false, ◌↔◌, Err};
+ghost use Rattle.std.specs.Prelude.{◌≡◌, ◌<◌, ◌≤◌, ◌++◌, ℕ, suc, List, [], ◌∷◌, codes, length, take, Decides, None, Ok, ◌+◌, ◌-◌, ◌*◌, ◌/◌, All, slice_index, false, ◌↔◌, Err};
 ghost use Rattle.std.specs.List.{flat_map, list_any};
 ghost use Rattle.std.specs.Str.{IsUtf8};
 ghost use Rattle.mailparse.specs.Header.{Header, read_header};
@@ -25,7 +25,7 @@ ghost use Rattle.mail_laws.specs.Spans.{StandBefore, blank_span, header_at, head
 ghost use Rattle.mailparse.specs.Date.{day_number, days_of_years, month_lengths};
 ghost use Rattle.mailparse.specs.MessageIds.{message_ids, written_ids};
 ghost use Rattle.mailparse.specs.Continuations.{Part, joined};
-ghost use Rattle.mail_laws.specs.Runs.{groups, texts_of};
+ghost use Rattle.mail_laws.specs.Runs.{walked_after};
 ghost use Rattle.mail_laws.specs.IdGrammar.{AreIds, Breaks};
 ghost use Rattle.mail_laws.specs.Ids.{HoldsNoClosing};
 ghost use Rattle.mailparse.specs.Refusal.{Refusal};
@@ -139,10 +139,10 @@ pub fn pairs_without_stars_are_parameters()
         (name : List ℕ) → parameters_in known pairs name ≡ last_of pairs name }
 {}
 
-/// The text that the parts of a value make is that of their groups, one after another: each text is a
-/// group, and each longest run of pieces with a charset is one, read once in the charset of its last.
+/// The text that the parts of a value make is what one walk over them makes, which keeps the bytes of
+/// pieces until a text or the end follows, and reads them then, in the charset of the last of them.
 pub fn runs_are_read_once()
-    ensures { (parts : List Part) → joined parts ≡ texts_of (groups parts) }
+    ensures { (parts : List Part) → joined parts ≡ walked_after None [] parts }
 {}
 
 /// A text of exactly `multipart/mixed; boundary=B`, where B is letters and digits, has one pair, the

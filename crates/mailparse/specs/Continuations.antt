@@ -65,20 +65,31 @@ most_parts = 2 ^ 64 - 1
 abbrev pub parts_of : (List ℕ → Option Part) → List ℕ → List Part
 parts_of at base = parts_from at base most_parts 0
 
--- the text of a run of pieces with a charset, whose bytes are read as one
-abbrev pub run_text : Option (List ℕ → List ℕ) → List ℕ → List ℕ
-run_text None run = []
-run_text (Some reading) run = reading run
+-- What parts join to: a text alone, or a run of pieces, which has the charset of the last of them and the bytes of all.
+pub data Group : Type 0 where
+  text_alone : List ℕ → Group
+  run : (List ℕ → List ℕ) → List ℕ → Group
 
--- the text that parts make after a run: each longest run of pieces is read once, in the charset of its last
-abbrev pub joined_after : Option (List ℕ → List ℕ) → List ℕ → List Part → List ℕ
-joined_after reading run [] = run_text reading run
-joined_after reading run (text t ∷ parts) = run_text reading run ++ (t ++ joined_after None [] parts)
-joined_after reading run (octets last bytes ∷ parts) = joined_after (Some last) (run ++ bytes) parts
+-- a piece in front of groups: it joins a run that stands first, otherwise it is a run of its own
+abbrev pub onto_run : (List ℕ → List ℕ) → List ℕ → List Group → List Group
+onto_run reading bytes [] = run reading bytes ∷ []
+onto_run reading bytes (text_alone t ∷ more) = run reading bytes ∷ text_alone t ∷ more
+onto_run reading bytes (run last others ∷ more) = run last (bytes ++ others) ∷ more
 
--- the text that parts make
+-- the groups of parts: each text, and each longest run of pieces
+abbrev pub groups : List Part → List Group
+groups [] = []
+groups (text t ∷ parts) = text_alone t ∷ groups parts
+groups (octets reading bytes ∷ parts) = onto_run reading bytes (groups parts)
+
+-- the text of a group: a run is read once
+abbrev pub group_text : Group → List ℕ
+group_text (text_alone t) = t
+group_text (run last bytes) = last bytes
+
+-- the text that parts make: the texts of their groups, one after another
 abbrev pub joined : List Part → List ℕ
-joined parts = joined_after None [] parts
+joined parts = flat_map group_text (groups parts)
 
 -- a name has that base and the number 0
 abbrev pub is_first_of : List ℕ → List ℕ → Bool

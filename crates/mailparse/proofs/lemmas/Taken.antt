@@ -1,5 +1,5 @@
 -- The pieces of bases, and what stands at the names once they are taken.
-use Rattle.std.proofs.Common.{◌≡◌, ℕ, zero, suc, ◌+◌, ◌<◌, ◌^◌, Bool, true, false, ◌&&◌, ◌||◌, cond, ltb, List, [], ◌∷◌, ◌++◌, length, Option, Some, None, is_some, refl, sym, ap, subst, ◌∙◌, arith, ⊎_elim}
+use Rattle.std.proofs.Common.{◌≡◌, ℕ, zero, suc, ◌+◌, ◌<◌, ◌^◌, Bool, true, false, ◌&&◌, ◌||◌, cond, ltb, List, [], ◌∷◌, ◌++◌, length, Option, Some, None, is_some, refl, sym, ap, ◌∙◌, arith, ⊎_elim}
 use Rattle.std.proofs.lemmas.Bool.{and_left, cases_order, cond-false, cond-true, le-ltb, lt-ltb}
 use Rattle.std.specs.Option.{option_map_or}
 use Rattle.std.specs.Str.{bytes_eq}
@@ -73,18 +73,6 @@ one_more base count q below = go (bytes_eq (piece_name base count) q) refl
         ap (is_piece_below base (count + 1)) (sym (equal_bytes (piece_name base count) q is)) ∙ piece_here base count (count + 1) below ∙ lt-ltb count (count + 1) (omega arith)
         ∙ sym (ap (λ b. is_piece_below base count q || b) is ∙ or_true (is_piece_below base count q))
     go false is = by_number is (numbered q) ∙ sym (ap (λ b. is_piece_below base count q || b) is ∙ or_false (is_piece_below base count q))
-
--- no piece is below the number 0
-pub taken_start : (at : List ℕ → Option Part) (base q : List ℕ) → at q ≡ without_pieces at base 0 q
-taken_start at base q = sym (cond-false _ _ _ (go (numbered q)))
-  where
-    none : (b : Bool) → (b && false) ≡ false
-    none true = refl
-    none false = refl
-
-    go : (o : Option (List ℕ × ℕ)) → option_map_or (λ n. bytes_eq base n.0 && (ltb n.1 0 && bytes_eq q (piece_name n.0 n.1))) o false ≡ false
-    go None = refl
-    go (Some n) = ap (λ b. bytes_eq base n.0 && (b && bytes_eq q (piece_name n.0 n.1))) (le-ltb n.1 0 (omega arith)) ∙ none (bytes_eq base n.0)
 
 -- the next piece is as it was
 pub next_stands : (at now : List ℕ → Option Part) (base : List ℕ) (count : ℕ) → count < 2 ^ 64 → ((q : List ℕ) → now q ≡ without_pieces at base count q)
@@ -189,14 +177,6 @@ left_again at bases base q now held before = before ∙ ap (λ b. cond b None (a
         ≡ option_map_or (λ n. holds_name bases n.0 && (ltb n.1 (length (parts_of at n.0)) && bytes_eq q (piece_name n.0 n.1))) o false
     go None = refl
     go (Some n) = ap (λ b. b && (ltb n.1 (length (parts_of at n.0)) && bytes_eq q (piece_name n.0 n.1))) (holds_again bases base n.0 held)
-
--- no base was joined
-pub left_start : (at : List ℕ → Option Part) (q : List ℕ) → at q ≡ left_by at [] q
-left_start at q = sym (cond-false _ _ _ (go (numbered q)))
-  where
-    go : (o : Option (List ℕ × ℕ)) → option_map_or (λ n. false && (ltb n.1 (length (parts_of at n.0)) && bytes_eq q (piece_name n.0 n.1))) o false ≡ false
-    go None = refl
-    go (Some n) = refl
 
 pub joined_next : (at : List ℕ → Option Part) (bases : List (List ℕ)) (base q text : List ℕ) (old new : Option (List ℕ)) → old ≡ joined_text at bases q
     → text ≡ joined (parts_of at base) → new ≡ cond (bytes_eq base q) (Some text) old → new ≡ joined_text at (bases ++ base ∷ []) q

@@ -1,13 +1,24 @@
--- What the joiner of pieces holds; private to it.
-use Rattle.std.specs.Prelude.{ℕ, Bool, false, not, ◌&&◌, ◌==◌, nat_lt, List, ◌++◌, length, map, flat_map, Option, Some, None, option_and_then, option_map, option_to_list, String, string_bytes, if◌then◌else◌}
+-- What those that join pieces hold; private to them.
+use Rattle.std.specs.Prelude.{ℕ, Bool, false, not, ◌&&◌, ◌==◌, nat_lt, List, [], ◌∷◌, ◌++◌, length, map, flat_map, Option, Some, None, option_and_then, option_map, option_to_list, String, string_bytes, if◌then◌else◌}
 use Rattle.std.specs.BTreeMap.{BTreeMap}
 use Rattle.std.specs.Option.{option_map_or}
 use Rattle.std.specs.Str.{bytes_eq}
 use Rattle.mail_codec.specs.Charset.{text_of}
-use Rattle.mailparse.specs.Continuations.{Part, is_text, joined, joined_after, numbered, parts_of, piece_name}
+use Rattle.mailparse.specs.Continuations.{Part, text, octets, is_text, joined, numbered, parts_of, piece_name}
 use Rattle.mailparse.specs.private.Filled.{holds_name}
 use Rattle.mailparse.specs.declared.parameters.continuations.joining.Joining.{Joining}
 use Rattle.mailparse.specs.declared.parameters.parts.Parts.{Parts}
+
+-- the text of a run of pieces with a charset, whose bytes are read as one
+abbrev pub run_text : Option (List ℕ → List ℕ) → List ℕ → List ℕ
+run_text None run = []
+run_text (Some reading) run = reading run
+
+-- the text that parts make after a run: each longest run of pieces is read once, in the charset of its last
+abbrev pub joined_after : Option (List ℕ → List ℕ) → List ℕ → List Part → List ℕ
+joined_after reading run [] = run_text reading run
+joined_after reading run (text t ∷ parts) = run_text reading run ++ (t ++ joined_after None [] parts)
+joined_after reading run (octets last bytes ∷ parts) = joined_after (Some last) (run ++ bytes) parts
 
 -- the text that is made when these parts follow
 abbrev pub joined_with : Joining → List Part → List ℕ

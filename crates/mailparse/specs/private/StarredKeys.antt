@@ -1,11 +1,10 @@
 -- What the readers of starred keys hold; private to them.
-use Rattle.std.specs.Prelude.{◌≡◌, ℕ, true, suc, zero, Bool, not, ◌&&◌, ◌-◌, ◌==◌, List, [], ◌∷◌, map, take, length, slice_index_or, Option, Some, None, option_map, String, string_bytes, if◌then◌else◌}
+use Rattle.std.specs.Prelude.{◌≡◌, ℕ, true, Bool, not, ◌&&◌, ◌==◌, List, [], ◌∷◌, map, slice_index_or, Option, Some, None, option_map, String, string_bytes, if◌then◌else◌}
 use Rattle.std.specs.BTreeMap.{BTreeMap, get_by_text}
 use Rattle.std.specs.Borrow.{Bor}
 use Rattle.std.specs.Global.{Global}
-use Rattle.std.specs.List.{filter, flat_map, starts_with, ends_with}
+use Rattle.std.specs.List.{flat_map}
 use Rattle.std.specs.Option.{is_some, option_or}
-use Rattle.std.specs.Str.{bytes_eq}
 use Rattle.mail_codec.specs.Charset.{charset_of_label, four_charsets, text_of}
 use Rattle.mail_codec.specs.declared.charset.Charset.{Charset}
 use Rattle.mailparse.specs.Continuations as joined

@@ -2,7 +2,7 @@
 ghost use Rattle.std.specs.Prelude.{◌≡◌, ◌∷◌, ◌++◌, [], List, None, option_map, IfOk, OnOk, string_bytes};
 ghost use Rattle.mail_codec.specs.Charset.{text_of};
 ghost use Rattle.mailparse.specs.Continuations as joined;
-ghost use Rattle.mailparse.specs.private.Continuations.{joined_with};
+ghost use Rattle.mailparse.specs.private.Continuations.{joined_with, run_text};
 ghost use Rattle.mailparse.specs.private.StarredKeys.{part_view};
 
 use crate::parameters::starred::Part;
@@ -32,7 +32,7 @@ impl Joining {
     /// The text of the run.
     fn run_text(&self, alloc: Global) -> Result<String, AllocError>
         ensures { IfOk result (λ text. string_bytes text
-            ≡ joined.run_text (option_map text_of self.now.charset) self.now.run.items) }
+            ≡ run_text (option_map text_of self.now.charset) self.now.run.items) }
     {
         match self.charset {
             Some(charset) => charset.decode_without_bom_handling(alloc, self.run.as_slice()),
@@ -43,7 +43,7 @@ impl Joining {
     /// Ends the run, and joins its text.
     fn close(&mut self, alloc: Global) -> Result<(), AllocError>
         ensures text { OnOk result (string_bytes self.new.text ≡ string_bytes self.old.text
-            ++ joined.run_text (option_map text_of self.old.charset) self.old.run.items) }
+            ++ run_text (option_map text_of self.old.charset) self.old.run.items) }
         ensures run { OnOk result (self.new.run.items ≡ []) }
         ensures charset { OnOk result (self.new.charset ≡ None) }
     {

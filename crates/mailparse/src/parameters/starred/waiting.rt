@@ -23,7 +23,7 @@ pub(super) struct Waiting<'a> {
 }
 
 /// A key without the star that it ends in.
-pub(super) fn without_star(key: &str) -> Option<&str>
+fn without_star(key: &str) -> Option<&str>
     ensures { option_map (λ name. name.now) result ≡ star_taken key.now }
 {
     key.strip_suffix('*')

@@ -1,7 +1,6 @@
 use Rattle.std.proofs.Common.{◌≡◌, ◌<◌, ◌-◌, ◌^◌, length, Some, None, cond, sym, ap, ◌∙◌, arith}
 use Rattle.std.proofs.lemmas.Result.{IfOk-weaker}
 use Rattle.std.specs.Str.{bytes_eq}
-use Rattle.std.specs.String.{string_bytes}
 use Rattle.mailparse.specs.Continuations.{most_parts, parts_of, piece_name}
 use Rattle.mailparse.specs.private.Continuations.{joined_with, without_pieces}
 use Rattle.mailparse.specs.private.StarredKeys.{part_view, stands_at}

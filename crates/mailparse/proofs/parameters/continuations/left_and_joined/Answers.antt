@@ -1,4 +1,4 @@
-use Rattle.std.proofs.Common.{option_map, sym, ap, ◌∙◌}
+use Rattle.std.proofs.Common.{option_map, ap, ◌∙◌}
 use Rattle.std.specs.Option.{option_or}
 use Rattle.mailparse.specs.Continuations.{alone}
 use Rattle.mailparse.specs.Pairs.{text_at}

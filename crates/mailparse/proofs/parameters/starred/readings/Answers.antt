@@ -1,4 +1,4 @@
-use Rattle.std.proofs.Common.{◌≡◌, ◌<◌, ℕ, Bool, Some, None, List, length, map, option_map, is_some, sym, ap, subst, ◌∙◌, arith}
+use Rattle.std.proofs.Common.{◌≡◌, ◌<◌, ℕ, Bool, List, length, map, option_map, is_some, sym, ap, subst, ◌∙◌, arith}
 use Rattle.std.proofs.lemmas.List.{map_push}
 use Rattle.std.proofs.lemmas.List.Elements.{All-push}
 use Rattle.std.specs.List.{All}
@@ -6,7 +6,6 @@ use Rattle.std.specs.String.{string_bytes}
 use Rattle.mail_codec.specs.Charset.{four_charsets}
 use Rattle.mailparse.specs.Pairs.{text_at}
 use Rattle.mailparse.specs.StarredKeys.{reading_of}
-use Rattle.mailparse.specs.private.Deciders.{decided, name_at}
 use Rattle.mailparse.specs.private.Filled.{holds_name}
 use Rattle.mailparse.specs.private.StarredKeys.{IsReading, names_of, names_read, pair_view, reading_by, reading_view, waiting_view}
 use Rattle.mailparse.specs.declared.parameters.starred.Reading.{Reading}
