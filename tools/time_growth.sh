@@ -1,16 +1,16 @@
 #!/bin/sh
-# time_growth.sh [ORACLE]: times mail_show on mails of once, twice and four times a size, made so that a reader which
-# goes over something again and again is slow. Reading takes time linear in the size (times a logarithm for
-# parameters), so twice the size takes about twice the time.
+# time_growth.sh [ORACLE]: times mail_show on mails of once, twice and four times a size, made so that
+# a reader which goes over something again and again is slow. Reading takes time linear in the size
+# (times a logarithm for parameters), so twice the size takes about twice the time.
 #
-# With ORACLE, a program whose command `show` reads a mail from standard input, its time on the smallest size stands
-# beside it; it gets at most a minute.
+# With ORACLE, a program whose command `show` reads a mail from standard input, its time on the
+# smallest size stands beside it; it gets at most a minute.
 . "$(dirname "$0")/timing.sh"
 build mail_show
 
-for kind in semicolons quotes escaped-quotes keys starred-keys continuations starred-continuations growing-stars \
-    long-indexes percent-escapes delimiters line-feeds dashes last-delimiters levels empty-parts prefixes \
-    empty-boundary boundary-of-lines; do
+for kind in semicolons quotes escaped-quotes keys starred-keys continuations starred-continuations \
+    growing-stars long-indexes percent-escapes delimiters line-feeds dashes last-delimiters levels \
+    empty-parts prefixes empty-boundary boundary-of-lines; do
     line=$(printf '%-22s' "$kind")
     for scale in 1 2 4; do
         python3 "$here/make_growing_mail.py" "$kind" "$scale" > "$work/input"

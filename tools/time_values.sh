@@ -17,7 +17,9 @@ for text in '=?' '=?a?=x'; do
     for size in 250000 500000 1000000 2000000 4000000; do
         { printf 'X: '; value "$text" "$size"; printf '\n\n'; } > "$work/input"
         now=$(seconds 5 120 out/mail_show)
-        growth=$(awk -v now="$now" -v before="$before" 'BEGIN { if (before > 0) printf ", %.2f times the one before", now / before }')
+        growth=$(awk -v now="$now" -v before="$before" 'BEGIN {
+            if (now > 0 && before + 0 > 0) printf ", %.2f times the one before", now / before
+        }')
         printf '%-8s %7d bytes: %s s%s\n' "$text" "$size" "$now" "$growth"
         before=$now
         if [ -n "$oracle" ] && [ "$size" = 250000 ]; then

@@ -1,7 +1,8 @@
-# What the scripts time_*.sh begin with. Each sources it, and takes at most one argument: the oracle.
+# What the scripts time_*.sh begin with. Each sources it, and takes at most one argument: the
+# oracle.
 #
-# It sets `here` (this folder), `oracle`, `rounds` (15, or what ROUNDS says) and `work` (a folder that goes
-# when the script ends).
+# It sets `here` (this folder), `oracle`, `rounds` (15, or what ROUNDS says) and `work` (a folder that
+# goes when the script ends).
 set -eu
 script=$(basename "$0")
 if [ $# -gt 1 ]; then
@@ -10,11 +11,16 @@ if [ $# -gt 1 ]; then
 fi
 here=$(cd "$(dirname "$0")" && pwd)
 oracle=${1:-}
+case $oracle in
+    '' | /*) ;;
+    *) oracle=$PWD/$oracle ;;
+esac
 rounds=${ROUNDS:-15}
 work=$(mktemp -d)
 trap 'rm -rf "$work"' EXIT
 
-# build CRATE [ARGUMENT..]: builds a program, which runs once with these arguments, and goes to its folder
+# build CRATE [ARGUMENT..]: builds a program, which runs once with these arguments, and goes to its
+# folder
 build() {
     crate=$1
     shift
@@ -26,16 +32,25 @@ build() {
     fi
 }
 
-# seconds TURNS LIMIT COMMAND..: the least time of so many runs on the file `input`, each of which gets so
-# many seconds at most
+# seconds TURNS LIMIT COMMAND..: the least time of so many runs on the file `input`, each of which gets
+# so many seconds at most; `failed` where a run ends in another way than well
 seconds() {
     turns=$1
     limit=$2
     shift 2
     for _turn in $(seq "$turns"); do
         start=$(date +%s%N)
-        timeout "$limit" "$@" < "$work/input" > /dev/null 2>&1 || [ $? -ne 124 ] || { echo 'none'; return; }
-        echo $((($(date +%s%N) - start) / 1000))
+        status=0
+        timeout "$limit" "$@" < "$work/input" > /dev/null 2>&1 || status=$?
+        case $status in
+            0) echo $((($(date +%s%N) - start) / 1000)) ;;
+            124) echo 'late'; break ;;
+            *) echo 'failed'; break ;;
+        esac
     done | sort -n | head -n 1 |
-        awk -v limit="$limit" '/^[0-9]/ { printf "%.4f", $1 / 1000000; exit } { print "more than " limit }'
+        awk -v limit="$limit" '
+            /^[0-9]/ { printf "%.4f", $1 / 1000000 }
+            /^late/ { print "more than " limit }
+            /^failed/ { print "failed, not timed, in" }
+        '
 }
