@@ -109,7 +109,10 @@ fn each_low_byte_at_each_place(rt: HostRuntime) -> Result<(), Fail> {
 fn only_white_and_only_low_bytes(rt: HostRuntime) -> Result<(), Fail> {
     for length in 0..=140usize {
         let white = repeated(rt.alloc(), b"\r\n", length)?;
-        assert!(rt; strip_ascii_whitespace(rt.alloc(), white.as_slice())?.is_empty(), "{length}");
+        assert!(rt;
+            strip_ascii_whitespace(rt.alloc(), white.as_slice())?.is_empty(),
+            "{length}"
+        );
         let low = repeated(rt.alloc(), b"\x0B", length)?;
         let kept = strip_ascii_whitespace(rt.alloc(), low.as_slice())?;
         assert_eq!(rt; kept.as_slice(), low.as_slice(), "{length}");

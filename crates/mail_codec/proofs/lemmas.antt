@@ -4,6 +4,7 @@ pub mod Runs
 pub mod Words
 pub mod WordBytes
 pub mod WordSearches
+pub mod RunMarks
 pub mod CharsetUtf8
 pub mod CharsetLabels
 pub mod CharsetMarks

@@ -93,7 +93,7 @@ both_zero m n e = (omega (arith, le_or_l m n), omega (arith, le_or_r m n))
 -- ---- a test that lets more bytes pass
 
 -- each byte that ends a run may end one
-ends_may : (end : RunEnd) (b : ℕ) → ends_run end b ≡ true → may_end_run end b ≡ true
+pub ends_may : (end : RunEnd) (b : ℕ) → ends_run end b ≡ true → may_end_run end b ≡ true
 ends_may (Byte wanted) b h = h
 ends_may LineEnd b h = h
 ends_may White b h = grind (arith, nat_tests)

@@ -1,9 +1,9 @@
 //! Runs of bytes, which end at certain bytes: how long the first is, and all of them put together.
 //!
 //! What is small is inlined: the searches are fast where the compiler knows what ends a run.
-ghost use Rattle.std.specs.Prelude.{◌≡◌, ◌≤◌, ◌+◌, ◌++◌, length, drop, OnOk, false};
+ghost use Rattle.std.specs.Prelude.{◌≡◌, ◌≤◌, ◌+◌, ◌++◌, length, take, drop, IfOk, OnOk, false};
 ghost use Rattle.mail_codec.specs.Places.{begins, first_place};
-ghost use Rattle.mail_codec.specs.private.Runs.{ends_run, may_end_run, without_ends};
+ghost use Rattle.mail_codec.specs.private.Runs.{ends_run, may_end_run, NoneEnds, without_ends};
 ghost use Rattle.mail_codec.specs.private.Words.{IsMask};
 
 use super::words::{either_mask, equal_mask, first_marked, space_mask};
@@ -67,15 +67,78 @@ impl RunEnd {
 pub(crate) fn push_runs(kept: &mut Vec<u8>, bytes: &[u8], end: RunEnd) -> Result<(), AllocError>
     ensures { OnOk result (kept.new.items ≡ kept.old.items ++ without_ends end bytes.now) }
 {
+    let (words, _) = bytes.as_chunks::<8>();
+    let mut from = 0;
     let mut at = 0;
-    'runs: while at < bytes.len() {
-        let place = at + run_len(&bytes[at..], end);
-        kept.extend_from_slice(&bytes[at..place])?;
-        if place == bytes.len() {
-            return Ok(());
+    for word in words {
+        let marks = end.mask(word);
+        let place = at;
+        at += 8;
+        if marks == 0 {
+            continue;
         }
-        at = place + 1;
+        from = push_marked(kept, bytes, from, place, marks, end)?;
     }
+    push_tail(kept, bytes, from, at, end)
+}
+
+/// Appends the runs that end within the word at place `at`, the first of which starts at `from`.
+/// Each byte that is marked is tested again. Answers where the run starts that does not end there.
+#[inline(always)]
+fn push_marked(
+    kept: &mut Vec<u8>,
+    bytes: &[u8],
+    from: usize,
+    at: usize,
+    marks: u64,
+    end: RunEnd,
+) -> Result<usize, AllocError>
+    requires within { at + 8 ≤ length bytes.now }
+    requires start { from ≤ at }
+    requires free { NoneEnds end bytes.now from at }
+    requires marked { IsMask (may_end_run end) (take 8 (drop at bytes.now)) marks }
+    ensures next { IfOk result (λ next. next ≤ at + 8) }
+    ensures free { IfOk result (λ next. NoneEnds end bytes.now next (at + 8)) }
+    ensures kept { IfOk result (λ next. kept.new.items ++ without_ends end (drop next bytes.now)
+        ≡ kept.old.items ++ without_ends end (drop from bytes.now)) }
+{
+    let mut start = from;
+    let mut left = marks;
+    'marks: while left != 0 {
+        let place = at + first_marked(left);
+        left &= !(1 << left.trailing_zeros());
+        if !end.is_met_by(bytes[place]) {
+            continue;
+        }
+        kept.extend_from_slice(&bytes[start..place])?;
+        start = place + 1;
+    }
+    Ok(start)
+}
+
+/// Appends the runs from `from` on, of which the first does not end before `at`.
+fn push_tail(
+    kept: &mut Vec<u8>,
+    bytes: &[u8],
+    from: usize,
+    at: usize,
+    end: RunEnd,
+) -> Result<(), AllocError>
+    requires within { at ≤ length bytes.now }
+    requires start { from ≤ at }
+    requires free { NoneEnds end bytes.now from at }
+    ensures { OnOk result (kept.new.items
+        ≡ kept.old.items ++ without_ends end (drop from bytes.now)) }
+{
+    let mut start = from;
+    'bytes: for place in at..bytes.len() {
+        if !end.is_met_by(bytes[place]) {
+            continue;
+        }
+        kept.extend_from_slice(&bytes[start..place])?;
+        start = place + 1;
+    }
+    kept.extend_from_slice(&bytes[start..])?;
     Ok(())
 }
 
