@@ -230,7 +230,7 @@ fn long_runs(rt: HostRuntime) -> Result<(), Fail> {
     Ok(())
 }
 
-/// The piece that is repeated behind `A:`, and whether it stays.
+/// The piece that is repeated after `A:`, and whether it stays.
 static MEGABYTES: [(&[u8], bool); 5] = [
     (b"xx", true),
     (b"\r\r", false),

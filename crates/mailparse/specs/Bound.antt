@@ -11,7 +11,7 @@ headers_within t = sum_by (λ node. length node.headers) (nodes t)
 abbrev pub body_bytes_within : Tree → ℕ
 body_bytes_within t = sum_by (λ node. length node.body) (nodes t)
 
--- how many they are, the message itself among them
+-- how many messages there are: the message itself and all parts
 abbrev pub nodes_within : Tree → ℕ
 nodes_within t = length (nodes t)
 

@@ -167,7 +167,8 @@ fn parse_mail_recursive(
     in_digest: bool,
     levels: u8,
 ) -> Result<ParsedMail<'_>, MailParseError>
-    ensures read { AnswersOrMemory tree_of result (read_levels four_charsets levels in_digest raw.now) }
+    ensures read { AnswersOrMemory tree_of result
+        (read_levels four_charsets levels in_digest raw.now) }
     ensures no_memory { 0 < levels → header_count raw.now ≡ 0 → IsErr (read_headers raw.now) →
         Answers tree_of result (read_levels four_charsets levels in_digest raw.now) }
 {

@@ -38,7 +38,7 @@ free_front test (suc n) (x ∷ xs) h e = go (test x) refl e (free_front test n x
     go false t e rest = rw t (let r = rest (omega arith) in omega arith)
 
 -- where one passes, it is the first of all
-found_front : (test : ℕ → Bool) (n : ℕ) (xs : List ℕ) → first_place (begins test) (take n xs) < n → n ≤ length xs
+pub found_front : (test : ℕ → Bool) (n : ℕ) (xs : List ℕ) → first_place (begins test) (take n xs) < n → n ≤ length xs
     → first_place (begins test) xs ≡ first_place (begins test) (take n xs)
 found_front test zero xs l h = absurd (omega arith)
 found_front test (suc n) [] l h = absurd (omega arith)

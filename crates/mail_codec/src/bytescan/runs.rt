@@ -37,7 +37,7 @@ impl RunEnd {
     }
 
     /// Whether the byte may end a run, by a test that all bytes of a word take at once: each byte
-    /// that ends one passes, and of the others those alone that are below space.
+    /// that ends one passes, and of the others only those below space.
     #[inline(always)]
     fn may_be_met_by(self, byte: u8) -> bool
         ensures { result ≡ may_end_run self byte }
@@ -163,29 +163,30 @@ pub(crate) fn run_len(bytes: &[u8], end: RunEnd) -> usize
     at
 }
 
-/// The least place of a byte that may end a run, or the length where there is none. Goes by steps
-/// of 64 bytes, then by words of eight.
+/// The least place of a byte that may end a run, or the length where there is none. Looks at one
+/// word first, since an end is often near; then goes by steps of 64 bytes, and by words of eight.
 #[inline(always)]
 pub(crate) fn may_end_len(bytes: &[u8], end: RunEnd) -> usize
     ensures least { result ≡ first_place (begins (may_end_run end)) bytes.now }
     ensures within { result ≤ length bytes.now }
 {
+    if let Some(word) = bytes.first_chunk::<8>() {
+        let mask = end.mask(word);
+        if mask != 0 {
+            return first_marked(mask);
+        }
+    }
     let free = free_len(bytes, end);
     free + near_len(&bytes[free..], end)
 }
 
-/// The length of the steps at the front of which no byte may end a run.
+/// The length of the steps at the front that hold no byte that may end a run.
 #[inline(always)]
 fn free_len(bytes: &[u8], end: RunEnd) -> usize
     ensures within { result ≤ length bytes.now }
     ensures free { first_place (begins (may_end_run end)) bytes.now
         ≡ result + first_place (begins (may_end_run end)) (drop result bytes.now) }
 {
-    if let Some(word) = bytes.first_chunk::<8>() {
-        if end.mask(word) != 0 {
-            return 0;
-        }
-    }
     let (steps, _) = bytes.as_chunks::<STEP>();
     let mut free = 0;
     for step in steps {

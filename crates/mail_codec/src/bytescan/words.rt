@@ -1,7 +1,7 @@
 //! Words of eight bytes, all of which are tested at once: a mask has a bit for each that passes.
 //!
-//! Only the lowest bit of a mask is exact: what is taken from one byte may be borrowed from the
-//! byte above, which then may be marked too.
+//! Only the lowest bit of a mask is exact: a subtraction may borrow from the byte above, which then
+//! may be marked falsely.
 ghost use Rattle.std.specs.Prelude.{◌/◌, ◌≡◌, ◌≤◌, ◌==◌, ◌||◌, nat_lt};
 ghost use Rattle.std.specs.Int.{w64, to_le_bytes, trailing_zeros};
 ghost use Rattle.mail_codec.specs.private.Words.{IsMask};
@@ -14,7 +14,7 @@ const TOPS: u64 = 0x8080_8080_8080_8080;
 
 /// Marks the bytes of the word that are 0.
 #[inline(always)]
-pub(crate) fn zero_byte_mask(word: u64) -> u64
+fn zero_byte_mask(word: u64) -> u64
     ensures { IsMask (λ b. b == 0) (to_le_bytes w64 word) result }
 {
     word.wrapping_sub(ONES) & !word & TOPS
@@ -22,7 +22,7 @@ pub(crate) fn zero_byte_mask(word: u64) -> u64
 
 /// Marks the bytes of the word that are below `bound`.
 #[inline(always)]
-pub(crate) fn below_mask(word: u64, bound: u8) -> u64
+fn below_mask(word: u64, bound: u8) -> u64
     requires { bound ≤ 127 }
     ensures { IsMask (λ b. nat_lt b bound) (to_le_bytes w64 word) result }
 {

@@ -44,6 +44,7 @@ shown_view e = (string_bytes e.0.now, string_bytes e.1.now)
 abbrev pub Found : Type 0
 Found = List ℕ × List ℕ × Option Charset
 
+-- a name that waits in the code, by its bytes
 abbrev pub waiting_view : Waiting → Found
 waiting_view w = (w.name.now, w.value.now, w.charset)
 
@@ -78,6 +79,7 @@ stands_at parts name = option_or (parts_at parts.extended name) (option_map join
 abbrev pub Read : Type 0
 Read = List ℕ × Charset × Bool
 
+-- a reading of the code, by its bytes
 abbrev pub reading_view : Reading → Read
 reading_view r = (string_bytes r.name, r.charset, r.decides)
 

@@ -95,7 +95,8 @@ fn speak(waiting: &[Waiting<'_>], place: usize, places: &mut Vec<usize>)
     ensures long { length places.new.items ≡ length places.old.items }
     ensures spoken { AreInOrder (names_of waiting.now) → (k : ℕ) → k < length waiting.now →
         slice_index_or places.new.items k 0
-        ≡ (if speaks_for (name_at (names_of waiting.now) place) (name_at (names_of waiting.now) k) then place else slice_index_or places.old.items k 0) }
+        ≡ (if speaks_for (name_at (names_of waiting.now) place) (name_at (names_of waiting.now) k)
+        then place else slice_index_or places.old.items k 0) }
 {
     let name = waiting[place].name.as_bytes();
     if !name.ends_with(b"*0") {
