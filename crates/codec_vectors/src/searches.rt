@@ -73,11 +73,13 @@ fn each_byte_among_all(rt: HostRuntime) {
 }
 
 /// Bytes, a text, and where it is in them.
-static FOUND: [(&[u8], &[u8], Option<usize>); 12] = [
+static FOUND: [(&[u8], &[u8], Option<usize>); 14] = [
     (b"hello world", b"", None),
     (b"", b"", None),
     (b"", b"a", None),
     (b"hello world", b"o", Some(4)),
+    (b" world", b"o", Some(2)),
+    (b"rld", b"o", None),
     (b"hello world", b"o w", Some(4)),
     (b"hello world", b"world", Some(6)),
     (b"hello world", b"worlds", None),

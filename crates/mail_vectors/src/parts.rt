@@ -31,7 +31,7 @@ fn outline(alloc: Global, raw: &[u8]) -> Result<String, MailParseError> {
 }
 
 /// What follows the blank line of a message whose boundary is `b`, and what is read.
-static CUTS: [(&[u8], &str); 14] = [
+static CUTS: [(&[u8], &str); 16] = [
     (
         b"pre\n--b\n\none\n--bX\n\ntwo\n--b--\nrest",
         "multipart/mixed 1 2 [pre] text/plain 0 0 [one] text/plain 0 0 [two] ",
@@ -49,6 +49,11 @@ static CUTS: [(&[u8], &str); 14] = [
     (b"", "multipart/mixed 1 0 [] "),
     (b"--b", "multipart/mixed 1 0 [] "),
     (b"a--b\n\nx", "multipart/mixed 1 0 [] "),
+    (b"a--b\nb--b", "multipart/mixed 1 0 [] "),
+    (
+        b"a--b\n--b\n\nx",
+        "multipart/mixed 1 1 [a--b] text/plain 0 0 [x] ",
+    ),
     (
         b"a\r\n--b\r\n\r\nx--b\r\n--b--",
         "multipart/mixed 1 1 [a] text/plain 0 0 [x--b] ",

@@ -12,6 +12,7 @@ pub mod Plain
 pub mod Lines
 pub mod NodeType
 pub mod Delimiters
+pub mod DelimiterRows
 pub mod Parts
 pub mod Pieces
 pub mod Quoted

@@ -187,6 +187,3 @@ fn before_byte(raw: &[u8], start: usize, at: usize, byte: u8) -> usize
         at
     }
 }
-
-#[cfg(test)]
-mod tests;
