@@ -6,7 +6,7 @@ use std::test::Fail;
 /// The text of a type, and its parameters in byte order: each key, `=`, its value, LF.
 type ParameterRow = (&'static str, &'static str);
 
-static STARRED: [ParameterRow; 25] = [
+static STARRED: [ParameterRow; 26] = [
     ("x; t*=utf-8'en'%E2%82%AC%2", "t=\u{20AC}%2\n"),
     ("x; t=1; t*=utf-8''2", "t=1\nt*=utf-8''2\n"),
     ("x; t*=utf-8", "t=\n"),
@@ -36,6 +36,10 @@ static STARRED: [ParameterRow; 25] = [
     (
         "x; u*!x*0*=iso-8859-1''%E9; u*0*=utf-8''a",
         "u=a\nu*!x=iso-8859-1''\u{FFFD}\n",
+    ),
+    (
+        "x; f*0*=iso-8859-1''%E9; f*0*0*=utf-8''%C3%A9; f*0*0x*=%C3%A9; f*1*=%E9",
+        "f=\u{E9}\u{E9}\nf*0=\u{E9}\nf*0*0x=\u{E9}\n",
     ),
     ("x; n*1*=utf-8''A; n*1*0=b", "n*1=A\n"),
     (
