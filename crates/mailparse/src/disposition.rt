@@ -80,10 +80,10 @@ impl ParsedContentDisposition {
 /// Reads the value of a `Content-Disposition` header as `get_value` gives it (RFC 2183, section 2;
 /// RFC 2231, sections 3 and 4).
 ///
-/// The kind is what stands before the first semicolon outside quotes, without white around it and in ASCII lower
-/// case: `inline`, `attachment` and `form-data` have names of their own, any other text is an
-/// `Extension`, and no text at all means `Inline`. Every text is read; the error is that memory ran
-/// out.
+/// The kind is what stands before the first semicolon outside quotes, without white around it and
+/// in ASCII lower case: `inline`, `attachment` and `form-data` have names of their own, any other
+/// text is an `Extension`, and no text at all means `Inline`. Every text is read; the error is that
+/// memory ran out.
 ///
 /// `attachment; filename="a b"` is an `Attachment` with one parameter.
 pub fn parse_content_disposition(
