@@ -1,7 +1,7 @@
 //! How a part of a message is to be shown.
 ghost use Rattle.std.specs.Prelude.{◌≡◌, IfOk, IsOk, Ok};
 ghost use Rattle.std.specs.Str.{str_to_ascii_lowercase};
-ghost use Rattle.mailparse.specs.Disposition.{IsNamed, default_disposition, disposition_of, kind_named};
+ghost use Rattle.mailparse.specs.Disposition.{IsNamed, default_disposition, disposition_named, disposition_of};
 ghost use Rattle.mailparse.specs.Outcome.{AnswersOrMemory};
 ghost use Rattle.mailparse.specs.Views.{disposition, kind};
 
@@ -101,7 +101,7 @@ pub fn parse_content_disposition(
 
 /// The kind that a text names.
 fn kind_named(alloc: Global, value: &str) -> Result<DispositionType, AllocError>
-    ensures { IfOk result (λ d. kind d ≡ kind_named (str_to_ascii_lowercase value.now)) }
+    ensures { IfOk result (λ d. kind d ≡ disposition_named (str_to_ascii_lowercase value.now)) }
 {
     let name = lower_case(alloc, value)?;
     match name.as_str() {

@@ -13,7 +13,7 @@ use Rattle.std.specs.Str.Lines.{lines, lines_of_parts}
 use Rattle.mail_codec.specs.Charset.{Charsets, four_charsets}
 use Rattle.mail_codec.specs.Latin1.{latin1_text}
 use Rattle.mail_codec.specs.Places.{first_place, begins, place}
-use Rattle.mailparse.specs.Tokens.{white_space, plain_text, begins_opening, is_white, opening, outside, last_group, no_opening}
+use Rattle.mailparse.specs.Tokens.{white_space, plain_text, begins_opening, is_white, opening, outside_range, last_group, no_opening}
 use Rattle.mailparse.specs.Refusal.{value_not_utf8}
 use Rattle.mailparse.proofs.lemmas.Value.{lenient-utf8}
 use Rattle.std.proofs.lemmas.Str.{IsUtf8-from_ascii}
@@ -86,7 +86,7 @@ module _ (known : Charsets) where
   -- a line without `=?` is one token
   line_tokens-first : (line : List ℕ) → opening line 0 ≡ length line → line_tokens known line ≡ outside_token line ∷ []
   line_tokens-first line none =
-      ap (map (token_of known line)) (sym (token_ranges_only known line (outside line 0 (length line) ∷ []) (last_group (no_opening none))))
+      ap (map (token_of known line)) (sym (token_ranges_only known line (outside_range line 0 (length line) ∷ []) (last_group (no_opening none))))
       ∙ ap (λ t. t ∷ []) (token_of-outside known line 0 (length line)
       ∙ ap outside_token (ap (λ n. take n line) (sub-zero (length line)) ∙ take_all (length line) line (omega arith)))
 
