@@ -5,7 +5,7 @@ use Rattle.std.proofs.lemmas.Bool.{cond-true, cond-false, cases_lt, cases_eq, lt
 use Rattle.std.proofs.lemmas.List.{drop-drop}
 use Rattle.bstr.specs.Find.{OccursAt, FindsNeedle}
 use Rattle.mail_codec.specs.Places.{stands, begins, first_place, least, place, text_place, byte_place}
-use Rattle.mail_codec.proofs.lemmas.Places.{least-is, least-before, least-passes, first_place-≤, first_place-before}
+use Rattle.mail_codec.proofs.lemmas.Places.{least-is, least-before, least-passes, first_place-before}
 use Rattle.mailparse.specs.Header.{is_line_feed}
 use Rattle.mailparse.specs.Delimiters.{least_from, starts_line, is_delimiter, delimiter_from, line_after}
 use Rattle.mailparse.specs.private.DelimiterLines.{NoDelimiter}
