@@ -1,6 +1,7 @@
 -- Lines and lists that hold; the program's own words.
 use Rattle.std.specs.Prelude.{◌≡◌, ℕ, List, [], Option}
 use Rattle.std.specs.Io.BufRead.{first_line, drop_through}
+use Rattle.mailparse.specs.Ascii.{line_feed}
 use Rattle.mailparse.specs.ContentType.{content_type_of}
 use Rattle.mailparse.specs.Disposition.{disposition_of}
 use Rattle.answers.specs.Lines.{value_line, body_line, ctype_line, date_line, dispo_line, msgid_line}
@@ -23,4 +24,4 @@ pub data Holds (line : List ℕ) : Type 0 where
 -- a list holds: it has no line, or its first line holds, and the list of the lines after it
 pub data ListHolds : List ℕ → Type 0 where
   at_end : ListHolds []
-  after_line : (bytes : List ℕ) → Holds (first_line bytes) → ListHolds (drop_through 10 bytes) → ListHolds bytes
+  after_line : (bytes : List ℕ) → Holds (first_line bytes) → ListHolds (drop_through line_feed bytes) → ListHolds bytes

@@ -1,6 +1,6 @@
 //! Lines on bodies: `body ENCODING LABEL BODY KIND DECODED TEXT`. ENCODING is the transfer
 //! encoding, `-` for none, LABEL that of the charset, KIND the kind of the body; DECODED and TEXT
-//! are `d` and bytes, or `e` and the number of the Base64 group that is refused.
+//! are `d` and bytes, or `e` and the index of the Base64 group that is refused.
 ghost use Rattle.std.specs.Prelude.{◌≡◌, IfOk, string_bytes, Ok};
 ghost use Rattle.answers.specs.Fields.{option_field};
 ghost use Rattle.answers.specs.Holds.{Holds};

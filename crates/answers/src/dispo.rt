@@ -1,6 +1,6 @@
 //! Lines on dispositions: `dispo TEXT KIND PARAMS`. TEXT is the text of a disposition; KIND and
-//! PARAMS are what `parse_content_disposition` answers: KIND is `inline`, `attachment`, `form-data`,
-//! or `x` and the name of another kind, PARAMS is as the module `params` says.
+//! PARAMS are what `parse_content_disposition` answers: KIND is `inline`, `attachment`,
+//! `form-data`, or `x` and the name of another kind, PARAMS is as the module `params` says.
 ghost use Rattle.std.specs.Prelude.{IfOk, OnOk, string_bytes, ◌≡◌};
 ghost use Rattle.answers.specs.Fields.{kind_field};
 ghost use Rattle.answers.specs.Holds.{Holds};

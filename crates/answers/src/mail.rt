@@ -1,8 +1,8 @@
 //! Lines on mails: `mail MAIL ANSWER`. MAIL is the bytes of a mail. ANSWER is the refusal, a letter
-//! for its form and then its text, or for the mail and each of its parts, each before its own parts,
-//! ` ; ` and these fields: how many parts it has, its type and the label of its charset, how many
-//! headers there are, the key of each and the text that its value shows, the bytes of its body as
-//! they stand, and KIND, DECODED and TEXT as in the lines on bodies.
+//! for its form and then its text, or for the mail and each of its parts, each before its own
+//! parts, ` ; ` and these fields: how many parts it has, its type and the label of its charset, how
+//! many headers there are, the key of each and the text that its value shows, the bytes of its body
+//! as they stand, and KIND, DECODED and TEXT as in the lines on bodies.
 ghost use Rattle.std.specs.Prelude.{◌≡◌, IfOk, string_bytes};
 ghost use Rattle.answers.specs.Fields.{bytes_field};
 ghost use Rattle.answers.specs.Holds.{Holds};

@@ -108,7 +108,7 @@ fn labels_with_a_byte_more_or_less(rt: HostRuntime) -> Result<(), Fail> {
     Ok(())
 }
 
-/// What is no ASCII white, and makes no label of another.
+/// What is not ASCII white, and makes no label of another.
 static BESIDE: [&str; 8] = [
     "\u{B}", "\0", "\u{A0}", "\u{85}", "\u{2003}", "\"", ";", "x",
 ];

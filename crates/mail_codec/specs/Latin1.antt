@@ -1,4 +1,4 @@
--- The Latin-1 text of bytes (ISO/IEC 8859-1, whose 256 characters are the first 256 of Unicode).
+-- The Latin-1 text of bytes (IANA's ISO-8859-1, whose 256 characters are the first 256 of Unicode).
 use Rattle.std.specs.Prelude.{ℕ, List, encode_utf8_all}
 
 -- the text with one character for each byte, the one of its number, in UTF-8

@@ -95,7 +95,7 @@ fn marked(bytes: &[u8]) -> Option<(Charset, &[u8])>
 }
 
 /// The Latin-1 text of the bytes: one character for each byte, the one of its number, from U+0000
-/// to U+00FF (ISO/IEC 8859-1).
+/// to U+00FF (IANA's ISO-8859-1).
 ///
 /// Where all bytes are ASCII, and only there, it borrows them; then it takes no memory and
 /// succeeds. The error comes where memory runs out.
@@ -104,7 +104,7 @@ fn marked(bytes: &[u8]) -> Option<(Charset, &[u8])>
 pub fn decode_latin1(alloc: Global, bytes: &[u8]) -> Result<CowStr<'_>, AllocError>
     ensures text { IfOk result (λ t. cow_str_bytes t ≡ latin1_text bytes.now) }
     ensures borrowed { IfOk result (λ t. IsBorrowedStr t ↔ IsAscii bytes.now) }
-    ensures succeeds { IsAscii bytes.now → IsOk result }
+    ensures no_memory { IsAscii bytes.now → IsOk result }
 {
     single_byte::decode(alloc, &single_byte::LATIN_1, bytes)
 }
@@ -118,7 +118,7 @@ pub fn decode_latin1(alloc: Global, bytes: &[u8]) -> Result<CowStr<'_>, AllocErr
 pub fn decode_ascii(alloc: Global, bytes: &[u8]) -> Result<CowStr<'_>, AllocError>
     ensures text { IfOk result (λ t. cow_str_bytes t ≡ ascii_text bytes.now) }
     ensures borrowed { IfOk result (λ t. IsBorrowedStr t ↔ IsAscii bytes.now) }
-    ensures succeeds { IsAscii bytes.now → IsOk result }
+    ensures no_memory { IsAscii bytes.now → IsOk result }
 {
     single_byte::decode(alloc, &single_byte::ASCII, bytes)
 }

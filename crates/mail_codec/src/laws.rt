@@ -32,7 +32,7 @@ pub fn searches_find_first_places()
 {}
 
 /// The function that reads Base64 gives the bytes that a text stands for in groups, and no others;
-/// and its fault is the number of the first invalid group, and no other number.
+/// and its fault is the index of the first invalid group, and no other number.
 pub fn base64_is_groups()
     ensures reads { (text : List ℕ) → (bytes : List ℕ) →
         (base64 text ≡ Ok bytes) ↔ IsBase64 text bytes }

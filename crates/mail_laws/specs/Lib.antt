@@ -18,3 +18,11 @@ pub use Rattle.mailparse.specs.Disposition
 pub mod Ids
 pub mod Runs
 pub mod IdGrammar
+pub use Rattle.mailparse.specs.Mail
+pub use Rattle.mailparse.specs.Bound
+pub use Rattle.mailparse.specs.Date
+pub use Rattle.mailparse.specs.MessageIds
+pub use Rattle.mailparse.specs.Views
+pub use Rattle.mail_codec.specs.Ascii
+pub use Rattle.mail_codec.specs.Charset
+pub use Rattle.mail_codec.specs.Places

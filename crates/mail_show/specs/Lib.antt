@@ -5,3 +5,5 @@ pub use Rattle.mailparse.specs.Outcome
 pub use Rattle.mailparse.specs.Mail
 pub use Rattle.mailparse.specs.Keys
 pub use Rattle.mailparse.specs.Value
+pub use Rattle.mailparse.specs.Header
+pub use Rattle.mailparse.specs.Views

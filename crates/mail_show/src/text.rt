@@ -9,8 +9,8 @@ use mailparse::body::Body;
 use mailparse::{MailHeader, MailParseError, ParsedMail};
 use std::alloc::{AllocError, Global};
 
-/// The text of a message and its parts, each before its own parts: a line for each, and one for each
-/// of its headers.
+/// The text of a message and its parts, each before its own parts: a line for each, and one for
+/// each of its headers.
 pub fn text_of(alloc: Global, parsed: &ParsedMail<'_>) -> Result<String, MailParseError>
     ensures { GivesText result (mail_text (tree_of parsed.now)) }
 {

@@ -26,8 +26,8 @@ abbrev pub default_disposition : Disposition
 default_disposition = record { kind = inline; params = no_texts }
 
 -- the kind that a text in lower case names; no text at all means `inline`
-abbrev pub kind_named : List ℕ → Kind
-kind_named name =
+abbrev pub disposition_named : List ℕ → Kind
+disposition_named name =
     if is_empty name || bytes_eq name (codes "inline") then inline
     else (if bytes_eq name (codes "attachment") then attachment
     else (if bytes_eq name (codes "form-data") then form_data
@@ -38,7 +38,7 @@ module _ (known : Charsets) where
   -- the disposition that a text names: its value in lower case tells the kind
   unfoldable pub disposition_in : List ℕ → Disposition
   disposition_in text =
-      record { kind = kind_named (str_to_ascii_lowercase (value_of text)); params = parameters_in known (pairs_of text) }
+      record { kind = disposition_named (str_to_ascii_lowercase (value_of text)); params = parameters_in known (pairs_of text) }
 
 -- the disposition that a text names
 abbrev pub disposition_of : List ℕ → Disposition

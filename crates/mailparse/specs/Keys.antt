@@ -1,4 +1,4 @@
--- The keys of headers as text, and looking a header up by its name (RFC 5322, section 2.2, where names ignore case).
+-- The keys of headers as text, and looking a header up by its name (RFC 5322, section 1.2.2, where names ignore ASCII case).
 use Rattle.std.specs.Prelude.{ℕ, Bool, List, Option, String, filter, find, map, option_map, string_bytes}
 use Rattle.std.specs.Global.{Global}
 use Rattle.std.specs.Str.{str_eq_ignore_ascii_case}

@@ -1,11 +1,11 @@
 -- The reading of a message: its block of headers, its type, its body and its parts, each part a message of its own
 -- (RFC 5322, section 2.1; RFC 2046, section 5.1).
-use Rattle.std.specs.Prelude.{ℕ, zero, suc, Bool, false, List, [], ◌∷◌, ◌++◌, length, take, map, Option, Some, None, option_map, Result, Ok, Err, codes, if◌then◌else◌}
+use Rattle.std.specs.Prelude.{ℕ, zero, suc, Bool, false, List, [], ◌∷◌, ◌++◌, length, take, map, Option, None, option_map, Ok, Err, codes, if◌then◌else◌}
 use Rattle.std.specs.Option.{option_map_or}
 use Rattle.std.specs.Str.{bytes_eq, str_to_ascii_lowercase}
 use Rattle.mail_codec.specs.Charset.{Charsets, four_charsets}
 use Rattle.mail_codec.specs.Places.{stands}
-use Rattle.mailparse.specs.Refusal.{Refusal, recursion_limit, Reads, read_map, read_then}
+use Rattle.mailparse.specs.Refusal.{recursion_limit, Reads, read_map, read_then}
 use Rattle.mailparse.specs.Header.{Header}
 use Rattle.mailparse.specs.Block.{HeaderList, read_headers}
 use Rattle.mailparse.specs.ContentType.{ContentType, default_type, content_type_in}

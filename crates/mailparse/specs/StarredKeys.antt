@@ -27,7 +27,7 @@ name_under key = take (length key - 1) key
 abbrev pub is_starred : List ℕ → Bool
 is_starred key = bytes_eq key (starred (name_under key))
 
--- a name waits if it is no key, and with a star after it is one
+-- a name waits if it is not a key, and with a star after it is one
 abbrev pub is_waiting : Texts → List ℕ → Bool
 is_waiting keys name = is_some (keys (starred name)) && not (is_some (keys name))
 

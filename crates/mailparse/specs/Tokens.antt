@@ -55,16 +55,16 @@ abbrev pub is_white : List ℕ → Bool
 is_white text = list_all is_whitespace (chars text)
 
 -- the token of what stands outside of all words: white, otherwise text
-abbrev pub outside : List ℕ → ℕ → ℕ → TokenRange
-outside line from to = record { kind = if is_white (slice_range line from to) then white_space else plain_text; from = from; to = to }
+abbrev pub outside_range : List ℕ → ℕ → ℕ → TokenRange
+outside_range line from to = record { kind = if is_white (slice_range line from to) then white_space else plain_text; from = from; to = to }
 
 -- a token that is text, white or not
-abbrev pub text_at : ℕ → ℕ → TokenRange
-text_at from to = record { kind = plain_text; from = from; to = to }
+abbrev pub text_range : ℕ → ℕ → TokenRange
+text_range from to = record { kind = plain_text; from = from; to = to }
 
 -- a decoded word, from the `=?` at v up to the end of the `?=` at e
-abbrev pub word_at : ℕ → ℕ → TokenRange
-word_at v e = record { kind = decoded_word; from = v; to = e + 2 }
+abbrev pub word_range : ℕ → ℕ → TokenRange
+word_range v e = record { kind = decoded_word; from = v; to = e + 2 }
 
 -- what stands between the `=?` at v and the `?=` at e
 abbrev pub inside : List ℕ → ℕ → ℕ → List ℕ
@@ -80,7 +80,7 @@ Adjoin s [] e = s ≡ e
 Adjoin s (token ∷ tokens) e = (token.from ≡ s) × (token.from ≤ token.to) × Adjoin token.to tokens e
 
 -- a group of tokens, and the place where the next group starts, if there is one
-pub record Group : Type 0 where
+pub record TokenGroup : Type 0 where
   pub tokens : List TokenRange
   pub next : Option ℕ
 
@@ -90,22 +90,22 @@ module _ (known : Charsets) where
   -- The cases:
   pub data IsGroup (line : List ℕ) (s : ℕ) : List TokenRange → Option ℕ → Type 0 where
     -- no `=?` stands at or after s: the rest of the line is the last token
-    no_opening : opening line s ≡ length line → IsGroup line s (outside line s (length line) ∷ []) None
+    no_opening : opening line s ≡ length line → IsGroup line s (outside_range line s (length line) ∷ []) None
     -- the least `=?` has a character before it that is not a boundary: text, up to the end of that `=?`
     no_boundary : {v : ℕ} → opening line s ≡ v → v ≢ length line → boundary_before line v ≡ false
-        → IsGroup line s (text_at s (v + 2) ∷ []) (Some (v + 2))
+        → IsGroup line s (text_range s (v + 2) ∷ []) (Some (v + 2))
     -- the least `=?` may begin a word, and no `?=` after it may end one: what stands before it, and that `=?` alone as text
     no_closing : {v : ℕ} → opening line s ≡ v → v ≢ length line → boundary_before line v ≡ true
         → closing line (v + 2) ≡ length line
-        → IsGroup line s (outside line s v ∷ text_at v (v + 2) ∷ []) (Some (v + 2))
+        → IsGroup line s (outside_range line s v ∷ text_range v (v + 2) ∷ []) (Some (v + 2))
     -- the least `=?` and the least `?=` after it with a boundary after that have a word between them that decodes
     decodes : {v e : ℕ} → opening line s ≡ v → v ≢ length line → boundary_before line v ≡ true
         → closing line (v + 2) ≡ e → e ≢ length line → is_some (word_text known (inside line v e)) ≡ true
-        → IsGroup line s (outside line s v ∷ word_at v e ∷ []) (Some (e + 2))
+        → IsGroup line s (outside_range line s v ∷ word_range v e ∷ []) (Some (e + 2))
     -- the same, where what stands between them does not decode: it is text with both its ends
     stays_text : {v e : ℕ} → opening line s ≡ v → v ≢ length line → boundary_before line v ≡ true
         → closing line (v + 2) ≡ e → e ≢ length line → is_some (word_text known (inside line v e)) ≡ false
-        → IsGroup line s (outside line s v ∷ text_at v (e + 2) ∷ []) (Some (e + 2))
+        → IsGroup line s (outside_range line s v ∷ text_range v (e + 2) ∷ []) (Some (e + 2))
 
   -- the tokens of a line from the place s on: groups one after another, each starting where the one before says, up to the last
   pub data AreTokensFrom (line : List ℕ) : ℕ → List TokenRange → Type 0 where
@@ -118,23 +118,23 @@ module _ (known : Charsets) where
   AreTokens line tokens = AreTokensFrom line 0 tokens
 
   -- a group, computed
-  abbrev pub group_of_word : List ℕ → ℕ → ℕ → ℕ → Group
+  abbrev pub group_of_word : List ℕ → ℕ → ℕ → ℕ → TokenGroup
   group_of_word line s v e = record {
-    tokens = outside line s v ∷ (if is_some (word_text known (inside line v e)) then word_at v e else text_at v (e + 2)) ∷ [];
+    tokens = outside_range line s v ∷ (if is_some (word_text known (inside line v e)) then word_range v e else text_range v (e + 2)) ∷ [];
     next = Some (e + 2);
   }
 
-  abbrev pub group_of_opening : List ℕ → ℕ → ℕ → ℕ → Group
+  abbrev pub group_of_opening : List ℕ → ℕ → ℕ → ℕ → TokenGroup
   group_of_opening line s v e =
       if boundary_before line v
-      then (if e == length line then record { tokens = outside line s v ∷ text_at v (v + 2) ∷ []; next = Some (v + 2) } else group_of_word line s v e)
-      else record { tokens = text_at s (v + 2) ∷ []; next = Some (v + 2) }
+      then (if e == length line then record { tokens = outside_range line s v ∷ text_range v (v + 2) ∷ []; next = Some (v + 2) } else group_of_word line s v e)
+      else record { tokens = text_range s (v + 2) ∷ []; next = Some (v + 2) }
 
-  unfoldable pub group_at : List ℕ → ℕ → Group
+  unfoldable pub group_at : List ℕ → ℕ → TokenGroup
   group_at line s =
       let v = opening line s in
       if v == length line
-      then record { tokens = outside line s (length line) ∷ []; next = None }
+      then record { tokens = outside_range line s (length line) ∷ []; next = None }
       else group_of_opening line s v (closing line (v + 2))
 
   -- the tokens of a line from s on, over at most n groups

@@ -41,10 +41,10 @@ impl ParsedContentType {
 /// Reads the value of a `Content-Type` header as `get_value` gives it (RFC 2045, section 5.1; RFC
 /// 2231, sections 3 and 4).
 ///
-/// The type is what stands before the first semicolon outside quotes, without white around it and in ASCII lower
-/// case; it need not be one that anybody knows. The charset is the parameter of that name, which
-/// stays among the parameters, or `us-ascii` where there is none. Every text is read; the error is
-/// that memory ran out.
+/// The type is what stands before the first semicolon outside quotes, without white around it and
+/// in ASCII lower case; it need not be one that anybody knows. The charset is the parameter of that
+/// name, which stays among the parameters, or `us-ascii` where there is none. Every text is read;
+/// the error is that memory ran out.
 ///
 /// `text/html; charset=utf-8` is the type `text/html` in the charset `utf-8`, with one parameter.
 pub fn parse_content_type(alloc: Global, text: &str) -> Result<ParsedContentType, MailParseError>

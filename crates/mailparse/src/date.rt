@@ -21,10 +21,10 @@ use words::next_word;
 /// of two digits is a year from 1970 to 2069. It takes no memory.
 ///
 /// The error is a `Generic`: `Invalid day` for a day that is not 1 to 31, `Unrecognized month`,
-/// `Invalid year` for one that is not a number below 2^32, `Disallowed year` for one from 100 to 1969,
-/// `Invalid hour`, `Invalid minute` and `Invalid second` for one that is not a number below 256, and
-/// `Invalid timezone` for a zone that is neither a number from -2400 to 2400 nor a name. The first
-/// invalid word counts.
+/// `Invalid year` for one that is not a number below 2^32, `Disallowed year` for one from 100 to
+/// 1969, `Invalid hour`, `Invalid minute` and `Invalid second` for one that is not a number below
+/// 256, and `Invalid timezone` for a zone that is neither a number from -2400 to 2400 nor a name.
+/// The first invalid word counts.
 ///
 /// `dateparse("Sun, 02 Oct 2016 07:06:22 -0700 (PDT)")` is 1475417182.
 #[tactic(auto, unfolding(crate::specs::Date::date_seconds))]

@@ -1,7 +1,7 @@
 //! How a part of a message is to be shown.
 ghost use Rattle.std.specs.Prelude.{◌≡◌, IfOk, IsOk, Ok};
 ghost use Rattle.std.specs.Str.{str_to_ascii_lowercase};
-ghost use Rattle.mailparse.specs.Disposition.{IsNamed, default_disposition, disposition_of, kind_named};
+ghost use Rattle.mailparse.specs.Disposition.{IsNamed, default_disposition, disposition_named, disposition_of};
 ghost use Rattle.mailparse.specs.Outcome.{AnswersOrMemory};
 ghost use Rattle.mailparse.specs.Views.{disposition, kind};
 
@@ -80,10 +80,10 @@ impl ParsedContentDisposition {
 /// Reads the value of a `Content-Disposition` header as `get_value` gives it (RFC 2183, section 2;
 /// RFC 2231, sections 3 and 4).
 ///
-/// The kind is what stands before the first semicolon outside quotes, without white around it and in ASCII lower
-/// case: `inline`, `attachment` and `form-data` have names of their own, any other text is an
-/// `Extension`, and no text at all means `Inline`. Every text is read; the error is that memory ran
-/// out.
+/// The kind is what stands before the first semicolon outside quotes, without white around it and
+/// in ASCII lower case: `inline`, `attachment` and `form-data` have names of their own, any other
+/// text is an `Extension`, and no text at all means `Inline`. Every text is read; the error is that
+/// memory ran out.
 ///
 /// `attachment; filename="a b"` is an `Attachment` with one parameter.
 pub fn parse_content_disposition(
@@ -101,7 +101,7 @@ pub fn parse_content_disposition(
 
 /// The kind that a text names.
 fn kind_named(alloc: Global, value: &str) -> Result<DispositionType, AllocError>
-    ensures { IfOk result (λ d. kind d ≡ kind_named (str_to_ascii_lowercase value.now)) }
+    ensures { IfOk result (λ d. kind d ≡ disposition_named (str_to_ascii_lowercase value.now)) }
 {
     let name = lower_case(alloc, value)?;
     match name.as_str() {

@@ -15,7 +15,7 @@ pub enum MailParseError {
     /// A body that is not Base64.
     #[error("Base64 decode error: {0}")]
     Base64DecodeError(Base64Fault),
-    /// Bytes that are no text in the encoding that was asked for; the text says which.
+    /// Bytes that are not text in the encoding that was asked for; the text says which.
     #[error("Encoding error: {0}")]
     EncodingError(CowStr<'static>),
     /// The input is not what the call reads; the text says what is wrong with it.

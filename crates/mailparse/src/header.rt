@@ -35,7 +35,7 @@ impl<'a> Model for MailHeader<'a> {
 }
 
 impl<'a> MailHeader<'a> {
-    /// The text of the key: one character for each byte, the one of its number (ISO/IEC 8859-1).
+    /// The text of the key: one character for each byte, the one of its number (IANA's ISO-8859-1).
     /// The error is that memory ran out.
     pub fn get_key(&self, alloc: Global) -> Result<String, MailParseError>
         ensures { GivesText result (key_text self.now) }
@@ -57,7 +57,8 @@ impl<'a> MailHeader<'a> {
 
     /// The text of the value: its lines are joined, a space for each line end that shows, and its
     /// encoded words decoded (RFC 5322, section 2.2.3; RFC 2047, sections 2, 4 and 6.2). Bytes that
-    /// are not UTF-8 are read as Latin-1, one character for each byte. The error is that memory ran out.
+    /// are not UTF-8 are read as Latin-1, one character for each byte. The error is that memory ran
+    /// out.
     ///
     /// The value `=?utf-8?Q?caf=C3=A9?=` reads as `café`.
     #[tactic(auto, unfolding(crate::specs::Value::lenient_value))]
@@ -67,8 +68,8 @@ impl<'a> MailHeader<'a> {
         Ok(self.get_value_ref(alloc)?.into_owned(alloc)?)
     }
 
-    /// The text of the value as `get_value` reads it; where it is a part of the value's bytes they are
-    /// borrowed.
+    /// The text of the value as `get_value` reads it; where it is a part of the value's bytes they
+    /// are borrowed.
     #[tactic(auto, unfolding(crate::specs::Value::lenient_value))]
     pub(crate) fn get_value_ref(&self, alloc: Global) -> Result<CowStr<'_>, MailParseError>
         ensures { AnswersOrMemory (λ text. cow_str_bytes text) result
@@ -117,7 +118,7 @@ impl<'a> MailHeader<'a> {
     }
 }
 
-/// Shows the key and the value, bytes that are no UTF-8 as U+FFFD.
+/// Shows the key and the value, bytes that are not UTF-8 as U+FFFD.
 impl fmt::Debug for MailHeader<'_> {
     fn fmt<W: fmt::Write>(&self, f: &mut fmt::Formatter<W>) -> fmt::Result {
         f.debug_struct("MailHeader")

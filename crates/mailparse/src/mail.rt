@@ -56,8 +56,8 @@ impl<'a> ParsedMail<'a> {
     }
 
     /// The body in the transfer coding that it has (RFC 2045, section 6): the one that the first
-    /// `Content-Transfer-Encoding` names, in any case, and otherwise `7bit`. Nothing is decoded yet.
-    /// The one error is that memory ran out.
+    /// `Content-Transfer-Encoding` names, in any case, and otherwise `7bit`. Nothing is decoded
+    /// yet. The one error is that memory ran out.
     pub fn get_body_encoded(&self, alloc: Global) -> Result<Body<'_>, MailParseError>
         ensures body { let node = root (tree_of self.now) in
             IfOk result (IsBody (body_kind node) (content_of node)) }
@@ -74,9 +74,9 @@ impl<'a> ParsedMail<'a> {
 
     /// The text that the body stands for: its transfer coding is undone, and the bytes are read
     /// under the charset of the type that `ctype` holds now. A byte order mark decides first, and
-    /// under an unknown label each byte that is no ASCII is U+FFFD.
+    /// under an unknown label each byte that is not ASCII is U+FFFD.
     ///
-    /// Refuses a body that is to be Base64 and is not, by the number of the first invalid group;
+    /// Refuses a body that is to be Base64 and is not, by the index of the first invalid group;
     /// otherwise the one error is that memory ran out.
     ///
     /// For `Subject: test\n\nThis is the body` it is `This is the body`.
@@ -143,8 +143,8 @@ impl<'a> ParsedMail<'a> {
 /// Any bytes are a message, the empty input too, but for three things, which are refused wherever
 /// they stand, the message itself before its parts: a header that begins with a space, a CR without
 /// LF where a header or the blank line is wanted, and a part more than 100 levels below the
-/// message. A refusal that comes before the first header is answered as itself; otherwise memory may
-/// run out.
+/// message. A refusal that comes before the first header is answered as itself; otherwise memory
+/// may run out.
 ///
 /// However the parts are nested, the headers, the bytes of the bodies and three for each part are
 /// together at most the bytes of the message.

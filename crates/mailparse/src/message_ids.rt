@@ -96,8 +96,8 @@ impl fmt::Display for MessageIdList {
 /// white alone is the empty list, and takes no memory.
 ///
 /// The error is the `Generic` with the text `Message IDs must start with <` where something else
-/// stands, the one with the text `Message IDs must end with >` where no `>` follows a `<`, whichever
-/// comes first, or that memory ran out; before the first id it takes no memory.
+/// stands, the one with the text `Message IDs must end with >` where no `>` follows a `<`,
+/// whichever comes first, or that memory ran out; before the first id it takes no memory.
 ///
 /// `msgidparse(alloc, "<one@a> <two@b>")` is the list of `one@a` and `two@b`.
 pub fn msgidparse(alloc: Global, ids: &str) -> Result<MessageIdList, MailParseError>

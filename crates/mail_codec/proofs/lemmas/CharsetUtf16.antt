@@ -96,7 +96,7 @@ chars_paired order (a ∷ b ∷ []) four high low = absurd (omega (arith, four))
 chars_paired order (a ∷ b ∷ d ∷ []) four high low = absurd (omega (arith, four))
 chars_paired order (a ∷ b ∷ d ∷ e ∷ bs) four high low = paired (order a b) (order d e) (units order bs) (has_odd_end bs) high low
 
--- a unit that is a character, and a surrogate that is no first of a pair
+-- a unit that is a character, and a surrogate that is not the first of a pair
 character_low : (u : ℕ) → InScalarRange u → is_high_surrogate u ≡ false
 character_low u (inl h) = grind (arith, nat_tests)
 character_low u (inr h) = grind (arith, nat_tests)
@@ -111,7 +111,7 @@ chars_character order bs two range =
     chars_lone order bs two (character_low (first_unit order bs) range)
     ∙ ap (λ o. unwrap_or o replacement ∷ utf_16_chars order (drop 2 bs)) (character_alone (first_unit order bs) range)
 
--- a unit that is no character, as the range of its values says it
+-- a unit that is not a character, as the range of its values says it
 surrogate_high : (u : ℕ) → OutOfScalarRange u → u < 0xDC00 → is_high_surrogate u ≡ true
 surrogate_high u (inl h) below = high_is u (omega arith) below
 surrogate_high u (inr h) below = absurd (omega arith)

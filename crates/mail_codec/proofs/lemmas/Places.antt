@@ -200,12 +200,6 @@ least-is test (suc bound) (suc n) h below at =
     let e : test 0 ≡ false = below 0 (omega arith) in
     rw e (ap suc (least-is (λ k. test (suc k)) bound n (omega arith) (λ k low. below (suc k) (omega arith)) (λ low. at (omega arith))))
 
-pub least-≤ : (test : ℕ → Bool) (bound : ℕ) → least test bound ≤ bound
-least-≤ test zero = omega arith
-least-≤ test (suc bound) =
-    let h : least (λ k. test (suc k)) bound ≤ bound = least-≤ (λ k. test (suc k)) bound in
-    elim (test 0) as (λ v. cond v 0 (suc (least (λ k. test (suc k)) bound)) ≤ suc bound) [ true ↦ omega arith | false ↦ omega arith ]
-
 -- no number below it passes
 pub least-before : (test : ℕ → Bool) (bound k : ℕ) → k < least test bound → test k ≡ false
 least-before test zero k h = absurd (omega arith)

@@ -1,7 +1,7 @@
 -- The runs that bytes are cut into where they are copied; this crate's own words.
-use Rattle.std.specs.Prelude.{◌≡◌, ℕ, ◌<◌, ◌≤◌, Bool, false, not, ◌||◌, ◌==◌, nat_lt, filter, List, slice_index}
+use Rattle.std.specs.Prelude.{◌≡◌, ℕ, suc, ◌<◌, ◌≤◌, Bool, false, not, ◌||◌, ◌==◌, nat_lt, filter, List, slice_index}
 use Rattle.std.specs.Char.{is_ascii_whitespace}
-use Rattle.mail_codec.specs.Ascii.{line_feed, carriage_return}
+use Rattle.mail_codec.specs.Ascii.{line_feed, carriage_return, space}
 use Rattle.mail_codec.specs.declared.bytescan.runs.RunEnd.{RunEnd}
 use Rattle.mail_codec.specs.declared.bytescan.runs.RunEnd.TheVariants.{Byte, LineEnd, White}
 
@@ -15,7 +15,7 @@ ends_run White b = is_ascii_whitespace b
 abbrev pub may_end_run : RunEnd → ℕ → Bool
 may_end_run (Byte wanted) b = b == wanted
 may_end_run LineEnd b = b == carriage_return || b == line_feed
-may_end_run White b = nat_lt b 33
+may_end_run White b = nat_lt b (suc space)
 
 -- No run ends from one place up to another.
 abbrev pub NoneEnds : RunEnd → List ℕ → ℕ → ℕ → Type 0

@@ -79,7 +79,7 @@ pub(crate) fn decode<'a>(
     ensures text { IfOk result
         (λ t. cow_str_bytes t ≡ encode_utf8_all (map (single_byte_char high.now) bytes.now)) }
     ensures borrowed { IfOk result (λ t. IsBorrowedStr t ↔ IsAscii bytes.now) }
-    ensures succeeds { IsAscii bytes.now → IsOk result }
+    ensures no_memory { IsAscii bytes.now → IsOk result }
 {
     if bytes.is_ascii() {
         // SAFETY: ASCII is UTF-8.

@@ -61,9 +61,6 @@ trim-graphic text h =
 
 -- ---- letters and digits
 
-AlphanumericByte : ℕ → Type 0
-AlphanumericByte b = ((48 ≤ b) × (b ≤ 57)) ⊎ (((65 ≤ b) × (b ≤ 90)) ⊎ ((97 ≤ b) × (b ≤ 122)))
-
 bounds : (b : ℕ) → ((48 ≤ b) × (b ≤ 57)) ⊎ (((65 ≤ b) × (b ≤ 90)) ⊎ ((97 ≤ b) × (b ≤ 122))) → (48 ≤ b) × (b ≤ 122) × (b ≢ 59)
 bounds b h =
     ⊎_elim (λ d. (omega (arith, d.0), omega (arith, d.1), λ e. absurd (omega (arith, d.1))))

@@ -1,13 +1,12 @@
 -- The form of a list of message ids, and the function that reads it.
 use Rattle.std.proofs.Common.{◌≡◌, ◌≢◌, ◌⊎◌, inl, inr, ℕ, Bool, true, false, cond, eqb, ◌||◌, List, [], ◌∷◌, ◌++◌, drop, Result, Ok, Err, refl, sym, ap, subst, ◌∙◌, append_assoc, append-nil}
-use Rattle.std.specs.List.{list_any, slice_split, onto_first}
+use Rattle.std.specs.List.{list_any}
 use Rattle.std.specs.Str.{trim_start}
 use Rattle.std.proofs.lemmas.Bool.{eqb-true, false≢true}
 use Rattle.mail_codec.specs.Places.{is_empty, stands}
 use Rattle.mailparse.specs.MessageIds.{id_not_closed, id_not_opened, id_of_piece, ids_at_end, ids_of_pieces, is_closing, message_ids, opens_id, with_id}
 use Rattle.mailparse.specs.Refusal.{Refusal}
-use Rattle.mailparse.proofs.lemmas.EncodedWord.{split_some}
-use Rattle.mailparse.proofs.lemmas.MessageIds.{pieces_step}
+use Rattle.mailparse.proofs.lemmas.MessageIds.{pieces_step, split_none}
 use Rattle.mail_laws.specs.Ids.{HoldsNoClosing}
 use Rattle.mail_laws.specs.IdGrammar.{AreIds, no_ids, one_more, Breaks, not_opened, not_opened_before, not_closed, later}
 use Rattle.mail_laws.proofs.lemmas.Ids.{split_at}
@@ -17,19 +16,10 @@ Ids = Result (List (List ℕ)) Refusal
 
 -- ---- from the form to the function
 
-split_whole : (bytes : List ℕ) → list_any is_closing bytes ≡ false → slice_split is_closing bytes ≡ bytes ∷ []
-split_whole [] h = refl
-split_whole (b ∷ bytes) h = go (split_whole bytes) (is_closing b) h
-  where
-    go : (list_any is_closing bytes ≡ false → slice_split is_closing bytes ≡ bytes ∷ []) → (t : Bool) → t || list_any is_closing bytes ≡ false
-        → cond t ([] ∷ slice_split is_closing bytes) (onto_first b (slice_split is_closing bytes)) ≡ (b ∷ bytes) ∷ []
-    go more true h = absurd (cc)
-    go more false h = ap (onto_first b) (more h)
-
 -- a text without `>`
 read_last : (text : List ℕ) → HoldsNoClosing text → message_ids text ≡ ids_at_end text
 unfolding message_ids
-read_last text free = ap ids_of_pieces (split_whole text free)
+read_last text free = ap ids_of_pieces (split_none text free)
 
 -- a text with a `>`
 read_piece : (piece rest : List ℕ) → HoldsNoClosing piece

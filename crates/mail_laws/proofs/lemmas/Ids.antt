@@ -1,5 +1,5 @@
 -- Lists of message ids that are written and read.
-use Rattle.std.proofs.Common.{◌≡◌, ◌≢◌, ℕ, suc, ◌+◌, ◌<◌, ◌≤◌, Bool, true, false, cond, eqb, not, ◌||◌, List, [], ◌∷◌, ◌++◌, length, take, drop, get_or, Result, Ok, Err, refl, sym, ap, ◌∙◌, arith, append_assoc, length-take, lit<}
+use Rattle.std.proofs.Common.{◌≡◌, ℕ, suc, ◌+◌, ◌<◌, Bool, true, false, cond, not, ◌||◌, List, [], ◌∷◌, ◌++◌, length, take, drop, Result, Ok, Err, refl, sym, ap, ◌∙◌, arith, append_assoc, length-take, lit<}
 use Rattle.std.specs.Prelude.{All}
 use Rattle.std.specs.List.{list_any, slice_split, onto_first, position_or_len, before_first, after_first}
 use Rattle.std.specs.Str.{IsUtf8, chars, encode_utf8_all, skip_leading_whitespace, trim_start}
@@ -8,13 +8,13 @@ use Rattle.std.proofs.lemmas.List.Elements.{All-cons, All-head, All-tail}
 use Rattle.std.proofs.lemmas.List.Sums.{passes_at_first}
 use Rattle.mail_codec.specs.Places.{is_empty, stands}
 use Rattle.std.proofs.lemmas.Str.{IsCharBoundary-before_ascii, IsUtf8-take, chars-encodes, chars-nil, encode_ascii}
-use Rattle.mailparse.specs.MessageIds.{id_not_closed, id_not_opened, id_of_piece, ids_of_pieces, is_closing, message_ids, opens_id, with_id, written_id, written_ids}
+use Rattle.mailparse.specs.MessageIds.{id_not_closed, id_not_opened, id_of_piece, ids_of_pieces, is_closing, message_ids, opens_id, with_id, written_ids}
 use Rattle.mailparse.specs.Refusal.{Refusal}
 use Rattle.mailparse.proofs.lemmas.EncodedWord.{any_from_place}
-use Rattle.mailparse.proofs.lemmas.MessageIds.{pieces_step, split_first}
+use Rattle.mailparse.proofs.lemmas.MessageIds.{pieces_step}
 use Rattle.mail_laws.specs.Ids.{HoldsNoClosing}
 
--- a `<` in front is no white, and a space before it goes
+-- a `<` in front is not white, and a space before it goes
 encoded_after : (b : ℕ) (cs : List ℕ) (id : List ℕ) → b < 128 → encode_utf8_all cs ≡ id → encode_utf8_all (b ∷ cs) ≡ b ∷ id
 encoded_after b cs id lt e = ap (λ front. front ++ encode_utf8_all cs) (encode_ascii b lt) ∙ ap (λ r. b ∷ r) e
 

@@ -1,5 +1,5 @@
 -- A text without percent pairs.
-use Rattle.std.proofs.Common.{◌≡◌, ℕ, Bool, true, false, ◌||◌, cond, List, [], ◌∷◌, refl, sym, ap, ◌∙◌}
+use Rattle.std.proofs.Common.{◌≡◌, ℕ, Bool, true, false, ◌||◌, List, [], ◌∷◌, refl, ap, ◌∙◌}
 use Rattle.std.specs.List.{list_any}
 use Rattle.mail_laws.specs.Percent.{is_percent}
 use Rattle.percent_encoding.specs.Percent.{is_escape, percent_decode}

@@ -1,13 +1,8 @@
 -- The text that parts make is that of a walk over them.
-use Rattle.std.proofs.Common.{◌≡◌, ℕ, List, [], ◌∷◌, ◌++◌, flat_map, Some, None, refl, sym, ap, ◌∙◌, append_assoc, append-nil}
-use Rattle.mailparse.specs.Continuations.{Group, Part, text, octets, joined, text_alone, run, onto_run, groups, group_text}
+use Rattle.std.proofs.Common.{◌≡◌, ℕ, List, [], ◌∷◌, ◌++◌, flat_map, Some, None, refl, sym, ap, ◌∙◌, append-nil}
+use Rattle.mailparse.specs.Continuations.{Part, text, octets, joined, onto_run, groups, group_text}
+use Rattle.mailparse.proofs.lemmas.Joining.{onto_twice}
 use Rattle.mail_laws.specs.Runs.{walked_after}
-
--- two pieces in front of groups
-onto_twice : (first second : List ℕ → List ℕ) (a b : List ℕ) (found : List Group) → onto_run second (a ++ b) found ≡ onto_run first a (onto_run second b found)
-onto_twice first second a b [] = refl
-onto_twice first second a b (text_alone t ∷ more) = refl
-onto_twice first second a b (run last others ∷ more) = ap (λ bytes. run last bytes ∷ more) (append_assoc a b others)
 
 -- after nothing, and after a run
 both : (parts : List Part) → (walked_after None [] parts ≡ joined parts)

@@ -1,18 +1,17 @@
 -- Where no key holds a star, the parameters are the pairs.
-use Rattle.std.proofs.Common.{◌≡◌, ℕ, Bool, true, false, cond, not, ◌&&◌, ◌||◌, eqb, ltb, List, [], ◌∷◌, ◌++◌, length, map, Option, Some, None, refl, sym, ap, ◌∙◌}
-use Rattle.std.proofs.lemmas.Bool.{cond-true, cond-false, false≢true, and_right}
+use Rattle.std.proofs.Common.{◌≡◌, ℕ, Bool, true, false, cond, not, ◌&&◌, ◌||◌, eqb, ltb, List, [], ◌∷◌, length, map, Option, Some, None, refl, sym, ap, ◌∙◌}
+use Rattle.std.proofs.lemmas.Bool.{cond-false, false≢true, and_right}
 use Rattle.std.proofs.lemmas.List.Elements.{All-head, All-tail}
-use Rattle.std.proofs.lemmas.List.Folds.{list_any-append}
 use Rattle.std.proofs.lemmas.Slice.Eq.{bytes_eq-Decides}
-use Rattle.std.specs.List.{list_any, before_last, after_last}
+use Rattle.std.specs.List.{list_any}
 use Rattle.std.specs.Map.{update, update_all}
 use Rattle.std.specs.Option.{is_some, option_map, option_or, option_map_or}
 use Rattle.std.specs.Str.{bytes_eq}
 use Rattle.mail_codec.specs.Charset.{Charsets}
-use Rattle.mailparse.specs.Continuations.{Part, text, octets, alone, is_star, numbered, number_in, is_first_of, is_base, is_used, parts_of, piece_name, joined, joined_at, names_of, extended_at, has_left, part_at, parameters_in}
+use Rattle.mailparse.specs.Continuations.{text, octets, alone, is_star, numbered, is_first_of, is_base, is_used, parts_of, piece_name, joined, joined_at, names_of, has_left, part_at, parameters_in}
 use Rattle.mailparse.specs.Pairs.{Texts, no_texts, last_of}
 use Rattle.mail_laws.specs.StarFree.{AreStarFree}
-use Rattle.mailparse.specs.StarredKeys.{starred, is_starred, name_under, is_waiting, label_in, extended_value, decider, octets_of, reading_of}
+use Rattle.mailparse.specs.StarredKeys.{starred, is_starred, name_under, is_waiting, octets_of, reading_of}
 
 abbrev has_star : List ℕ → Bool
 has_star name = list_any is_star name

@@ -1,5 +1,5 @@
 -- Lemmas on what shows between two adjacent decoded words.
-use Rattle.std.proofs.Common.{◌≡◌, ℕ, Bool, cond, not, ◌||◌, List, [], ◌∷◌, ◌++◌, map, Option, Some, None, refl, sym, ap, ◌∙◌}
+use Rattle.std.proofs.Common.{◌≡◌, ℕ, cond, not, ◌||◌, List, [], ◌∷◌, ◌++◌, Option, Some, None, refl, sym, ap, ◌∙◌}
 use Rattle.mailparse.specs.Tokens.{TokenKind, plain_text, white_space, line_end, decoded_word}
 use Rattle.mailparse.specs.Value.{Token, is_released, is_held, kinds, newline, shown_after, shown_tokens, shows}
 use Rattle.mail_laws.specs.WordTokens.{word, white}

@@ -1,5 +1,5 @@
 -- Lemmas on the block of headers: the headers, one after another.
-use Rattle.std.proofs.Common.{◌≡◌, ℕ, zero, suc, ◌+◌, ◌<◌, ◌≤◌, Bool, true, false, ◌&&◌, ◌||◌, not, cond, eqb, IsErr, nat_eq, Option, Some, None, List, [], ◌∷◌, ◌++◌, length, take, drop, Result, Ok, Err, refl, sym, ap, subst, ◌∙◌, inl, inr, arith, length-drop, add_assoc, append_assoc, append-nil, zero-add}
+use Rattle.std.proofs.Common.{◌≡◌, ℕ, zero, suc, ◌+◌, ◌<◌, ◌≤◌, Bool, true, false, ◌&&◌, ◌||◌, not, cond, eqb, nat_eq, Option, Some, None, List, [], ◌∷◌, ◌++◌, length, drop, Result, Ok, Err, refl, sym, ap, subst, ◌∙◌, inl, inr, arith, length-drop, add_assoc, append_assoc, append-nil, zero-add}
 use Rattle.std.specs.List.{starts_with}
 use Rattle.std.proofs.lemmas.Bool.{cases_lt}
 use Rattle.std.proofs.lemmas.List.{drop-drop}
@@ -8,7 +8,8 @@ use Rattle.mail_codec.specs.Places.{stands, is_empty, values_below}
 use Rattle.mail_codec.proofs.lemmas.Places.{least-is, least-before, least-passes, stands-starts_with}
 use Rattle.mailparse.specs.Refusal.{Refusal, empty_string, leading_space, lone_carriage_return}
 use Rattle.mailparse.specs.Header.{Header, header_of, header_length, read_header}
-use Rattle.mailparse.proofs.lemmas.Header.{header_length-≤, header_length->}
+use Rattle.mailparse.proofs.lemmas.Places.{not_empty}
+use Rattle.mailparse.proofs.lemmas.Header.{header_length-≤, header_length->, read_header-empty}
 use Rattle.mailparse.specs.Block.{HeaderList, blank_line, headers_end, has_header, header_place, rest_at, header_count, block_end, read_headers}
 
 -- where a header stands there are bytes
@@ -172,10 +173,6 @@ ended : (v : Bool) (n : ℕ) (other : Result (Option ℕ) Refusal) → cond (v |
 ended true n other = refl
 ended false n other = refl
 
-nonempty : (raw : List ℕ) → 0 < length raw → is_empty raw ≡ false
-nonempty [] h = absurd (omega arith)
-nonempty (b ∷ raw) h = refl
-
 true_not_false : true ≡ false → ⊥
 true_not_false e = cc
 
@@ -194,11 +191,11 @@ module _ (raw : List ℕ) where
 
   pub block_end-return : 0 < length raw → starts_with nat_eq raw (10 ∷ []) ≡ false → starts_with nat_eq raw (13 ∷ 10 ∷ []) ≡ false → starts_with nat_eq raw (13 ∷ []) ≡ true → block_end raw ≡ Err lone_carriage_return
   unfolding block_end headers_end blank_line
-  block_end-return h feed both return = rw (nonempty raw h, stands-there (10 ∷ []) false feed, stands-there (13 ∷ 10 ∷ []) false both, stands-there (13 ∷ []) true return) refl
+  block_end-return h feed both return = rw (not_empty raw h, stands-there (10 ∷ []) false feed, stands-there (13 ∷ 10 ∷ []) false both, stands-there (13 ∷ []) true return) refl
 
   pub block_end-none : 0 < length raw → starts_with nat_eq raw (10 ∷ []) ≡ false → starts_with nat_eq raw (13 ∷ 10 ∷ []) ≡ false → starts_with nat_eq raw (13 ∷ []) ≡ false → block_end raw ≡ Ok None
   unfolding block_end headers_end blank_line
-  block_end-none h feed both return = rw (nonempty raw h, stands-there (10 ∷ []) false feed, stands-there (13 ∷ 10 ∷ []) false both, stands-there (13 ∷ []) false return) refl
+  block_end-none h feed both return = rw (not_empty raw h, stands-there (10 ∷ []) false feed, stands-there (13 ∷ 10 ∷ []) false both, stands-there (13 ∷ []) false return) refl
 
 pub block_end-empty : (raw : List ℕ) → length raw ≡ 0 → block_end raw ≡ Ok (Some 0)
 unfolding block_end headers_end blank_line
@@ -393,12 +390,8 @@ read_headers-bounded raw block e = by_tests (headers_end (rest_at raw (header_co
     by_tests false false ends return = let f = at false false ends return in absurd (cc)
 
 -- a header that is read takes at least one byte and at most all
-read_header-empty : read_header [] ≡ Err empty_string
-unfolding read_header
-read_header-empty = refl
-
 pub read_header-bounds : (raw : List ℕ) (found : Header × ℕ) → read_header raw ≡ Ok found → (0 < found.1) × (found.1 ≤ length raw)
-read_header-bounds [] found e = let f : ◌≡◌ {A = Result (Header × ℕ) Refusal} (Err empty_string) (Ok found) = sym read_header-empty ∙ e in absurd (cc)
+read_header-bounds [] found e = let f : ◌≡◌ {A = Result (Header × ℕ) Refusal} (Err empty_string) (Ok found) = sym (read_header-empty [] refl) ∙ e in absurd (cc)
 read_header-bounds (b ∷ raw) found e = by_test (stands (32 ∷ []) (b ∷ raw)) refl
   where
     by_test : (s : Bool) → stands (32 ∷ []) (b ∷ raw) ≡ s → (0 < found.1) × (found.1 ≤ suc (length raw))

@@ -1,7 +1,7 @@
 -- Where a line is cut.
-use Rattle.std.proofs.Common.{◌≡◌, ◌≢◌, ℕ, ◌+◌, ◌-◌, ◌<◌, ◌≤◌, Bool, true, false, cond, eqb, List, [], ◌∷◌, ◌++◌, ◌&&◌, length, map, take, drop, reverse, get_or, Some, None, refl, sym, ap, ◌∙◌, subst, ⊎_elim, arith, lit<, length-append, append_assoc}
-use Rattle.std.proofs.lemmas.List.{map-append, drop-drop, reverse-append, take_at, append-nil}
-use Rattle.std.proofs.lemmas.Bool.{cond-true, cond-false, and_from, and_parts, and_right, cases_eq, ne_eqb}
+use Rattle.std.proofs.Common.{◌≡◌, ◌≢◌, ℕ, ◌+◌, ◌-◌, ◌<◌, ◌≤◌, Bool, true, false, cond, eqb, List, [], ◌∷◌, ◌++◌, ◌&&◌, length, take, drop, reverse, get_or, refl, sym, ap, ◌∙◌, subst, arith, lit<, length-append}
+use Rattle.std.proofs.lemmas.List.{drop-drop, reverse-append, take_at, append-nil}
+use Rattle.std.proofs.lemmas.Bool.{cond-true, cond-false, and_from, and_parts, and_right, ne_eqb}
 use Rattle.std.proofs.lemmas.Str.{IsCharBoundary-after_ascii, IsCharBoundary-before_ascii, chars-append, chars-encodes, chars-nil, length-encode, len_utf8_bounds, IsUtf8-encode, IsUtf8-take, IsCharBoundary-at_seam}
 use Rattle.std.specs.Char.{IsScalar, encode_utf8, is_whitespace}
 use Rattle.std.specs.List.{list_all}
@@ -10,7 +10,7 @@ use Rattle.mailparse.specs.private.Cuts.{IsCut, IsOpening, KeepsClosing}
 use Rattle.mail_codec.specs.Places.{stands, place_from}
 use Rattle.mailparse.specs.Tokens.{white_space, plain_text, opening, closing, begins_closing, begins_with_boundary, is_boundary, is_white}
 use Rattle.mailparse.specs.Value.{outside_token}
-use Rattle.mail_codec.proofs.lemmas.Places.{place_from_same, place_from_bounds, place_from_weaker, place_from_here, place_from_next, place_from_passes}
+use Rattle.mail_codec.proofs.lemmas.Places.{place_from_same, place_from_here, place_from_next, place_from_passes}
 use Rattle.mailparse.proofs.lemmas.Places.{place_from_via}
 use Rattle.mailparse.proofs.lemmas.Tokens.{pair_stands, opening_stands, closing_stands}
 

@@ -16,15 +16,12 @@ use Rattle.mail_codec.specs.Places.{is_empty}
 use Rattle.mailparse.specs.Date.{fits_32_bits, is_separator, look_up, words, zones, date_words, from_hour, from_minute, from_second, from_zone, plus, units, invalid_hour, invalid_minute, invalid_second, signed_number, number_below, days_of_years, year_length, year_of, year_if_read}
 use Rattle.mailparse.specs.private.Dates.{IsNear, next_number, number_or}
 use Rattle.mailparse.specs.Refusal.{Refusal}
+use Rattle.mailparse.proofs.lemmas.Places.{not_empty}
 
 -- ---- numbers
 
 own : IsNumeralModel (λ ds. all_ascii_digits ds ≡ true) (digits_value 10)
 own = numerals_by_value (λ ds. all_ascii_digits ds ≡ true) tells_all_ascii_digits
-
-not_empty : (d : List ℕ) → 0 < length d → is_empty d ≡ false
-not_empty [] h = absurd (omega arith)
-not_empty (c ∷ cs) h = refl
 
 some_digit : (d : List ℕ) → is_empty d ≡ false → 0 < length d
 some_digit [] h = absurd (cc)

@@ -5,11 +5,11 @@ use Rattle.std.proofs.lemmas.Bool.{cond-true, cond-false, cases_lt, cases_eq, lt
 use Rattle.std.proofs.lemmas.List.{drop-drop}
 use Rattle.bstr.specs.Find.{OccursAt, FindsNeedle}
 use Rattle.mail_codec.specs.Places.{stands, begins, first_place, least, place, text_place, byte_place}
-use Rattle.mail_codec.proofs.lemmas.Places.{least-is, least-≤, least-before, least-passes, first_place-≤, first_place-before}
+use Rattle.mail_codec.proofs.lemmas.Places.{least-is, least-before, least-passes, first_place-before}
 use Rattle.mailparse.specs.Header.{is_line_feed}
 use Rattle.mailparse.specs.Delimiters.{least_from, starts_line, is_delimiter, delimiter_from, line_after}
 use Rattle.mailparse.specs.private.DelimiterLines.{NoDelimiter}
-use Rattle.mailparse.proofs.lemmas.Places.{place_none, place_some}
+use Rattle.mail_codec.proofs.lemmas.WordSearches.{place_none, place_some}
 
 -- ---- the least place from a start on
 
@@ -163,7 +163,7 @@ no_delimiter_to [] bytes start from at some none e = absurd (omega arith)
 no_delimiter_to (x ∷ key) bytes start from at some none e =
     let here = somewhere (λ k. from + k) at (place (stands (x ∷ [])) (drop from bytes)) e in
     subst (NoDelimiter (x ∷ key) bytes start) (sym here.2)
-    (no_delimiter_before (x ∷ key) bytes start from here.0 some none (place_some (stands (x ∷ [])) (drop from bytes) here.0 here.1).0)
+    (no_delimiter_before (x ∷ key) bytes start from here.0 some none (sym (place_some (stands (x ∷ [])) (drop from bytes) here.0 here.1).0))
 
 -- past its start no line starts on a line
 no_delimiter_on_line : (key bytes : List ℕ) (start at j : ℕ) → start ≤ at → NoDelimiter key bytes start at → is_delimiter key bytes start at ≡ false
@@ -193,7 +193,7 @@ pub no_delimiter_to_line : (key bytes : List ℕ) (start at next : ℕ) → star
 no_delimiter_to_line key bytes start at next after none here e =
     let there = somewhere (λ k. suc (at + k)) next (byte_place (drop at bytes) 10) e in
     subst (NoDelimiter key bytes start) (sym there.2)
-    (no_delimiter_on_line key bytes start at there.0 after none here (place_some (begins is_line_feed) (drop at bytes) there.0 there.1).0)
+    (no_delimiter_on_line key bytes start at there.0 after none here (sym (place_some (begins is_line_feed) (drop at bytes) there.0 there.1).0))
 
 -- ---- a search for the LF and the delimiter after it
 

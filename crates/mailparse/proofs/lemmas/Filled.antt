@@ -9,6 +9,7 @@ use Rattle.std.specs.Ordering.{nat_cmp}
 use Rattle.std.specs.String.{string_cmp}
 use Rattle.std.specs.Str.{bytes_eq}
 use Rattle.mailparse.specs.private.Filled.{filled, holds_name}
+use Rattle.mailparse.proofs.lemmas.Pairs.{mapped}
 use Rattle.mailparse.proofs.lemmas.StarredKeys.{equal_bytes}
 
 pub any_push : (test : List ℕ → Bool) (names : List (List ℕ)) (name : List ℕ) → list_any test (names ++ name ∷ []) ≡ (list_any test names || test name)
@@ -88,10 +89,6 @@ filled_all {A = A} f g names q old before same = go (holds_name names q) refl
     go false is = before ∙ cond-false _ _ _ is ∙ sym (same is)
 
 -- ---- what a write leaves at each name
-
-mapped : {A B : Type 0} (f : A → B) (b : Bool) (v : A) (o : Option A) → option_map f (cond b (Some v) o) ≡ cond b (Some (f v)) (option_map f o)
-mapped f true v o = refl
-mapped f false v o = refl
 
 pub stored : {Y X B : Type 0} (f : X → B) (name : List ℕ) (old new : BTreeMap (String Y) X) (v : X) → UpdatesBy string_cmp (λ k. slice_cmp nat_cmp name (string_bytes k)) old new (Some v)
     → (q : List ℕ) → option_map f (get_by_text new q) ≡ cond (bytes_eq name q) (Some (f v)) (option_map f (get_by_text old q))

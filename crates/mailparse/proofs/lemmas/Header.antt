@@ -1,16 +1,17 @@
 -- Lemmas on the places of one header, for the searches that find them.
-use Rattle.std.proofs.Common.{◌≡◌, ◌≢◌, ℕ, suc, ◌+◌, ◌-◌, ◌<◌, ◌≤◌, ◌⊎◌, Bool, true, false, ◌&&◌, ◌||◌, not, cond, eqb, min, Option, Some, None, List, [], ◌∷◌, ◌++◌, length, take, drop, get_or, Ok, Err, refl, sym, ap, subst, ◌∙◌, inl, inr, ⊎_elim, arith, ne_eqb, add-one, add-zero, zero-add, slice_range, append_assoc, append-nil, length-append, length-drop, length-take}
+use Rattle.std.proofs.Common.{◌≡◌, ℕ, suc, ◌+◌, ◌-◌, ◌<◌, ◌≤◌, ◌⊎◌, Bool, true, false, ◌&&◌, ◌||◌, not, cond, eqb, min, Some, None, List, [], ◌∷◌, ◌++◌, length, take, drop, get_or, Ok, Err, refl, sym, ap, subst, ◌∙◌, inl, inr, ⊎_elim, arith, ne_eqb, add-one, zero-add, slice_range, append_assoc, length-append, length-drop, length-take}
 use Rattle.std.specs.List.{list_all}
-use Rattle.std.proofs.lemmas.Bool.{cases_lt, eqb-true, false≢true}
+use Rattle.std.proofs.lemmas.Bool.{cases_lt, eqb-true}
 use Rattle.std.proofs.lemmas.List.{drop_more, drop-take, drop-drop, take-take, get_or-take}
 use Rattle.std.proofs.Math.ListN.{drop_of_length-le}
-use Rattle.std.proofs.Math.Seq.{drop-length, take-append_seam}
+use Rattle.std.proofs.Math.Seq.{take-append_seam}
 use Rattle.mail_codec.specs.Ascii.{colon}
 use Rattle.mail_codec.specs.Places.{first_place, place, place_from, begins, IsFirstPlace}
 use Rattle.mail_codec.proofs.lemmas.Places.{first_place-≤, first_place-here, first_place-past, first_place-passes, first_place-before, first_place-is_first, IsFirstPlace-unique, begins-at, place_from_same, place_from_here, place_from_next, place_from_passes}
 use Rattle.mailparse.specs.Header.{ends_key, Header, is_blank, is_line_end, is_line_feed, ends_header, key_end, has_colon, header_end, value_start, value_end, header_of, header_length, read_header}
 use Rattle.mailparse.specs.Refusal.{empty_string, leading_space}
-use Rattle.mailparse.proofs.lemmas.Places.{place_none, place_some, place_from_via}
+use Rattle.mailparse.proofs.lemmas.Places.{place_from_via}
+use Rattle.mail_codec.proofs.lemmas.WordSearches.{place_none, place_some}
 
 -- ---- the first LF and the first colon before it
 
@@ -82,7 +83,7 @@ key_of_colon raw p e = (key, ap (λ n. begins is_colon (drop n raw)) key ∙ at_
     fits = first_place-≤ (begins is_line_feed) raw
 
     some : (first_place (begins is_colon) (take (first_feed raw) raw) ≡ p) × (p < length (take (first_feed raw) raw))
-    some = place_some (begins is_colon) (take (first_feed raw) raw) p e
+    some = let found = place_some (begins is_colon) (take (first_feed raw) raw) p e in let at = found.0 in let below = found.1 in (sym at, omega arith)
 
     low : p < first_feed raw
     low = let len = length-take (first_feed raw) raw in let below = some.1 in omega arith
@@ -150,10 +151,6 @@ header_end-here raw end low found blank =
     subst (λ v. begins is_line_feed (drop v raw) ≡ true) found (place_from_passes (begins is_line_feed) raw end (omega arith) (λ e. absurd (omega arith))) in
     place_from_here ends_header raw end low
     (ap ends_header (drop_more raw end 0 low) ∙ ap (λ t. t && not (begins is_blank (drop (end + 1) raw))) (sym (begins-at is_line_feed raw end low) ∙ feed) ∙ ap not blank)
-
--- where no LF is left the header ends with the bytes
-pub header_end-past : (raw : List ℕ) (end : ℕ) → length raw ≤ end → place_from ends_header raw end ≡ end
-header_end-past raw end past = ap (λ rest. end + first_place ends_header rest) (drop_of_length-le raw past) ∙ add-zero end
 
 -- what the right trim has cut off so far
 pub record TrimmedTo (bytes rest : List ℕ) : Type 0 where

@@ -29,7 +29,7 @@ parts_end at base most number full = let none : most - number ≡ 0 = omega arit
 -- ---- a walk that keeps a run open makes the texts of the groups
 
 -- two pieces in front of groups
-onto_twice : (first second : List ℕ → List ℕ) (a b : List ℕ) (found : List Group) → onto_run second (a ++ b) found ≡ onto_run first a (onto_run second b found)
+pub onto_twice : (first second : List ℕ → List ℕ) (a b : List ℕ) (found : List Group) → onto_run second (a ++ b) found ≡ onto_run first a (onto_run second b found)
 onto_twice first second a b [] = refl
 onto_twice first second a b (text_alone t ∷ more) = refl
 onto_twice first second a b (run last others ∷ more) = ap (λ bytes. run last bytes ∷ more) (append_assoc a b others)

@@ -5,7 +5,7 @@ use Rattle.std.proofs.lemmas.List.{map_push, length-map}
 use Rattle.std.specs.Borrow.{Bor}
 use Rattle.std.specs.Str.{trim_start}
 use Rattle.mail_codec.specs.Charset.{Charsets}
-use Rattle.mailparse.specs.Value.{Token, newline, line_tokens, tokens_of_lines}
+use Rattle.mailparse.specs.Value.{newline, line_tokens, tokens_of_lines}
 use Rattle.mailparse.specs.declared.header.value.ShownValue.{ShownValue}
 use Rattle.mailparse.specs.private.Unfolding.{Shows}
 use Rattle.mailparse.proofs.lemmas.Unfolding.{Shows-append, Shows-at}

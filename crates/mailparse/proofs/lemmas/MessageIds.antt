@@ -40,7 +40,7 @@ written_ids-next all others x i rest lt at =
 -- ---- what is read
 
 -- without a `>`
-split_none : (bytes : List ℕ) → list_any is_closing bytes ≡ false → slice_split is_closing bytes ≡ bytes ∷ []
+pub split_none : (bytes : List ℕ) → list_any is_closing bytes ≡ false → slice_split is_closing bytes ≡ bytes ∷ []
 split_none [] h = refl
 split_none (b ∷ bytes) h = go (split_none bytes) (is_closing b) h
   where

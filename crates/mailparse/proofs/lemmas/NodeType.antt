@@ -8,7 +8,7 @@ use Rattle.mailparse.specs.Keys.{first_with_key}
 use Rattle.mailparse.specs.Mail.{node_type, part_type}
 use Rattle.mailparse.specs.Refusal.{Refusal}
 use Rattle.mailparse.specs.Value.{lenient_value}
-use Rattle.mailparse.specs.ContentType.{ContentType, content_type_in}
+use Rattle.mailparse.specs.ContentType.{content_type_in}
 
 unwrapped : (a b : List ℕ) → ◌≡◌ {A = Result (List ℕ) Refusal} (Ok a) (Ok b) → a ≡ b
 unwrapped a b e = cc

@@ -1,8 +1,8 @@
 -- Lemmas on what a call answered beside what a definition gives.
-use Rattle.std.proofs.Common.{◌≡◌, Option, Some, None, Result, Ok, Err, subst}
+use Rattle.std.proofs.Common.{◌≡◌, Option, Some, None, Result, Err}
 use Rattle.std.specs.Cow.{cow_str_bytes}
 use Rattle.mailparse.specs.Refusal.{Refusal, generic, encoding, base64_fault}
-use Rattle.mailparse.specs.Outcome.{refusal_of, Refuses, IsRefusal, IsRefusalOrMemory, AnswersOrMemory}
+use Rattle.mailparse.specs.Outcome.{refusal_of, Refuses, IsRefusal, IsRefusalOrMemory}
 use Rattle.mailparse.specs.declared.error.MailParseError.{MailParseError}
 use Rattle.mailparse.specs.declared.error.MailParseError.TheVariants.{QuotedPrintableDecodeError, Base64DecodeError, EncodingError, Generic, Memory}
 
@@ -28,7 +28,3 @@ IsRefusalOrMemory-from (Base64DecodeError fault) x h = h
 IsRefusalOrMemory-from (EncodingError text) x h = h
 IsRefusalOrMemory-from (Generic text) x h = h
 IsRefusalOrMemory-from (Memory e) x h = absurd h
-
--- what an exact answer that is a value was given by
-pub AnswersOrMemory-ok : {X Y : Type 0} (view : X → Y) (result : Result X MailParseError) (given : Result Y Refusal) (x : X) → result ≡ Ok x → AnswersOrMemory view result given → given ≡ Ok (view x)
-AnswersOrMemory-ok {X = X} {Y = Y} view result given x e h = subst (λ (r : Result X MailParseError). AnswersOrMemory view r given) e h

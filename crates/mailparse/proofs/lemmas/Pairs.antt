@@ -26,7 +26,8 @@ abbrev pub rest_length : Option (Bor (List ℕ)) → ℕ
 rest_length None = 0
 rest_length (Some rest) = suc (length rest.now)
 
-mapped : {X Y : Type 0} (f : X → Y) (t : Bool) (x : X) (o : Option X) → option_map f (cond t (Some x) o) ≡ cond t (Some (f x)) (option_map f o)
+-- a map over a choice is a choice of what it maps to
+pub mapped : {X Y : Type 0} (f : X → Y) (t : Bool) (x : X) (o : Option X) → option_map f (cond t (Some x) o) ≡ cond t (Some (f x)) (option_map f o)
 mapped f true x o = refl
 mapped f false x o = refl
 
@@ -55,9 +56,6 @@ pub pairs_in-some : (piece : List ℕ) (more : List (List ℕ)) (key value : Lis
     → pairs_in (piece ∷ more) ≡ (key, value) ∷ pairs_in more
 pairs_in-some piece more key value e = ap (λ p. option_to_list p ++ pairs_in more) e
 
-pairs_in-none : (piece : List ℕ) (more : List (List ℕ)) → pair_of piece ≡ None → pairs_in (piece ∷ more) ≡ pairs_in more
-pairs_in-none piece more e = ap (λ p. option_to_list p ++ pairs_in more) e
-
 -- a piece with a pair
 pub stores_pair : (texts new all : Texts) (found : List (List ℕ)) (piece : List ℕ) (more : List (List ℕ)) (key value : List ℕ)
     → found ≡ piece ∷ more → pair_of piece ≡ Some (key, value) → new ≡ update bytes_eq texts key (Some value)
@@ -66,12 +64,6 @@ stores_pair texts new all found piece more key value cut e put here =
     ap (λ t. stores t (pairs_in more)) put
     ∙ sym (ap (λ ps. stores texts (pairs_in ps)) cut ∙ ap (stores texts) (pairs_in-some piece more key value e))
     ∙ here
-
--- a piece without one
-pub stores_none : (texts all : Texts) (found : List (List ℕ)) (piece : List ℕ) (more : List (List ℕ))
-    → found ≡ piece ∷ more → pair_of piece ≡ None → stores texts (pairs_in found) ≡ all → stores texts (pairs_in more) ≡ all
-stores_none texts all found piece more cut e here =
-    sym (ap (λ ps. stores texts (pairs_in ps)) cut ∙ ap (stores texts) (pairs_in-none piece more e)) ∙ here
 
 pub pair_is : (found : String Global × String Global) (given : List ℕ × List ℕ) → string_bytes found.0 ≡ given.0 → string_bytes found.1 ≡ given.1
     → Some (pair found) ≡ Some given

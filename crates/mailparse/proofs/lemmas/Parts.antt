@@ -1,11 +1,10 @@
 -- Lemmas on the parts of a message, one after another, and on its reading.
-use Rattle.std.proofs.Common.{◌≡◌, ◌⊎◌, ℕ, zero, suc, ◌+◌, ◌-◌, ◌<◌, ◌≤◌, Bool, true, false, List, [], ◌∷◌, ◌++◌, length, map, take, drop, slice_range, Option, Some, None, option_map, Result, Ok, Err, refl, sym, ap, ◌∙◌, subst, ⊎_elim, arith, length-drop, length-append}
-use Rattle.std.specs.Prelude.{is_none, option_and_then, unwrap_or, codes, nat_lt, if◌then◌else◌}
-use Rattle.std.specs.Option.{option_map_or}
+use Rattle.std.proofs.Common.{◌≡◌, ◌⊎◌, ℕ, zero, suc, ◌+◌, ◌-◌, ◌<◌, ◌≤◌, Bool, true, false, List, [], ◌∷◌, ◌++◌, length, map, take, drop, slice_range, Option, Some, None, option_map, Ok, Err, refl, sym, ap, ◌∙◌, subst, ⊎_elim, arith, length-drop}
+use Rattle.std.specs.Prelude.{is_none, option_and_then, unwrap_or, codes, if◌then◌else◌}
 use Rattle.std.proofs.lemmas.Bool.{cases_lt, false≢true}
 use Rattle.mail_codec.specs.Charset.{four_charsets}
 use Rattle.mail_codec.specs.Places.{begins, stands, byte_place, least, values_below}
-use Rattle.mail_codec.proofs.lemmas.Places.{least-is, least-≤, least-before, least-passes}
+use Rattle.mail_codec.proofs.lemmas.Places.{least-is, least-before, least-passes}
 use Rattle.mailparse.specs.Refusal.{Refusal, Reads, read_map, read_then, recursion_limit}
 use Rattle.mailparse.specs.Header.{Header, is_line_feed}
 use Rattle.mailparse.specs.Block.{HeaderList, read_headers}
@@ -15,7 +14,7 @@ use Rattle.mailparse.specs.Delimiters.{delimiter_from, line_after, part_after, i
 use Rattle.mailparse.specs.Mail.{Node, Tree, tree, Forest, no_parts, part_and, forest, is_digest, delimiter_of, cut_of, node_with, read_each, read_parts, node_type, read_levels}
 use Rattle.mailparse.specs.private.DelimiterLines.{IsDelimiterLine}
 use Rattle.mailparse.proofs.lemmas.Block.{values_below-same}
-use Rattle.mailparse.proofs.lemmas.Places.{place_some}
+use Rattle.mail_codec.proofs.lemmas.WordSearches.{place_some}
 use Rattle.mailparse.proofs.lemmas.Delimiters.{somewhere, delimiter_from-out, is_delimiter-fits}
 
 -- ---- the ranges of the parts
@@ -24,7 +23,9 @@ use Rattle.mailparse.proofs.lemmas.Delimiters.{somewhere, delimiter_from-out, is
 pub line_after-bounds : (bytes : List ℕ) (p next : ℕ) → p ≤ length bytes → line_after bytes p ≡ Some next → (p < next) × (next ≤ length bytes)
 line_after-bounds bytes p next within e =
     let there = somewhere (λ k. suc (p + k)) next (byte_place (drop p bytes) 10) (sym e) in
-    let low = (place_some (begins is_line_feed) (drop p bytes) there.0 there.1).1 in
+    let found = place_some (begins is_line_feed) (drop p bytes) there.0 there.1 in
+    let place = found.0 in
+    let low = found.1 in
     let same = there.2 in
     let len = length-drop p bytes in
     (omega arith, omega arith)
@@ -54,10 +55,6 @@ next_part-bounds d bytes s next e = by_delimiter (delimiter_from d bytes s) refl
 part_start-more : (d bytes : List ℕ) (s j : ℕ) → part_start d bytes (Some s) (suc j) ≡ part_start d bytes (next_part d bytes s) j
 part_start-more d bytes s zero = refl
 part_start-more d bytes s (suc j) = ap (option_and_then (next_part d bytes)) (part_start-more d bytes s j)
-
-part_start-none : (d bytes : List ℕ) (j : ℕ) → part_start d bytes None j ≡ None
-part_start-none d bytes zero = refl
-part_start-none d bytes (suc j) = ap (option_and_then (next_part d bytes)) (part_start-none d bytes j)
 
 part_start-bounds : (d bytes : List ℕ) (s j p : ℕ) → s ≤ length bytes → part_start d bytes (Some s) j ≡ Some p → (s + j ≤ p) × (p ≤ length bytes)
 part_start-bounds d bytes s zero p within e = let same = unwrap e in (omega arith, omega arith)

@@ -29,7 +29,7 @@ pub cond_none : {A : Type 0} (b : Bool) → cond {A = Option A} b None None ≡ 
 cond_none true = refl
 cond_none false = refl
 
--- a name that is no key
+-- a name that is not a key
 pub part_none : (keys : Texts) (q : List ℕ) → keys q ≡ None → part_at four_charsets keys q ≡ extended_at four_charsets keys q
 unfolding part_at
 part_none keys q h =

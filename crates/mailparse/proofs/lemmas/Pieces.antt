@@ -1,7 +1,7 @@
 -- Lemmas on the pieces of a text.
-use Rattle.std.proofs.Common.{◌≡◌, ◌≢◌, ℕ, suc, ◌+◌, ◌<◌, ◌≤◌, Bool, true, false, cond, ◌||◌, eqb, List, [], ◌∷◌, ◌++◌, length, take, drop, get_or, refl, sym, ap, subst, ◌∙◌, append_assoc}
+use Rattle.std.proofs.Common.{◌≡◌, ◌≢◌, ℕ, suc, ◌+◌, ◌<◌, Bool, true, false, cond, ◌||◌, eqb, List, [], ◌∷◌, ◌++◌, length, take, drop, get_or, refl, sym, ap, subst, ◌∙◌, append_assoc}
 use Rattle.std.proofs.lemmas.Bool.{cond-true, cond-false, eqb-true, eqb-false, ne_eqb, false≢true}
-use Rattle.std.proofs.lemmas.List.{append-nil, drop_more, take_more, drop_all, take_all}
+use Rattle.std.proofs.lemmas.List.{append-nil, drop_more}
 use Rattle.mail_codec.specs.Ascii.{quote, semicolon, backslash}
 use Rattle.mail_codec.specs.Places.{begins, first_place}
 use Rattle.mailparse.specs.Pieces.{IsRunAfter, closing_quote, text_ends, lone_backslash, escaped_byte, plain_byte, IsPiece, piece_ends, other_byte, closed_run, open_run, ArePieces, last_piece, more_pieces, Within, outside, quoted, escaped, after, ends, with_front, pieces_from, pieces}
@@ -128,7 +128,7 @@ outside_by b bytes false es false eq are run =
     subst (ArePieces (b ∷ bytes)) (sym (at_other b bytes (eqb-false b quote eq) (eqb-false b semicolon es)))
     (front_other b (eqb-false b quote eq) (eqb-false b semicolon es) are)
 
--- a byte that is no backslash, in a quoted run
+-- a byte that is not a backslash, in a quoted run
 quoted_by : (b : ℕ) (bytes : List ℕ) → b ≢ backslash → (q : Bool) → eqb b quote ≡ q → ArePieces bytes (pieces_from outside bytes)
     → RunThen bytes (pieces_from quoted bytes) → RunThen (b ∷ bytes) (pieces_from quoted (b ∷ bytes))
 quoted_by b bytes s true eq are run =
@@ -180,16 +180,6 @@ with_front-nil w (b ∷ bytes) = go (ends w b) refl
 abbrev pub Reaches : List ℕ → ℕ → Within → Type 0
 Reaches text at w = pieces text ≡ with_front (take at text) (pieces_from w (drop at text))
 
-pub reaches_next : (text : List ℕ) (at : ℕ) (w : Within) (b : ℕ) → at < length text → b ≡ get_or text at 0 → false ≡ ends w b → Reaches text at w
-    → Reaches text (at + 1) (after w b)
-reaches_next text at w b lt is e here =
-    here
-    ∙ ap (λ x. with_front (take at text) (pieces_from w x)) (drop_more text at 0 lt ∙ ap (λ c. c ∷ drop (at + 1) text) (sym is))
-    ∙ ap (with_front (take at text)) (at_byte w b (drop (at + 1) text) (sym e))
-    ∙ with_front-append (take at text) (b ∷ []) (pieces_from (after w b) (drop (at + 1) text))
-    ∙ ap (λ x. with_front x (pieces_from (after w b) (drop (at + 1) text)))
-    (sym (take_more text at 0 lt ∙ ap (λ c. take at text ++ c ∷ []) (sym is)))
-
 pub reaches_semicolon : (text : List ℕ) (at : ℕ) (w : Within) (b : ℕ) → at < length text → b ≡ get_or text at 0 → true ≡ ends w b → Reaches text at w
     → pieces text ≡ take at text ∷ pieces (drop (at + 1) text)
 unfolding pieces
@@ -198,11 +188,6 @@ reaches_semicolon text at w b lt is e here =
     ∙ ap (λ x. with_front (take at text) (pieces_from w x)) (drop_more text at 0 lt ∙ ap (λ c. c ∷ drop (at + 1) text) (sym is))
     ∙ ap (with_front (take at text)) (at_end w b (drop (at + 1) text) (sym e))
     ∙ ap (λ p. p ∷ pieces_from outside (drop (at + 1) text)) (append-nil (take at text))
-
-pub reaches_end : (text : List ℕ) (at : ℕ) (w : Within) → length text ≤ at → Reaches text at w → pieces text ≡ text ∷ []
-reaches_end text at w past here =
-    here ∙ ap (λ x. with_front (take at text) (pieces_from w x)) (drop_all at text past)
-    ∙ ap (λ p. p ∷ []) (append-nil (take at text) ∙ take_all at text past)
 
 -- a byte that ends a piece is a semicolon
 pub semicolon_ends : (w : Within) (b : ℕ) → true ≡ ends w b → b ≡ semicolon

@@ -13,13 +13,13 @@ use Rattle.std.specs.Str.Lines.{lines, lines_of_parts}
 use Rattle.mail_codec.specs.Charset.{Charsets, four_charsets}
 use Rattle.mail_codec.specs.Latin1.{latin1_text}
 use Rattle.mail_codec.specs.Places.{first_place, begins, place}
-use Rattle.mailparse.specs.Tokens.{white_space, plain_text, begins_opening, is_white, opening, outside, last_group, no_opening}
+use Rattle.mailparse.specs.Tokens.{white_space, plain_text, begins_opening, is_white, opening, outside_range, last_group, no_opening}
 use Rattle.mailparse.specs.Refusal.{value_not_utf8}
 use Rattle.mailparse.proofs.lemmas.Value.{lenient-utf8}
 use Rattle.std.proofs.lemmas.Str.{IsUtf8-from_ascii}
-use Rattle.mailparse.specs.Value.{IsPlain, Token, token_of, outside_token, line_tokens, tokens_of_lines, value_tokens, shown_tokens, shown_after, shown_value, lenient_value, strict_value}
+use Rattle.mailparse.specs.Value.{IsPlain, token_of, outside_token, line_tokens, tokens_of_lines, value_tokens, shown_tokens, shown_after, shown_value, lenient_value, strict_value}
 use Rattle.mail_codec.proofs.lemmas.Places.{first_place-≤, first_place-passes, first_place-before, begins-at}
-use Rattle.mailparse.proofs.lemmas.Places.{place_none}
+use Rattle.mail_codec.proofs.lemmas.WordSearches.{place_none}
 use Rattle.mailparse.proofs.lemmas.Unfolding.{token_of-outside}
 use Rattle.mailparse.proofs.lemmas.Tokens.{token_ranges_only}
 
@@ -86,7 +86,7 @@ module _ (known : Charsets) where
   -- a line without `=?` is one token
   line_tokens-first : (line : List ℕ) → opening line 0 ≡ length line → line_tokens known line ≡ outside_token line ∷ []
   line_tokens-first line none =
-      ap (map (token_of known line)) (sym (token_ranges_only known line (outside line 0 (length line) ∷ []) (last_group (no_opening none))))
+      ap (map (token_of known line)) (sym (token_ranges_only known line (outside_range line 0 (length line) ∷ []) (last_group (no_opening none))))
       ∙ ap (λ t. t ∷ []) (token_of-outside known line 0 (length line)
       ∙ ap outside_token (ap (λ n. take n line) (sub-zero (length line)) ∙ take_all (length line) line (omega arith)))
 

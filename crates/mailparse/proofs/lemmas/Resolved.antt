@@ -10,7 +10,7 @@ use Rattle.std.specs.Option.{option_map_or, option_or}
 use Rattle.std.specs.Str.{bytes_eq}
 use Rattle.mail_codec.specs.Charset.{four_charsets}
 use Rattle.mailparse.specs.Continuations as joined
-use Rattle.mailparse.specs.Continuations.{extended_at, is_base, is_first_of, is_text, joined_at, names_of, parameters_of, part_at}
+use Rattle.mailparse.specs.Continuations.{is_base, is_first_of, is_text, joined_at, names_of, parameters_of, part_at}
 use Rattle.mailparse.specs.Pairs.{Texts, last_of, text_at}
 use Rattle.mailparse.specs.StarredKeys.{is_waiting, name_under, starred}
 use Rattle.mailparse.specs.private.Continuations.{names_in, names_of_parts}

@@ -9,7 +9,7 @@ use Rattle.std.proofs.Math.Nat.{sub-zero}
 use Rattle.mailparse.specs.EncodedWord.{word_text}
 use Rattle.mail_codec.specs.Charset.{Charsets}
 use Rattle.mail_codec.specs.Places.{stands, place_from}
-use Rattle.mailparse.specs.Tokens.{TokenRange, Group, IsGroup, no_opening, no_boundary, no_closing, decodes, stays_text, AreTokensFrom, last_group, next_group, AreTokens, begins_closing, opening, closing, boundary_before, outside, text_at, inside, group_at, group_of_opening, group_of_word, tokens_within, token_ranges, Adjoin, token_source}
+use Rattle.mailparse.specs.Tokens.{TokenRange, TokenGroup, IsGroup, no_opening, no_boundary, no_closing, decodes, stays_text, AreTokensFrom, last_group, next_group, AreTokens, begins_closing, opening, closing, boundary_before, outside_range, text_range, inside, group_at, group_of_opening, group_of_word, tokens_within, token_ranges, Adjoin, token_source}
 use Rattle.mail_codec.proofs.lemmas.Places.{place_from_bounds, place_from_passes}
 
 -- ---- how far a group goes
@@ -89,7 +89,7 @@ module _ (known : Charsets) where
   -- ---- the computed group
 
   group_at-none : (line : List ℕ) (s : ℕ) → opening line s ≡ length line
-      → group_at known line s ≡ record { tokens = outside line s (length line) ∷ []; next = None }
+      → group_at known line s ≡ record { tokens = outside_range line s (length line) ∷ []; next = None }
   unfolding group_at
   group_at-none line s e = cond-true _ _ _ (eq-eqb _ _ e)
 
@@ -101,15 +101,15 @@ module _ (known : Charsets) where
       ∙ ap (λ v. group_of_opening known line s v (closing line (v + 2))) e
 
   group_at-no_boundary : (line : List ℕ) (s v : ℕ) → opening line s ≡ v → v ≢ length line → boundary_before line v ≡ false
-      → group_at known line s ≡ record { tokens = text_at s (v + 2) ∷ []; next = Some (v + 2) }
+      → group_at known line s ≡ record { tokens = text_range s (v + 2) ∷ []; next = Some (v + 2) }
   group_at-no_boundary line s v e some out = group_at-some line s v e some ∙ cond-false _ _ _ out
 
   group_at-boundary : (line : List ℕ) (s v e : ℕ) → opening line s ≡ v → v ≢ length line → boundary_before line v ≡ true
       → closing line (v + 2) ≡ e
-      → group_at known line s ≡ cond (eqb e (length line)) (record { tokens = outside line s v ∷ text_at v (v + 2) ∷ []; next = Some (v + 2) }) (group_of_word known line s v e)
+      → group_at known line s ≡ cond (eqb e (length line)) (record { tokens = outside_range line s v ∷ text_range v (v + 2) ∷ []; next = Some (v + 2) }) (group_of_word known line s v e)
   group_at-boundary line s v e at some beside close =
       group_at-some line s v at some ∙ cond-true _ _ _ beside
-      ∙ ap (λ e. cond (eqb e (length line)) (record { tokens = outside line s v ∷ text_at v (v + 2) ∷ []; next = Some (v + 2) }) (group_of_word known line s v e)) close
+      ∙ ap (λ e. cond (eqb e (length line)) (record { tokens = outside_range line s v ∷ text_range v (v + 2) ∷ []; next = Some (v + 2) }) (group_of_word known line s v e)) close
 
   pub group_is : {line : List ℕ} {s : ℕ} {group : List TokenRange} {next : Option ℕ} → IsGroup known line s group next
       → group_at known line s ≡ record { tokens = group; next = next }
@@ -119,19 +119,19 @@ module _ (known : Charsets) where
       group_at-boundary line s v (length line) e some beside close ∙ cond-true (eqb (length line) (length line)) _ (group_of_word known line s v (length line)) (eq-eqb _ _ refl)
   group_is {line} {s} (decodes {v = v} {e = e} at some beside close more read) =
       group_at-boundary line s v e at some beside close ∙ cond-false _ _ _ (ne_eqb _ _ more)
-      ∙ ap (λ p. record { tokens = outside line s v ∷ p ∷ []; next = Some (e + 2) }) (cond-true _ _ _ read)
+      ∙ ap (λ p. record { tokens = outside_range line s v ∷ p ∷ []; next = Some (e + 2) }) (cond-true _ _ _ read)
   group_is {line} {s} (stays_text {v = v} {e = e} at some beside close more fails) =
       group_at-boundary line s v e at some beside close ∙ cond-false _ _ _ (ne_eqb _ _ more)
-      ∙ ap (λ p. record { tokens = outside line s v ∷ p ∷ []; next = Some (e + 2) }) (cond-false _ _ _ fails)
+      ∙ ap (λ p. record { tokens = outside_range line s v ∷ p ∷ []; next = Some (e + 2) }) (cond-false _ _ _ fails)
 
-  IsComputed : List ℕ → ℕ → Group → Type 0
+  IsComputed : List ℕ → ℕ → TokenGroup → Type 0
   IsComputed line s g = IsGroup known line s g.tokens g.next
 
   pub is_group : (line : List ℕ) (s : ℕ) → IsGroup known line s (group_at known line s).tokens (group_at known line s).next
   unfolding IsComputed
   is_group line s = by_opening (eqb_tells (opening line s) (length line))
     where
-      back : (g : Group) → group_at known line s ≡ g → IsComputed line s g → IsComputed line s (group_at known line s)
+      back : (g : TokenGroup) → group_at known line s ≡ g → IsComputed line s g → IsComputed line s (group_at known line s)
       back g e h = subst (IsComputed line s) (sym e) h
 
       v : ℕ
@@ -170,7 +170,7 @@ module _ (known : Charsets) where
 
   -- ---- the computed list
 
-  abbrev join : ℕ → List ℕ → Group → List TokenRange
+  abbrev join : ℕ → List ℕ → TokenGroup → List TokenRange
   join n line g = g.tokens ++ option_map_or (λ t. tokens_within known n line t) g.next []
 
   tokens_within-suc : (n : ℕ) (line : List ℕ) (s : ℕ) → tokens_within known (suc n) line s ≡ join n line (group_at known line s)

@@ -5,7 +5,7 @@ use Rattle.std.specs.Str.{str_to_ascii_lowercase}
 use Rattle.mail_codec.specs.Charset.{four_charsets}
 use Rattle.mailparse.specs.ContentType.{ContentType, content_type_in, content_type_of, charset_named}
 use Rattle.mailparse.specs.Continuations.{parameters_in}
-use Rattle.mailparse.specs.Disposition.{Disposition, Kind, kind_named, disposition_in, disposition_of}
+use Rattle.mailparse.specs.Disposition.{Disposition, Kind, disposition_named, disposition_in, disposition_of}
 use Rattle.mailparse.specs.Pairs.{Texts, pairs_of, value_of}
 use Rattle.mailparse.specs.Refusal.{Refusal}
 
@@ -24,12 +24,12 @@ type_is text value mimetype charset params is name same label =
     }))
 
 -- and a disposition by its kind and its parameters
-pub disposition_is : (text value : List ℕ) (kind : Kind) (params : Texts) → value ≡ value_of text → kind ≡ kind_named (str_to_ascii_lowercase value)
+pub disposition_is : (text value : List ℕ) (kind : Kind) (params : Texts) → value ≡ value_of text → kind ≡ disposition_named (str_to_ascii_lowercase value)
     → ((name : List ℕ) → params name ≡ parameters_in four_charsets (pairs_of text) name)
     → ◌≡◌ {A = Result Disposition Refusal} (Ok (disposition_of text)) (Ok (record { kind = kind; params = params }))
 unfolding disposition_in
 disposition_is text value kind params is named same =
     sym (λ i. Ok (record {
-      kind = (named ∙ ap (λ v. kind_named (str_to_ascii_lowercase v)) is) i;
+      kind = (named ∙ ap (λ v. disposition_named (str_to_ascii_lowercase v)) is) i;
       params = λ n. same n i;
     }))

@@ -7,7 +7,7 @@ use Rattle.std.specs.Str.{chars}
 use Rattle.std.specs.String.{string_bytes}
 use Rattle.mail_codec.specs.Charset.{Charsets}
 use Rattle.mailparse.specs.EncodedWord.{word_text}
-use Rattle.mailparse.specs.Tokens.{TokenKind, plain_text, white_space, line_end, decoded_word, TokenRange, IsGroup, AreTokensFrom, no_opening, no_boundary, no_closing, decodes, stays_text, last_group, next_group, opening, closing, begins_with_boundary, boundary_before, is_white, outside, text_at, word_at, inside}
+use Rattle.mailparse.specs.Tokens.{TokenKind, plain_text, white_space, line_end, decoded_word, TokenRange, IsGroup, AreTokensFrom, no_opening, no_boundary, no_closing, decodes, stays_text, last_group, next_group, opening, closing, begins_with_boundary, boundary_before, is_white, outside_range, text_range, word_range, inside}
 use Rattle.mailparse.specs.Value.{Token, is_word, is_white_space, is_held, is_released, kinds, newline, shown_after, shown_tokens, token_of, token_text, line_tokens, outside_token}
 use Rattle.mailparse.specs.declared.header.value.Held.{Held}
 use Rattle.mailparse.specs.declared.header.value.Held.TheVariants as held
@@ -175,7 +175,7 @@ ends_here value = ap (λ r. string_bytes value.text ++ r) (go value.held) ∙ ap
 -- Under the charsets that are known.
 module _ (known : Charsets) where
   -- what stands outside of all words shows itself
-  pub token_of-outside : (line : List ℕ) (s v : ℕ) → token_of known line (outside line s v) ≡ outside_token (slice_range line s v)
+  pub token_of-outside : (line : List ℕ) (s v : ℕ) → token_of known line (outside_range line s v) ≡ outside_token (slice_range line s v)
   token_of-outside line s v = go (is_white (slice_range line s v))
     where
       go : (t : Bool) → ◌≡◌ {A = Token}
@@ -214,18 +214,18 @@ module _ (known : Charsets) where
       → boundary_before line v ≡ false → bytes ≡ slice_range line s (v + 2) → Shows value (record { kind = plain_text; shown = bytes } ∷ []) new
       → Completes line s before value → Completes line (v + 2) before new
   step_no_boundary line s v before value new bytes at some out b shows all =
-      Completes_next line s (v + 2) (text_at s (v + 2) ∷ []) before value new (no_boundary at some out)
+      Completes_next line s (v + 2) (text_range s (v + 2) ∷ []) before value new (no_boundary at some out)
       (Shows-at value new _ _ (ap (λ b. record { kind = plain_text; shown = b } ∷ []) b) shows) all
 
   -- two tokens, the first of which stands outside of all words
   two_tokens : (line : List ℕ) (s v : ℕ) (value middle new : ShownValue) (first second : Token) (front : List ℕ) (range : TokenRange)
       → first ≡ outside_token front → front ≡ slice_range line s v → second ≡ token_of known line range
       → Shows value (first ∷ []) middle → Shows middle (second ∷ []) new
-      → Shows value (map (token_of known line) (outside line s v ∷ range ∷ [])) new
+      → Shows value (map (token_of known line) (outside_range line s v ∷ range ∷ [])) new
   two_tokens line s v value middle new first second front range p f q h i =
       Shows-at value new _ _
       (ap (λ t. t ∷ second ∷ []) (p ∙ ap outside_token f ∙ sym (token_of-outside line s v))
-      ∙ ap (λ t. token_of known line (outside line s v) ∷ t ∷ []) q)
+      ∙ ap (λ t. token_of known line (outside_range line s v) ∷ t ∷ []) q)
       (Shows-two value middle new first second h i)
 
   -- a `=?` that no `?=` follows
@@ -235,8 +235,8 @@ module _ (known : Charsets) where
       → Shows value (first ∷ []) middle → Shows middle (record { kind = plain_text; shown = bytes } ∷ []) new
       → Completes line s before value → Completes line (v + 2) before new
   step_no_closing line s v before value middle new first front bytes at some beside close p f b h i all =
-      Completes_next line s (v + 2) (outside line s v ∷ text_at v (v + 2) ∷ []) before value new (no_closing at some beside close)
-      (two_tokens line s v value middle new first _ front (text_at v (v + 2)) p f (ap (λ b. record { kind = plain_text; shown = b }) b) h i) all
+      Completes_next line s (v + 2) (outside_range line s v ∷ text_range v (v + 2) ∷ []) before value new (no_closing at some beside close)
+      (two_tokens line s v value middle new first _ front (text_range v (v + 2)) p f (ap (λ b. record { kind = plain_text; shown = b }) b) h i) all
 
   -- a word that decodes
   pub step_decoded : (line : List ℕ) (s v e : ℕ) (before value middle new : ShownValue) (first : Token) (front inner shown : List ℕ)
@@ -247,8 +247,8 @@ module _ (known : Charsets) where
   step_decoded line s v e before value middle new first front inner shown at some beside close more p f i w h k all =
       let text : word_text known (inside line v e) ≡ Some shown = ap (word_text known) (sym i) ∙ w in
       let end : e + 2 - 2 ≡ e = omega arith in
-      Completes_next line s (e + 2) (outside line s v ∷ word_at v e ∷ []) before value new (decodes at some beside close more (ap is_some text))
-      (two_tokens line s v value middle new first _ front (word_at v e) p f
+      Completes_next line s (e + 2) (outside_range line s v ∷ word_range v e ∷ []) before value new (decodes at some beside close more (ap is_some text))
+      (two_tokens line s v value middle new first _ front (word_range v e) p f
       (sym (ap (λ n. record { kind = decoded_word; shown = unwrap_or (word_text known (inside line v n)) [] }) end
       ∙ ap (λ o. record { kind = decoded_word; shown = unwrap_or o [] }) text)) h k) all
 
@@ -260,14 +260,14 @@ module _ (known : Charsets) where
       → Shows value (first ∷ []) middle → Shows middle (record { kind = plain_text; shown = bytes } ∷ []) new
       → Completes line s before value → Completes line (e + 2) before new
   step_stays line s v e before value middle new first front inner bytes at some beside close more p f i w b h k all =
-      Completes_next line s (e + 2) (outside line s v ∷ text_at v (e + 2) ∷ []) before value new
+      Completes_next line s (e + 2) (outside_range line s v ∷ text_range v (e + 2) ∷ []) before value new
       (stays_text at some beside close more (ap (λ i. is_some (word_text known i)) (sym i) ∙ ap is_some w))
-      (two_tokens line s v value middle new first _ front (text_at v (e + 2)) p f (ap (λ b. record { kind = plain_text; shown = b }) b) h k) all
+      (two_tokens line s v value middle new first _ front (text_range v (e + 2)) p f (ap (λ b. record { kind = plain_text; shown = b }) b) h k) all
 
   -- no `=?` is left
   pub step_last : (line : List ℕ) (s : ℕ) (before value new : ShownValue) (first : Token) (front : List ℕ) → opening line s ≡ length line
       → first ≡ outside_token front → front ≡ slice_range line s (length line) → Shows value (first ∷ []) new
       → Completes line s before value → Shows before (line_tokens known line) new
   step_last line s before value new first front none p f h all =
-      Completes_last line s (outside line s (length line) ∷ []) before value new (no_opening none)
+      Completes_last line s (outside_range line s (length line) ∷ []) before value new (no_opening none)
       (Shows-at value new _ _ (ap (λ t. t ∷ []) (p ∙ ap outside_token f ∙ sym (token_of-outside line s (length line)))) h) all

@@ -65,7 +65,7 @@ in_found keys (e ∷ entries) w h =
         record { entry = inl (ap (λ key. (key, e.1)) some.0); none = some.1; charset = refl } in
         ⊎_elim (λ same. subst (λ x. IsFound keys (e ∷ entries) x) (sym same) made) (λ n. absurd n) (subst (λ xs. In w xs) some.2 i)
 
--- an entry whose key is a name with a star, where the name is no key
+-- an entry whose key is a name with a star, where the name is not a key
 pub found_in : (keys : Texts) (entries : List (List ℕ × List ℕ)) (name value : List ℕ) → In (starred name, value) entries → is_some (keys name) ≡ false
     → In (name, value, charset_of_label (label_in value)) (waiting_entries keys entries)
 found_in keys [] name value h none = absurd h

@@ -52,7 +52,7 @@ waiting_view w = (w.name.now, w.value.now, w.charset)
 abbrev pub star_taken : List ℕ → Option (List ℕ)
 star_taken key = if is_starred key then Some (name_under key) else None
 
--- the name of an entry, if its key ends in a star and the name is no key
+-- the name of an entry, if its key ends in a star and the name is not a key
 abbrev pub found_at : Texts → List ℕ × List ℕ → List Found
 found_at keys e =
     if is_starred e.0 && not (is_some (keys (name_under e.0)))

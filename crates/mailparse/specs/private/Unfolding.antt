@@ -1,8 +1,8 @@
 -- What a reader of a value has made of the tokens so far, and what it holds back until it has seen the next ones; private to the
 -- reader of values.
-use Rattle.std.specs.Prelude.{◌≡◌, ℕ, Bool, true, false, List, [], ◌∷◌, ◌++◌, Some, None, string_bytes, if◌then◌else◌}
+use Rattle.std.specs.Prelude.{◌≡◌, ℕ, List, [], ◌∷◌, ◌++◌, Some, None, string_bytes, if◌then◌else◌}
 use Rattle.mail_codec.specs.Ascii.{space}
-use Rattle.mailparse.specs.Tokens.{TokenKind, plain_text, white_space, line_end, decoded_word}
+use Rattle.mailparse.specs.Tokens.{plain_text, white_space, line_end, decoded_word}
 use Rattle.mailparse.specs.Value.{Token, kinds, is_released, newline, shown_after}
 use Rattle.mailparse.specs.declared.header.value.Held.{Held}
 use Rattle.mailparse.specs.declared.header.value.Held.TheVariants as held

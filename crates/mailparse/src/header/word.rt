@@ -34,8 +34,8 @@ fn with_spaces(alloc: Global, encoded: &str) -> Result<String, AllocError>
     Ok(text)
 }
 
-/// The bytes of an encoded text under `Q`: quoted-printable with a space for each `_`, where white at
-/// the end stays.
+/// The bytes of an encoded text under `Q`: quoted-printable with a space for each `_`, where white
+/// at the end stays.
 fn decode_q(alloc: Global, encoded: &str) -> Result<Vec<u8>, AllocError>
     ensures { IfOk result (λ bytes. bytes.items ≡ bytes_of_q encoded.now) }
 {

@@ -12,8 +12,8 @@ use std::alloc::Global;
 /// Reads the headers at the front of `raw` up to the blank line that ends them, or to the end of
 /// input, and tells the offset just after the blank line (RFC 5322, section 2.1).
 ///
-/// A blank line is LF or CR LF. Refuses a header that begins with a space and a CR without LF
-/// where a header or the blank line is wanted, and otherwise only where memory runs out. It takes memory
+/// A blank line is LF or CR LF. Refuses a header that begins with a space and a CR without LF where
+/// a header or the blank line is wanted, and otherwise only where memory runs out. It takes memory
 /// for the list of headers alone: before the first header nothing but those two is refused.
 ///
 /// `parse_headers(alloc, b"Subject: Hi\n\nbody")` is one header, and 13.

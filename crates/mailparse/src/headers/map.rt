@@ -14,7 +14,8 @@ use std::alloc::Global;
 /// A list of headers, in the order of the message, that is looked up by name.
 ///
 /// A name is compared with the text of a whole key, one character for each byte, ignoring ASCII
-/// case and nothing else: a space before the colon belongs to the key (RFC 5322, section 2.2).
+/// case and nothing else (after RFC 5322, section 1.2.2): a space before the colon belongs to the
+/// key.
 pub trait MailHeaderMap {
     ghost use Rattle.mailparse.specs.Header.{Header};
     // The headers that the map has now.
@@ -31,8 +32,8 @@ pub trait MailHeaderMap {
             (Ok (first_value key.now (present self.now))) }
         ensures no_memory { IsNone (first_with_key key.now (present self.now)) → IsOk result };
 
-    /// The values of all headers with this name, by `get_value`, in the order of the message. Without
-    /// one it takes no memory and succeeds; otherwise the one error is that memory ran out.
+    /// The values of all headers with this name, by `get_value`, in the order of the message.
+    /// Without one it takes no memory and succeeds; otherwise the one error is that memory ran out.
     fn get_all_values(&self, alloc: Global, key: &str) -> Result<Vec<String>, MailParseError>
         ensures found { GivesTexts result (all_values key.now (present self.now)) }
         ensures no_memory { IsNone (first_with_key key.now (present self.now)) → IsOk result };
@@ -161,8 +162,8 @@ fn all_headers<'h>(
     Ok(found)
 }
 
-/// Whether the bytes of a key are the characters of the name, ignoring ASCII case. Where the name is
-/// ASCII, as nearly every name is, they are compared as bytes.
+/// Whether the bytes of a key are the characters of the name, ignoring ASCII case. Where the name
+/// is ASCII, as nearly every name is, they are compared as bytes.
 fn is_key(key: &[u8], name: &str) -> bool
     ensures { result ≡ str_eq_ignore_ascii_case (latin1_text key.now) name.now }
 {

@@ -20,7 +20,8 @@ fn pair(alloc: Global, piece: &str) -> Result<Option<(String, String)>, AllocErr
     Ok(Some((key, unescape(alloc, value.trim())?)))
 }
 
-/// The pairs of the pieces after a semicolon, if there is one, by key; of equal keys the last stays.
+/// The pairs of the pieces after a semicolon, if there is one, by key; of equal keys the last
+/// stays.
 pub(crate) fn pairs(
     alloc: Global,
     rest: Option<&str>,

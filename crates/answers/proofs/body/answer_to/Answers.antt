@@ -1,4 +1,4 @@
-use Rattle.answers.proofs.LineLemmas.{body_holds}
+use Rattle.answers.proofs.lemmas.Lines.{body_holds}
 use Rattle.answers.proofs.body.answer_to.Goals as goal
 
 pub returns : goal.returns

@@ -1,4 +1,4 @@
-use Rattle.answers.proofs.LineLemmas.{joined_line}
+use Rattle.answers.proofs.lemmas.Lines.{joined_line}
 use Rattle.answers.proofs.body.line_on.Goals as goal
 
 pub returns : goal.returns

@@ -1,5 +1,5 @@
 use Rattle.std.proofs.Common.{subst}
-use Rattle.answers.proofs.ReadingLemmas.{same_text, encoded_fields, plain_fields, plain_7bit, plain_8bit, plain_binary}
+use Rattle.answers.proofs.lemmas.Readings.{same_text, encoded_fields, plain_fields, plain_7bit, plain_8bit, plain_binary}
 use Rattle.mailparse.specs.Body.{in_quoted_printable, in_7bit, in_8bit, in_binary}
 use Rattle.mailparse.specs.BodyViews.{IsBody}
 use Rattle.answers.proofs.body.push_reading.Goals as goal

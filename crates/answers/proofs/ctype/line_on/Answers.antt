@@ -1,4 +1,4 @@
-use Rattle.answers.proofs.TypeLemmas.{ctype_holds}
+use Rattle.answers.proofs.lemmas.Types.{ctype_holds}
 use Rattle.answers.proofs.ctype.line_on.Goals as goal
 
 pub returns : goal.returns

@@ -1,4 +1,4 @@
-use Rattle.answers.proofs.LineLemmas.{date_holds}
+use Rattle.answers.proofs.lemmas.Lines.{date_holds}
 use Rattle.answers.proofs.date.answer_to.Goals as goal
 
 pub returns : goal.returns

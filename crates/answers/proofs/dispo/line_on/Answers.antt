@@ -1,4 +1,4 @@
-use Rattle.answers.proofs.TypeLemmas.{dispo_holds}
+use Rattle.answers.proofs.lemmas.Types.{dispo_holds}
 use Rattle.answers.proofs.dispo.line_on.Goals as goal
 
 pub returns : goal.returns

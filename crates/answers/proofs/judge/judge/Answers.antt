@@ -1,6 +1,6 @@
 use Rattle.std.proofs.Common.{sym, ◌∙◌}
 use Rattle.std.proofs.lemmas.Slice.Eq.{bytes_eq-Decides}
-use Rattle.answers.proofs.LineLemmas.{equal_holds}
+use Rattle.answers.proofs.lemmas.Lines.{equal_holds}
 use Rattle.answers.proofs.judge.judge.Goals as goal
 
 pub returns-then-eq : goal.returns-then-eq

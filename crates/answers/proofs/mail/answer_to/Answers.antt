@@ -1,4 +1,4 @@
-use Rattle.answers.proofs.MailLemmas.{mail_holds}
+use Rattle.answers.proofs.lemmas.MailLines.{mail_holds}
 use Rattle.answers.proofs.mail.answer_to.Goals as goal
 
 pub returns : goal.returns

@@ -1,5 +1,5 @@
 use Rattle.std.proofs.lemmas.Result.{on_ok_weaker}
-use Rattle.answers.proofs.MailLemmas.{joined_body}
+use Rattle.answers.proofs.lemmas.MailLines.{joined_body}
 use Rattle.answers.proofs.mail.push_body.Goals as goal
 
 pub returns : goal.returns

@@ -1,7 +1,7 @@
 use Rattle.std.proofs.Common.{◌∙◌}
 use Rattle.std.proofs.lemmas.Result.{on_ok_weaker}
 use Rattle.mailparse.specs.declared.mail.ParsedMail.TheViews.{out-ParsedMail}
-use Rattle.answers.proofs.MailLemmas.{joined_one}
+use Rattle.answers.proofs.lemmas.MailLines.{joined_one}
 use Rattle.answers.proofs.mail.push_one.Goals as goal
 
 pub returns : goal.returns

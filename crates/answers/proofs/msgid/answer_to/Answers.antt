@@ -1,4 +1,4 @@
-use Rattle.answers.proofs.LineLemmas.{msgid_holds}
+use Rattle.answers.proofs.lemmas.Lines.{msgid_holds}
 use Rattle.answers.proofs.msgid.answer_to.Goals as goal
 
 pub returns : goal.returns

@@ -1,4 +1,4 @@
-use Rattle.answers.proofs.ParamLemmas.{bytes_in_order, first_written}
+use Rattle.answers.proofs.lemmas.Params.{bytes_in_order, first_written}
 use Rattle.answers.proofs.params.push_params.Goals as goal
 
 pub loop-name-init : goal.loop-name-init

@@ -1,6 +1,6 @@
 use Rattle.std.proofs.Common.{IsTrue, subst}
 use Rattle.answers.specs.Holds.{Holds}
-use Rattle.answers.proofs.ReplayLemmas.{continues_after, continues_to_end, not_both}
+use Rattle.answers.proofs.lemmas.Replay.{continues_after, continues_to_end, not_both}
 use Rattle.answers.proofs.replay.replay.Goals.{then-all_agree, else-all_agree}
 use Rattle.answers.proofs.replay.replay.Goals as goal
 

@@ -1,6 +1,6 @@
 use Rattle.std.proofs.Common.{IsTrue}
 use Rattle.std.specs.Io.Iter.{lines_known_bytes}
-use Rattle.answers.proofs.ReplayLemmas.{Continues}
+use Rattle.answers.proofs.lemmas.Replay.{Continues}
 use Rattle.answers.proofs.replay.replay.Given as goal
 
 -- as long as each line agrees, the whole list holds where what is left of it does

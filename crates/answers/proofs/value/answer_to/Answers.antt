@@ -1,4 +1,4 @@
-use Rattle.answers.proofs.LineLemmas.{value_holds}
+use Rattle.answers.proofs.lemmas.Lines.{value_holds}
 use Rattle.answers.proofs.value.answer_to.Goals as goal
 
 pub returns : goal.returns

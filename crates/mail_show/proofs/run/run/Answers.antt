@@ -3,7 +3,7 @@ use Rattle.std.proofs.lemmas.Result.{err_from_is_err_and}
 use Rattle.mailparse.specs.Mail.{read_mail}
 use Rattle.mailparse.specs.Outcome.{IsRefusalOrMemory}
 use Rattle.mailparse.specs.Views.{tree_of}
-use Rattle.mail_show.proofs.RunLemmas.{run-refused, run-shown, text-of_ok, OnOk-at}
+use Rattle.mail_show.proofs.lemmas.Run.{run-refused, run-shown, text-of_ok, OnOk-at}
 use Rattle.mail_show.proofs.run.run.Goals as goal
 
 pub returns-in_err-parsed-clause-refused : goal.returns-in_err-parsed-clause-refused

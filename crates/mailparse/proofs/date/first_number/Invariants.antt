@@ -1,4 +1,4 @@
--- The words before the rest are no numbers.
+-- The words before the rest are not numbers.
 use Rattle.std.proofs.Common.{◌≡◌, length}
 use Rattle.std.specs.Str.{IsUtf8}
 use Rattle.mailparse.specs.Date.{date_words, words}

@@ -1,6 +1,6 @@
-use Rattle.std.proofs.Common.{◌≡◌, ℕ, List, None, Some, suc, ◌+◌, ◌<◌, ◌≤◌, min, take, length, slice_range, zero-add, sym, ap, ◌∙◌, arith, refl}
-use Rattle.mail_codec.specs.Places.{begins, place, place_from, first_place}
-use Rattle.mailparse.specs.Header.{Header, is_line_feed, ends_header, has_colon, key_end, header_end, header_of, header_length}
+use Rattle.std.proofs.Common.{◌≡◌, ℕ, None, Some, take, zero-add, sym, ap, ◌∙◌, arith, refl}
+use Rattle.mail_codec.specs.Places.{begins, place, place_from}
+use Rattle.mailparse.specs.Header.{Header, is_line_feed, ends_header, header_end}
 use Rattle.mail_codec.proofs.lemmas.Places.{place_from_same}
 use Rattle.mailparse.proofs.lemmas.Header.{first_feed, is_colon, key_of_line, key_of_colon, header_end-key, header_end-from_feed, header_length-at, header_of-key, header_of-value}
 use Rattle.mailparse.proofs.header.parse.cut_header.Goals as goal

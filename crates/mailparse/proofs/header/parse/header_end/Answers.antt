@@ -1,8 +1,8 @@
-use Rattle.std.proofs.Common.{◌≡◌, ◌+◌, ◌≤◌, true, false, drop, length, sym, ◌∙◌, arith}
+use Rattle.std.proofs.Common.{◌≡◌, ◌+◌, true, false, drop, sym, ◌∙◌, arith}
 use Rattle.mail_codec.specs.Places.{begins}
 use Rattle.mailparse.specs.Header.{is_blank, is_line_feed, ends_header}
 use Rattle.mailparse.proofs.lemmas.Places.{place_from_via}
-use Rattle.mailparse.proofs.lemmas.Header.{ends_header_is_feed, header_end-continued, header_end-here, header_end-past}
+use Rattle.mailparse.proofs.lemmas.Header.{ends_header_is_feed, header_end-continued, header_end-here}
 use Rattle.mailparse.proofs.header.parse.header_end.Goals as goal
 
 pub loop-end-preserved : goal.loop-end-preserved

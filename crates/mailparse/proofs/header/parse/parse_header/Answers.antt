@@ -1,5 +1,5 @@
 use Rattle.std.proofs.Common.{◌≡◌, ◌<◌, length, arith, ap, sym, ◌∙◌, Ok, rules}
-use Rattle.mailparse.specs.Header.{header_length, header_of}
+use Rattle.mailparse.specs.Header.{header_length}
 use Rattle.mailparse.proofs.lemmas.Header.{read_header-empty, read_header-space, read_header-ok, header_length-≤, header_length->}
 use Rattle.mailparse.proofs.header.parse.parse_header.Goals as goal
 

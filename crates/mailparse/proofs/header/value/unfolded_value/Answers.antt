@@ -1,8 +1,7 @@
-use Rattle.std.proofs.Common.{◌≡◌, true, false, eqb, length, List, [], ◌++◌, ap, sym, subst, ◌∙◌, refl}
+use Rattle.std.proofs.Common.{◌≡◌, true, false, eqb, length, [], ◌++◌, ap, sym, subst, ◌∙◌, refl}
 use Rattle.std.proofs.lemmas.List.{append-nil}
 use Rattle.std.proofs.lemmas.Iterator.Consumers.{YieldsList-end}
 use Rattle.std.proofs.lemmas.Iterator.Splits.{YieldsList-from_lines}
-use Rattle.std.specs.String.{string_bytes}
 use Rattle.mail_codec.specs.Charset.{four_charsets}
 use Rattle.mailparse.specs.Value.{shown_tokens, shown_value, value_tokens, tokens_of_lines, line_tokens}
 use Rattle.mailparse.specs.declared.header.value.Held.TheVariants as held

@@ -1,5 +1,5 @@
-use Rattle.std.proofs.Common.{◌≡◌, ◌+◌, ◌++◌, ◌∷◌, [], Ok, length, drop, rules, ap, ◌∙◌, arith, length-append}
-use Rattle.std.proofs.lemmas.List.{take_rest, map-append, length-map}
+use Rattle.std.proofs.Common.{◌≡◌, ◌+◌, ◌∷◌, [], Ok, length, drop, rules, ap, ◌∙◌, arith, length-append}
+use Rattle.std.proofs.lemmas.List.{take_rest}
 use Rattle.std.proofs.lemmas.Result.{err_from_is_err_and}
 use Rattle.mailparse.specs.Header.{read_header}
 use Rattle.mailparse.specs.Block.{read_headers, block_end}

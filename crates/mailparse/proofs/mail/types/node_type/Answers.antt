@@ -1,7 +1,6 @@
-use Rattle.std.proofs.Common.{ℕ, List, Ok, ap, sym, ◌∙◌, subst}
+use Rattle.std.proofs.Common.{Ok, ap, sym, ◌∙◌, subst}
 use Rattle.std.specs.Option.{option_copied}
-use Rattle.mail_codec.specs.Charset.{four_charsets}
-use Rattle.mailparse.specs.ContentType.{ContentType, content_type_in}
+use Rattle.mailparse.specs.ContentType.{ContentType}
 use Rattle.mailparse.specs.Outcome.{AnswersOrMemory}
 use Rattle.mailparse.specs.Views.{content_type}
 use Rattle.mailparse.proofs.lemmas.NodeType.{node_type-some, node_type-none}

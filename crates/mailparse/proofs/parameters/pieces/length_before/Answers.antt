@@ -1,6 +1,6 @@
 use Rattle.std.proofs.Common.{eqb, sym, ◌∙◌}
 use Rattle.mail_codec.specs.Places.{begins}
-use Rattle.mailparse.proofs.lemmas.Places.{place_none}
+use Rattle.mail_codec.proofs.lemmas.WordSearches.{place_none}
 use Rattle.mailparse.proofs.parameters.pieces.length_before.Goals as goal
 
 pub returns-in-None-clause-least : goal.returns-in-None-clause-least

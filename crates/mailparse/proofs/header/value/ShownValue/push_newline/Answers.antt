@@ -1,12 +1,10 @@
-use Rattle.std.proofs.Common.{◌≡◌, ◌≢◌, ℕ, List, ◌++◌, ◌∷◌, [], ◌∙◌, ap, sym, refl, ⊎_elim}
+use Rattle.std.proofs.Common.{◌≢◌, ℕ, List, ◌∷◌, [], ◌∙◌, ap, sym, ⊎_elim}
 use lib.Utf8.{encode}
 use Rattle.std.specs.Borrow.{Bor}
 use Rattle.std.specs.String.{string_bytes}
-use Rattle.mailparse.specs.declared.header.value.Held.{Held}
 use Rattle.mailparse.specs.declared.header.value.Held.TheVariants as held
 use Rattle.mailparse.specs.Value.{newline}
-use Rattle.mailparse.specs.private.Unfolding.{released}
-use Rattle.mailparse.proofs.lemmas.Unfolding.{on_push, shown_of, holds_line_end, holds_white_line_end, takes_line_end}
+use Rattle.mailparse.proofs.lemmas.Unfolding.{shown_of, holds_line_end, holds_white_line_end, takes_line_end}
 use Rattle.mailparse.proofs.header.value.ShownValue.push_newline.Goals as goal
 
 pub returns-in-Word : goal.returns-in-Word

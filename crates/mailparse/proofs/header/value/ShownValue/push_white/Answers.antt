@@ -1,9 +1,6 @@
-use Rattle.std.proofs.Common.{◌≡◌, ◌≢◌, ℕ, List, ◌++◌, ◌∷◌, [], ◌∙◌, ap, sym}
-use Rattle.std.specs.Borrow.{Bor}
+use Rattle.std.proofs.Common.{[], ◌∙◌, ap, sym}
 use Rattle.std.specs.String.{string_bytes}
-use Rattle.mailparse.specs.declared.header.value.Held.{Held}
 use Rattle.mailparse.specs.declared.header.value.Held.TheVariants as held
-use Rattle.mailparse.specs.private.Unfolding.{released}
 use Rattle.mailparse.proofs.lemmas.Unfolding.{on_push, shown_of, takes_white}
 use Rattle.mailparse.proofs.header.value.ShownValue.push_white.Goals as goal
 

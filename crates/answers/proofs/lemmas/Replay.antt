@@ -11,11 +11,6 @@ Continues None left = Unit {0}
 Continues (Some all) None = ⊥
 Continues (Some all) (Some left) = ListHolds left → ListHolds all
 
--- at first all is left
-pub continues_all : (all left : Option (List ℕ)) → left ≡ all → Continues all left
-continues_all None left e = tt
-continues_all (Some all) left e = subst (Continues (Some all)) (sym e) (λ h. h)
-
 -- a line was read, which holds
 pub continues_after : {E : Type 0} (all old new : Option (List ℕ)) (item : Result (String Global) E) (line : String Global)
     → IfOk item (λ x. IfSome old (λ xs. (0 < length xs) × (string_bytes x ≡ first_line xs)) × DropsThrough old new 10)

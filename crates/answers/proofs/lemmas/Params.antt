@@ -1,5 +1,5 @@
 -- Lemmas on the parameters that a line lists.
-use Rattle.std.proofs.Common.{◌≡◌, ℕ, Bool, true, false, cond, List, [], ◌∷◌, ◌++◌, codes, flat_map, map, Option, Some, None, option_map, String, string_bytes, refl, sym, ap, subst, ◌∙◌, append_assoc}
+use Rattle.std.proofs.Common.{◌≡◌, ℕ, Bool, true, false, cond, List, [], ◌∷◌, ◌++◌, codes, flat_map, map, Option, Some, option_map, String, string_bytes, refl, append_assoc}
 use Rattle.std.proofs.lemmas.Map.Text.{is_eq-slice_cmp}
 use Rattle.std.specs.BTreeMap.{is_at}
 use Rattle.std.specs.Cmp.Lexicographic.{slice_cmp}
@@ -11,7 +11,7 @@ use Rattle.std.specs.Ordering.{nat_cmp}
 use Rattle.std.specs.declared.cmp.Ordering.TheVariants.{Less}
 use Rattle.std.specs.Str.{bytes_eq}
 use Rattle.std.specs.String.{string_cmp}
-use Rattle.answers.specs.Params.{AreInOrder, Lists, entry_pair, map_pairs, pair_field, pairs_field, texts_of}
+use Rattle.answers.specs.Params.{AreInOrder, entry_pair, pair_field, pairs_field, texts_of}
 
 -- a look-up among entries finds what one among their bytes finds
 pub same_texts : (entries : List (String Global × String Global)) (name : List ℕ)

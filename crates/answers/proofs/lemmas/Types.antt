@@ -1,5 +1,5 @@
 -- Lemmas on lines on types and on dispositions.
-use Rattle.std.proofs.Common.{◌≡◌, ℕ, List, ◌++◌, Result, Ok, sym, ap, subst, ◌∙◌}
+use Rattle.std.proofs.Common.{◌≡◌, ℕ, List, ◌++◌, Result, Ok, ap, subst, ◌∙◌}
 use Rattle.mailparse.specs.ContentType.{ContentType, content_type_of}
 use Rattle.mailparse.specs.Disposition.{Disposition, disposition_of}
 use Rattle.mailparse.specs.Views.{content_type, disposition}
@@ -9,7 +9,7 @@ use Rattle.mailparse.specs.declared.disposition.ParsedContentDisposition.{Parsed
 use Rattle.answers.specs.Holds.{Holds, of_ctype, of_dispo}
 use Rattle.answers.specs.Lines.{ctype_fields, ctype_question, dispo_fields, dispo_question}
 use Rattle.answers.specs.Params.{AreInOrder, map_pairs}
-use Rattle.answers.proofs.ParamLemmas.{same_texts}
+use Rattle.answers.proofs.lemmas.Params.{same_texts}
 
 -- the type that is the answer
 same_type : {given found : ContentType} → ◌≡◌ {A = Result ContentType Refusal} (Ok given) (Ok found) → found ≡ given

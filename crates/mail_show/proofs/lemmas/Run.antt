@@ -51,7 +51,7 @@ run-shown (Some all) left held_before held_written held input text mail read e i
     let same : shown all ≡ Ok text = shown-ok all mail (ap read_mail (sym read.1) ∙ e) ∙ ap (λ t. Ok t) (sym is_text) in
     record { read = read.0; wrote = (text, same, Appends-kept held_before held_written held text wrote kept) }
 
--- what holds of a result that is no error
+-- what holds of a result that is not an error
 pub OnOk-at : {T E : Type 0} (P : Type 0) (r : Result T E) → is_err r ≡ false → OnOk r P → P
 OnOk-at P (Ok x) e h = h
 OnOk-at P (Err d) e h = absurd (differ e)
