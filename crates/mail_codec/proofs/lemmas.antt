@@ -16,6 +16,8 @@ pub mod Base64Groups
 pub mod Base64Steps
 pub mod Padding
 pub mod Base64Law
+pub mod Written
+pub mod QuotedPrintableDigits
 pub mod QuotedPrintableEscapes
 pub mod QuotedPrintableLines
 pub mod QuotedPrintableLaw

@@ -3,7 +3,7 @@ ghost use Rattle.std.specs.Prelude.{◌≡◌, IfOk};
 ghost use Rattle.mail_codec.specs.Places.{byte_place, text_place, without_ascii_whitespace};
 
 pub(crate) mod runs;
-mod words;
+pub(crate) mod words;
 
 use runs::{RunEnd, may_end_len, push_runs};
 use std::alloc::{AllocError, Global};

@@ -28,7 +28,7 @@ map_agree f g n same [] low = refl
 map_agree f g n same (b ∷ bs) low = ap₂ (λ x y. x ∷ y) (same b (low 0 (omega arith))) (map_agree f g n same bs (λ k h. low (suc k) (suc-le-suc h)))
 
 -- what the test finds
-agree : (f g : ℕ → ℕ) (n : ℕ) → agree_below f g n ≡ true → (b : ℕ) → b < n → f b ≡ g b
+pub agree : (f g : ℕ → ℕ) (n : ℕ) → agree_below f g n ≡ true → (b : ℕ) → b < n → f b ≡ g b
 agree f g n = (Decides-below_and (λ k. f k == g k) (λ k. f k ≡ g k) (agree_below f g) (λ k. Decides-eqb (f k) (g k)) refl (λ _. refl) n).0
 
 -- each high half gives, of each byte, the character of its charset

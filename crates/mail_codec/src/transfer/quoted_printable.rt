@@ -1,10 +1,35 @@
 //! Quoted-printable, over bytes (RFC 2045, section 6.7).
-ghost use Rattle.std.specs.Prelude.{◌≡◌, ◌+◌, ◌<◌, ◌≤◌, ◌-◌, ◌++◌, length, drop, slice_index, IfOk, OnOk, OnSome, IfSome};
+ghost use Rattle.std.specs.Prelude.{◌≡◌, ◌==◌, ◌+◌, ◌<◌, ◌≤◌, ◌-◌, length, take, drop, slice_index, IfOk, OnSome, IfSome};
 ghost use Rattle.std.specs.List.{suffix_len};
+ghost use Rattle.mail_codec.specs.Places.{begins, first_place};
 ghost use Rattle.mail_codec.specs.QuotedPrintable.{digit_value, ended_line, first_escape, is_blank, line_bytes, quoted_printable, unescaped};
 
 use crate::bytescan::runs::{RunEnd, run_len};
+use crate::bytescan::words::{equal_mask, first_marked};
 use std::alloc::{AllocError, Global};
+
+/// What stands in the table for a byte that is no digit.
+const NO_DIGIT: u8 = 0xFF;
+
+/// The value of each byte that is a hexadecimal digit, of either case.
+static DIGIT_VALUES: [u8; 256] = [
+    0xFF, 0xFF, 0xFF, 0xFF, 0xFF, 0xFF, 0xFF, 0xFF, 0xFF, 0xFF, 0xFF, 0xFF, 0xFF, 0xFF, 0xFF, 0xFF,
+    0xFF, 0xFF, 0xFF, 0xFF, 0xFF, 0xFF, 0xFF, 0xFF, 0xFF, 0xFF, 0xFF, 0xFF, 0xFF, 0xFF, 0xFF, 0xFF,
+    0xFF, 0xFF, 0xFF, 0xFF, 0xFF, 0xFF, 0xFF, 0xFF, 0xFF, 0xFF, 0xFF, 0xFF, 0xFF, 0xFF, 0xFF, 0xFF,
+    0x00, 0x01, 0x02, 0x03, 0x04, 0x05, 0x06, 0x07, 0x08, 0x09, 0xFF, 0xFF, 0xFF, 0xFF, 0xFF, 0xFF,
+    0xFF, 0x0A, 0x0B, 0x0C, 0x0D, 0x0E, 0x0F, 0xFF, 0xFF, 0xFF, 0xFF, 0xFF, 0xFF, 0xFF, 0xFF, 0xFF,
+    0xFF, 0xFF, 0xFF, 0xFF, 0xFF, 0xFF, 0xFF, 0xFF, 0xFF, 0xFF, 0xFF, 0xFF, 0xFF, 0xFF, 0xFF, 0xFF,
+    0xFF, 0x0A, 0x0B, 0x0C, 0x0D, 0x0E, 0x0F, 0xFF, 0xFF, 0xFF, 0xFF, 0xFF, 0xFF, 0xFF, 0xFF, 0xFF,
+    0xFF, 0xFF, 0xFF, 0xFF, 0xFF, 0xFF, 0xFF, 0xFF, 0xFF, 0xFF, 0xFF, 0xFF, 0xFF, 0xFF, 0xFF, 0xFF,
+    0xFF, 0xFF, 0xFF, 0xFF, 0xFF, 0xFF, 0xFF, 0xFF, 0xFF, 0xFF, 0xFF, 0xFF, 0xFF, 0xFF, 0xFF, 0xFF,
+    0xFF, 0xFF, 0xFF, 0xFF, 0xFF, 0xFF, 0xFF, 0xFF, 0xFF, 0xFF, 0xFF, 0xFF, 0xFF, 0xFF, 0xFF, 0xFF,
+    0xFF, 0xFF, 0xFF, 0xFF, 0xFF, 0xFF, 0xFF, 0xFF, 0xFF, 0xFF, 0xFF, 0xFF, 0xFF, 0xFF, 0xFF, 0xFF,
+    0xFF, 0xFF, 0xFF, 0xFF, 0xFF, 0xFF, 0xFF, 0xFF, 0xFF, 0xFF, 0xFF, 0xFF, 0xFF, 0xFF, 0xFF, 0xFF,
+    0xFF, 0xFF, 0xFF, 0xFF, 0xFF, 0xFF, 0xFF, 0xFF, 0xFF, 0xFF, 0xFF, 0xFF, 0xFF, 0xFF, 0xFF, 0xFF,
+    0xFF, 0xFF, 0xFF, 0xFF, 0xFF, 0xFF, 0xFF, 0xFF, 0xFF, 0xFF, 0xFF, 0xFF, 0xFF, 0xFF, 0xFF, 0xFF,
+    0xFF, 0xFF, 0xFF, 0xFF, 0xFF, 0xFF, 0xFF, 0xFF, 0xFF, 0xFF, 0xFF, 0xFF, 0xFF, 0xFF, 0xFF, 0xFF,
+    0xFF, 0xFF, 0xFF, 0xFF, 0xFF, 0xFF, 0xFF, 0xFF, 0xFF, 0xFF, 0xFF, 0xFF, 0xFF, 0xFF, 0xFF, 0xFF,
+];
 
 /// The bytes that a quoted-printable text stands for (RFC 2045, section 6.7). Of each line the
 /// spaces and tabs at its end go, then a final `=` together with the line end, which is LF or CR
@@ -17,42 +42,58 @@ use std::alloc::{AllocError, Global};
 pub fn decode_quoted_printable(alloc: Global, text: &[u8]) -> Result<Vec<u8>, AllocError>
     ensures { IfOk result (λ bytes. bytes.items ≡ quoted_printable text.now) }
 {
-    let mut bytes = Vec::with_capacity(alloc, text.len())?;
+    let mut bytes = vec![in alloc; 0u8; text.len()]?;
+    let len = put_lines(bytes.as_mut_slice(), text);
+    bytes.truncate(len);
+    Ok(bytes)
+}
+
+/// Writes the bytes that a text stands for at the front, and answers how many they are. Here and
+/// below, what stands after them may be written over: they are at most as many as they are read of.
+fn put_lines(output: &mut [u8], text: &[u8]) -> usize
+    requires room { length text.now ≤ length output.old }
+    ensures { take result output.new ≡ quoted_printable text.now }
+{
+    let mut len = 0;
     let mut at = 0;
     'lines: while at < text.len() {
         let line = at + run_len(&text[at..], RunEnd::Byte(b'\n'));
         if line == text.len() {
-            push_line(&mut bytes, &text[at..line], b"")?;
-            return Ok(bytes);
+            return len + put_line(&mut output[len..], &text[at..line], b"");
         }
-        push_ended_line(&mut bytes, &text[at..line])?;
+        len += put_ended_line(&mut output[len..], &text[at..line]);
         at = line + 1;
     }
-    Ok(bytes)
+    len
 }
 
-/// Appends the bytes of a line whose LF follows the piece: a CR at its end is part of the line end.
-fn push_ended_line(bytes: &mut Vec<u8>, piece: &[u8]) -> Result<(), AllocError>
-    ensures { OnOk result
-        (bytes.new.items ≡ bytes.old.items ++ line_bytes (ended_line piece.now)) }
+/// Writes the bytes of a line whose LF follows the piece: a CR at its end is part of the line end.
+fn put_ended_line(output: &mut [u8], piece: &[u8]) -> usize
+    requires room { length piece.now < length output.old }
+    ensures written { take result output.new ≡ line_bytes (ended_line piece.now) }
+    ensures within { result ≤ length piece.now + 1 }
 {
     if let Some(content) = piece.strip_suffix(b"\r") {
-        return push_line(bytes, content, b"\r\n");
+        return put_line(output, content, b"\r\n");
     }
-    push_line(bytes, piece, b"\n")
+    put_line(output, piece, b"\n")
 }
 
-/// Appends the bytes of a line.
-fn push_line(bytes: &mut Vec<u8>, content: &[u8], ending: &[u8]) -> Result<(), AllocError>
-    ensures { OnOk result (bytes.new.items
-        ≡ bytes.old.items ++ line_bytes (record { content = content.now; ending = ending.now })) }
+/// Writes the bytes of a line.
+#[inline(always)]
+fn put_line(output: &mut [u8], content: &[u8], ending: &[u8]) -> usize
+    requires room { length content.now + length ending.now ≤ length output.old }
+    ensures written { take result output.new
+        ≡ line_bytes (record { content = content.now; ending = ending.now }) }
+    ensures within { result ≤ length content.now + length ending.now }
 {
     let kept = &content[..trimmed_len(content)];
     match kept.strip_suffix(b"=") {
-        Some(joined) => push_unescaped(bytes, joined),
+        Some(joined) => put_unescaped(output, joined),
         None => {
-            push_unescaped(bytes, kept)?;
-            bytes.extend_from_slice(ending)
+            let len = put_unescaped(output, kept);
+            output[len..len + ending.len()].copy_from_slice(ending);
+            len + ending.len()
         }
     }
 }
@@ -75,25 +116,69 @@ fn is_blank(byte: u8) -> bool
     byte == b' ' || byte == b'\t'
 }
 
-/// Appends the bytes with each escape read.
-fn push_unescaped(bytes: &mut Vec<u8>, kept: &[u8]) -> Result<(), AllocError>
-    ensures { OnOk result (bytes.new.items ≡ bytes.old.items ++ unescaped kept.now) }
+/// Writes the bytes with each escape read.
+fn put_unescaped(output: &mut [u8], kept: &[u8]) -> usize
+    requires room { length kept.now ≤ length output.old }
+    ensures written { take result output.new ≡ unescaped kept.now }
+    ensures within { result ≤ length kept.now }
 {
+    let mut len = 0;
     let mut at = 0;
     'runs: while at < kept.len() {
         if kept[at] != b'=' {
-            let sign = at + run_len(&kept[at..], RunEnd::Byte(b'='));
-            bytes.extend_from_slice(&kept[at..sign])?;
-            at = sign;
+            let run = put_run(&mut output[len..], &kept[at..]);
+            len += run;
+            at += run;
         } else if let Some(byte) = escape_at(kept, at) {
-            bytes.push(byte)?;
+            output[len] = byte;
+            len += 1;
             at += 3;
         } else {
-            bytes.push(b'=')?;
+            output[len] = b'=';
+            len += 1;
             at += 1;
         }
     }
-    Ok(())
+    len
+}
+
+/// Writes the bytes before the first `=`, or all where there is none. A word is written whole before
+/// it is looked at, so that a copy of a few bytes has a length that is known.
+#[inline(always)]
+fn put_run(output: &mut [u8], bytes: &[u8]) -> usize
+    requires room { length bytes.now ≤ length output.old }
+    ensures written { take result output.new ≡ take result bytes.now }
+    ensures least { result ≡ first_place (begins (λ b. b == 61)) bytes.now }
+    ensures within { result ≤ length bytes.now }
+{
+    let (words, tail) = bytes.as_chunks::<8>();
+    let mut at = 0;
+    for word in words {
+        output[at..at + 8].copy_from_slice(word);
+        let mask = equal_mask(word, b'=');
+        if mask != 0 {
+            return at + first_marked(mask);
+        }
+        at += 8;
+    }
+    at + put_tail(&mut output[at..], tail)
+}
+
+/// The same, byte by byte.
+#[inline(always)]
+fn put_tail(output: &mut [u8], tail: &[u8]) -> usize
+    requires room { length tail.now ≤ length output.old }
+    ensures written { take result output.new ≡ take result tail.now }
+    ensures least { result ≡ first_place (begins (λ b. b == 61)) tail.now }
+    ensures within { result ≤ length tail.now }
+{
+    for (place, byte) in tail.iter().enumerate() {
+        if *byte == b'=' {
+            return place;
+        }
+        output[place] = *byte;
+    }
+    tail.len()
 }
 
 /// The byte of the escape at a place that holds `=`.
@@ -112,14 +197,14 @@ fn escape_at(kept: &[u8], at: usize) -> Option<u8>
 }
 
 /// The value of a hexadecimal digit, of either case.
+#[inline(always)]
 fn digit_value(digit: u8) -> Option<u8>
     ensures value { result ≡ digit_value digit }
     ensures small { IfSome result (λ value. value < 16) }
 {
-    match digit {
-        b'0'..=b'9' => Some(digit - b'0'),
-        b'A'..=b'F' => Some(digit - b'A' + 10),
-        b'a'..=b'f' => Some(digit - b'a' + 10),
-        _ => None,
+    let value = DIGIT_VALUES[digit as usize];
+    if value == NO_DIGIT {
+        return None;
     }
+    Some(value)
 }

@@ -1,12 +1,13 @@
-use Rattle.std.proofs.Common.{length, drop, ◌-◌, ◌≡◌, ◌≤◌, ◌++◌}
+use Rattle.std.proofs.Common.{length, take, drop, ◌-◌, ◌≡◌, ◌≤◌, ◌++◌}
 use Rattle.mail_codec.specs.QuotedPrintable.{quoted_printable}
-use Rattle.mail_codec.proofs.transfer.quoted_printable.decode_quoted_printable.Given as goal
+use Rattle.mail_codec.proofs.transfer.quoted_printable.put_lines.Given as goal
 
 -- the bytes of the lines so far, then those of the rest, are all
 abbrev pub invariant-lines : goal.invariant-lines
 invariant-lines l = record {
   within : l.at ≤ length l.text;
-  so_far : l.bytes.items ++ quoted_printable (drop l.at l.text) ≡ quoted_printable l.text;
+  room : l.len ≤ l.at;
+  so_far : take l.len l.output ++ quoted_printable (drop l.at l.text) ≡ quoted_printable l.text;
 }
 
 abbrev pub decreases-lines : goal.decreases-lines

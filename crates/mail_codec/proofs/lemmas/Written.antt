@@ -1,0 +1,36 @@
+-- Bytes written into a part of a slice.
+use Rattle.std.proofs.Common.{◌≡◌, ℕ, ◌+◌, ◌-◌, ◌≤◌, List, ◌++◌, length, take, drop, refl, sym, ap, ◌∙◌, arith}
+use Rattle.std.proofs.Math.Seq.{take-append-add, take-add}
+use Rattle.std.proofs.lemmas.List.{take-take, take_rest, length-take-le, length-drop}
+use Rattle.std.proofs.lemmas.Slice.{take-put_mid}
+use borrow.Rule.Slice.PartMut.{put_mid}
+
+-- what stands before the part stays, and then comes what the part begins with
+pub written_after : (at k n : ℕ) (xs part : List ℕ) → at ≤ length xs → n ≤ length part
+    → take (at + n) (put_mid at k xs part) ≡ take at xs ++ take n part
+written_after at k n xs part low few =
+    sym (take-take (at + n) (at + length part) (put_mid at k xs part) (omega arith))
+    ∙ ap (take (at + n)) (take-put_mid at k xs part (at + length part) refl low)
+    ∙ ap (λ (m : ℕ). take (m + n) (take at xs ++ part)) (sym (length-take-le at xs low))
+    ∙ take-append-add (take at xs) part n
+
+-- where bytes have been copied up to a place, more of them are
+pub copied_after : (at k n : ℕ) (xs part bytes : List ℕ) → take at xs ≡ take at bytes → at ≤ length xs → n ≤ length part
+    → take n part ≡ take n (drop at bytes) → take (at + n) (put_mid at k xs part) ≡ take (at + n) bytes
+copied_after at k n xs part bytes front low few more =
+    written_after at k n xs part low few
+    ∙ ap (λ (ys : List ℕ). ys ++ take n part) front
+    ∙ ap (λ (ys : List ℕ). take at bytes ++ ys) more
+    ∙ sym (take-add at n bytes)
+
+-- the same of the part that goes to the end
+module _ (at n : ℕ) (xs part : List ℕ) (fits : at + n ≤ length xs) (same : length part ≡ length (take (length xs - at) (drop at xs))) where
+  enough : n ≤ length part
+  enough = omega (arith, same, ap length (take_rest xs at), length-drop at xs)
+
+  pub written_rest : (bytes : List ℕ) → take n part ≡ bytes → take (at + n) (put_mid at (length xs - at) xs part) ≡ take at xs ++ bytes
+  written_rest bytes e = written_after at (length xs - at) n xs part (omega arith) enough ∙ ap (λ (ys : List ℕ). take at xs ++ ys) e
+
+  pub copied_rest : (bytes : List ℕ) → take at xs ≡ take at bytes → take n part ≡ take n (drop at bytes)
+      → take (at + n) (put_mid at (length xs - at) xs part) ≡ take (at + n) bytes
+  copied_rest bytes front more = copied_after at (length xs - at) n xs part bytes front (omega arith) enough more
