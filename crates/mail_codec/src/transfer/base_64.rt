@@ -1,5 +1,6 @@
 //! Base64, over bytes (RFC 4648, section 4; RFC 2045, section 6.8).
 ghost use Rattle.std.specs.Prelude.{◌≡◌, ◌+◌, ◌*◌, ◌/◌, ◌%◌, ◌^◌, ◌<◌, ◌≤◌, ◌≢◌, ◌++◌, length, drop, vec_len, IfOk, OnOk, option_map, if◌then◌else◌};
+ghost use Rattle.mail_codec.specs.Ascii.{equals_sign};
 ghost use Rattle.mail_codec.specs.Base64.{base64, bytes_of_values, group_bytes, groups_from, items_or_fault, letter_value, prepend};
 ghost use Rattle.mail_codec.specs.private.Base64.{answer_over};
 ghost use Rattle.mail_codec.specs.Places.{without_ascii_whitespace};
@@ -163,7 +164,7 @@ fn push_bytes(
     s: u8,
     len: usize,
 ) -> Result<bool, AllocError>
-    requires unpadded { s ≢ 61 }
+    requires unpadded { s ≢ equals_sign }
     requires short { len ≤ 3 }
     ensures { IfOk result (λ are_letters. option_map (λ decoded. bytes.old.items ++ decoded)
         (bytes_of_values len (letter_value p) (letter_value q) (letter_value r) (letter_value s))

@@ -1,6 +1,7 @@
 //! Quoted-printable, over bytes (RFC 2045, section 6.7).
 ghost use Rattle.std.specs.Prelude.{◌≡◌, ◌==◌, ◌+◌, ◌<◌, ◌≤◌, ◌-◌, length, take, drop, slice_index, IfOk, OnSome, IfSome};
 ghost use Rattle.std.specs.List.{suffix_len};
+ghost use Rattle.mail_codec.specs.Ascii.{equals_sign};
 ghost use Rattle.mail_codec.specs.Places.{begins, first_place};
 ghost use Rattle.mail_codec.specs.QuotedPrintable.{digit_value, ended_line, first_escape, is_blank, line_bytes, quoted_printable, unescaped};
 
@@ -148,7 +149,7 @@ fn put_unescaped(output: &mut [u8], kept: &[u8]) -> usize
 fn put_run(output: &mut [u8], bytes: &[u8]) -> usize
     requires room { length bytes.now ≤ length output.old }
     ensures written { take result output.new ≡ take result bytes.now }
-    ensures least { result ≡ first_place (begins (λ b. b == 61)) bytes.now }
+    ensures least { result ≡ first_place (begins (λ b. b == equals_sign)) bytes.now }
     ensures within { result ≤ length bytes.now }
 {
     let (words, tail) = bytes.as_chunks::<8>();
@@ -169,7 +170,7 @@ fn put_run(output: &mut [u8], bytes: &[u8]) -> usize
 fn put_tail(output: &mut [u8], tail: &[u8]) -> usize
     requires room { length tail.now ≤ length output.old }
     ensures written { take result output.new ≡ take result tail.now }
-    ensures least { result ≡ first_place (begins (λ b. b == 61)) tail.now }
+    ensures least { result ≡ first_place (begins (λ b. b == equals_sign)) tail.now }
     ensures within { result ≤ length tail.now }
 {
     for (place, byte) in tail.iter().enumerate() {
@@ -184,7 +185,7 @@ fn put_tail(output: &mut [u8], tail: &[u8]) -> usize
 /// The byte of the escape at a place that holds `=`.
 fn escape_at(kept: &[u8], at: usize) -> Option<u8>
     requires within { at < length kept.now }
-    requires sign { slice_index kept.now at ≡ 61 }
+    requires sign { slice_index kept.now at ≡ equals_sign }
     ensures value { result ≡ first_escape (drop at kept.now) }
     ensures whole { OnSome result (at + 3 ≤ length kept.now) }
 {
