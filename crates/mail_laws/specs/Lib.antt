@@ -17,4 +17,5 @@ pub use Rattle.mailparse.specs.ContentType
 pub use Rattle.mailparse.specs.Disposition
 pub mod Ids
 pub mod Runs
+pub mod Escapes
 pub mod IdGrammar
