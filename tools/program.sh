@@ -4,7 +4,11 @@
 # is an error.
 set -eu
 top=$(cd "$(dirname "$0")/.." && pwd)
-name=${1:?usage: program.sh NAME}
+if [ $# != 1 ] || [ ! -f "$top/crates/$1/src/main.rt" ]; then
+    echo 'usage: program.sh NAME, one program: a folder crates/NAME with src/main.rt' >&2
+    exit 2
+fi
+name=$1
 program=$top/crates/$name/out/$name
 
 # newer: a source that is newer than the program, if there is one

@@ -54,3 +54,17 @@ seconds() {
             /^failed/ { print "failed, not timed, in" }
         '
 }
+
+# growth NOW BEFORE: how many times the time before a time is; nothing where one of them was not taken
+growth() {
+    awk -v now="$1" -v before="$2" 'BEGIN {
+        if (now + 0 > 0 && before + 0 > 0) printf "%.2f", now / before
+    }'
+}
+
+# memory LIMIT COMMAND..: the most memory in KB that a run on the file `input` holds, which gets so many
+# seconds at most. It needs GNU time (/usr/bin/time)
+memory() {
+    /usr/bin/time -q -o "$work/memory" -f %M timeout "$@" < "$work/input" > /dev/null 2>&1 || true
+    tail -n 1 "$work/memory"
+}

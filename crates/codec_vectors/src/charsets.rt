@@ -3,6 +3,7 @@ use crate::texts::{joined, repeated_and};
 use mail_codec::charset::{Charset, decode_ascii, decode_latin1};
 use std::alloc::{AllocError, Global};
 use std::borrow::CowStr;
+use std::process::Abort;
 use std::test::Fail;
 
 /// Every label of the WHATWG Encoding Standard for the four charsets (section 4.2).
@@ -51,41 +52,24 @@ fn listed(label: &[u8]) -> Option<Charset> {
     None
 }
 
-/// Whether a label has this charset as it stands and with white around.
-fn has_charset(alloc: Global, label: &str, charset: Charset) -> Result<bool, AllocError> {
+/// Asserts that a label has this charset as it stands and with white around.
+fn assert_label(rt: &impl Abort, alloc: Global, label: &str, charset: Charset) -> Result<(), Fail> {
+    let found = Charset::for_label(label.as_bytes());
+    assert_eq!(*rt; found, Some(charset), "{label:?}");
     let dressed = format!(in alloc; " \t\n\u{C}\r{label}\r\u{C}\n\t ")?;
-    Ok(
-        Charset::for_label(label.as_bytes()) == Some(charset)
-            && Charset::for_label(dressed.as_bytes()) == Some(charset),
-    )
-}
-
-/// The same of the label in capitals.
-fn has_charset_in_capitals(
-    alloc: Global,
-    label: &str,
-    charset: Charset,
-) -> Result<bool, AllocError> {
-    let upper = label.to_ascii_uppercase(alloc)?;
-    has_charset(alloc, upper.as_str(), charset)
+    let found = Charset::for_label(dressed.as_bytes());
+    assert_eq!(*rt; found, Some(charset), "{dressed:?}");
+    Ok(())
 }
 
 #[test]
 fn labels_in_both_cases_and_white_around(rt: HostRuntime) -> Result<(), Fail> {
-    for row in &LABELS {
-        assert!(rt; has_charset(rt.alloc(), row.0, row.1)?, "{row:?}");
-        assert!(rt;
-            has_charset_in_capitals(rt.alloc(), row.0, row.1)?,
-            "{row:?}, in capitals"
-        );
+    for (label, charset) in &LABELS {
+        assert_label(&rt, rt.alloc(), label, *charset)?;
+        let upper = label.to_ascii_uppercase(rt.alloc())?;
+        assert_label(&rt, rt.alloc(), upper.as_str(), *charset)?;
     }
     Ok(())
-}
-
-/// Whether these two pieces, joined, are a label of the charset that has it in the list.
-fn is_as_listed(alloc: Global, front: &[u8], back: &[u8]) -> Result<bool, AllocError> {
-    let label = joined(alloc, &[front, back])?;
-    Ok(Charset::for_label(label.as_slice()) == listed(label.as_slice()))
 }
 
 #[test]
@@ -95,12 +79,18 @@ fn labels_with_a_byte_more_or_less(rt: HostRuntime) -> Result<(), Fail> {
         for place in 0..bytes.len() {
             let (before, from) = bytes.split_at(place);
             let (through, after) = bytes.split_at(place + 1);
-            assert!(rt;
-                is_as_listed(rt.alloc(), before, after)?,
+            let less = joined(rt.alloc(), &[before, after])?;
+            let found = Charset::for_label(less.as_slice());
+            assert_eq!(rt;
+                found,
+                listed(less.as_slice()),
                 "{label} without byte {place}"
             );
-            assert!(rt;
-                is_as_listed(rt.alloc(), through, from)?,
+            let more = joined(rt.alloc(), &[through, from])?;
+            let found = Charset::for_label(more.as_slice());
+            assert_eq!(rt;
+                found,
+                listed(more.as_slice()),
                 "{label} with byte {place} twice"
             );
         }
@@ -113,24 +103,16 @@ static BESIDE: [&str; 8] = [
     "\u{B}", "\0", "\u{A0}", "\u{85}", "\u{2003}", "\"", ";", "x",
 ];
 
-/// Whether a label has no charset with this before it, and none with this after it.
-fn is_none_beside(alloc: Global, label: &str, beside: &str) -> Result<bool, AllocError> {
-    let before = joined(alloc, &[beside.as_bytes(), label.as_bytes()])?;
-    let after = joined(alloc, &[label.as_bytes(), beside.as_bytes()])?;
-    Ok(
-        Charset::for_label(before.as_slice()).is_none()
-            && Charset::for_label(after.as_slice()).is_none(),
-    )
-}
-
 #[test]
 fn labels_with_no_white_of_ascii_around(rt: HostRuntime) -> Result<(), Fail> {
     for (label, _) in &LABELS {
         for beside in &BESIDE {
-            assert!(rt;
-                is_none_beside(rt.alloc(), label, beside)?,
-                "{beside:?} beside {label:?}"
-            );
+            let before = joined(rt.alloc(), &[beside.as_bytes(), label.as_bytes()])?;
+            let found = Charset::for_label(before.as_slice());
+            assert_eq!(rt; found, None, "{beside:?} before {label:?}");
+            let after = joined(rt.alloc(), &[label.as_bytes(), beside.as_bytes()])?;
+            let found = Charset::for_label(after.as_slice());
+            assert_eq!(rt; found, None, "{beside:?} after {label:?}");
         }
     }
     Ok(())
@@ -167,7 +149,7 @@ static NO_LABELS: [&str; 25] = [
 #[test]
 fn labels_of_no_charset_here(rt: HostRuntime) {
     for label in &NO_LABELS {
-        assert!(rt; Charset::for_label(label.as_bytes()).is_none(), "{label:?}");
+        assert_eq!(rt; Charset::for_label(label.as_bytes()), None, "{label:?}");
     }
 }
 
@@ -237,11 +219,11 @@ fn is_borrowed(text: &CowStr<'_>) -> bool {
     matches!(text, CowStr::Borrowed(_))
 }
 
-/// Whether the Latin-1 text and the ASCII text of the bytes are borrowed, or neither is.
-fn are_borrowed(alloc: Global, bytes: &[u8], wanted: bool) -> Result<bool, AllocError> {
+/// Whether the Latin-1 text of the bytes is borrowed, and whether the ASCII text is.
+fn are_borrowed(alloc: Global, bytes: &[u8]) -> Result<(bool, bool), AllocError> {
     let latin1 = decode_latin1(alloc, bytes)?;
     let ascii = decode_ascii(alloc, bytes)?;
-    Ok(is_borrowed(&latin1) == wanted && is_borrowed(&ascii) == wanted)
+    Ok((is_borrowed(&latin1), is_borrowed(&ascii)))
 }
 
 #[test]
@@ -250,22 +232,21 @@ fn borrowed_exactly_where_all_is_ascii(rt: HostRuntime) -> Result<(), Fail> {
         for place in [0usize, 7, 39] {
             let mut bytes = [b'a'; 40];
             bytes[place] = byte;
-            assert!(rt;
-                are_borrowed(rt.alloc(), &bytes, byte < 0x80)?,
-                "{byte} at {place}"
-            );
+            let borrowed = are_borrowed(rt.alloc(), &bytes)?;
+            let is_ascii = byte < 0x80;
+            assert_eq!(rt; borrowed, (is_ascii, is_ascii), "{byte} at {place}");
         }
     }
-    assert!(rt; are_borrowed(rt.alloc(), b"", true)?);
+    assert_eq!(rt; are_borrowed(rt.alloc(), b"")?, (true, true));
     Ok(())
 }
 
 #[test]
 fn texts_borrowed_and_owned(rt: HostRuntime) -> Result<(), Fail> {
     let ascii = b"a long enough text of ASCII bytes alone\0\x7F";
-    assert!(rt; are_borrowed(rt.alloc(), ascii, true)?);
+    assert_eq!(rt; are_borrowed(rt.alloc(), ascii)?, (true, true));
     let other = b"Andr\xE9 and a long enough text after the letter";
-    assert!(rt; are_borrowed(rt.alloc(), other, false)?);
+    assert_eq!(rt; are_borrowed(rt.alloc(), other)?, (false, false));
     let text = decode_latin1(rt.alloc(), other)?;
     assert_eq!(rt;
         text.as_str(),

@@ -8,3 +8,4 @@ pub mod Ids
 pub mod Percent
 pub mod IdGrammar
 pub mod Runs
+pub mod Escapes

@@ -17,6 +17,7 @@ pub use Rattle.mailparse.specs.ContentType
 pub use Rattle.mailparse.specs.Disposition
 pub mod Ids
 pub mod Runs
+pub mod Escapes
 pub mod IdGrammar
 pub use Rattle.mailparse.specs.Mail
 pub use Rattle.mailparse.specs.Bound

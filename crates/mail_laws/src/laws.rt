@@ -1,5 +1,5 @@
 //! The laws. Each function does nothing; its contract is the law.
-ghost use Rattle.std.specs.Prelude.{◌≡◌, ◌<◌, ◌≤◌, ◌++◌, ℕ, suc, List, [], ◌∷◌, codes, length, take, Decides, None, Ok, ◌+◌, ◌-◌, ◌*◌, ◌/◌, All, slice_index, false, ◌↔◌, Err};
+ghost use Rattle.std.specs.Prelude.{◌≡◌, ◌<◌, ◌≤◌, ◌++◌, ℕ, suc, List, [], ◌∷◌, codes, length, take, Decides, None, Ok, ◌+◌, ◌-◌, ◌*◌, ◌/◌, All, slice_index, replicate, ◌==◌, false, ◌↔◌, Err};
 ghost use Rattle.std.specs.List.{flat_map, list_any};
 ghost use Rattle.std.specs.Str.{IsUtf8};
 ghost use Rattle.mailparse.specs.Header.{Header, read_header};
@@ -11,7 +11,9 @@ ghost use Rattle.mailparse.specs.Ranges.{Apart};
 ghost use Rattle.mail_codec.specs.Charset.{Charsets};
 ghost use Rattle.mailparse.specs.Continuations.{parameters_in};
 ghost use Rattle.mailparse.specs.Pairs.{last_of, pairs_of};
-ghost use Rattle.mailparse.specs.Pieces.{ArePieces, pieces};
+ghost use Rattle.mailparse.specs.Pieces.{ArePieces, pieces, without_escapes};
+ghost use Rattle.mail_laws.specs.Escapes.{staying};
+ghost use Rattle.mail_codec.specs.Ascii.{backslash};
 ghost use Rattle.mailparse.specs.Tokens.{Adjoin, AreTokens, TokenRange, token_ranges, token_source};
 ghost use Rattle.mailparse.specs.contracts.disposition.DispositionTypePartialEq.TheImpl.{ghosts};
 ghost use Rattle.mailparse.specs.declared.disposition.DispositionType.{DispositionType};
@@ -19,7 +21,7 @@ ghost use Rattle.mailparse.specs.Views.{kind};
 ghost use Rattle.mail_laws.specs.Boundaries.{IsAlphanumeric, boundary_type, one_text};
 ghost use Rattle.mail_laws.specs.StarFree.{AreStarFree};
 ghost use Rattle.mailparse.specs.Value.{IsPlain, Token, lenient_value, newline, shown_tokens, strict_value};
-ghost use Rattle.mail_codec.specs.Places.{values_below};
+ghost use Rattle.mail_codec.specs.Places.{begins, values_below};
 ghost use Rattle.mail_laws.specs.WordTokens.{white, word};
 ghost use Rattle.mail_laws.specs.Spans.{StandBefore, blank_span, header_at, header_spans, key_range, value_range};
 ghost use Rattle.mailparse.specs.Date.{day_number, days_of_years, month_lengths};
@@ -125,6 +127,16 @@ pub fn one_list_of_pieces_fits()
     ensures fits { (text : List ℕ) → ArePieces text (pieces text) }
     ensures only { (text : List ℕ) (found : List (List ℕ)) → ArePieces text found →
         found ≡ pieces text }
+{}
+
+/// Of the characters between quotes exactly those go that are a backslash at an odd place of its run,
+/// with no backslash or an even number of them directly before it; all others stay, in order. So of a
+/// run of n backslashes n / 2 stay, rounded down.
+pub fn odd_backslashes_go()
+    ensures places { (text : List ℕ) → without_escapes 0 text ≡ staying text }
+    ensures runs { (n : ℕ) (rest : List ℕ) → begins (λ b. b == backslash) rest ≡ false →
+        without_escapes 0 (replicate n backslash ++ rest)
+        ≡ replicate (n / 2) backslash ++ without_escapes 0 rest }
 {}
 
 /// Two dispositions are equal exactly if their kinds are, and the texts of extensions.

@@ -90,13 +90,6 @@ static KINDS: [(&str, &str); 15] = [
     ("x-uuencode", "7bit"),
 ];
 
-/// Whether a body under the empty name has the kind of one under none.
-fn is_plain_under_empty_name(alloc: Global) -> Result<bool, MailParseError> {
-    let ctype = ParsedContentType::default(alloc)?;
-    let empty = Some(String::new(alloc));
-    Ok(kind_of(&Body::new(b"x", &ctype, &empty)) == "7bit")
-}
-
 #[test]
 fn the_kind_by_the_name_to_the_byte(rt: HostRuntime) -> Result<(), Fail> {
     let ctype = type_with(rt.alloc(), "X-Label")?;
@@ -107,7 +100,12 @@ fn the_kind_by_the_name_to_the_byte(rt: HostRuntime) -> Result<(), Fail> {
         assert_eq!(rt; raw_of(&body), b"aG k=".as_slice(), "{row:?}");
         assert_eq!(rt; label_of(&body), "X-Label", "{row:?}");
     }
-    assert!(rt; is_plain_under_empty_name(rt.alloc())?);
+    let empty = Some(String::new(rt.alloc()));
+    assert_eq!(rt;
+        kind_of(&Body::new(b"x", &ctype, &empty)),
+        "7bit",
+        "the empty name"
+    );
     Ok(())
 }
 
@@ -250,20 +248,12 @@ fn texts_under_labels(rt: HostRuntime) -> Result<(), Fail> {
     Ok(())
 }
 
-/// Whether the type where nothing says it is a text in ASCII, with no parameters.
-fn is_ascii_text(alloc: Global) -> Result<bool, MailParseError> {
-    let ctype = ParsedContentType::default(alloc)?;
-    Ok(
-        ctype.mimetype.as_str() == "text/plain"
-            && ctype.charset.as_str() == "us-ascii"
-            && ctype.params.len() == 0,
-    )
-}
-
 #[test]
 fn the_type_where_nothing_says_it(rt: HostRuntime) -> Result<(), Fail> {
-    assert!(rt; is_ascii_text(rt.alloc())?);
     let ctype = ParsedContentType::default(rt.alloc())?;
+    assert_eq!(rt; ctype.mimetype.as_str(), "text/plain");
+    assert_eq!(rt; ctype.charset.as_str(), "us-ascii");
+    assert_eq!(rt; ctype.params.len(), 0);
     let shown = format!(in rt.alloc(); "{ctype:?}")?;
     let text = r#"ParsedContentType { mimetype: "text/plain", charset: "us-ascii", params: {} }"#;
     assert_eq!(rt; shown.as_str(), text);

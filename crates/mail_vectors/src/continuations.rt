@@ -1,4 +1,6 @@
 //! Parameters with starred keys and in numbered pieces.
+//!
+//! The answers are those of the Rust crate `mailparse` 0.18.0.
 use mailparse::{MailParseError, parse_content_type};
 use std::alloc::Global;
 use std::test::Fail;
@@ -6,7 +8,7 @@ use std::test::Fail;
 /// The text of a type, and its parameters in byte order: each key, `=`, its value, LF.
 type ParameterRow = (&'static str, &'static str);
 
-static STARRED: [ParameterRow; 26] = [
+static STARRED: [ParameterRow; 39] = [
     ("x; t*=utf-8'en'%E2%82%AC%2", "t=\u{20AC}%2\n"),
     ("x; t=1; t*=utf-8''2", "t=1\nt*=utf-8''2\n"),
     ("x; t*=utf-8", "t=\n"),
@@ -48,6 +50,37 @@ static STARRED: [ParameterRow; 26] = [
     ),
     ("x; f=z; f*0=a; f*1=b", "f=z\nf*0=a\nf*1=b\n"),
     ("x; f*1=b; f*2=c", "f*1=b\nf*2=c\n"),
+    // What is no number: a sign alone, and nothing.
+    ("x; a*+=y", "a*+=y\n"),
+    ("x; n*+*=utf-8''A; n*+*0=b", "n*+=A\nn*+*0=b\n"),
+    ("x; a**=utf-8''y", "a*=y\n"),
+    ("x; n**=utf-8''A; n**0=b", "n*=A\nn**0=b\n"),
+    // The greatest number, and the next, which is none.
+    ("x; f*18446744073709551615=a", "f*18446744073709551615=a\n"),
+    (
+        "x; f*18446744073709551615*=utf-8''%C3%A9",
+        "f*18446744073709551615=\u{E9}\n",
+    ),
+    (
+        "x; f*18446744073709551616*=utf-8''%C3%A9",
+        "f*18446744073709551616=\u{E9}\n",
+    ),
+    (
+        "x; f*0=a; f*18446744073709551615=b",
+        "f=a\nf*18446744073709551615=b\n",
+    ),
+    (
+        "x; n*18446744073709551615*=utf-8''A; n*18446744073709551615*0=b",
+        "n*18446744073709551615=A\n",
+    ),
+    (
+        "x; n*18446744073709551616*=utf-8''A; n*18446744073709551616*0=b",
+        "n*18446744073709551616=A\nn*18446744073709551616*0=b\n",
+    ),
+    // No mark is looked for.
+    ("x; t*=utf-8''%EF%BB%BFa", "t=\u{FEFF}a\n"),
+    ("x; t*=utf-16be''%FE%FF%00a", "t=\u{FEFF}a\n"),
+    ("x; t*0*=utf-8''%EF%BB; t*1*=%BFa", "t=\u{FEFF}a\n"),
 ];
 
 /// The parameters of a type: each key, `=`, its value, LF.

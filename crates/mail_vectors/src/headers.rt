@@ -2,6 +2,7 @@
 use crate::texts::{LEADING_SPACE, LONE_CR, joined, refusal, repeated};
 use mailparse::{MailHeader, MailParseError, parse_header, parse_headers};
 use std::alloc::Global;
+use std::process::Abort;
 use std::test::Fail;
 
 /// The input, its key, its value, and how many bytes it takes.
@@ -45,19 +46,25 @@ static HEADERS: [HeaderRow; 30] = [
     ),
 ];
 
-/// Whether the input has this key, this value and this length.
-fn is_header(raw: &[u8], key: &[u8], value: &[u8], length: usize) -> Result<bool, MailParseError> {
+/// Asserts that the input has this key, this value and this length.
+fn assert_header(
+    rt: &impl Abort,
+    raw: &[u8],
+    key: &[u8],
+    value: &[u8],
+    length: usize,
+) -> Result<(), Fail> {
     let (header, end) = parse_header(raw)?;
-    Ok(header.get_key_raw() == key && header.get_value_raw() == value && end == length)
+    assert_eq!(*rt; header.get_key_raw(), key, "{raw:?}");
+    assert_eq!(*rt; header.get_value_raw(), value, "{raw:?}");
+    assert_eq!(*rt; end, length, "{raw:?}");
+    Ok(())
 }
 
 #[test]
 fn one_header(rt: HostRuntime) -> Result<(), Fail> {
     for row in &HEADERS {
-        let (header, end) = parse_header(row.0)?;
-        assert_eq!(rt; header.get_key_raw(), row.1, "{row:?}");
-        assert_eq!(rt; header.get_value_raw(), row.2, "{row:?}");
-        assert_eq!(rt; end, row.3, "{row:?}");
+        assert_header(&rt, row.0, row.1, row.2, row.3)?;
     }
     Ok(())
 }
@@ -77,45 +84,54 @@ fn a_header_that_is_refused(rt: HostRuntime) {
     }
 }
 
-/// Whether a byte alone is its header, or is refused where it is a space.
-fn is_byte_header(byte: u8) -> Result<bool, MailParseError> {
+/// Asserts that a byte alone is its header, or is refused where it is a space.
+fn assert_byte_header(rt: &impl Abort, byte: u8) -> Result<(), Fail> {
     let raw = [byte];
     match byte {
-        b' ' => Ok(refusal(parse_header(&raw)) == LEADING_SPACE),
-        b'\n' | b':' => is_header(&raw, b"", b"", 1),
-        _ => is_header(&raw, &raw, b"", 1),
+        b' ' => assert_eq!(*rt; refusal(parse_header(&raw)), LEADING_SPACE),
+        b'\n' | b':' => assert_header(rt, &raw, b"", b"", 1)?,
+        _ => assert_header(rt, &raw, &raw, b"", 1)?,
     }
+    Ok(())
 }
 
 #[test]
 fn each_byte_alone(rt: HostRuntime) -> Result<(), Fail> {
     for byte in 0..=255u8 {
-        assert!(rt; is_byte_header(byte)?, "{byte}");
+        assert_byte_header(&rt, byte)?;
     }
     Ok(())
 }
 
-/// Whether the input has so many headers, which end here.
-fn is_block(alloc: Global, raw: &[u8], count: usize, end: usize) -> Result<bool, MailParseError> {
+/// Asserts that the input has so many headers, which end here.
+fn assert_block(
+    rt: &impl Abort,
+    alloc: Global,
+    raw: &[u8],
+    count: usize,
+    end: usize,
+) -> Result<(), Fail> {
     let (headers, index) = parse_headers(alloc, raw)?;
-    Ok(headers.len() == count && index == end)
+    assert_eq!(*rt; (headers.len(), index), (count, end), "{raw:?}");
+    Ok(())
 }
 
-/// Whether a byte alone is its block, or is refused where it is a space or a CR.
-fn is_byte_block(alloc: Global, byte: u8) -> Result<bool, MailParseError> {
+/// Asserts that a byte alone is its block, or is refused where it is a space or a CR.
+fn assert_byte_block(rt: &impl Abort, alloc: Global, byte: u8) -> Result<(), Fail> {
     let raw = [byte];
     match byte {
-        b' ' => Ok(refusal(parse_headers(alloc, &raw)) == LEADING_SPACE),
-        b'\r' => Ok(refusal(parse_headers(alloc, &raw)) == LONE_CR),
-        b'\n' => is_block(alloc, &raw, 0, 1),
-        _ => is_block(alloc, &raw, 1, 1),
+        b' ' => assert_eq!(*rt; refusal(parse_headers(alloc, &raw)), LEADING_SPACE),
+        b'\r' => assert_eq!(*rt; refusal(parse_headers(alloc, &raw)), LONE_CR),
+        b'\n' => assert_block(rt, alloc, &raw, 0, 1)?,
+        _ => assert_block(rt, alloc, &raw, 1, 1)?,
     }
+    Ok(())
 }
 
 #[test]
 fn a_block_of_each_byte_alone(rt: HostRuntime) -> Result<(), Fail> {
     for byte in 0..=255u8 {
-        assert!(rt; is_byte_block(rt.alloc(), byte)?, "{byte}");
+        assert_byte_block(&rt, rt.alloc(), byte)?;
     }
     Ok(())
 }
@@ -176,58 +192,51 @@ fn a_block_that_is_refused(rt: HostRuntime) {
     }
 }
 
-/// Whether a header is the one of `From`.
-fn is_from(alloc: Global, header: &MailHeader<'_>) -> Result<bool, MailParseError> {
-    let key = header.get_key(alloc)?;
-    Ok(
-        key.as_str() == "From"
-            && header.get_key_raw() == b"From".as_slice()
-            && header.get_value_raw() == b"me@myself.com".as_slice(),
-    )
-}
-
-/// Whether these three headers have that one in the middle.
-fn is_from_between(alloc: Global, raw: &[u8]) -> Result<bool, MailParseError> {
-    let (headers, _) = parse_headers(alloc, raw)?;
-    match headers.as_slice() {
-        [_, header, _] => is_from(alloc, header),
-        _ => Ok(false),
-    }
-}
-
 #[test]
 fn the_second_key(rt: HostRuntime) -> Result<(), Fail> {
     let raw = b"Subject: Test\nFrom: me@myself.com\nTo: you@yourself.com";
-    assert!(rt; is_from_between(rt.alloc(), raw)?);
+    let (headers, _) = parse_headers(rt.alloc(), raw)?;
+    assert_eq!(rt; headers.len(), 3);
+    let header = &headers[1];
+    assert_eq!(rt; header.get_key(rt.alloc())?.as_str(), "From");
+    assert_eq!(rt; header.get_key_raw(), b"From".as_slice());
+    assert_eq!(rt; header.get_value_raw(), b"me@myself.com".as_slice());
     Ok(())
 }
 
-/// Whether these pieces, joined, have this key, this value and this length.
-fn is_joined_header(
+/// Asserts that these pieces, joined, have this key, this value and this length.
+fn assert_joined_header(
+    rt: &impl Abort,
     alloc: Global,
     pieces: &[&[u8]],
     key: &[u8],
     value: &[u8],
     length: usize,
-) -> Result<bool, MailParseError> {
+) -> Result<(), Fail> {
     let raw = joined(alloc, pieces)?;
-    is_header(raw.as_slice(), key, value, length)
+    assert_header(rt, raw.as_slice(), key, value, length)
 }
 
 #[test]
 fn long_runs(rt: HostRuntime) -> Result<(), Fail> {
     let run = repeated(rt.alloc(), b" ", 130)?;
     let pieces: [&[u8]; 3] = [b"A:", run.as_slice(), b"b\n"];
-    assert!(rt; is_joined_header(rt.alloc(), &pieces, b"A", b"b", 134)?);
+    assert_joined_header(&rt, rt.alloc(), &pieces, b"A", b"b", 134)?;
 
     let run = repeated(rt.alloc(), b"k", 70)?;
     let pieces: [&[u8]; 2] = [run.as_slice(), b"\n:"];
-    assert!(rt; is_joined_header(rt.alloc(), &pieces, run.as_slice(), b"", 71)?);
+    assert_joined_header(&rt, rt.alloc(), &pieces, run.as_slice(), b"", 71)?;
 
     let run = repeated(rt.alloc(), b"\n ", 70)?;
     let pieces: [&[u8]; 3] = [b"A:", run.as_slice(), b"\nz"];
-    assert!(rt; is_joined_header(rt.alloc(), &pieces, b"A", run.as_slice(), 143)?);
+    assert_joined_header(&rt, rt.alloc(), &pieces, b"A", run.as_slice(), 143)?;
     Ok(())
+}
+
+/// Whether the input has this key, this value and this length.
+fn is_header(raw: &[u8], key: &[u8], value: &[u8], length: usize) -> Result<bool, MailParseError> {
+    let (header, end) = parse_header(raw)?;
+    Ok(header.get_key_raw() == key && header.get_value_raw() == value && end == length)
 }
 
 /// The piece that is repeated after `A:`, and whether it stays.

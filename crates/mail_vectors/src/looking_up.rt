@@ -129,50 +129,48 @@ static NO_BYTES: [(&[u8], &str); 8] = [
     (b"A: 1", "\u{10041}"),
 ];
 
-/// Whether no header has the name.
-fn is_no_name(alloc: Global, raw: &[u8], name: &str) -> Result<bool, MailParseError> {
-    let (headers, _) = parse_headers(alloc, raw)?;
-    let found = headers.get_all_headers(alloc, name)?;
-    Ok(headers.get_first_header(name).is_none() && found.is_empty())
-}
-
 #[test]
 fn characters_that_no_byte_is(rt: HostRuntime) -> Result<(), Fail> {
-    for row in &NO_BYTES {
-        assert!(rt; is_no_name(rt.alloc(), row.0, row.1)?, "{row:?}");
+    for (raw, name) in &NO_BYTES {
+        let (headers, _) = parse_headers(rt.alloc(), raw)?;
+        assert_values(&rt, rt.alloc(), &headers, &(raw, name, b""))?;
     }
     Ok(())
 }
 
-/// Whether a header's key is this text, and borrowed or not.
-fn is_key_text(
+/// Asserts that a header's key is this text, and borrowed or not.
+fn assert_key_text(
+    rt: &impl Abort,
     alloc: Global,
     header: &MailHeader<'_>,
     wanted: &str,
     is_borrowed: bool,
-) -> Result<bool, MailParseError> {
+) -> Result<(), Fail> {
     let text = header.get_key_ref(alloc)?;
+    assert_eq!(*rt; text.as_str(), wanted);
+    assert_eq!(*rt;
+        matches!(text, CowStr::Borrowed(_)),
+        is_borrowed,
+        "{wanted:?}"
+    );
     let owned = header.get_key(alloc)?;
-    Ok(
-        text.as_str() == wanted
-            && owned.as_str() == wanted
-            && matches!(text, CowStr::Borrowed(_)) == is_borrowed,
-    )
+    assert_eq!(*rt; owned.as_str(), wanted);
+    Ok(())
 }
 
-/// Whether a key of this byte is the character of its number, borrowed where it is ASCII.
-fn is_key_of(alloc: Global, byte: u8) -> Result<bool, MailParseError> {
+/// Asserts that a key of this byte is the character of its number, borrowed where it is ASCII.
+fn assert_key_of(rt: &impl Abort, alloc: Global, byte: u8) -> Result<(), Fail> {
     let raw = [b'k', byte, b':', b'v'];
     let (header, _) = parse_header(&raw)?;
     let wanted = format!(in alloc; "k{}", char::from(byte))?;
-    is_key_text(alloc, &header, wanted.as_str(), byte < 0x80)
+    assert_key_text(rt, alloc, &header, wanted.as_str(), byte < 0x80)
 }
 
 #[test]
 fn each_byte_in_a_key(rt: HostRuntime) -> Result<(), Fail> {
     for byte in 0..=255u8 {
         if byte != b':' && byte != b'\n' {
-            assert!(rt; is_key_of(rt.alloc(), byte)?, "{byte}");
+            assert_key_of(&rt, rt.alloc(), byte)?;
         }
     }
     Ok(())
@@ -201,24 +199,15 @@ fn text_of_all_bytes(alloc: Global) -> Result<String, AllocError> {
     Ok(text)
 }
 
-/// Whether there is one header, found by this name, which is its key.
-fn is_found_by(alloc: Global, raw: &[u8], name: &str) -> Result<bool, MailParseError> {
-    let (headers, _) = parse_headers(alloc, raw)?;
-    match headers.as_slice() {
-        [header] => Ok(
-            first_value(&headers, name) == Some(b"v".as_slice())
-                && is_key_text(alloc, header, name, false)?,
-        ),
-        _ => Ok(false),
-    }
-}
-
 #[test]
 fn a_key_of_all_bytes(rt: HostRuntime) -> Result<(), Fail> {
     let raw = header_of_all_bytes(rt.alloc())?;
     let name = text_of_all_bytes(rt.alloc())?;
-    assert!(rt; is_found_by(rt.alloc(), raw.as_slice(), name.as_str())?);
-    Ok(())
+    let (headers, _) = parse_headers(rt.alloc(), raw.as_slice())?;
+    assert_eq!(rt; headers.len(), 1);
+    let value = first_value(&headers, name.as_str()).ok_or("no such header")?;
+    assert_eq!(rt; value, b"v".as_slice());
+    assert_key_text(&rt, rt.alloc(), &headers[0], name.as_str(), false)
 }
 
 /// Ten thousand headers, of which the last is another.
@@ -227,43 +216,15 @@ fn many_and_last(alloc: Global) -> Result<Vec<u8>, AllocError> {
     joined(alloc, &[lines.as_slice(), b"Last: here\n"])
 }
 
-/// Whether so many headers have the name.
-fn is_count<M: MailHeaderMap>(
-    alloc: Global,
-    map: &M,
-    name: &str,
-    count: usize,
-) -> Result<bool, MailParseError> {
-    let found = map.get_all_headers(alloc, name)?;
-    Ok(found.len() == count)
-}
-
-/// Whether one header has the name, and this value.
-fn is_only<M: MailHeaderMap>(
-    alloc: Global,
-    map: &M,
-    name: &str,
-    value: &[u8],
-) -> Result<bool, MailParseError> {
-    let found = map.get_all_headers(alloc, name)?;
-    Ok(found.len() == 1 && found[0].get_value_raw() == value)
-}
-
-/// Whether the last of the headers is found, and all the others.
-fn are_found<M: MailHeaderMap>(alloc: Global, map: &M) -> Result<bool, MailParseError> {
-    Ok(
-        first_value(map, "LAST") == Some(b"here".as_slice())
-            && is_only(alloc, map, "last", b"here")?
-            && is_count(alloc, map, "las", 9_999)?
-            && is_count(alloc, map, "lastly", 0)?,
-    )
-}
-
 #[test]
 fn the_last_of_ten_thousand(rt: HostRuntime) -> Result<(), Fail> {
     let raw = many_and_last(rt.alloc())?;
     let (headers, _) = parse_headers(rt.alloc(), raw.as_slice())?;
     assert_eq!(rt; headers.len(), 10_000);
-    assert!(rt; are_found(rt.alloc(), &headers)?);
+    assert_eq!(rt; first_value(&headers, "LAST"), Some(b"here".as_slice()));
+    let last = all_values(rt.alloc(), &headers, "last")?;
+    assert_eq!(rt; last.as_slice(), b"here;".as_slice());
+    assert_eq!(rt; headers.get_all_headers(rt.alloc(), "las")?.len(), 9_999);
+    assert_eq!(rt; headers.get_all_headers(rt.alloc(), "lastly")?.len(), 0);
     Ok(())
 }

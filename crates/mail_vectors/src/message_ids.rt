@@ -1,7 +1,7 @@
 //! Lists of message ids.
 use crate::texts::refusal;
 use mailparse::{MailParseError, MessageIdList, msgidparse};
-use std::alloc::{AllocError, Global};
+use std::alloc::Global;
 use std::test::Fail;
 
 /// A text, its ids, and the text that shows them.
@@ -18,12 +18,6 @@ fn is_list(list: &MessageIdList, ids: &[&str]) -> bool {
         }
     }
     true
-}
-
-/// Whether a list is shown as this text.
-fn is_shown(alloc: Global, list: &MessageIdList, text: &str) -> Result<bool, AllocError> {
-    let shown = format!(in alloc; "{list}")?;
-    Ok(shown.as_str() == text)
 }
 
 static LISTS: [IdsRow; 16] = [
@@ -57,8 +51,11 @@ static LISTS: [IdsRow; 16] = [
 fn lists_of_ids(rt: HostRuntime) -> Result<(), Fail> {
     for row in &LISTS {
         let list = msgidparse(rt.alloc(), row.0)?;
-        assert!(rt; is_list(&list, row.1), "{row:?}: {list:?}");
-        assert!(rt; is_shown(rt.alloc(), &list, row.2)?, "{row:?}: {list}");
+        let found = format!(in rt.alloc(); "{list:?}")?;
+        let wanted = format!(in rt.alloc(); "MessageIdList({:?})", row.1)?;
+        assert_eq!(rt; found.as_str(), wanted.as_str(), "{row:?}");
+        let shown = format!(in rt.alloc(); "{list}")?;
+        assert_eq!(rt; shown.as_str(), row.2, "{row:?}");
     }
     Ok(())
 }
@@ -104,7 +101,8 @@ fn list_of(alloc: Global, ids: &[&str]) -> Result<MessageIdList, MailParseError>
 fn a_list_that_is_changed(rt: HostRuntime) -> Result<(), Fail> {
     let alloc = rt.alloc();
     let mut list = list_of(alloc, &["a", "c>"])?;
-    assert!(rt; is_shown(alloc, &list, "<a> <c>>")?);
+    let shown = format!(in alloc; "{list}")?;
+    assert_eq!(rt; shown.as_str(), "<a> <c>>");
     let copy = list.clone(alloc)?;
     assert!(rt; copy == list);
     match list.pop() {

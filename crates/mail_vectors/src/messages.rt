@@ -1,7 +1,8 @@
 //! Whole messages: their block, their headers and their body.
 use crate::texts::{LEADING_SPACE, LONE_CR, refusal, repeated};
-use mailparse::{MailParseError, ParsedMail, parse_mail};
+use mailparse::{ParsedMail, parse_mail};
 use std::alloc::Global;
+use std::process::Abort;
 use std::test::Fail;
 
 /// The input, its block, and how many headers it has.
@@ -24,28 +25,25 @@ static MESSAGES: [(&[u8], &[u8], usize); 8] = [
     (b"A: b\n\n\n x\n\r", b"A: b\n\n", 1),
 ];
 
-/// Whether a mail has this block, so many headers, and all its bytes.
-fn is_message(
+/// Asserts that a mail has this block, so many headers, and all its bytes.
+fn assert_message(
+    rt: &impl Abort,
     alloc: Global,
     raw: &[u8],
     block: &[u8],
     count: usize,
-) -> Result<bool, MailParseError> {
+) -> Result<(), Fail> {
     let mail = parse_mail(alloc, raw)?;
-    Ok(
-        mail.raw_bytes == raw
-            && mail.headers.len() == count
-            && mail.get_headers().get_raw_bytes() == block,
-    )
+    assert_eq!(*rt; mail.headers.len(), count, "{raw:?}");
+    assert_eq!(*rt; mail.get_headers().get_raw_bytes(), block, "{raw:?}");
+    assert_eq!(*rt; mail.raw_bytes, raw);
+    Ok(())
 }
 
 #[test]
 fn a_message(rt: HostRuntime) -> Result<(), Fail> {
     for row in &MESSAGES {
-        let mail = parse_mail(rt.alloc(), row.0)?;
-        assert_eq!(rt; mail.raw_bytes, row.0);
-        assert_eq!(rt; mail.get_headers().get_raw_bytes(), row.1, "{row:?}");
-        assert_eq!(rt; mail.headers.len(), row.2, "{row:?}");
+        assert_message(&rt, rt.alloc(), row.0, row.1, row.2)?;
     }
     Ok(())
 }
@@ -66,21 +64,22 @@ fn a_message_that_is_refused(rt: HostRuntime) {
     }
 }
 
-/// Whether a byte alone is its block, or is refused where it is a space or a CR.
-fn is_byte_message(alloc: Global, byte: u8) -> Result<bool, MailParseError> {
+/// Asserts that a byte alone is its block, or is refused where it is a space or a CR.
+fn assert_byte_message(rt: &impl Abort, alloc: Global, byte: u8) -> Result<(), Fail> {
     let raw = [byte];
     match byte {
-        b' ' => Ok(refusal(parse_mail(alloc, &raw)) == LEADING_SPACE),
-        b'\r' => Ok(refusal(parse_mail(alloc, &raw)) == LONE_CR),
-        b'\n' => is_message(alloc, &raw, &raw, 0),
-        _ => is_message(alloc, &raw, &raw, 1),
+        b' ' => assert_eq!(*rt; refusal(parse_mail(alloc, &raw)), LEADING_SPACE),
+        b'\r' => assert_eq!(*rt; refusal(parse_mail(alloc, &raw)), LONE_CR),
+        b'\n' => assert_message(rt, alloc, &raw, &raw, 0)?,
+        _ => assert_message(rt, alloc, &raw, &raw, 1)?,
     }
+    Ok(())
 }
 
 #[test]
 fn a_message_of_each_byte_alone(rt: HostRuntime) -> Result<(), Fail> {
     for byte in 0..=255u8 {
-        assert!(rt; is_byte_message(rt.alloc(), byte)?, "{byte}");
+        assert_byte_message(&rt, rt.alloc(), byte)?;
     }
     Ok(())
 }
@@ -109,16 +108,14 @@ fn going_over_the_headers(rt: HostRuntime) -> Result<(), Fail> {
     Ok(())
 }
 
-/// Whether a mail whose headers are cleared has none to go over, and its block all the same.
-fn is_cleared(mut mail: ParsedMail<'_>, block: &[u8]) -> bool {
-    mail.headers.clear();
-    mail.get_headers().into_iter().count() == 0 && mail.get_headers().get_raw_bytes() == block
-}
-
 #[test]
 fn the_headers_that_are_there_now(rt: HostRuntime) -> Result<(), Fail> {
-    let mail = parse_mail(rt.alloc(), b"A: 1\nB: 2\n\nbody")?;
-    assert!(rt; is_cleared(mail, b"A: 1\nB: 2\n\n"));
+    let mut mail = parse_mail(rt.alloc(), b"A: 1\nB: 2\n\nbody")?;
+    let headers = &mut mail.headers;
+    headers.clear();
+    assert_eq!(rt; mail.get_headers().into_iter().count(), 0);
+    let block = b"A: 1\nB: 2\n\n".as_slice();
+    assert_eq!(rt; mail.get_headers().get_raw_bytes(), block);
     Ok(())
 }
 
@@ -126,6 +123,5 @@ fn the_headers_that_are_there_now(rt: HostRuntime) -> Result<(), Fail> {
 fn a_message_of_many_headers(rt: HostRuntime) -> Result<(), Fail> {
     let raw = repeated(rt.alloc(), b"a:b\n", 50_000)?;
     assert_eq!(rt; raw.len(), 200_000);
-    assert!(rt; is_message(rt.alloc(), raw.as_slice(), raw.as_slice(), 50_000)?);
-    Ok(())
+    assert_message(&rt, rt.alloc(), raw.as_slice(), raw.as_slice(), 50_000)
 }

@@ -14,18 +14,16 @@ use std::test::Fail;
 /// Parameters, in the order of their names.
 type Params = &'static [(&'static str, &'static str)];
 
-/// Whether a map has these parameters and no others.
-fn has_params(params: &BTreeMap<String, String>, wanted: Params) -> bool {
-    if params.len() != wanted.len() {
-        return false;
+/// The map of these parameters.
+fn map_of(alloc: Global, params: Params) -> Result<BTreeMap<String, String>, MailParseError> {
+    let mut map = BTreeMap::new(alloc);
+    for (name, value) in params {
+        map.insert(
+            String::from_str(alloc, name)?,
+            String::from_str(alloc, value)?,
+        )?;
     }
-    for (name, value) in wanted {
-        match params.get(*name) {
-            Some(found) if found.as_str() == *value => {}
-            _ => return false,
-        }
-    }
-    true
+    Ok(map)
 }
 
 /// A text, and the type, the charset and the parameters that it names.
@@ -109,58 +107,42 @@ static TYPES: [TypeRow; 35] = [
     ("x; a=\" b \"", "x", "us-ascii", &[("a", " b ")]),
 ];
 
-/// Whether a text names the type of its row.
-fn is_type(alloc: Global, row: &TypeRow) -> Result<bool, MailParseError> {
-    let (text, mimetype, charset, params) = *row;
-    let found = parse_content_type(alloc, text)?;
-    Ok(
-        found.mimetype.as_str() == mimetype
-            && found.charset.as_str() == charset
-            && has_params(&found.params, params),
-    )
-}
-
 #[test]
 fn types(rt: HostRuntime) -> Result<(), Fail> {
     for row in &TYPES {
-        assert!(rt; is_type(rt.alloc(), row)?, "{row:?}");
+        let (text, mimetype, charset, params) = *row;
+        let found = parse_content_type(rt.alloc(), text)?;
+        assert_eq!(rt; found.mimetype.as_str(), mimetype, "{row:?}");
+        assert_eq!(rt; found.charset.as_str(), charset, "{row:?}");
+        assert_eq!(rt; found.params, map_of(rt.alloc(), params)?, "{row:?}");
     }
     Ok(())
 }
 
-/// Whether the type of this header has this one name.
-fn is_named(alloc: Global, header: &[u8], name: &str) -> Result<bool, MailParseError> {
-    let (header, _) = parse_header(header)?;
-    let found = parse_content_type(alloc, header.get_value(alloc)?.as_str())?;
-    Ok(
-        found.mimetype.as_str() == "application/octet-stream"
-            && found.charset.as_str() == "utf8"
-            && found.params.len() == 2
-            && is_text(found.params.get("name"), name),
-    )
-}
+/// A header whose type has a name in an encoded word, and the parameters of the type.
+const NAMED: &[u8] = b"Content-Type: application/octet-stream;\
+    name=\"=?utf8?B?6L+O5ai255m95a+M576O?=\";charset=\"utf8\"";
 
-/// Whether the text is there and is this one.
-fn is_text(found: Option<&String>, text: &str) -> bool {
-    match found {
-        Some(found) => found.as_str() == text,
-        None => false,
-    }
-}
+static NAMED_PARAMS: [(&str, &str); 2] = [
+    ("charset", "utf8"),
+    ("name", "\u{8FCE}\u{5A36}\u{767D}\u{5BCC}\u{7F8E}"),
+];
 
 #[test]
 fn a_name_in_an_encoded_word(rt: HostRuntime) -> Result<(), Fail> {
-    let header =
-        b"Content-Type: application/octet-stream;name=\"=?utf8?B?6L+O5ai255m95a+M576O?=\";charset=\"utf8\"";
-    let name = "\u{8FCE}\u{5A36}\u{767D}\u{5BCC}\u{7F8E}";
-    assert!(rt; is_named(rt.alloc(), header, name)?);
+    let (header, _) = parse_header(NAMED)?;
+    let value = header.get_value(rt.alloc())?;
+    let found = parse_content_type(rt.alloc(), value.as_str())?;
+    assert_eq!(rt; found.mimetype.as_str(), "application/octet-stream");
+    assert_eq!(rt; found.charset.as_str(), "utf8");
+    assert_eq!(rt; found.params, map_of(rt.alloc(), &NAMED_PARAMS)?);
     Ok(())
 }
 
 /// A text, and the disposition, shown by Debug, and the parameters that it names.
 type DispositionRow = (&'static str, &'static str, Params);
 
-static DISPOSITIONS: [DispositionRow; 12] = [
+static DISPOSITIONS: [DispositionRow; 13] = [
     ("", "Inline", &[]),
     (" \t", "Inline", &[]),
     ("; a=1", "Inline", &[("a", "1")]),
@@ -181,24 +163,24 @@ static DISPOSITIONS: [DispositionRow; 12] = [
     ("X-Foo; a=1", "Extension(\"x-foo\")", &[("a", "1")]),
     ("\"inline\"", "Extension(\"\\\"inline\\\"\")", &[]),
     ("\u{C9}T", "Extension(\"\u{C9}t\")", &[]),
+    // The name of a file in pieces, with a charset.
+    (
+        "attachment; filename*0*=utf-8''%E2%82; filename*1*=%AC.txt",
+        "Attachment",
+        &[("filename", "\u{20AC}.txt")],
+    ),
 ];
-
-/// Whether a text names the disposition of its row, and a clone is equal.
-fn is_disposition(alloc: Global, row: &DispositionRow) -> Result<bool, MailParseError> {
-    let (text, kind, params) = *row;
-    let found = parse_content_disposition(alloc, text)?;
-    let shown = format!(in alloc; "{:?}", found.disposition)?;
-    Ok(
-        shown.as_str() == kind
-            && found.disposition == found.disposition.clone(alloc)?
-            && has_params(&found.params, params),
-    )
-}
 
 #[test]
 fn dispositions(rt: HostRuntime) -> Result<(), Fail> {
     for row in &DISPOSITIONS {
-        assert!(rt; is_disposition(rt.alloc(), row)?, "{row:?}");
+        let (text, kind, params) = *row;
+        let found = parse_content_disposition(rt.alloc(), text)?;
+        let shown = format!(in rt.alloc(); "{:?}", found.disposition)?;
+        assert_eq!(rt; shown.as_str(), kind, "{row:?}");
+        let copy = found.disposition.clone(rt.alloc())?;
+        assert_eq!(rt; copy, found.disposition, "{row:?}");
+        assert_eq!(rt; found.params, map_of(rt.alloc(), params)?, "{row:?}");
     }
     Ok(())
 }
@@ -258,6 +240,7 @@ fn many_names(rt: HostRuntime) -> Result<(), Fail> {
     }
     let found = parse_content_type(rt.alloc(), text.as_str())?;
     assert_eq!(rt; found.params.len(), 100_000);
-    assert!(rt; is_text(found.params.get("n99999"), "v99999"));
+    let last = found.params.get("n99999").ok_or("no last name")?;
+    assert_eq!(rt; last.as_str(), "v99999");
     Ok(())
 }
