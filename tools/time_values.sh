@@ -42,5 +42,5 @@ for piece in '\n ' 'a\n ' '=? ' '=?utf-8?Q?a?= ' 'x'; do
     most=$(memory 120 out/mail_speed 1 values)
     least=$(timeout 120 out/mail_speed 5 values < "$work/input" 2>&1 > /dev/null |
         sed -n 's/^values: least \([0-9.]*\),.*$/\1/p')
-    printf "%-18s 8 MB: %s ns a byte, %s KB\n" "'$piece'" "${least:-failed, no}" "$most"
+    printf "%-18s 8 MB: %s ns per byte, %s KB\n" "'$piece'" "${least:-failed, no}" "$most"
 done

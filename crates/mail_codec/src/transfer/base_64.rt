@@ -21,7 +21,7 @@ const WINDOW: usize = 4096;
 /// wherever they stand, groups with padding may stand anywhere, and bits that make no whole byte
 /// are ignored.
 ///
-/// The inner error is the number, from 0, of the first invalid group of four; a short last group is
+/// The inner error is the index, from 0, of the first invalid group of four; a short last group is
 /// invalid. The outer error comes where memory runs out: the answer takes memory, which is reserved
 /// at once, and so do a few kilobytes of letters on the way.
 ///
@@ -90,7 +90,7 @@ fn keep_from(letters: &mut Vec<u8>, at: usize)
     letters.truncate(left);
 }
 
-/// Appends the bytes of whole groups, of which the first has number `first`, or answers the number
+/// Appends the bytes of whole groups, of which the first has index `first`, or answers the index
 /// of the first invalid one. `full` and `decoded` are lent to be written over.
 fn decode_groups(
     bytes: &mut Vec<u8>,
