@@ -1,24 +1,20 @@
 -- Which of the names that wait says the charset of each.
-use Rattle.std.proofs.Common.{◌≡◌, ℕ, zero, suc, ◌-◌, ◌<◌, ◌≤◌, Bool, true, false, cond, List, [], ◌∷◌, ◌++◌, length, get_or, take, None, refl, sym, ap, subst, ◌∙◌, arith, nat_eq, ◌⊎◌, inl, inr, ⊎_elim}
+use Rattle.std.proofs.Common.{◌≡◌, ℕ, zero, suc, ◌-◌, ◌+◌, ◌<◌, ◌≤◌, Bool, true, false, ◌&&◌, cond, eqb, List, [], ◌∷◌, ◌++◌, length, get_or, take, None, refl, sym, ap, subst, ◌∙◌, arith, nat_eq, ◌⊎◌, inl, inr, ⊎_elim}
 use Rattle.std.proofs.Math.ListN.{get_or-map}
 use Rattle.std.proofs.lemmas.Bool.{and_from, and_left, and_parts, and_right, both_ways, cases_lt, cases_order, cond-false, cond-true, eq-eqb, eqb-true, le-ltb, ne_eqb}
-use Rattle.std.proofs.lemmas.List.{length-map}
+use Rattle.std.proofs.lemmas.List.{length-map, length-take-le}
 use Rattle.std.specs.Cmp.Lexicographic.{slice_cmp}
 use Rattle.std.specs.List.{starts_with}
 use Rattle.std.specs.Ordering.{is_lt, nat_cmp, ordering_then}
 use Rattle.std.specs.declared.cmp.Ordering.TheVariants.{Equal, Greater}
 use Rattle.mailparse.specs.StarredKeys.{starred}
-use Rattle.mailparse.specs.private.Deciders.{AreInOrder, is_speaker, name_at, speaks_for}
+use Rattle.mailparse.specs.private.Deciders.{AreInOrder, is_speaker, name_at, shared_len, shared_lens, speaks_for}
 use Rattle.mailparse.specs.private.StarredKeys.{names_of}
 use Rattle.mailparse.specs.declared.parameters.starred.waiting.Waiting.{Waiting}
 
 pub name_of_place : (waiting : List Waiting) (place : ℕ)
     → (get_or waiting place (record { name = record { ref_ptr = (0, 0); now = [] }; value = record { ref_ptr = (0, 0); now = [] }; charset = None })).name.now ≡ name_at (names_of waiting) place
 name_of_place waiting place = sym (get_or-map (λ (w : Waiting). w.name.now) waiting place _)
-
-pub at_same_place : (waiting : List Waiting) (prefix : List ℕ) (place k : ℕ) → k ≡ place
-    → starts_with nat_eq (name_at (names_of waiting) place) prefix ≡ true → starts_with nat_eq (name_at (names_of waiting) k) prefix ≡ true
-at_same_place waiting prefix place k same h = ap (λ j. starts_with nat_eq (name_at (names_of waiting) j) prefix) same ∙ h
 
 -- ---- names between two that begin alike begin so too, in the order of their starred keys
 
@@ -141,24 +137,116 @@ pub unspoken : (names : List (List ℕ)) (place : ℕ) → is_speaker (name_at n
     → old ≡ cond (speaks_for (name_at names place) (name_at names k)) place old
 unspoken names place silent old k = sym (cond-false _ _ _ (and_left _ _ silent))
 
-pub range_found : (waiting : List Waiting) (name : List ℕ) (place first end : ℕ) → name ≡ name_at (names_of waiting) place → first ≤ place → place < end
-    → ((k : ℕ) → first ≤ k → k < place → starts_with nat_eq (name_at (names_of waiting) k) (take (length name - 1) name) ≡ true)
-    → ((k : ℕ) → place < k → k < end → starts_with nat_eq (name_at (names_of waiting) k) (take (length name - 1) name) ≡ true)
-    → (0 < first → starts_with nat_eq (name_at (names_of waiting) (first - 1)) (take (length name - 1) name) ≡ false)
-    → (end < length waiting → starts_with nat_eq (name_at (names_of waiting) end) (take (length name - 1) name) ≡ false)
-    → IsRange (names_of waiting) (take (length (name_at (names_of waiting) place) - 1) (name_at (names_of waiting) place)) place first end
-range_found waiting name place first end is until from lower upper before after =
-    let long = length-map waiting (λ (w : Waiting). w.name.now) in
-    let made : IsRange (names_of waiting) (take (length name - 1) name) place first end = record {
-      until = until;
-      from = from;
-      lower = lower;
-      own = ap (λ z. starts_with nat_eq z (take (length name - 1) name)) (sym is) ∙ own_beginning (length name - 1) name;
-      upper = upper;
-      before = before;
-      after = λ h. after (omega arith);
-    } in
-    subst (λ z. IsRange (names_of waiting) (take (length z - 1) z) place first end) is made
-
 pub long_names : (waiting : List Waiting) → length (names_of waiting) ≡ length waiting
 long_names waiting = length-map waiting (λ (w : Waiting). w.name.now)
+
+-- ---- how many bytes names share
+
+-- names that share as many bytes as a prefix has begin with it both or neither
+begin_alike : (prefix a b : List ℕ) → length prefix ≤ shared_len a b → starts_with nat_eq a prefix ≡ starts_with nat_eq b prefix
+begin_alike [] a b long = refl
+begin_alike (p ∷ prefix) [] b long = absurd (omega arith)
+begin_alike (p ∷ prefix) (x ∷ a) [] long = absurd (omega arith)
+begin_alike (p ∷ prefix) (x ∷ a) (y ∷ b) long = go (eqb x y) refl (λ more. begin_alike prefix a b more) long
+  where
+    go : (t : Bool) → eqb x y ≡ t → (length prefix ≤ shared_len a b → starts_with nat_eq a prefix ≡ starts_with nat_eq b prefix)
+        → suc (length prefix) ≤ cond t (1 + shared_len a b) 0 → starts_with nat_eq (x ∷ a) (p ∷ prefix) ≡ starts_with nat_eq (y ∷ b) (p ∷ prefix)
+    go true is rest more = ap (λ z. starts_with nat_eq (z ∷ a) (p ∷ prefix)) (eqb-true x y is) ∙ ap (λ t. nat_eq p y && t) (rest (omega (arith, more)))
+    go false is rest more = absurd (omega (arith, more))
+
+-- names that both begin with a prefix share as many bytes
+share_prefix : (prefix a b : List ℕ) → starts_with nat_eq a prefix ≡ true → starts_with nat_eq b prefix ≡ true → length prefix ≤ shared_len a b
+share_prefix [] a b ba bb = omega arith
+share_prefix (p ∷ prefix) [] b ba bb = absurd (cc)
+share_prefix (p ∷ prefix) (x ∷ a) [] ba bb = absurd (cc)
+share_prefix (p ∷ prefix) (x ∷ a) (y ∷ b) ba bb =
+    let fa = first_same p x prefix a ba in
+    let fb = first_same p y prefix b bb in
+    let rest = share_prefix prefix a b fa.1 fb.1 in
+    subst (λ t. suc (length prefix) ≤ cond t (1 + shared_len a b) 0) (sym (eq-eqb x y (sym fa.0 ∙ fb.0))) (omega (arith, rest))
+
+pub long_shared : (waiting : List Waiting) → length (shared_lens waiting) ≡ length waiting - 1
+long_shared [] = refl
+long_shared (w ∷ []) = refl
+long_shared (w ∷ v ∷ waiting) = let rest = long_shared (v ∷ waiting) in omega (arith, rest)
+
+pub within_shared : (waiting : List Waiting) (shared : List ℕ) (place : ℕ) → shared ≡ shared_lens waiting → place < length waiting → place ≤ length shared
+within_shared waiting shared place are within = let same = ap length are in let long = long_shared waiting in omega (arith, same, long, within)
+
+shared_at : (waiting : List Waiting) (k : ℕ) → suc k < length waiting
+    → get_or (shared_lens waiting) k 0 ≡ shared_len (name_at (names_of waiting) k) (name_at (names_of waiting) (suc k))
+shared_at [] k below = absurd (omega arith)
+shared_at (w ∷ []) k below = absurd (omega arith)
+shared_at (w ∷ v ∷ waiting) zero below = refl
+shared_at (w ∷ v ∷ waiting) (suc k) below = shared_at (v ∷ waiting) k (omega arith)
+
+-- the range that the shared lengths show round the place of a name
+module _ (waiting : List Waiting) (prefix : List ℕ) (place first last : ℕ) (within : place < length waiting) (end : last ≤ length waiting - 1)
+    (own : starts_with nat_eq (name_at (names_of waiting) place) prefix ≡ true) where
+  abbrev begins : ℕ → Bool
+  begins k = starts_with nat_eq (name_at (names_of waiting) k) prefix
+
+  abbrev Shared : ℕ → Type 0
+  Shared k = length prefix ≤ get_or (shared_lens waiting) k 0
+
+  alike : (k : ℕ) → suc k < length waiting → Shared k → begins k ≡ begins (suc k)
+  alike k below shared =
+      let at = shared_at waiting k below in
+      begin_alike prefix (name_at (names_of waiting) k) (name_at (names_of waiting) (suc k)) (omega (arith, at, shared))
+
+  not_both : (k : ℕ) → suc k < length waiting → get_or (shared_lens waiting) k 0 < length prefix → begins k ≡ true → begins (suc k) ≡ true → ⊥
+  not_both k below few one next =
+      let at = shared_at waiting k below in
+      let shared = share_prefix prefix (name_at (names_of waiting) k) (name_at (names_of waiting) (suc k)) one next in
+      omega (arith, at, few, shared)
+
+  back : ((k : ℕ) → first ≤ k → k < place → Shared k) → (n k : ℕ) → n + k ≡ place → first ≤ k → begins k ≡ true
+  back shared zero k is from = let same : k ≡ place = omega (arith, is) in ap begins same ∙ own
+  back shared (suc n) k is from = alike k (omega (arith, is, within)) (shared k from (omega (arith, is))) ∙ back shared n (suc k) (omega (arith, is)) (omega (arith, from))
+
+  forth : ((k : ℕ) → place ≤ k → k < last → Shared k) → (n k : ℕ) → k ≡ n + place → k ≤ last → begins k ≡ true
+  forth shared zero k is until = let same : k ≡ place = omega (arith, is) in ap begins same ∙ own
+  forth shared (suc n) k is until =
+      let one : k ≡ suc (n + place) = omega (arith, is) in
+      ap begins one
+      ∙ sym (alike (n + place) (omega (arith, is, until, end, within)) (shared (n + place) (omega arith) (omega (arith, is, until))))
+      ∙ forth shared n (n + place) refl (omega (arith, is, until))
+
+  range_shared : first ≤ place → place ≤ last → ((k : ℕ) → first ≤ k → k < place → Shared k) → ((k : ℕ) → place ≤ k → k < last → Shared k)
+      → (0 < first → get_or (shared_lens waiting) (first - 1) 0 < length prefix) → (last < length waiting - 1 → get_or (shared_lens waiting) last 0 < length prefix)
+      → IsRange (names_of waiting) prefix place first (last + 1)
+  range_shared until from lower upper before after =
+      let long = long_names waiting in
+      let down : (k : ℕ) → first ≤ k → k ≤ place → begins k ≡ true = λ k above below. back lower (place - k) k (omega (arith, below)) above in
+      let up : (k : ℕ) → place ≤ k → k ≤ last → begins k ≡ true = λ k above below. forth upper (k - place) k (omega (arith, above)) below in
+      record {
+        until = until;
+        from = omega (arith, from);
+        lower = λ k above below. down k above (omega (arith, below));
+        own = own;
+        upper = λ k above below. up k (omega (arith, above)) (omega (arith, below));
+        before = λ some. by_absence _ (λ yes.
+            let same : suc (first - 1) ≡ first = omega (arith, some) in
+            not_both (first - 1) (omega (arith, some, until, within)) (before some) yes (ap begins same ∙ down first (omega arith) until));
+        after = λ more. by_absence _ (λ yes.
+            let next : suc last ≡ last + 1 = omega arith in
+            not_both last (omega (arith, more, long)) (after (omega (arith, more, long))) (up last from (omega arith)) (ap begins next ∙ yes));
+      }
+
+pub range_found : (waiting : List Waiting) (shared : List ℕ) → shared ≡ shared_lens waiting → (name : List ℕ) (place first last : ℕ) → name ≡ name_at (names_of waiting) place → place < length waiting
+    → first ≤ place → place ≤ last → last ≤ length shared
+    → ((k : ℕ) → first ≤ k → k < place → length name - 1 ≤ get_or shared k 0) → ((k : ℕ) → place ≤ k → k < last → length name - 1 ≤ get_or shared k 0)
+    → (0 < first → get_or shared (first - 1) 0 < length name - 1) → (last < length shared → get_or shared last 0 < length name - 1)
+    → IsRange (names_of waiting) (take (length (name_at (names_of waiting) place) - 1) (name_at (names_of waiting) place)) place first (last + 1)
+range_found waiting shared are name place first last is within until from end lower upper before after =
+    let long = long_shared waiting in
+    let same = ap length are in
+    let prefix : length (take (length name - 1) name) ≡ length name - 1 = length-take-le (length name - 1) name (omega arith) in
+    let at : (k : ℕ) → get_or shared k 0 ≡ get_or (shared_lens waiting) k 0 = λ k. ap (λ xs. get_or xs k 0) are in
+    let own : starts_with nat_eq (name_at (names_of waiting) place) (take (length name - 1) name) ≡ true = ap (λ z. starts_with nat_eq z (take (length name - 1) name)) (sym is) ∙ own_beginning (length name - 1) name in
+    subst (λ z. IsRange (names_of waiting) (take (length z - 1) z) place first (last + 1)) is
+    (range_shared waiting (take (length name - 1) name) place first last within (omega (arith, end, same, long)) own until from
+    (λ k above below. omega (arith, lower k above below, prefix, at k))
+    (λ k above below. omega (arith, upper k above below, prefix, at k))
+    (λ some. omega (arith, before some, prefix, at (first - 1)))
+    (λ more. omega (arith, after (omega (arith, more, same, long)), prefix, at last)))

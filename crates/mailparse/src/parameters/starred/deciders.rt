@@ -1,57 +1,59 @@
 //! Which of the waiting names says the charset of each.
-ghost use Rattle.std.specs.Prelude.{◌≡◌, ◌≤◌, ◌<◌, ◌-◌, ℕ, length, map, nat_eq, slice_index_or, true, false, IfOk, if◌then◌else◌};
-ghost use Rattle.std.specs.List.{starts_with};
-ghost use Rattle.mailparse.specs.private.Deciders.{AreInOrder, decided, name_at, speaks_for};
+ghost use Rattle.std.specs.Prelude.{◌≡◌, ◌≤◌, ◌<◌, ◌-◌, ℕ, length, map, slice_index_or, IfOk, if◌then◌else◌};
+ghost use Rattle.mailparse.specs.private.Deciders.{AreInOrder, decided, name_at, shared_len, shared_lens, speaks_for};
 ghost use Rattle.mailparse.specs.private.StarredKeys.{names_of};
 
 use super::waiting::Waiting;
 use std::alloc::{AllocError, Global};
 
-/// Whether the name at a place begins with the prefix.
-fn begins_with(waiting: &[Waiting<'_>], place: usize, prefix: &[u8]) -> bool
-    requires { place < length waiting.now }
-    ensures { result ≡ starts_with nat_eq (name_at (names_of waiting.now) place) prefix.now }
+/// How many bytes two names share at the front.
+fn shared_len(left: &[u8], right: &[u8]) -> usize
+    ensures { result ≡ shared_len left.now right.now }
 {
-    waiting[place].name.as_bytes().starts_with(prefix)
+    left.iter()
+        .zip(right)
+        .take_while(|(one, other)| one == other)
+        .count()
 }
 
-/// The first place from which on, up to a place, all names begin with the prefix.
-fn first_with(waiting: &[Waiting<'_>], place: usize, prefix: &[u8]) -> usize
-    requires { place < length waiting.now }
+/// How many bytes each name shares with the next, so that long names that begin alike are compared
+/// once and not for each name that may speak for them.
+fn shared_lens(alloc: Global, waiting: &[Waiting<'_>]) -> Result<Vec<usize>, AllocError>
+    ensures { IfOk result (λ shared. shared.items ≡ shared_lens waiting.now) }
+{
+    let mut shared = Vec::with_capacity(alloc, waiting.len())?;
+    let pairs = waiting.iter().zip(waiting.iter().skip(1));
+    shared.extend(pairs.map(|(one, next)| shared_len(one.name.as_bytes(), next.name.as_bytes())))?;
+    Ok(shared)
+}
+
+/// The first place from which on, up to a place, each name shares so many bytes with the next.
+fn first_with(shared: &[usize], place: usize, len: usize) -> usize
+    requires { place ≤ length shared.now }
     ensures bound { result ≤ place }
-    ensures all { (k : ℕ) → result ≤ k → k < place →
-        starts_with nat_eq (name_at (names_of waiting.now) k) prefix.now ≡ true }
-    ensures first { 0 < result →
-        starts_with nat_eq (name_at (names_of waiting.now) (result - 1)) prefix.now ≡ false }
+    ensures all { (k : ℕ) → result ≤ k → k < place → len ≤ slice_index_or shared.now k 0 }
+    ensures first { 0 < result → slice_index_or shared.now (result - 1) 0 < len }
 {
     let mut first = place;
-    while first > 0 {
-        if !begins_with(waiting, first - 1, prefix) {
-            return first;
-        }
+    while first > 0 && shared[first - 1] >= len {
         first -= 1;
     }
     first
 }
 
-/// The place before which, from after a place, all names begin with the prefix.
-fn end_with(waiting: &[Waiting<'_>], place: usize, prefix: &[u8]) -> usize
-    requires { place < length waiting.now }
-    ensures bound { place < result }
-    ensures within { result ≤ length waiting.now }
-    ensures all { (k : ℕ) → place < k → k < result →
-        starts_with nat_eq (name_at (names_of waiting.now) k) prefix.now ≡ true }
-    ensures last { result < length waiting.now →
-        starts_with nat_eq (name_at (names_of waiting.now) result) prefix.now ≡ false }
+/// The last place up to which, from a place on, each name shares so many bytes with the next.
+fn last_with(shared: &[usize], place: usize, len: usize) -> usize
+    requires { place ≤ length shared.now }
+    ensures bound { place ≤ result }
+    ensures within { result ≤ length shared.now }
+    ensures all { (k : ℕ) → place ≤ k → k < result → len ≤ slice_index_or shared.now k 0 }
+    ensures last { result < length shared.now → slice_index_or shared.now result 0 < len }
 {
-    let mut end = place + 1;
-    while end < waiting.len() {
-        if !begins_with(waiting, end, prefix) {
-            return end;
-        }
-        end += 1;
+    let mut last = place;
+    while last < shared.len() && shared[last] >= len {
+        last += 1;
     }
-    end
+    last
 }
 
 /// For each of some places the place itself.
@@ -89,8 +91,9 @@ fn write_range(places: &mut Vec<usize>, first: usize, end: usize, place: usize)
 
 /// Where the name at a place may speak for others, it does so for those that begin with it, less its
 /// last byte.
-fn speak(waiting: &[Waiting<'_>], place: usize, places: &mut Vec<usize>)
+fn speak(waiting: &[Waiting<'_>], shared: &[usize], place: usize, places: &mut Vec<usize>)
     requires within { place < length waiting.now }
+    requires shared { shared.now ≡ shared_lens waiting.now }
     requires long { length places.old.items ≡ length waiting.now }
     ensures long { length places.new.items ≡ length places.old.items }
     ensures spoken { AreInOrder (names_of waiting.now) → (k : ℕ) → k < length waiting.now →
@@ -102,10 +105,10 @@ fn speak(waiting: &[Waiting<'_>], place: usize, places: &mut Vec<usize>)
     if !name.ends_with(b"*0") {
         return;
     }
-    let prefix = &name[..name.len() - 1];
-    let first = first_with(waiting, place, prefix);
-    let end = end_with(waiting, place, prefix);
-    write_range(places, first, end, place);
+    let len = name.len() - 1;
+    let first = first_with(shared, place, len);
+    let last = last_with(shared, place, len);
+    write_range(places, first, last + 1, place);
 }
 
 /// The place of the name that decides for each: the last that speaks for it, otherwise its own.
@@ -115,10 +118,11 @@ pub(super) fn deciders(alloc: Global, waiting: &[Waiting<'_>]) -> Result<Vec<usi
         k < length waiting.now →
         slice_index_or places.items k 0 ≡ decided (names_of waiting.now) (length waiting.now) k) }
 {
+    let shared = shared_lens(alloc, waiting)?;
     let mut places = own_places(alloc, waiting.len())?;
     let mut place = 0;
     while place < waiting.len() {
-        speak(waiting, place, &mut places);
+        speak(waiting, shared.as_slice(), place, &mut places);
         place += 1;
     }
     Ok(places)

@@ -1,7 +1,7 @@
-use Rattle.std.proofs.Common.{◌≡◌, ap, sym, ◌∙◌, false, true, arith}
+use Rattle.std.proofs.Common.{◌≡◌, ◌+◌, length, ap, sym, ◌∙◌, false, true, arith}
 use Rattle.mailparse.specs.private.Deciders.{is_speaker, name_at}
 use Rattle.mailparse.specs.private.StarredKeys.{names_of}
-use Rattle.mailparse.proofs.lemmas.Deciders.{long_names, name_of_place, range_found, spoken, unspoken}
+use Rattle.mailparse.proofs.lemmas.Deciders.{long_names, long_shared, name_of_place, range_found, spoken, unspoken, within_shared}
 use Rattle.mailparse.proofs.parameters.starred.deciders.speak.Goals as goal
 
 pub returns-then-not-ends_with-clause-spoken : goal.returns-then-not-ends_with-clause-spoken
@@ -16,9 +16,21 @@ returns-clause-spoken c = λ order k below.
     let long = long_names c.args.waiting.now in
     let yes : is_speaker (name_at (names_of c.args.waiting.now) c.args.place) ≡ true = ap is_speaker (sym name) ∙ sym c.if-not-ends_with.ensures.value in
     let first = c.first_with-first.ensures in
-    let end = c.end_with-end.ensures in
-    let range = range_found c.args.waiting.now c.as_bytes-name.result.now c.args.place c.first_with-first.result c.end_with-end.result name
-    first.bound end.bound first.all end.all first.first end.last in
+    let last = c.last_with-last.ensures in
+    let range = range_found c.args.waiting.now c.args.shared.now c.requires.shared c.as_bytes-name.result.now c.args.place c.first_with-first.result c.last_with-last.result name c.requires.within
+    first.bound last.bound last.within first.all last.all first.first last.last in
     let write = c.write_range.ensures in
-    spoken (names_of c.args.waiting.now) c.args.place c.first_with-first.result c.end_with-end.result order (omega (arith, c.requires.within)) yes range
+    spoken (names_of c.args.waiting.now) c.args.place c.first_with-first.result (c.last_with-last.result + 1) order (omega (arith, c.requires.within)) yes range
     _ _ write.before write.inside write.after k (omega arith)
+
+pub first_with-first-requires : goal.first_with-first-requires
+first_with-first-requires c = within_shared c.args.waiting.now c.args.shared.now c.args.place c.requires.shared c.requires.within
+
+pub last_with-last-requires : goal.last_with-last-requires
+last_with-last-requires c = within_shared c.args.waiting.now c.args.shared.now c.args.place c.requires.shared c.requires.within
+
+pub write_range-requires-clause-within : goal.write_range-requires-clause-within
+write_range-requires-clause-within c =
+    let same = ap length c.requires.shared in
+    let long = long_shared c.args.waiting.now in
+    omega (arith, c.last_with-last.ensures.within, same, long, c.requires.long, c.requires.within)
