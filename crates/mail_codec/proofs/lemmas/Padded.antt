@@ -3,7 +3,7 @@ use Rattle.std.proofs.Common.{◌≡◌, ℕ, zero, suc, ◌+◌, ◌*◌, ◌/�
 use Rattle.std.proofs.lemmas.Bool.{cases_Bool}
 use Rattle.std.proofs.lemmas.List.{append_assoc, drop_all, take-append-le, drop-append-le, length-append, append-nil, drop-drop}
 use Rattle.mail_codec.specs.Base64.{padding, letter_value, group_number, bytes_of_values, three_bytes, group_bytes, groups_from, after_group, prepend}
-use Rattle.mail_codec.specs.private.Padding.{zero_letter, third, fourth, filled, group_len, cut_groups}
+use Rattle.mail_codec.specs.private.Padded.{zero_letter, third, fourth, filled, group_len, cut_groups}
 use Rattle.base64.specs.GeneralPurpose.{IsBytes, decode_of}
 use Rattle.base64.specs.Engines.{standard}
 use Rattle.mail_codec.proofs.lemmas.Base64Groups.{drop_four, after_group_ok, prepend-nil}
