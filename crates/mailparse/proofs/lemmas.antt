@@ -2,11 +2,11 @@ pub mod Places
 pub mod Header
 pub mod Block
 pub mod Outcome
-pub mod Keys
+pub mod Map
 pub mod Tokens
 pub mod Cuts
 pub mod EncodedWord
-pub mod Unfolding
+pub mod Shown
 pub mod Value
 pub mod Plain
 pub mod Lines
