@@ -8,8 +8,8 @@ pub mod Cuts
 pub mod EncodedWord
 pub mod Shown
 pub mod Value
-pub mod Plain
-pub mod Lines
+pub mod ValuePlain
+pub mod ValueLines
 pub mod NodeType
 pub mod Delimiters
 pub mod DelimiterRows

@@ -13,7 +13,7 @@ use Rattle.mailparse.specs.Pairs.{pair_of, pairs_of, value_of}
 use Rattle.mailparse.specs.Pieces.{outside, with_front, pieces, pieces_from, unescape}
 use Rattle.mailparse.proofs.lemmas.Pairs.{pair_of-some, pairs_in-some, pairs_of-later, value_of-first}
 use Rattle.mailparse.proofs.lemmas.Pieces.{at_other}
-use Rattle.mailparse.proofs.lemmas.Plain.{graphic_no_whitespace}
+use Rattle.mailparse.proofs.lemmas.ValuePlain.{graphic_no_whitespace}
 use Rattle.mail_codec.specs.Charset.{Charsets}
 use Rattle.mail_laws.specs.Boundaries.{IsAlphanumeric, boundary_type, one_text}
 use Rattle.mailparse.specs.ContentType.{content_type_in, type_with}

@@ -93,8 +93,8 @@ fn find_closing(line: &str, from: usize) -> usize
     at
 }
 
-/// The same as `find_closing`, where `kept` is what an earlier search found, or 0 before the first: it
-/// stays right until the search is past it.
+/// The same as `find_closing`, where `kept` is what an earlier search found, or 0 before the first:
+/// it stays right until the search is past it.
 fn find_closing_or_keep(line: &str, from: usize, kept: usize) -> usize
     requires within { from ≤ length line.now }
     requires keeps { KeepsClosing line.now from kept }

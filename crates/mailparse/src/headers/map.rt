@@ -1,5 +1,5 @@
 //! Looking headers up by their names.
-ghost use Rattle.std.specs.Prelude.{◌≡◌, map, List, IsOk, IsNone, Ok, string_bytes};
+ghost use Rattle.std.specs.Prelude.{◌≡◌, map, List, IfOk, IsOk, IsNone, Ok, string_bytes};
 ghost use Rattle.std.specs.Option.{option_copied};
 ghost use Rattle.std.specs.Str.{str_eq_ignore_ascii_case};
 ghost use Rattle.mail_codec.specs.Latin1.{latin1_text};
@@ -9,7 +9,7 @@ ghost use Rattle.mailparse.specs.Outcome.{AnswersOrMemory, GivesTexts};
 use super::Headers;
 use crate::error::MailParseError;
 use crate::header::MailHeader;
-use std::alloc::Global;
+use std::alloc::{AllocError, Global};
 
 /// A list of headers, in the order of the message, that is looked up by name.
 ///
@@ -58,11 +58,11 @@ impl MailHeaderMap for Vec<MailHeader<'_>> {
     }
 
     fn get_first_value(&self, alloc: Global, key: &str) -> Result<Option<String>, MailParseError> {
-        first_value(alloc, self.as_slice(), key)
+        Ok(first_value(alloc, self.as_slice(), key)?)
     }
 
     fn get_all_values(&self, alloc: Global, key: &str) -> Result<Vec<String>, MailParseError> {
-        all_values(alloc, self.as_slice(), key)
+        Ok(all_values(alloc, self.as_slice(), key)?)
     }
 
     fn get_all_headers(
@@ -70,7 +70,7 @@ impl MailHeaderMap for Vec<MailHeader<'_>> {
         alloc: Global,
         key: &str,
     ) -> Result<Vec<&MailHeader<'_>>, MailParseError> {
-        all_headers(alloc, self.as_slice(), key)
+        Ok(all_headers(alloc, self.as_slice(), key)?)
     }
 }
 
@@ -82,11 +82,11 @@ impl MailHeaderMap for Headers<'_> {
     }
 
     fn get_first_value(&self, alloc: Global, key: &str) -> Result<Option<String>, MailParseError> {
-        first_value(alloc, self.list(), key)
+        Ok(first_value(alloc, self.list(), key)?)
     }
 
     fn get_all_values(&self, alloc: Global, key: &str) -> Result<Vec<String>, MailParseError> {
-        all_values(alloc, self.list(), key)
+        Ok(all_values(alloc, self.list(), key)?)
     }
 
     fn get_all_headers(
@@ -94,7 +94,7 @@ impl MailHeaderMap for Headers<'_> {
         alloc: Global,
         key: &str,
     ) -> Result<Vec<&MailHeader<'_>>, MailParseError> {
-        all_headers(alloc, self.list(), key)
+        Ok(all_headers(alloc, self.list(), key)?)
     }
 }
 
@@ -115,13 +115,13 @@ fn first_value<'h>(
     alloc: Global,
     list: &'h [MailHeader<'h>],
     key: &str,
-) -> Result<Option<String>, MailParseError>
-    ensures read { AnswersOrMemory text_found result (Ok (first_value key.now list.now)) }
+) -> Result<Option<String>, AllocError>
+    ensures read { IfOk result (λ found. text_found found ≡ first_value key.now list.now) }
     ensures no_alloc { IsNone (first_with_key key.now list.now) → IsOk result }
 {
     match first_header(list, key) {
         None => Ok(None),
-        Some(h) => Ok(Some(h.get_value(alloc)?)),
+        Some(h) => Ok(Some(h.get_value_ref(alloc)?.into_owned(alloc)?)),
     }
 }
 
@@ -130,14 +130,15 @@ fn all_values<'h>(
     alloc: Global,
     list: &'h [MailHeader<'h>],
     key: &str,
-) -> Result<Vec<String>, MailParseError>
-    ensures read { GivesTexts result (all_values key.now list.now) }
+) -> Result<Vec<String>, AllocError>
+    ensures read { IfOk result (λ found.
+        map (λ t. string_bytes t) found.items ≡ all_values key.now list.now) }
     ensures no_alloc { IsNone (first_with_key key.now list.now) → IsOk result }
 {
     let mut found = Vec::new(alloc);
     for h in list {
         if is_key(h.get_key_raw(), key) {
-            found.push(h.get_value(alloc)?)?;
+            found.push(h.get_value_ref(alloc)?.into_owned(alloc)?)?;
         }
     }
     Ok(found)
@@ -148,9 +149,9 @@ fn all_headers<'h>(
     alloc: Global,
     list: &'h [MailHeader<'h>],
     key: &str,
-) -> Result<Vec<&'h MailHeader<'h>>, MailParseError>
-    ensures read { AnswersOrMemory (λ v. map (λ h. h.now) v.items) result
-        (Ok (all_with_key key.now list.now)) }
+) -> Result<Vec<&'h MailHeader<'h>>, AllocError>
+    ensures read { IfOk result (λ found.
+        map (λ h. h.now) found.items ≡ all_with_key key.now list.now) }
     ensures no_alloc { IsNone (first_with_key key.now list.now) → IsOk result }
 {
     let mut found = Vec::new(alloc);

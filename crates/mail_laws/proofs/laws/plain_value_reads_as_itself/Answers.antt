@@ -1,4 +1,4 @@
-use Rattle.mailparse.proofs.lemmas.Plain.{lenient_value-plain}
+use Rattle.mailparse.proofs.lemmas.ValuePlain.{lenient_value-plain}
 use Rattle.mail_laws.proofs.laws.plain_value_reads_as_itself.Goals as goal
 
 pub returns : goal.returns

@@ -1,4 +1,4 @@
-use Rattle.mailparse.proofs.lemmas.Plain.{strict_agrees, strict_succeeds}
+use Rattle.mailparse.proofs.lemmas.ValuePlain.{strict_agrees, strict_succeeds}
 use Rattle.mail_laws.proofs.laws.utf8_value_agrees.Goals as goal
 
 pub returns-clause-agrees : goal.returns-clause-agrees

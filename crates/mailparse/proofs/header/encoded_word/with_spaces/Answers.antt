@@ -4,7 +4,7 @@ use Rattle.std.proofs.lemmas.Iterator.Splits.{YieldsList-from_str_split}
 use Rattle.std.proofs.lemmas.Str.{encode_ascii}
 use Rattle.std.specs.List.{join_with_byte}
 use Rattle.std.specs.String.{string_bytes}
-use Rattle.mailparse.proofs.lemmas.Lines.{more_is_some}
+use Rattle.mailparse.proofs.lemmas.ValueLines.{more_is_some}
 use Rattle.mailparse.proofs.lemmas.EncodedWord.{first_piece, next_piece, join-spaced}
 use Rattle.mailparse.proofs.header.encoded_word.with_spaces.Goals as goal
 use Rattle.mailparse.proofs.header.encoded_word.with_spaces.Goals.{then-is_first, else-is_first+in_ok-push}

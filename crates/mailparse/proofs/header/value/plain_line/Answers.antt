@@ -2,7 +2,7 @@ use Rattle.std.proofs.Common.{sym, ap, ◌∙◌, codes}
 use Rattle.mail_codec.specs.Places.{place, begins, stands}
 use Rattle.mail_codec.specs.Charset.{four_charsets}
 use Rattle.mailparse.proofs.lemmas.Places.{not_some}
-use Rattle.mailparse.proofs.lemmas.Plain.{shown_value-line}
+use Rattle.mailparse.proofs.lemmas.ValuePlain.{shown_value-line}
 use Rattle.mailparse.proofs.header.value.plain_line.Goals as goal
 
 pub returns-in-None : goal.returns-in-None

@@ -5,7 +5,7 @@ use Rattle.std.proofs.lemmas.Iterator.Splits.{YieldsList-from_lines}
 use Rattle.mail_codec.specs.Charset.{four_charsets}
 use Rattle.mailparse.specs.Value.{shown_tokens, shown_value, value_tokens, tokens_of_lines, line_tokens}
 use Rattle.mailparse.specs.private.Shown.{Shows}
-use Rattle.mailparse.proofs.lemmas.Lines.{first_line, next_line, more_is_some, trimmed, trimmed_all}
+use Rattle.mailparse.proofs.lemmas.ValueLines.{first_line, next_line, more_is_some, trimmed, trimmed_all}
 use Rattle.mailparse.proofs.header.value.unfolded_value.Goals as goal
 use Rattle.mailparse.proofs.header.value.unfolded_value.Goals.{then-is_first, else-is_first+in_ok-push}
 
