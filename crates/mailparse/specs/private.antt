@@ -2,12 +2,13 @@
 pub mod Cuts
 pub mod Unfolding
 pub mod DelimiterLines
-pub mod Pieces
+pub mod Segments
 pub mod Pairs
 pub mod Dates
 pub mod IdRows
 pub mod MessageIds
-pub mod StarredKeys
-pub mod Deciders
+pub mod Sections
+pub mod ExtendedValues
+pub mod CharsetSources
 pub mod Continuations
 pub mod Filled

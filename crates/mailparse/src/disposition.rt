@@ -41,7 +41,7 @@ impl DispositionType {
     /// memory ran out.
     pub fn clone(&self, alloc: Global) -> Result<DispositionType, MailParseError>
         ensures same { AnswersOrMemory kind result (Ok (kind self.now)) }
-        ensures no_memory { IsNamed (kind self.now) → IsOk result }
+        ensures no_alloc { IsNamed (kind self.now) → IsOk result }
     {
         match self {
             DispositionType::Inline => Ok(DispositionType::Inline),
