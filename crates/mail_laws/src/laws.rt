@@ -222,9 +222,9 @@ pub fn days_follow_each_other()
         86400 * day_number (year + 1) 0 1 ≡ 86400 * day_number year 11 31 + 86400 }
 {}
 
-/// The texts that are read as message ids are exactly those of the form: white, and then any number
-/// of times `<`, an id without `>`, `>` and white. Any other text is refused for the first place that
-/// breaks the form.
+/// The texts that are read as message ids are exactly those of the form: whitespace, and then any
+/// number of times `<`, an id without `>`, `>` and whitespace. Any other text is refused for the first
+/// place that breaks the form.
 pub fn message_ids_have_a_form()
     ensures reads { (text : List ℕ) (ids : List (List ℕ)) →
         AreIds text ids ↔ (message_ids text ≡ Ok ids) }

@@ -2,6 +2,7 @@ pub mod Places
 pub mod Header
 pub mod Block
 pub mod Outcome
+pub mod Refusal
 pub mod Keys
 pub mod Tokens
 pub mod Cuts
@@ -19,9 +20,9 @@ pub mod Quoted
 pub mod Pairs
 pub mod Types
 pub mod Trees
-pub mod Apart
+pub mod Ranges
 pub mod Bound
-pub mod Dates
+pub mod Date
 pub mod MessageIds
 pub mod SectionNumbers
 pub mod ExtendedValues

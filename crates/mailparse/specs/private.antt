@@ -1,10 +1,10 @@
 -- Words that private functions alone need; no public clause speaks of them.
 pub mod Cuts
 pub mod Unfolding
-pub mod DelimiterLines
+pub mod Delimiters
 pub mod Segments
 pub mod Pairs
-pub mod Dates
+pub mod Date
 pub mod IdRows
 pub mod MessageIds
 pub mod Sections

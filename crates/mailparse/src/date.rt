@@ -2,7 +2,7 @@
 ghost use Rattle.std.specs.Prelude.{◌≡◌, [], IfOk, MatchOption};
 ghost use Rattle.mailparse.specs.Date.{date_seconds, date_words, from_hour, words};
 ghost use Rattle.mailparse.specs.Outcome.{Answers};
-ghost use Rattle.mailparse.specs.private.Dates.{IsFirstNumber, IsNear};
+ghost use Rattle.mailparse.specs.private.Date.{IsFirstNumber, IsNear};
 
 mod calendar;
 mod fields;
@@ -66,7 +66,7 @@ fn first_number(date: &str) -> Option<(u8, &str)>
 /// The seconds of the hour, the minute, the second and the zone that a text begins with, as far as
 /// they are there.
 fn time_of_day(text: &str) -> Result<i64, MailParseError>
-    ensures sum { Answers (λ seconds. seconds) result (from_hour (words text.now)) }
+    ensures read { Answers (λ seconds. seconds) result (from_hour (words text.now)) }
     ensures bounds { IfOk result (IsNear 1100000) }
 {
     let Some((hour, rest)) = next_number(text, "Invalid hour")? else {

@@ -20,11 +20,11 @@ use crate::header::MailHeader;
 use crate::headers::Headers;
 use crate::headers::block::parse_headers;
 use crate::headers::map::MailHeaderMap;
-use delimiters::{cut_body, cut_part};
+use delimiters::{cut_part, cut_preamble};
 pub use parts::PartsIterator;
 use parts::push_parts;
 use std::alloc::Global;
-use types::{delimiter_line, is_digest, node_type};
+use types::{delimiter_of, is_digest, node_type};
 
 /// How many levels of parts may stand below a message: parts inside parts.
 const MAX_LEVELS: u8 = 100;
@@ -59,9 +59,9 @@ impl<'a> ParsedMail<'a> {
     /// `Content-Transfer-Encoding` names, in any case, and otherwise `7bit`. Nothing is decoded
     /// yet. The one error is that memory ran out.
     pub fn get_body_encoded(&self, alloc: Global) -> Result<Body<'_>, MailParseError>
-        ensures body { let node = root (tree_of self.now) in
+        ensures read { let node = root (tree_of self.now) in
             IfOk result (IsBody (body_kind node) (content_of node)) }
-        ensures fault { IfErr result IsMemory }
+        ensures only_memory { IfErr result IsMemory }
     {
         let mut encoding = self
             .headers
@@ -125,8 +125,8 @@ impl<'a> ParsedMail<'a> {
     /// The message itself, and then its parts, each before its own parts. Takes memory for the list
     /// of them; the one error is that memory ran out.
     pub fn parts<'m>(&'m self, alloc: Global) -> Result<PartsIterator<'m, 'a>, MailParseError>
-        ensures parts { AnswersOrMemory trees_left result (Ok (trees_within (tree_of self.now))) }
-        ensures few { IfOk result (λ iterator. length (trees_left iterator) < 2 ^ 64) }
+        ensures read { AnswersOrMemory trees_left result (Ok (trees_within (tree_of self.now))) }
+        ensures bounds { IfOk result (λ iterator. length (trees_left iterator) < 2 ^ 64) }
     {
         let mut parts = Vec::new(alloc);
         push_parts(self, &mut parts)?;
@@ -154,7 +154,7 @@ impl<'a> ParsedMail<'a> {
 pub fn parse_mail(alloc: Global, raw: &[u8]) -> Result<ParsedMail<'_>, MailParseError>
     ensures read { AnswersOrMemory tree_of result (read_mail raw.now) }
     ensures bounded { IfOk result (λ mail. IsBounded (tree_of mail) (length raw.now)) }
-    ensures no_memory { header_count raw.now ≡ 0 → IsErr (read_headers raw.now) →
+    ensures no_alloc { header_count raw.now ≡ 0 → IsErr (read_headers raw.now) →
         Answers tree_of result (read_mail raw.now) }
 {
     parse_mail_recursive(alloc, raw, false, MAX_LEVELS + 1)
@@ -169,7 +169,7 @@ fn parse_mail_recursive(
 ) -> Result<ParsedMail<'_>, MailParseError>
     ensures read { AnswersOrMemory tree_of result
         (read_levels four_charsets levels in_digest raw.now) }
-    ensures no_memory { 0 < levels → header_count raw.now ≡ 0 → IsErr (read_headers raw.now) →
+    ensures no_alloc { 0 < levels → header_count raw.now ≡ 0 → IsErr (read_headers raw.now) →
         Answers tree_of result (read_levels four_charsets levels in_digest raw.now) }
 {
     if levels == 0 {
@@ -177,7 +177,7 @@ fn parse_mail_recursive(
     }
     let (headers, index) = parse_headers(alloc, raw)?;
     let ctype = node_type(alloc, &headers, in_digest)?;
-    let Some(line) = delimiter_line(alloc, &ctype)? else {
+    let Some(delimiter) = delimiter_of(alloc, &ctype)? else {
         return Ok(ParsedMail {
             raw_bytes: raw,
             header_bytes: &raw[..index],
@@ -188,11 +188,11 @@ fn parse_mail_recursive(
         });
     };
     let is_digest = is_digest(&ctype);
-    let (end, first) = cut_body(raw, index, line.as_slice());
+    let (end, first) = cut_preamble(raw, index, delimiter.as_slice());
     let mut subparts = Vec::new(alloc);
     let mut next = first;
     while let Some(start) = next {
-        let (part_end, after) = cut_part(raw, start, line.as_slice());
+        let (part_end, after) = cut_part(raw, start, delimiter.as_slice());
         let part = &raw[start..part_end];
         subparts.push(parse_mail_recursive(alloc, part, is_digest, levels - 1)?)?;
         next = after;

@@ -102,7 +102,7 @@ impl fmt::Display for MessageIdList {
 /// `msgidparse(alloc, "<one@a> <two@b>")` is the list of `one@a` and `two@b`.
 pub fn msgidparse(alloc: Global, ids: &str) -> Result<MessageIdList, MailParseError>
     ensures read { AnswersOrMemory ids_of result (message_ids ids.now) }
-    ensures no_memory { begins_with_id ids.now ≡ false →
+    ensures no_alloc { begins_with_id ids.now ≡ false →
         Answers ids_of result (message_ids ids.now) }
 {
     let mut found = Vec::new(alloc);
@@ -115,7 +115,7 @@ pub fn msgidparse(alloc: Global, ids: &str) -> Result<MessageIdList, MailParseEr
     Ok(MessageIdList(found))
 }
 
-/// The id that a text begins with, after white, and the text after its `>`; `None` where no `>` is
+/// The id that a text begins with, after whitespace, and the text after its `>`; `None` where no `>` is
 /// left.
 fn next_id(text: &str) -> Result<Option<(&str, &str)>, MailParseError>
     ensures { MatchResult result (λ found. IsNextIdOrNone text.now found)
@@ -138,14 +138,14 @@ fn cut_at_closing(text: &str) -> Option<(&str, &str)>
     text.split_once('>')
 }
 
-/// What stands after white and a `<` at the front of a text, if these stand there.
+/// What stands after whitespace and a `<` at the front of a text, if these stand there.
 fn opened_id(text: &str) -> Option<&str>
     ensures { MatchOption result (opens_id text.now ≡ false) (λ id. IsOpenedId text.now id.now) }
 {
     text.trim_start().strip_prefix('<')
 }
 
-/// Refuses what stands after the last `>`, if it is not white.
+/// Refuses what stands after the last `>`, if it is not whitespace.
 fn check_end(text: &str) -> Result<(), MailParseError>
     ensures { Answers (λ _. []) result (ids_at_end text.now) }
 {

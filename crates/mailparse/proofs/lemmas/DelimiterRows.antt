@@ -1,17 +1,17 @@
 -- Searches with keys that no delimiter has: by their contracts, what `find_from_u8` and
--- `find_from_u8_line_prefix` answer on short texts.
+-- `find_from_u8_line_prefix` return on short texts.
 use Rattle.std.proofs.Common.{◌≡◌, ◌+◌, ◌++◌, ◌∷◌, drop, Some, None, option_map, refl}
 use Rattle.std.specs.Prelude.{codes}
 use Rattle.mail_codec.specs.Ascii.{line_feed}
-use Rattle.mail_codec.specs.Places.{text_place}
+use Rattle.mail_codec.specs.Places.{byte_place}
 use Rattle.mailparse.specs.Delimiters.{delimiter_from}
 
 -- the first `o` in `hello world` from 5 on, and from 8 on
-pub key_after_a_place : option_map (λ k. 5 + k) (text_place (drop 5 (codes "hello world")) (codes "o")) ≡ Some 7
-key_after_a_place = refl
+pub byte_after_a_place : option_map (λ k. 5 + k) (byte_place (drop 5 (codes "hello world")) 111) ≡ Some 7
+byte_after_a_place = refl
 
-pub no_key_after_a_place : option_map (λ k. 8 + k) (text_place (drop 8 (codes "hello world")) (codes "o")) ≡ None
-no_key_after_a_place = refl
+pub no_byte_after_a_place : option_map (λ k. 8 + k) (byte_place (drop 8 (codes "hello world")) 111) ≡ None
+no_byte_after_a_place = refl
 
 -- the first line from a place on that begins with a key
 pub key_on_the_next_line : delimiter_from (codes "he") (codes "hello" ++ line_feed ∷ codes "hello") 1 ≡ Some 6

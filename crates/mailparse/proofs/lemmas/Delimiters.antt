@@ -1,14 +1,14 @@
 -- Lemmas on delimiters: where the first one stands.
 use Rattle.std.proofs.Common.{◌≡◌, ◌≢◌, ◌⊎◌, ℕ, zero, suc, ◌+◌, ◌-◌, ◌<◌, ◌≤◌, Bool, true, false, cond, eqb, List, [], ◌∷◌, ◌&&◌, ◌||◌, length, take, drop, get_or, Option, Some, None, option_map, refl, sym, ap, ◌∙◌, subst, ⊎_elim, arith, length-drop, get_or-drop}
-use Rattle.std.specs.Prelude.{nat_lt}
+use Rattle.std.specs.Prelude.{nat_lt, ◌==◌}
 use Rattle.std.proofs.lemmas.Bool.{cond-true, cond-false, cases_lt, cases_eq, lt-ltb, le-ltb, eq-eqb, eqb-true, ne_eqb, and_parts, and_from, and_left, and_right, false≢true}
 use Rattle.std.proofs.lemmas.List.{drop-drop}
 use Rattle.bstr.specs.Find.{OccursAt, FindsNeedle}
-use Rattle.mail_codec.specs.Places.{stands, begins, first_place, least, place, text_place, byte_place}
+use Rattle.mail_codec.specs.Places.{stands, begins, first_place, least, byte_place}
 use Rattle.mail_codec.proofs.lemmas.Places.{least-is, least-before, least-passes, first_place-before}
 use Rattle.mailparse.specs.Header.{is_line_feed}
 use Rattle.mailparse.specs.Delimiters.{least_from, starts_line, is_delimiter, delimiter_from, line_after}
-use Rattle.mailparse.specs.private.DelimiterLines.{NoDelimiter}
+use Rattle.mailparse.specs.private.Delimiters.{NoDelimiter}
 use Rattle.mail_codec.proofs.lemmas.WordSearches.{place_none, place_some}
 
 -- ---- the least place from a start on
@@ -64,6 +64,9 @@ least_from-out test start end p e =
 
 -- ---- a text that stands
 
+eqb_swap : (a b : ℕ) → eqb a b ≡ eqb b a
+eqb_swap a b = ⊎_elim (λ e. ap (λ x. eqb x b) e ∙ ap (λ x. eqb b x) (sym e)) (λ n. ne_eqb a b n ∙ sym (ne_eqb b a (λ e. n (sym e)))) (cases_eq a b)
+
 or_false : (x y : Bool) → x ≡ false → y ≡ false → (x || y) ≡ false
 or_false x y e f = rw (e, f) refl
 
@@ -87,37 +90,33 @@ reads_stands (x ∷ text) (b ∷ rest) fits h =
     and_from (eqb x b) (stands text rest) (eq-eqb x b (sym (h 0 (omega arith)))) (reads_stands text rest (omega arith) (λ j low. h (suc j) (omega arith)))
 
 -- a text stands only where its first byte does
-pub stands_first : (key rest : List ℕ) → 0 < length key → stands (take 1 key) rest ≡ false → stands key rest ≡ false
+pub stands_first : (key rest : List ℕ) → 0 < length key → begins (λ b. b == get_or key 0 0) rest ≡ false → stands key rest ≡ false
 stands_first [] rest some h = absurd (omega arith)
 stands_first (x ∷ key) [] some h = refl
-stands_first (x ∷ key) (b ∷ rest) some h = by_test (eqb x b) _ h
-  where
-    by_test : (t u : Bool) → (t && true) ≡ false → (t && u) ≡ false
-    by_test true u e = absurd (false≢true (sym e))
-    by_test false u e = refl
+stands_first (x ∷ key) (b ∷ rest) some h = ap (λ t. t && stands key rest) (eqb_swap x b ∙ h)
 
 -- where a delimiter stands, all of it stands within the bytes
-pub is_delimiter-fits : (d bytes : List ℕ) (start p : ℕ) → p ≤ length bytes → is_delimiter d bytes start p ≡ true → p + length d ≤ length bytes
-is_delimiter-fits d bytes start p within h =
-    let fits = (stands_reads d (drop p bytes) (and_parts (starts_line bytes start p) (stands d (drop p bytes)) h).1).0 in
+pub is_delimiter-fits : (dash_boundary bytes : List ℕ) (start p : ℕ) → p ≤ length bytes → is_delimiter dash_boundary bytes start p ≡ true → p + length dash_boundary ≤ length bytes
+is_delimiter-fits dash_boundary bytes start p within h =
+    let fits = (stands_reads dash_boundary (drop p bytes) (and_parts (starts_line bytes start p) (stands dash_boundary (drop p bytes)) h).1).0 in
     let len = length-drop p bytes in
     omega arith
 
 -- ---- the first delimiter
 
-pub delimiter_from-some : (d bytes : List ℕ) (start p : ℕ) → start ≤ p → p < length bytes → is_delimiter d bytes start p ≡ true → NoDelimiter d bytes start p
-    → Some p ≡ delimiter_from d bytes start
+pub delimiter_from-some : (dash_boundary bytes : List ℕ) (start p : ℕ) → start ≤ p → p < length bytes → is_delimiter dash_boundary bytes start p ≡ true → NoDelimiter dash_boundary bytes start p
+    → Some p ≡ delimiter_from dash_boundary bytes start
 unfolding delimiter_from
-delimiter_from-some d bytes start p low high at none =
-    sym (least_from-some (is_delimiter d bytes start) start (length bytes) p (record { low = low; high = high; passes = at; before = none }))
+delimiter_from-some dash_boundary bytes start p low high at none =
+    sym (least_from-some (is_delimiter dash_boundary bytes start) start (length bytes) p (record { low = low; high = high; passes = at; before = none }))
 
-pub delimiter_from-none : (d bytes : List ℕ) (start : ℕ) → NoDelimiter d bytes start (length bytes) → None ≡ delimiter_from d bytes start
+pub delimiter_from-none : (dash_boundary bytes : List ℕ) (start : ℕ) → NoDelimiter dash_boundary bytes start (length bytes) → None ≡ delimiter_from dash_boundary bytes start
 unfolding delimiter_from
-delimiter_from-none d bytes start none = sym (least_from-none (is_delimiter d bytes start) start (length bytes) none)
+delimiter_from-none dash_boundary bytes start none = sym (least_from-none (is_delimiter dash_boundary bytes start) start (length bytes) none)
 
-pub delimiter_from-out : (d bytes : List ℕ) (start p : ℕ) → delimiter_from d bytes start ≡ Some p → IsLeastFrom (is_delimiter d bytes start) start (length bytes) p
+pub delimiter_from-out : (dash_boundary bytes : List ℕ) (start p : ℕ) → delimiter_from dash_boundary bytes start ≡ Some p → IsLeastFrom (is_delimiter dash_boundary bytes start) start (length bytes) p
 unfolding delimiter_from
-delimiter_from-out d bytes start p e = least_from-out (is_delimiter d bytes start) start (length bytes) p e
+delimiter_from-out dash_boundary bytes start p e = least_from-out (is_delimiter dash_boundary bytes start) start (length bytes) p e
 
 -- what a search was told that is seen by a function
 nowhere : (f : ℕ → ℕ) (o : Option ℕ) → None ≡ option_map f o → None ≡ o
@@ -136,34 +135,33 @@ somewhere f at (Some k) e = (k, refl, unwrap (f k) e)
 
 -- ---- a search from one first byte to the next
 
-no_delimiter_before : (key bytes : List ℕ) (start from j : ℕ) → 0 < length key → NoDelimiter key bytes start from → first_place (stands (take 1 key)) (drop from bytes) ≡ j
-    → NoDelimiter key bytes start (from + j)
+no_delimiter_before : (key bytes : List ℕ) (start from j : ℕ) → 0 < length key → NoDelimiter key bytes start from
+    → first_place (begins (λ b. b == get_or key 0 0)) (drop from bytes) ≡ j → NoDelimiter key bytes start (from + j)
 no_delimiter_before key bytes start from j some none first k low high =
     ⊎_elim (λ below. none k low below)
     (λ above.
+    let first_byte = begins (λ b. b == get_or key 0 0) in
     let there : drop (k - from) (drop from bytes) ≡ drop k bytes = drop-drop (k - from) from bytes ∙ ap (λ n. drop n bytes) (omega arith) in
-    let fails : stands (take 1 key) (drop (k - from) (drop from bytes)) ≡ false =
-    first_place-before (stands (take 1 key)) (drop from bytes) (k - from) (omega (arith, first)) in
-    and_right (starts_line bytes start k) _ (stands_first key (drop k bytes) some (ap (stands (take 1 key)) (sym there) ∙ fails)))
+    let fails : first_byte (drop (k - from) (drop from bytes)) ≡ false = first_place-before first_byte (drop from bytes) (k - from) (omega (arith, first)) in
+    and_right (starts_line bytes start k) _ (stands_first key (drop k bytes) some (ap first_byte (sym there) ∙ fails)))
     (cases_lt k from)
 
 -- no first byte of the key is left
 pub no_delimiter_left : (key bytes : List ℕ) (start from : ℕ) → 0 < length key → from ≤ length bytes → NoDelimiter key bytes start from
-    → None ≡ option_map (λ k. from + k) (text_place (drop from bytes) (take 1 key)) → NoDelimiter key bytes start (length bytes)
-no_delimiter_left [] bytes start from some within none e = absurd (omega arith)
-no_delimiter_left (x ∷ key) bytes start from some within none e = λ k low high.
+    → None ≡ option_map (λ k. from + k) (byte_place (drop from bytes) (get_or key 0 0)) → NoDelimiter key bytes start (length bytes)
+no_delimiter_left key bytes start from some within none e = λ k low high.
     let len = length-drop from bytes in
-    no_delimiter_before (x ∷ key) bytes start from (length (drop from bytes)) some none
-    (place_none (stands (x ∷ [])) (drop from bytes) (nowhere (λ k. from + k) (place (stands (x ∷ [])) (drop from bytes)) e)) k low (omega arith)
+    no_delimiter_before key bytes start from (length (drop from bytes)) some none
+    (place_none (begins (λ b. b == get_or key 0 0)) (drop from bytes) (nowhere (λ k. from + k) (byte_place (drop from bytes) (get_or key 0 0)) e)) k low (omega arith)
 
 -- the next first byte of the key
 pub no_delimiter_to : (key bytes : List ℕ) (start from at : ℕ) → 0 < length key → NoDelimiter key bytes start from
-    → Some at ≡ option_map (λ k. from + k) (text_place (drop from bytes) (take 1 key)) → NoDelimiter key bytes start at
-no_delimiter_to [] bytes start from at some none e = absurd (omega arith)
-no_delimiter_to (x ∷ key) bytes start from at some none e =
-    let here = somewhere (λ k. from + k) at (place (stands (x ∷ [])) (drop from bytes)) e in
-    subst (NoDelimiter (x ∷ key) bytes start) (sym here.2)
-    (no_delimiter_before (x ∷ key) bytes start from here.0 some none (sym (place_some (stands (x ∷ [])) (drop from bytes) here.0 here.1).0))
+    → Some at ≡ option_map (λ k. from + k) (byte_place (drop from bytes) (get_or key 0 0)) → NoDelimiter key bytes start at
+no_delimiter_to key bytes start from at some none e =
+    let here = somewhere (λ k. from + k) at (byte_place (drop from bytes) (get_or key 0 0)) e in
+    subst (NoDelimiter key bytes start) (sym here.2)
+    (no_delimiter_before key bytes start from here.0 some none
+    (sym (place_some (begins (λ b. b == get_or key 0 0)) (drop from bytes) here.0 here.1).0))
 
 -- past its start no line starts on a line
 no_delimiter_on_line : (key bytes : List ℕ) (start at j : ℕ) → start ≤ at → NoDelimiter key bytes start at → is_delimiter key bytes start at ≡ false
@@ -197,21 +195,18 @@ no_delimiter_to_line key bytes start at next after none here e =
 
 -- ---- a search for the LF and the delimiter after it
 
-eqb_swap : (a b : ℕ) → eqb a b ≡ eqb b a
-eqb_swap a b = ⊎_elim (λ e. ap (λ x. eqb x b) e ∙ ap (λ x. eqb b x) (sym e)) (λ n. ne_eqb a b n ∙ sym (ne_eqb b a (λ e. n (sym e)))) (cases_eq a b)
-
-feed_and : (d rest : List ℕ) → stands (10 ∷ d) rest ≡ (begins is_line_feed rest && stands d (drop 1 rest))
-feed_and d [] = refl
-feed_and d (b ∷ rest) = ap (λ t. t && stands d rest) (eqb_swap 10 b)
+feed_and : (dash_boundary rest : List ℕ) → stands (10 ∷ dash_boundary) rest ≡ (begins is_line_feed rest && stands dash_boundary (drop 1 rest))
+feed_and dash_boundary [] = refl
+feed_and dash_boundary (b ∷ rest) = ap (λ t. t && stands dash_boundary rest) (eqb_swap 10 b)
 
 -- past the start a delimiter stands where a LF and the delimiter stand one place before
-is_delimiter-line : (d bytes : List ℕ) (start p : ℕ) → start < p → is_delimiter d bytes start p ≡ stands (10 ∷ d) (drop (p - 1) bytes)
-is_delimiter-line d bytes start p later =
+is_delimiter-line : (dash_boundary bytes : List ℕ) (start p : ℕ) → start < p → is_delimiter dash_boundary bytes start p ≡ stands (10 ∷ dash_boundary) (drop (p - 1) bytes)
+is_delimiter-line dash_boundary bytes start p later =
     let other : eqb p start ≡ false = ne_eqb p start (λ e. absurd (omega (arith, later))) in
     let there : drop 1 (drop (p - 1) bytes) ≡ drop p bytes = drop-drop 1 (p - 1) bytes ∙ ap (λ n. drop n bytes) (omega arith) in
-    ap (λ t. (t || begins is_line_feed (drop (p - 1) bytes)) && stands d (drop p bytes)) other
-    ∙ ap (λ rest. begins is_line_feed (drop (p - 1) bytes) && stands d rest) (sym there)
-    ∙ sym (feed_and d (drop (p - 1) bytes))
+    ap (λ t. (t || begins is_line_feed (drop (p - 1) bytes)) && stands dash_boundary (drop p bytes)) other
+    ∙ ap (λ rest. begins is_line_feed (drop (p - 1) bytes) && stands dash_boundary rest) (sym there)
+    ∙ sym (feed_and dash_boundary (drop (p - 1) bytes))
 
 stands_occurs : (text bytes : List ℕ) (k : ℕ) → k ≤ length bytes → stands text (drop k bytes) ≡ true → OccursAt bytes text k
 stands_occurs text bytes k within h =
@@ -226,50 +221,50 @@ occurs_stands text bytes k h =
     reads_stands text (drop k bytes) (omega arith) (λ j low. get_or-drop k bytes j 0 ∙ h.reads j low)
 
 -- the start itself is one where the delimiter stands
-pub is_delimiter-start : (d bytes : List ℕ) (start : ℕ) → is_delimiter d bytes start start ≡ stands d (drop start bytes)
-is_delimiter-start d bytes start = ap (λ t. (t || begins is_line_feed (drop (start - 1) bytes)) && stands d (drop start bytes)) (eq-eqb start start refl)
+pub is_delimiter-start : (dash_boundary bytes : List ℕ) (start : ℕ) → is_delimiter dash_boundary bytes start start ≡ stands dash_boundary (drop start bytes)
+is_delimiter-start dash_boundary bytes start = ap (λ t. (t || begins is_line_feed (drop (start - 1) bytes)) && stands dash_boundary (drop start bytes)) (eq-eqb start start refl)
 
 -- none stands up to a place before which the LF and the delimiter occur nowhere
-none_to : (d bytes : List ℕ) (start to : ℕ) → start ≤ length bytes → to ≤ length (drop start bytes) → stands d (drop start bytes) ≡ false
-    → ((k : ℕ) → 0 ≤ k → k < to → OccursAt (drop start bytes) (10 ∷ d) k → ⊥) → NoDelimiter d bytes start (suc (start + to))
-none_to d bytes start to within fits first none k low high =
-    ⊎_elim (λ same. subst (λ p. is_delimiter d bytes start p ≡ false) (sym same) (is_delimiter-start d bytes start ∙ first))
+none_to : (dash_boundary bytes : List ℕ) (start to : ℕ) → start ≤ length bytes → to ≤ length (drop start bytes) → stands dash_boundary (drop start bytes) ≡ false
+    → ((k : ℕ) → 0 ≤ k → k < to → OccursAt (drop start bytes) (10 ∷ dash_boundary) k → ⊥) → NoDelimiter dash_boundary bytes start (suc (start + to))
+none_to dash_boundary bytes start to within fits first none k low high =
+    ⊎_elim (λ same. subst (λ p. is_delimiter dash_boundary bytes start p ≡ false) (sym same) (is_delimiter-start dash_boundary bytes start ∙ first))
     (λ other.
     let i = k - 1 - start in
     let there : drop i (drop start bytes) ≡ drop (k - 1) bytes = drop-drop i start bytes ∙ ap (λ n. drop n bytes) (omega (arith, other)) in
-    is_delimiter-line d bytes start k (omega (arith, other)) ∙ ap (stands (10 ∷ d)) (sym there)
-    ∙ by_test i (omega (arith, other)) (stands (10 ∷ d) (drop i (drop start bytes))) refl)
+    is_delimiter-line dash_boundary bytes start k (omega (arith, other)) ∙ ap (stands (10 ∷ dash_boundary)) (sym there)
+    ∙ by_test i (omega (arith, other)) (stands (10 ∷ dash_boundary) (drop i (drop start bytes))) refl)
     (cases_eq k start)
   where
-    by_test : (i : ℕ) → i < to → (t : Bool) → stands (10 ∷ d) (drop i (drop start bytes)) ≡ t → t ≡ false
-    by_test i low true e = absurd (none i (omega arith) low (stands_occurs (10 ∷ d) (drop start bytes) i (omega arith) e))
+    by_test : (i : ℕ) → i < to → (t : Bool) → stands (10 ∷ dash_boundary) (drop i (drop start bytes)) ≡ t → t ≡ false
+    by_test i low true e = absurd (none i (omega arith) low (stands_occurs (10 ∷ dash_boundary) (drop start bytes) i (omega arith) e))
     by_test i low false e = refl
 
 -- where the search found nothing
-pub found_nowhere : (d bytes : List ℕ) (start : ℕ) → start ≤ length bytes → stands d (drop start bytes) ≡ false → FindsNeedle (drop start bytes) (10 ∷ d) 0 None
-    → None ≡ delimiter_from d bytes start
-found_nowhere d bytes start within first none =
+pub found_nowhere : (dash_boundary bytes : List ℕ) (start : ℕ) → start ≤ length bytes → stands dash_boundary (drop start bytes) ≡ false → FindsNeedle (drop start bytes) (10 ∷ dash_boundary) 0 None
+    → None ≡ delimiter_from dash_boundary bytes start
+found_nowhere dash_boundary bytes start within first none =
     let len = length-drop start bytes in
-    delimiter_from-none d bytes start (λ k low high.
-    none_to d bytes start (length (drop start bytes)) within (omega arith) first (λ j least small occurs. none j least (omega arith) occurs) k low (omega arith))
+    delimiter_from-none dash_boundary bytes start (λ k low high.
+    none_to dash_boundary bytes start (length (drop start bytes)) within (omega arith) first (λ j least small occurs. none j least (omega arith) occurs) k low (omega arith))
 
 -- where it found a place
-pub found_line : (d bytes : List ℕ) (start k : ℕ) → 0 < length d → start ≤ length bytes → stands d (drop start bytes) ≡ false → FindsNeedle (drop start bytes) (10 ∷ d) 0 (Some k)
-    → (Some (start + k + 1) ≡ delimiter_from d bytes start) × (start + k + 1 + length d ≤ length bytes)
-found_line d bytes start k some within first found =
+pub found_line : (dash_boundary bytes : List ℕ) (start k : ℕ) → 0 < length dash_boundary → start ≤ length bytes → stands dash_boundary (drop start bytes) ≡ false → FindsNeedle (drop start bytes) (10 ∷ dash_boundary) 0 (Some k)
+    → (Some (start + k + 1) ≡ delimiter_from dash_boundary bytes start) × (start + k + 1 + length dash_boundary ≤ length bytes)
+found_line dash_boundary bytes start k some within first found =
     let len = length-drop start bytes in
     let fits = found.1.fits in
     let there : drop k (drop start bytes) ≡ drop (start + k + 1 - 1) bytes = drop-drop k start bytes ∙ ap (λ n. drop n bytes) (omega arith) in
-    let at : is_delimiter d bytes start (start + k + 1) ≡ true =
-    is_delimiter-line d bytes start (start + k + 1) (omega arith) ∙ ap (stands (10 ∷ d)) (sym there) ∙ occurs_stands (10 ∷ d) (drop start bytes) k found.1 in (
-      delimiter_from-some d bytes start (start + k + 1) (omega arith) (omega arith) at
-          (λ j low high. none_to d bytes start k within (omega arith) first (λ i least small occurs. found.0.before i least small occurs) j low (omega arith)),
+    let at : is_delimiter dash_boundary bytes start (start + k + 1) ≡ true =
+    is_delimiter-line dash_boundary bytes start (start + k + 1) (omega arith) ∙ ap (stands (10 ∷ dash_boundary)) (sym there) ∙ occurs_stands (10 ∷ dash_boundary) (drop start bytes) k found.1 in (
+      delimiter_from-some dash_boundary bytes start (start + k + 1) (omega arith) (omega arith) at
+          (λ j low high. none_to dash_boundary bytes start k within (omega arith) first (λ i least small occurs. found.0.before i least small occurs) j low (omega arith)),
       omega arith,
     )
 
 -- where the delimiter stands at the start
-pub starts_delimiter : (d bytes : List ℕ) (start : ℕ) → 0 < length d → stands d (drop start bytes) ≡ true → Some start ≡ delimiter_from d bytes start
-starts_delimiter d bytes start some h =
-    let fits = (stands_reads d (drop start bytes) h).0 in
+pub starts_delimiter : (dash_boundary bytes : List ℕ) (start : ℕ) → 0 < length dash_boundary → stands dash_boundary (drop start bytes) ≡ true → Some start ≡ delimiter_from dash_boundary bytes start
+starts_delimiter dash_boundary bytes start some h =
+    let fits = (stands_reads dash_boundary (drop start bytes) h).0 in
     let len = length-drop start bytes in
-    delimiter_from-some d bytes start start (omega arith) (omega arith) (is_delimiter-start d bytes start ∙ h) (λ k low high. absurd (omega arith))
+    delimiter_from-some dash_boundary bytes start start (omega arith) (omega arith) (is_delimiter-start dash_boundary bytes start ∙ h) (λ k low high. absurd (omega arith))

@@ -38,6 +38,6 @@ impl<'a> BinaryBody<'a> {
         ensures { GivesText result
             (text_under (binary_content self.now).ctype.charset (binary_content self.now).raw) }
     {
-        self.content.text_of(alloc, self.get_raw())
+        Ok(self.content.text_of(alloc, self.get_raw())?)
     }
 }

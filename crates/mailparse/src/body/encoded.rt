@@ -63,7 +63,7 @@ impl<'a> EncodedBody<'a> {
             (encoded_content self.now).ctype.charset (encoded_content self.now).raw) }
     {
         let bytes = self.get_decoded(alloc)?;
-        self.content.text_of(alloc, bytes.as_slice())
+        Ok(self.content.text_of(alloc, bytes.as_slice())?)
     }
 }
 

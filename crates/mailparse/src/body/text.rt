@@ -38,6 +38,6 @@ impl<'a> TextBody<'a> {
         ensures { GivesText result
             (text_under (text_content self.now).ctype.charset (text_content self.now).raw) }
     {
-        self.content.text_of(alloc, self.get_raw())
+        Ok(self.content.text_of(alloc, self.get_raw())?)
     }
 }

@@ -3,7 +3,7 @@ use Rattle.std.proofs.Common.{◌≡◌, ℕ, zero, suc, ◌+◌, ◌-◌, ◌*�
 use Rattle.std.specs.List.{filter, list_all, slice_split, onto_first, prefix_len}
 use Rattle.std.specs.Result.{result_ok}
 use Rattle.std.specs.Borrow.{Bor}
-use Rattle.std.specs.Prelude.{ℤ, pos, negsuc, FitsSigned, option_map, find, ◌+ℤ◌}
+use Rattle.std.specs.Prelude.{ℤ, pos, negsuc, FitsSigned, option_map, ok_or, find, ◌+ℤ◌}
 use Rattle.std.specs.Int.{w32}
 use Rattle.std.proofs.lemmas.Int.{ints}
 use Rattle.std.specs.Str.{IsCharBoundary, IsUtf8, all_ascii_digits, str_eq_ignore_ascii_case}
@@ -13,9 +13,9 @@ use Rattle.std.specs.Str.Parse.{ParsesUnsigned, ParsesSigned, digits_value, sign
 use Rattle.std.proofs.lemmas.Bool.{lt-ltb, ltb-true, leb-true, eqb-true, eqb-false}
 use Rattle.std.proofs.lemmas.Str.Parse.{IsNumeralModel, numerals_by_value, tells_all_ascii_digits}
 use Rattle.mail_codec.specs.Places.{is_empty}
-use Rattle.mailparse.specs.Date.{fits_32_bits, is_separator, look_up, words, zones, date_words, from_hour, from_minute, from_second, from_zone, plus, units, invalid_hour, invalid_minute, invalid_second, signed_number, number_below, days_of_years, year_length, year_of, year_if_read}
-use Rattle.mailparse.specs.private.Dates.{IsNear, next_number, number_or}
-use Rattle.mailparse.specs.Refusal.{Refusal}
+use Rattle.mailparse.specs.Date.{fits_32_bits, is_separator, look_up, words, zones, date_words, from_hour, from_minute, from_second, from_zone, units, invalid_hour, invalid_minute, invalid_second, invalid_year, signed_number, number_below, days_of_years, year_length, year_of, year_of_number}
+use Rattle.mailparse.specs.private.Date.{IsNear, next_number}
+use Rattle.mailparse.specs.Refusal.{◌>>=◌, Reads, Refusal}
 use Rattle.mailparse.proofs.lemmas.Places.{not_empty}
 
 -- ---- numbers
@@ -50,6 +50,10 @@ number_below-parse k word (Err e) h = go (is_empty d) (all_ascii_digits d) (ltb 
     go false false lt p q r = refl
     go false true false p q r = refl
     go false true true p q r = absurd (h ((some_digit d p, own.to d q), ltb-true v (2 ^ k) r))
+
+-- the year of a number, if there is one
+abbrev pub year_if_read : Option ℕ → Reads ℕ
+year_if_read n = ok_or n invalid_year >>= year_of_number
 
 -- the year that a word writes, by what `parse` read
 pub year_of-parse : {E : Type 0} (word : List ℕ) (r : Result ℕ E) → ParsesUnsigned 32 10 word r → year_of word ≡ year_if_read (result_ok r)
@@ -263,15 +267,22 @@ next_some refusal [] n after h = absurd (clash h)
     clash e = cc
 next_some refusal (word ∷ ws) n after h = go (number_below 256 word) refl h
   where
-    go : (read : Option ℕ) → number_below 256 word ≡ read → number_or refusal read ws ≡ Ok (Some (n, after))
+    go : (read : Option ℕ) → number_below 256 word ≡ read → ◌>>=◌ {B = Option (ℕ × List (List ℕ))} (ok_or read refusal) (λ m. Ok (Some (m, ws))) ≡ Ok (Some (n, after))
         → (found : List ℕ) × ((word ∷ ws ≡ found ∷ after) × (number_below 256 found ≡ Some n))
     go None e h = absurd (cc)
     go (Some m) e h =
         let pair : ◌≡◌ {A = ℕ × List (List ℕ)} (m, ws) (n, after) = cc in
         (word, (ap (λ p. word ∷ p.1) pair, e ∙ ap (λ p. Some p.0) pair))
 
+-- two parts of a date together
+abbrev pub plus : Reads ℤ → Reads ℤ → Reads ℤ
+plus front later = do
+  seconds ← front
+  more ← later
+  Ok (seconds +ℤ more)
+
 -- a unit of time, and what follows it
-unit_then : (seconds : ℕ) (refusal : Refusal) (later : List (List ℕ) → Result ℤ Refusal) (word : List ℕ) (n : ℕ) (after : List (List ℕ))
+unit_then : (seconds : ℕ) (refusal : Refusal) (later : List (List ℕ) → Reads ℤ) (word : List ℕ) (n : ℕ) (after : List (List ℕ))
     → number_below 256 word ≡ Some n → plus (units seconds refusal word) (later after) ≡ plus (Ok (pos (seconds * n))) (later after)
 unit_then seconds refusal later word n after h = rw h refl
 
@@ -294,14 +305,14 @@ from_second-next ws after n h =
     ap from_second found.1.0 ∙ unit_then 1 invalid_second from_zone found.0 n after found.1.1
 
 -- a refusal of what follows is the refusal of both
-pub plus-refused : (a : ℤ) (later : Result ℤ Refusal) (refusal : Refusal) → later ≡ Err refusal → plus (Ok a) later ≡ Err refusal
+pub plus-refused : (a : ℤ) (later : Reads ℤ) (refusal : Refusal) → later ≡ Err refusal → plus (Ok a) later ≡ Err refusal
 plus-refused a later refusal h = rw h refl
 
-pub plus-sum : (a b : ℤ) (later : Result ℤ Refusal) → later ≡ Ok b → plus (Ok a) later ≡ Ok (a +ℤ b)
+pub plus-sum : (a b : ℤ) (later : Reads ℤ) → later ≡ Ok b → plus (Ok a) later ≡ Ok (a +ℤ b)
 plus-sum a b later h = rw h refl
 
 -- an hour, a minute and a second together, before a zone
-clock_sum : (a b c : ℕ) (later : Result ℤ Refusal) → plus (Ok (pos a)) (plus (Ok (pos b)) (plus (Ok (pos (1 * c))) later)) ≡ plus (Ok (pos (a + b + c))) later
+clock_sum : (a b c : ℕ) (later : Reads ℤ) → plus (Ok (pos a)) (plus (Ok (pos b)) (plus (Ok (pos (1 * c))) later)) ≡ plus (Ok (pos (a + b + c))) later
 clock_sum a b c (Err refusal) = refl
 clock_sum a b c (Ok z) = ap Ok (omega (arith, ints))
 
