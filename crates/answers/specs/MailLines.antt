@@ -3,8 +3,7 @@
 use Rattle.std.specs.Prelude.{ℕ, suc, List, ◌++◌, length, codes, decimal, Option, Some, None, Ok, Err, ◌≡◌}
 use Rattle.std.specs.List.{flat_map}
 use Rattle.mailparse.specs.ContentType.{ContentType}
-use Rattle.mailparse.specs.Header.{Header}
-use Rattle.mailparse.specs.Keys.{key_text}
+use Rattle.mailparse.specs.Header.{Header, key_text}
 use Rattle.mailparse.specs.Mail.{Forest, Node, Tree, body_kind, no_parts, part_and, parts_of, read_mail, root, trees_within}
 use Rattle.mailparse.specs.Refusal.{Reads, Refusal}
 use Rattle.mailparse.specs.Value.{lenient_value}

@@ -49,6 +49,6 @@ pub fn strip_ascii_whitespace(alloc: Global, bytes: &[u8]) -> Result<Vec<u8>, Al
     ensures { IfOk result (λ kept. kept.items ≡ without_ascii_whitespace bytes.now) }
 {
     let mut kept = Vec::with_capacity(alloc, bytes.len())?;
-    push_runs(&mut kept, bytes, RunEnd::White)?;
+    push_runs(&mut kept, bytes, RunEnd::Whitespace)?;
     Ok(kept)
 }

@@ -102,9 +102,9 @@ fn marked(bytes: &[u8]) -> Option<(Charset, &[u8])>
 ///
 /// `decode_latin1(alloc, b"caf\xE9")` is `café`.
 pub fn decode_latin1(alloc: Global, bytes: &[u8]) -> Result<CowStr<'_>, AllocError>
-    ensures text { IfOk result (λ t. cow_str_bytes t ≡ latin1_text bytes.now) }
+    ensures read { IfOk result (λ t. cow_str_bytes t ≡ latin1_text bytes.now) }
     ensures borrowed { IfOk result (λ t. IsBorrowedStr t ↔ IsAscii bytes.now) }
-    ensures no_memory { IsAscii bytes.now → IsOk result }
+    ensures no_alloc { IsAscii bytes.now → IsOk result }
 {
     single_byte::decode(alloc, &single_byte::LATIN_1, bytes)
 }
@@ -116,9 +116,9 @@ pub fn decode_latin1(alloc: Global, bytes: &[u8]) -> Result<CowStr<'_>, AllocErr
 ///
 /// `decode_ascii(alloc, b"caf\xE9")` is `caf` and U+FFFD.
 pub fn decode_ascii(alloc: Global, bytes: &[u8]) -> Result<CowStr<'_>, AllocError>
-    ensures text { IfOk result (λ t. cow_str_bytes t ≡ ascii_text bytes.now) }
+    ensures read { IfOk result (λ t. cow_str_bytes t ≡ ascii_text bytes.now) }
     ensures borrowed { IfOk result (λ t. IsBorrowedStr t ↔ IsAscii bytes.now) }
-    ensures no_memory { IsAscii bytes.now → IsOk result }
+    ensures no_alloc { IsAscii bytes.now → IsOk result }
 {
     single_byte::decode(alloc, &single_byte::ASCII, bytes)
 }

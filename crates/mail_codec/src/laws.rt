@@ -34,7 +34,7 @@ pub fn searches_find_first_places()
 /// The function that reads Base64 gives the bytes that a text stands for in groups, and no others;
 /// and its fault is the index of the first invalid group, and no other number.
 pub fn base64_is_groups()
-    ensures reads { (text : List ℕ) → (bytes : List ℕ) →
+    ensures read { (text : List ℕ) → (bytes : List ℕ) →
         (base64 text ≡ Ok bytes) ↔ IsBase64 text bytes }
     ensures faults { (text : List ℕ) → (n : ℕ) → (base64 text ≡ Err n) ↔ IsBase64Fault text n }
 {}
@@ -44,6 +44,6 @@ pub fn base64_is_groups()
 pub fn quoted_printable_is_lines()
     ensures once { (text : List ℕ) → (lines : List Line) →
         AreLines text lines ↔ (lines ≡ lines_of text) }
-    ensures reads { (text : List ℕ) → (bytes : List ℕ) →
+    ensures read { (text : List ℕ) → (bytes : List ℕ) →
         IsQuotedPrintable text bytes ↔ (bytes ≡ quoted_printable text) }
 {}

@@ -27,7 +27,7 @@ ghost use Rattle.mail_laws.specs.Boundaries.{IsAlphanumeric, boundary_type, one_
 ghost use Rattle.mail_laws.specs.StarFree.{AreStarFree};
 ghost use Rattle.mailparse.specs.Value.{IsPlain, Token, lenient_value, newline, shown_tokens, strict_value};
 ghost use Rattle.mail_codec.specs.Places.{begins, values_below};
-ghost use Rattle.mail_laws.specs.WordTokens.{white, word};
+ghost use Rattle.mail_laws.specs.WordTokens.{whitespace_token, word};
 ghost use Rattle.mail_laws.specs.Spans.{StandBefore, blank_span, header_at, header_spans, key_range, value_range};
 ghost use Rattle.mailparse.specs.Date.{day_number, days_of_years, month_lengths};
 ghost use Rattle.mailparse.specs.MessageIds.{message_ids, written_ids};
@@ -80,15 +80,15 @@ pub fn tokens_make_up_line()
         → flat_map (token_source line) (token_ranges known line) ≡ line }
 {}
 
-/// Between two adjacent decoded words neither white nor the end of a line ever shows: a value shows
-/// what it would show if the second word stood directly after the first. (White at the start of a
+/// Between two adjacent decoded words neither whitespace nor the end of a line ever shows: a value
+/// shows what it would show if the second word stood directly after the first. (Whitespace at the start of a
 /// line is not part of it, so the token before a word there is empty.)
 pub fn adjacent_words_join()
-    ensures white_between { (before rest : List Token) (first gap second : List ℕ) →
-        shown_tokens (before ++ word first ∷ white gap ∷ word second ∷ rest)
+    ensures whitespace_between { (before rest : List Token) (first gap second : List ℕ) →
+        shown_tokens (before ++ word first ∷ whitespace_token gap ∷ word second ∷ rest)
         ≡ shown_tokens (before ++ word first ∷ word second ∷ rest) }
     ensures line_end_between { (before rest : List Token) (first gap second : List ℕ) →
-        shown_tokens (before ++ word first ∷ white gap ∷ newline ∷ white [] ∷ word second ∷ rest)
+        shown_tokens (before ++ word first ∷ whitespace_token gap ∷ newline ∷ whitespace_token [] ∷ word second ∷ rest)
         ≡ shown_tokens (before ++ word first ∷ word second ∷ rest) }
 {}
 

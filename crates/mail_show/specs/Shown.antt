@@ -2,8 +2,7 @@
 use Rattle.std.specs.Prelude.{ℕ, suc, List, [], ◌∷◌, ◌++◌, length, codes, decimal, Ok}
 use Rattle.std.specs.List.{flat_map}
 use Rattle.mailparse.specs.Refusal.{◌>>=◌, Reads}
-use Rattle.mailparse.specs.Header.{Header}
-use Rattle.mailparse.specs.Keys.{key_text}
+use Rattle.mailparse.specs.Header.{Header, key_text}
 use Rattle.mailparse.specs.Mail.{Node, Tree, read_mail, root, trees_within}
 use Rattle.mailparse.specs.Value.{lenient_value}
 

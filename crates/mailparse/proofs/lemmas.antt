@@ -3,11 +3,11 @@ pub mod Header
 pub mod Block
 pub mod Outcome
 pub mod Refusal
-pub mod Keys
+pub mod Map
 pub mod Tokens
 pub mod Cuts
 pub mod EncodedWord
-pub mod Unfolding
+pub mod Shown
 pub mod Value
 pub mod Plain
 pub mod Lines

@@ -12,7 +12,7 @@ use Rattle.mailparse.specs.ContentType.{ContentType, default_type, content_type_
 use Rattle.mailparse.specs.Disposition.{Disposition, disposition_of, default_disposition}
 use Rattle.mailparse.specs.Delimiters.{Cut, cut_parts}
 use Rattle.mailparse.specs.Body.{BodyKind, kind_named, decoded, decoded_text}
-use Rattle.mailparse.specs.Keys.{first_with_key, first_value}
+use Rattle.mailparse.specs.Map.{first_with_key, first_value}
 use Rattle.mailparse.specs.Ranges.{slice}
 use Rattle.mailparse.specs.Value.{lenient_value_with}
 

@@ -1,20 +1,20 @@
 //! One header of a message: its key and its value, as bytes and as text.
 ghost use Rattle.std.specs.Prelude.{◌≡◌, ◌↔◌, Ok, IfOk, IsOk, IsErr, IsAscii, string_bytes};
 ghost use Rattle.std.specs.Cow.{cow_str_bytes, IsBorrowedStr};
-ghost use Rattle.mailparse.specs.Header.{Header};
-ghost use Rattle.mailparse.specs.Keys.{key_text};
+ghost use Rattle.mailparse.specs.Header.{Header, key_text};
 ghost use Rattle.mailparse.specs.Outcome.{Answers, AnswersOrMemory, GivesText, ReadsText};
 ghost use Rattle.mailparse.specs.Value.{lenient_value, strict_value};
 
-mod line;
+mod encoded_word;
 pub(crate) mod parse;
+mod shown;
+mod tokens;
 mod value;
-mod word;
 
 use crate::error::MailParseError;
 use crate::lossy_text::LossyText;
 use mail_codec::charset::decode_latin1;
-use std::alloc::Global;
+use std::alloc::{AllocError, Global};
 use std::borrow::CowStr;
 use std::marker::Model;
 use std::{fmt, str};
@@ -47,10 +47,10 @@ impl<'a> MailHeader<'a> {
     /// The text of the key, borrowed exactly where all its bytes are ASCII: then it takes no memory
     /// and succeeds. Otherwise the error is that memory ran out.
     pub fn get_key_ref(&self, alloc: Global) -> Result<CowStr<'_>, MailParseError>
-        ensures text { AnswersOrMemory (λ text. cow_str_bytes text) result
+        ensures read { AnswersOrMemory (λ text. cow_str_bytes text) result
             (Ok (key_text self.now)) }
         ensures borrowed { IfOk result (λ text. IsBorrowedStr text ↔ IsAscii self.now.key) }
-        ensures no_memory { IsAscii self.now.key → IsOk result }
+        ensures no_alloc { IsAscii self.now.key → IsOk result }
     {
         Ok(decode_latin1(alloc, self.get_key_raw())?)
     }
@@ -71,12 +71,11 @@ impl<'a> MailHeader<'a> {
     /// The text of the value as `get_value` reads it; where it is a part of the value's bytes they
     /// are borrowed.
     #[tactic(auto, unfolding(crate::specs::Value::lenient_value))]
-    pub(crate) fn get_value_ref(&self, alloc: Global) -> Result<CowStr<'_>, MailParseError>
-        ensures { AnswersOrMemory (λ text. cow_str_bytes text) result
-            (Ok (lenient_value self.now.value)) }
+    pub(crate) fn get_value_ref(&self, alloc: Global) -> Result<CowStr<'_>, AllocError>
+        ensures { IfOk result (λ text. cow_str_bytes text ≡ lenient_value self.now.value) }
     {
         match str::from_utf8(self.get_value_raw()) {
-            Ok(text) => Ok(value_ref(alloc, text)?),
+            Ok(text) => value_ref(alloc, text),
             Err(_) => {
                 let text = decode_latin1(alloc, self.get_value_raw())?;
                 let value = value_ref(alloc, text.as_str())?.into_owned(alloc)?;
@@ -90,7 +89,7 @@ impl<'a> MailHeader<'a> {
     #[tactic(auto, unfolding(crate::specs::Value::strict_value))]
     pub fn get_value_utf8(&self, alloc: Global) -> Result<String, MailParseError>
         ensures read { ReadsText result (strict_value self.now.value) }
-        ensures no_memory { IsErr (strict_value self.now.value) →
+        ensures no_alloc { IsErr (strict_value self.now.value) →
             Answers (λ text. string_bytes text) result (strict_value self.now.value) }
     {
         let Ok(text) = str::from_utf8(self.get_value_raw()) else {

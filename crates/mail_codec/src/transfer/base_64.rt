@@ -2,7 +2,7 @@
 ghost use Rattle.std.specs.Prelude.{◌≡◌, ◌+◌, ◌*◌, ◌/◌, ◌%◌, ◌^◌, ◌<◌, ◌≤◌, ◌≢◌, ◌++◌, length, drop, vec_len, IfOk, OnOk, option_map, if◌then◌else◌};
 ghost use Rattle.mail_codec.specs.Ascii.{equals_sign};
 ghost use Rattle.mail_codec.specs.Base64.{base64, bytes_of_values, group_bytes, groups_from, items_or_fault, letter_value, prepend};
-ghost use Rattle.mail_codec.specs.private.Base64.{answer_over};
+ghost use Rattle.mail_codec.specs.private.Base64.{items_unless_fault};
 ghost use Rattle.mail_codec.specs.Places.{without_ascii_whitespace};
 ghost use Rattle.mail_codec.specs.private.Runs.{without_ends};
 
@@ -28,7 +28,7 @@ const WINDOW: usize = 4096;
 /// `decode_base64(alloc, b"aG\r\nk=")` is the bytes `hi`; of `aGk=a` the inner error is 1.
 #[tactic(auto, unfolding(crate::specs::Base64::base64))]
 pub fn decode_base64(alloc: Global, text: &[u8]) -> Result<Result<Vec<u8>, usize>, AllocError>
-    ensures { IfOk result (λ answer. items_or_fault answer ≡ base64 text.now) }
+    ensures { IfOk result (λ decoded. items_or_fault decoded ≡ base64 text.now) }
 {
     decode_base64_without(alloc, text, RunEnd::LineEnd)
 }
@@ -40,9 +40,9 @@ pub fn decode_base64(alloc: Global, text: &[u8]) -> Result<Result<Vec<u8>, usize
 /// `decode_base64_body(alloc, b"aG k=")` is the bytes `hi`.
 pub fn decode_base64_body(alloc: Global, body: &[u8]) -> Result<Result<Vec<u8>, usize>, AllocError>
     ensures { IfOk result
-        (λ answer. items_or_fault answer ≡ base64 (without_ascii_whitespace body.now)) }
+        (λ decoded. items_or_fault decoded ≡ base64 (without_ascii_whitespace body.now)) }
 {
-    decode_base64_without(alloc, body, RunEnd::White)
+    decode_base64_without(alloc, body, RunEnd::Whitespace)
 }
 
 /// The bytes of the groups of a text without what counts as absent, a window of the text at a time.
@@ -53,7 +53,7 @@ fn decode_base64_without(
     absent: RunEnd,
 ) -> Result<Result<Vec<u8>, usize>, AllocError>
     ensures { IfOk result
-        (λ answer. items_or_fault answer ≡ groups_from 0 (without_ends absent text.now)) }
+        (λ decoded. items_or_fault decoded ≡ groups_from 0 (without_ends absent text.now)) }
 {
     let mut bytes = Vec::with_capacity(alloc, text.len() / 4 * 3)?;
     let mut letters = Vec::with_capacity(alloc, text.len().min(WINDOW + 3))?;
@@ -90,7 +90,7 @@ fn keep_from(letters: &mut Vec<u8>, at: usize)
     letters.truncate(left);
 }
 
-/// Appends the bytes of whole groups, of which the first has index `first`, or answers the index
+/// Appends the bytes of whole groups, of which the first has index `first`, or returns the index
 /// of the first invalid one. `full` and `decoded` are lent to be written over.
 fn decode_groups(
     bytes: &mut Vec<u8>,
@@ -100,9 +100,9 @@ fn decode_groups(
     decoded: &mut Vec<u8>,
 ) -> Result<Result<(), usize>, AllocError>
     requires whole { length letters.now % 4 ≡ 0 }
-    requires few { first + length letters.now / 4 < 2 ^ 64 }
-    ensures { IfOk result (λ answer. prepend bytes.old.items (groups_from first letters.now)
-        ≡ answer_over answer bytes.new.items) }
+    requires fits { first + length letters.now / 4 < 2 ^ 64 }
+    ensures { IfOk result (λ done. prepend bytes.old.items (groups_from first letters.now)
+        ≡ items_unless_fault done bytes.new.items) }
 {
     match STANDARD.decode_vec(letters, bytes) {
         Ok(()) => Ok(Ok(())),
@@ -123,9 +123,9 @@ fn decode_each_group(
     first: usize,
 ) -> Result<Result<(), usize>, AllocError>
     requires whole { length letters.now % 4 ≡ 0 }
-    requires few { first + length letters.now / 4 < 2 ^ 64 }
-    ensures { IfOk result (λ answer. prepend bytes.old.items (groups_from first letters.now)
-        ≡ answer_over answer bytes.new.items) }
+    requires fits { first + length letters.now / 4 < 2 ^ 64 }
+    ensures { IfOk result (λ done. prepend bytes.old.items (groups_from first letters.now)
+        ≡ items_unless_fault done bytes.new.items) }
 {
     'groups: for number in 0..letters.len() / 4 {
         let at = 4 * number;
@@ -142,7 +142,7 @@ fn decode_each_group(
     Ok(Ok(()))
 }
 
-/// Appends the bytes of a group and answers true, or answers false where it is invalid. The missing
+/// Appends the bytes of a group and returns true, or returns false where it is invalid. The missing
 /// letters of a group with padding are filled up with `A`, whose value is 0, and their bytes cut
 /// off.
 fn push_group(bytes: &mut Vec<u8>, p: u8, q: u8, r: u8, s: u8) -> Result<bool, AllocError>
@@ -154,7 +154,7 @@ fn push_group(bytes: &mut Vec<u8>, p: u8, q: u8, r: u8, s: u8) -> Result<bool, A
     push_bytes(bytes, p, q, third, fourth, group_len(r, s))
 }
 
-/// Appends the first `len` bytes of four letters and answers true, or answers false where not all
+/// Appends the first `len` bytes of four letters and returns true, or returns false where not all
 /// four are letters.
 fn push_bytes(
     bytes: &mut Vec<u8>,

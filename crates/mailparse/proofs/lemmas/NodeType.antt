@@ -4,7 +4,7 @@ use Rattle.std.specs.Option.{option_map_or}
 use Rattle.std.specs.Prelude.{codes}
 use Rattle.mail_codec.specs.Charset.{four_charsets}
 use Rattle.mailparse.specs.Header.{Header}
-use Rattle.mailparse.specs.Keys.{first_with_key}
+use Rattle.mailparse.specs.Map.{first_with_key}
 use Rattle.mailparse.specs.Mail.{node_type, part_type}
 use Rattle.mailparse.specs.Refusal.{Refusal}
 use Rattle.mailparse.specs.Value.{lenient_value}

@@ -1,9 +1,9 @@
 //! Cutting the header at the front of the bytes: where its key, its value and its end stand.
 ghost use Rattle.std.specs.Prelude.{◌≡◌, ◌==◌, ◌<◌, ◌≤◌, suc, min, not, length, take, drop, IfOk};
 ghost use Rattle.std.specs.List.{list_all};
-ghost use Rattle.mail_codec.specs.Ascii.{space};
+ghost use Rattle.mail_codec.specs.Ascii.{is_blank, space};
 ghost use Rattle.mail_codec.specs.Places.{first_place, place_from, begins};
-ghost use Rattle.mailparse.specs.Header.{is_blank, is_line_end, is_line_feed, ends_header};
+ghost use Rattle.mailparse.specs.Header.{is_line_end, is_line_feed, ends_header};
 ghost use Rattle.mailparse.specs.Header.{header_of, header_length, read_header};
 ghost use Rattle.mailparse.specs.Outcome.{Answers};
 
@@ -55,7 +55,7 @@ fn cut_header(raw: &[u8]) -> (MailHeader<'_>, usize)
 fn line_feed_from(raw: &[u8], from: usize) -> usize
     requires { from ≤ length raw.now }
     ensures least { result ≡ place_from (begins is_line_feed) raw.now from }
-    ensures within { result ≤ length raw.now }
+    ensures bounds { result ≤ length raw.now }
 {
     match find_byte(&raw[from..], b'\n') {
         Some(place) => from + place,
@@ -66,10 +66,10 @@ fn line_feed_from(raw: &[u8], from: usize) -> usize
 /// Where a header ends whose first LF after its colon is at `first`: at the first LF from there on
 /// that no space or tab follows, or at the end.
 fn header_end(raw: &[u8], first: usize) -> usize
-    requires fits { first ≤ length raw.now }
+    requires within { first ≤ length raw.now }
     requires found { place_from (begins is_line_feed) raw.now first ≡ first }
     ensures least { result ≡ place_from ends_header raw.now first }
-    ensures within { result ≤ length raw.now }
+    ensures bounds { result ≤ length raw.now }
 {
     let mut end = first;
     while end < raw.len() && is_continued(raw, end + 1) {

@@ -24,7 +24,7 @@ pub fn parse_headers(
     ensures read { AnswersOrMemory header_list result (read_headers raw.now) }
     ensures bounds { IfOk result (λ found.
         (vec_len found.0 ≤ found.1) × (found.1 ≤ length raw.now)) }
-    ensures no_memory { header_count raw.now ≡ 0 →
+    ensures no_alloc { header_count raw.now ≡ 0 →
         Answers header_list result (read_headers raw.now) }
 {
     let mut headers = Vec::new(alloc);

@@ -3,7 +3,7 @@ ghost use Rattle.std.specs.Prelude.{◌≡◌, map, List, IsOk, IsNone, Ok, stri
 ghost use Rattle.std.specs.Option.{option_copied};
 ghost use Rattle.std.specs.Str.{str_eq_ignore_ascii_case};
 ghost use Rattle.mail_codec.specs.Latin1.{latin1_text};
-ghost use Rattle.mailparse.specs.Keys.{first_with_key, all_with_key, first_value, all_values, text_found};
+ghost use Rattle.mailparse.specs.Map.{first_with_key, all_with_key, first_value, all_values, text_found};
 ghost use Rattle.mailparse.specs.Outcome.{AnswersOrMemory, GivesTexts};
 
 use super::Headers;
@@ -28,15 +28,15 @@ pub trait MailHeaderMap {
     /// The value of the first header with this name, by `get_value`, or `None` where there is none;
     /// then it takes no memory and succeeds. Otherwise the one error is that memory ran out.
     fn get_first_value(&self, alloc: Global, key: &str) -> Result<Option<String>, MailParseError>
-        ensures found { AnswersOrMemory text_found result
+        ensures read { AnswersOrMemory text_found result
             (Ok (first_value key.now (present self.now))) }
-        ensures no_memory { IsNone (first_with_key key.now (present self.now)) → IsOk result };
+        ensures no_alloc { IsNone (first_with_key key.now (present self.now)) → IsOk result };
 
     /// The values of all headers with this name, by `get_value`, in the order of the message.
     /// Without one it takes no memory and succeeds; otherwise the one error is that memory ran out.
     fn get_all_values(&self, alloc: Global, key: &str) -> Result<Vec<String>, MailParseError>
-        ensures found { GivesTexts result (all_values key.now (present self.now)) }
-        ensures no_memory { IsNone (first_with_key key.now (present self.now)) → IsOk result };
+        ensures read { GivesTexts result (all_values key.now (present self.now)) }
+        ensures no_alloc { IsNone (first_with_key key.now (present self.now)) → IsOk result };
 
     /// All headers with this name, in the order of the message. Without one it takes no memory and
     /// succeeds; otherwise the one error is that memory ran out.
@@ -45,9 +45,9 @@ pub trait MailHeaderMap {
         alloc: Global,
         key: &str,
     ) -> Result<Vec<&MailHeader<'_>>, MailParseError>
-        ensures found { AnswersOrMemory (λ v. map (λ h. h.now) v.items) result
+        ensures read { AnswersOrMemory (λ v. map (λ h. h.now) v.items) result
             (Ok (all_with_key key.now (present self.now))) }
-        ensures no_memory { IsNone (first_with_key key.now (present self.now)) → IsOk result };
+        ensures no_alloc { IsNone (first_with_key key.now (present self.now)) → IsOk result };
 }
 
 impl MailHeaderMap for Vec<MailHeader<'_>> {
@@ -116,8 +116,8 @@ fn first_value<'h>(
     list: &'h [MailHeader<'h>],
     key: &str,
 ) -> Result<Option<String>, MailParseError>
-    ensures found { AnswersOrMemory text_found result (Ok (first_value key.now list.now)) }
-    ensures no_memory { IsNone (first_with_key key.now list.now) → IsOk result }
+    ensures read { AnswersOrMemory text_found result (Ok (first_value key.now list.now)) }
+    ensures no_alloc { IsNone (first_with_key key.now list.now) → IsOk result }
 {
     match first_header(list, key) {
         None => Ok(None),
@@ -131,8 +131,8 @@ fn all_values<'h>(
     list: &'h [MailHeader<'h>],
     key: &str,
 ) -> Result<Vec<String>, MailParseError>
-    ensures found { GivesTexts result (all_values key.now list.now) }
-    ensures no_memory { IsNone (first_with_key key.now list.now) → IsOk result }
+    ensures read { GivesTexts result (all_values key.now list.now) }
+    ensures no_alloc { IsNone (first_with_key key.now list.now) → IsOk result }
 {
     let mut found = Vec::new(alloc);
     for h in list {
@@ -149,9 +149,9 @@ fn all_headers<'h>(
     list: &'h [MailHeader<'h>],
     key: &str,
 ) -> Result<Vec<&'h MailHeader<'h>>, MailParseError>
-    ensures found { AnswersOrMemory (λ v. map (λ h. h.now) v.items) result
+    ensures read { AnswersOrMemory (λ v. map (λ h. h.now) v.items) result
         (Ok (all_with_key key.now list.now)) }
-    ensures no_memory { IsNone (first_with_key key.now list.now) → IsOk result }
+    ensures no_alloc { IsNone (first_with_key key.now list.now) → IsOk result }
 {
     let mut found = Vec::new(alloc);
     for h in list {

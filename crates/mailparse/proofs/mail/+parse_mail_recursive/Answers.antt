@@ -40,7 +40,7 @@ returns-in_err-headers-clause-no_alloc t c = λ some none refused.
     let p = err_from_is_err_and c.from_residual.result c.from_residual.ensures.1 in
     let raw = c.args.raw.now in
     rw (p.1, p.2) (IsRefusal-along c.in_err-headers.field-0.0 (read_headers raw) (read_levels four_charsets c.args.levels c.args.in_digest raw)
-    (λ r e. read_levels-refused c.args.levels c.args.in_digest raw r some e) (c.in_err-headers.ensures.no_memory none))
+    (λ r e. read_levels-refused c.args.levels c.args.in_digest raw r some e) (c.in_err-headers.ensures.no_alloc none))
 
 pub returns-in_default-clause-read : goal.returns-in_default-clause-read
 returns-in_default-clause-read t c =

@@ -10,7 +10,7 @@ pub returns-in_ok-get_value_ref-in-Some : goal.returns-in_ok-get_value_ref-in-So
 returns-in_ok-get_value_ref-in-Some c =
     let first = ap option_copied (sym c.in-Some.is) ∙ c.get_first_header.ensures in
     let named = node_type-some c.args.in_digest c.args.headers.now.items c.in-Some.header.now c.as_str.result.now first
-    (c.in_ok-get_value_ref-in-Some.ensures ∙ ap (λ t. Ok t) (sym c.as_str.ensures.value)) in
+    (ap (λ t. Ok t) (sym (c.as_str.ensures.value ∙ c.in_ok-get_value_ref-in-Some.ensures))) in
     subst (λ (t : ContentType). AnswersOrMemory content_type c.parse_content_type.result (Ok t)) named c.parse_content_type.ensures
 
 pub returns-in_ok-part_type-in-None : goal.returns-in_ok-part_type-in-None
