@@ -1,33 +1,32 @@
 -- Values that are joined from their sections (RFC 2231, section 3), and the parameters that pairs give in the end. How sections of
 -- several charsets join is this project's own choice.
-use Rattle.std.specs.Prelude.{ℕ, zero, suc, Bool, false, not, ◌&&◌, ◌==◌, ◌^◌, ◌-◌, nat_lt, List, [], ◌∷◌, ◌++◌, length, map, Option, Some, None, option_map, if◌then◌else◌}
+use Rattle.std.specs.Prelude.{ℕ, Bool, false, not, ◌&&◌, ◌==◌, ◌^◌, ◌-◌, nat_lt, List, [], ◌∷◌, ◌++◌, length, map, Option, Some, None, option_map, option_to_list, if◌then◌else◌}
 use Rattle.std.specs.List.{flat_map, list_any}
 use Rattle.std.specs.Option.{is_some, option_map_or, option_or}
 use Rattle.std.specs.Str.{bytes_eq}
 use Rattle.mail_codec.specs.Charset.{Charsets, four_charsets}
+use Rattle.mail_codec.specs.Places.{least, values_below}
 use Rattle.mailparse.specs.Pairs.{Texts, last_of}
 use Rattle.mailparse.specs.ExtendedValues.{name_under, section_at}
 use Rattle.mailparse.specs.Sections.{Section, text, octets, alone, is_text, numbered, section_name}
 
 -- ---- the sections of a base
 
--- a section before others, as far as there is one
-abbrev pub as_far : Option Section → List Section → List Section
-as_far None rest = []
-as_far (Some section) rest = section ∷ rest
-
--- the sections of a base at the numbers from one on, as far as there are any, and at most so many
-abbrev pub sections_from : (List ℕ → Option Section) → List ℕ → ℕ → ℕ → List Section
-sections_from at base zero number = []
-sections_from at base (suc most) number = as_far (at (section_name base number)) (sections_from at base most (suc number))
+-- nothing stands at the section of a base with that number
+abbrev pub is_missing : (List ℕ → Option Section) → List ℕ → ℕ → Bool
+is_missing at base number = not (is_some (at (section_name base number)))
 
 -- the most sections that are joined: they are counted by a `u64`
 unfoldable pub most_sections : ℕ
 most_sections = 2 ^ 64 - 1
 
--- the sections of a base: at the numbers 0, 1 and so on, as far as there are any
+-- how many sections of a base are joined: the least number at which nothing stands
+abbrev pub section_count : (List ℕ → Option Section) → List ℕ → ℕ
+section_count at base = least (is_missing at base) most_sections
+
+-- the sections of a base: what stands at the numbers below that, in their order
 abbrev pub sections_of : (List ℕ → Option Section) → List ℕ → List Section
-sections_of at base = sections_from at base most_sections 0
+sections_of at base = flat_map option_to_list (values_below (section_count at base) (λ number. at (section_name base number)))
 
 -- ---- their text
 

@@ -1,4 +1,4 @@
--- The name that is_own_source, among those that wait in the order of their starred keys.
+-- The charset source of a name, among the extended names in the order of their starred keys.
 use Rattle.std.proofs.Common.{◌≡◌, ◌⊎◌, inl, inr, ℕ, zero, suc, ◌-◌, ◌<◌, Bool, true, false, cond, eqb, List, [], ◌∷◌, ◌++◌, length, take, map, Option, Some, None, refl, sym, ap, subst, ◌∙◌, arith, nat_eq, ⊎_elim, append_assoc}
 use Rattle.std.proofs.Math.Seq.{take-append_seam}
 use Rattle.std.proofs.lemmas.Bool.{and_from, and_parts, cases_order, cond-false, cond-true, eq-eqb, eqb-true}
@@ -102,7 +102,7 @@ prefix_in (b ∷ name) (a ∷ front) h =
     (subst (λ x. In (x ∷ (front ++ 42 ∷ [])) (map (λ prefix. b ∷ prefix) (starred_prefixes name))) (sym first.0)
     (in_map_from (λ prefix. b ∷ prefix) (front ++ 42 ∷ []) (starred_prefixes name) (prefix_in name front first.1)))
 
--- ---- the names that may offer for another
+-- ---- the candidates of a name
 
 less_last : (front : List ℕ) (b : ℕ) → take (length (front ++ b ∷ []) - 1) (front ++ b ∷ []) ≡ front
 less_last front b =
@@ -113,13 +113,13 @@ less_last front b =
 pub name_under_starred : (name : List ℕ) → name_under (starred name) ≡ name
 name_under_starred name = less_last name 42
 
-candidate_from : (name front : List ℕ) → starts_with nat_eq name (front ++ 42 ∷ []) ≡ true → is_candidate_for ((front ++ 42 ∷ []) ++ 48 ∷ []) name ≡ true
+pub candidate_from : (name front : List ℕ) → starts_with nat_eq name (front ++ 42 ∷ []) ≡ true → is_candidate_for ((front ++ 42 ∷ []) ++ 48 ∷ []) name ≡ true
 candidate_from name front h =
     and_from _ _
     ((ends_is Decides-eqb ((front ++ 42 ∷ []) ++ 48 ∷ []) (42 ∷ 48 ∷ []) _ refl).1 front (append_assoc front (42 ∷ []) (48 ∷ [])))
     (ap (λ p. starts_with nat_eq name p) (less_last (front ++ 42 ∷ []) 48) ∙ h)
 
-candidate_to : (z name : List ℕ) → is_candidate_for z name ≡ true → (front : List ℕ) × (z ≡ (front ++ 42 ∷ []) ++ 48 ∷ []) × (starts_with nat_eq name (front ++ 42 ∷ []) ≡ true)
+pub candidate_to : (z name : List ℕ) → is_candidate_for z name ≡ true → (front : List ℕ) × (z ≡ (front ++ 42 ∷ []) ++ 48 ∷ []) × (starts_with nat_eq name (front ++ 42 ∷ []) ≡ true)
 candidate_to z name h =
     let tests = and_parts _ _ h in
     let front = take (length z - 2) z in
@@ -135,12 +135,12 @@ in_candidates keys name z h =
     (f.1, ap (λ x. is_candidate_for x name) (m.2 ∙ ap (λ q. q ++ 48 ∷ []) p.1.1) ∙ candidate_from name p.1.0 starts)
 
 pub candidate_in : (keys : Texts) (name z : List ℕ) → is_extended keys z ≡ true → is_candidate_for z name ≡ true → In z (candidates keys name)
-candidate_in keys name z has_value candidate =
+candidate_in keys name z extended candidate =
     let s = candidate_to z name candidate in
     in_filter_from (is_extended keys) z (map (λ prefix. prefix ++ 48 ∷ []) (starred_prefixes name))
     (subst (λ x. In x (map (λ prefix. prefix ++ 48 ∷ []) (starred_prefixes name))) (sym s.1)
     (in_map_from (λ prefix. prefix ++ 48 ∷ []) (s.0 ++ 42 ∷ []) (starred_prefixes name) (prefix_in name s.0 s.2)))
-    has_value
+    extended
 
 -- ---- the last in the order of the starred keys
 
@@ -174,7 +174,7 @@ not_itself x = go (is_before x x) refl
     go false is = is
     go true is = not_back x x is
 
-last_in : (xs : List (List ℕ)) (w : List ℕ) → last_starred xs ≡ Some w → In w xs
+pub last_in : (xs : List (List ℕ)) (w : List ℕ) → last_starred xs ≡ Some w → In w xs
 last_in [] w h = absurd (cc)
 last_in (x ∷ xs) w h = go (last_starred xs) refl (λ v is. last_in xs v is) h
   where
@@ -204,7 +204,7 @@ last_is (x ∷ xs) z h least = ⊎_elim first (λ i. rest i (last_is xs z i (λ 
         go true is = cond-true _ _ _ is
         go false is = cond-false _ _ _ is ∙ same_place x z is (least x (inl refl))
 
--- ---- the name that is_own_source, by its place
+-- ---- the charset source, by its place
 
 abbrev HasSourcePlace : List (List ℕ) → ℕ → ℕ → Type 0
 HasSourcePlace names count k =

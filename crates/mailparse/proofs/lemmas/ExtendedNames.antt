@@ -1,4 +1,4 @@
--- The names that wait: which they are, and that they stand in order.
+-- The extended names: which they are, and that they stand in order.
 use Rattle.std.proofs.Common.{◌≡◌, ◌⊎◌, inl, inr, ℕ, zero, suc, ◌<◌, Bool, true, false, not, ◌&&◌, cond, List, [], ◌∷◌, ◌++◌, length, get_or, map, Option, Some, None, is_some, option_map, String, string_bytes, BTreeMap, refl, sym, ap, subst, ◌∙◌, arith, ⊎_elim}
 use Rattle.std.proofs.lemmas.Bool.{and_from, and_parts, cond-false, cond-true, not-true}
 use Rattle.std.proofs.lemmas.List.{length-map}
@@ -161,8 +161,8 @@ are_extended keys entries map_of = record { order = order; sound = sound; comple
         ∙ and_from _ _ (ap is_some (map_of.holds _ f.entry)) (ap not f.none)
 
     complete : (name : List ℕ) → is_extended keys name ≡ true → (i : ℕ) × (i < length (map (λ (w : Found). w.0) found)) × (name_at (map (λ (w : Found). w.0) found) i ≡ name)
-    complete name has_value =
-        let tests = and_parts _ _ has_value in go (keys (starred name)) refl tests.0 (not-true _ tests.1)
+    complete name is_one =
+        let tests = and_parts _ _ is_one in go (keys (starred name)) refl tests.0 (not-true _ tests.1)
       where
         go : (o : Option (List ℕ)) → keys (starred name) ≡ o → is_some o ≡ true → is_some (keys name) ≡ false
             → (i : ℕ) × (i < length (map (λ (w : Found). w.0) found)) × (name_at (map (λ (w : Found). w.0) found) i ≡ name)

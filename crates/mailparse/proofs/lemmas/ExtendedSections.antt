@@ -1,4 +1,4 @@
--- How the values of the names that wait are read.
+-- How the values of the extended names are read.
 use Rattle.std.proofs.Common.{◌≡◌, ℕ, ◌+◌, ◌<◌, ◌≤◌, Bool, true, false, not, ◌&&◌, ◌||◌, cond, eqb, List, [], ◌∷◌, ◌++◌, length, take, get_or, map, Option, Some, None, is_some, option_map, refl, sym, ap, subst, ◌∙◌, arith, ⊎_elim}
 use Rattle.std.proofs.Math.ListN.{get_or-map}
 use Rattle.std.proofs.lemmas.Bool.{and_from, and_right, cases_order, cond-false, cond-true, eq-eqb, ne_eqb}
@@ -8,7 +8,7 @@ use Rattle.std.specs.List.{All}
 use Rattle.std.specs.Option.{unwrap_or}
 use Rattle.std.specs.String.{string_bytes}
 use Rattle.std.specs.Str.{bytes_eq}
-use Rattle.mail_codec.specs.Charset.{four_charsets, text_of}
+use Rattle.mail_codec.specs.Charset.{Charsets, four_charsets, text_of}
 use Rattle.mail_codec.specs.declared.charset.Charset.{Charset}
 use Rattle.mailparse.specs.Sections as words
 use Rattle.mailparse.specs.ExtendedValues.{extended_at, charset_source, extended_value, starred, is_extended, label_in, octets_of, reading_of, text_in}
@@ -70,7 +70,7 @@ apart names order i j below within =
     go false is h = is
     go true is h = absurd (h is)
 
--- the charset and the bytes of a name, by what was found of it and of the name that is_own_source for it
+-- the charset and the bytes of a name, by what was found of it and of its charset source
 reading_found : (keys : Texts) (entries : List (List ℕ × List ℕ)) (w z : Found) → IsMapOf keys entries → IsFound keys entries w → IsFound keys entries z → z.0 ≡ charset_source keys w.0
     → reading_of four_charsets keys w.0 ≡ option_map text_of z.2
 unfolding reading_of
@@ -87,7 +87,7 @@ octets_found keys entries w last is_own_source map_of fw is same =
     ∙ ap (λ n. percent_decode (cond (bytes_eq n w.0) (text_in w.1) w.1)) (sym is)
     ∙ ap (λ b. percent_decode (cond b (text_in w.1) w.1)) same)
 
--- what stands at the name at a place, where the one at another is_own_source
+-- what stands at the name at a place, where the one at another is its charset source
 abbrev extended_by : List Found → ℕ → ℕ → Option words.Section
 extended_by found place last =
     let one = found_by_place found place in
@@ -224,7 +224,7 @@ names_passed names known place found q below unknown before =
         and_right _ _ not_known ∙ sym (and_right _ _ not_known)
     go false e = ap (λ b. b && known q) (sym (ap (λ b. holds_name (take place names) q || b) e ∙ or_false (holds_name (take place names) q)))
 
--- the place of the name that is_own_source, as it was read
+-- the place of the charset source, as it was read
 pub place_read : (extended slice : List ExtendedName) (items : List ℕ) (place at : ℕ) → slice ≡ extended → AreInOrder (names_of extended) → length items ≡ length slice
     → (AreInOrder (names_of slice) → (k : ℕ) → k < length slice → get_or items k 0 ≡ source_place (names_of slice) (length slice) k) → place < length extended → at ≡ get_or items place at
     → at ≡ source_place (names_of extended) (length extended) place
@@ -241,12 +241,12 @@ place_within extended place below =
     let same = ap (λ n. source_place (names_of extended) n place) long in
     omega (arith, within, same)
 
--- a name that does not wait has nothing
-pub extended_none : (keys : Texts) (q : List ℕ) → is_extended keys q ≡ false → extended_at four_charsets keys q ≡ None
+-- a name that is not extended has nothing
+pub extended_none : (known : Charsets) (keys : Texts) (q : List ℕ) → is_extended keys q ≡ false → extended_at known keys q ≡ None
 unfolding reading_of
-extended_none keys q h = ap (option_map (λ reading. extended_section q reading (octets_of keys q))) (cond-false _ _ _ h)
+extended_none known keys q h = ap (option_map (λ reading. extended_section q reading (octets_of keys q))) (cond-false _ _ _ h)
 
--- all names that wait were passed
+-- all extended names were passed
 pub names_all : (keys : Texts) (names : List (List ℕ)) (place : ℕ) → AreExtended keys names → length names ≤ place → (q : List ℕ) (found : List (List ℕ))
     → holds_name found q ≡ (holds_name (take place names) q && is_some (reading_of four_charsets keys q)) → holds_name found q ≡ is_some (reading_of four_charsets keys q)
 unfolding reading_of

@@ -1,4 +1,4 @@
--- Keys that end in a star.
+-- Extended values: keys that end in a star, and their names.
 use Rattle.std.proofs.Common.{◌≡◌, ◌≢◌, ℕ, ◌-◌, Bool, true, false, not, cond, List, [], ◌∷◌, ◌++◌, length, map, take, drop, Option, Some, None, String, is_some, option_map, refl, sym, ap, ◌∙◌, arith}
 use Rattle.std.proofs.lemmas.Bool.{and_from, and_left, and_right, cond-true, cond-false}
 use Rattle.std.proofs.lemmas.List.{append-nil, drop_all, flat_map_more, map_push, take-append-drop}
@@ -65,7 +65,7 @@ taken_none key h = go (is_starred key) refl
     go false is = is
     go true is = let same : Some (name_under key) ≡ None = sym (cond-true _ _ _ is) ∙ h in absurd (cc)
 
--- ---- the names that wait, as a walk over the entries finds them
+-- ---- the extended names, as a walk over the entries finds them
 
 pub found_unstarred : (keys : Texts) (e : List ℕ × List ℕ) → star_taken e.0 ≡ None → found_at keys e ≡ []
 found_unstarred keys e h = cond-false _ _ _ (and_left _ _ (taken_none e.0 h))

@@ -1,6 +1,10 @@
 -- The sections of a base, one after the other.
-use Rattle.std.proofs.Common.{◌≡◌, ℕ, zero, suc, ◌+◌, ◌-◌, ◌<◌, ◌≤◌, List, [], ◌∷◌, ◌++◌, flat_map, append_assoc, append-nil, Option, Some, None, refl, sym, ap, ◌∙◌, arith}
-use Rattle.mailparse.specs.Continuations.{Group, as_far, group_text, groups, joined, most_sections, onto_run, sections_from, run, text_alone, walked_after}
+use Rattle.std.proofs.Common.{◌≡◌, ℕ, zero, suc, ◌+◌, ◌-◌, ◌<◌, ◌≤◌, Bool, true, false, not, is_some, List, [], ◌∷◌, ◌++◌, flat_map, append_assoc, append-nil, Option, Some, None, refl, sym, ap, ◌∙◌, arith}
+use Rattle.std.proofs.lemmas.Bool.{cond-false, cond-true}
+use Rattle.std.specs.Option.{option_to_list}
+use Rattle.mail_codec.specs.Places.{least, values_below}
+use Rattle.mailparse.specs.Continuations.{Group, group_text, groups, is_missing, joined, most_sections, onto_run, run, sections_of, text_alone, walked_after}
+use Rattle.mailparse.specs.private.Continuations.{as_far, sections_from}
 use Rattle.mailparse.specs.Sections.{Section, octets, section_name, text}
 
 pub most : most_sections ≡ 18446744073709551615
@@ -25,6 +29,48 @@ sections_some at base most number section below e =
 -- all numbers are used up
 pub sections_end : (at : List ℕ → Option Section) (base : List ℕ) (most number : ℕ) → most ≤ number → sections_from at base (most - number) number ≡ []
 sections_end at base most number full = let none : most - number ≡ 0 = omega arith in ap (λ n. sections_from at base n number) none
+
+number_next : (number k : ℕ) → number + suc k ≡ suc number + k
+number_next number k = omega arith
+
+-- the sections below the least number at which nothing stands are those from 0 on, as far as there are any
+from_number : (at : List ℕ → Option Section) (base : List ℕ) (most number : ℕ) (test : ℕ → Bool) (f : ℕ → Option Section)
+    → ((k : ℕ) → test k ≡ is_missing at base (number + k)) → ((k : ℕ) → f k ≡ at (section_name base (number + k)))
+    → flat_map option_to_list (values_below (least test most) f) ≡ sections_from at base most number
+from_number at base zero number test f missing stands = refl
+from_number at base (suc most) number test f missing stands =
+    go (at (section_name base number)) refl
+    (from_number at base most (suc number) (λ k. test (suc k)) (λ k. f (suc k)) (λ k. missing (suc k) ∙ ap (is_missing at base) (number_next number k))
+    (λ k. stands (suc k) ∙ ap (λ n. at (section_name base n)) (number_next number k)))
+  where
+    here : number + 0 ≡ number
+    here = omega arith
+
+    first : f 0 ≡ at (section_name base number)
+    first = stands 0 ∙ ap (λ n. at (section_name base n)) here
+
+    tested : test 0 ≡ not (is_some (at (section_name base number)))
+    tested = missing 0 ∙ ap (is_missing at base) here
+
+    go : (o : Option Section) → at (section_name base number) ≡ o
+        → flat_map option_to_list (values_below (least (λ k. test (suc k)) most) (λ k. f (suc k))) ≡ sections_from at base most (suc number)
+        → flat_map option_to_list (values_below (least test (suc most)) f) ≡ as_far (at (section_name base number)) (sections_from at base most (suc number))
+    go None e more =
+        let yes : test 0 ≡ true = tested ∙ ap (λ o. not (is_some o)) e in
+        ap (λ n. flat_map option_to_list (values_below n f)) (cond-true (test 0) 0 (suc (least (λ k. test (suc k)) most)) yes)
+        ∙ sym (ap (λ o. as_far o (sections_from at base most (suc number))) e)
+    go (Some section) e more =
+        let no : test 0 ≡ false = tested ∙ ap (λ o. not (is_some o)) e in
+        ap (λ n. flat_map option_to_list (values_below n f)) (cond-false (test 0) 0 (suc (least (λ k. test (suc k)) most)) no)
+        ∙ ap (λ o. option_to_list o ++ flat_map option_to_list (values_below (least (λ k. test (suc k)) most) (λ k. f (suc k)))) (first ∙ e)
+        ∙ ap (λ rest. section ∷ rest) more
+        ∙ sym (ap (λ o. as_far o (sections_from at base most (suc number))) e)
+
+pub sections_are : (at : List ℕ → Option Section) (base : List ℕ) → sections_of at base ≡ sections_from at base most_sections 0
+sections_are at base = from_number at base most_sections 0 (is_missing at base) (λ number. at (section_name base number)) (λ k. ap (is_missing at base) (zero_more k)) (λ k. ap (λ n. at (section_name base n)) (zero_more k))
+  where
+    zero_more : (k : ℕ) → k ≡ 0 + k
+    zero_more k = omega arith
 
 -- ---- a walk that keeps a run open makes the texts of the groups
 

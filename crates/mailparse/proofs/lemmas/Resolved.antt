@@ -8,7 +8,7 @@ use Rattle.std.specs.List.{list_any}
 use Rattle.std.specs.Map.{update, update_all}
 use Rattle.std.specs.Option.{option_map_or, option_or}
 use Rattle.std.specs.Str.{bytes_eq}
-use Rattle.mail_codec.specs.Charset.{four_charsets}
+use Rattle.mail_codec.specs.Charset.{Charsets, four_charsets}
 use Rattle.mailparse.specs.Continuations as joined
 use Rattle.mailparse.specs.Sections as words
 use Rattle.mailparse.specs.Continuations.{is_base, is_first_of, joined_at, names_of, parameters_of}
@@ -35,7 +35,7 @@ or_right : (a b : Bool) → b ≡ true → (a || b) ≡ true
 or_right true b h = refl
 or_right false b h = h
 
-or_either : (a b : Bool) → (a || b) ≡ true → (a ≡ true) ⊎ (b ≡ true)
+pub or_either : (a b : Bool) → (a || b) ≡ true → (a ≡ true) ⊎ (b ≡ true)
 or_either true b h = inl refl
 or_either false b h = inr h
 
@@ -116,16 +116,16 @@ names_under (k ∷ keys) q h =
     (λ rest. or_right (bytes_eq k q) _ (or_right (bytes_eq (name_under k) q) _ (names_under keys q rest)))
     (or_either (bytes_eq k (starred q)) (holds_name keys (starred q)) h)
 
-section_named : (pairs : List (List ℕ × List ℕ)) (q : List ℕ) → is_some (section_at four_charsets (last_of pairs) q) ≡ true → holds_name (names_of (map (λ p. p.0) pairs)) q ≡ true
-section_named pairs q h = go (last_of pairs q) refl
+pub section_named : (known : Charsets) (pairs : List (List ℕ × List ℕ)) (q : List ℕ) → is_some (section_at known (last_of pairs) q) ≡ true → holds_name (names_of (map (λ p. p.0) pairs)) q ≡ true
+section_named known pairs q h = go (last_of pairs q) refl
   where
-    has_value : last_of pairs q ≡ None → (b : Bool) → is_extended (last_of pairs) q ≡ b → holds_name (names_of (map (λ p. p.0) pairs)) q ≡ true
-    has_value none true is = names_under (map (λ p. p.0) pairs) q (key_held pairs (starred q) (and_parts _ _ is).0)
-    has_value none false is = absurd (some_of _ (section_none (last_of pairs) q none ∙ extended_none (last_of pairs) q is) h)
+    without_key : last_of pairs q ≡ None → (b : Bool) → is_extended (last_of pairs) q ≡ b → holds_name (names_of (map (λ p. p.0) pairs)) q ≡ true
+    without_key none true is = names_under (map (λ p. p.0) pairs) q (key_held pairs (starred q) (and_parts _ _ is).0)
+    without_key none false is = absurd (some_of _ (section_none known (last_of pairs) q none ∙ extended_none known (last_of pairs) q is) h)
 
     go : (o : Option (List ℕ)) → last_of pairs q ≡ o → holds_name (names_of (map (λ p. p.0) pairs)) q ≡ true
     go (Some v) is = names_key (map (λ p. p.0) pairs) q (key_held pairs q (ap is_some is))
-    go None is = has_value is (is_extended (last_of pairs) q) refl
+    go None is = without_key is (is_extended (last_of pairs) q) refl
 
 entry_named : {X : Type 0} (m : BTreeMap (String Global) X) (q : List ℕ) → is_some (get_by_text m q) ≡ true → holds_name (names_in m) q ≡ true
 entry_named m q h = go (holds_name (names_in m) q) refl
@@ -171,5 +171,5 @@ resolved keys at names given q read have made pairs holds =
     let known : keys ≡ last_of pairs = λ i z. holds z i in
     let same : at ≡ section_at four_charsets (last_of pairs) = λ i z. (read z ∙ ap (λ k. section_at four_charsets k z) known) i in
     made
-    ∙ joined_same at names (names_of (map (λ p. p.0) pairs)) have (λ z h. section_named pairs z (sym (ap (λ a. is_some (a z)) same) ∙ h)) q
+    ∙ joined_same at names (names_of (map (λ p. p.0) pairs)) have (λ z h. section_named four_charsets pairs z (sym (ap (λ a. is_some (a z)) same) ∙ h)) q
     ∙ ap (λ a. joined_at a (names_of (map (λ p. p.0) pairs)) q) same

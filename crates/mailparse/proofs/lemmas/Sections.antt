@@ -1,4 +1,4 @@
--- What stands at each name once the starred keys are read.
+-- What stands at each name once the extended values are read.
 use Rattle.std.proofs.Common.{◌≡◌, ℕ, Bool, true, false, ◌&&◌, ◌||◌, cond, List, [], ◌∷◌, ◌++◌, map, Option, Some, None, is_some, option_map, BTreeMap, String, string_bytes, refl, sym, ap, ◌∙◌}
 use Rattle.std.proofs.lemmas.Bool.{and_from, and_left, cond-false, cond-true}
 use Rattle.std.proofs.lemmas.Map.Text.{is_eq-slice_cmp}
@@ -10,7 +10,7 @@ use Rattle.std.specs.Map.{lookup}
 use Rattle.std.specs.Option.{option_or, unwrap_or}
 use Rattle.std.specs.Ordering.{is_eq, nat_cmp}
 use Rattle.std.specs.Str.{bytes_eq}
-use Rattle.mail_codec.specs.Charset.{four_charsets}
+use Rattle.mail_codec.specs.Charset.{Charsets, four_charsets}
 use Rattle.mailparse.specs.Sections as words
 use Rattle.mailparse.specs.ExtendedValues.{extended_at, has_left, section_at, extended_value, is_starred, name_under, reading_of, starred}
 use Rattle.mailparse.specs.private.ExtendedValues.{without_starred}
@@ -29,12 +29,12 @@ cond_none true = refl
 cond_none false = refl
 
 -- a name that is not a key
-pub section_none : (keys : Texts) (q : List ℕ) → keys q ≡ None → section_at four_charsets keys q ≡ extended_at four_charsets keys q
+pub section_none : (known : Charsets) (keys : Texts) (q : List ℕ) → keys q ≡ None → section_at known keys q ≡ extended_at known keys q
 unfolding section_at
-section_none keys q h =
-    ap (λ o. option_or (extended_at four_charsets keys q) (cond (has_left four_charsets keys q) None (option_map words.text o))) h
-    ∙ ap (option_or (extended_at four_charsets keys q)) (cond_none (has_left four_charsets keys q))
-    ∙ or_none (extended_at four_charsets keys q)
+section_none known keys q h =
+    ap (λ o. option_or (extended_at known keys q) (cond (has_left known keys q) None (option_map words.text o))) h
+    ∙ ap (option_or (extended_at known keys q)) (cond_none (has_left known keys q))
+    ∙ or_none (extended_at known keys q)
 
 -- ---- the starred keys that leave
 

@@ -1,4 +1,4 @@
--- Which of the names that wait says the charset of each.
+-- The names that one name is a candidate for stand in a range.
 use Rattle.std.proofs.Common.{◌≡◌, ℕ, zero, suc, ◌-◌, ◌+◌, ◌<◌, ◌≤◌, Bool, true, false, ◌&&◌, cond, eqb, List, [], ◌∷◌, ◌++◌, length, get_or, take, None, refl, sym, ap, subst, ◌∙◌, arith, nat_eq, ◌⊎◌, inl, inr, ⊎_elim}
 use Rattle.std.proofs.Math.ListN.{get_or-map}
 use Rattle.std.proofs.lemmas.Bool.{and_from, and_left, and_parts, and_right, both_ways, cases_lt, cases_order, cond-false, cond-true, eq-eqb, eqb-true, le-ltb, ne_eqb}
@@ -64,7 +64,7 @@ between (p ∷ prefix) (a ∷ x) (b ∷ y) (c ∷ z) xy yz bx bz =
     (below_cases b c (y ++ 42 ∷ []) (z ++ 42 ∷ []) yz))
     (below_cases a b (x ++ 42 ∷ []) (y ++ 42 ∷ []) xy)
 
--- ---- the names that one candidate for stand together
+-- ---- the names that one is a candidate for stand together
 
 own_beginning : (n : ℕ) (z : List ℕ) → starts_with nat_eq z (take n z) ≡ true
 own_beginning zero z = refl
@@ -115,7 +115,7 @@ range_after names prefix place first end order r k above within =
     both_ways _ (r.after (omega arith)) (sym (ap (λ j. starts_with nat_eq (name_at names j) prefix) same) ∙ begins))
     (cases_lt end k))
 
--- the places after a name that may offer was written over its range
+-- the places after the one of an initial section was written over its range
 pub offered : (names : List (List ℕ)) (place first end : ℕ) → AreInOrder names → place < length names → is_initial_section (name_at names place) ≡ true
     → IsRange names (take (length (name_at names place) - 1) (name_at names place)) place first end
     → (old new : List ℕ) → ((k : ℕ) → k < first → get_or new k 0 ≡ get_or old k 0) → ((k : ℕ) → first ≤ k → k < end → get_or new k 0 ≡ place)

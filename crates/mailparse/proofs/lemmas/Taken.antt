@@ -3,12 +3,12 @@ use Rattle.std.proofs.Common.{◌≡◌, ℕ, zero, suc, ◌+◌, ◌<◌, ◌^�
 use Rattle.std.proofs.lemmas.Bool.{and_left, cases_order, cond-false, cond-true, le-ltb, lt-ltb}
 use Rattle.std.specs.Option.{option_map_or}
 use Rattle.std.specs.Str.{bytes_eq}
-use Rattle.mailparse.specs.Continuations.{as_far, joined, most_sections, sections_from, sections_of}
+use Rattle.mailparse.specs.Continuations.{joined, most_sections, sections_of}
 use Rattle.mailparse.specs.Sections.{Section, numbered, section_name}
-use Rattle.mailparse.specs.private.Continuations.{is_section_below, is_taken, joined_text, left_by, without_sections}
+use Rattle.mailparse.specs.private.Continuations.{as_far, sections_from, is_section_below, is_taken, joined_text, left_by, without_sections}
 use Rattle.mailparse.specs.private.Filled.{holds_name}
 use Rattle.mailparse.proofs.lemmas.Filled.{filled_again, filled_push, holds_again, holds_push, or_false, or_true}
-use Rattle.mailparse.proofs.lemmas.Joining.{most}
+use Rattle.mailparse.proofs.lemmas.Joining.{most, sections_are}
 use Rattle.mailparse.proofs.lemmas.SectionNumbers.{numbered_section}
 use Rattle.mailparse.proofs.lemmas.Sections.{cond_none}
 use Rattle.mailparse.proofs.lemmas.ExtendedValues.{equal_bytes, same_bytes}
@@ -119,7 +119,9 @@ pub all_sections : (at now : List ℕ → Option Section) (bases : List (List �
 all_sections at now bases base other before =
     let same : now ≡ left_by at bases = λ i q. before q i in
     ap (λ a. sections_of a base) same
+    ∙ sections_are (left_by at bases) base
     ∙ sections_same at bases base most_sections 0 other (let long = most in omega (arith, long))
+    ∙ sym (sections_are at base)
 
 one_base : (at : List ℕ → Option Section) (bases : List (List ℕ)) (base q : List ℕ)
     → is_taken at (bases ++ base ∷ []) q ≡ (is_taken at bases q || is_section_below base (length (sections_of at base)) q)

@@ -1,5 +1,5 @@
 -- What those that join sections hold; private to them.
-use Rattle.std.specs.Prelude.{ℕ, Bool, false, not, ◌&&◌, ◌==◌, nat_lt, List, [], ◌∷◌, ◌++◌, length, map, flat_map, Option, Some, None, option_and_then, option_map, option_to_list, String, string_bytes, if◌then◌else◌}
+use Rattle.std.specs.Prelude.{ℕ, zero, suc, Bool, false, not, ◌&&◌, ◌==◌, nat_lt, List, [], ◌∷◌, ◌++◌, length, map, flat_map, Option, Some, None, option_and_then, option_map, option_to_list, String, string_bytes, if◌then◌else◌}
 use Rattle.std.specs.BTreeMap.{BTreeMap}
 use Rattle.std.specs.Option.{option_map_or}
 use Rattle.std.specs.Str.{bytes_eq}
@@ -9,6 +9,16 @@ use Rattle.mailparse.specs.Sections.{Section, is_text, numbered, section_name}
 use Rattle.mailparse.specs.private.Filled.{holds_name}
 use Rattle.mailparse.specs.declared.parameters.continuations.joining.Joining.{Joining}
 use Rattle.mailparse.specs.declared.parameters.sections.Sections.{Sections}
+
+-- a section before others, as far as there is one
+abbrev pub as_far : Option Section → List Section → List Section
+as_far None rest = []
+as_far (Some section) rest = section ∷ rest
+
+-- the sections of a base at the numbers from one on, as far as there are any, and at most so many
+abbrev pub sections_from : (List ℕ → Option Section) → List ℕ → ℕ → ℕ → List Section
+sections_from at base zero number = []
+sections_from at base (suc most) number = as_far (at (section_name base number)) (sections_from at base most (suc number))
 
 -- the text that is made when these sections follow
 abbrev pub joined_with : Joining → List Section → List ℕ

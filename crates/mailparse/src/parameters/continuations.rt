@@ -19,8 +19,9 @@ use std::collections::BTreeMap;
 fn join(alloc: Global, sections: &mut Sections, base: &str) -> Result<String, AllocError>
     ensures text { IfOk result (λ text. string_bytes text
         ≡ joined (sections_of (stands_at sections.old) base.now)) }
-    ensures left { OnOk result ((q : List ℕ) → stands_at sections.new q ≡ without_sections
-        (stands_at sections.old) base.now (length (sections_of (stands_at sections.old) base.now)) q) }
+    ensures left { OnOk result ((q : List ℕ) → stands_at sections.new q
+        ≡ without_sections (stands_at sections.old) base.now
+        (length (sections_of (stands_at sections.old) base.now)) q) }
 {
     let mut joining = Joining::new(alloc);
     let mut count: u64 = 0;
@@ -37,7 +38,8 @@ fn join(alloc: Global, sections: &mut Sections, base: &str) -> Result<String, Al
 
 /// The base of a name with the number 0, if no text stands there.
 fn first_base<'n>(sections: &Sections, name: &'n str) -> Option<&'n str>
-    ensures { option_map (λ base. base.now) result ≡ first_base_of (stands_at sections.now) name.now }
+    ensures { option_map (λ base. base.now) result
+        ≡ first_base_of (stands_at sections.now) name.now }
 {
     let (base, number) = numbered(name)?;
     if number != 0 {

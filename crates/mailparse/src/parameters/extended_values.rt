@@ -1,5 +1,5 @@
-//! Extended values, whose keys end in `*`: a charset, a language and percent pairs (RFC 2231, section
-//! 4).
+//! Extended values, whose keys end in `*`: a charset, a language and percent pairs (RFC 2231,
+//! section 4).
 ghost use Rattle.std.specs.Prelude.{◌≡◌, ◌<◌, ℕ, List, length, map, option_map, IfOk, if◌then◌else◌};
 ghost use Rattle.std.specs.List.{All};
 ghost use Rattle.std.specs.Option.{is_some};

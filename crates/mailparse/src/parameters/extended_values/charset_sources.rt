@@ -88,8 +88,8 @@ fn write_range(places: &mut Vec<usize>, first: usize, end: usize, place: usize)
     }
 }
 
-/// Where the name at a place is that of an initial section, offers it as the charset source of those
-/// that begin with it, less its last byte.
+/// Where the name at a place is that of an initial section, offers it as the charset source of
+/// those that begin with it, less its last byte.
 fn offer(extended: &[ExtendedName<'_>], shared: &[usize], place: usize, places: &mut Vec<usize>)
     requires within { place < length extended.now }
     requires shared { shared.now ≡ shared_lens extended.now }
@@ -97,7 +97,8 @@ fn offer(extended: &[ExtendedName<'_>], shared: &[usize], place: usize, places: 
     ensures long { length places.new.items ≡ length places.old.items }
     ensures offered { AreInOrder (names_of extended.now) → (k : ℕ) → k < length extended.now →
         slice_index_or places.new.items k 0
-        ≡ (if is_candidate_for (name_at (names_of extended.now) place) (name_at (names_of extended.now) k)
+        ≡ (if is_candidate_for (name_at (names_of extended.now) place)
+        (name_at (names_of extended.now) k)
         then place else slice_index_or places.old.items k 0) }
 {
     let name = extended[place].name.as_bytes();
@@ -118,7 +119,8 @@ pub(super) fn charset_sources(
     ensures long { IfOk result (λ places. length places.items ≡ length extended.now) }
     ensures sources { AreInOrder (names_of extended.now) → IfOk result (λ places. (k : ℕ) →
         k < length extended.now →
-        slice_index_or places.items k 0 ≡ source_place (names_of extended.now) (length extended.now) k) }
+        slice_index_or places.items k 0
+        ≡ source_place (names_of extended.now) (length extended.now) k) }
 {
     let shared = shared_lens(alloc, extended)?;
     let mut places = own_places(alloc, extended.len())?;

@@ -30,8 +30,8 @@ fn without_star(key: &str) -> Option<&str>
     key.strip_suffix('*')
 }
 
-/// The charset whose label stands before the first apostrophe of a value, or is the whole value where
-/// it has none.
+/// The charset whose label stands before the first apostrophe of a value, or is the whole value
+/// where it has none.
 fn charset_in(value: &str) -> Option<Charset>
     ensures { result ≡ charset_of_label (label_in value.now) }
 {

@@ -1,11 +1,11 @@
 use Rattle.std.proofs.Common.{◌≡◌, ◌<◌, ◌-◌, ◌^◌, length, Some, None, cond, sym, ap, ◌∙◌, arith}
 use Rattle.std.proofs.lemmas.Result.{IfOk-weaker}
 use Rattle.std.specs.Str.{bytes_eq}
-use Rattle.mailparse.specs.Continuations.{most_sections, sections_of}
+use Rattle.mailparse.specs.Continuations.{joined, most_sections, sections_of}
 use Rattle.mailparse.specs.Sections.{section_name}
 use Rattle.mailparse.specs.private.Continuations.{joined_with, without_sections}
 use Rattle.mailparse.specs.private.Sections.{section_view, stands_at}
-use Rattle.mailparse.proofs.lemmas.Joining.{most, sections_none, sections_some, sections_end}
+use Rattle.mailparse.proofs.lemmas.Joining.{most, sections_are, sections_none, sections_some, sections_end}
 use Rattle.mailparse.proofs.lemmas.Taken.{next_stands, taken_next, taken_none}
 use Rattle.mailparse.proofs.parameters.continuations.join.Goals as goal
 
@@ -19,7 +19,7 @@ returns-in_default-clause-text c =
     let none = sym (next_stands at (stands_at c.loop-count.sections) base count below c.loop-count.invariant.left) ∙ ap (stands_at c.loop-count.sections) (sym name)
     ∙ sym c.in_default.ensures.taken in
     let end = sections_none at base (most_sections - count) count none in
-    IfOk-weaker c.finish.result _ _ (λ text is. is ∙ ap (joined_with c.loop-count.joining) (sym end) ∙ c.loop-count.invariant.text) c.finish.ensures
+    IfOk-weaker c.finish.result _ _ (λ text is. is ∙ ap (joined_with c.loop-count.joining) (sym end) ∙ c.loop-count.invariant.text ∙ ap joined (sym (sections_are at c.args.base.now))) c.finish.ensures
 
 pub returns-in_default-clause-left : goal.returns-in_default-clause-left
 returns-in_default-clause-left c =
@@ -32,7 +32,7 @@ returns-in_default-clause-left c =
     ∙ sym c.in_default.ensures.taken in
     let end = sections_none at base (most_sections - count) count none in
     let long = ap length end in
-    let whole : count ≡ length (sections_of at base) = omega (arith, long, c.loop-count.invariant.count) in
+    let whole : count ≡ length (sections_of at base) = omega (arith, long, c.loop-count.invariant.count, ap length (sections_are at base)) in
     IfOk-weaker c.finish.result _ _
     (λ text is q.
     taken_none at base count q (stands_at c.loop-count.sections q) _ (c.loop-count.invariant.left q) none
@@ -64,7 +64,7 @@ pub returns-clause-text : goal.returns-clause-text
 returns-clause-text c =
     let at = stands_at c.args.sections.now in
     let end = sections_end at c.args.base.now most_sections c.loop-count.count (omega (arith, most, c.loop-count-test.false)) in
-    IfOk-weaker c.finish-2.result _ _ (λ text is. is ∙ ap (joined_with c.loop-count.joining) (sym end) ∙ c.loop-count.invariant.text) c.finish-2.ensures
+    IfOk-weaker c.finish-2.result _ _ (λ text is. is ∙ ap (joined_with c.loop-count.joining) (sym end) ∙ c.loop-count.invariant.text ∙ ap joined (sym (sections_are at c.args.base.now))) c.finish-2.ensures
 
 pub returns-clause-left : goal.returns-clause-left
 returns-clause-left c =
@@ -72,5 +72,5 @@ returns-clause-left c =
     let base = c.args.base.now in
     let end = sections_end at base most_sections c.loop-count.count (omega (arith, most, c.loop-count-test.false)) in
     let long = ap length end in
-    let whole : c.loop-count.count ≡ length (sections_of at base) = omega (arith, long, c.loop-count.invariant.count) in
+    let whole : c.loop-count.count ≡ length (sections_of at base) = omega (arith, long, c.loop-count.invariant.count, ap length (sections_are at base)) in
     IfOk-weaker c.finish-2.result _ _ (λ text is q. c.loop-count.invariant.left q ∙ ap (λ n. without_sections at base n q) whole) c.finish-2.ensures

@@ -1,4 +1,4 @@
--- Each place has the last of the names so far that candidate for it.
+-- Each place has that of its last candidate among the names so far.
 use Rattle.std.proofs.Common.{◌≡◌, ◌≤◌, ◌<◌, ◌-◌, ℕ, length}
 use Rattle.std.specs.List.{slice_index_or}
 use Rattle.mailparse.specs.private.CharsetSources.{AreInOrder, source_place}
