@@ -7,7 +7,7 @@ To `ctype` and a text the oracle answers the lines `type HEX`, `charset HEX` and
 in the order of the bytes of the keys, `param HEX HEX`; HEX is two hexadecimal digits for each byte,
 or `-`.
 """
-from .oracle import answers, hex_or_dash
+from .oracle import answers, field, hex_or_dash
 from .parameters import pairs, texts
 
 SEED = 2183
@@ -15,9 +15,8 @@ VALUES = ["text/plain", "Text/HTML", "multipart/mixed", "x", "MULTIPART/\u00c9",
 
 
 def line_of(text, reply):
-    """The line on a type, from the lines on it: the first two in this order, then its parameters."""
-    mimetype, charset = reply[0][len("type "):], reply[1][len("charset "):]
-    return f"ctype {hex_or_dash(text)} {mimetype} {charset} {pairs(reply, 'param')}"
+    """The line on a type, from the lines on it."""
+    return f"ctype {hex_or_dash(text)} {field(reply, 'type')} {field(reply, 'charset')} {pairs(reply, 'param')}"
 
 
 def lines(oracle, seed):

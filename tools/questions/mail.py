@@ -18,7 +18,7 @@ import os
 import sys
 
 from .body import outcome
-from .oracle import answers, hex_or_dash, refusal
+from .oracle import answers, field, hex_or_dash, matched, refusal
 
 sys.path.append(os.path.join(os.path.dirname(__file__), ".."))
 from make_mails import mails  # noqa: E402
@@ -74,35 +74,23 @@ def questions(seed):
 
 def node_fields(mail, lines):
     """The fields of a node, from its lines."""
-    first, headers = {}, []
-    for line in lines:
-        word, _, rest = line.partition(" ")
-        if word == "at":
-            word, _, rest = rest.partition(" ")
-            word = "at " + word
-        if word in ("name", "value"):
-            headers.append(rest)
-        first.setdefault(word, rest)
-    start, end = map(int, first["at body"].split())
-    fields = [first["node"].split()[-1], first["type"], first["charset"], first["headers"]] + headers
-    fields += [hex_or_dash(mail[start:end]), first["kind"]]
-    fields += [outcome(f"{name} {first[name]}", name) for name in ["decoded", "text"]]
+    headers = [line.split(" ", 1)[1] for line in lines if line.startswith(("name ", "value "))]
+    start, end = map(int, matched(r"(\d+) (\d+)", field(lines, "at body")))
+    fields = [field(lines, "node").split(" ")[-1]] + [field(lines, name) for name in ["type", "charset", "headers"]] + headers
+    fields += [hex_or_dash(mail[start:end]), field(lines, "kind")]
+    fields += [outcome(f"{name} {field(lines, name)}", name) for name in ["decoded", "text"]]
     return " ".join(fields)
 
 
 def nodes_of(reply):
     """The lines of each node, of an answer that is no refusal."""
-    nodes = []
-    for line in reply[1:]:
-        if line.startswith("node "):
-            nodes.append([])
-        nodes[-1].append(line)
-    return nodes
+    starts = [place for place, line in enumerate(reply) if line.startswith("node ")]
+    return [reply[start:end] for start, end in zip(starts, starts[1:] + [None])]
 
 
 def line_of(mail, reply):
     """The line on a mail, from the oracle's answer."""
-    if reply[0].startswith("mail err "):
+    if not reply[0].startswith("mail ok "):
         return f"mail {hex_or_dash(mail)} {refusal(reply[0])}"
     nodes = "".join(" ; " + node_fields(mail, node) for node in nodes_of(reply))
     return f"mail {hex_or_dash(mail)}{nodes}"

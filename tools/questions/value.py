@@ -13,7 +13,7 @@ of words, white space and folds; and ones of these two with a few bytes changed.
 import base64
 import random
 
-from .oracle import add_new, answers, hex_or_dash
+from .oracle import add_new, answers, field, hex_or_dash
 
 SEED = 2047
 MADE = 360
@@ -204,11 +204,6 @@ def values(seed):
     sources = short(found)
     add_new(found, MUTATED, lambda: mutated(rng, rng.choice(sources), rng.choice(sources)))
     return list(found)
-
-
-def field(lines, name):
-    """The rest of the line that begins with the name."""
-    return next(line[len(name) + 1:] for line in lines if line.startswith(name + " "))
 
 
 def line_of(value, reply):

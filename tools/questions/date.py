@@ -11,9 +11,8 @@ each month from 1970 to 2400, whose seconds the calendar of Python has to give t
 """
 import calendar
 import datetime
-import sys
 
-from .oracle import answers, hex_or_dash, questions, refusal
+from .oracle import Unusable, answers, hex_or_dash, questions, refusal
 
 SEED = 5322
 MADE = 600
@@ -108,5 +107,5 @@ def lines(oracle, seed):
     inputs = [text.encode("utf-8") for text in texts]
     for text, data, reply in zip(texts, inputs, answers(oracle, "date", inputs)):
         if text in seconds and reply != [f"date ok {seconds[text]}"]:
-            sys.exit(f"the oracle and the calendar differ on {text}")
+            raise Unusable(f"the oracle and the calendar differ on {text}")
         yield line_of(data, reply)

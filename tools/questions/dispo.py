@@ -7,22 +7,22 @@ To `dispo` and a text the oracle answers the line `disposition NAME`, or `dispos
 and for each parameter, in the order of the bytes of the keys, `dparam HEX HEX`; HEX is two
 hexadecimal digits for each byte, or `-`.
 """
-from .oracle import answers, hex_or_dash
+from .oracle import answers, field, hex_or_dash
 from .parameters import pairs, texts
 
 SEED = 6266
 VALUES = ["inline", "attachment", "form-data", "Attachment", "extension", "inline x", "form_data", "\u00c9x"]
 
 
-def kind(line):
+def kind(name):
     """The name of the kind, or `x` and the bytes of another."""
-    words = line.split(" ")
-    return words[1] if len(words) == 2 else "x" + words[2].replace("-", "")
+    words = name.split(" ")
+    return name if len(words) == 1 else "x" + words[1].replace("-", "")
 
 
 def line_of(text, reply):
-    """The line on a disposition, from the lines on it: its kind first, then its parameters."""
-    return f"dispo {hex_or_dash(text)} {kind(reply[0])} {pairs(reply, 'dparam')}"
+    """The line on a disposition, from the lines on it."""
+    return f"dispo {hex_or_dash(text)} {kind(field(reply, 'disposition'))} {pairs(reply, 'dparam')}"
 
 
 def lines(oracle, seed):

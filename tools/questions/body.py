@@ -14,9 +14,8 @@ rules; ones made at random of pieces that matter; and ones of these two with a f
 """
 import base64
 import random
-import re
 
-from .oracle import add_new, answers, hex_or_dash
+from .oracle import add_new, answers, field, hex_or_dash, matched
 
 SEED = 2045
 MADE = 240
@@ -132,14 +131,14 @@ def outcome(line, name):
     """`d` and the bytes in hexadecimal, or `e` and the number of the group."""
     if line.startswith(name + " ok "):
         return "d" + line[len(name + " ok "):].replace("-", "")
-    return "e" + re.fullmatch(name + r" err .*group (\d+) .*", line).group(1)
+    return "e" + matched(name + r" err .*group (\d+) .*", line)[0]
 
 
 def lines(oracle, seed):
     """The lines of the list."""
     inputs = questions(seed)
     replies = answers(oracle, "body", [b"\0".join(question) for question in inputs])
-    for question, (kind, decoded, text) in zip(inputs, replies):
+    for question, reply in zip(inputs, replies):
         asked = " ".join(map(hex_or_dash, question))
-        kind = kind[len("kind "):]
-        yield f"body {asked} {kind} {outcome(decoded, 'decoded')} {outcome(text, 'text')}"
+        decoded, text = [outcome(f"{name} {field(reply, name)}", name) for name in ["decoded", "text"]]
+        yield f"body {asked} {field(reply, 'kind')} {decoded} {text}"
