@@ -11,8 +11,8 @@ arguments=
 . "$(dirname "$0")/prelude.sh"
 make_work
 
-# check STATUS STREAM SILENT COMMAND..: whether the command ends with this status, and writes to the first of
-# both streams (`out` or `err`) alone
+# check STATUS STREAM SILENT COMMAND..: whether the command ends with this status, and writes to the
+# first of both streams (`out` or `err`) alone
 check() {
     wanted=$1
     stream=$2

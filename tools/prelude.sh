@@ -1,11 +1,12 @@
-# What each script of this folder begins with. A script has its help as the comment at its head; it names its
-# arguments, in brackets those that may be left out, and then sources this file:
+# What each script of this folder begins with. A script has its help as the comment at its head; it
+# names its arguments, in brackets those that may be left out, and then sources this file:
 #
 #     arguments='[--OPTION] NAME [ORACLE]'
 #     . "$(dirname "$0")/prelude.sh"
 #
-# `--help` prints the help. Too few or too many arguments, and an unknown option, end the script with status 2.
-# What it sets: `script` (its name), `here` (this folder), `top` (the repository), `passed` and `failed`.
+# `--help` prints the help. Too few or too many arguments, and an unknown option, end the script with
+# status 2. What it sets: `script` (its name), `here` (this folder), `top` (the repository), `passed`
+# and `failed`.
 set -eu
 script=$(basename "$(readlink -f "$0")")
 here=$(dirname "$(readlink -f "$0")")
@@ -33,7 +34,12 @@ check_arguments() {
     for word; do
         case $word in
             -h | --help) help; exit 0 ;;
-            -*) case " $arguments " in *" [$word] "*) ;; *) usage "there is no option $word" ;; esac ;;
+            -*)
+                case " $arguments " in
+                    *" [$word] "*) ;;
+                    *) usage "there is no option $word" ;;
+                esac
+                ;;
             *) given=$((given + 1)) ;;
         esac
     done
@@ -77,7 +83,7 @@ finish() {
     [ "$failed" = 0 ]
 }
 
-# take_oracle [PROGRAM]: sets `oracle` to the program's whole path, or to nothing where there is none
+# take_oracle [PROGRAM]: sets `oracle` to the program's whole path, or to nothing where none is given
 take_oracle() {
     oracle=
     if [ $# -gt 0 ]; then
@@ -90,8 +96,8 @@ make_mail() {
     python3 "$here/make_benchmark_mail.py" "$@" > "$work/input"
 }
 
-# seconds TURNS LIMIT COMMAND..: the least time of so many runs on the file `input`, each of which gets
-# so many seconds at most; or in words that a run took longer, or failed
+# seconds TURNS LIMIT COMMAND..: the least time of so many runs on the file `input`, each of which
+# gets so many seconds at most; or in words that a run took longer, or failed
 seconds() {
     turns=$1
     limit=$2
@@ -113,8 +119,8 @@ seconds() {
         '
 }
 
-# memory LIMIT COMMAND..: the most memory in KB that a run on the file `input` held, which gets so many
-# seconds at most. It needs GNU time (/usr/bin/time)
+# memory LIMIT COMMAND..: the most memory in KB that a run on the file `input` held, which gets so
+# many seconds at most. It needs GNU time (/usr/bin/time)
 memory() {
     /usr/bin/time -q -o "$work/memory" -f %M timeout "$@" < "$work/input" > /dev/null 2>&1 || true
     tail -n 1 "$work/memory"

@@ -1,9 +1,10 @@
 #!/bin/sh
-# program.sh NAME: prints where the program of the crate NAME is, a folder crates/NAME with src/main.rt.
+# program.sh NAME: prints where the program of the crate NAME is, a folder crates/NAME with
+# src/main.rt.
 #
-# Where the program is missing or older than a source, the crate is proved and the program built first, which takes
-# about 10 minutes where nothing is proved yet; how far that is goes to standard error. With BUILT=only in the
-# environment a program that has to be built is an error.
+# Where the program is missing or older than a source, the crate is proved and the program built
+# first: about 10 minutes on four cores where nothing is proved yet. How far that is goes to standard
+# error. With BUILT=only in the environment a program that has to be built is an error.
 arguments='NAME'
 . "$(dirname "$0")/prelude.sh"
 name=$1
@@ -33,9 +34,9 @@ progress() {
         case $line in
             'rt: chose --jobs '*)
                 proving=${line##* }
-                echo "$script: proving $proving" >&2
+                echo "proving $proving" >&2
                 ;;
-            'so far: '*' functions checked') echo "$script: $proving: ${line#so far: }" >&2 ;;
+            'so far: '*' functions checked') echo "$proving: ${line#so far: }" >&2 ;;
         esac
     done
 }

@@ -1,14 +1,14 @@
 #!/bin/sh
-# refuse_memory.sh: refuses the calls for memory of the programs one by one, and looks at what
-# they answer then.
+# refuse_memory.sh: refuses the calls for memory of the programs one by one, and looks at how
+# these end then.
 #
 # For N from 1 on it refuses the Nth call alone, and then the Nth and every one after it, until a
 # run meets no refusal:
 #
 #   mail_show      on the samples, and on mails that are refused
 #   answers        which tries each line again, on some lines of its list
-#   mail_memory    which makes each call of the library that takes memory, and knows the right
-#                  answers: once, and again on the same inputs where memory ran out
+#   mail_memory    which makes each call of the library that takes memory, and knows what it has
+#                  to return: once, and again on the same inputs where memory ran out
 #
 # A run passes that gives what it gives with ample memory, or that ends with status 1 and says
 # nothing but that memory ran out; where each call is made once, no run with a refusal passes but
@@ -52,7 +52,7 @@ fails() {
     head -n 5 "$work/out" "$work/err"
 }
 
-# judge: whether the run gave the right answer, or ran out of memory and said so
+# judge: whether the run gave the right result, or ran out of memory and said so
 judge() {
     if is_right && { [ "$refused" = 0 ] || [ "$may_be_right" = yes ]; }; then
         right=$((right + 1))
@@ -61,7 +61,7 @@ judge() {
         short=$((short + 1))
         pass
     else
-        fails 'neither the right answer nor out of memory'
+        fails 'neither the right result nor out of memory'
     fi
 }
 

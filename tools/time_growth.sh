@@ -1,15 +1,15 @@
 #!/bin/sh
-# time_growth.sh [ORACLE]: runs mail_show on mails of once, twice and four times a size, made so that
-# a reader which goes over something again and again is slow. For each kind of mail it prints
+# time_growth.sh [ORACLE]: runs mail_show on mails of once, twice and four times a size, made so
+# that a reader which goes over something again and again is slow. For each kind it prints
 #
 #   the time of the smallest, the least of five runs
-#   how many times the instructions of the one before the second and the third take; they are counted
-#   by valgrind, so they are the same in each run
+#   how many times the instructions of the one before the second takes, and then the third
 #   the most memory that a run on the largest held
 #
 # Reading takes work linear in the size (times a logarithm for parameters), so twice the size takes
-# about twice the instructions. With ORACLE, a program whose command `show` reads a mail from standard
-# input, its time on the smallest stands beside; it gets at most a minute.
+# about twice the instructions. valgrind counts them, the same in each run. With ORACLE, a program
+# whose command `show` reads a mail from standard input, its time on the smallest stands beside; it
+# gets at most a minute.
 #
 # It needs valgrind and GNU time (/usr/bin/time).
 arguments='[ORACLE]'
@@ -35,7 +35,8 @@ for kind in openings broken-words semicolons quotes escaped-quotes keys starred-
     for scale in 2 4; do
         make_mail "$kind" "$scale"
         now=$(instructions)
-        line="$line, $(awk -v now="$now" -v before="$before" 'BEGIN { printf "%.2f", now / before }') times"
+        times=$(awk -v now="$now" -v before="$before" 'BEGIN { printf "%.2f", now / before }')
+        line="$line, $times times"
         before=$now
     done
     echo "$line, $(memory 60 "$show") KB$crate"
