@@ -15,7 +15,7 @@ program=$crate/out/$name
 # crates NAME: the crate and those of the repository below it
 crates() {
     echo "$1"
-    for below in $(sed -n "s/^$1: *//p" "$top/crates.txt"); do
+    for below in $(sed -n "s/^$1\( [^:]*\)\{0,1\}: *//p" "$top/crates.txt"); do
         [ ! -d "$top/crates/$below" ] || crates "$below"
     done
 }
