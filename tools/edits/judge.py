@@ -1,0 +1,60 @@
+"""Says of each edit of a batch whether the check refused what it changed."""
+
+from dataclasses import dataclass
+
+
+@dataclass
+class Outcome:
+    """What became of an edit: `is_refused`, as it must be, and what to say."""
+
+    edit: object
+    is_refused: bool
+    text: str
+
+
+def unclear(known, edits, said):
+    """Why a check does not say clearly what became of the edits, or ''. `known` are the functions of
+    the crate: those that no edit changes have to be told, and as proved."""
+    if not said.is_verdict:
+        return "the check gave no verdict: " + first_words(said)
+    changed = set().union(*(it.functions for it in edits))
+    for name in sorted(known):
+        if is_part_of(name, changed):
+            continue
+        if name not in said.functions:
+            return f"the check does not tell of {name}, which no edit changes"
+        if not said.functions[name].is_fine:
+            return f"{name}, which no edit changes, is not proved: {said.functions[name].why()}"
+    if said.errors:
+        return "an error outside the proofs of what was changed: " + said.errors[0][:200]
+    return ""
+
+
+def is_part_of(name, changed):
+    """Whether the name is of a changed function, or of a closure in one."""
+    return any(name == it or name.startswith(closures_of(it)) for it in changed)
+
+
+def closures_of(name):
+    """How the names of the closures in a function begin: a::fn::f:: for a::f."""
+    module, _, last = name.rpartition("::")
+    return f"{module}::fn::{last}::"
+
+
+def first_words(said):
+    """The line of a check that says most plainly what stopped it."""
+    lines = [it for it in said.text.split("\n") if it.strip()]
+    errors = [it for it in lines if "error" in it or it.startswith("rattle")]
+    return (errors or lines or ["it printed nothing"])[0][:300]
+
+
+def outcome_of(edit, said):
+    """What a check that tells clearly says of one of its edits."""
+    parts = {name: told for name, told in said.functions.items() if is_part_of(name, edit.functions)}
+    refused = {name: told for name, told in parts.items() if told.is_refused}
+    if not refused:
+        return Outcome(edit, False, "NOT REFUSED: " + ", ".join(sorted(edit.functions)) + " is still proved")
+    # a goal says more than a name that is gone
+    name, told = min(refused.items(), key=lambda it: (it[1].is_told_by_names, not it[1].goals, it[0]))
+    little = "only its proof names what is gone, which says little: " if told.is_told_by_names else ""
+    return Outcome(edit, True, f"refused: {name}: {little}{told.why()}")

@@ -1,0 +1,102 @@
+"""What a check says: of each function, whether it is proved, and the goals of its own that are not."""
+
+import re
+from dataclasses import dataclass, field
+
+FUNCTION = re.compile(r"fn (.+?): (proved|not proved|no proof|could not tell)\b(.*)")
+CALLS = re.compile(r"[:;] it calls [^;]*?, which (?:is|are) not proved")
+MESSAGE = re.compile(r"(?:\./)?(\S+?\.\w+):(\d+:\d+): error: (.*)")
+OPEN_GOAL = re.compile(r"note: (?:\./)?(\S+?\.rt):(\d+:\d+): (it is not proved .*)")
+UNPROVED = re.compile(r"did not prove ([^;]*)")
+# What a proof file's error says where it only names what an edit took away.
+IS_GONE = re.compile(r"has no field|is not in scope|has no `|was not admitted")
+
+
+@dataclass
+class Told:
+    """What a check says of one function."""
+
+    status: str
+    goals: list = field(default_factory=list)
+    gone: list = field(default_factory=list)
+
+    @property
+    def is_fine(self):
+        """Whether it is proved, or would be if what it calls were."""
+        return self.status in ("proved", "waits") and not self.goals and not self.gone
+
+    @property
+    def is_refused(self):
+        return bool(self.goals or self.gone) or self.status == "refused"
+
+    @property
+    def is_told_by_names(self):
+        """Whether it is refused only since its proof names what is gone, which says little."""
+        return bool(self.gone) and not self.goals
+
+    def why(self):
+        """The goal that became false, and where."""
+        return (self.goals or self.gone or ["the check names no goal"])[0]
+
+
+@dataclass
+class Said:
+    """What a check says: of each function, and the errors that belong to none."""
+
+    is_verdict: bool
+    functions: dict
+    errors: list
+    text: str
+
+
+def read_output(text):
+    """Reads what `rt check` printed."""
+    functions, notes = {}, []
+    for line in text.split("\n"):
+        note = OPEN_GOAL.match(line)
+        if note:
+            notes.append(note)
+        told = FUNCTION.match(line)
+        if told:
+            functions[told[1]] = told_of(told[2], told[3], notes)
+            notes = []
+    errors = [it for it in map(MESSAGE.match, text.split("\n")) if it]
+    others = give_errors(functions, errors)
+    is_verdict = re.search(r"^logic=(proved|not-proved)\b", text, re.M) is not None
+    return Said(is_verdict, functions, others, text)
+
+
+def told_of(status, rest, notes):
+    """What a function's line says, with the notes above it on its open goals."""
+    own = CALLS.sub("", rest).strip(" :;")
+    if status == "proved":
+        return Told("proved")
+    if status == "no proof" and not own and rest:
+        return Told("waits")
+    goals = [goal for found in UNPROVED.findall(own) for goal in re.findall(r"`([^`]+)`", found)]
+    return Told("refused", [placed(goal, notes) for goal in goals])
+
+
+def placed(goal, notes):
+    """A goal with the place in the source and the words of its note, where it has one."""
+    for note in notes:
+        if f"`{goal}`" in note[3]:
+            what = note[3].partition(f" (`{goal}`)")[0]
+            return f"{goal}, {note[1]}:{note[2]}: {what}"
+    return goal
+
+
+def give_errors(functions, errors):
+    """Gives each error in a function's own proof to the function, and returns the others."""
+    folders = {name.partition("::")[2].replace("::", "/"): told for name, told in functions.items()}
+    others = []
+    for error in errors:
+        folder = error[1].removeprefix("proofs/").rpartition("/")[0].replace("+", "")
+        told = folders.get(folder) if error[1].startswith("proofs/") else None
+        if told is None:
+            others.append(error[0])
+        else:
+            goal, place, what = re.match(r"(?:`([^`]+)`: )?", error[3])[1], f"{error[1]}:{error[2]}", error[3][:160]
+            said = f"{goal or 'its proof'}, {place}: {what}"
+            (told.gone if IS_GONE.search(error[3]) else told.goals).append(said)
+    return others
