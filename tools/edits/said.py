@@ -1,10 +1,12 @@
-"""What a check says: of each function, whether it is proved, and the goals of its own that are not."""
+"""What a check says: of each function, whether it is proved, and the goals of its own that are not; of an
+impl or a type, which has laws, the same."""
 
 import re
 from dataclasses import dataclass, field
 
-FUNCTION = re.compile(r"fn (.+?): (proved|not proved|no proof|could not tell)\b(.*)")
-CALLS = re.compile(r"[:;] it calls [^;]*?, which (?:is|are) not proved")
+LINE = re.compile(r"(fn|impl|struct|enum|trait) (.+?): (proved|not proved|no proof|could not tell)\b(.*)")
+# What is said of a function or an impl that waits for the proof of another.
+WAITS = re.compile(r"[:;] it (?:[^;]*?, which (?:is|are) not proved|waits for the proof of [^;]*)")
 MESSAGE = re.compile(r"(?:\./)?(\S+?\.\w+):(\d+:\d+): error: (.*)")
 OPEN_GOAL = re.compile(r"note: (?:\./)?(\S+?\.rt):(\d+:\d+): (it is not proved .*)")
 UNPROVED = re.compile(r"did not prove ([^;]*)")
@@ -56,9 +58,10 @@ def read_output(text):
         note = OPEN_GOAL.match(line)
         if note:
             notes.append(note)
-        told = FUNCTION.match(line)
+        told = LINE.match(line)
         if told:
-            functions[told[1]] = told_of(told[2], told[3], notes)
+            name = told[2] if told[1] == "fn" else f"{told[1]} {told[2]}"
+            functions[name] = told_of(told[1], told[3], told[4], notes)
             notes = []
     errors = [it for it in map(MESSAGE.match, text.split("\n")) if it]
     others = give_errors(functions, errors)
@@ -66,12 +69,12 @@ def read_output(text):
     return Said(is_verdict, functions, others, text)
 
 
-def told_of(status, rest, notes):
-    """What a function's line says, with the notes above it on its open goals."""
-    own = CALLS.sub("", rest).strip(" :;")
+def told_of(kind, status, rest, notes):
+    """What a line says, with the notes above it on open goals."""
+    own = WAITS.sub("", rest).strip(" :;")
     if status == "proved":
         return Told("proved")
-    if status == "no proof" and not own and rest:
+    if WAITS.search(rest) and not own and (status == "no proof" or kind != "fn"):
         return Told("waits")
     goals = [goal for found in UNPROVED.findall(own) for goal in re.findall(r"`([^`]+)`", found)]
     return Told("refused", [placed(goal, notes) for goal in goals])

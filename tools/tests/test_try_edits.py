@@ -145,15 +145,16 @@ class EditTest(unittest.TestCase):
 
 
 # What a check printed, cut short: a goal of `first` that the search did not prove, an answer of `second` that is
-# not one, two callers, and a proof of `third` that names what is gone.
+# not one, what waits for them, and a proof of `third` that names what is gone.
 PRINTED = """checked low::first, 1 of 5
 ./proofs/second/Answers.antt:6:13: error: `returns`: as printed, the two types differ
   expected type `a`
 ./proofs/+third/Invariants.antt:2:3: error: `loop-x`: `c.args` has no field `low`
+impl low::PairFrom: not proved; it waits for the proof of `from`
 fn low::plain: proved
 note: src/lib.rt:89:9: it is not proved that what the function ensures holds when it returns (`returns-in-Some`); the facts
 fn low::first: no proof: expected answers in ./proofs/first/Answers.antt; `search` did not prove `returns-in-Some`; it calls `low::second`, which is not proved
-fn low::caller: no proof: it calls `low::first` and `low::second`, which are not proved
+fn low::caller: no proof: it calls `low::first` and `low::second`, which are not proved; it passes the block `low::PairFrom`, which is not proved
 fn low::second: not proved; it calls `low::first`, which is not proved
 fn low::third: not proved
 logic=not-proved
@@ -167,11 +168,11 @@ def names(*names):
 class SaidTest(unittest.TestCase):
     def setUp(self):
         self.said = said.read_output(PRINTED)
-        self.known = {f"low::{name}" for name in ("plain", "first", "caller", "second", "third")}
+        self.known = set(self.said.functions)
 
     def test_a_caller_of_what_is_refused_is_fine(self):
         fine = [name for name, told in self.said.functions.items() if told.is_fine]
-        self.assertEqual(fine, ["low::plain", "low::caller"])
+        self.assertEqual(fine, ["impl low::PairFrom", "low::plain", "low::caller"])
 
     def test_goals_have_their_places(self):
         self.assertEqual(self.said.errors, [])
@@ -198,6 +199,10 @@ class SaidTest(unittest.TestCase):
     def test_what_nothing_changes_has_to_be_told_as_proved(self):
         self.assertIn("low::third, which no edit changes, is not proved", judge.unclear(self.known, names("first", "second"), self.said))
         self.assertIn("does not tell of low::gone", judge.unclear({*self.known, "low::gone"}, names("first", "second", "third"), self.said))
+
+    def test_the_laws_of_an_impl_have_to_hold(self):
+        lawless = said.read_output("impl low::PairEq: not proved\nlogic=not-proved")
+        self.assertIn("impl low::PairEq, which no edit changes", judge.unclear({"impl low::PairEq"}, names("first"), lawless))
 
     def test_a_check_that_stops_tells_nothing(self):
         stopped = said.read_output("src/lib.rt:1:2: error: no such name\n")
