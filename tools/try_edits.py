@@ -20,6 +20,7 @@ and the status is 1 where an edit failed.
 
 import argparse
 import os
+import signal
 import sys
 import tempfile
 import threading
@@ -118,8 +119,12 @@ class Run:
         self.passed = 0
         self.failed = 0
         self.processor = 0.0
-        self.is_sound = True
+        self.is_stopped = False
         self.printing = threading.Lock()
+
+    def stop(self):
+        """Has what still runs try nothing more."""
+        self.is_stopped = True
 
     def say(self, *lines):
         with self.printing:
@@ -174,7 +179,7 @@ class Run:
             self.say(f"{trial.crate.name}: batch {number + 1} does not tell clearly, so each of its edits is tried alone: {why}")
         sure = {str(it.edit) for it in outcomes if it.is_refused}
         for edit in batch:
-            if str(edit) not in sure:
+            if str(edit) not in sure and not self.is_stopped:
                 self.try_alone(trial, edit)
 
     def try_alone(self, trial, edit):
@@ -217,27 +222,38 @@ def tasks_of(run):
     return tasks
 
 
-def run_tasks(tasks, lanes):
-    """Runs the tasks side by side, each once those that it waits for have ended. A proof gets the lanes
-    that nothing else is ready for."""
+def run_tasks(tasks, lanes, stop):
+    """Runs the tasks side by side, each once those that it waits for have ended. Where one fails, it calls
+    `stop`, and returns once what runs has ended."""
     done, running, left = set(), {}, dict(tasks)
     with ThreadPoolExecutor(lanes) as pool:
-        while left or running:
-            ready = [key for key, (waits, _) in left.items() if done.issuperset(waits)]
-            for at, key in enumerate(ready):
-                idle = lanes - sum(jobs for _, jobs in running.values())
-                if idle < 1:
-                    break
-                jobs = max(1, idle - (len(ready) - at - 1)) if key[0] == "prove" else 1
-                running[pool.submit(left.pop(key)[1], jobs)] = key, jobs
-            for ended in wait(running, return_when=FIRST_COMPLETED).done:
-                key, _ = running.pop(ended)
-                ended.result()
-                done.add(key)
+        try:
+            while left or running:
+                start_ready(pool, lanes, done, running, left)
+                for ended in wait(running, return_when=FIRST_COMPLETED).done:
+                    key, _ = running.pop(ended)
+                    ended.result()
+                    done.add(key)
+        except BaseException:
+            stop()
+            raise
+
+
+def start_ready(pool, lanes, done, running, left):
+    """Starts the tasks that wait for nothing, as far as lanes are idle. A proof gets the lanes that
+    nothing else is ready for."""
+    ready = [key for key, (waits, _) in left.items() if done.issuperset(waits)]
+    for at, key in enumerate(ready):
+        idle = lanes - sum(jobs for _, jobs in running.values())
+        if idle < 1:
+            return
+        jobs = max(1, idle - (len(ready) - at - 1)) if key[0] == "prove" else 1
+        running[pool.submit(left.pop(key)[1], jobs)] = key, jobs
 
 
 def main():
     words = read_words()
+    signal.signal(signal.SIGTERM, lambda *_: sys.exit(1))
     started = time.monotonic()
     trials = trials_of(words.names, max(1, words.batch))
     lost = unknown(words.names, trials)
@@ -248,7 +264,7 @@ def main():
         for trial in trials:
             run.tell(Outcome(name, False, f"BAD EDIT: {why}") for name, why in trial.bad)
         try:
-            run_tasks(tasks_of(run), run.jobs)
+            run_tasks(tasks_of(run), run.jobs, run.stop)
         except Stopped as why:
             run.say(f"stopped: {why}")
             run.failed += 1

@@ -261,7 +261,7 @@ class RunTest(unittest.TestCase):
         edits = [edit_of(crate, f"edit_{new}", (f"{{ {at + 1} }}", f"{{ {new} }}")) for at, new in enumerate(news)]
         run = try_edits.Run([try_edits.Trial(crate, edits, [], 8)], checker_of_test, 2)
         with contextlib.redirect_stdout(io.StringIO()) as printed:
-            try_edits.run_tasks(try_edits.tasks_of(run), 2)
+            try_edits.run_tasks(try_edits.tasks_of(run), 2, run.stop)
         return run, printed.getvalue()
 
     def test_edits_that_are_refused_pass_in_one_check(self):
