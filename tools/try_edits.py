@@ -35,10 +35,11 @@ TOP = os.path.dirname(os.path.dirname(os.path.realpath(__file__)))
 
 
 def processors():
-    """How many checks run side by side: one for each processor, as far as memory goes, 2.5 GB each."""
+    """How many checks run side by side: one for each processor, as far as memory goes. A check takes up
+    to 2.5 GB, and the gate proves the crates beside it, so 4 GB are counted."""
     with open("/proc/meminfo", encoding="utf-8") as opened:
         free = next(int(it.split()[1]) for it in opened if it.startswith("MemAvailable"))
-    return max(1, min(len(os.sched_getaffinity(0)), free // 2_500_000))
+    return max(1, min(len(os.sched_getaffinity(0)), free // 4_000_000))
 
 
 def read_words():

@@ -9,6 +9,7 @@ LINE = re.compile(r"(fn|impl|struct|enum|trait) (.+?): (proved|not proved|no pro
 WAITS = re.compile(r"[:;] it (?:[^;]*?, which (?:is|are) not proved|waits for the proof of [^;]*)")
 MESSAGE = re.compile(r"(?:\./)?(\S+?\.\w+):(\d+:\d+): error: (.*)")
 OPEN_GOAL = re.compile(r"note: (?:\./)?(\S+?\.rt):(\d+:\d+): (it is not proved .*)")
+GOAL_FIRST = re.compile(r"(?:`([^`]+)`: )?(.*)")
 UNPROVED = re.compile(r"did not prove ([^;]*)")
 # What a proof file's error says where it only names what an edit took away.
 IS_GONE = re.compile(r"has no field|is not in scope|has no `|was not admitted")
@@ -99,7 +100,7 @@ def give_errors(functions, errors):
         if told is None:
             others.append(error[0])
         else:
-            goal, place, what = re.match(r"(?:`([^`]+)`: )?", error[3])[1], f"{error[1]}:{error[2]}", error[3][:160]
-            said = f"{goal or 'its proof'}, {place}: {what}"
-            (told.gone if IS_GONE.search(error[3]) else told.goals).append(said)
+            goal, what = GOAL_FIRST.match(error[3]).groups()
+            said = f"{goal or 'its proof'}, {error[1]}:{error[2]}: {what[:150]}"
+            (told.gone if IS_GONE.search(what) else told.goals).append(said)
     return others
