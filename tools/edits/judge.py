@@ -1,5 +1,6 @@
 """Says of each edit of a batch whether the check refused what it changed."""
 
+import re
 from dataclasses import dataclass
 
 
@@ -25,9 +26,14 @@ def unclear(known, edits, said):
             return f"the check does not tell of {name}, which no edit changes"
         if not said.functions[name].is_fine:
             return f"{name}, which no edit changes, is not proved: {said.functions[name].why()}"
-    if said.errors:
-        return "an error outside the proofs of what was changed: " + said.errors[0][:200]
-    return ""
+    others = [it for it in said.errors if not any(lemmas_of(edit, [it]) for edit in edits)]
+    return f"an error outside the proofs of what was changed: {others[0]}" if others else ""
+
+
+def lemmas_of(edit, errors):
+    """Those of the errors that are of a lemma on a constant that the edit changes."""
+    names = [re.compile(rf"\b{it}\b") for it in edit.constants]
+    return [it for it in errors if "proofs/" in it and any(name.search(it) for name in names)]
 
 
 def is_part_of(name, changed):
@@ -56,5 +62,8 @@ def outcome_of(edit, said):
         return Outcome(edit, False, "NOT REFUSED: " + ", ".join(sorted(edit.functions)) + " is still proved")
     # a goal says more than a name that is gone
     name, told = min(refused.items(), key=lambda it: (it[1].is_told_by_names, not it[1].goals, it[0]))
-    little = "only its proof names what is gone, which says little: " if told.is_told_by_names else ""
-    return Outcome(edit, True, f"refused: {name}: {little}{told.why()}")
+    if told.is_told_by_names:
+        lemmas = lemmas_of(edit, said.errors)
+        little = "only its proof names what is gone, which says little: " + told.why()
+        return Outcome(edit, True, f"refused: {name}: {lemmas[0] if lemmas else little}")
+    return Outcome(edit, True, f"refused: {name}: {told.why()}")

@@ -11,6 +11,8 @@ MESSAGE = re.compile(r"(?:\./)?(\S+?\.\w+):(\d+:\d+): error: (.*)")
 OPEN_GOAL = re.compile(r"note: (?:\./)?(\S+?\.rt):(\d+:\d+): (it is not proved .*)")
 GOAL_FIRST = re.compile(r"(?:`([^`]+)`: )?(.*)")
 UNPROVED = re.compile(r"did not prove ([^;]*)")
+# What an error says that only follows from another.
+FOLLOWS = re.compile(r"depends? on `[^`]+`, which was (?:rejected|not admitted)")
 # What a proof file's error says where it only names what an edit took away.
 IS_GONE = re.compile(r"has no field|is not in scope|has no `|was not admitted")
 
@@ -91,16 +93,17 @@ def placed(goal, notes):
 
 
 def give_errors(functions, errors):
-    """Gives each error in a function's own proof to the function, and returns the others."""
+    """Gives each error in a function's own proof to the function, and returns the others, but for those
+    that only follow from one."""
     folders = {name.partition("::")[2].replace("::", "/"): told for name, told in functions.items()}
     others = []
     for error in errors:
         folder = error[1].removeprefix("proofs/").rpartition("/")[0].replace("+", "")
         told = folders.get(folder) if error[1].startswith("proofs/") else None
-        if told is None:
-            others.append(error[0])
-        else:
-            goal, what = GOAL_FIRST.match(error[3]).groups()
-            said = f"{goal or 'its proof'}, {error[1]}:{error[2]}: {what[:150]}"
-            (told.gone if IS_GONE.search(what) else told.goals).append(said)
+        goal, what = GOAL_FIRST.match(error[3]).groups()
+        text = f"{goal or 'a proof'}, {error[1]}:{error[2]}: {what[:150]}"
+        if told:
+            (told.gone if IS_GONE.search(what) else told.goals).append(text)
+        elif not FOLLOWS.search(what):
+            others.append(text)
     return others

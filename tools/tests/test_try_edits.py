@@ -200,6 +200,18 @@ class SaidTest(unittest.TestCase):
         self.assertIn("low::third, which no edit changes, is not proved", judge.unclear(self.known, names("first", "second"), self.said))
         self.assertIn("does not tell of low::gone", judge.unclear({*self.known, "low::gone"}, names("first", "second", "third"), self.said))
 
+    def test_a_lemma_on_a_constant_that_is_changed_is_its_goal(self):
+        text = """./proofs/lemmas/Low.antt:3:9: error: `TABLE-is`: the two types differ
+./proofs/lemmas/Low.antt:5:5: error: 1 declaration that depends on `TABLE-is`, which was rejected, was not checked: low
+./proofs/first/Answers.antt:6:5: error: 1 declaration that depends on `low`, which was not admitted, was not checked: returns
+fn low::first: not proved
+logic=not-proved"""
+        lemma, first = said.read_output(text), names("first")
+        self.assertIn("outside the proofs of what was changed: TABLE-is", judge.unclear({"low::first"}, first, lemma))
+        first[0].constants = {"TABLE"}
+        self.assertEqual(judge.unclear({"low::first"}, first, lemma), "")
+        self.assertIn("low::first: TABLE-is, proofs/lemmas/Low.antt:3:9", judge.outcome_of(first[0], lemma).text)
+
     def test_the_laws_of_an_impl_have_to_hold(self):
         lawless = said.read_output("impl low::PairEq: not proved\nlogic=not-proved")
         self.assertIn("impl low::PairEq, which no edit changes", judge.unclear({"impl low::PairEq"}, names("first"), lawless))
