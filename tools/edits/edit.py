@@ -118,11 +118,12 @@ def pairs_of(text):
     return pairs
 
 
-def change_of(crate, file, old, new):
-    """What a pair changes, without what its two texts begin and end with alike."""
+def change_of(crate, file, old, new, earlier):
+    """What a pair changes, without what its two texts begin and end with alike. Its old text stands once
+    in what the earlier changes made of the file."""
     if file not in crate.texts:
         raise BadEdit(f"there is no file {file} among the crate's sources")
-    text = crate.texts[file]
+    text = replaced(crate.texts[file], earlier)
     if text.count(old) != 1:
         raise BadEdit(f"its old text stands in {file} {text.count(old)} times, and not once: {old.strip()}")
     if old == new:
@@ -130,14 +131,35 @@ def change_of(crate, file, old, new):
     front = len(os.path.commonprefix([old, new]))
     back = len(os.path.commonprefix([old[front:][::-1], new[front:][::-1]]))
     start = text.index(old)
-    return Change(file, start + front, start + len(old) - back, new[front : len(new) - back])
+    shift = shift_at(earlier, start + front, start + len(old) - back)
+    places = start + front - shift, start + len(old) - back - shift
+    return Change(file, *places, new[front : len(new) - back])
+
+
+def shift_at(changes, start, end):
+    """By how much the changes moved the text in this range, which none of them made."""
+    shift = 0
+    for it in sorted(changes, key=lambda it: it.start):
+        if end <= it.start + shift:
+            break
+        if start < it.start + shift + len(it.new):
+            raise BadEdit("two of its pairs change one place")
+        shift += len(it.new) - (it.end - it.start)
+    return shift
+
+
+def replaced(text, changes):
+    """The text of a file with all these changes."""
+    for it in sorted(changes, key=lambda it: it.start, reverse=True):
+        text = text[: it.start] + it.new + text[it.end :]
+    return text
 
 
 def read_edit(crate, name, text):
     """Reads an edit of the crate, or raises BadEdit."""
     edit = Edit(crate.name, name)
     for file, old, new in pairs_of(text):
-        change = change_of(crate, file, old, new)
+        change = change_of(crate, file, old, new, [it for it in edit.changes if it.file == file])
         function, constant = crate.holder(file, change.start, change.end)
         if function:
             edit.functions.add(crate.name_of(file, function))
@@ -149,8 +171,6 @@ def read_edit(crate, name, text):
             edit.functions |= users
         else:
             raise BadEdit("it changes no body and no constant: such an edit belongs in must-fail/")
-        if any(it.file == file and it.start < change.end and change.start < it.end for it in edit.changes):
-            raise BadEdit("two of its pairs change one place")
         edit.changes.append(change)
     return edit
 
@@ -173,12 +193,9 @@ def edits_in(crate, folder):
 
 def texts_with(crate, edits):
     """The texts of the files that the edits change together, by file."""
-    changes = sorted((it for edit in edits for it in edit.changes), key=lambda it: (it.file, it.start))
-    texts = {}
-    for later in reversed(changes):
-        text = texts.get(later.file, crate.texts[later.file])
-        texts[later.file] = text[: later.start] + later.new + text[later.end :]
-    return texts
+    changes = [it for edit in edits for it in edit.changes]
+    files = {it.file for it in changes}
+    return {file: replaced(crate.texts[file], [it for it in changes if it.file == file]) for file in files}
 
 
 def overlap(first, second):

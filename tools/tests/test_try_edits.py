@@ -128,7 +128,7 @@ class EditTest(unittest.TestCase):
         self.assertIn("0 times", self.refused(("nowhere", "here")))
         self.assertIn("the same", self.refused(("{ 3 }", "{ 3 }")))
         self.assertIn("no file", self.refused(("a", "b"), file="src/none.rt"))
-        self.assertIn("one place", self.refused(("{ 3 }", "{ 4 }"), ("u8 { 3 }", "u8 { 5 }")))
+        self.assertIn("one place", self.refused(("{ 3 }", "{ 4 }"), ("u8 { 4 }", "u8 { 5 }")))
         self.assertIn("no pair", self.refused())
 
     def test_a_batch_applies_each_edit_to_the_crate_as_it_is(self):
@@ -136,6 +136,12 @@ class EditTest(unittest.TestCase):
         second = edit_of(self.crate, "two", ("{ 2 }", "{ { 3 } }"))
         changed = edit.texts_with(self.crate, [first, second])["src/lib.rt"]
         self.assertEqual(changed, SOURCE.replace("{ 3 }", "{ 33 }").replace("{ 2 }", "{ { 3 } }"))
+
+    def test_a_pair_applies_to_what_the_earlier_ones_made(self):
+        found = edit_of(self.crate, "one", ("{ 2 }", "{ 222 }"), ("{ 3 }", "{ 2 }"), ("{ 0 }", "{ }"))
+        changed = SOURCE.replace("{ 2 }", "{ 222 }").replace("{ 3 }", "{ 2 }").replace("{ 0 }", "{ }")
+        self.assertEqual(edit.texts_with(self.crate, [found])["src/lib.rt"], changed)
+        self.assertEqual(found.functions, {"low::Looks::look_twice", "low::inner::plain", "low::Holder::new"})
 
     def test_no_batch_changes_a_function_twice(self):
         pairs = [("{ 3 }", "{ 4 }"), ("{ 2 }", "{ 4 }"), ("{ 3 }", "{ 5 }"), ("{ 0 }", "{ 4 }")]
