@@ -6,11 +6,13 @@ from dataclasses import dataclass
 
 @dataclass
 class Outcome:
-    """What became of an edit: `is_refused`, as it must be, and what to say."""
+    """What became of an edit: `is_refused`, as it must be, and what to say. `says_little`: it is refused
+    only since a proof names what is gone."""
 
     edit: object
     is_refused: bool
     text: str
+    says_little: bool = False
 
 
 def unclear(known, edits, said):
@@ -62,8 +64,8 @@ def outcome_of(edit, said):
         return Outcome(edit, False, "NOT REFUSED: " + ", ".join(sorted(edit.functions)) + " is still proved")
     # a goal says more than a name that is gone
     name, told = min(refused.items(), key=lambda it: (it[1].is_told_by_names, not it[1].goals, it[0]))
-    if told.is_told_by_names:
-        lemmas = lemmas_of(edit, said.errors)
-        little = "only its proof names what is gone, which says little: " + told.why()
-        return Outcome(edit, True, f"refused: {name}: {lemmas[0] if lemmas else little}")
-    return Outcome(edit, True, f"refused: {name}: {told.why()}")
+    lemmas = lemmas_of(edit, said.errors)
+    if told.is_told_by_names and not lemmas:
+        why = f"only its proof names what is gone, which says little: {told.why()}"
+        return Outcome(edit, True, f"refused: {name}: {why}", True)
+    return Outcome(edit, True, f"refused: {name}: {(told.goals or lemmas or [told.why()])[0]}")
