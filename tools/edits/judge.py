@@ -39,14 +39,9 @@ def lemmas_of(edit, errors):
 
 
 def is_part_of(name, changed):
-    """Whether the name is of a changed function, or of a closure in one."""
-    return any(name == it or name.startswith(closures_of(it)) for it in changed)
-
-
-def closures_of(name):
-    """How the names of the closures in a function begin: a::fn::f:: for a::f."""
-    module, _, last = name.rpartition("::")
-    return f"{module}::fn::{last}::"
+    """Whether the name is of a changed function, or of a closure in one: a::fn::f::map is in a::f."""
+    plain = name.replace("::fn::", "::")
+    return any(name == it or (plain != name and plain.startswith(f"{it}::")) for it in changed)
 
 
 def first_words(said):
