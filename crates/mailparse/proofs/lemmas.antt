@@ -11,15 +11,12 @@ pub mod Shown
 pub mod Value
 pub mod Plain
 pub mod Lines
-pub mod NodeType
 pub mod Delimiters
-pub mod DelimiterRows
-pub mod Parts
+pub mod Mail
 pub mod Segments
 pub mod Quoted
 pub mod Pairs
 pub mod Types
-pub mod Trees
 pub mod Ranges
 pub mod Bound
 pub mod Date

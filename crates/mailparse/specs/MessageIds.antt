@@ -1,5 +1,5 @@
 -- Lists of message ids: the identification fields of RFC 5322, section 3.6.4, where an id is any text within angle brackets.
-use Rattle.std.specs.Prelude.{ℕ, Bool, ◌&&◌, ◌==◌, List, [], ◌∷◌, ◌++◌, map, drop, Result, Ok, Err, codes, if◌then◌else◌}
+use Rattle.std.specs.Prelude.{ℕ, Bool, ◌&&◌, ◌==◌, List, [], ◌∷◌, ◌++◌, map, drop, Ok, Err, codes, if◌then◌else◌}
 use Rattle.std.specs.List.{slice_split, join_with_byte, list_any, before_first}
 use Rattle.std.specs.Str.{trim_start}
 use Rattle.mail_codec.specs.Ascii.{space, less_than, greater_than}

@@ -43,7 +43,7 @@ pub struct ParsedMail<'a> {
     pub headers: Vec<MailHeader<'a>>,
     /// Its type.
     pub ctype: ParsedContentType,
-    /// The bytes of its body, up to the first part.
+    /// The bytes of its body: in a message with parts, those of the preamble.
     body_bytes: &'a [u8],
     /// Its parts, in the order in which they stand.
     pub subparts: Vec<ParsedMail<'a>>,

@@ -1,15 +1,18 @@
--- Lemmas on delimiters: where the first one stands.
-use Rattle.std.proofs.Common.{◌≡◌, ◌≢◌, ◌⊎◌, ℕ, zero, suc, ◌+◌, ◌-◌, ◌<◌, ◌≤◌, Bool, true, false, cond, eqb, List, [], ◌∷◌, ◌&&◌, ◌||◌, length, take, drop, get_or, Option, Some, None, option_map, refl, sym, ap, ◌∙◌, subst, ⊎_elim, arith, length-drop, get_or-drop}
-use Rattle.std.specs.Prelude.{nat_lt, ◌==◌}
+-- Lemmas on delimiters: where the first one stands, and the ranges of the parts.
+use Rattle.std.proofs.Common.{◌≡◌, ◌≢◌, ◌⊎◌, ℕ, zero, suc, ◌+◌, ◌-◌, ◌<◌, ◌≤◌, Bool, true, false, cond, eqb, List, [], ◌∷◌, ◌&&◌, ◌||◌, length, drop, get_or, Option, Some, None, option_map, refl, sym, ap, ◌∙◌, subst, ⊎_elim, arith, length-drop, get_or-drop, ◌++◌, map}
+use Rattle.std.specs.Prelude.{nat_lt, ◌==◌, filter_map, option_and_then, codes, if◌then◌else◌}
 use Rattle.std.proofs.lemmas.Bool.{cond-true, cond-false, cases_lt, cases_eq, lt-ltb, le-ltb, eq-eqb, eqb-true, ne_eqb, and_parts, and_from, and_left, and_right, false≢true}
 use Rattle.std.proofs.lemmas.List.{drop-drop}
 use Rattle.bstr.specs.Find.{OccursAt, FindsNeedle}
-use Rattle.mail_codec.specs.Places.{stands, begins, first_place, least, byte_place}
+use Rattle.mail_codec.specs.Places.{stands, begins, first_place, least, byte_place, values_below}
 use Rattle.mail_codec.proofs.lemmas.Places.{least-is, least-before, least-passes, first_place-before}
 use Rattle.mailparse.specs.Header.{is_line_feed}
-use Rattle.mailparse.specs.Delimiters.{least_from, starts_line, is_delimiter, delimiter_from, line_after}
+use Rattle.mailparse.specs.Delimiters.{least_from, starts_line, is_delimiter, delimiter_from, line_after, part_after, is_close_delimiter, next_part, part_start, part_starts, part_range}
 use Rattle.mailparse.specs.private.Delimiters.{NoDelimiter}
 use Rattle.mail_codec.proofs.lemmas.WordSearches.{place_none, place_some}
+use Rattle.mailparse.specs.Ranges.{Range}
+use Rattle.mailparse.proofs.lemmas.Block.{values_below-same}
+use Rattle.mail_codec.specs.Ascii.{line_feed}
 
 -- ---- the least place from a start on
 
@@ -268,3 +271,145 @@ starts_delimiter dash_boundary bytes start some h =
     let fits = (stands_reads dash_boundary (drop start bytes) h).0 in
     let len = length-drop start bytes in
     delimiter_from-some dash_boundary bytes start start (omega arith) (omega arith) (is_delimiter-start dash_boundary bytes start ∙ h) (λ k low high. absurd (omega arith))
+
+-- ---- the ranges of the parts
+
+-- the place after a line lies after it, within the bytes
+pub line_after-bounds : (bytes : List ℕ) (p next : ℕ) → p ≤ length bytes → line_after bytes p ≡ Some next → (p < next) × (next ≤ length bytes)
+line_after-bounds bytes p next within e =
+    let there = somewhere (λ k. suc (p + k)) next (byte_place (drop p bytes) 10) (sym e) in
+    let found = place_some (begins is_line_feed) (drop p bytes) there.0 there.1 in
+    let place = found.0 in
+    let low = found.1 in
+    let same = there.2 in
+    let len = length-drop p bytes in
+    (omega arith, omega arith)
+
+-- the next part starts after this one does, within the bytes
+pub next_part-bounds : (dash_boundary bytes : List ℕ) (s next : ℕ) → next_part dash_boundary bytes s ≡ Some next → (s < next) × (next ≤ length bytes)
+next_part-bounds dash_boundary bytes s next e = by_delimiter (delimiter_from dash_boundary bytes s) refl e
+  where
+    clash : None ≡ Some next → ⊥
+    clash h = cc
+
+    by_last : (p : ℕ) → delimiter_from dash_boundary bytes s ≡ Some p → (t : Bool) → if t then None else part_after dash_boundary bytes p ≡ Some next → (s < next) × (next ≤ length bytes)
+    by_last p f true h = absurd (clash h)
+    by_last p f false h =
+        let least = delimiter_from-out dash_boundary bytes s p f in
+        let low = least.low in
+        let high = least.high in
+        let fits = is_delimiter-fits dash_boundary bytes s p (omega arith) least.passes in
+        let after = line_after-bounds bytes (p + length dash_boundary) next fits h in
+        (omega (arith, after.0), after.1)
+
+    by_delimiter : (o : Option ℕ) → delimiter_from dash_boundary bytes s ≡ o → option_and_then (λ p. if is_close_delimiter dash_boundary bytes p then None else part_after dash_boundary bytes p) o ≡ Some next
+        → (s < next) × (next ≤ length bytes)
+    by_delimiter None f h = absurd (clash h)
+    by_delimiter (Some p) f h = by_last p f (is_close_delimiter dash_boundary bytes p) h
+
+part_start-more : (dash_boundary bytes : List ℕ) (s j : ℕ) → part_start dash_boundary bytes (Some s) (suc j) ≡ part_start dash_boundary bytes (next_part dash_boundary bytes s) j
+part_start-more dash_boundary bytes s zero = refl
+part_start-more dash_boundary bytes s (suc j) = ap (option_and_then (next_part dash_boundary bytes)) (part_start-more dash_boundary bytes s j)
+
+part_start-bounds : (dash_boundary bytes : List ℕ) (s j p : ℕ) → s ≤ length bytes → part_start dash_boundary bytes (Some s) j ≡ Some p → (s + j ≤ p) × (p ≤ length bytes)
+part_start-bounds dash_boundary bytes s zero p within e = let same = unwrap e in (omega arith, omega arith)
+  where
+    unwrap : Some s ≡ Some p → s ≡ p
+    unwrap h = cc
+part_start-bounds dash_boundary bytes s (suc j) p within e = by_part (part_start dash_boundary bytes (Some s) j) refl (λ q. part_start-bounds dash_boundary bytes s j q within) e
+  where
+    clash : None ≡ Some p → ⊥
+    clash h = cc
+
+    by_part : (o : Option ℕ) → part_start dash_boundary bytes (Some s) j ≡ o → ((q : ℕ) → part_start dash_boundary bytes (Some s) j ≡ Some q → (s + j ≤ q) × (q ≤ length bytes))
+        → option_and_then (next_part dash_boundary bytes) o ≡ Some p → (s + suc j ≤ p) × (p ≤ length bytes)
+    by_part None f ih h = absurd (clash h)
+    by_part (Some q) f ih h =
+        let before = (ih q f).0 in
+        let more = next_part-bounds dash_boundary bytes q p h in
+        (omega (arith, more.0), more.1)
+
+-- the ranges of the parts, by where the first one starts
+abbrev pub part_ranges : List ℕ → List ℕ → Option ℕ → List Range
+part_ranges dash_boundary bytes first = map (part_range dash_boundary bytes) (part_starts dash_boundary bytes first)
+
+-- where none stands, none follows
+part_start-none : (dash_boundary bytes : List ℕ) (j : ℕ) → part_start dash_boundary bytes None j ≡ None
+part_start-none dash_boundary bytes zero = refl
+part_start-none dash_boundary bytes (suc j) = ap (option_and_then (next_part dash_boundary bytes)) (part_start-none dash_boundary bytes j)
+
+-- the values that are there
+abbrev present : List (Option ℕ) → List ℕ
+present = filter_map (λ start. start)
+
+present-none : (n : ℕ) (f : ℕ → Option ℕ) → ((j : ℕ) → f j ≡ None) → present (values_below n f) ≡ []
+present-none zero f none = refl
+present-none (suc n) f none =
+    ap (λ (o : Option ℕ). present (o ∷ values_below n (λ j. f (suc j)))) (none 0) ∙ present-none n (λ j. f (suc j)) (λ j. none (suc j))
+
+-- a last value that is not there does not count
+present-last : (n : ℕ) (f : ℕ → Option ℕ) → f n ≡ None → present (values_below (suc n) f) ≡ present (values_below n f)
+present-last zero f none = ap (λ (o : Option ℕ). present (o ∷ [])) none
+present-last (suc n) f none = go (f 0) (present-last n (λ j. f (suc j)) none)
+  where
+    go : (o : Option ℕ) → present (values_below (suc n) (λ j. f (suc j))) ≡ present (values_below n (λ j. f (suc j)))
+        → present (o ∷ values_below (suc n) (λ j. f (suc j))) ≡ present (o ∷ values_below n (λ j. f (suc j)))
+    go None same = same
+    go (Some x) same = ap (λ (rest : List ℕ). x ∷ rest) same
+
+pub part_ranges-none : (dash_boundary bytes : List ℕ) → part_ranges dash_boundary bytes None ≡ []
+unfolding part_starts
+part_ranges-none dash_boundary bytes =
+    ap (map (part_range dash_boundary bytes)) (present-none (suc (length bytes)) (part_start dash_boundary bytes None) (part_start-none dash_boundary bytes))
+
+-- no part that follows another one has the number of bytes as its number
+no_part_past : (dash_boundary bytes : List ℕ) (s : ℕ) → part_start dash_boundary bytes (next_part dash_boundary bytes s) (length bytes) ≡ None
+no_part_past dash_boundary bytes s = by_next (next_part dash_boundary bytes s) refl
+  where
+    by_part : (next : ℕ) → next_part dash_boundary bytes s ≡ Some next → (o : Option ℕ) → part_start dash_boundary bytes (Some next) (length bytes) ≡ o → o ≡ None
+    by_part next e None f = refl
+    by_part next e (Some p) f =
+        let here = next_part-bounds dash_boundary bytes s next e in
+        let there = part_start-bounds dash_boundary bytes next (length bytes) p here.1 f in
+        absurd (omega (arith, here.0, there.0, there.1))
+
+    by_next : (o : Option ℕ) → next_part dash_boundary bytes s ≡ o → part_start dash_boundary bytes o (length bytes) ≡ None
+    by_next None e = part_start-none dash_boundary bytes (length bytes)
+    by_next (Some next) e = by_part next e (part_start dash_boundary bytes (Some next) (length bytes)) refl
+
+part_starts-some : (dash_boundary bytes : List ℕ) (s : ℕ)
+    → part_starts dash_boundary bytes (Some s) ≡ s ∷ part_starts dash_boundary bytes (next_part dash_boundary bytes s)
+unfolding part_starts
+part_starts-some dash_boundary bytes s =
+    let more = values_below-same (length bytes) (λ j. part_start dash_boundary bytes (Some s) (suc j)) (part_start dash_boundary bytes (next_part dash_boundary bytes s))
+    (part_start-more dash_boundary bytes s) in
+    ap (λ (rest : List (Option ℕ)). s ∷ present rest) more
+    ∙ ap (λ (rest : List ℕ). s ∷ rest)
+    (sym (present-last (length bytes) (part_start dash_boundary bytes (next_part dash_boundary bytes s)) (no_part_past dash_boundary bytes s)))
+
+-- the parts from one on are it and those from the next one on
+pub part_ranges-some : (dash_boundary bytes : List ℕ) (s : ℕ) → part_ranges dash_boundary bytes (Some s) ≡ part_range dash_boundary bytes s ∷ part_ranges dash_boundary bytes (next_part dash_boundary bytes s)
+part_ranges-some dash_boundary bytes s = ap (map (part_range dash_boundary bytes)) (part_starts-some dash_boundary bytes s)
+
+-- ---- searches with keys that no delimiter has: by their contracts, what `find_from_u8` and
+-- `find_from_u8_line_prefix` return on short texts
+
+-- the first `o` in `hello world` from 5 on, and from 8 on
+pub byte_after_a_place : option_map (λ k. 5 + k) (byte_place (drop 5 (codes "hello world")) 111) ≡ Some 7
+byte_after_a_place = refl
+
+pub no_byte_after_a_place : option_map (λ k. 8 + k) (byte_place (drop 8 (codes "hello world")) 111) ≡ None
+no_byte_after_a_place = refl
+
+-- the first line from a place on that begins with a key
+pub key_on_the_next_line : delimiter_from (codes "he") (codes "hello" ++ line_feed ∷ codes "hello") 1 ≡ Some 6
+unfolding delimiter_from
+key_on_the_next_line = refl
+
+pub key_where_a_line_starts : delimiter_from (codes "wo") (codes "hello" ++ line_feed ∷ codes "world") 6 ≡ Some 6
+unfolding delimiter_from
+key_where_a_line_starts = refl
+
+pub no_key_in_the_line : delimiter_from (codes "wo") (codes "hello" ++ line_feed ∷ codes "world") 7 ≡ None
+unfolding delimiter_from
+no_key_in_the_line = refl

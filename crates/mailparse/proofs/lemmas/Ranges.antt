@@ -10,8 +10,8 @@ use Rattle.mailparse.specs.ContentType.{ContentType}
 use Rattle.mailparse.specs.Ranges.{Range, Apart}
 use Rattle.mailparse.specs.Delimiters.{before_byte, before_line_end, delimiter_from, end_from, is_close_delimiter, part_after, first_part, next_part, cut_parts}
 use Rattle.mailparse.specs.Mail.{dash_boundary_of, cut_of}
-use Rattle.mailparse.proofs.lemmas.Delimiters.{delimiter_from-out, is_delimiter-fits}
-use Rattle.mailparse.proofs.lemmas.Parts.{line_after-bounds, part_ranges, part_ranges-none, part_ranges-some, dash_boundary_of-length}
+use Rattle.mailparse.proofs.lemmas.Delimiters.{delimiter_from-out, is_delimiter-fits, line_after-bounds, part_ranges, part_ranges-none, part_ranges-some}
+use Rattle.mailparse.proofs.lemmas.Mail.{dash_boundary_of-length}
 
 before_byte-bounds : (b : ℕ) (bytes : List ℕ) (start p : ℕ) → start ≤ p → (start ≤ before_byte b bytes start p) × (before_byte b bytes start p ≤ p)
 before_byte-bounds b bytes start p low = by_test (nat_lt start p && begins (λ x. nat_eq x b) (drop (p - 1) bytes)) refl

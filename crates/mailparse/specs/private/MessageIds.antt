@@ -1,5 +1,5 @@
 -- What the private functions of message ids tell each other.
-use Rattle.std.specs.Prelude.{◌≡◌, ◌<◌, ℕ, true, List, ◌∷◌, ◌++◌, length, Option, Some, None, Result, Ok, Err}
+use Rattle.std.specs.Prelude.{◌≡◌, ◌<◌, ℕ, true, List, ◌∷◌, ◌++◌, length, Option, Some, None, Ok}
 use Rattle.std.specs.List.{slice_split, list_any, before_first}
 use Rattle.std.specs.Borrow.{Bor}
 use Rattle.mailparse.specs.MessageIds.{begins_with_id, id_of_piece, ids_at_end, is_closing, message_ids, opens_id, with_id}

@@ -14,7 +14,7 @@ use Rattle.mailparse.specs.declared.mail.ParsedMail.{ParsedMail}
 use Rattle.mailparse.specs.declared.mail.ParsedMail.TheFolds.{fold-roll-ParsedMail}
 use Rattle.mailparse.proofs.lemmas.Refusal.{read_map}
 use Rattle.mailparse.proofs.lemmas.Outcome.{IsRefusal-along, IsRefusalOrMemory-along}
-use Rattle.mailparse.proofs.lemmas.Parts.{with_trees, parts_from, parts_step, parts_refused, parts_end, read_levels-none, read_levels-refused, read_levels-leaf, read_levels-whole, delimiter_none, IsDelimiter-of}
+use Rattle.mailparse.proofs.lemmas.Mail.{with_trees, parts_from, parts_step, parts_refused, parts_end, read_levels-none, read_levels-refused, read_levels-leaf, read_levels-whole, delimiter_none, IsDelimiter-of}
 use Rattle.mailparse.proofs.mail.+parse_mail_recursive.Goals as goal
 
 unwrap : (a b : ContentType) → ◌≡◌ {A = Reads ContentType} (Ok a) (Ok b) → a ≡ b

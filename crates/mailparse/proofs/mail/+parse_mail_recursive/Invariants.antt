@@ -2,7 +2,7 @@
 use Rattle.std.proofs.Common.{◌≡◌, ◌≤◌, ◌-◌, ℕ, suc, drop, length, map, Option, Some, None, IfSome}
 use Rattle.mailparse.specs.Delimiters.{first_part}
 use Rattle.mailparse.specs.Views.{tree_of}
-use Rattle.mailparse.proofs.lemmas.Parts.{with_trees, parts_from}
+use Rattle.mailparse.proofs.lemmas.Mail.{with_trees, parts_from}
 use Rattle.mailparse.proofs.mail.«+parse_mail_recursive».Given as goal
 
 abbrev pub decreases-parse_mail_recursive : goal.decreases-parse_mail_recursive

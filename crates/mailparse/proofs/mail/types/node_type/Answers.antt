@@ -3,7 +3,7 @@ use Rattle.std.specs.Option.{option_copied}
 use Rattle.mailparse.specs.ContentType.{ContentType}
 use Rattle.mailparse.specs.Outcome.{AnswersOrMemory}
 use Rattle.mailparse.specs.Views.{content_type}
-use Rattle.mailparse.proofs.lemmas.NodeType.{node_type-some, node_type-none}
+use Rattle.mailparse.proofs.lemmas.Mail.{node_type-some, node_type-none}
 use Rattle.mailparse.proofs.mail.types.node_type.Goals as goal
 
 pub returns-in_ok-get_value_ref-in-Some : goal.returns-in_ok-get_value_ref-in-Some

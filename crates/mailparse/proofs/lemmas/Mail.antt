@@ -1,139 +1,53 @@
--- Lemmas on the parts of a message, one after another, and on its reading.
-use Rattle.std.proofs.Common.{◌≡◌, ◌⊎◌, ℕ, zero, suc, ◌+◌, ◌-◌, ◌<◌, ◌≤◌, Bool, true, false, List, [], ◌∷◌, ◌++◌, length, map, take, drop, slice_range, Option, Some, None, option_map, Ok, Err, refl, sym, ap, ◌∙◌, subst, ⊎_elim, arith, length-drop}
-use Rattle.std.specs.Prelude.{filter_map, option_and_then, codes, if◌then◌else◌}
+-- Lemmas on messages: their types, their trees, and how they are read.
+use Rattle.std.proofs.Common.{◌≡◌, ℕ, zero, suc, ◌+◌, ◌-◌, ◌<◌, ◌≤◌, Bool, true, false, List, [], ◌∷◌, ◌++◌, length, map, take, drop, slice_range, Option, Some, None, option_map, Ok, Err, refl, sym, ap, ◌∙◌, subst, arith, Result}
+use Rattle.std.specs.Prelude.{codes, if◌then◌else◌}
 use Rattle.mail_codec.specs.Charset.{four_charsets}
-use Rattle.mail_codec.specs.Places.{begins, stands, byte_place, values_below}
+use Rattle.mail_codec.specs.Places.{stands}
 use Rattle.mailparse.specs.Refusal.{◌>>=◌, Refusal, Reads, recursion_limit}
-use Rattle.mailparse.specs.Header.{Header, is_line_feed}
+use Rattle.mailparse.specs.Header.{Header}
 use Rattle.mailparse.specs.Block.{HeaderList, read_headers}
-use Rattle.mailparse.specs.ContentType.{ContentType}
+use Rattle.mailparse.specs.ContentType.{ContentType, content_type_in}
 use Rattle.mailparse.specs.Ranges.{Range, slice}
-use Rattle.mailparse.specs.Delimiters.{delimiter_from, line_after, part_after, is_close_delimiter, first_part, next_part, part_start, part_starts, part_range, end_from, Cut, cut_parts}
-use Rattle.mailparse.specs.Mail.{Node, Tree, tree, Forest, no_parts, part_and, forest, is_digest, dash_boundary_of, cut_of, node_with, read_each, read_parts, node_type, read_levels}
+use Rattle.mailparse.specs.Delimiters.{first_part, next_part, end_from, Cut, cut_parts}
+use Rattle.mailparse.specs.Mail.{Node, Tree, tree, Forest, no_parts, part_and, forest, is_digest, dash_boundary_of, cut_of, node_with, read_each, read_parts, node_type, read_levels, part_type, trees_within, trees_in}
 use Rattle.mailparse.specs.private.Delimiters.{IsDelimiter}
 use Rattle.mailparse.proofs.lemmas.Refusal.{read_map}
-use Rattle.mailparse.proofs.lemmas.Block.{values_below-same}
-use Rattle.mail_codec.proofs.lemmas.WordSearches.{place_some}
-use Rattle.mailparse.proofs.lemmas.Delimiters.{somewhere, delimiter_from-out, is_delimiter-fits}
+use Rattle.std.specs.Option.{option_map_or}
+use Rattle.mailparse.specs.Map.{first_with_key}
+use Rattle.mailparse.specs.Value.{lenient_value}
+use Rattle.mailparse.specs.Views.{tree_step, tree_of}
+use Rattle.mailparse.specs.declared.mail.ParsedMail.{ParsedMail}
+use Rattle.mailparse.specs.declared.mail.ParsedMail.TheViews.{out-ParsedMail}
+use Rattle.mailparse.specs.declared.mail.ParsedMail.TheFolds.{fold_out-ParsedMail}
+use Rattle.mailparse.proofs.lemmas.Delimiters.{part_ranges-none, part_ranges-some, part_ranges}
 
--- ---- the ranges of the parts
+-- ---- the type of a message
 
--- the place after a line lies after it, within the bytes
-pub line_after-bounds : (bytes : List ℕ) (p next : ℕ) → p ≤ length bytes → line_after bytes p ≡ Some next → (p < next) × (next ≤ length bytes)
-line_after-bounds bytes p next within e =
-    let there = somewhere (λ k. suc (p + k)) next (byte_place (drop p bytes) 10) (sym e) in
-    let found = place_some (begins is_line_feed) (drop p bytes) there.0 there.1 in
-    let place = found.0 in
-    let low = found.1 in
-    let same = there.2 in
-    let len = length-drop p bytes in
-    (omega arith, omega arith)
+unwrapped : (a b : List ℕ) → ◌≡◌ {A = Result (List ℕ) Refusal} (Ok a) (Ok b) → a ≡ b
+unwrapped a b e = cc
 
--- the next part starts after this one does, within the bytes
-pub next_part-bounds : (dash_boundary bytes : List ℕ) (s next : ℕ) → next_part dash_boundary bytes s ≡ Some next → (s < next) × (next ≤ length bytes)
-next_part-bounds dash_boundary bytes s next e = by_delimiter (delimiter_from dash_boundary bytes s) refl e
-  where
-    clash : None ≡ Some next → ⊥
-    clash h = cc
+-- the type of a message whose first `Content-Type` has that text
+pub node_type-some : (in_digest : Bool) (headers : List Header) (h : Header) (text : List ℕ) → Some h ≡ first_with_key (codes "Content-Type") headers
+    → ◌≡◌ {A = Result (List ℕ) Refusal} (Ok (lenient_value h.value)) (Ok text) → content_type_in four_charsets text ≡ node_type four_charsets in_digest headers
+unfolding node_type lenient_value
+node_type-some in_digest headers h text first e =
+    ap (content_type_in four_charsets) (sym (unwrapped _ _ e))
+    ∙ ap (λ o. option_map_or (λ (x : Header). content_type_in four_charsets (lenient_value x.value)) o (part_type in_digest)) first
 
-    by_last : (p : ℕ) → delimiter_from dash_boundary bytes s ≡ Some p → (t : Bool) → if t then None else part_after dash_boundary bytes p ≡ Some next → (s < next) × (next ≤ length bytes)
-    by_last p f true h = absurd (clash h)
-    by_last p f false h =
-        let least = delimiter_from-out dash_boundary bytes s p f in
-        let low = least.low in
-        let high = least.high in
-        let fits = is_delimiter-fits dash_boundary bytes s p (omega arith) least.passes in
-        let after = line_after-bounds bytes (p + length dash_boundary) next fits h in
-        (omega (arith, after.0), after.1)
+-- the type of a message that has none
+pub node_type-none : (in_digest : Bool) (headers : List Header) → None ≡ first_with_key (codes "Content-Type") headers
+    → part_type in_digest ≡ node_type four_charsets in_digest headers
+unfolding node_type lenient_value
+node_type-none in_digest headers none =
+    ap (λ o. option_map_or (λ (x : Header). content_type_in four_charsets (lenient_value x.value)) o (part_type in_digest)) none
 
-    by_delimiter : (o : Option ℕ) → delimiter_from dash_boundary bytes s ≡ o → option_and_then (λ p. if is_close_delimiter dash_boundary bytes p then None else part_after dash_boundary bytes p) o ≡ Some next
-        → (s < next) × (next ≤ length bytes)
-    by_delimiter None f h = absurd (clash h)
-    by_delimiter (Some p) f h = by_last p f (is_close_delimiter dash_boundary bytes p) h
+-- ---- trees
 
-part_start-more : (dash_boundary bytes : List ℕ) (s j : ℕ) → part_start dash_boundary bytes (Some s) (suc j) ≡ part_start dash_boundary bytes (next_part dash_boundary bytes s) j
-part_start-more dash_boundary bytes s zero = refl
-part_start-more dash_boundary bytes s (suc j) = ap (option_and_then (next_part dash_boundary bytes)) (part_start-more dash_boundary bytes s j)
-
-part_start-bounds : (dash_boundary bytes : List ℕ) (s j p : ℕ) → s ≤ length bytes → part_start dash_boundary bytes (Some s) j ≡ Some p → (s + j ≤ p) × (p ≤ length bytes)
-part_start-bounds dash_boundary bytes s zero p within e = let same = unwrap e in (omega arith, omega arith)
-  where
-    unwrap : Some s ≡ Some p → s ≡ p
-    unwrap h = cc
-part_start-bounds dash_boundary bytes s (suc j) p within e = by_part (part_start dash_boundary bytes (Some s) j) refl (λ q. part_start-bounds dash_boundary bytes s j q within) e
-  where
-    clash : None ≡ Some p → ⊥
-    clash h = cc
-
-    by_part : (o : Option ℕ) → part_start dash_boundary bytes (Some s) j ≡ o → ((q : ℕ) → part_start dash_boundary bytes (Some s) j ≡ Some q → (s + j ≤ q) × (q ≤ length bytes))
-        → option_and_then (next_part dash_boundary bytes) o ≡ Some p → (s + suc j ≤ p) × (p ≤ length bytes)
-    by_part None f ih h = absurd (clash h)
-    by_part (Some q) f ih h =
-        let before = (ih q f).0 in
-        let more = next_part-bounds dash_boundary bytes q p h in
-        (omega (arith, more.0), more.1)
-
--- the ranges of the parts, by where the first one starts
-abbrev pub part_ranges : List ℕ → List ℕ → Option ℕ → List Range
-part_ranges dash_boundary bytes first = map (part_range dash_boundary bytes) (part_starts dash_boundary bytes first)
-
--- where none stands, none follows
-part_start-none : (dash_boundary bytes : List ℕ) (j : ℕ) → part_start dash_boundary bytes None j ≡ None
-part_start-none dash_boundary bytes zero = refl
-part_start-none dash_boundary bytes (suc j) = ap (option_and_then (next_part dash_boundary bytes)) (part_start-none dash_boundary bytes j)
-
--- the values that are there
-abbrev present : List (Option ℕ) → List ℕ
-present = filter_map (λ start. start)
-
-present-none : (n : ℕ) (f : ℕ → Option ℕ) → ((j : ℕ) → f j ≡ None) → present (values_below n f) ≡ []
-present-none zero f none = refl
-present-none (suc n) f none =
-    ap (λ (o : Option ℕ). present (o ∷ values_below n (λ j. f (suc j)))) (none 0) ∙ present-none n (λ j. f (suc j)) (λ j. none (suc j))
-
--- a last value that is not there does not count
-present-last : (n : ℕ) (f : ℕ → Option ℕ) → f n ≡ None → present (values_below (suc n) f) ≡ present (values_below n f)
-present-last zero f none = ap (λ (o : Option ℕ). present (o ∷ [])) none
-present-last (suc n) f none = go (f 0) (present-last n (λ j. f (suc j)) none)
-  where
-    go : (o : Option ℕ) → present (values_below (suc n) (λ j. f (suc j))) ≡ present (values_below n (λ j. f (suc j)))
-        → present (o ∷ values_below (suc n) (λ j. f (suc j))) ≡ present (o ∷ values_below n (λ j. f (suc j)))
-    go None same = same
-    go (Some x) same = ap (λ (rest : List ℕ). x ∷ rest) same
-
-pub part_ranges-none : (dash_boundary bytes : List ℕ) → part_ranges dash_boundary bytes None ≡ []
-unfolding part_starts
-part_ranges-none dash_boundary bytes =
-    ap (map (part_range dash_boundary bytes)) (present-none (suc (length bytes)) (part_start dash_boundary bytes None) (part_start-none dash_boundary bytes))
-
--- no part that follows another one has the number of bytes as its number
-no_part_past : (dash_boundary bytes : List ℕ) (s : ℕ) → part_start dash_boundary bytes (next_part dash_boundary bytes s) (length bytes) ≡ None
-no_part_past dash_boundary bytes s = by_next (next_part dash_boundary bytes s) refl
-  where
-    by_part : (next : ℕ) → next_part dash_boundary bytes s ≡ Some next → (o : Option ℕ) → part_start dash_boundary bytes (Some next) (length bytes) ≡ o → o ≡ None
-    by_part next e None f = refl
-    by_part next e (Some p) f =
-        let here = next_part-bounds dash_boundary bytes s next e in
-        let there = part_start-bounds dash_boundary bytes next (length bytes) p here.1 f in
-        absurd (omega (arith, here.0, there.0, there.1))
-
-    by_next : (o : Option ℕ) → next_part dash_boundary bytes s ≡ o → part_start dash_boundary bytes o (length bytes) ≡ None
-    by_next None e = part_start-none dash_boundary bytes (length bytes)
-    by_next (Some next) e = by_part next e (part_start dash_boundary bytes (Some next) (length bytes)) refl
-
-part_starts-some : (dash_boundary bytes : List ℕ) (s : ℕ)
-    → part_starts dash_boundary bytes (Some s) ≡ s ∷ part_starts dash_boundary bytes (next_part dash_boundary bytes s)
-unfolding part_starts
-part_starts-some dash_boundary bytes s =
-    let more = values_below-same (length bytes) (λ j. part_start dash_boundary bytes (Some s) (suc j)) (part_start dash_boundary bytes (next_part dash_boundary bytes s))
-    (part_start-more dash_boundary bytes s) in
-    ap (λ (rest : List (Option ℕ)). s ∷ present rest) more
-    ∙ ap (λ (rest : List ℕ). s ∷ rest)
-    (sym (present-last (length bytes) (part_start dash_boundary bytes (next_part dash_boundary bytes s)) (no_part_past dash_boundary bytes s)))
-
--- the parts from one on are it and those from the next one on
-pub part_ranges-some : (dash_boundary bytes : List ℕ) (s : ℕ) → part_ranges dash_boundary bytes (Some s) ≡ part_range dash_boundary bytes s ∷ part_ranges dash_boundary bytes (next_part dash_boundary bytes s)
-part_ranges-some dash_boundary bytes s = ap (map (part_range dash_boundary bytes)) (part_starts-some dash_boundary bytes s)
+-- the message itself, and then those of its parts
+pub trees_within-out : (m : ParsedMail) → trees_within (tree_of m) ≡ tree_of m ∷ trees_in (forest (map tree_of (out-ParsedMail m).subparts.items))
+trees_within-out m =
+    let e = fold_out-ParsedMail Tree tree_step m in
+    ap trees_within e ∙ ap (λ (t : Tree). t ∷ trees_in (forest (map tree_of (out-ParsedMail m).subparts.items))) (sym e)
 
 -- ---- what is read of the parts
 
