@@ -81,14 +81,15 @@ pub fn tokens_make_up_line()
 {}
 
 /// Between two adjacent decoded words neither whitespace nor the end of a line ever shows: a value
-/// shows what it would show if the second word stood directly after the first. (Whitespace at the start of a
-/// line is not part of it, so the token before a word there is empty.)
+/// shows what it would show if the second word stood directly after the first. (Whitespace at the
+/// start of a line is not part of it, so the token before a word there is empty.)
 pub fn adjacent_words_join()
     ensures whitespace_between { (before rest : List Token) (first gap second : List ℕ) →
         shown_tokens (before ++ word first ∷ whitespace_token gap ∷ word second ∷ rest)
         ≡ shown_tokens (before ++ word first ∷ word second ∷ rest) }
     ensures line_end_between { (before rest : List Token) (first gap second : List ℕ) →
-        shown_tokens (before ++ word first ∷ whitespace_token gap ∷ newline ∷ whitespace_token [] ∷ word second ∷ rest)
+        shown_tokens (before ++ word first ∷ whitespace_token gap ∷ newline
+        ∷ whitespace_token [] ∷ word second ∷ rest)
         ≡ shown_tokens (before ++ word first ∷ word second ∷ rest) }
 {}
 

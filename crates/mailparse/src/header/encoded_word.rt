@@ -34,8 +34,8 @@ fn with_spaces(alloc: Global, encoded: &str) -> Result<String, AllocError>
     Ok(text)
 }
 
-/// The bytes of an encoded text under `Q`: quoted-printable with a space for each `_`, where whitespace
-/// at the end stays.
+/// The bytes of an encoded text under `Q`: quoted-printable with a space for each `_`, where
+/// whitespace at the end stays.
 fn decode_q(alloc: Global, encoded: &str) -> Result<Vec<u8>, AllocError>
     ensures { IfOk result (λ bytes. bytes.items ≡ bytes_of_q encoded.now) }
 {
@@ -63,8 +63,8 @@ fn decode_encoded(
     }
 }
 
-/// The text of what stands inside an encoded word, if it decodes. A byte order mark is read as any
-/// other bytes are.
+/// The text of an encoded word, by what stands between its `=?` and its `?=`, if it decodes. A byte
+/// order mark is not looked for.
 pub(crate) fn decode_word(alloc: Global, inside: &str) -> Result<Option<String>, AllocError>
     ensures { IfOk result (λ text.
         option_map string_bytes text ≡ word_text four_charsets inside.now) }

@@ -76,8 +76,8 @@ fn line_feed_from(raw: &[u8], from: usize) -> usize
     }
 }
 
-/// Where a header ends whose first LF after its colon is at `first`: at the first LF from there on
-/// that no space or tab follows, or at the end.
+/// Where a header ends, whose first LF after its colon is at `first`: at the first LF from there on
+/// that no space or tab follows, or at the end of the bytes.
 fn header_end(raw: &[u8], first: usize) -> usize
     requires within { first ≤ length raw.now }
     requires found { place_from (begins is_line_feed) raw.now first ≡ first }

@@ -40,7 +40,7 @@ fn ends_with_boundary(text: &str) -> bool
     }
 }
 
-/// The token of what stands outside of all encoded words.
+/// The token of a text outside all encoded words.
 fn outside_token(text: &str) -> HeaderToken<'_>
     ensures { token_view result ≡ outside_token text.now }
 {
@@ -93,8 +93,8 @@ fn find_closing(line: &str, from: usize) -> usize
     at
 }
 
-/// The least place at or after `from` where `?=` stands with a boundary after it, or the length,
-/// where `kept` was found from some place before and is kept until the search is past it.
+/// The same as `find_closing`, where `kept` is what an earlier search found, or 0 before the first: it
+/// stays right until the search is past it.
 fn find_closing_or_keep(line: &str, from: usize, kept: usize) -> usize
     requires within { from ≤ length line.now }
     requires keeps { KeepsClosing line.now from kept }
@@ -110,8 +110,8 @@ fn find_closing_or_keep(line: &str, from: usize, kept: usize) -> usize
 
 /// Takes the tokens of one line, in order.
 ///
-/// It takes time in the line's length alone: the end of a word that was found is kept until the
-/// search is past it; that there is none is kept too.
+/// Its time is linear in the line's length: the end of a word is kept until the search is past it,
+/// and so is the fact that there is none.
 pub(crate) fn push_line<'a>(
     alloc: Global,
     line: &'a str,

@@ -12,8 +12,7 @@ use mail_codec::bytescan::{find, find_byte};
 use std::alloc::{AllocError, Global};
 use std::borrow::CowStr;
 
-/// What a text of one line shows that holds no `=?`: the line without the whitespace at its
-/// start.
+/// What a value shows that is one line without `=?`: the line without its leading whitespace.
 fn plain_line(text: &str) -> Option<&str>
     ensures { IfSome result (λ line. line.now ≡ shown_value four_charsets text.now) }
 {
@@ -27,7 +26,7 @@ fn plain_line(text: &str) -> Option<&str>
     }
 }
 
-/// The text that a value shows, whose own text is this; a part of that text is borrowed.
+/// What a value with this text shows, borrowed where it is a part of the text.
 pub(crate) fn value_ref(alloc: Global, text: &str) -> Result<CowStr<'_>, AllocError>
     ensures { IfOk result (λ value. cow_str_bytes value ≡ shown_value four_charsets text.now) }
 {
@@ -37,7 +36,7 @@ pub(crate) fn value_ref(alloc: Global, text: &str) -> Result<CowStr<'_>, AllocEr
     }
 }
 
-/// The text that a value shows, whose own text is this, whatever tokens it has.
+/// What a value with this text shows, read token by token.
 fn unfolded_value(alloc: Global, text: &str) -> Result<String, AllocError>
     ensures { IfOk result (λ value. string_bytes value ≡ shown_value four_charsets text.now) }
 {
