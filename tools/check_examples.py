@@ -151,14 +151,17 @@ def write_crates(folder, examples):
 
 
 def run_examples(examples, counts):
-    """Builds the examples and runs them."""
+    """Builds the examples and runs them; where they do not build, all have failed."""
     with tempfile.TemporaryDirectory() as folder:
         crate = write_crates(folder, examples)
         run = subprocess.run(
             ["rt", "try", "--test"], cwd=crate, text=True, stdout=subprocess.PIPE, stderr=subprocess.STDOUT
         )
-    print(run.stdout)
-    print(run.returncode)
+    passed = set(re.findall(r"^test (\w+)::\w+ \.\.\. ok$", run.stdout, re.MULTILINE))
+    for example in examples:
+        judge(example.module() in passed, f"{example.path}:{example.line}", counts)
+    if run.returncode != 0:
+        print(run.stdout)
 
 
 def main():

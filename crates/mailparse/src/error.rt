@@ -6,7 +6,7 @@ use std::alloc::{AllocError, AllocFailed};
 use std::borrow::CowStr;
 use thiserror::Error;
 
-/// What a call refused, or that it ran out of memory.
+/// What a call refuses, or that it runs out of memory.
 #[derive(Debug, Drop, Error)]
 pub enum MailParseError {
     /// A body that is not quoted-printable. No call returns it: every text is read.
@@ -21,7 +21,7 @@ pub enum MailParseError {
     /// The input is not what the call reads; the text says what is wrong with it.
     #[error("{0}")]
     Generic(&'static str),
-    /// The call ran out of memory.
+    /// The call runs out of memory.
     #[error("out of memory")]
     Memory(AllocError),
 }
