@@ -7,10 +7,11 @@ Each fence ```rust in a doc comment of mail_codec and mailparse becomes a test o
 they stand, in a function that has the runtime `rt` and its allocator `alloc`, and in which `?` passes
 every error on. `rt try --test` builds and runs them, without a proof, in a folder that is deleted
 afterwards. A fence with `fn main` is a program: it has to be the README's, which tools/try_outside.sh
-builds and runs. Each public function has to have an example, and there may be no other fences.
+builds and runs. Each public call has to have an example, and the heading `# Errors` exactly where it
+returns a `Result`. There may be no other fences.
 
-It prints what failed; the last line is `N passed, N failed`, where each example and each public function
-counts for one, and the status is 1 where one failed.
+It prints what failed; the last line is `N passed, N failed`, where each example and each heading of a
+public call counts for one, and the status is 1 where one failed.
 """
 import os
 import re
@@ -22,7 +23,7 @@ import tempfile
 from make_api import crate_modules
 
 TOP = os.path.dirname(os.path.dirname(os.path.abspath(__file__)))
-CRATES = {"mail_codec": "bstr base64", "mailparse": "mail_codec thiserror bstr percent_encoding"}
+CRATES = ("mail_codec", "mailparse")
 DOC = re.compile(r"^\s*//[/!] ?(.*)$")
 
 
@@ -132,13 +133,14 @@ def check_programs(programs, counts):
 
 def write_crates(folder, examples):
     """Writes a repository with both crates and a crate of the examples."""
+    with open(os.path.join(TOP, "crates.txt"), encoding="utf-8") as file:
+        kept = [line for line in file if line.split(":")[0] in CRATES]
     with open(os.path.join(folder, "crates.txt"), "w", encoding="utf-8") as file:
-        file.writelines(f"{crate}: {uses}\n" for crate, uses in CRATES.items())
-        file.write("examples: mailparse mail_codec\n")
+        file.writelines([*kept, "examples: mailparse mail_codec\n"])
     for crate in CRATES:
         for part in ("src", "specs", "proofs"):
-            kept = os.path.join("crates", crate, part)
-            shutil.copytree(os.path.join(TOP, kept), os.path.join(folder, kept))
+            name = os.path.join("crates", crate, part)
+            shutil.copytree(os.path.join(TOP, name), os.path.join(folder, name))
     source = os.path.join(folder, "crates", "examples", "src")
     os.makedirs(source)
     with open(os.path.join(source, "lib.rt"), "w", encoding="utf-8") as file:
