@@ -1,8 +1,6 @@
 #!/usr/bin/env python3
 """Runs the examples of the doc comments and compares the README's program with the crate page's.
 
-    check_examples.py
-
 Each fence ```rust in a doc comment of mail_codec and mailparse becomes a test of its own: the lines as
 they stand, in a function that has the runtime `rt` and its allocator `alloc`, and in which `?` passes
 every error on. `rt try --test` builds and runs them, without a proof, in a folder that is deleted
@@ -13,6 +11,7 @@ returns a `Result`. There may be no other fences.
 It prints what failed; the last line is `N passed, N failed`, where each example and each heading of a
 public call counts for one, and the status is 1 where one failed.
 """
+import argparse
 import os
 import re
 import shutil
@@ -168,9 +167,9 @@ def run_examples(examples, counts):
 
 def main():
     """Checks all."""
-    if len(sys.argv) > 1:
-        print(__doc__.strip())
-        return 0 if sys.argv[1:] in (["-h"], ["--help"]) else 2
+    argparse.ArgumentParser(
+        description=__doc__, formatter_class=argparse.RawDescriptionHelpFormatter
+    ).parse_args()
     counts = [0, 0]
     examples = [example for path in sources() for example in doc_examples(path)]
     check_comments(counts)

@@ -1,12 +1,11 @@
 #!/usr/bin/env python3
 """Makes docs/API.md, the page of all public types and calls, from the sources.
 
-    make_api.py [--check]
-
 Of each item it gives the signature and the first sentence of its doc comment. With --check it writes
 nothing and says whether the page is what the sources give; then the last line is `N passed, N failed`,
 and the status is 1 where it is not.
 """
+import argparse
 import difflib
 import os
 import re
@@ -233,22 +232,25 @@ def page():
     return "\n".join(lines) + "\n"
 
 
-def main():
-    """Writes the page, or compares it with the one that is there."""
-    if sys.argv[1:] == []:
-        with open(PAGE, "w", encoding="utf-8") as file:
-            file.write(page())
-        return 0
-    if sys.argv[1:] != ["--check"]:
-        print(__doc__.strip())
-        return 0 if sys.argv[1:] in (["-h"], ["--help"]) else 2
+def check(made):
+    """Whether the page that is there is the one that was made; the status of the script."""
     with open(PAGE, encoding="utf-8") as file:
         kept = file.read()
-    made = page()
     for line in difflib.unified_diff(kept.split("\n"), made.split("\n"), "docs/API.md", "the sources", lineterm=""):
         print(line)
     print("1 passed, 0 failed" if kept == made else "0 passed, 1 failed")
     return 0 if kept == made else 1
+
+
+def main():
+    """Writes the page, or compares it with the one that is there."""
+    parser = argparse.ArgumentParser(description=__doc__, formatter_class=argparse.RawDescriptionHelpFormatter)
+    parser.add_argument("--check", action="store_true", help="write nothing, and compare")
+    if parser.parse_args().check:
+        return check(page())
+    with open(PAGE, "w", encoding="utf-8") as file:
+        file.write(page())
+    return 0
 
 
 if __name__ == "__main__":
