@@ -124,7 +124,7 @@ def check_programs(programs, counts):
     """Whether each whole program is the README's."""
     with open(os.path.join(TOP, "README.md"), encoding="utf-8") as file:
         lines = [(number, line.rstrip("\n")) for number, line in enumerate(file, 1)]
-    kept = [example.lines for example in fences("README.md", lines, ("rust", "sh", "text")) if example.is_program()]
+    kept = [example.lines for example in fences("README.md", lines, ("rust", "sh", "console")) if example.is_program()]
     judge(len(kept) == 1, "README.md does not have one program", counts)
     for example in programs:
         judge([example.lines] == kept, f"{example.path}:{example.line} is not the README's program", counts)
