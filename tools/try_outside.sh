@@ -7,17 +7,9 @@
 # the one that stands there. The folder is made outside the repository and deleted afterwards.
 #
 # It prints what failed. The last line is `N passed, N failed`; the status is 1 where one failed.
-set -u
-if [ $# -gt 0 ]; then
-    echo 'usage: try_outside.sh'
-    [ "$1" = --help ] || [ "$1" = -h ]
-    exit
-fi
-top=$(cd "$(dirname "$0")/.." && pwd)
-work=$(mktemp -d)
-trap 'rm -rf "$work"' EXIT
-passed=0
-failed=0
+arguments=
+. "$(dirname "$0")/prelude.sh"
+make_work
 
 # section: the lines of the README's section
 section() {
@@ -34,10 +26,9 @@ judge() {
     local what=$1
     shift
     if "$@"; then
-        passed=$((passed + 1))
+        pass
     else
-        failed=$((failed + 1))
-        echo "FAILED $what"
+        fail "$what"
     fi
 }
 
@@ -73,6 +64,5 @@ judge 'the sources were not copied' copy_sources
 judge 'the commands that copy the library' in_folder . "$(fence sh)"
 judge 'the program was not built, or failed' runs_program
 judge 'the program prints something else' prints_that
-[ "$failed" = 0 ] || cat "$work/said" 2> /dev/null
-echo "$passed passed, $failed failed"
-[ "$failed" = 0 ]
+[ "$failed" = 0 ] || cat "$work/said" 2> /dev/null || true
+finish
