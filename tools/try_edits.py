@@ -263,7 +263,8 @@ def main():
     trials = trials_of(words.names, max(1, words.batch))
     lost = unknown(words.names, trials)
     if lost:
-        sys.exit(f"try_edits.py: there is no crate with edits, and no edit, of the name {lost[0]}")
+        print(f"try_edits.py: there is no crate with edits, and no edit, of the name {lost[0]}", file=sys.stderr)
+        return 2
     with tempfile.TemporaryDirectory(prefix="try-edits-") as room:
         run = Run(trials, Checker(TOP, room, words.kept), words.jobs or processors())
         for trial in trials:
