@@ -30,20 +30,20 @@ graphic_ascii : (text : List ℕ) → Graphic text → IsAscii text
 graphic_ascii text h i =
     ⊎_elim (λ lt. omega (arith, (h i 0 lt).1)) (λ past. omega (arith, get_or_past text i 0 past)) (cases_lt i (length text))
 
-whitespace_free : (b : ℕ) (text : List ℕ) → Graphic (b ∷ text) → is_whitespace b ≡ false
-whitespace_free b text h =
+free_of_whitespace : (b : ℕ) (text : List ℕ) → Graphic (b ∷ text) → is_whitespace b ≡ false
+free_of_whitespace b text h =
     let first = All-head (λ b. (33 ≤ b) × (b ≤ 126)) b text h in
     graphic_no_white b first.0 first.1
 
 nothing_trailing : (text : List ℕ) → Graphic text → drop_trailing_whitespace text ≡ text
 nothing_trailing [] h = refl
 nothing_trailing (b ∷ text) h =
-    cond-false _ _ _ (and_left _ _ (whitespace_free b text h))
+    cond-false _ _ _ (and_left _ _ (free_of_whitespace b text h))
     ∙ ap (λ x. b ∷ x) (nothing_trailing text (All-tail (λ b. (33 ≤ b) × (b ≤ 126)) b text h))
 
 nothing_leading : (text : List ℕ) → Graphic text → skip_leading_whitespace text ≡ text
 nothing_leading [] h = refl
-nothing_leading (b ∷ text) h = cond-false _ _ _ (whitespace_free b text h)
+nothing_leading (b ∷ text) h = cond-false _ _ _ (free_of_whitespace b text h)
 
 -- loses nothing at either end
 pub trim-graphic : (text : List ℕ) → Graphic text → trim text ≡ text
