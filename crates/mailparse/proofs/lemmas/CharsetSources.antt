@@ -164,7 +164,7 @@ same_place x z a b =
     let same = exact_bytes (starred x) (starred z) (neither _ _ (nat_list_cmp_total.antisymm (starred x) (starred z)) a b) in
     sym (name_under_starred x) ∙ ap name_under same ∙ name_under_starred z
 
-not_back : (x z : List ℕ) → is_before x z ≡ true → is_before z x ≡ false
+pub not_back : (x z : List ℕ) → is_before x z ≡ true → is_before z x ≡ false
 not_back x z h = one_way _ _ (nat_list_cmp_total.antisymm (starred z) (starred x)) h
 
 pub not_itself : (x : List ℕ) → is_before x x ≡ false
