@@ -7,12 +7,14 @@ which counts as a change of each function that uses it. (A body is proved agains
 calls, so edits of different functions do not touch one another. An edit of a contract, of a definition or
 of a proof goes to must-fail/, which `rt ci` tries.)
 
-The script proves each crate from nothing, in a copy of the repository. Then it checks the crate with a batch of edits at
-once, over the proofs that are kept, where no two edits of a batch change one function. An edit passes if the
-function that it changes is refused, and the line says which goal became false; each function that no edit
-changes has to be told as proved, or as waiting only for those that are refused. Where a batch does not tell
-clearly, or an edit was not refused in it, the edit is tried alone before it is called failed. First of all
-a batch with an edit that changes nothing is tried, which has to be told as not refused.
+The script proves each crate from nothing, in a copy of the repository. Then it checks the crate with a
+batch of edits at once, over the proofs that are kept, where no two edits of a batch change one function.
+An edit passes if the function that it changes is refused, and the line says which goal became false (or
+that its proof only names what is gone, which says little: such edits are listed at the end); each
+function that no edit changes has to be told as proved, or as waiting only for those that are refused.
+Where a batch does not tell clearly, or an edit was not refused in it, the edit is tried alone before it
+is called failed. First of all a batch with an edit that changes nothing is tried, which has to be told
+as not refused.
 
 NAME is a crate, or an edit, as CRATE/NAME; with none, all are tried. The last line is `N passed, N failed`,
 and the status is 1 where an edit failed.
@@ -43,15 +45,15 @@ def processors():
 
 
 def read_words():
-    """Reads the arguments."""
+    """The arguments, and what reads them."""
     title, _, more = __doc__.partition("\n\n")
     form = argparse.RawDescriptionHelpFormatter
-    words = argparse.ArgumentParser(description=title, epilog=more, formatter_class=form)
-    words.add_argument("--jobs", type=int, default=0, help="how many checks run side by side; one a processor")
-    words.add_argument("--batch", type=int, default=16, help="how many edits are checked at once at most")
-    words.add_argument("--kept", action="store_true", help="start from what `rt check` has kept in crates/*/out")
-    words.add_argument("names", nargs="*", metavar="NAME", help="a crate, or an edit as CRATE/NAME")
-    return words.parse_args()
+    reader = argparse.ArgumentParser(description=title, epilog=more, formatter_class=form)
+    reader.add_argument("--jobs", type=int, default=0, help="how many checks run side by side; one a processor")
+    reader.add_argument("--batch", type=int, default=16, help="how many edits are checked at once at most")
+    reader.add_argument("--kept", action="store_true", help="start from what `rt check` has kept in crates/*/out")
+    reader.add_argument("names", nargs="*", metavar="NAME", help="a crate, or an edit as CRATE/NAME")
+    return reader, reader.parse_args()
 
 
 class Stopped(Exception):
@@ -119,6 +121,7 @@ class Run:
         self.jobs = jobs
         self.passed = 0
         self.failed = 0
+        self.little = []
         self.processor = 0.0
         self.is_stopped = False
         self.printing = threading.Lock()
@@ -142,6 +145,7 @@ class Run:
             for it in outcomes:
                 self.passed += it.is_refused
                 self.failed += not it.is_refused
+                self.little += [str(it.edit)] if it.says_little else []
                 print(f"{'passed' if it.is_refused else 'FAILED'} {it.edit}: {it.text}", flush=True)
 
     def prove(self, name, trial, jobs):
@@ -253,13 +257,13 @@ def start_ready(pool, lanes, done, running, left):
 
 
 def main():
-    words = read_words()
+    reader, words = read_words()
     signal.signal(signal.SIGTERM, lambda *_: sys.exit(1))
     started = time.monotonic()
     trials = trials_of(words.names, max(1, words.batch))
     lost = unknown(words.names, trials)
     if lost:
-        sys.exit(f"try_edits.py: there is no crate with edits, and no edit, of the name {lost[0]}")
+        reader.error(f"there is no crate with edits, and no edit, of the name {lost[0]}")
     with tempfile.TemporaryDirectory(prefix="try-edits-") as room:
         run = Run(trials, Checker(TOP, room, words.kept), words.jobs or processors())
         for trial in trials:
@@ -270,6 +274,8 @@ def main():
             run.say(f"stopped: {why}")
             run.failed += 1
     took = time.monotonic() - started
+    if run.little:
+        print("refused only since a proof names what is gone: " + " ".join(sorted(run.little)))
     print(f"{took:.0f} s, {run.processor:.0f} processor seconds")
     print(f"{run.passed} passed, {run.failed} failed")
     return 1 if run.failed else 0

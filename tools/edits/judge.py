@@ -6,11 +6,13 @@ from dataclasses import dataclass
 
 @dataclass
 class Outcome:
-    """What became of an edit: `is_refused`, as it must be, and what to say."""
+    """What became of an edit: `is_refused`, as it must be, and what to say. `says_little`: it is refused
+    only since a proof names what is gone."""
 
     edit: object
     is_refused: bool
     text: str
+    says_little: bool = False
 
 
 def unclear(known, edits, said):
@@ -37,14 +39,9 @@ def lemmas_of(edit, errors):
 
 
 def is_part_of(name, changed):
-    """Whether the name is of a changed function, or of a closure in one."""
-    return any(name == it or name.startswith(closures_of(it)) for it in changed)
-
-
-def closures_of(name):
-    """How the names of the closures in a function begin: a::fn::f:: for a::f."""
-    module, _, last = name.rpartition("::")
-    return f"{module}::fn::{last}::"
+    """Whether the name is of a changed function, or of a closure in one: a::fn::f::map is in a::f."""
+    plain = name.replace("::fn::", "::")
+    return any(name == it or (plain != name and plain.startswith(f"{it}::")) for it in changed)
 
 
 def first_words(said):
@@ -62,8 +59,8 @@ def outcome_of(edit, said):
         return Outcome(edit, False, "NOT REFUSED: " + ", ".join(sorted(edit.functions)) + " is still proved")
     # a goal says more than a name that is gone
     name, told = min(refused.items(), key=lambda it: (it[1].is_told_by_names, not it[1].goals, it[0]))
-    if told.is_told_by_names:
-        lemmas = lemmas_of(edit, said.errors)
-        little = "only its proof names what is gone, which says little: " + told.why()
-        return Outcome(edit, True, f"refused: {name}: {lemmas[0] if lemmas else little}")
-    return Outcome(edit, True, f"refused: {name}: {told.why()}")
+    lemmas = lemmas_of(edit, said.errors)
+    if told.is_told_by_names and not lemmas:
+        why = f"only its proof names what is gone, which says little: {told.why()}"
+        return Outcome(edit, True, f"refused: {name}: {why}", True)
+    return Outcome(edit, True, f"refused: {name}: {(told.goals or lemmas or [told.why()])[0]}")
