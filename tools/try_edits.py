@@ -45,15 +45,15 @@ def processors():
 
 
 def read_words():
-    """Reads the arguments."""
+    """The arguments, and what reads them."""
     title, _, more = __doc__.partition("\n\n")
     form = argparse.RawDescriptionHelpFormatter
-    words = argparse.ArgumentParser(description=title, epilog=more, formatter_class=form)
-    words.add_argument("--jobs", type=int, default=0, help="how many checks run side by side; one a processor")
-    words.add_argument("--batch", type=int, default=16, help="how many edits are checked at once at most")
-    words.add_argument("--kept", action="store_true", help="start from what `rt check` has kept in crates/*/out")
-    words.add_argument("names", nargs="*", metavar="NAME", help="a crate, or an edit as CRATE/NAME")
-    return words.parse_args()
+    reader = argparse.ArgumentParser(description=title, epilog=more, formatter_class=form)
+    reader.add_argument("--jobs", type=int, default=0, help="how many checks run side by side; one a processor")
+    reader.add_argument("--batch", type=int, default=16, help="how many edits are checked at once at most")
+    reader.add_argument("--kept", action="store_true", help="start from what `rt check` has kept in crates/*/out")
+    reader.add_argument("names", nargs="*", metavar="NAME", help="a crate, or an edit as CRATE/NAME")
+    return reader, reader.parse_args()
 
 
 class Stopped(Exception):
@@ -257,14 +257,13 @@ def start_ready(pool, lanes, done, running, left):
 
 
 def main():
-    words = read_words()
+    reader, words = read_words()
     signal.signal(signal.SIGTERM, lambda *_: sys.exit(1))
     started = time.monotonic()
     trials = trials_of(words.names, max(1, words.batch))
     lost = unknown(words.names, trials)
     if lost:
-        print(f"try_edits.py: there is no crate with edits, and no edit, of the name {lost[0]}", file=sys.stderr)
-        return 2
+        reader.error(f"there is no crate with edits, and no edit, of the name {lost[0]}")
     with tempfile.TemporaryDirectory(prefix="try-edits-") as room:
         run = Run(trials, Checker(TOP, room, words.kept), words.jobs or processors())
         for trial in trials:

@@ -198,19 +198,31 @@ def texts_with(crate, edits):
     return {file: replaced(crate.texts[file], [it for it in changes if it.file == file]) for file in files}
 
 
-def overlap(first, second):
-    """Whether two edits change one function."""
-    return bool(first.functions & second.functions)
-
-
 def batches_of(edits, size):
-    """Puts the edits into batches of at most `size`, in each of which no function is changed twice."""
+    """Puts the edits into batches of about `size`, in each of which no function is changed twice. Edits
+    that follow one another stay together, since their functions have callers in common; the edits of
+    a batch of less than half that size go into the smallest others that may have them."""
+    batches = first_fit(edits, size)
+    large = [it for it in batches if 2 * len(it) >= size]
+    left = []
+    for edit in [edit for batch in batches if batch not in large for edit in batch]:
+        fitting = [it for it in large if len(it) < size + size // 4 and fits(edit, it)]
+        min(fitting, key=len, default=left).append(edit)
+    return large + first_fit(left, size)
+
+
+def first_fit(edits, size):
+    """Puts each edit into the first batch that has room and does not change its functions."""
     batches = []
     for edit in edits:
-        for batch in batches:
-            if len(batch) < size and not any(overlap(edit, other) for other in batch):
-                batch.append(edit)
-                break
-        else:
+        batch = next((it for it in batches if len(it) < size and fits(edit, it)), None)
+        if batch is None:
             batches.append([edit])
+        else:
+            batch.append(edit)
     return batches
+
+
+def fits(edit, batch):
+    """Whether the batch changes none of the functions that the edit changes."""
+    return not any(edit.functions & other.functions for other in batch)

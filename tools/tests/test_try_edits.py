@@ -149,6 +149,12 @@ class EditTest(unittest.TestCase):
         self.assertEqual([[edits.index(it) for it in batch] for batch in edit.batches_of(edits, 8)], [[0, 1, 3], [2]])
         self.assertEqual([len(batch) for batch in edit.batches_of(edits, 2)], [2, 2])
 
+    def test_a_small_batch_goes_into_the_others(self):
+        edits = [edit.Edit("low", str(at), [], {f"low::{at}"}) for at in range(9)]
+        batches = edit.batches_of(edits, 4)
+        self.assertEqual([len(it) for it in batches], [5, 4])
+        self.assertEqual(sorted(it.name for batch in batches for it in batch), [it.name for it in edits])
+
 
 # What a check printed, cut short: a goal of `first` that the search did not prove, an answer of `second` that is
 # not one, what waits for them, and a proof of `third` that names what is gone.
