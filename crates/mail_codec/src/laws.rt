@@ -1,5 +1,6 @@
-//! What the definitions mean, as laws over all bytes. Each function does nothing; its contract is
-//! the law.
+//! What the definitions mean, as laws over all bytes.
+//!
+//! Each function does nothing; its contract is the law.
 ghost use Rattle.std.specs.Prelude.{◌≡◌, ◌↔◌, ◌≤◌, ℕ, Bool, List, Option, Ok, Err, length};
 ghost use Rattle.mail_codec.specs.Base64.{base64, IsBase64, IsBase64Fault};
 ghost use Rattle.mail_codec.specs.Places.{byte_place, first_place, place_from, text_place, HasByteAt, HasTextAt, IsFirstOf, IsFirstPlace, IsFirstPlaceFrom};
@@ -22,7 +23,7 @@ pub fn place_from_is_least()
         IsFirstPlaceFrom test bytes s p → p ≡ place_from test bytes s }
 {}
 
-/// What `find_byte` and `find` answer is the first place where the byte, or the text, stands, and
+/// What `find_byte` and `find` return is the first place where the byte, or the text, stands, and
 /// `None` exactly where it stands nowhere; the empty text stands nowhere.
 pub fn searches_find_first_places()
     ensures byte { (bytes : List ℕ) (byte : ℕ) (found : Option ℕ) →

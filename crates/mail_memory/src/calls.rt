@@ -1,185 +1,113 @@
-//! The calls that take memory, and whether their answers are right.
+//! The calls that take memory, in groups, and whether they return what is right.
 
-use crate::inputs::Inputs;
+use crate::inputs::{ATTACHED, HEADER, Inputs, TWO_CODINGS};
 use crate::{codec, headers, mails, texts};
 use mailparse::MailParseError;
 use std::alloc::Global;
-use thiserror::Error;
 
-/// A call, named after a function of the library.
-#[derive(Clone, Copy, Debug)]
-pub enum Call {
-    StripAsciiWhitespace,
-    DecodeBase64,
-    DecodeLongBase64,
-    DecodeBase64Body,
-    DecodeQuotedPrintable,
-    DecodeLatin1,
-    DecodeAscii,
-    Decode,
-    DecodeWithoutBomHandling,
-    ParseHeaders,
-    GetKey,
-    GetKeyRef,
-    GetValue,
-    GetValueUtf8,
-    ShowHeader,
-    GetAllHeaders,
-    GetFirstValue,
-    GetAllValues,
-    GetAllHeadersOfBlock,
-    GetFirstValueOfBlock,
-    GetAllValuesOfBlock,
-    ShowBlock,
-    ParseContentType,
-    DefaultContentType,
-    ParseContentDisposition,
-    CloneDisposition,
-    MsgIdParse,
-    CloneIds,
-    ShowIds,
-    ParseMail,
-    Parts,
-    GetContentDisposition,
-    GetBody,
-    GetBodyRaw,
-    GetBodyEncoded,
-    GetDecoded,
-    GetDecodedAsString,
-    GetAsString,
+/// Why calls do not count.
+#[derive(Clone, Copy)]
+pub struct Fault {
+    /// Which calls.
+    pub calls: &'static str,
+    /// What is wrong.
+    pub what: &'static str,
 }
 
-/// Each call once.
-pub const CALLS: [Call; 38] = [
-    Call::StripAsciiWhitespace,
-    Call::DecodeBase64,
-    Call::DecodeLongBase64,
-    Call::DecodeBase64Body,
-    Call::DecodeQuotedPrintable,
-    Call::DecodeLatin1,
-    Call::DecodeAscii,
-    Call::Decode,
-    Call::DecodeWithoutBomHandling,
-    Call::ParseHeaders,
-    Call::GetKey,
-    Call::GetKeyRef,
-    Call::GetValue,
-    Call::GetValueUtf8,
-    Call::ShowHeader,
-    Call::GetAllHeaders,
-    Call::GetFirstValue,
-    Call::GetAllValues,
-    Call::GetAllHeadersOfBlock,
-    Call::GetFirstValueOfBlock,
-    Call::GetAllValuesOfBlock,
-    Call::ShowBlock,
-    Call::ParseContentType,
-    Call::DefaultContentType,
-    Call::ParseContentDisposition,
-    Call::CloneDisposition,
-    Call::MsgIdParse,
-    Call::CloneIds,
-    Call::ShowIds,
-    Call::ParseMail,
-    Call::Parts,
-    Call::GetContentDisposition,
-    Call::GetBody,
-    Call::GetBodyRaw,
-    Call::GetBodyEncoded,
-    Call::GetDecoded,
-    Call::GetDecodedAsString,
-    Call::GetAsString,
+/// Each group, by the name of one of its calls.
+static GROUPS: [&str; 15] = [
+    "decode_base64",
+    "decode_quoted_printable",
+    "decode",
+    "decode_without_bom_handling",
+    "parse_headers",
+    "get_value",
+    "get_first_value",
+    "Headers",
+    "parse_content_type",
+    "parse_content_disposition",
+    "msgidparse",
+    "MessageIdList",
+    "parse_mail",
+    "get_body",
+    "get_decoded",
 ];
 
-/// Why a call does not count.
-#[derive(Debug, Drop, Error)]
-pub enum CallFault {
-    /// Memory ran out each time.
-    #[error("{0:?}: out of memory")]
-    Memory(Call),
-    /// Another answer is right.
-    #[error("{0:?}: a wrong answer")]
-    Wrong(Call),
+/// Makes the calls of each group, again so many times at most where memory ran out, always on the
+/// same inputs.
+pub fn make(alloc: Global, again: u32) -> Result<(), Fault> {
+    let Ok(inputs) = Inputs::new(alloc, TWO_CODINGS, ATTACHED, HEADER) else {
+        return Err(Fault {
+            calls: "the inputs",
+            what: "out of memory",
+        });
+    };
+    for group in &GROUPS {
+        make_group(alloc, &inputs, group, again)?;
+    }
+    Ok(())
 }
 
-impl Call {
-    /// Makes the call, again so many times at most where memory ran out, always on the same inputs.
-    pub fn check(self, alloc: Global, inputs: &Inputs<'_>, again: u32) -> Result<(), CallFault> {
-        for _turn in 0..again {
-            match self.is_right(alloc, inputs) {
-                Ok(true) => return Ok(()),
-                Ok(false) => return Err(CallFault::Wrong(self)),
-                Err(e) => {
-                    if !is_memory(&e) {
-                        return Err(CallFault::Wrong(self));
-                    }
-                }
-            }
-        }
-        match self.is_right(alloc, inputs) {
-            Ok(true) => Ok(()),
-            Ok(false) => Err(CallFault::Wrong(self)),
-            Err(e) => Err(self.fault(e)),
+/// Makes the calls of a group, again so many times at most where memory ran out.
+fn make_group(
+    alloc: Global,
+    inputs: &Inputs<'_>,
+    group: &'static str,
+    again: u32,
+) -> Result<(), Fault> {
+    for _turn in 0..again {
+        if let Some(is_right) = answer(alloc, inputs, group) {
+            return judge(group, is_right);
         }
     }
-
-    /// What an error of the call means.
-    fn fault(self, e: MailParseError) -> CallFault {
-        if is_memory(&e) {
-            CallFault::Memory(self)
-        } else {
-            CallFault::Wrong(self)
-        }
-    }
-
-    /// Makes the call, and tells whether its answer is right.
-    fn is_right(self, alloc: Global, inputs: &Inputs<'_>) -> Result<bool, MailParseError> {
-        match self {
-            Call::StripAsciiWhitespace => codec::is_stripped(alloc),
-            Call::DecodeBase64 => codec::is_base64(alloc),
-            Call::DecodeLongBase64 => codec::is_long_base64(alloc),
-            Call::DecodeBase64Body => codec::is_base64_body(alloc),
-            Call::DecodeQuotedPrintable => codec::is_quoted_printable(alloc),
-            Call::DecodeLatin1 => codec::is_latin1(alloc),
-            Call::DecodeAscii => codec::is_ascii(alloc),
-            Call::Decode => codec::are_marked(alloc),
-            Call::DecodeWithoutBomHandling => codec::are_decoded(alloc),
-            Call::ParseHeaders => headers::are_read(alloc),
-            Call::GetKey => headers::is_key(alloc, &inputs.header),
-            Call::GetKeyRef => headers::is_key_ref(alloc, &inputs.header),
-            Call::GetValue => headers::is_value(alloc, &inputs.header),
-            Call::GetValueUtf8 => headers::is_strict_value(alloc, &inputs.header),
-            Call::ShowHeader => headers::is_shown(alloc, &inputs.header),
-            Call::GetAllHeaders => headers::are_headers(alloc, &inputs.mail.headers),
-            Call::GetFirstValue => headers::is_first_value(alloc, &inputs.mail.headers),
-            Call::GetAllValues => headers::are_values(alloc, &inputs.mail.headers),
-            Call::GetAllHeadersOfBlock => headers::are_headers(alloc, &inputs.mail.get_headers()),
-            Call::GetFirstValueOfBlock => {
-                headers::is_first_value(alloc, &inputs.mail.get_headers())
-            }
-            Call::GetAllValuesOfBlock => headers::are_values(alloc, &inputs.mail.get_headers()),
-            Call::ShowBlock => headers::is_block_shown(alloc, &inputs.attached),
-            Call::ParseContentType => texts::are_types(alloc),
-            Call::DefaultContentType => texts::is_default_type(alloc),
-            Call::ParseContentDisposition => texts::are_dispositions(alloc),
-            Call::CloneDisposition => texts::is_same_disposition(alloc, &inputs.disposition),
-            Call::MsgIdParse => texts::are_ids(alloc),
-            Call::CloneIds => texts::are_same_ids(alloc, &inputs.ids),
-            Call::ShowIds => texts::are_ids_shown(alloc, &inputs.ids),
-            Call::ParseMail => mails::are_read(alloc),
-            Call::Parts => mails::are_parts(alloc, &inputs.mail),
-            Call::GetContentDisposition => mails::is_attachment(alloc, &inputs.attached),
-            Call::GetBody => mails::are_texts(alloc, inputs),
-            Call::GetBodyRaw => mails::are_bytes(alloc, inputs),
-            Call::GetBodyEncoded => mails::are_kinds(alloc, inputs),
-            Call::GetDecoded => mails::are_decoded(alloc, &inputs.mail),
-            Call::GetDecodedAsString => mails::are_decoded_texts(alloc, &inputs.mail),
-            Call::GetAsString => mails::are_plain_texts(alloc, inputs),
-        }
+    match answer(alloc, inputs, group) {
+        Some(is_right) => judge(group, is_right),
+        None => Err(Fault {
+            calls: group,
+            what: "out of memory",
+        }),
     }
 }
 
-/// Whether memory ran out.
-fn is_memory(e: &MailParseError) -> bool {
-    matches!(e, MailParseError::Memory(_))
+fn judge(group: &'static str, is_right: bool) -> Result<(), Fault> {
+    if is_right {
+        Ok(())
+    } else {
+        Err(Fault {
+            calls: group,
+            what: "a wrong answer",
+        })
+    }
+}
+
+/// Makes the calls of a group once, and tells whether they return what is right, unless memory ran
+/// out.
+fn answer(alloc: Global, inputs: &Inputs<'_>, group: &str) -> Option<bool> {
+    match is_right(alloc, inputs, group) {
+        Ok(is_right) => Some(is_right),
+        Err(MailParseError::Memory(_e)) => None,
+        Err(_fault) => Some(false),
+    }
+}
+
+/// Makes the calls of a group, and tells whether they return what is right.
+fn is_right(alloc: Global, inputs: &Inputs<'_>, group: &str) -> Result<bool, MailParseError> {
+    match group {
+        "decode_base64" => codec::decode_groups(alloc),
+        "decode_quoted_printable" => codec::decode_bytes(alloc),
+        "decode" => codec::decode_marked(alloc),
+        "decode_without_bom_handling" => codec::decode_unmarked(alloc),
+        "parse_headers" => headers::read(alloc),
+        "get_value" => headers::get(alloc, &inputs.header),
+        "get_first_value" => headers::find(alloc, inputs),
+        "Headers" => headers::show(alloc, inputs),
+        "parse_content_type" => texts::read_types(alloc),
+        "parse_content_disposition" => texts::read_dispositions(alloc, inputs),
+        "msgidparse" => texts::read_ids(alloc),
+        "MessageIdList" => texts::show_ids(alloc, &inputs.ids),
+        "parse_mail" => mails::read(alloc),
+        "get_body" => mails::get_bodies(alloc, inputs),
+        "get_decoded" => mails::decode_bodies(alloc, inputs),
+        _ => Ok(false),
+    }
 }

@@ -1,63 +1,56 @@
 //! The calls on messages and their bodies.
 
+use crate::found::{are_pairs, is_bytes, is_text};
 use crate::inputs::Inputs;
-use mailparse::body::Body;
+use mailparse::body::{Body, EncodedBody};
 use mailparse::{DispositionType, MailParseError, ParsedContentType, ParsedMail, parse_mail};
 use std::alloc::Global;
 
-/// A message, and the bodies of it and its parts.
-type Row = (&'static [u8], &'static [&'static [u8]]);
-
-static READ: [Row; 3] = [
-    (
-        b"Content-Type: multipart/mixed; boundary=b\n\npre\n--b\n\none\n--bX\n\ntwo\n--b--\nrest",
-        &[b"pre", b"one", b"two"],
-    ),
-    (
-        b"Content-Type: multipart/mixed; boundary*0*=us-ascii''%62; boundary*1=x\n\n\
-            --bx\n\nx\n--bx--\n",
-        &[b"", b"x"],
-    ),
-    (
-        b"Content-Type: multipart/mixed; boundary=o\n\n--o\n\
-            Content-Type: multipart/mixed; boundary=i\n\n--i\n\nx\n--i--\n--o\n\nyy\n--o--\n",
-        &[b"", b"", b"x", b"yy"],
-    ),
-];
-
-pub fn are_read(alloc: Global) -> Result<bool, MailParseError> {
-    for row in &READ {
-        let mail = parse_mail(alloc, row.0)?;
-        if !has_bodies(alloc, &mail, row.1)? {
-            return Ok(false);
-        }
-    }
-    Ok(true)
+/// `parse_mail`.
+pub fn read(alloc: Global) -> Result<bool, MailParseError> {
+    let plain = b"Content-Type: multipart/mixed; boundary=b\n\n\
+        pre\n--b\n\none\n--bX\n\ntwo\n--b--\nrest";
+    let extended = b"Content-Type: multipart/mixed; \
+        boundary*0*=us-ascii''%62; boundary*1=x\n\n--bx\n\nx\n--bx--\n";
+    let nested = b"Content-Type: multipart/mixed; boundary=o\n\n--o\n\
+        Content-Type: multipart/mixed; boundary=i\n\n--i\n\nx\n--i--\n--o\n\nyy\n--o--\n";
+    Ok(
+        is_bytes(bodies_of(alloc, plain)?, b"pre;one;two;")
+            && is_bytes(bodies_of(alloc, extended)?, b";x;")
+            && is_bytes(bodies_of(alloc, nested)?, b";;x;yy;"),
+    )
 }
 
-/// Whether a message and its parts have these bodies.
-fn has_bodies(
-    alloc: Global,
-    mail: &ParsedMail<'_>,
-    wanted: &[&[u8]],
-) -> Result<bool, MailParseError> {
-    let mut count = 0usize;
+/// The bodies of a message and its parts, with a semicolon after each.
+fn bodies_of(alloc: Global, raw: &[u8]) -> Result<Vec<u8>, MailParseError> {
+    let mail = parse_mail(alloc, raw)?;
+    let mut bodies = Vec::new(alloc);
     for part in mail.parts(alloc)? {
-        let body = part.get_body_raw(alloc)?;
-        match wanted.get(count) {
-            Some(bytes) if *bytes == body.as_slice() => count = count.saturating_add(1),
-            _ => return Ok(false),
-        }
+        push_body(alloc, &mut bodies, part)?;
     }
-    Ok(count == wanted.len())
+    Ok(bodies)
 }
 
-pub fn are_parts(alloc: Global, mail: &ParsedMail<'_>) -> Result<bool, MailParseError> {
+fn push_body(
+    alloc: Global,
+    bodies: &mut Vec<u8>,
+    part: &ParsedMail<'_>,
+) -> Result<(), MailParseError> {
+    let body = part.get_body_raw(alloc)?;
+    bodies.extend_from_slice(body.as_slice())?;
+    bodies.extend_from_slice(b";")?;
+    Ok(())
+}
+
+/// `parts`.
+pub fn go_over(alloc: Global, mail: &ParsedMail<'_>) -> Result<bool, MailParseError> {
     let mut parts = mail.parts(alloc)?;
-    let is_first = is_named(parts.next(), "multipart/alternative");
-    let is_second = is_named(parts.next(), "text/plain");
-    let is_third = is_named(parts.next(), "text/html");
-    Ok(is_first && is_second && is_third && parts.next().is_none())
+    Ok(
+        is_named(parts.next(), "multipart/alternative")
+            && is_named(parts.next(), "text/plain")
+            && is_named(parts.next(), "text/html")
+            && parts.next().is_none(),
+    )
 }
 
 /// Whether there is a part, of this type.
@@ -68,15 +61,13 @@ fn is_named(part: Option<&ParsedMail<'_>>, name: &str) -> bool {
     }
 }
 
-pub fn is_attachment(alloc: Global, attached: &ParsedMail<'_>) -> Result<bool, MailParseError> {
+/// `get_content_disposition`.
+pub fn get_disposition(alloc: Global, attached: &ParsedMail<'_>) -> Result<bool, MailParseError> {
     let found = attached.get_content_disposition(alloc)?;
-    match found.params.get("filename") {
-        Some(name) => {
-            let is_named = name.as_str() == "yummy dummy" && found.params.len() == 1;
-            Ok(is_named && found.disposition == DispositionType::Attachment)
-        }
-        None => Ok(false),
-    }
+    Ok(
+        found.disposition == DispositionType::Attachment
+            && are_pairs(&found.params, &[("filename", "yummy dummy")]),
+    )
 }
 
 const PLAIN: &str = "This is the plaintext version, in utf-8. Proof by Euro: \u{20AC}";
@@ -84,80 +75,77 @@ const PLAIN: &str = "This is the plaintext version, in utf-8. Proof by Euro: \u{
 const HTML: &str = "<html><body>This is the <b>HTML</b> version, in us-ascii. \
     Proof by Euro: &euro;</body></html>\n";
 
-pub fn are_texts(alloc: Global, inputs: &Inputs<'_>) -> Result<bool, MailParseError> {
+/// `get_body` and `get_body_raw`.
+pub fn get_bodies(alloc: Global, inputs: &Inputs<'_>) -> Result<bool, MailParseError> {
     let [plain, html] = inputs.mail.subparts.as_slice() else {
         return Ok(false);
     };
-    let is_plain = plain.get_body(alloc)?.as_str() == PLAIN;
-    let is_html = html.get_body(alloc)?.as_str() == HTML;
-    Ok(is_plain && is_html && inputs.attached.get_body(alloc)?.as_str() == "\u{E9}t\u{E9}")
+    let attached = &inputs.attached;
+    Ok(
+        is_text(plain.get_body(alloc)?, PLAIN)
+            && is_text(html.get_body(alloc)?, HTML)
+            && is_text(attached.get_body(alloc)?, "\u{E9}t\u{E9}")
+            && is_bytes(plain.get_body_raw(alloc)?, PLAIN.as_bytes())
+            && is_bytes(html.get_body_raw(alloc)?, HTML.as_bytes())
+            && is_bytes(attached.get_body_raw(alloc)?, b"\xE9t\xE9"),
+    )
 }
 
-pub fn are_bytes(alloc: Global, inputs: &Inputs<'_>) -> Result<bool, MailParseError> {
+/// `get_body_encoded`, and the decoding calls of each kind of body.
+pub fn decode_bodies(alloc: Global, inputs: &Inputs<'_>) -> Result<bool, MailParseError> {
     let [plain, html] = inputs.mail.subparts.as_slice() else {
         return Ok(false);
     };
-    let is_plain = plain.get_body_raw(alloc)?.as_slice() == PLAIN.as_bytes();
-    let is_html = html.get_body_raw(alloc)?.as_slice() == HTML.as_bytes();
-    let bytes = inputs.attached.get_body_raw(alloc)?;
-    Ok(is_plain && is_html && bytes.as_slice() == b"\xE9t\xE9".as_slice())
+    Ok(
+        decodes_to(
+            alloc,
+            plain.get_body_encoded(alloc)?,
+            "quoted-printable",
+            PLAIN,
+        )? && decodes_to(alloc, html.get_body_encoded(alloc)?, "base64", HTML)?
+            && decodes_to(
+                alloc,
+                inputs.attached.get_body_encoded(alloc)?,
+                "binary",
+                "\u{E9}t\u{E9}",
+            )?
+            && decodes_to(alloc, inputs.mail.get_body_encoded(alloc)?, "7bit", "")?
+            && is_euro(alloc, &inputs.mail.ctype)?,
+    )
 }
 
-pub fn are_kinds(alloc: Global, inputs: &Inputs<'_>) -> Result<bool, MailParseError> {
-    let [plain, html] = inputs.mail.subparts.as_slice() else {
-        return Ok(false);
-    };
-    let is_plain = matches!(plain.get_body_encoded(alloc)?, Body::QuotedPrintable(_));
-    let is_html = matches!(html.get_body_encoded(alloc)?, Body::Base64(_));
-    let is_binary = matches!(inputs.attached.get_body_encoded(alloc)?, Body::Binary(_));
-    let is_7bit = matches!(inputs.mail.get_body_encoded(alloc)?, Body::SevenBit(_));
-    Ok(is_plain && is_html && is_binary && is_7bit)
-}
-
-pub fn are_decoded(alloc: Global, mail: &ParsedMail<'_>) -> Result<bool, MailParseError> {
-    let [plain, html] = mail.subparts.as_slice() else {
-        return Ok(false);
-    };
-    Ok(decodes_to(alloc, plain, PLAIN)? && decodes_to(alloc, html, HTML)?)
-}
-
-/// Whether the body of a part is encoded, and stands for the bytes of this text.
-fn decodes_to(alloc: Global, part: &ParsedMail<'_>, text: &str) -> Result<bool, MailParseError> {
-    match part.get_body_encoded(alloc)? {
-        Body::Base64(body) => Ok(body.get_decoded(alloc)?.as_slice() == text.as_bytes()),
-        Body::QuotedPrintable(body) => Ok(body.get_decoded(alloc)?.as_slice() == text.as_bytes()),
-        _ => Ok(false),
-    }
-}
-
-pub fn are_decoded_texts(alloc: Global, mail: &ParsedMail<'_>) -> Result<bool, MailParseError> {
-    let [plain, html] = mail.subparts.as_slice() else {
-        return Ok(false);
-    };
-    let is_plain = reads_as(alloc, plain.get_body_encoded(alloc)?, PLAIN)?;
-    Ok(is_plain && reads_as(alloc, html.get_body_encoded(alloc)?, HTML)?)
-}
-
-pub fn are_plain_texts(alloc: Global, inputs: &Inputs<'_>) -> Result<bool, MailParseError> {
-    let is_binary = reads_as(
+/// Whether the bytes of a body in the default charset are Windows-1252.
+fn is_euro(alloc: Global, ctype: &ParsedContentType) -> Result<bool, MailParseError> {
+    decodes_to(
         alloc,
-        inputs.attached.get_body_encoded(alloc)?,
-        "\u{E9}t\u{E9}",
-    )?;
-    Ok(is_binary && is_text(alloc, &inputs.mail.ctype, b"\x80 5")?)
+        Body::new(b"\x80 5", ctype, &None),
+        "7bit",
+        "\u{20AC} 5",
+    )
 }
 
-fn is_text(alloc: Global, ctype: &ParsedContentType, raw: &[u8]) -> Result<bool, MailParseError> {
-    reads_as(alloc, Body::new(raw, ctype, &None), "\u{20AC} 5")
-}
-
-/// Whether a body has this text.
-fn reads_as(alloc: Global, body: Body<'_>, text: &str) -> Result<bool, MailParseError> {
+/// Whether a body is of this kind, and has this text.
+fn decodes_to(
+    alloc: Global,
+    body: Body<'_>,
+    kind: &str,
+    wanted: &str,
+) -> Result<bool, MailParseError> {
     match body {
-        Body::Base64(body) => Ok(body.get_decoded_as_string(alloc)?.as_str() == text),
-        Body::QuotedPrintable(body) => Ok(body.get_decoded_as_string(alloc)?.as_str() == text),
-        Body::SevenBit(body) => Ok(body.get_as_string(alloc)?.as_str() == text),
-        Body::EightBit(body) => Ok(body.get_as_string(alloc)?.as_str() == text),
-        Body::Binary(body) => Ok(body.get_as_string(alloc)?.as_str() == text),
+        Body::Base64(body) => Ok(kind == "base64" && is_decoded(alloc, &body, wanted)?),
+        Body::QuotedPrintable(body) => {
+            Ok(kind == "quoted-printable" && is_decoded(alloc, &body, wanted)?)
+        }
+        Body::SevenBit(body) => Ok(kind == "7bit" && is_text(body.get_as_string(alloc)?, wanted)),
+        Body::EightBit(body) => Ok(kind == "8bit" && is_text(body.get_as_string(alloc)?, wanted)),
+        Body::Binary(body) => Ok(kind == "binary" && is_text(body.get_as_string(alloc)?, wanted)),
     }
+}
+
+/// Whether an encoded body has this text.
+fn is_decoded(alloc: Global, body: &EncodedBody<'_>, wanted: &str) -> Result<bool, MailParseError> {
+    Ok(
+        is_bytes(body.get_decoded(alloc)?, wanted.as_bytes())
+            && is_text(body.get_decoded_as_string(alloc)?, wanted),
+    )
 }

@@ -1,41 +1,69 @@
-//! Makes calls on fixed inputs, and says how many of them gave the right answer.
+//! Makes calls on fixed inputs, and says whether each returned the right answer.
 //!
-//! With the argument `again` a call for which memory ran out is made again on the same inputs, as
-//! long as that may help: whoever refuses memory now and then sees that the answers stay the same.
-//! With `refused` it makes the calls that take no memory instead; all memory has to be refused from
-//! the first of them on. tools/refuse_memory.sh runs it so.
+//! With the argument `again` the calls of a group for which memory ran out are made again on the
+//! same inputs, as long as that may help: whoever refuses memory now and then sees that what they
+//! return stays the same. With `refused` it makes the calls that take no memory instead; all memory
+//! has to be refused from the first of them on. tools/refuse_memory.sh runs it so.
 #![tactic(auto)]
 
 mod calls;
 mod codec;
+mod found;
 mod free;
 mod headers;
 mod inputs;
 mod mails;
 mod texts;
-mod works;
 
+use calls::Fault;
+use mailparse::{MailParseError, ParsedContentType, parse_mail};
+use std::alloc::Global;
 use std::env;
 use std::process::ExitCode;
-use works::Work;
+
+/// How often a group is made again.
+const TIMES: u32 = 1000;
 
 fn main(rt: HostRuntime) -> ExitCode {
-    let work = match env::args(&rt).map(|mut words| words.nth(1)) {
-        Ok(Some(word)) => Work::from_name(word.as_str()),
-        Ok(None) => Work::Calls,
+    let made = match env::args(&rt).map(|mut words| words.nth(1)) {
+        Ok(Some(word)) if word.as_str() == "again" => calls::make(rt.alloc(), TIMES),
+        Ok(Some(word)) if word.as_str() == "refused" => make_free_calls(rt.alloc()),
+        Ok(_words) => calls::make(rt.alloc(), 0),
         Err(fault) => {
             let _ = eprintln!(rt; "mail_memory: {fault}");
             return ExitCode::FAILURE;
         }
     };
-    match work.done(rt.alloc()) {
-        Ok(count) => {
-            let _ = println!(rt; "{count} calls gave the right answer");
+    match made {
+        Ok(()) => {
+            let _ = println!(rt; "each call gave the right answer");
             ExitCode::SUCCESS
         }
         Err(fault) => {
-            let _ = eprintln!(rt; "mail_memory: {fault}");
+            let _ = eprintln!(rt; "mail_memory: {}: {}", fault.calls, fault.what);
             ExitCode::FAILURE
         }
     }
+}
+
+/// Makes each call that takes no memory, and then one that has to find memory refused.
+fn make_free_calls(alloc: Global) -> Result<(), Fault> {
+    match are_free(alloc) {
+        Ok(true) => Ok(()),
+        Ok(false) => Err(Fault {
+            calls: "without memory",
+            what: "a wrong answer",
+        }),
+        Err(_fault) => Err(Fault {
+            calls: "the inputs",
+            what: "out of memory",
+        }),
+    }
+}
+
+fn are_free(alloc: Global) -> Result<bool, MailParseError> {
+    let mail = parse_mail(alloc, inputs::TWO_CODINGS)?;
+    let ctype = ParsedContentType::default(alloc)?;
+    let parts = mail.parts(alloc)?;
+    Ok(free::are_right(alloc, &mail, parts, &ctype) && free::is_memory_refused(alloc))
 }

@@ -1,49 +1,45 @@
 //! The calls on texts: types, dispositions, message ids.
 
+use crate::found::{are_pairs, is_text};
+use crate::inputs::Inputs;
 use mailparse::{
     DispositionType, MailParseError, MessageIdList, ParsedContentType, msgidparse,
     parse_content_disposition, parse_content_type,
 };
 use std::alloc::Global;
-use std::collections::BTreeMap;
 
-/// A text, what stands before its parameters, and its parameters in the order of their names.
-type Row = (
-    &'static str,
-    &'static str,
-    &'static [(&'static str, &'static str)],
-);
-
-static TYPES: [Row; 6] = [
-    (
-        "Text/HTML; Charset=\"foo\"; boundary=x",
-        "text/html",
-        &[("boundary", "x"), ("charset", "foo")],
-    ),
-    ("x; a=\"b;c\\\"d\"", "x", &[("a", "b;c\"d")]),
-    (
-        "x; u*!x*0*=iso-8859-1''%E9; u*0*=utf-8''a",
-        "x",
-        &[("u", "a"), ("u*!x", "iso-8859-1''\u{FFFD}")],
-    ),
-    ("x; n*1*=utf-8''A; n*1*0=b", "x", &[("n*1", "A")]),
-    (
-        "x; t*0*=utf-8''%C3; t*1=z; t*2*=%A9",
-        "x",
-        &[("t", "\u{FFFD}z\u{FFFD}")],
-    ),
-    ("x; t*=utf-8'en'%E2%82%AC%2", "x", &[("t", "\u{20AC}%2")]),
-];
-
-pub fn are_types(alloc: Global) -> Result<bool, MailParseError> {
-    for row in &TYPES {
-        if !is_type(alloc, row.0, row.1, row.2)? {
-            return Ok(false);
-        }
-    }
-    Ok(true)
+/// `parse_content_type`.
+pub fn read_types(alloc: Global) -> Result<bool, MailParseError> {
+    Ok(
+        is_type(
+            alloc,
+            "Text/HTML; Charset=\"foo\"; boundary=x",
+            "text/html",
+            &[("boundary", "x"), ("charset", "foo")],
+        )? && is_type(alloc, "x; a=\"b;c\\\"d\"", "x", &[("a", "b;c\"d")])?
+            && is_type(
+                alloc,
+                "x; u*!x*0*=iso-8859-1''%E9; u*0*=utf-8''a",
+                "x",
+                &[("u", "a"), ("u*!x", "iso-8859-1''\u{FFFD}")],
+            )?
+            && is_type(alloc, "x; n*1*=utf-8''A; n*1*0=b", "x", &[("n*1", "A")])?
+            && is_type(
+                alloc,
+                "x; t*0*=utf-8''%C3; t*1=z; t*2*=%A9",
+                "x",
+                &[("t", "\u{FFFD}z\u{FFFD}")],
+            )?
+            && is_type(
+                alloc,
+                "x; t*=utf-8'en'%E2%82%AC%2",
+                "x",
+                &[("t", "\u{20AC}%2")],
+            )?,
+    )
 }
 
+/// Whether a text is of this type, with these parameters.
 fn is_type(
     alloc: Global,
     text: &str,
@@ -54,34 +50,30 @@ fn is_type(
     Ok(found.mimetype.as_str() == mimetype && are_pairs(&found.params, params))
 }
 
-/// Whether a map has these names with these texts, and no others.
-fn are_pairs(map: &BTreeMap<String, String>, wanted: &[(&str, &str)]) -> bool {
-    let mut count = 0usize;
-    for pair in wanted {
-        match map.get(pair.0) {
-            Some(found) if found.as_str() == pair.1 => count = count.saturating_add(1),
-            _ => return false,
-        }
-    }
-    map.len() == count
-}
-
-pub fn is_default_type(alloc: Global) -> Result<bool, MailParseError> {
+/// `ParsedContentType::default`.
+pub fn make_default(alloc: Global) -> Result<bool, MailParseError> {
     let found = ParsedContentType::default(alloc)?;
-    let is_plain = found.mimetype.as_str() == "text/plain";
-    Ok(is_plain && found.charset.as_str() == "us-ascii" && found.params.is_empty())
+    Ok(
+        found.mimetype.as_str() == "text/plain"
+            && found.charset.as_str() == "us-ascii"
+            && found.params.is_empty(),
+    )
 }
 
-pub fn are_dispositions(alloc: Global) -> Result<bool, MailParseError> {
+/// `parse_content_disposition`, and a copy of a disposition.
+pub fn read_dispositions(alloc: Global, inputs: &Inputs<'_>) -> Result<bool, MailParseError> {
     let text = "attachment; filename*0*=utf-8''%E2%82; filename*1*=%AC.txt";
-    let found = parse_content_disposition(alloc, text)?;
-    if found.disposition != DispositionType::Attachment
-        || !are_pairs(&found.params, &[("filename", "\u{20AC}.txt")])
-    {
-        return Ok(false);
-    }
-    let found = parse_content_disposition(alloc, "X-Foo; a=1")?;
-    Ok(is_extension(&found.disposition) && are_pairs(&found.params, &[("a", "1")]))
+    let file = parse_content_disposition(alloc, text)?;
+    let other = parse_content_disposition(alloc, "X-Foo; a=1")?;
+    let copy = inputs.disposition.clone(alloc)?;
+    Ok(
+        file.disposition == DispositionType::Attachment
+            && are_pairs(&file.params, &[("filename", "\u{20AC}.txt")])
+            && is_extension(&other.disposition)
+            && are_pairs(&other.params, &[("a", "1")])
+            && is_extension(&copy)
+            && is_extension(&inputs.disposition),
+    )
 }
 
 /// Whether a disposition is `x-foo`.
@@ -92,16 +84,19 @@ fn is_extension(found: &DispositionType) -> bool {
     }
 }
 
-pub fn is_same_disposition(alloc: Global, from: &DispositionType) -> Result<bool, MailParseError> {
-    let copy = from.clone(alloc)?;
-    Ok(is_extension(&copy) && is_extension(from))
+/// `msgidparse`.
+pub fn read_ids(alloc: Global) -> Result<bool, MailParseError> {
+    Ok(
+        are_two(&msgidparse(alloc, "<a b> <>")?)
+            && is_refused(alloc, "<a>,<b>", "Message IDs must start with <")?
+            && is_refused(alloc, "<a> <b", "Message IDs must end with >")?,
+    )
 }
 
-pub fn are_ids(alloc: Global) -> Result<bool, MailParseError> {
-    let ids = msgidparse(alloc, "<a b> <>")?;
-    let is_start_refused = is_refused(alloc, "<a>,<b>", "Message IDs must start with <")?;
-    let is_end_refused = is_refused(alloc, "<a> <b", "Message IDs must end with >")?;
-    Ok(are_two(&ids) && is_start_refused && is_end_refused)
+/// A copy of a list of ids, and its text.
+pub fn show_ids(alloc: Global, ids: &MessageIdList) -> Result<bool, MailParseError> {
+    let copy = ids.clone(alloc)?;
+    Ok(are_two(&copy) && are_two(ids) && is_text(format!(in alloc; "{ids}")?, "<a b> <>"))
 }
 
 /// Whether a text of ids is refused so.
@@ -119,14 +114,4 @@ fn are_two(ids: &MessageIdList) -> bool {
         [first, second] => first.as_str() == "a b" && second.is_empty(),
         _ => false,
     }
-}
-
-pub fn are_same_ids(alloc: Global, ids: &MessageIdList) -> Result<bool, MailParseError> {
-    let copy = ids.clone(alloc)?;
-    Ok(are_two(&copy) && are_two(ids))
-}
-
-pub fn are_ids_shown(alloc: Global, ids: &MessageIdList) -> Result<bool, MailParseError> {
-    let text = format!(in alloc; "{ids}")?;
-    Ok(text.as_str() == "<a b> <>")
 }

@@ -10,42 +10,44 @@
 //! mails.
 #![tactic(auto)]
 
-mod codec;
-mod mail;
 mod times;
 mod work;
 
 use std::env;
 use std::io::{self, Read};
 use std::process::ExitCode;
-use times::{PerByte, times_of};
-use work::Work;
+use times::{for_each_byte, times_of};
 
 fn main(rt: HostRuntime) -> io::Result<ExitCode> {
     let mut words = env::args(&rt)?.skip(1);
-    let rounds = words.next().and_then(|count| count.parse::<usize>().ok());
-    let Some(rounds) = rounds else {
+    let rounds = match words.next() {
+        Some(word) => word.parse::<usize>().unwrap_or(0),
+        None => 0,
+    };
+    if rounds == 0 {
         eprintln!(rt; "mail_speed: wants a number of rounds, and works")?;
         return Ok(ExitCode::FAILURE);
-    };
+    }
     let mut input = Vec::new(rt.alloc());
     rt.reader().read_to_end(&mut input)?;
-    for word in words {
-        let Some(work) = Work::from_name(word.as_str()) else {
-            eprintln!(rt; "mail_speed: no work has the name {word}")?;
-            return Ok(ExitCode::FAILURE);
-        };
-        match work.run(rt.alloc(), input.as_slice()) {
+    for work in words {
+        match work::run(rt.alloc(), work.as_str(), input.as_slice()) {
             Ok(made) => println!(rt; "{work}: {} bytes make {made}", input.len())?,
             Err(fault) => {
                 eprintln!(rt; "mail_speed: {work}: {fault}")?;
                 return Ok(ExitCode::FAILURE);
             }
         }
-        let times = times_of(&rt, rt.alloc(), work, input.as_slice(), rounds)?;
-        let least = PerByte::of(times.first(), input.len());
-        let median = PerByte::of(times.get(times.len() / 2), input.len());
-        eprintln!(rt; "{work}: least {least}, median {median} ns a byte")?;
+        let times = times_of(&rt, rt.alloc(), work.as_str(), input.as_slice(), rounds)?;
+        let least = for_each_byte(times.first(), input.len());
+        let median = for_each_byte(times.get(times.len() / 2), input.len());
+        eprintln!(rt;
+            "{work}: least {}.{:03}, median {}.{:03} ns a byte",
+            least / 1000,
+            least % 1000,
+            median / 1000,
+            median % 1000
+        )?;
     }
     Ok(ExitCode::SUCCESS)
 }

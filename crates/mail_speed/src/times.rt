@@ -1,23 +1,23 @@
 //! Times of a work.
 
-use crate::work::Work;
+use crate::work;
 use std::alloc::{AllocError, Global};
+use std::io;
 use std::rt::Clock;
 use std::time::Instant;
-use std::{fmt, io};
 
-/// The nanoseconds that each round of the work takes, the least first.
+/// The nanoseconds that each round of the work of this name takes, the least first.
 pub fn times_of(
     clock: &impl Clock,
     alloc: Global,
-    work: Work,
+    name: &str,
     input: &[u8],
     rounds: usize,
 ) -> io::Result<Vec<u64>> {
     let mut times = Vec::new(alloc);
     for _round in 0..rounds {
         let start = Instant::now(clock)?;
-        let _made = work.run(alloc, input);
+        let _made = work::run(alloc, name, input);
         let taken = start.elapsed(clock)?;
         let nanoseconds = taken
             .as_secs()
@@ -32,26 +32,8 @@ pub fn times_of(
     Ok(times)
 }
 
-/// Nanoseconds for each byte, in thousandths.
-#[derive(Clone, Copy)]
-pub struct PerByte(u64);
-
-impl PerByte {
-    /// The time shared out among so many bytes; 0 where there is no time or no byte.
-    pub fn of(time: Option<&u64>, bytes: usize) -> PerByte {
-        let time = time.copied().unwrap_or(0);
-        PerByte(
-            time.saturating_mul(1000)
-                .checked_div(bytes as u64)
-                .unwrap_or(0),
-        )
-    }
-}
-
-impl fmt::Display for PerByte {
-    fn fmt<W: fmt::Write>(&self, f: &mut fmt::Formatter<W>) -> fmt::Result {
-        let whole = self.0 / 1000;
-        let part = self.0 % 1000;
-        write!(f, "{whole}.{part:03}")
-    }
+/// The picoseconds of a time for each of so many bytes; 0 where there is no time or no byte.
+pub fn for_each_byte(time: Option<&u64>, bytes: usize) -> u64 {
+    let picoseconds = time.copied().unwrap_or(0).saturating_mul(1000);
+    picoseconds.checked_div(bytes as u64).unwrap_or(0)
 }

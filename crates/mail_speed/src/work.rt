@@ -1,111 +1,74 @@
 //! What is timed.
 
-use crate::{codec, mail};
-use mailparse::MailParseError;
-use std::alloc::{AllocError, Global};
-use std::fmt;
-use thiserror::Error;
+use mail_codec::bytescan::{find, find_byte, strip_ascii_whitespace};
+use mail_codec::transfer::{decode_base64, decode_base64_body, decode_quoted_printable};
+use mailparse::{MailParseError, ParsedMail, parse_mail};
+use std::alloc::Global;
 
-/// A work on the bytes of the input.
-#[derive(Clone, Copy, Debug, PartialEq, Eq)]
-pub enum Work {
-    /// Each LF is found.
-    Lines,
-    /// A byte is looked for that is absent.
-    Absent,
-    /// A text is looked for that begins with LF and is absent.
-    Text,
-    /// ASCII white space goes.
-    White,
-    /// Base64 is decoded.
-    Base64,
-    /// Base64 is decoded in which white space counts as absent, as in the body of a message.
-    Base64Body,
-    /// Quoted-printable is decoded.
-    QuotedPrintable,
-    /// A message is read.
-    Parse,
-    /// A message is read, and the value of each of its headers.
-    Values,
-    /// A message is read, and of it and each of its parts the value of each header and the whole
-    /// body.
-    Full,
-}
-
-/// Why a work was not done.
-#[derive(Debug, Drop, Error)]
-pub enum WorkFault {
-    /// The input is not Base64.
-    #[error("the input is not Base64")]
-    Base64,
-    /// The message is refused, or memory ran out.
-    #[error("{0}")]
-    Mail(MailParseError),
-    /// Memory ran out.
-    #[error("out of memory")]
-    Memory(AllocError),
-}
-
-impl From<MailParseError> for WorkFault {
-    fn from(e: MailParseError) -> WorkFault {
-        WorkFault::Mail(e)
+/// Does the work of this name, and tells how much it made: bytes, lines, or headers of a message.
+pub fn run(alloc: Global, name: &str, input: &[u8]) -> Result<usize, MailParseError> {
+    match name {
+        "lines" => Ok(lines(input)),
+        "absent" => Ok(find_byte(input, 0).unwrap_or(input.len())),
+        "text" => Ok(find(input, b"\n\0").unwrap_or(input.len())),
+        "white" => Ok(strip_ascii_whitespace(alloc, input)?.len()),
+        "base64" => length_of(decode_base64(alloc, input)?),
+        "base64-body" => length_of(decode_base64_body(alloc, input)?),
+        "quoted-printable" => Ok(decode_quoted_printable(alloc, input)?.len()),
+        "parse" => Ok(parse_mail(alloc, input)?.headers.len()),
+        "values" => values(alloc, &parse_mail(alloc, input)?),
+        "full" => full(alloc, &parse_mail(alloc, input)?),
+        _ => Err(MailParseError::Generic("no work has this name")),
     }
 }
 
-impl From<AllocError> for WorkFault {
-    fn from(e: AllocError) -> WorkFault {
-        WorkFault::Memory(e)
+/// Finds each LF. Tells how many there are.
+fn lines(input: &[u8]) -> usize {
+    let mut rest = input;
+    let mut count = 0usize;
+    for _place in input {
+        let Some(place) = find_byte(rest, b'\n') else {
+            break;
+        };
+        rest = rest.get(place.saturating_add(1)..).unwrap_or(b"");
+        count = count.saturating_add(1);
+    }
+    count
+}
+
+/// How many bytes Base64 stands for.
+fn length_of(decoded: Result<Vec<u8>, usize>) -> Result<usize, MailParseError> {
+    match decoded {
+        Ok(bytes) => Ok(bytes.len()),
+        Err(_) => Err(MailParseError::Generic("the input is not Base64")),
     }
 }
 
-impl Work {
-    /// The work of this name, if there is one.
-    pub fn from_name(name: &str) -> Option<Work> {
-        match name {
-            "lines" => Some(Work::Lines),
-            "absent" => Some(Work::Absent),
-            "text" => Some(Work::Text),
-            "white" => Some(Work::White),
-            "base64" => Some(Work::Base64),
-            "base64-body" => Some(Work::Base64Body),
-            "quoted-printable" => Some(Work::QuotedPrintable),
-            "parse" => Some(Work::Parse),
-            "values" => Some(Work::Values),
-            "full" => Some(Work::Full),
-            _ => None,
-        }
+/// Reads the value of each header of a message. Tells how many there are.
+fn values(alloc: Global, mail: &ParsedMail<'_>) -> Result<usize, MailParseError> {
+    for header in &mail.headers {
+        let _value = header.get_value(alloc)?;
     }
-
-    /// Does the work, and tells how much it made: bytes, lines, or headers of a message.
-    pub fn run(self, alloc: Global, input: &[u8]) -> Result<usize, WorkFault> {
-        match self {
-            Work::Lines => Ok(codec::lines(input)),
-            Work::Absent => Ok(codec::absent(input)),
-            Work::Text => Ok(codec::text(input)),
-            Work::White => codec::white(alloc, input),
-            Work::Base64 => codec::base64(alloc, input),
-            Work::Base64Body => codec::base64_body(alloc, input),
-            Work::QuotedPrintable => codec::quoted_printable(alloc, input),
-            Work::Parse => mail::parse(alloc, input),
-            Work::Values => mail::values(alloc, input),
-            Work::Full => mail::full(alloc, input),
-        }
-    }
+    Ok(mail.headers.len())
 }
 
-impl fmt::Display for Work {
-    fn fmt<W: fmt::Write>(&self, f: &mut fmt::Formatter<W>) -> fmt::Result {
-        f.write_str(match self {
-            Work::Lines => "lines",
-            Work::Absent => "absent",
-            Work::Text => "text",
-            Work::White => "white",
-            Work::Base64 => "base64",
-            Work::Base64Body => "base64-body",
-            Work::QuotedPrintable => "quoted-printable",
-            Work::Parse => "parse",
-            Work::Values => "values",
-            Work::Full => "full",
-        })
+/// Reads the value of each header and the whole body of a message and of each of its parts. Tells
+/// how many bytes the bodies stand for.
+fn full(alloc: Global, mail: &ParsedMail<'_>) -> Result<usize, MailParseError> {
+    let mut bytes = 0usize;
+    for part in mail.parts(alloc)? {
+        bytes = bytes.saturating_add(part_bytes(alloc, part)?);
+    }
+    Ok(bytes)
+}
+
+/// Reads the value of each header and the body of a part. Tells how many bytes the body stands for;
+/// one that is refused counts as none.
+fn part_bytes(alloc: Global, part: &ParsedMail<'_>) -> Result<usize, MailParseError> {
+    let _headers = values(alloc, part)?;
+    match part.get_body_raw(alloc) {
+        Ok(body) => Ok(body.len()),
+        Err(MailParseError::Memory(e)) => Err(MailParseError::Memory(e)),
+        Err(_refusal) => Ok(0),
     }
 }

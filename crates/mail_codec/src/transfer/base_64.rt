@@ -17,15 +17,26 @@ use std::alloc::{AllocError, Global};
 /// How many bytes of a Base64 text are read at a time.
 const WINDOW: usize = 4096;
 
-/// The bytes that a Base64 text stands for (RFC 4648, section 4). CR and LF count as absent
-/// wherever they stand, groups with padding may stand anywhere, and bits that make no whole byte
-/// are ignored.
+/// Returns the bytes that a Base64 text stands for (RFC 4648, section 4).
 ///
-/// The inner error is the index, from 0, of the first invalid group of four; a short last group is
-/// invalid. The outer error comes where memory runs out: the answer takes memory, which is reserved
-/// at once, and so do a few kilobytes of letters on the way.
+/// CR and LF count as absent wherever they stand, groups with padding may stand anywhere, and bits
+/// that make no whole byte are ignored. Takes memory for the bytes, which is reserved at once, and a
+/// few kilobytes for letters on the way.
 ///
-/// `decode_base64(alloc, b"aG\r\nk=")` is the bytes `hi`; of `aGk=a` the inner error is 1.
+/// # Errors
+///
+/// The inner error is the index, counted from 0, of the first invalid group of four; a short last
+/// group is invalid. The outer error comes where it runs out of memory.
+///
+/// # Examples
+///
+/// ```rust
+/// use mail_codec::transfer::decode_base64;
+///
+/// let bytes = decode_base64(alloc, b"aG\r\nk=")?.ok().ok_or("an invalid group")?;
+/// assert_eq!(rt; bytes.as_slice(), b"hi".as_slice());
+/// assert_eq!(rt; decode_base64(alloc, b"aGk=a")?.err(), Some(1));
+/// ```
 #[tactic(auto, unfolding(crate::specs::Base64::base64))]
 pub fn decode_base64(alloc: Global, text: &[u8]) -> Result<Result<Vec<u8>, usize>, AllocError>
     ensures { IfOk result (λ decoded. items_or_fault decoded ≡ base64 text.now) }
@@ -33,11 +44,25 @@ pub fn decode_base64(alloc: Global, text: &[u8]) -> Result<Result<Vec<u8>, usize
     decode_base64_without(alloc, text, RunEnd::LineEnd)
 }
 
-/// The bytes that a Base64 body stands for (RFC 2045, section 6.8), in which all ASCII white space
-/// counts as absent: space, tab, LF, FF and CR, but not 0x0B. Errors and memory are as for
-/// `decode_base64`; no copy of the body is made.
+/// Returns the bytes that a Base64 body stands for (RFC 2045, section 6.8).
 ///
-/// `decode_base64_body(alloc, b"aG k=")` is the bytes `hi`.
+/// All ASCII whitespace counts as absent: space, tab, LF, FF and CR, but not the vertical tab
+/// (0x0B). Otherwise it reads as `decode_base64` does, and takes memory as that does: no copy of the
+/// body is made.
+///
+/// # Errors
+///
+/// The inner error is the index, counted from 0, of the first invalid group of four; a short last
+/// group is invalid. The outer error comes where it runs out of memory.
+///
+/// # Examples
+///
+/// ```rust
+/// use mail_codec::transfer::decode_base64_body;
+///
+/// let bytes = decode_base64_body(alloc, b"aG k=")?.ok().ok_or("an invalid group")?;
+/// assert_eq!(rt; bytes.as_slice(), b"hi".as_slice());
+/// ```
 pub fn decode_base64_body(alloc: Global, body: &[u8]) -> Result<Result<Vec<u8>, usize>, AllocError>
     ensures { IfOk result
         (λ decoded. items_or_fault decoded ≡ base64 (without_ascii_whitespace body.now)) }

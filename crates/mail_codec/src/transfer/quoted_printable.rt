@@ -32,14 +32,25 @@ static DIGIT_VALUES: [u8; 256] = [
     0xFF, 0xFF, 0xFF, 0xFF, 0xFF, 0xFF, 0xFF, 0xFF, 0xFF, 0xFF, 0xFF, 0xFF, 0xFF, 0xFF, 0xFF, 0xFF,
 ];
 
-/// The bytes that a quoted-printable text stands for (RFC 2045, section 6.7). Of each line the
-/// spaces and tabs at its end go, then a final `=` together with the line end, which is LF or CR
-/// LF; then each `=` with two hexadecimal digits of either case, from the left, is one byte. Every
-/// other byte stays, so no text is refused.
+/// Returns the bytes that a quoted-printable text stands for (RFC 2045, section 6.7).
 ///
-/// The error comes where memory runs out: the answer takes memory, which is reserved at once.
+/// Of each line the spaces and tabs at its end go, then a final `=` together with the line end,
+/// which is LF or CR LF; then each `=` with two hexadecimal digits of either case, from the left, is
+/// one byte. Every other byte stays, so no text is refused. Takes memory for the bytes, which is
+/// reserved at once.
 ///
-/// `decode_quoted_printable(alloc, b"caf=C3=A9=\r\n!")` is the bytes of `café!`.
+/// # Errors
+///
+/// Where it runs out of memory.
+///
+/// # Examples
+///
+/// ```rust
+/// use mail_codec::transfer::decode_quoted_printable;
+///
+/// let bytes = decode_quoted_printable(alloc, b"caf=C3=A9=\r\n!  \n")?;
+/// assert_eq!(rt; bytes.as_slice(), "café!\n".as_bytes());
+/// ```
 pub fn decode_quoted_printable(alloc: Global, text: &[u8]) -> Result<Vec<u8>, AllocError>
     ensures { IfOk result (λ bytes. bytes.items ≡ quoted_printable text.now) }
 {

@@ -11,15 +11,28 @@ use super::MailHeader;
 use crate::error::MailParseError;
 use mail_codec::bytescan::find_byte;
 
-/// Reads the header at the front of `raw`, and tells how many bytes it takes, its line end among
-/// them (RFC 5322, sections 2.2 and 2.2.3).
+/// Reads the header at the front of `raw`, and returns it with the number of bytes that it takes, its
+/// line end among them (RFC 5322, sections 2.2 and 2.2.3).
 ///
 /// The key ends at the first colon; a line without one is a key alone. The value goes on over each
-/// line that begins with a space or a tab. Refuses the empty input and a first byte that is a
-/// space, and nothing else; takes no memory.
+/// line that begins with a space or a tab. Takes no memory.
 ///
-/// `parse_header(b"Subject: Hi\nTo: you")` is a header with the key `Subject` and the value `Hi`,
-/// and 12.
+/// # Errors
+///
+/// `MailParseError::Generic`: with the text `Empty string provided` for the empty input, and with
+/// `Header cannot start with a space; it is likely an overhanging line from a previous header` where
+/// the first byte is a space. Nothing else is refused.
+///
+/// # Examples
+///
+/// ```rust
+/// use mailparse::parse_header;
+///
+/// let (header, length) = parse_header(b"Subject: Hello,\n  you\nTo: me")?;
+/// assert_eq!(rt; header.get_key(alloc)?.as_str(), "Subject");
+/// assert_eq!(rt; header.get_value(alloc)?.as_str(), "Hello, you");
+/// assert_eq!(rt; length, 22);
+/// ```
 pub fn parse_header(raw: &[u8]) -> Result<(MailHeader<'_>, usize), MailParseError>
     ensures read { Answers (λ found. (found.0, found.1)) result (read_header raw.now) }
     ensures bounds { IfOk result (λ found. (0 < found.1) × (found.1 ≤ length raw.now)) }

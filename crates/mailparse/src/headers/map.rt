@@ -21,25 +21,88 @@ pub trait MailHeaderMap {
     // The headers that the map has now.
     ghost present: { Self → List Header };
 
-    /// The first header with this name, or `None` where there is none. Takes no memory.
+    /// Returns the first header with this name, or `None` where there is none.
+    ///
+    /// Takes no memory.
+    ///
+    /// # Examples
+    ///
+    /// ```rust
+    /// use mailparse::{MailHeaderMap, parse_headers};
+    ///
+    /// let (headers, _) = parse_headers(alloc, b"To: a\nTo: b\n")?;
+    /// let header = headers.get_first_header("TO").ok_or("no header")?;
+    /// assert_eq!(rt; header.get_value_raw(), b"a".as_slice());
+    /// assert!(rt; headers.get_first_header("Cc").is_none());
+    /// ```
     fn get_first_header(&self, key: &str) -> Option<&MailHeader<'_>>
         ensures { option_copied result ≡ first_with_key key.now (present self.now) };
 
-    /// The value of the first header with this name, by `get_value`, or `None` where there is none;
-    /// then it takes no memory and succeeds. Otherwise the one error is that memory ran out.
+    /// Returns the value of the first header with this name, as `MailHeader::get_value` reads it, or
+    /// `None` where there is none.
+    ///
+    /// Takes memory for the value, and none where there is no such header.
+    ///
+    /// # Errors
+    ///
+    /// `MailParseError::Memory` where it runs out of memory.
+    ///
+    /// # Examples
+    ///
+    /// ```rust
+    /// use mailparse::{MailHeaderMap, parse_headers};
+    ///
+    /// let (headers, _) = parse_headers(alloc, b"To: a\nTo: b\n")?;
+    /// let value = headers.get_first_value(alloc, "To")?.ok_or("no header")?;
+    /// assert_eq!(rt; value.as_str(), "a");
+    /// assert!(rt; headers.get_first_value(alloc, "Cc")?.is_none());
+    /// ```
     fn get_first_value(&self, alloc: Global, key: &str) -> Result<Option<String>, MailParseError>
         ensures read { AnswersOrMemory text_found result
             (Ok (first_value key.now (present self.now))) }
         ensures no_alloc { IsNone (first_with_key key.now (present self.now)) → IsOk result };
 
-    /// The values of all headers with this name, by `get_value`, in the order of the message.
-    /// Without one it takes no memory and succeeds; otherwise the one error is that memory ran out.
+    /// Returns the values of all headers with this name, as `MailHeader::get_value` reads them, in
+    /// the order of the message.
+    ///
+    /// Takes memory for the values and their list, and none where there is no such header.
+    ///
+    /// # Errors
+    ///
+    /// `MailParseError::Memory` where it runs out of memory.
+    ///
+    /// # Examples
+    ///
+    /// ```rust
+    /// use mailparse::{MailHeaderMap, parse_headers};
+    ///
+    /// let (headers, _) = parse_headers(alloc, b"To: a\nCc: c\nTo: b\n")?;
+    /// let values = headers.get_all_values(alloc, "To")?;
+    /// assert_eq!(rt; values.len(), 2);
+    /// assert_eq!(rt; values[1].as_str(), "b");
+    /// ```
     fn get_all_values(&self, alloc: Global, key: &str) -> Result<Vec<String>, MailParseError>
         ensures read { GivesTexts result (all_values key.now (present self.now)) }
         ensures no_alloc { IsNone (first_with_key key.now (present self.now)) → IsOk result };
 
-    /// All headers with this name, in the order of the message. Without one it takes no memory and
-    /// succeeds; otherwise the one error is that memory ran out.
+    /// Returns all headers with this name, in the order of the message.
+    ///
+    /// Takes memory for the list, and none where there is no such header.
+    ///
+    /// # Errors
+    ///
+    /// `MailParseError::Memory` where it runs out of memory.
+    ///
+    /// # Examples
+    ///
+    /// ```rust
+    /// use mailparse::{MailHeaderMap, parse_headers};
+    ///
+    /// let (headers, _) = parse_headers(alloc, b"To: a\nCc: c\nTo: b\n")?;
+    /// let found = headers.get_all_headers(alloc, "To")?;
+    /// assert_eq!(rt; found.len(), 2);
+    /// assert_eq!(rt; found[1].get_value_raw(), b"b".as_slice());
+    /// ```
     fn get_all_headers(
         &self,
         alloc: Global,
