@@ -1,4 +1,4 @@
-//! The example of the README.
+//! A mail as a list of mails shows it: its subject, date, ids, text and attachments.
 
 use mailparse::{
     DispositionType, MailHeaderMap, MailParseError, MessageIdList, dateparse, msgidparse,
