@@ -1,6 +1,6 @@
 -- The value and the pairs of a text that has parameters: RFC 2045, section 5.1, as this crate reads it. Keys are put
 -- into ASCII lower case, and of equal keys the last one counts.
-use Rattle.std.specs.Prelude.{◌≡◌, ℕ, Bool, ◌==◌, nat_lt, List, [], ◌∷◌, length, drop, flat_map, Option, Some, None, option_map, option_to_list, slice_index_or, String, string_bytes, if◌then◌else◌}
+use Rattle.std.specs.Prelude.{◌≡◌, ℕ, Bool, ◌==◌, nat_lt, List, [], length, drop, flat_map, Option, Some, None, option_map, option_to_list, slice_index_or, String, string_bytes, if◌then◌else◌}
 use Rattle.std.specs.BTreeMap.{BTreeMap, get_by_text}
 use Rattle.std.specs.List.{position_or_len, before_first, after_first}
 use Rattle.std.specs.Map.{update_all}

@@ -1,7 +1,7 @@
 use Rattle.std.proofs.Common.{rules}
 use Rattle.std.proofs.lemmas.Iterator.{YieldsList-from_map, YieldsList-from_slice, YieldsList-from_zip}
 use Rattle.std.proofs.lemmas.Iterator.Adapters.{YieldsList-from_skip, items_from_extend}
-use Rattle.mailparse.specs.private.CharsetSources.{shared_len, shared_lens}
+use Rattle.mailparse.specs.private.CharsetSources.{shared_len}
 use Rattle.mailparse.proofs.parameters.extended_values.charset_sources.shared_lens.Goals as goal
 
 pub returns : goal.returns
