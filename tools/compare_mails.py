@@ -1,11 +1,7 @@
 #!/usr/bin/env python3
-"""Compares what this library and another read of many mails.
+"""Compares what this library and another read of the mails that make_mails.py makes.
 
-    compare_mails.py [--unchanged] ORACLE [COUNT [SEED]]
-
-The mails are those of make_mails.py, 20000 of the seed 1 if nothing else is said. ORACLE is a program
-that answers as tools/oracle does. With --unchanged it answers for the Rust crate as it is: then mails
-are left out of which docs/DIFFERENCES.md may say that the crate reads them otherwise. Compared are:
+Compared are:
 
 - what mail_show prints of each mail, or refuses it with, with the oracle's `show`;
 - what the program answers makes of all that the oracle's `dump` says of each mail: its parts, their
@@ -17,18 +13,19 @@ each part are at most its bytes.
 
 It prints what differs, the first lines of it, and then the counts; the last line is `N passed, N
 failed`, where each comparison of a mail, each line of answers and each bound counts for one. The status
-is 1 where one failed.
+is 1 where one failed, or where a program did not run or the oracle's answers have another form.
 """
+import argparse
 import itertools
 import os
 import re
 import subprocess
 import sys
 
-from lists import ctype, date, dispo, mail, msgid, value
-from lists.body import ALL_LABELS
-from lists.oracle import answers
 from make_mails import mails
+from questions import ctype, date, dispo, mail, msgid, value
+from questions.body import ALL_LABELS
+from questions.oracle import Unusable, answers, field, matched, oracle_named, unhex
 
 HERE = os.path.dirname(os.path.abspath(__file__))
 CHUNK = 500
@@ -54,7 +51,9 @@ class Counts:
 
 def program(name):
     """Where the program is; it is built first where it has to be."""
-    run = subprocess.run([os.path.join(HERE, "program.sh"), name], stdout=subprocess.PIPE, check=True)
+    run = subprocess.run([os.path.join(HERE, "program.sh"), name], stdout=subprocess.PIPE)
+    if run.returncode != 0:
+        raise Unusable(f"there is no program {name}")
     return run.stdout.decode().strip()
 
 
@@ -65,15 +64,13 @@ def shown(mail_show, data):
         return True, run.stdout
     if run.returncode == 1 and not run.stdout:
         return False, run.stderr.removeprefix(b"mail_show: ").removesuffix(b"\n")
-    sys.exit(f"mail_show ended with status {run.returncode}")
+    raise Unusable(f"mail_show ended with status {run.returncode}")
 
 
 def shown_by_oracle(reply):
     """The same of the oracle's answer to `showhex`."""
-    word, _, rest = reply[0].removeprefix("show ").partition(" ")
-    if word == "ok":
-        return True, bytes.fromhex(rest.replace("-", ""))
-    return False, rest.encode("utf-8")
+    word, rest = matched("show (ok|err) (.*)", reply[0])
+    return (True, unhex(rest)) if word == "ok" else (False, rest.encode("utf-8"))
 
 
 def is_bounded(data, text):
@@ -90,38 +87,28 @@ def header_blocks(node):
         if word == "key":
             blocks.append([])
         elif word == "type":
-            return blocks
+            break
         if blocks:
             blocks[-1].append(line)
     return blocks
-
-
-def unhex(text):
-    """The bytes of a field."""
-    return bytes.fromhex(text.replace("-", ""))
-
-
-def from_line(node, word):
-    """The lines of a node from the first that begins with the word on."""
-    return node[next(place for place, line in enumerate(node) if line.startswith(word + " ")):]
 
 
 def lines_on_headers(node):
     """The lines of answers on the headers of a node: on the value of each, and on what it is read as."""
     texts = {}
     for block in header_blocks(node):
-        yield value.line_of(unhex(value.field(block, "raw")), block)
-        text = unhex(value.field(block, "value"))
-        texts.setdefault(unhex(value.field(block, "name")).lower(), text)
+        yield value.line_of(unhex(field(block, "raw")), block)
+        text = unhex(field(block, "value"))
+        texts.setdefault(unhex(field(block, "name")).lower(), text)
         for place, line in enumerate(block):
             if line.startswith("date "):
                 yield date.line_of(text, block[place:])
             if line.startswith("ids "):
                 yield msgid.line_of(text, block[place:])
     if b"content-type" in texts:
-        yield ctype.line_of(texts[b"content-type"], from_line(node, "type"))
+        yield ctype.line_of(texts[b"content-type"], node)
     if b"content-disposition" in texts:
-        yield dispo.line_of(texts[b"content-disposition"], from_line(node, "disposition"))
+        yield dispo.line_of(texts[b"content-disposition"], node)
 
 
 def lines_on(data, reply):
@@ -140,8 +127,8 @@ def is_other_label(label):
 
 def may_header_differ(block):
     """Whether the crate may read a header otherwise, by its lines."""
-    raw, name = unhex(value.field(block, "raw")), unhex(value.field(block, "name")).lower()
-    is_ascii = raw.isascii() and unhex(value.field(block, "value")).isascii()
+    raw, name = unhex(field(block, "raw")), unhex(field(block, "name")).lower()
+    is_ascii = raw.isascii() and unhex(field(block, "value")).isascii()
     labels = re.findall(rb"(?==\?([^?]*)\?)", raw)
     if any(map(is_other_label, labels)) or b"=?" in raw and not raw.isascii():
         return True
@@ -167,7 +154,7 @@ def replay(replayer, lines, counts):
     found = run.stdout.decode("ascii").splitlines()
     agreed = re.fullmatch(r"(\d+) of (\d+) answers agree", found[-1] if found else "")
     if not agreed or int(agreed[2]) != len(lines):
-        sys.exit("answers did not replay each line")
+        raise Unusable("answers did not replay each line")
     counts.passed += int(agreed[1])
     for line in found[:-1:2]:
         counts.judge(False, line[:2000])
@@ -206,20 +193,30 @@ class Comparison:
         return failed == 0
 
 
+def arguments():
+    """What the call asks for."""
+    parser = argparse.ArgumentParser(description=__doc__, formatter_class=argparse.RawDescriptionHelpFormatter)
+    parser.add_argument(
+        "--unchanged",
+        action="store_true",
+        help="the oracle answers for the Rust crate as it is: leaves out the mails of which docs/DIFFERENCES.md may say "
+        "that the crate reads them otherwise",
+    )
+    parser.add_argument("oracle", metavar="ORACLE", type=oracle_named, help="a program that answers as tools/oracle/README.md says")
+    parser.add_argument("count", metavar="COUNT", type=int, nargs="?", default=20000, help="how many mails, 20000 if left out")
+    parser.add_argument("seed", metavar="SEED", type=int, nargs="?", default=1, help="a number to make them from, 1 if left out")
+    return parser.parse_args()
+
+
 def main():
-    words = sys.argv[1:]
-    is_unchanged = words[:1] == ["--unchanged"]
-    words = words[is_unchanged:]
+    asked = arguments()
+    named = ((f"mail {number} of seed {asked.seed}", data) for number, data in enumerate(mails(asked.count, asked.seed)))
     try:
-        oracle = words[0]
-        count, seed = [int(word) for word in words[1:]] + [20000, 1][len(words) - 1:]
-    except (IndexError, ValueError):
-        print("usage: compare_mails.py [--unchanged] ORACLE [COUNT [SEED]]", file=sys.stderr)
-        return 2
-    comparison = Comparison(oracle)
-    named = ((f"mail {number} of seed {seed}", data) for number, data in enumerate(mails(count, seed)))
-    while chunk := list(itertools.islice(named, CHUNK)):
-        comparison.compare(chunk, may_differ if is_unchanged else lambda dump: False)
+        comparison = Comparison(asked.oracle)
+        while chunk := list(itertools.islice(named, CHUNK)):
+            comparison.compare(chunk, may_differ if asked.unchanged else lambda dump: False)
+    except Unusable as fault:
+        sys.exit(f"compare_mails.py: {fault}")
     return 0 if comparison.report() else 1
 
 

@@ -4,86 +4,77 @@
 # failed; one whose standard error is closed too, with status 1. No run may end by a signal.
 #
 # The last line is `N passed, N failed`; the status is 1 where a run failed.
-set -eu
-if [ $# -gt 0 ]; then
-    echo 'usage: fail_streams.sh' >&2
-    exit 2
-fi
-here=$(cd "$(dirname "$0")" && pwd)
-work=$(mktemp -d)
-trap 'rm -rf "$work"' EXIT
+arguments=
+. "$(dirname "$0")/prelude.sh"
 program=$("$here/program.sh" mail_show)
-mail=$here/../samples/attachment.eml
-passed=0
-failed=0
+make_work
+mail=$top/samples/attachment.eml
 
 # long: a mail whose text is longer than a pipe holds
 long() {
     yes 'A: b' | head -n 100000
 }
 
-# judge WHAT STATUS TEXT: whether the run ended with status 1, and the file `err` has the text alone
+# run: runs the program, which leaves its standard error in the file `err`, and sets `status`
+run() {
+    status=0
+    "$program" 2> "$work/err" || status=$?
+}
+
+# judge WHAT TEXT: whether the run ended with status 1, and the file `err` has the text alone
 judge() {
-    if [ "$2" = 1 ] && [ "$(cat "$work/err")" = "$3" ]; then
-        passed=$((passed + 1))
+    if [ "$status" = 1 ] && [ "$(cat "$work/err")" = "$2" ]; then
+        pass
     else
-        failed=$((failed + 1))
-        echo "FAILED: $1: status $2, standard error: $(cat "$work/err")"
+        fail "$1: status $status, standard error: $(cat "$work/err")"
     fi
 }
 
-status=0
-"$program" <&- > "$work/out" 2> "$work/err" || status=$?
-judge 'input closed' "$status" 'mail_show: input failed'
-
-status=0
-"$program" < "$work" > "$work/out" 2> "$work/err" || status=$?
-judge 'input is a folder' "$status" 'mail_show: input failed'
-
-status=0
-"$program" 0> "$work/only-written" > "$work/out" 2> "$work/err" || status=$?
-judge 'input can only be written' "$status" 'mail_show: input failed'
-
-status=0
-"$program" < "$mail" >&- 2> "$work/err" || status=$?
-judge 'output closed' "$status" 'mail_show: output failed'
-
-status=0
-"$program" < "$mail" > /dev/full 2> "$work/err" || status=$?
-judge 'output full' "$status" 'mail_show: output failed'
-
-status=0
-"$program" < "$mail" 1< "$mail" 2> "$work/err" || status=$?
-judge 'output can only be read' "$status" 'mail_show: output failed'
+run <&- > "$work/out"
+judge 'input closed' 'mail_show: input failed'
+run < "$work" > "$work/out"
+judge 'input is a folder' 'mail_show: input failed'
+run 0> "$work/only-written" > "$work/out"
+judge 'input can only be written' 'mail_show: input failed'
+run < "$mail" >&-
+judge 'output closed' 'mail_show: output failed'
+run < "$mail" > /dev/full
+judge 'output full' 'mail_show: output failed'
+run < "$mail" 1< "$mail"
+judge 'output can only be read' 'mail_show: output failed'
 
 # a pipe whose reader is gone before the first write, and one whose reader goes after some bytes
 {
     sleep 1
-    status=0
-    "$program" < "$mail" 2> "$work/err" || status=$?
+    run < "$mail"
     echo "$status" > "$work/status"
 } | true
-judge 'a pipe without a reader' "$(cat "$work/status")" 'mail_show: output failed'
+status=$(cat "$work/status")
+judge 'a pipe without a reader' 'mail_show: output failed'
+long > "$work/long"
 {
-    status=0
-    long | "$program" 2> "$work/err" || status=$?
+    run < "$work/long"
     echo "$status" > "$work/status"
 } | head -c 10 > "$work/out"
-judge 'a pipe closed early' "$(cat "$work/status")" 'mail_show: output failed'
+status=$(cat "$work/status")
+judge 'a pipe closed early' 'mail_show: output failed'
 
-: > "$work/err"
+# no_error WHAT: the same where standard error fails too, so that nothing can be said
+no_error() {
+    : > "$work/err"
+    judge "$1" ''
+}
+
 status=0
 "$program" < "$mail" > /dev/full 2>&- || status=$?
-judge 'output full and standard error closed' "$status" ''
+no_error 'output full and standard error closed'
 status=0
 "$program" < "$mail" > /dev/full 2> /dev/full || status=$?
-judge 'output and standard error full' "$status" ''
+no_error 'output and standard error full'
 status=0
 "$program" <&- >&- 2>&- || status=$?
-judge 'all closed' "$status" ''
+no_error 'all closed'
 status=0
 printf ' x' | "$program" > "$work/out" 2> /dev/full || status=$?
-judge 'a refusal with standard error full' "$status" ''
-
-echo "$passed passed, $failed failed"
-[ "$failed" = 0 ]
+no_error 'a refusal with standard error full'
+finish

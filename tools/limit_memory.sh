@@ -4,15 +4,10 @@
 # writes the right text, or that ends with status 1, writes nothing, and says that memory ran out.
 #
 # The last line is `N passed, N failed`; the status is 1 where a run failed.
-set -eu
-if [ $# -gt 0 ]; then
-    echo 'usage: limit_memory.sh' >&2
-    exit 2
-fi
-here=$(cd "$(dirname "$0")" && pwd)
-work=$(mktemp -d)
-trap 'rm -rf "$work"' EXIT
+arguments=
+. "$(dirname "$0")/prelude.sh"
 program=$("$here/program.sh" mail_show)
+make_work
 
 {
     yes 'Subject: =?utf-8?Q?caf=C3=A9?= and more' | head -n 60000
@@ -23,8 +18,6 @@ program=$("$here/program.sh" mail_show)
     yes '  Subject: café and more' | head -n 60000
 } > "$work/wanted"
 
-passed=0
-failed=0
 right=0
 limit=32000
 while [ "$limit" -gt 0 ]; do
@@ -35,13 +28,12 @@ while [ "$limit" -gt 0 ]; do
         break
     elif [ "$status" = 0 ] && cmp -s "$work/out" "$work/wanted" && [ ! -s "$work/err" ]; then
         right=$((right + 1))
-        passed=$((passed + 1))
+        pass
     elif [ "$status" = 1 ] && [ ! -s "$work/out" ] \
         && [ "$(cat "$work/err")" = 'mail_show: out of memory' ]; then
-        passed=$((passed + 1))
+        pass
     else
-        failed=$((failed + 1))
-        echo "FAILED under $limit KB: status $status, $(wc -c < "$work/out") bytes written"
+        fail "under $limit KB: status $status, $(wc -c < "$work/out") bytes written"
         head -n 5 "$work/err"
     fi
     limit=$((limit - 250))
@@ -50,8 +42,6 @@ echo "mail_show under $((passed + failed)) limits down to $((limit + 250)) KB:" 
     "$right right, $((passed - right)) out of memory"
 # both ways to end have to be met
 if [ "$right" = 0 ] || [ "$right" = "$passed" ]; then
-    echo 'FAILED: the limits do not reach from enough memory to too little'
-    failed=$((failed + 1))
+    fail 'the limits do not reach from enough memory to too little'
 fi
-echo "$passed passed, $failed failed"
-[ "$failed" = 0 ]
+finish

@@ -2,22 +2,10 @@
 # load.sh: runs mail_show on 20,000 hostile mails one after the other, and then on one mail of 1
 # GB, an attachment in Base64; prints the seconds that both take, and the most memory that a run
 # held. It needs GNU time (/usr/bin/time) and 1 GB of disk. The status is 1 where a run failed.
-set -eu
-if [ $# -gt 0 ]; then
-    echo 'usage: load.sh' >&2
-    exit 2
-fi
-here=$(cd "$(dirname "$0")" && pwd)
-work=$(mktemp -d)
-trap 'rm -rf "$work"' EXIT
+arguments=
+. "$(dirname "$0")/prelude.sh"
 program=$("$here/program.sh" mail_show)
-failed=0
-
-# fails MAIL: the run on it ended in another way than well or with a refusal
-fails() {
-    failed=1
-    echo "FAILED on $1"
-}
+make_work
 
 # measured: runs it on standard input, and adds its memory and its status to the file `runs`
 measured() {
@@ -27,11 +15,11 @@ measured() {
 python3 "$here/make_mails.py" 20000 1 "$work/mails"
 start=$(date +%s%N)
 for mail in "$work"/mails/*.eml; do
-    "$program" < "$mail" > /dev/null 2>&1 || [ $? = 1 ] || fails "$mail"
+    "$program" < "$mail" > /dev/null 2>&1 || [ $? = 1 ] || fail "on $mail"
 done
 end=$(date +%s%N)
 for mail in "$work"/mails/*.eml; do
-    measured < "$mail" || [ $? = 1 ] || fails "$mail"
+    measured < "$mail" || [ $? = 1 ] || fail "on $mail"
 done
 awk -v nanoseconds=$((end - start)) '
     $1 > most { most = $1 }
@@ -48,6 +36,6 @@ rm -r "$work/mails" "$work/runs"
     yes 'VGhlIHF1aWNrIGJyb3duIGZveCBqdW1wcyBvdmVyIHRoZSBsYXp5IGRvZywgYW5kIHRoZW4g' \
         | head -c 1000000000
 } > "$work/mail"
-measured < "$work/mail" || fails 'the mail of 1 GB'
+measured < "$work/mail" || fail 'on the mail of 1 GB'
 awk '{ printf "a mail of 1 GB: %.1f s, %d KB; status %d\n", $3, $1, $2 }' "$work/runs"
 [ "$failed" = 0 ]

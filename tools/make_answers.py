@@ -1,39 +1,37 @@
 #!/usr/bin/env python3
-"""Makes the lists of answers that the program `answers` replays.
+"""Makes the lists of answers that the program `answers` replays, on standard output.
 
-    tools/make_answers.py KIND|all ORACLE [SEED] > crates/answers/stdin
+The questions of a KIND, and how the oracle's answers become lines, stand in the file of that name in
+tools/questions; `all` is all kinds, one after the other, as crates/answers/stdin holds them. The same
+seed gives the same list; without one each kind takes its own, as in the repository.
 
-KIND names a list: its questions, and how the oracle's answers become lines, stand in the file of
-that name in tools/lists; `all` is all of them, one after the other. ORACLE is a program that answers
-as tools/lists/oracle.py says. The same seed gives the same list; without one each kind takes its own,
-and the lists are those that the repository holds.
-
-The lists of the repository were made with the code of the Rust crate mailparse 0.18.0, changed where
+The list of the repository was made with the code of the Rust crate mailparse 0.18.0, changed where
 docs/DIFFERENCES.md says that this port differs, its Base64 errors replaced by the number of the
 first group of four that is not one.
 """
+import argparse
 import importlib
 import sys
+
+from questions.oracle import Unusable, oracle_named
 
 KINDS = ["value", "body", "date", "msgid", "ctype", "dispo", "mail"]
 
 
 def main():
-    words = sys.argv[1:]
-    if len(words) not in (2, 3) or words[0] not in ["all"] + KINDS:
-        print(f"usage: make_answers.py {'|'.join(KINDS)}|all ORACLE [SEED]", file=sys.stderr)
-        return 2
+    parser = argparse.ArgumentParser(description=__doc__, formatter_class=argparse.RawDescriptionHelpFormatter)
+    parser.add_argument("kind", metavar="KIND", choices=KINDS + ["all"], help=f"{', '.join(KINDS)} or all")
+    parser.add_argument("oracle", metavar="ORACLE", type=oracle_named, help="a program that answers as tools/oracle/README.md says")
+    parser.add_argument("seed", metavar="SEED", type=int, nargs="?", help="a number to make the questions from")
+    asked = parser.parse_args()
     try:
-        seed = int(words[2]) if len(words) == 3 else None
-    except ValueError:
-        print(f"make_answers.py: the seed {words[2]} is not a number", file=sys.stderr)
-        return 2
-    for kind in KINDS if words[0] == "all" else words[:1]:
-        module = importlib.import_module("lists." + kind)
-        for line in module.lines(words[1], module.SEED if seed is None else seed):
-            print(line)
-    return 0
+        for kind in KINDS if asked.kind == "all" else [asked.kind]:
+            module = importlib.import_module("questions." + kind)
+            for line in module.lines(asked.oracle, module.SEED if asked.seed is None else asked.seed):
+                print(line)
+    except Unusable as fault:
+        sys.exit(f"make_answers.py: {fault}")
 
 
 if __name__ == "__main__":
-    sys.exit(main())
+    main()

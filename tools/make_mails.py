@@ -1,5 +1,5 @@
 #!/usr/bin/env python3
-"""Writes mails to compare readers on: make_mails.py COUNT SEED FOLDER.
+"""Writes mails to compare readers on into a folder.
 
 They are made by a grammar, with faults on purpose, and by changes to mails that were made before:
 parts in parts, digests, wrong or absent closing delimiters, boundaries that begin other boundaries or
@@ -7,11 +7,11 @@ are empty or quoted or encoded, parameters with stars and continuations, encoded
 message ids, bodies in each transfer encoding, LF and CR LF mixed, any bytes, and cuts. The same seed
 gives the same mails; their names are numbers and `.eml`.
 """
+import argparse
 import base64
 import os
 import quopri
 import random
-import sys
 
 WORDS = ["caf\u00e9", "Hello", "world", "a", "Re:", "x=y", "\u8fce\u5a36", "\U0001f600", "(note)", "plain text", "=?x?Q?a?="]
 CHARSETS = ["utf-8", "UTF-8", "us-ascii", "iso-8859-1", "windows-1252", "utf-16", "utf-16be", "koi8-r", "x", ""]
@@ -204,17 +204,16 @@ def mails(count, seed):
 
 
 def main():
-    try:
-        count, seed, folder = int(sys.argv[1]), int(sys.argv[2]), sys.argv[3]
-    except (IndexError, ValueError):
-        print("usage: make_mails.py COUNT SEED FOLDER", file=sys.stderr)
-        return 2
-    os.makedirs(folder, exist_ok=True)
-    for number, data in enumerate(mails(count, seed)):
-        with open(os.path.join(folder, f"{number:06}.eml"), "wb") as file:
+    parser = argparse.ArgumentParser(description=__doc__, formatter_class=argparse.RawDescriptionHelpFormatter)
+    parser.add_argument("count", metavar="COUNT", type=int, help="how many mails")
+    parser.add_argument("seed", metavar="SEED", type=int, help="a number to make them from")
+    parser.add_argument("folder", metavar="FOLDER", help="the folder, which is made where it is missing")
+    asked = parser.parse_args()
+    os.makedirs(asked.folder, exist_ok=True)
+    for number, data in enumerate(mails(asked.count, asked.seed)):
+        with open(os.path.join(asked.folder, f"{number:06}.eml"), "wb") as file:
             file.write(data)
-    return 0
 
 
 if __name__ == "__main__":
-    sys.exit(main())
+    main()

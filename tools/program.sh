@@ -1,35 +1,72 @@
 #!/bin/sh
-# program.sh NAME: says where the program of the crate NAME is. Where it is not there, or where a
-# source is newer than it, the crate is proved and the program built first; with BUILT=only that
-# is an error.
-set -eu
-top=$(cd "$(dirname "$0")/.." && pwd)
-if [ $# != 1 ] || [ ! -f "$top/crates/$1/src/main.rt" ]; then
-    echo 'usage: program.sh NAME, one program: a folder crates/NAME with src/main.rt' >&2
-    exit 2
-fi
+# program.sh NAME: prints where the program of the crate NAME is, a folder crates/NAME with
+# src/main.rt.
+#
+# Where the program is missing or older than a source, the crate is proved and the program built
+# first: about 10 minutes on four cores where nothing is proved yet. How far that is goes to standard
+# error. With BUILT=only in the environment a program that has to be built is an error.
+arguments='NAME'
+. "$(dirname "$0")/prelude.sh"
 name=$1
-program=$top/crates/$name/out/$name
+crate=$top/crates/$name
+program=$crate/out/$name
+[ -f "$crate/src/main.rt" ] || usage "there is no program $name"
+
+# crates NAME: the crate and those of the repository below it
+crates() {
+    echo "$1"
+    for below in $(sed -n "s/^$1\( [^:]*\)\{0,1\}: *//p" "$top/crates.txt"); do
+        [ ! -d "$top/crates/$below" ] || crates "$below"
+    done
+}
 
 # newer: a source that is newer than the program, if there is one
 newer() {
-    for crate in mail_codec mailparse "$name"; do
-        find "$top/crates/$crate" \( -name out -o -name must-fail \) -prune \
+    for source in $(crates "$name"); do
+        find "$top/crates/$source" \( -name out -o -name must-fail \) -prune \
             -o \( -name '*.rt' -o -name '*.antt' \) -newer "$program" -print -quit
     done
 }
 
-if [ ! -x "$program" ] || [ -n "$(newer)" ]; then
-    if [ "${BUILT:-}" = only ]; then
-        echo "program.sh: $name is not built" >&2
-        exit 1
+# progress: says how far rt is, from its output
+progress() {
+    while read -r line; do
+        case $line in
+            'rt: chose --jobs '*)
+                proving=${line##* }
+                echo "proving $proving" >&2
+                ;;
+            'so far: '*' functions checked') echo "$proving: ${line#so far: }" >&2 ;;
+        esac
+    done
+}
+
+# build: proves the crate and builds its program, which runs once, with the arguments of the gate
+build() {
+    make_work
+    cd "$crate"
+    set --
+    if [ -f args ]; then
+        while read -r word; do
+            set -- "$@" "$word"
+        done < args
     fi
-    echo "$name: proving and building the program (about 4 minutes the first time)" >&2
-    if ! log=$(cd "$top/crates/$name" && rt run < /dev/null 2>&1); then
-        printf '%s\n' "$log" >&2
-        echo "program.sh: $name was not built" >&2
+    {
+        rt run -- "$@" < /dev/null 2>&1 > "$work/out" || echo failed > "$work/failed"
+    } | tee "$work/log" | progress
+    if [ -f "$work/failed" ]; then
+        cat "$work/log" >&2
+        echo "$script: $name was not built" >&2
         exit 1
     fi
     touch "$program"
+}
+
+if [ ! -x "$program" ] || [ -n "$(newer)" ]; then
+    if [ "${BUILT:-}" = only ]; then
+        echo "$script: $name is not built" >&2
+        exit 1
+    fi
+    build
 fi
 echo "$program"

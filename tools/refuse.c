@@ -7,7 +7,7 @@
  *                 many of them were refused
  *
  * The calls are malloc, calloc, realloc, posix_memalign and aligned_alloc. A call that is refused
- * answers as it does where there is no memory. Pages that are taken by mmap are not counted.
+ * returns what it returns where there is no memory. Pages that are taken by mmap are not counted.
  */
 #define _GNU_SOURCE
 #include <errno.h>

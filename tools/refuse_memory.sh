@@ -1,14 +1,14 @@
 #!/bin/sh
-# refuse_memory.sh: refuses the calls for memory of the programs one by one, and looks at what
-# they answer then.
+# refuse_memory.sh: refuses the calls for memory of the programs one by one, and looks at how
+# these end then.
 #
 # For N from 1 on it refuses the Nth call alone, and then the Nth and every one after it, until a
 # run meets no refusal:
 #
 #   mail_show      on the samples, and on mails that are refused
 #   answers        which tries each line again, on some lines of its list
-#   mail_memory    which makes each call of the library that takes memory, and knows the right
-#                  answers: once, and again on the same inputs where memory ran out
+#   mail_memory    which makes each call of the library that takes memory, and knows what it has
+#                  to return: once, and again on the same inputs where memory ran out
 #
 # A run passes that gives what it gives with ample memory, or that ends with status 1 and says
 # nothing but that memory ran out; where each call is made once, no run with a refusal passes but
@@ -18,17 +18,9 @@
 # It prints for each input how many calls for memory there were, how many runs met a refusal, and
 # how these ended; and each run that failed. The last line is `N passed, N failed`; the status is
 # 1 where a run failed. It needs a C compiler, $CC or cc.
-set -eu
-if [ $# -gt 0 ]; then
-    echo 'usage: refuse_memory.sh' >&2
-    exit 2
-fi
-here=$(cd "$(dirname "$0")" && pwd)
-top=$(cd "$here/.." && pwd)
-work=$(mktemp -d)
-trap 'rm -rf "$work"' EXIT
-passed=0
-failed=0
+arguments=
+. "$(dirname "$0")/prelude.sh"
+make_work
 
 # run PROGRAM [ARGUMENT]: runs it on the file `input`, which leaves `out`, `err` and `report`
 run() {
@@ -56,21 +48,20 @@ is_short() {
 
 # fails WHY: the run failed
 fails() {
-    failed=$((failed + 1))
-    echo "FAILED $name, $mode=$place: $1; $calls calls for memory, status $status"
+    fail "$name, $mode=$place: $1; $calls calls for memory, status $status"
     head -n 5 "$work/out" "$work/err"
 }
 
-# judge: whether the run gave the right answer, or ran out of memory and said so
+# judge: whether the run gave the right result, or ran out of memory and said so
 judge() {
     if is_right && { [ "$refused" = 0 ] || [ "$may_be_right" = yes ]; }; then
         right=$((right + 1))
-        passed=$((passed + 1))
+        pass
     elif is_short && [ "$refused" != 0 ]; then
         short=$((short + 1))
-        passed=$((passed + 1))
+        pass
     else
-        fails 'neither the right answer nor out of memory'
+        fails 'neither the right result nor out of memory'
     fi
 }
 
@@ -121,7 +112,7 @@ takes_none() {
     done
     # the one call that is refused is that of a header which has to be kept
     if [ "$status" = 0 ] && [ "$refused" = 1 ]; then
-        passed=$((passed + 1))
+        pass
         echo "$name: $(cat "$work/out")"
     else
         fails 'a call that takes no memory asked for some'
@@ -129,7 +120,7 @@ takes_none() {
 }
 
 if ! ${CC:-cc} -O1 -Wall -shared -fPIC -o "$work/refuse.so" "$here/refuse.c"; then
-    echo 'refuse_memory.sh: refuse.c was not built' >&2
+    echo "$script: refuse.c was not built" >&2
     exit 1
 fi
 show=$("$here/program.sh" mail_show)
@@ -153,5 +144,4 @@ both 'mail_memory again' "$memory" again
 awk 'NR % 97 == 1' "$top/crates/answers/stdin" > "$work/input"
 both 'answers on some lines' "$replay" again
 takes_none
-echo "$passed passed, $failed failed"
-[ "$failed" = 0 ]
+finish

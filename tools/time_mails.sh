@@ -1,22 +1,20 @@
 #!/bin/sh
-# time_mails.sh [ORACLE]: builds mail_speed and prints the nanoseconds that reading large mails takes
-# for each byte, the least of the rounds: `parse` reads the mail, `full` also decodes the value of each
-# header and the whole body of each part. The mails are a large attachment, many small mails in one,
-# headers alone, and quoted-printable: a text, and escapes alone.
+# time_mails.sh [ORACLE]: prints the nanoseconds that reading large mails takes for each byte, the
+# least of the rounds, of which there are 15, or ROUNDS: `parse` reads the mail, `full` also decodes
+# the value of each header and the whole body of each part. The mails are a large attachment, many
+# small mails in one, headers alone, and quoted-printable: a text, and escapes alone.
 #
 # With ORACLE, a program whose command `bench N` reads a mail from standard input and prints lines
 # `parse ..` and `all ..` of the same works, its times stand beside ours, and how many times theirs
-# ours are. ROUNDS is the number of rounds, 15 without it; both are timed in turn, a few rounds each,
-# so that a machine that grows slower for a while does so for both.
-. "$(dirname "$0")/timing.sh"
-build mail_speed 1 white
-python3 "$here/make_speed_mails.py" "$work"
-python3 "$here/make_speed_bodies.py" "$work"
-for body in text escapes; do
-    { printf 'Content-Transfer-Encoding: quoted-printable\r\n\r\n'; cat "$work/$body"; } > "$work/quoted-$body"
-done
+# ours are. Both are timed in turn, a few rounds each, so that a machine that grows slower for a
+# while does so for both.
+arguments='[ORACLE]'
+. "$(dirname "$0")/prelude.sh"
+take_oracle "$@"
+speed=$("$here/program.sh" mail_speed)
+make_work
 turns=5
-each=$(((rounds + turns - 1) / turns))
+each=$(((${ROUNDS:-15} + turns - 1) / turns))
 
 # least PATTERN FILE: the least of the numbers that stand where the pattern has its group
 least() {
@@ -35,13 +33,14 @@ row() {
 }
 
 for mail in attachment small headers quoted-text quoted-escapes; do
-    echo "$mail: $(wc -c < "$work/$mail") bytes"
+    make_mail "$mail"
+    echo "$mail: $(wc -c < "$work/input") bytes"
     : > "$work/ours"
     : > "$work/theirs"
     for _turn in $(seq "$turns"); do
-        out/mail_speed "$each" parse full < "$work/$mail" 2>> "$work/ours" > /dev/null
+        "$speed" "$each" parse full < "$work/input" 2>> "$work/ours" > /dev/null
         if [ -n "$oracle" ]; then
-            "$oracle" bench "$each" < "$work/$mail" >> "$work/theirs"
+            "$oracle" bench "$each" < "$work/input" >> "$work/theirs"
         fi
     done
     row "$mail" parse parse

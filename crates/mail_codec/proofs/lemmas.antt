@@ -14,7 +14,7 @@ pub mod Base64Letters
 pub mod Base64Engine
 pub mod Base64Groups
 pub mod Base64Steps
-pub mod Padding
+pub mod Padded
 pub mod Base64Law
 pub mod Written
 pub mod QuotedPrintableDigits

@@ -1,5 +1,5 @@
 -- Names of bytes (ASCII, RFC 20).
-use Rattle.std.specs.Prelude.{ℕ}
+use Rattle.std.specs.Prelude.{ℕ, Bool, ◌||◌, ◌==◌}
 
 abbrev pub tab : ℕ
 tab = 9
@@ -81,3 +81,7 @@ lower_z = 122
 
 abbrev pub tilde : ℕ
 tilde = 126
+
+-- a blank: a space or a tab (WSP in RFC 5234, appendix B.1)
+abbrev pub is_blank : ℕ → Bool
+is_blank b = b == space || b == tab

@@ -86,12 +86,12 @@ group_bytes p q r s =
     then bytes_of_values 2 (letter_value p) (letter_value q) (letter_value r) (Some 0)
     else bytes_of_values 1 (letter_value p) (letter_value q) (Some 0) (Some 0)
 
--- The bytes before those of an answer; a fault stays.
+-- Bytes before those that were read; a fault stays.
 abbrev pub prepend : List ℕ → Result (List ℕ) ℕ → Result (List ℕ) ℕ
 prepend bytes (Ok more) = Ok (bytes ++ more)
 prepend bytes (Err n) = Err n
 
--- A group's bytes and then the answer for what follows it, or the fault at its number.
+-- A group's bytes and then what is read after it, or the fault at its number.
 abbrev pub after_group : ℕ → Option (List ℕ) → Result (List ℕ) ℕ → Result (List ℕ) ℕ
 after_group n (Some bytes) more = prepend bytes more
 after_group n None more = Err n
@@ -110,7 +110,7 @@ groups_from n (p ∷ q ∷ r ∷ s ∷ rest)
 unfoldable pub base64 : List ℕ → Result (List ℕ) ℕ
 base64 text = groups_from 0 (without_line_ends text)
 
--- An answer with its items as a list.
+-- What a decoder returns, its bytes as a list.
 abbrev pub items_or_fault : Result (Vec ℕ) ℕ → Result (List ℕ) ℕ
 items_or_fault (Ok bytes) = Ok bytes.items
 items_or_fault (Err n) = Err n

@@ -45,7 +45,7 @@ labels_by_charset =
     (Utf8, utf_8_labels) ∷ (Windows1252, windows_1252_labels)
     ∷ (Utf16Be, utf_16be_labels) ∷ (Utf16Le, utf_16le_labels) ∷ []
 
--- the label without ASCII white space (space, tab, LF, FF, CR) at its start and at its end
+-- the label without ASCII whitespace (space, tab, LF, FF, CR) at its start and at its end
 abbrev pub trimmed_label : List ℕ → List ℕ
 trimmed_label label =
     trimmed_at_end is_ascii_whitespace (trimmed_at_start is_ascii_whitespace label)

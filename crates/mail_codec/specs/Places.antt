@@ -79,7 +79,7 @@ abbrev pub values_below : {X : Type 0} → ℕ → (ℕ → X) → List X
 values_below zero f = []
 values_below (suc n) f = f 0 ∷ values_below n (λ k. f (suc k))
 
--- the bytes that are not ASCII white space (space, tab, LF, FF, CR), in order
+-- the bytes that are not ASCII whitespace (space, tab, LF, FF, CR), in order
 abbrev pub without_ascii_whitespace : List ℕ → List ℕ
 without_ascii_whitespace bytes = filter (λ b. not (is_ascii_whitespace b)) bytes
 

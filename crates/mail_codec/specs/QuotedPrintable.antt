@@ -1,9 +1,9 @@
 -- Quoted-printable (RFC 2045, section 6.7), read so that no text is refused: what is not an escape
 -- stays as it is, which is this crate's own rule.
-use Rattle.std.specs.Prelude.{◌≡◌, ℕ, ◌+◌, ◌-◌, ◌*◌, ◌==◌, Bool, false, ◌||◌, if◌then◌else◌, ◌⊎◌, ◌≢◌, List, [], ◌∷◌, ◌++◌, length, take, All, Option, Some, None}
+use Rattle.std.specs.Prelude.{◌≡◌, ℕ, ◌+◌, ◌-◌, ◌*◌, ◌==◌, Bool, false, if◌then◌else◌, ◌⊎◌, ◌≢◌, List, [], ◌∷◌, ◌++◌, length, take, All, Option, Some, None}
 use Rattle.std.specs.Int.{is_in_range}
 use Rattle.std.specs.List.{flat_map, slice_split}
-use Rattle.mail_codec.specs.Ascii.{tab, line_feed, carriage_return, space, equals_sign, digit_0, digit_9, upper_a, upper_f, lower_a, lower_f}
+use Rattle.mail_codec.specs.Ascii.{is_blank, line_feed, carriage_return, equals_sign, digit_0, digit_9, upper_a, upper_f, lower_a, lower_f}
 use Rattle.mail_codec.specs.Places.{trimmed_at_end}
 
 -- A line of a text: what stands in it, and the bytes that end it.
@@ -47,10 +47,6 @@ AreEnded (line ∷ next ∷ lines) = IsEndedLine line × AreEnded (next ∷ line
 -- These are the lines of the text.
 abbrev pub AreLines : List ℕ → List Line → Type 0
 AreLines text lines = AreEnded lines × (text ≡ flat_map (λ line. line.content ++ line.ending) lines)
-
--- A space or a tab.
-abbrev pub is_blank : ℕ → Bool
-is_blank b = b == space || b == tab
 
 -- The value of a hexadecimal digit, of either case.
 abbrev pub digit_value : ℕ → Option ℕ

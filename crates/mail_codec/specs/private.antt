@@ -1,8 +1,8 @@
 -- Words that private functions alone need; no public clause speaks of them.
 pub mod Runs
 pub mod Words
-pub mod Padding
-pub mod ByteOrder
+pub mod Padded
+pub mod Utf16
 pub mod Marks
 pub mod Base64
 pub mod SingleByte

@@ -8,9 +8,18 @@ pub(crate) mod words;
 use runs::{RunEnd, may_end_len, push_runs};
 use std::alloc::{AllocError, Global};
 
-/// The first place of `byte` in `haystack`, or `None` where it is absent. Takes no memory.
+/// Returns the first place of `byte` in `haystack`, or `None` where it is absent.
 ///
-/// `find_byte(b"a: b", b':')` is `Some(1)`.
+/// Takes no memory.
+///
+/// # Examples
+///
+/// ```rust
+/// use mail_codec::bytescan::find_byte;
+///
+/// assert_eq!(rt; find_byte(b"a: b", b':'), Some(1));
+/// assert_eq!(rt; find_byte(b"a: b", b';'), None);
+/// ```
 pub fn find_byte(haystack: &[u8], byte: u8) -> Option<usize>
     ensures { result ≡ byte_place haystack.now byte }
 {
@@ -21,11 +30,20 @@ pub fn find_byte(haystack: &[u8], byte: u8) -> Option<usize>
     Some(place)
 }
 
-/// The first place of `haystack` from which on it begins with `needle`, or `None` where there is
-/// none; the empty needle is found nowhere. Takes no memory. Each place of the needle's first byte
-/// is compared in turn, so the cost grows with the needle where that byte is frequent.
+/// Returns the first place where `needle` stands in `haystack`, or `None` where it stands nowhere.
 ///
-/// `find(b"hello world", b"o w")` is `Some(4)`.
+/// The empty needle stands nowhere. Takes no memory. Each place of the needle's first byte is
+/// compared in turn, so the time grows with the needle where that byte is frequent.
+///
+/// # Examples
+///
+/// ```rust
+/// use mail_codec::bytescan::find;
+///
+/// assert_eq!(rt; find(b"hello world", b"o w"), Some(4));
+/// assert_eq!(rt; find(b"hello world", b"ow"), None);
+/// assert_eq!(rt; find(b"hello world", b""), None);
+/// ```
 pub fn find(haystack: &[u8], needle: &[u8]) -> Option<usize>
     ensures { result ≡ text_place haystack.now needle.now }
 {
@@ -41,14 +59,26 @@ pub fn find(haystack: &[u8], needle: &[u8]) -> Option<usize>
     None
 }
 
-/// The bytes without those that are ASCII white space: space, tab, LF, FF and CR, but not 0x0B. The
-/// error comes where memory runs out.
+/// Returns the bytes without those that are ASCII whitespace: space, tab, LF, FF and CR.
 ///
-/// `strip_ascii_whitespace(alloc, b"a \x0bb\tc\r\n")` is `a\x0bbc`.
+/// The vertical tab (0x0B) stays. Takes memory for the result.
+///
+/// # Errors
+///
+/// Where it runs out of memory.
+///
+/// # Examples
+///
+/// ```rust
+/// use mail_codec::bytescan::strip_ascii_whitespace;
+///
+/// let kept = strip_ascii_whitespace(alloc, b"a \x0Bb\tc\r\n")?;
+/// assert_eq!(rt; kept.as_slice(), b"a\x0Bbc".as_slice());
+/// ```
 pub fn strip_ascii_whitespace(alloc: Global, bytes: &[u8]) -> Result<Vec<u8>, AllocError>
     ensures { IfOk result (λ kept. kept.items ≡ without_ascii_whitespace bytes.now) }
 {
     let mut kept = Vec::with_capacity(alloc, bytes.len())?;
-    push_runs(&mut kept, bytes, RunEnd::White)?;
+    push_runs(&mut kept, bytes, RunEnd::Whitespace)?;
     Ok(kept)
 }

@@ -1,4 +1,6 @@
 //! The charsets of mail text: their labels, and the text of bytes in each.
+//!
+//! Four are known: UTF-8, windows-1252 and UTF-16 in both byte orders.
 ghost use Rattle.std.specs.Prelude.{◌≡◌, ◌↔◌, IfOk, IsOk, IsAscii, string_bytes};
 ghost use Rattle.std.specs.Cow.{cow_str_bytes, IsBorrowedStr};
 ghost use Rattle.mail_codec.specs.Charset.{ascii_text, charset_of_label, marked_text_of, text_of};
@@ -29,24 +31,47 @@ pub enum Charset {
 }
 
 impl Charset {
-    /// The charset that has the label: trimmed of ASCII white space (space, tab, LF, FF, CR) at
-    /// both ends, and ignoring ASCII case (the WHATWG Encoding Standard, section 4.2).
+    /// Returns the charset that has the label, or `None` where no charset here has it (the WHATWG
+    /// Encoding Standard, section 4.2).
     ///
-    /// `None` where no charset here has it. It takes no memory.
+    /// ASCII whitespace around the label (space, tab, LF, FF, CR) and ASCII case do not count.
+    /// Takes no memory.
     ///
-    /// `Charset::for_label(b" Latin1 ")` is `Some(Charset::Windows1252)`.
+    /// # Examples
+    ///
+    /// ```rust
+    /// use mail_codec::charset::Charset;
+    ///
+    /// assert_eq!(rt; Charset::for_label(b" Latin1 "), Some(Charset::Windows1252));
+    /// assert_eq!(rt; Charset::for_label(b"utf-16"), Some(Charset::Utf16Le));
+    /// assert_eq!(rt; Charset::for_label(b"koi8-r"), None);
+    /// ```
     pub fn for_label(label: &[u8]) -> Option<Charset>
         ensures { result ≡ charset_of_label label.now }
     {
         labels::charset_of(label.trim_ascii())
     }
 
-    /// The text of the bytes in this charset, or in the one whose byte order mark they begin with:
-    /// a mark is removed, and overrules the charset (the WHATWG Encoding Standard, section 6).
+    /// Returns the text of the bytes in this charset, or in the one whose byte order mark they begin
+    /// with (the WHATWG Encoding Standard, section 6).
     ///
-    /// What is not a character reads as U+FFFD. The error comes where memory runs out.
+    /// A byte order mark is removed, and overrules the charset. What is not a character reads as
+    /// U+FFFD. Takes memory for the text.
     ///
-    /// `Charset::Windows1252.decode(alloc, b"\xEF\xBB\xBFa")` is `a`.
+    /// # Errors
+    ///
+    /// Where it runs out of memory.
+    ///
+    /// # Examples
+    ///
+    /// ```rust
+    /// use mail_codec::charset::Charset;
+    ///
+    /// let text = Charset::Windows1252.decode(alloc, b"\x80 5")?;
+    /// assert_eq!(rt; text.as_str(), "€ 5");
+    /// let marked = Charset::Windows1252.decode(alloc, b"\xFE\xFF\0a")?;
+    /// assert_eq!(rt; marked.as_str(), "a");
+    /// ```
     pub fn decode(self, alloc: Global, bytes: &[u8]) -> Result<String, AllocError>
         ensures { IfOk result (λ t. string_bytes t ≡ marked_text_of self bytes.now) }
     {
@@ -56,12 +81,25 @@ impl Charset {
         }
     }
 
-    /// The text of the bytes in this charset, a byte order mark read as any other bytes are (the
-    /// WHATWG Encoding Standard, sections 8, 9.1 and 14).
+    /// Returns the text of the bytes in this charset, a byte order mark read as any other bytes are
+    /// (the WHATWG Encoding Standard, sections 8, 9.1 and 14).
     ///
-    /// What is not a character reads as U+FFFD. The error comes where memory runs out.
+    /// What is not a character reads as U+FFFD. Takes memory for the text.
     ///
-    /// `Charset::Utf16Be.decode_without_bom_handling(alloc, b"\0a\0")` is `a` and U+FFFD.
+    /// # Errors
+    ///
+    /// Where it runs out of memory.
+    ///
+    /// # Examples
+    ///
+    /// ```rust
+    /// use mail_codec::charset::Charset;
+    ///
+    /// let text = Charset::Utf16Be.decode_without_bom_handling(alloc, b"\0a\0")?;
+    /// assert_eq!(rt; text.as_str(), "a\u{FFFD}");
+    /// let marked = Charset::Utf8.decode_without_bom_handling(alloc, b"\xEF\xBB\xBFa")?;
+    /// assert_eq!(rt; marked.as_str(), "\u{FEFF}a");
+    /// ```
     pub fn decode_without_bom_handling(
         self,
         alloc: Global,
@@ -94,31 +132,51 @@ fn marked(bytes: &[u8]) -> Option<(Charset, &[u8])>
     None
 }
 
-/// The Latin-1 text of the bytes: one character for each byte, the one of its number, from U+0000
-/// to U+00FF (IANA's ISO-8859-1).
+/// Returns the Latin-1 text of the bytes: one character for each byte, the one of its number, from
+/// U+0000 to U+00FF (IANA's ISO-8859-1).
 ///
-/// Where all bytes are ASCII, and only there, it borrows them; then it takes no memory and
-/// succeeds. The error comes where memory runs out.
+/// Where all bytes are ASCII, and only there, the text borrows them; that takes no memory and
+/// succeeds. Otherwise it takes memory for the text.
 ///
-/// `decode_latin1(alloc, b"caf\xE9")` is `café`.
+/// # Errors
+///
+/// Where it runs out of memory.
+///
+/// # Examples
+///
+/// ```rust
+/// use mail_codec::charset::decode_latin1;
+///
+/// assert_eq!(rt; decode_latin1(alloc, b"caf\xE9")?.as_str(), "café");
+/// ```
 pub fn decode_latin1(alloc: Global, bytes: &[u8]) -> Result<CowStr<'_>, AllocError>
-    ensures text { IfOk result (λ t. cow_str_bytes t ≡ latin1_text bytes.now) }
+    ensures read { IfOk result (λ t. cow_str_bytes t ≡ latin1_text bytes.now) }
     ensures borrowed { IfOk result (λ t. IsBorrowedStr t ↔ IsAscii bytes.now) }
-    ensures no_memory { IsAscii bytes.now → IsOk result }
+    ensures no_alloc { IsAscii bytes.now → IsOk result }
 {
     single_byte::decode(alloc, &single_byte::LATIN_1, bytes)
 }
 
-/// The ASCII text of the bytes, with U+FFFD for each byte at or above 0x80.
+/// Returns the ASCII text of the bytes, with U+FFFD for each byte at or above 0x80.
 ///
-/// Where all bytes are ASCII, and only there, it borrows them; then it takes no memory and
-/// succeeds. The error comes where memory runs out.
+/// Where all bytes are ASCII, and only there, the text borrows them; that takes no memory and
+/// succeeds. Otherwise it takes memory for the text.
 ///
-/// `decode_ascii(alloc, b"caf\xE9")` is `caf` and U+FFFD.
+/// # Errors
+///
+/// Where it runs out of memory.
+///
+/// # Examples
+///
+/// ```rust
+/// use mail_codec::charset::decode_ascii;
+///
+/// assert_eq!(rt; decode_ascii(alloc, b"caf\xE9")?.as_str(), "caf\u{FFFD}");
+/// ```
 pub fn decode_ascii(alloc: Global, bytes: &[u8]) -> Result<CowStr<'_>, AllocError>
-    ensures text { IfOk result (λ t. cow_str_bytes t ≡ ascii_text bytes.now) }
+    ensures read { IfOk result (λ t. cow_str_bytes t ≡ ascii_text bytes.now) }
     ensures borrowed { IfOk result (λ t. IsBorrowedStr t ↔ IsAscii bytes.now) }
-    ensures no_memory { IsAscii bytes.now → IsOk result }
+    ensures no_alloc { IsAscii bytes.now → IsOk result }
 {
     single_byte::decode(alloc, &single_byte::ASCII, bytes)
 }

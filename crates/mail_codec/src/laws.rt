@@ -1,5 +1,6 @@
-//! What the definitions mean, as laws over all bytes. Each function does nothing; its contract is
-//! the law.
+//! What the definitions mean, as laws over all bytes.
+//!
+//! Each function does nothing; its contract is the law.
 ghost use Rattle.std.specs.Prelude.{◌≡◌, ◌↔◌, ◌≤◌, ℕ, Bool, List, Option, Ok, Err, length};
 ghost use Rattle.mail_codec.specs.Base64.{base64, IsBase64, IsBase64Fault};
 ghost use Rattle.mail_codec.specs.Places.{byte_place, first_place, place_from, text_place, HasByteAt, HasTextAt, IsFirstOf, IsFirstPlace, IsFirstPlaceFrom};
@@ -22,7 +23,7 @@ pub fn place_from_is_least()
         IsFirstPlaceFrom test bytes s p → p ≡ place_from test bytes s }
 {}
 
-/// What `find_byte` and `find` answer is the first place where the byte, or the text, stands, and
+/// What `find_byte` and `find` return is the first place where the byte, or the text, stands, and
 /// `None` exactly where it stands nowhere; the empty text stands nowhere.
 pub fn searches_find_first_places()
     ensures byte { (bytes : List ℕ) (byte : ℕ) (found : Option ℕ) →
@@ -34,7 +35,7 @@ pub fn searches_find_first_places()
 /// The function that reads Base64 gives the bytes that a text stands for in groups, and no others;
 /// and its fault is the index of the first invalid group, and no other number.
 pub fn base64_is_groups()
-    ensures reads { (text : List ℕ) → (bytes : List ℕ) →
+    ensures read { (text : List ℕ) → (bytes : List ℕ) →
         (base64 text ≡ Ok bytes) ↔ IsBase64 text bytes }
     ensures faults { (text : List ℕ) → (n : ℕ) → (base64 text ≡ Err n) ↔ IsBase64Fault text n }
 {}
@@ -44,6 +45,6 @@ pub fn base64_is_groups()
 pub fn quoted_printable_is_lines()
     ensures once { (text : List ℕ) → (lines : List Line) →
         AreLines text lines ↔ (lines ≡ lines_of text) }
-    ensures reads { (text : List ℕ) → (bytes : List ℕ) →
+    ensures read { (text : List ℕ) → (bytes : List ℕ) →
         IsQuotedPrintable text bytes ↔ (bytes ≡ quoted_printable text) }
 {}

@@ -7,5 +7,5 @@ pub mod Days
 pub mod Ids
 pub mod Percent
 pub mod IdGrammar
-pub mod Runs
+pub mod CharsetSources
 pub mod Escapes

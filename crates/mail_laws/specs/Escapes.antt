@@ -2,7 +2,7 @@
 use Rattle.std.specs.Prelude.{ℕ, zero, suc, Bool, not, ◌||◌, ◌==◌, List, slice_index, length, map, filter, if◌then◌else◌}
 use Rattle.std.specs.List.{range_with_len}
 use Rattle.mail_codec.specs.Ascii.{backslash}
-use Rattle.mailparse.specs.Pieces.{is_odd}
+use Rattle.mailparse.specs.Segments.{is_odd}
 
 -- how many backslashes stand directly before a place
 abbrev pub backslashes_before : List ℕ → ℕ → ℕ

@@ -1,4 +1,4 @@
--- The form of a list of message ids: white, and then any number of times `<`, an id, `>` and white (RFC 5322, section 3.6.4, where an
+-- The form of a list of message ids: whitespace, and then any number of times `<`, an id, `>` and whitespace (RFC 5322, section 3.6.4, where an
 -- id is any text without a `>`).
 use Rattle.std.specs.Prelude.{◌≡◌, ◌≢◌, ℕ, true, false, List, [], ◌∷◌, ◌++◌}
 use Rattle.std.specs.Str.{trim_start}
@@ -9,15 +9,15 @@ use Rattle.mail_laws.specs.Ids.{HoldsNoClosing}
 
 -- a text is a list of these ids
 pub data AreIds : List ℕ → List (List ℕ) → Type 0 where
-  -- white alone, which holds no `>`, has none
+  -- whitespace alone, which holds no `>`, has none
   no_ids : {text : List ℕ} → HoldsNoClosing text → trim_start text ≡ [] → AreIds text []
-  -- up to the first `>` stand white, `<` and an id; after it stand the others
+  -- up to the first `>` stand whitespace, `<` and an id; after it stand the others
   one_more : {text : List ℕ} (opened id rest : List ℕ) {ids : List (List ℕ)} → text ≡ opened ++ greater_than ∷ rest → HoldsNoClosing opened
       → trim_start opened ≡ less_than ∷ id → AreIds rest ids → AreIds text (id ∷ ids)
 
 -- a text breaks the form, and this is the refusal of the first place that does
 pub data Breaks : List ℕ → Refusal → Type 0 where
-  -- something other than white and `<` stands where an id may start
+  -- something other than whitespace and `<` stands where an id may start
   not_opened : {text : List ℕ} → HoldsNoClosing text → trim_start text ≢ [] → opens_id text ≡ false → Breaks text id_not_opened
   not_opened_before : {text : List ℕ} (piece rest : List ℕ) → text ≡ piece ++ greater_than ∷ rest → HoldsNoClosing piece → opens_id piece ≡ false
       → Breaks text id_not_opened

@@ -10,13 +10,15 @@ pub use Rattle.mailparse.specs.Header
 pub use Rattle.mailparse.specs.Block
 pub use Rattle.mailparse.specs.Tokens
 pub use Rattle.mailparse.specs.Value
-pub use Rattle.mailparse.specs.Pieces
+pub use Rattle.mailparse.specs.Segments
 pub use Rattle.mailparse.specs.Pairs
+pub use Rattle.mailparse.specs.Sections
+pub use Rattle.mailparse.specs.ExtendedValues
 pub use Rattle.mailparse.specs.Continuations
 pub use Rattle.mailparse.specs.ContentType
 pub use Rattle.mailparse.specs.Disposition
 pub mod Ids
-pub mod Runs
+pub mod CharsetSources
 pub mod Escapes
 pub mod IdGrammar
 pub use Rattle.mailparse.specs.Mail

@@ -1,6 +1,8 @@
 //! The laws. Each function does nothing; its contract is the law.
-ghost use Rattle.std.specs.Prelude.{◌≡◌, ◌<◌, ◌≤◌, ◌++◌, ℕ, suc, List, [], ◌∷◌, codes, length, take, Decides, None, Ok, ◌+◌, ◌-◌, ◌*◌, ◌/◌, All, slice_index, replicate, ◌==◌, false, ◌↔◌, Err};
+ghost use Rattle.std.specs.Prelude.{Contains, IsSome, map, ◌≡◌, ◌<◌, ◌≤◌, ◌++◌, ℕ, suc, List, [], ◌∷◌, codes, length, take, Decides, None, Ok, ◌+◌, ◌-◌, ◌*◌, ◌/◌, All, slice_index, replicate, ◌==◌, false, ◌↔◌, Err};
 ghost use Rattle.std.specs.List.{flat_map, list_any};
+ghost use Rattle.std.specs.Cmp.Lexicographic.{slice_cmp};
+ghost use Rattle.std.specs.Ordering.{is_lt, nat_cmp};
 ghost use Rattle.std.specs.Str.{IsUtf8};
 ghost use Rattle.mailparse.specs.Header.{Header, read_header};
 ghost use Rattle.mailparse.specs.Block.{HeaderList, header_count, header_place, read_headers};
@@ -9,9 +11,12 @@ ghost use Rattle.mailparse.specs.Bound.{IsBounded};
 ghost use Rattle.mailparse.specs.Mail.{Tree, cut_of, read_mail_in};
 ghost use Rattle.mailparse.specs.Ranges.{Apart};
 ghost use Rattle.mail_codec.specs.Charset.{Charsets};
-ghost use Rattle.mailparse.specs.Continuations.{parameters_in};
-ghost use Rattle.mailparse.specs.Pairs.{last_of, pairs_of};
-ghost use Rattle.mailparse.specs.Pieces.{ArePieces, pieces, without_escapes};
+ghost use Rattle.mailparse.specs.Continuations.{joined, names_of, parameters_in, walked_after};
+ghost use Rattle.mailparse.specs.ExtendedValues.{candidates, charset_source, section_at, starred};
+ghost use Rattle.mailparse.specs.Sections.{Section};
+ghost use Rattle.mail_laws.specs.CharsetSources.{IsCandidate};
+ghost use Rattle.mailparse.specs.Pairs.{Texts, last_of, pairs_of};
+ghost use Rattle.mailparse.specs.Segments.{AreSegments, segments, without_escapes};
 ghost use Rattle.mail_laws.specs.Escapes.{staying};
 ghost use Rattle.mail_codec.specs.Ascii.{backslash};
 ghost use Rattle.mailparse.specs.Tokens.{Adjoin, AreTokens, TokenRange, token_ranges, token_source};
@@ -22,12 +27,10 @@ ghost use Rattle.mail_laws.specs.Boundaries.{IsAlphanumeric, boundary_type, one_
 ghost use Rattle.mail_laws.specs.StarFree.{AreStarFree};
 ghost use Rattle.mailparse.specs.Value.{IsPlain, Token, lenient_value, newline, shown_tokens, strict_value};
 ghost use Rattle.mail_codec.specs.Places.{begins, values_below};
-ghost use Rattle.mail_laws.specs.WordTokens.{white, word};
+ghost use Rattle.mail_laws.specs.WordTokens.{whitespace_token, word};
 ghost use Rattle.mail_laws.specs.Spans.{StandBefore, blank_span, header_at, header_spans, key_range, value_range};
 ghost use Rattle.mailparse.specs.Date.{day_number, days_of_years, month_lengths};
 ghost use Rattle.mailparse.specs.MessageIds.{message_ids, written_ids};
-ghost use Rattle.mailparse.specs.Continuations.{Part, joined};
-ghost use Rattle.mail_laws.specs.Runs.{walked_after};
 ghost use Rattle.mail_laws.specs.IdGrammar.{AreIds, Breaks};
 ghost use Rattle.mail_laws.specs.Ids.{HoldsNoClosing};
 ghost use Rattle.mailparse.specs.Refusal.{Refusal};
@@ -77,15 +80,16 @@ pub fn tokens_make_up_line()
         → flat_map (token_source line) (token_ranges known line) ≡ line }
 {}
 
-/// Between two adjacent decoded words neither white nor the end of a line ever shows: a value shows
-/// what it would show if the second word stood directly after the first. (White at the start of a
-/// line is not part of it, so the token before a word there is empty.)
+/// Between two adjacent decoded words neither whitespace nor the end of a line ever shows: a value
+/// shows what it would show if the second word stood directly after the first. (Whitespace at the
+/// start of a line is not part of it, so the token before a word there is empty.)
 pub fn adjacent_words_join()
-    ensures white_between { (before rest : List Token) (first gap second : List ℕ) →
-        shown_tokens (before ++ word first ∷ white gap ∷ word second ∷ rest)
+    ensures whitespace_between { (before rest : List Token) (first gap second : List ℕ) →
+        shown_tokens (before ++ word first ∷ whitespace_token gap ∷ word second ∷ rest)
         ≡ shown_tokens (before ++ word first ∷ word second ∷ rest) }
     ensures line_end_between { (before rest : List Token) (first gap second : List ℕ) →
-        shown_tokens (before ++ word first ∷ white gap ∷ newline ∷ white [] ∷ word second ∷ rest)
+        shown_tokens (before ++ word first ∷ whitespace_token gap ∷ newline
+        ∷ whitespace_token [] ∷ word second ∷ rest)
         ≡ shown_tokens (before ++ word first ∷ word second ∷ rest) }
 {}
 
@@ -122,11 +126,11 @@ pub fn utf8_value_agrees()
         lenient_value bytes ≡ value }
 {}
 
-/// Exactly one list of pieces fits a text, the one that is computed.
-pub fn one_list_of_pieces_fits()
-    ensures fits { (text : List ℕ) → ArePieces text (pieces text) }
-    ensures only { (text : List ℕ) (found : List (List ℕ)) → ArePieces text found →
-        found ≡ pieces text }
+/// Exactly one list of segments fits a text, the one that is computed.
+pub fn one_list_of_segments_fits()
+    ensures fits { (text : List ℕ) → AreSegments text (segments text) }
+    ensures only { (text : List ℕ) (found : List (List ℕ)) → AreSegments text found →
+        found ≡ segments text }
 {}
 
 /// Of the characters between quotes exactly those go that are a backslash at an odd place of its run,
@@ -151,10 +155,37 @@ pub fn pairs_without_stars_are_parameters()
         (name : List ℕ) → parameters_in known pairs name ≡ last_of pairs name }
 {}
 
-/// The text that the parts of a value make is what one walk over them makes, which keeps the bytes of
-/// pieces until a text or the end follows, and reads them then, in the charset of the last of them.
+/// The text that the sections of a value make is what one walk over them makes, which keeps the bytes
+/// of extended sections until a text or the end follows, and reads them then, in the charset of the
+/// last of them.
 pub fn runs_are_read_once()
-    ensures { (parts : List Part) → joined parts ≡ walked_after None [] parts }
+    ensures { (sections : List Section) → joined sections ≡ walked_after None [] sections }
+{}
+
+/// The candidates for the charset source of a name are exactly the names of their form: they end in
+/// `*0` and without the last `0` begin the name, with a star after them they are keys, and without it
+/// they are none.
+pub fn candidates_have_a_form()
+    ensures { (keys : Texts) (name z : List ℕ) →
+        Contains (candidates keys name) z ↔ IsCandidate keys name z }
+{}
+
+/// The charset source of a name is the greatest of its candidates: no other has a key that is later in
+/// byte order. A name without a candidate is its own charset source.
+pub fn charset_source_is_the_greatest()
+    ensures greatest { (keys : Texts) (name z : List ℕ) → IsCandidate keys name z →
+        IsCandidate keys name (charset_source keys name)
+        × (is_lt (slice_cmp nat_cmp (starred (charset_source keys name)) (starred z)) ≡ false) }
+    ensures own { (keys : Texts) (name : List ℕ) → ((z : List ℕ) → IsCandidate keys name z → ⊥) →
+        charset_source keys name ≡ name }
+{}
+
+/// Whatever charsets are known, something stands only at the names that are looked at for bases: the
+/// keys, and the keys without their last byte.
+pub fn nothing_stands_elsewhere()
+    ensures { (known : Charsets) (pairs : List (List ℕ × List ℕ)) (name : List ℕ) →
+        IsSome (section_at known (last_of pairs) name) →
+        Contains (names_of (map (λ pair. pair.0) pairs)) name }
 {}
 
 /// A text of exactly `multipart/mixed; boundary=B`, where B is letters and digits, has one pair, the
@@ -192,9 +223,9 @@ pub fn days_follow_each_other()
         86400 * day_number (year + 1) 0 1 ≡ 86400 * day_number year 11 31 + 86400 }
 {}
 
-/// The texts that are read as message ids are exactly those of the form: white, and then any number
-/// of times `<`, an id without `>`, `>` and white. Any other text is refused for the first place that
-/// breaks the form.
+/// The texts that are read as message ids are exactly those of the form: whitespace, and then any
+/// number of times `<`, an id without `>`, `>` and whitespace. Any other text is refused for the first
+/// place that breaks the form.
 pub fn message_ids_have_a_form()
     ensures reads { (text : List ℕ) (ids : List (List ℕ)) →
         AreIds text ids ↔ (message_ids text ≡ Ok ids) }

@@ -3,7 +3,7 @@ pub mod Run
 pub use Rattle.mailparse.specs.Refusal
 pub use Rattle.mailparse.specs.Outcome
 pub use Rattle.mailparse.specs.Mail
-pub use Rattle.mailparse.specs.Keys
+pub use Rattle.mailparse.specs.Map
 pub use Rattle.mailparse.specs.Value
 pub use Rattle.mailparse.specs.Header
 pub use Rattle.mailparse.specs.Views

@@ -1,9 +1,8 @@
 -- The text that shows a message with its parts; the program's own form.
-use Rattle.std.specs.Prelude.{ℕ, suc, List, [], ◌∷◌, ◌++◌, length, codes, decimal}
+use Rattle.std.specs.Prelude.{ℕ, suc, List, [], ◌∷◌, ◌++◌, length, codes, decimal, Ok}
 use Rattle.std.specs.List.{flat_map}
-use Rattle.mailparse.specs.Refusal.{Reads, read_map}
-use Rattle.mailparse.specs.Header.{Header}
-use Rattle.mailparse.specs.Keys.{key_text}
+use Rattle.mailparse.specs.Refusal.{◌>>=◌, Reads}
+use Rattle.mailparse.specs.Header.{Header, key_text}
 use Rattle.mailparse.specs.Mail.{Node, Tree, read_mail, root, trees_within}
 use Rattle.mailparse.specs.Value.{lenient_value}
 
@@ -32,4 +31,6 @@ mail_text message = parts_text 0 (trees_within message)
 
 -- what the program shows of its input, or the refusal that it names
 unfoldable pub shown : List ℕ → Reads (List ℕ)
-shown input = read_map mail_text (read_mail input)
+shown input = do
+  mail ← read_mail input
+  Ok (mail_text mail)

@@ -28,9 +28,9 @@ fn push_part(
     number: usize,
     part: &ParsedMail<'_>,
 ) -> Result<(), MailParseError>
-    ensures ok { OnOk result (string_bytes text.new
+    ensures written { OnOk result (string_bytes text.new
         ≡ string_bytes text.old ++ part_text number (root (tree_of part.now))) }
-    ensures fault { IfErr result IsMemory }
+    ensures only_memory { IfErr result IsMemory }
 {
     let headers = part.headers.len();
     let body = body_length(alloc, part)?;
@@ -62,8 +62,8 @@ fn push_part_line(
 
 /// How many bytes the body has as it stands in the message.
 fn body_length(alloc: Global, part: &ParsedMail<'_>) -> Result<usize, MailParseError>
-    ensures ok { IfOk result (λ count. count ≡ length (root (tree_of part.now)).body) }
-    ensures fault { IfErr result IsMemory }
+    ensures read { IfOk result (λ count. count ≡ length (root (tree_of part.now)).body) }
+    ensures only_memory { IfErr result IsMemory }
 {
     match part.get_body_encoded(alloc)? {
         Body::Base64(body) => Ok(body.get_raw().len()),
@@ -81,9 +81,9 @@ fn push_header_line(
     text: &mut String,
     field: &MailHeader<'_>,
 ) -> Result<(), MailParseError>
-    ensures ok { OnOk result
+    ensures written { OnOk result
         (string_bytes text.new ≡ string_bytes text.old ++ header_line field.now) }
-    ensures fault { IfErr result IsMemory }
+    ensures only_memory { IfErr result IsMemory }
 {
     text.push_str("  ")?;
     text.push_str(field.get_key_ref(alloc)?.as_str())?;

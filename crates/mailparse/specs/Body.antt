@@ -6,7 +6,7 @@ use Rattle.mail_codec.specs.Places.{without_ascii_whitespace}
 use Rattle.mail_codec.specs.Charset.{Charsets, four_charsets, marked, ascii_text}
 use Rattle.mail_codec.specs.Base64.{base64}
 use Rattle.mail_codec.specs.QuotedPrintable.{quoted_printable}
-use Rattle.mailparse.specs.Refusal.{Refusal, base64_fault}
+use Rattle.mailparse.specs.Refusal.{◌>>=◌, Reads, base64_fault}
 
 -- the transfer codings of a body
 pub data BodyKind : Type 0 where
@@ -23,12 +23,12 @@ kind_named (Some name) =
     else in_7bit)))
 
 -- what is read or refused as Base64
-abbrev pub base64_bytes : Result (List ℕ) ℕ → Result (List ℕ) Refusal
+abbrev pub base64_bytes : Result (List ℕ) ℕ → Reads (List ℕ)
 base64_bytes (Ok bytes) = Ok bytes
 base64_bytes (Err group) = Err (base64_fault group)
 
--- the bytes that a body stands for: in Base64, where ASCII white space is ignored, in quoted-printable, or as it is
-unfoldable pub decoded : BodyKind → List ℕ → Result (List ℕ) Refusal
+-- the bytes that a body stands for: in Base64, where ASCII whitespace is ignored, in quoted-printable, or as it is
+unfoldable pub decoded : BodyKind → List ℕ → Reads (List ℕ)
 decoded in_base64 body = base64_bytes (base64 (without_ascii_whitespace body))
 decoded in_quoted_printable body = Ok (quoted_printable body)
 decoded in_7bit body = Ok body
@@ -41,19 +41,16 @@ module _ (known : Charsets) where
   abbrev pub text_under_in : List ℕ → List ℕ → List ℕ
   text_under_in label bytes = option_map_or (λ reading. marked reading bytes) (known label) (ascii_text bytes)
 
-  -- the text of what was decoded, or its refusal
-  abbrev pub text_of_decoded : List ℕ → Result (List ℕ) Refusal → Result (List ℕ) Refusal
-  text_of_decoded label (Ok bytes) = Ok (text_under_in label bytes)
-  text_of_decoded label (Err refusal) = Err refusal
-
   -- the text of a body under the label of a charset
-  abbrev pub decoded_text_in : BodyKind → List ℕ → List ℕ → Result (List ℕ) Refusal
-  decoded_text_in kind label body = text_of_decoded label (decoded kind body)
+  abbrev pub decoded_text_in : BodyKind → List ℕ → List ℕ → Reads (List ℕ)
+  decoded_text_in kind label body = do
+    bytes ← decoded kind body
+    Ok (text_under_in label bytes)
 
 -- the text of bytes under the label of a charset
 unfoldable pub text_under : List ℕ → List ℕ → List ℕ
 text_under label bytes = text_under_in four_charsets label bytes
 
 -- the text of a body under the label of a charset
-unfoldable pub decoded_text : BodyKind → List ℕ → List ℕ → Result (List ℕ) Refusal
+unfoldable pub decoded_text : BodyKind → List ℕ → List ℕ → Reads (List ℕ)
 decoded_text kind label body = decoded_text_in four_charsets kind label body

@@ -28,21 +28,24 @@ content c = record { raw = c.raw.now; ctype = content_type c.ctype.now }
 abbrev pub content_of : Node → Content
 content_of node = record { raw = node.body; ctype = node.ctype }
 
--- what an encoded body is in
+-- the transfer coding of the library's value for it
 abbrev pub encoding_kind : Encoding → BodyKind
 encoding_kind encoding.Base64 = in_base64
 encoding_kind encoding.QuotedPrintable = in_quoted_printable
 
+-- the transfer coding that an encoded body is in
 abbrev pub encoded_kind : EncodedBody → BodyKind
 encoded_kind b = encoding_kind b.encoding
 
--- the content of each kind of body
+-- the content of an encoded body
 abbrev pub encoded_content : EncodedBody → Content
 encoded_content b = content b.content
 
+-- the content of a body of text
 abbrev pub text_content : TextBody → Content
 text_content b = content b.content
 
+-- the content of a body of bytes
 abbrev pub binary_content : BinaryBody → Content
 binary_content b = content b.content
 

@@ -1,114 +1,103 @@
--- Values that are cut into numbered pieces, `name*0`, `name*1` and so on (RFC 2231, section 3), and the parameters that pairs give
--- in the end. How pieces of several charsets join is this project's own choice.
-use Rattle.std.specs.Prelude.{ℕ, zero, suc, Bool, true, false, not, ◌&&◌, ◌==◌, ◌^◌, ◌-◌, nat_lt, List, [], ◌∷◌, ◌++◌, length, map, Option, Some, None, option_map, if◌then◌else◌}
-use Rattle.std.specs.Fmt.{decimal}
-use Rattle.std.specs.List.{before_last, after_last, flat_map, list_any}
+-- Values that are joined from their sections (RFC 2231, section 3), and the parameters that pairs give in the end. How sections of
+-- several charsets join is this project's own choice.
+use Rattle.std.specs.Prelude.{ℕ, Bool, false, not, ◌&&◌, ◌==◌, ◌^◌, ◌-◌, nat_lt, List, [], ◌∷◌, ◌++◌, length, map, Option, Some, None, option_map, option_to_list, if◌then◌else◌}
+use Rattle.std.specs.List.{flat_map, list_any}
 use Rattle.std.specs.Option.{is_some, option_map_or, option_or}
-use Rattle.std.specs.Str.{bytes_eq, all_ascii_digits}
-use Rattle.std.specs.Str.Parse.{digits_value, without_leading_plus}
-use Rattle.mail_codec.specs.Ascii.{asterisk}
+use Rattle.std.specs.Str.{bytes_eq}
 use Rattle.mail_codec.specs.Charset.{Charsets, four_charsets}
+use Rattle.mail_codec.specs.Places.{least, values_below}
 use Rattle.mailparse.specs.Pairs.{Texts, last_of}
-use Rattle.mailparse.specs.StarredKeys.{is_starred, name_under, octets_of, reading_of}
+use Rattle.mailparse.specs.ExtendedValues.{name_under, section_at}
+use Rattle.mailparse.specs.Sections.{Section, text, octets, alone, is_text, numbered, section_name}
 
--- a star
-abbrev pub is_star : ℕ → Bool
-is_star b = b == asterisk
+-- ---- the sections of a base
 
--- the number that digits write, a plus before them or not, if it is a `u64`
-abbrev pub number_in : List ℕ → Option ℕ
-number_in text =
-    let digits = without_leading_plus text in
-    if nat_lt 0 (length digits) && all_ascii_digits digits && nat_lt (digits_value 10 digits) (2 ^ 64)
-    then Some (digits_value 10 digits)
-    else None
+-- nothing stands at the section of a base with that number
+abbrev pub is_missing : (List ℕ → Option Section) → List ℕ → ℕ → Bool
+is_missing at base number = not (is_some (at (section_name base number)))
 
--- the base and the number of a name: what stands before its last star, and the number after it, if there is one
-unfoldable pub numbered : List ℕ → Option (List ℕ × ℕ)
-numbered name = if list_any is_star name then option_map (λ number. (before_last is_star name, number)) (number_in (after_last is_star name)) else None
+-- the most sections that are joined: they are counted by a `u64`
+unfoldable pub most_sections : ℕ
+most_sections = 2 ^ 64 - 1
 
--- the name of the piece of a base with that number
-abbrev pub piece_name : List ℕ → ℕ → List ℕ
-piece_name base number = base ++ asterisk ∷ decimal number
+-- how many sections of a base are joined: the least number at which nothing stands
+abbrev pub section_count : (List ℕ → Option Section) → List ℕ → ℕ
+section_count at base = least (is_missing at base) most_sections
 
--- What stands at a name: a text, or the bytes of a piece with the charset that reads them.
-pub data Part : Type 0 where
-  text : List ℕ → Part
-  octets : (List ℕ → List ℕ) → List ℕ → Part
+-- the sections of a base: what stands at the numbers below that, in their order
+abbrev pub sections_of : (List ℕ → Option Section) → List ℕ → List Section
+sections_of at base = flat_map option_to_list (values_below (section_count at base) (λ number. at (section_name base number)))
 
--- what stands there is a text
-abbrev pub is_text : Option Part → Bool
-is_text None = false
-is_text (Some (text t)) = true
-is_text (Some (octets reading bytes)) = false
+-- ---- their text
 
--- the text of a part alone
-abbrev pub alone : Part → List ℕ
-alone (text t) = t
-alone (octets reading bytes) = reading bytes
-
--- a part before others, as far as there is one
-abbrev pub as_far : Option Part → List Part → List Part
-as_far None rest = []
-as_far (Some part) rest = part ∷ rest
-
--- the parts of a base at the numbers from one on, as far as there are any, and at most so many
-abbrev pub parts_from : (List ℕ → Option Part) → List ℕ → ℕ → ℕ → List Part
-parts_from at base zero number = []
-parts_from at base (suc most) number = as_far (at (piece_name base number)) (parts_from at base most (suc number))
-
--- the most parts that are joined: a number is a `u64`
-unfoldable pub most_parts : ℕ
-most_parts = 2 ^ 64 - 1
-
--- the parts of a base: at the numbers 0, 1 and so on, as far as there are any
-abbrev pub parts_of : (List ℕ → Option Part) → List ℕ → List Part
-parts_of at base = parts_from at base most_parts 0
-
--- What parts join to: a text alone, or a run of pieces, which has the charset of the last of them and the bytes of all.
+-- what sections join to: a text alone, or a run of bytes, which has the charset of the last section and the bytes of all
 pub data Group : Type 0 where
   text_alone : List ℕ → Group
   run : (List ℕ → List ℕ) → List ℕ → Group
 
--- a piece in front of groups: it joins a run that stands first, otherwise it is a run of its own
+-- the bytes of a section in front of groups: they join a run that stands first, otherwise they are a run of their own
 abbrev pub onto_run : (List ℕ → List ℕ) → List ℕ → List Group → List Group
 onto_run reading bytes [] = run reading bytes ∷ []
 onto_run reading bytes (text_alone t ∷ more) = run reading bytes ∷ text_alone t ∷ more
 onto_run reading bytes (run last others ∷ more) = run last (bytes ++ others) ∷ more
 
--- the groups of parts: each text, and each longest run of pieces
-abbrev pub groups : List Part → List Group
+-- the groups of sections: each text, and each longest run of bytes
+abbrev pub groups : List Section → List Group
 groups [] = []
-groups (text t ∷ parts) = text_alone t ∷ groups parts
-groups (octets reading bytes ∷ parts) = onto_run reading bytes (groups parts)
+groups (text t ∷ sections) = text_alone t ∷ groups sections
+groups (octets reading bytes ∷ sections) = onto_run reading bytes (groups sections)
 
 -- the text of a group: a run is read once
 abbrev pub group_text : Group → List ℕ
 group_text (text_alone t) = t
 group_text (run last bytes) = last bytes
 
--- the text that parts make: the texts of their groups, one after another
-abbrev pub joined : List Part → List ℕ
-joined parts = flat_map group_text (groups parts)
+-- the text that sections make: the texts of their groups, one after another
+abbrev pub joined : List Section → List ℕ
+joined sections = flat_map group_text (groups sections)
+
+-- ---- the same by one walk over the sections, as the law `runs_are_read_once` says
+
+-- the text of a run that is still open: nothing where there is none, otherwise its bytes are read in the charset of the last section
+abbrev pub run_text : Option (List ℕ → List ℕ) → List ℕ → List ℕ
+run_text None bytes = []
+run_text (Some reading) bytes = reading bytes
+
+-- the text that sections make after an open run: a text ends it
+abbrev pub walked_after : Option (List ℕ → List ℕ) → List ℕ → List Section → List ℕ
+walked_after reading bytes [] = run_text reading bytes
+walked_after reading bytes (text t ∷ sections) = run_text reading bytes ++ (t ++ walked_after None [] sections)
+walked_after reading bytes (octets last more ∷ sections) = walked_after (Some last) (bytes ++ more) sections
+
+-- ---- the parameters
 
 -- a name has that base and the number 0
 abbrev pub is_first_of : List ℕ → List ℕ → Bool
 is_first_of base name = option_map_or (λ n. bytes_eq n.0 base && n.1 == 0) (numbered name) false
 
--- a base: no text stands at it, and a part stands at one of the names with that base and the number 0
-abbrev pub is_base : (List ℕ → Option Part) → List (List ℕ) → List ℕ → Bool
+-- a base: no text stands at it, and something stands at one of the names with that base and the number 0
+abbrev pub is_base : (List ℕ → Option Section) → List (List ℕ) → List ℕ → Bool
 is_base at names base = not (is_text (at base)) && list_any (λ name. is_some (at name) && is_first_of base name) names
 
--- a part that was joined: its base is one, and its number, in plain decimal, is that of one of the base's parts
-abbrev pub is_used : (List ℕ → Option Part) → List (List ℕ) → List ℕ → Bool
-is_used at names name =
-    option_map_or (λ n. is_base at names n.0 && (nat_lt n.1 (length (parts_of at n.0)) && bytes_eq name (piece_name n.0 n.1))) (numbered name) false
+-- a name is the one of a section of its base: its number is in plain decimal, and one of those that are joined
+abbrev pub is_section : (List ℕ → Option Section) → List ℕ → List ℕ × ℕ → Bool
+is_section at name n = nat_lt n.1 (length (sections_of at n.0)) && bytes_eq name (section_name n.0 n.1)
 
--- what a name has in the end: what is left at it, otherwise the joined text if it is a base
-unfoldable pub joined_at : (List ℕ → Option Part) → List (List ℕ) → Texts
-joined_at at names name =
-    option_or (if is_used at names name then None else option_map alone (at name))
-    (if is_base at names name then Some (joined (parts_of at name)) else None)
+-- what stands at a name was joined: what its number belongs to is a base, and it is one of the base's sections
+abbrev pub is_used : (List ℕ → Option Section) → List (List ℕ) → List ℕ → Bool
+is_used at names name = option_map_or (λ n. is_base at names n.0 && is_section at name n) (numbered name) false
+
+-- the text that is left at a name: what stands there alone, unless it was joined
+abbrev pub left_at : (List ℕ → Option Section) → List (List ℕ) → Texts
+left_at at names name = if is_used at names name then None else option_map alone (at name)
+
+-- the joined text of a name, if it is a base
+abbrev pub base_text : (List ℕ → Option Section) → List (List ℕ) → Texts
+base_text at names name = if is_base at names name then Some (joined (sections_of at name)) else None
+
+-- what a name has in the end: what is left at it, otherwise its joined text
+unfoldable pub joined_at : (List ℕ → Option Section) → List (List ℕ) → Texts
+joined_at at names name = option_or (left_at at names name) (base_text at names name)
 
 -- the names at which something may stand: the keys, and the keys without their last byte
 abbrev pub names_of : List (List ℕ) → List (List ℕ)
@@ -116,23 +105,9 @@ names_of keys = flat_map (λ key. key ∷ name_under key ∷ []) keys
 
 -- Under the charsets that are known.
 module _ (known : Charsets) where
-  -- what stands at a name that waits: a piece where the name has a number, otherwise the text
-  abbrev pub extended_at : Texts → List ℕ → Option Part
-  extended_at keys name =
-      option_map (λ reading. if is_some (numbered name) then octets reading (octets_of keys name) else text (reading (octets_of keys name)))
-      (reading_of known keys name)
-
-  -- a key ends in a star and leaves the map, since its name waits and its label is known
-  abbrev pub has_left : Texts → List ℕ → Bool
-  has_left keys key = is_starred key && is_some (reading_of known keys (name_under key))
-
-  -- what stands at a name once the starred keys are read
-  unfoldable pub part_at : Texts → List ℕ → Option Part
-  part_at keys name = option_or (extended_at keys name) (if has_left keys name then None else option_map text (keys name))
-
   -- the parameters that pairs of a key and a value give
   abbrev pub parameters_in : List (List ℕ × List ℕ) → Texts
-  parameters_in pairs = joined_at (part_at (last_of pairs)) (names_of (map (λ pair. pair.0) pairs))
+  parameters_in pairs = joined_at (section_at known (last_of pairs)) (names_of (map (λ pair. pair.0) pairs))
 
 -- the same under the four charsets
 abbrev pub parameters_of : List (List ℕ × List ℕ) → Texts

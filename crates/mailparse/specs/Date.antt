@@ -1,36 +1,45 @@
 -- The date of a header in seconds: RFC 5322, sections 3.3 and 4.3, read as leniently as mail is written.
-use Rattle.std.specs.Prelude.{ℕ, zero, suc, ◌+◌, ◌*◌, ◌/◌, ◌%◌, ◌-◌, ◌^◌, Bool, not, ◌&&◌, ◌||◌, ◌==◌, nat_lt, nat_le, List, [], ◌∷◌, take, sum, filter, find, ℤ, pos, negsuc, ◌+ℤ◌, neg_ℤ, Option, Some, None, option_map, is_some, ok_or, unsigned_abs, Result, Ok, Err, codes, if◌then◌else◌}
+use Rattle.std.specs.Prelude.{ℕ, zero, suc, ◌+◌, ◌*◌, ◌/◌, ◌%◌, ◌-◌, ◌^◌, Bool, not, ◌&&◌, ◌||◌, ◌==◌, nat_lt, nat_le, List, [], ◌∷◌, take, sum, filter, find, ℤ, pos, negsuc, ◌+ℤ◌, neg_ℤ, Option, Some, None, option_map, is_some, ok_or, unsigned_abs, Ok, Err, codes, if◌then◌else◌}
 use Rattle.std.specs.Int.{is_in_range}
 use Rattle.std.specs.List.{slice_split}
+use Rattle.std.specs.Option.{option_map_or}
 use Rattle.std.specs.Str.{all_ascii_digits, str_eq_ignore_ascii_case}
 use Rattle.std.specs.Str.Parse.{digits_value, signed_digits_value, without_leading_plus, without_leading_sign}
 use Rattle.mail_codec.specs.Ascii.{space, colon}
 use Rattle.mail_codec.specs.Places.{is_empty}
-use Rattle.mailparse.specs.Refusal.{Refusal, generic}
+use Rattle.mailparse.specs.Refusal.{◌>>=◌, Reads, Refusal, generic}
 
--- Refusals: of a day, a month, a year (no number, or one from 100 to 1969), a time of day and a zone.
+-- Refusals.
 
+-- a day that is no number from 1 to 31
 abbrev pub invalid_day : Refusal
 invalid_day = generic (codes "Invalid day")
 
+-- a month that is no name of one
 abbrev pub unrecognized_month : Refusal
 unrecognized_month = generic (codes "Unrecognized month")
 
+-- a year that is no number below 2 ^ 32
 abbrev pub invalid_year : Refusal
 invalid_year = generic (codes "Invalid year")
 
+-- a year from 100 to 1969
 abbrev pub disallowed_year : Refusal
 disallowed_year = generic (codes "Disallowed year")
 
+-- an hour that is no number below 256
 abbrev pub invalid_hour : Refusal
 invalid_hour = generic (codes "Invalid hour")
 
+-- a minute that is no number below 256
 abbrev pub invalid_minute : Refusal
 invalid_minute = generic (codes "Invalid minute")
 
+-- a second that is no number below 256
 abbrev pub invalid_second : Refusal
 invalid_second = generic (codes "Invalid second")
 
+-- a zone that is neither a number from -2400 to 2400 nor a name
 abbrev pub invalid_zone : Refusal
 invalid_zone = generic (codes "Invalid timezone")
 
@@ -105,25 +114,22 @@ months =
     ∷ (codes "Nov", 10) ∷ (codes "November", 10) ∷ (codes "Dec", 11) ∷ (codes "December", 11) ∷ []
 
 -- the month that a word names
-unfoldable pub month_of : List ℕ → Result ℕ Refusal
+unfoldable pub month_of : List ℕ → Reads ℕ
 month_of word = ok_or (look_up months word) unrecognized_month
 
 -- the year that a number writes: below 70 it is of the years from 2000, below 100 of those from 1900; from 100
 -- to 1969 it is refused
-abbrev pub year_of_number : ℕ → Result ℕ Refusal
+abbrev pub year_of_number : ℕ → Reads ℕ
 year_of_number n =
     if nat_lt n 70 then Ok (2000 + n) else
     if nat_lt n 100 then Ok (1900 + n) else
     if nat_lt n 1970 then Err disallowed_year else Ok n
 
--- the year of a number, if there is one
-abbrev pub year_if_read : Option ℕ → Result ℕ Refusal
-year_if_read None = Err invalid_year
-year_if_read (Some n) = year_of_number n
-
 -- the year that a word writes
-unfoldable pub year_of : List ℕ → Result ℕ Refusal
-year_of word = year_if_read (number_below (2 ^ 32) word)
+unfoldable pub year_of : List ℕ → Reads ℕ
+year_of word = do
+  n ← ok_or (number_below (2 ^ 32) word) invalid_year
+  year_of_number n
 
 -- so far west of Greenwich
 abbrev pub west : ℕ → ℤ
@@ -143,17 +149,16 @@ zones =
     ∷ (codes "V", pos 900) ∷ (codes "W", pos 1000) ∷ (codes "X", pos 1100) ∷ (codes "Y", pos 1200) ∷ []
 
 -- a zone that is a number lies from -2400 to 2400
-abbrev pub zone_of_number : ℤ → Result ℤ Refusal
+abbrev pub zone_of_number : ℤ → Reads ℤ
 zone_of_number zone = if nat_le (unsigned_abs zone) 2400 then Ok zone else Err invalid_zone
 
--- the zone of a number, or of a name where there is no number
-abbrev pub zone_if_read : Option ℤ → List ℕ → Result ℤ Refusal
-zone_if_read (Some z) word = zone_of_number z
-zone_if_read None word = ok_or (look_up zones word) invalid_zone
+-- the zone that a word names
+abbrev pub zone_named : List ℕ → Reads ℤ
+zone_named word = ok_or (look_up zones word) invalid_zone
 
--- the zone that a word writes, hours times 100 and minutes: a number, or a name
-unfoldable pub zone_of : List ℕ → Result ℤ Refusal
-zone_of word = zone_if_read (signed_number word) word
+-- the zone that a word writes, hours times 100 and minutes: a number, or else a name
+unfoldable pub zone_of : List ℕ → Reads ℤ
+zone_of word = option_map_or zone_of_number (signed_number word) (zone_named word)
 
 -- the seconds of a zone's size: its hundreds are hours, what is left is minutes
 abbrev pub zone_size : ℕ → ℕ
@@ -164,64 +169,72 @@ abbrev pub zone_seconds : ℤ → ℤ
 zone_seconds (pos n) = neg_ℤ (pos (zone_size n))
 zone_seconds (negsuc n) = pos (zone_size (suc n))
 
--- The date: each word has its meaning by its place.
-
--- two parts of a date together: the first refusal is the refusal of both
-abbrev pub plus : Result ℤ Refusal → Result ℤ Refusal → Result ℤ Refusal
-plus (Err refusal) later = Err refusal
-plus (Ok seconds) (Err refusal) = Err refusal
-plus (Ok seconds) (Ok more) = Ok (seconds +ℤ more)
-
--- what follows where a word was read
-abbrev pub then_with : {A : Type 0} → Result A Refusal → (A → Result ℤ Refusal) → Result ℤ Refusal
-then_with (Err refusal) later = Err refusal
-then_with (Ok x) later = later x
+-- The date: each word has its meaning by its place, and words that are not there add nothing. The first refusal refuses all.
 
 -- the seconds of a number below 256 of units
-abbrev pub units : ℕ → Refusal → List ℕ → Result ℤ Refusal
-units seconds refusal word = then_with (ok_or (number_below 256 word) refusal) (λ n. Ok (pos (seconds * n)))
+abbrev pub units : ℕ → Refusal → List ℕ → Reads ℤ
+units seconds refusal word = do
+  n ← ok_or (number_below 256 word) refusal
+  Ok (pos (seconds * n))
 
--- the seconds that the words say from the zone on, from the second, from the minute and from the hour on; words that
--- are not there add nothing
-abbrev pub from_zone : List (List ℕ) → Result ℤ Refusal
+-- the seconds that the words say from the zone on
+abbrev pub from_zone : List (List ℕ) → Reads ℤ
 from_zone [] = Ok (pos 0)
-from_zone (word ∷ after) = then_with (zone_of word) (λ zone. Ok (zone_seconds zone))
+from_zone (word ∷ after) = do
+  zone ← zone_of word
+  Ok (zone_seconds zone)
 
-abbrev pub from_second : List (List ℕ) → Result ℤ Refusal
+-- from the second on
+abbrev pub from_second : List (List ℕ) → Reads ℤ
 from_second [] = Ok (pos 0)
-from_second (word ∷ after) = plus (units 1 invalid_second word) (from_zone after)
+from_second (word ∷ after) = do
+  seconds ← units 1 invalid_second word
+  more ← from_zone after
+  Ok (seconds +ℤ more)
 
-abbrev pub from_minute : List (List ℕ) → Result ℤ Refusal
+-- from the minute on
+abbrev pub from_minute : List (List ℕ) → Reads ℤ
 from_minute [] = Ok (pos 0)
-from_minute (word ∷ after) = plus (units 60 invalid_minute word) (from_second after)
+from_minute (word ∷ after) = do
+  seconds ← units 60 invalid_minute word
+  more ← from_second after
+  Ok (seconds +ℤ more)
 
-abbrev pub from_hour : List (List ℕ) → Result ℤ Refusal
+-- from the hour on
+abbrev pub from_hour : List (List ℕ) → Reads ℤ
 from_hour [] = Ok (pos 0)
-from_hour (word ∷ after) = plus (units 3600 invalid_hour word) (from_minute after)
+from_hour (word ∷ after) = do
+  seconds ← units 3600 invalid_hour word
+  more ← from_minute after
+  Ok (seconds +ℤ more)
 
--- the seconds that the words say from the year on, of a day of a month; without a year there are none
-abbrev pub from_year : ℕ → ℕ → List (List ℕ) → Result ℤ Refusal
+-- from the year on, of a day of a month; without a year there are none
+abbrev pub from_year : ℕ → ℕ → List (List ℕ) → Reads ℤ
 from_year month day [] = Ok (pos 0)
-from_year month day (word ∷ after) =
-    then_with (year_of word) (λ year. plus (Ok (pos (86400 * day_number year month day))) (from_hour after))
+from_year month day (word ∷ after) = do
+  year ← year_of word
+  more ← from_hour after
+  Ok (pos (86400 * day_number year month day) +ℤ more)
 
 -- from the month on, of a day
-abbrev pub from_month : ℕ → List (List ℕ) → Result ℤ Refusal
+abbrev pub from_month : ℕ → List (List ℕ) → Reads ℤ
 from_month day [] = Ok (pos 0)
-from_month day (word ∷ after) = then_with (month_of word) (λ month. from_year month day after)
+from_month day (word ∷ after) = do
+  month ← month_of word
+  from_year month day after
 
 -- a day of a month is 1 to 31, whatever the month
-abbrev pub day_if_read : Option ℕ → Result ℕ Refusal
-day_if_read None = Err invalid_day
-day_if_read (Some day) = if is_in_range 1 31 day then Ok day else Err invalid_day
-
-abbrev pub day_of : List ℕ → Result ℕ Refusal
-day_of word = day_if_read (number_below 256 word)
+abbrev pub day_of : List ℕ → Reads ℕ
+day_of word = do
+  day ← ok_or (number_below 256 word) invalid_day
+  if is_in_range 1 31 day then Ok day else Err invalid_day
 
 -- from the day on
-abbrev pub from_day : List (List ℕ) → Result ℤ Refusal
+abbrev pub from_day : List (List ℕ) → Reads ℤ
 from_day [] = Ok (pos 0)
-from_day (word ∷ after) = then_with (day_of word) (λ day. from_month day after)
+from_day (word ∷ after) = do
+  day ← day_of word
+  from_month day after
 
 -- the words from the first on that reads as a number below 256
 abbrev pub date_words : List (List ℕ) → List (List ℕ)
@@ -229,5 +242,5 @@ date_words [] = []
 date_words (word ∷ after) = if is_some (number_below 256 word) then word ∷ after else date_words after
 
 -- the seconds from 1 January 1970, 0 h, to the date of a text
-unfoldable pub date_seconds : List ℕ → Result ℤ Refusal
+unfoldable pub date_seconds : List ℕ → Reads ℤ
 date_seconds text = from_day (date_words (words text))

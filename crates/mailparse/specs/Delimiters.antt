@@ -1,12 +1,18 @@
 -- The delimiters that cut the body of a message into parts, and the ranges of the parts (RFC 2046, section 5.1.1, read as
--- leniently as mail is written). A delimiter line begins with d, which is `--` and the boundary; what else stands on the line
--- counts only for which delimiter is the last. Places are counted from the first of the bytes.
-use Rattle.std.specs.Prelude.{ℕ, zero, suc, ◌+◌, ◌-◌, Bool, ◌||◌, ◌&&◌, ◌==◌, nat_lt, List, [], ◌∷◌, length, drop, Option, Some, None, is_none, option_map, option_and_then, unwrap_or, codes, if◌then◌else◌}
+-- leniently as mail is written). The dash-boundary is `--` and the boundary; a line that begins with it is a delimiter, and what
+-- else stands on the line counts only for which delimiter is the close-delimiter. The preamble stands before the first
+-- delimiter; the epilogue follows the close-delimiter and is in no part. Places are counted from the first of the bytes.
+use Rattle.std.specs.Prelude.{ℕ, zero, suc, ◌+◌, ◌-◌, Bool, ◌||◌, ◌&&◌, ◌==◌, nat_lt, List, length, drop, map, filter_map, Option, Some, None, option_map, option_and_then, codes, if◌then◌else◌}
 use Rattle.std.specs.Option.{option_map_or}
 use Rattle.mail_codec.specs.Ascii.{line_feed, carriage_return}
 use Rattle.mail_codec.specs.Places.{begins, stands, byte_place, least, values_below}
 use Rattle.mailparse.specs.Header.{is_line_feed}
 use Rattle.mailparse.specs.Ranges.{Range}
+
+-- what follows from a place, where there is one
+infixl 10 ◌>>=◌
+abbrev pub ◌>>=◌ : {A B : Type 0} → Option A → (A → Option B) → Option B
+o >>= f = option_and_then f o
 
 -- the least place at or after a start and before an end that passes the test, where there is one
 abbrev pub least_from : (ℕ → Bool) → ℕ → ℕ → Option ℕ
@@ -18,13 +24,13 @@ least_from test start end =
 abbrev pub starts_line : List ℕ → ℕ → ℕ → Bool
 starts_line bytes start p = p == start || begins is_line_feed (drop (p - 1) bytes)
 
--- a delimiter stands at p: d stands there, and a line starts there
+-- a delimiter stands at p: the dash-boundary stands there, and a line starts there
 abbrev pub is_delimiter : List ℕ → List ℕ → ℕ → ℕ → Bool
-is_delimiter d bytes start p = starts_line bytes start p && stands d (drop p bytes)
+is_delimiter dash_boundary bytes start p = starts_line bytes start p && stands dash_boundary (drop p bytes)
 
 -- the first delimiter at or after a start
 unfoldable pub delimiter_from : List ℕ → List ℕ → ℕ → Option ℕ
-delimiter_from d bytes start = least_from (is_delimiter d bytes start) start (length bytes)
+delimiter_from dash_boundary bytes start = least_from (is_delimiter dash_boundary bytes start) start (length bytes)
 
 -- the place after the next LF at or after p
 abbrev pub line_after : List ℕ → ℕ → Option ℕ
@@ -32,31 +38,36 @@ line_after bytes p = option_map (λ k. suc (p + k)) (byte_place (drop p bytes) l
 
 -- where the part after the delimiter at p starts: on the line after it
 abbrev pub part_after : List ℕ → List ℕ → ℕ → Option ℕ
-part_after d bytes p = line_after bytes (p + length d)
+part_after dash_boundary bytes p = line_after bytes (p + length dash_boundary)
 
--- the delimiter at p is the last: fewer than two bytes follow its d, or `--` does
-abbrev pub is_last : List ℕ → List ℕ → ℕ → Bool
-is_last d bytes p =
-    let rest = drop (p + length d) bytes in
+-- the delimiter at p is the close-delimiter: fewer than two bytes follow its dash-boundary, or `--` does
+abbrev pub is_close_delimiter : List ℕ → List ℕ → ℕ → Bool
+is_close_delimiter dash_boundary bytes p =
+    let rest = drop (p + length dash_boundary) bytes in
     nat_lt (length rest) 2 || stands (codes "--") rest
 
--- where the first part of a body starts that starts itself at i: after its first delimiter, which may have the look of a last one
+-- where the first part starts that follows a preamble from i on: after the first delimiter, which may look like a close-delimiter
 abbrev pub first_part : List ℕ → List ℕ → ℕ → Option ℕ
-first_part d bytes i = option_and_then (part_after d bytes) (delimiter_from d bytes i)
+first_part dash_boundary bytes i = do
+  p ← delimiter_from dash_boundary bytes i
+  part_after dash_boundary bytes p
 
--- where the next part starts after the part that starts at s: after its delimiter, unless that is the last
+-- where the part starts that follows the part from s on: after its delimiter, unless that is the close-delimiter
 abbrev pub next_part : List ℕ → List ℕ → ℕ → Option ℕ
-next_part d bytes s =
-    option_and_then (λ p. if is_last d bytes p then None else part_after d bytes p) (delimiter_from d bytes s)
+next_part dash_boundary bytes s = do
+  p ← delimiter_from dash_boundary bytes s
+  if is_close_delimiter dash_boundary bytes p then None else part_after dash_boundary bytes p
 
 -- where the part with this number starts, if there is one, by where the first one starts
 abbrev pub part_start : List ℕ → List ℕ → Option ℕ → ℕ → Option ℕ
-part_start d bytes first zero = first
-part_start d bytes first (suc j) = option_and_then (next_part d bytes) (part_start d bytes first j)
+part_start dash_boundary bytes first zero = first
+part_start dash_boundary bytes first (suc j) = do
+  s ← part_start dash_boundary bytes first j
+  next_part dash_boundary bytes s
 
--- how many parts there are: the least number that none has
-abbrev pub part_count : List ℕ → List ℕ → Option ℕ → ℕ
-part_count d bytes first = least (λ j. is_none (part_start d bytes first j)) (suc (length bytes))
+-- where the parts start, in order; no part has a number above the number of bytes
+unfoldable pub part_starts : List ℕ → List ℕ → Option ℕ → List ℕ
+part_starts dash_boundary bytes first = filter_map (λ start. start) (values_below (suc (length bytes)) (part_start dash_boundary bytes first))
 
 -- a place, or the one before it where that byte stands between a start and the place
 abbrev pub before_byte : ℕ → List ℕ → ℕ → ℕ → ℕ
@@ -68,25 +79,24 @@ before_line_end bytes start p = before_byte carriage_return bytes start (before_
 
 -- where what starts at s ends: before the line end before the next delimiter, otherwise at a given place
 abbrev pub end_from : List ℕ → List ℕ → ℕ → ℕ → ℕ
-end_from d bytes s otherwise = option_map_or (before_line_end bytes s) (delimiter_from d bytes s) otherwise
+end_from dash_boundary bytes s otherwise = option_map_or (before_line_end bytes s) (delimiter_from dash_boundary bytes s) otherwise
+
+-- the range of the preamble from i on: up to the first delimiter; without a delimiter it is empty
+abbrev pub preamble_range : List ℕ → List ℕ → ℕ → Range
+preamble_range dash_boundary bytes i = record { start = i; end = end_from dash_boundary bytes i i }
 
 -- the range of the part that starts at s: up to its delimiter, or to the end of the bytes
 abbrev pub part_range : List ℕ → List ℕ → ℕ → Range
-part_range d bytes s = record { start = s; end = end_from d bytes s (length bytes) }
-
--- the ranges of the parts, in order, by where the first one starts
-unfoldable pub part_ranges : List ℕ → List ℕ → Option ℕ → List Range
-part_ranges d bytes first =
-    values_below (part_count d bytes first) (λ j. part_range d bytes (unwrap_or (part_start d bytes first j) 0))
+part_range dash_boundary bytes s = record { start = s; end = end_from dash_boundary bytes s (length bytes) }
 
 -- a body and its parts, as ranges of the bytes
 pub record Cut : Type 0 where
   pub body : Range
   pub parts : List Range
 
--- how the bytes from i on are cut by delimiters: the body before the first one, and the parts; without one there is neither
+-- how the bytes from i on are cut by delimiters: the body is the preamble, and the parts follow; without a delimiter there is neither
 unfoldable pub cut_parts : List ℕ → List ℕ → ℕ → Cut
-cut_parts d bytes i = record {
-  body = record { start = i; end = end_from d bytes i i };
-  parts = part_ranges d bytes (first_part d bytes i);
+cut_parts dash_boundary bytes i = record {
+  body = preamble_range dash_boundary bytes i;
+  parts = map (part_range dash_boundary bytes) (part_starts dash_boundary bytes (first_part dash_boundary bytes i));
 }

@@ -1,5 +1,5 @@
 -- What stands inside an encoded word, between its `=?` and its `?=`: RFC 2047, sections 2 and 4, as this crate reads them.
-use Rattle.std.specs.Prelude.{◌≡◌, ℕ, Bool, true, ◌||◌, List, ◌++◌, length, drop, map, Option, Some, None, option_and_then, option_map, codes, if◌then◌else◌, ◌==◌}
+use Rattle.std.specs.Prelude.{◌≡◌, ℕ, Bool, true, ◌||◌, List, ◌++◌, length, drop, map, Option, Some, None, option_and_then, codes, if◌then◌else◌, ◌==◌}
 use Rattle.std.specs.List.{before_first, after_first, list_any}
 use Rattle.std.specs.Result.{result_ok}
 use Rattle.std.specs.Str.{bytes_eq, trim_end}
@@ -7,6 +7,11 @@ use Rattle.mail_codec.specs.Ascii.{space, question_mark, underscore}
 use Rattle.mail_codec.specs.Base64.{base64}
 use Rattle.mail_codec.specs.Charset.{Charsets}
 use Rattle.mail_codec.specs.QuotedPrintable.{quoted_printable}
+
+-- what is read next, where there is something so far
+infixl 10 ◌>>=◌
+abbrev ◌>>=◌ : {A B : Type 0} → Option A → (A → Option B) → Option B
+found >>= next = option_and_then next found
 
 -- a question mark, which cuts the inside of a word
 abbrev pub is_question_mark : ℕ → Bool
@@ -38,8 +43,8 @@ word_inside inside =
 abbrev pub spaced : List ℕ → List ℕ
 spaced encoded = map (λ b. if b == underscore then space else b) encoded
 
--- the bytes of an encoded text under Q: a space stands for each `_`; white at the end is set aside, what stands before it is read
--- as quoted-printable, and the white is put back
+-- the bytes of an encoded text under Q: a space stands for each `_`; whitespace at the end is set aside, what stands before it is read
+-- as quoted-printable, and the whitespace is put back
 abbrev pub bytes_of_q : List ℕ → List ℕ
 bytes_of_q encoded =
     let kept = trim_end (spaced encoded) in
@@ -62,8 +67,13 @@ pub record IsCutAtMark (bytes front rest : List ℕ) : Type 0 where
 module _ (known : Charsets) where
   -- the text of a word, if its charset is known and its encoded text has bytes; no byte order mark is looked for
   abbrev pub text_of_word : EncodedWord → Option (List ℕ)
-  text_of_word word = option_and_then (λ text. option_map text (encoded_bytes word.encoding word.encoded_text)) (known word.charset)
+  text_of_word word = do
+    text ← known word.charset
+    bytes ← encoded_bytes word.encoding word.encoded_text
+    Some (text bytes)
 
   -- the text of an inside, if it decodes
   unfoldable pub word_text : List ℕ → Option (List ℕ)
-  word_text inside = option_and_then text_of_word (word_inside inside)
+  word_text inside = do
+    word ← word_inside inside
+    text_of_word word

@@ -2,17 +2,14 @@
 -- 2.2.3, read as leniently as mail is written). Places are counted from the first of the bytes.
 use Rattle.std.specs.Prelude.{ℕ, suc, Bool, false, ◌&&◌, ◌||◌, not, ◌==◌, min, List, [], ◌∷◌, length, take, drop, slice_range, Result, Ok, Err, if◌then◌else◌}
 use Rattle.std.specs.List.{list_all}
-use Rattle.mail_codec.specs.Ascii.{tab, line_feed, carriage_return, space, colon}
+use Rattle.mail_codec.specs.Ascii.{is_blank, line_feed, carriage_return, space, colon}
+use Rattle.mail_codec.specs.Latin1.{latin1_text}
 use Rattle.mail_codec.specs.Places.{first_place, place_from, begins, stands, is_empty}
 use Rattle.mailparse.specs.Refusal.{Refusal, empty_string, leading_space}
 
 -- a byte that ends a key
 abbrev pub ends_key : ℕ → Bool
 ends_key b = b == colon || b == line_feed
-
--- a byte that continues a header on the next line
-abbrev pub is_blank : ℕ → Bool
-is_blank b = b == space || b == tab
 
 -- a LF
 abbrev pub is_line_feed : ℕ → Bool
@@ -56,6 +53,10 @@ value_end raw = if has_colon raw then place_from (list_all is_line_end) (take (h
 pub record Header : Type 0 where
   pub key : List ℕ
   pub value : List ℕ
+
+-- the text of its key: one character for each byte
+abbrev pub key_text : Header → List ℕ
+key_text header = latin1_text header.key
 
 -- the header at the front of the bytes, by those places
 abbrev pub header_of : List ℕ → Header

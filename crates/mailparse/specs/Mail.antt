@@ -5,14 +5,14 @@ use Rattle.std.specs.Option.{option_map_or}
 use Rattle.std.specs.Str.{bytes_eq, str_to_ascii_lowercase}
 use Rattle.mail_codec.specs.Charset.{Charsets, four_charsets}
 use Rattle.mail_codec.specs.Places.{stands}
-use Rattle.mailparse.specs.Refusal.{recursion_limit, Reads, read_map, read_then}
+use Rattle.mailparse.specs.Refusal.{◌>>=◌, recursion_limit, Reads}
 use Rattle.mailparse.specs.Header.{Header}
 use Rattle.mailparse.specs.Block.{HeaderList, read_headers}
 use Rattle.mailparse.specs.ContentType.{ContentType, default_type, content_type_in}
 use Rattle.mailparse.specs.Disposition.{Disposition, disposition_of, default_disposition}
 use Rattle.mailparse.specs.Delimiters.{Cut, cut_parts}
 use Rattle.mailparse.specs.Body.{BodyKind, kind_named, decoded, decoded_text}
-use Rattle.mailparse.specs.Keys.{first_with_key, first_value}
+use Rattle.mailparse.specs.Map.{first_with_key, first_value}
 use Rattle.mailparse.specs.Ranges.{slice}
 use Rattle.mailparse.specs.Value.{lenient_value_with}
 
@@ -76,6 +76,7 @@ abbrev mutual
   pub trees_within : Tree → List Tree
   trees_within (tree node parts) = tree node parts ∷ trees_in parts
 
+  -- the same of each of some parts
   pub trees_in : Forest → List Tree
   trees_in no_parts = []
   trees_in (part_and t ts) = trees_within t ++ trees_in ts
@@ -92,18 +93,17 @@ part_type in_digest = if in_digest then record default_type { mimetype = codes "
 abbrev pub is_digest : ContentType → Bool
 is_digest ctype = bytes_eq ctype.mimetype (codes "multipart/digest")
 
--- what a delimiter of this type's parts begins with, if there may be parts: `--` and the boundary
-abbrev pub delimiter_of : ContentType → Option (List ℕ)
-delimiter_of ctype =
+-- the dash-boundary of this type's parts, if there may be parts: `--` and the boundary
+abbrev pub dash_boundary_of : ContentType → Option (List ℕ)
+dash_boundary_of ctype =
     if stands (codes "multipart") ctype.mimetype
     then option_map (λ boundary. codes "--" ++ boundary) (ctype.params (codes "boundary"))
     else None
 
--- how a message of this type is cut whose body starts at i: by its delimiters, and otherwise the body is all that follows. An empty
--- body holds no delimiter.
+-- how a message of this type is cut whose body starts at i: by its delimiters, and otherwise the body is all that follows
 abbrev pub cut_of : ContentType → List ℕ → ℕ → Cut
 cut_of ctype bytes i =
-    option_map_or (λ d. cut_parts d bytes i) (delimiter_of ctype) (record { body = record { start = i; end = length bytes }; parts = [] })
+    option_map_or (λ dash_boundary. cut_parts dash_boundary bytes i) (dash_boundary_of ctype) (record { body = record { start = i; end = length bytes }; parts = [] })
 
 -- the message with this block and this type that is cut so
 abbrev pub node_with : List ℕ → HeaderList → ContentType → Cut → Node
@@ -118,7 +118,10 @@ node_with bytes block ctype cut = record {
 -- what is read of each, in order; the first refusal refuses all
 abbrev pub read_each : (List ℕ → Reads Tree) → List (List ℕ) → Reads Forest
 read_each read [] = Ok no_parts
-read_each read (part ∷ parts) = read_then (read part) (λ t. read_map (part_and t) (read_each read parts))
+read_each read (part ∷ parts) = do
+  first ← read part
+  others ← read_each read parts
+  Ok (part_and first others)
 
 -- Under the charsets that are known.
 module _ (known : Charsets) where
@@ -130,16 +133,18 @@ module _ (known : Charsets) where
 
   -- the message of this type that has this block: its parts are read by a function that is told whether it is a digest
   abbrev pub read_parts : (Bool → List ℕ → Reads Tree) → List ℕ → HeaderList → ContentType → Reads Tree
-  read_parts read bytes block ctype =
-      let cut = cut_of ctype bytes block.index in
-      read_map (tree (node_with bytes block ctype cut)) (read_each (read (is_digest ctype)) (map (slice bytes) cut.parts))
+  read_parts read bytes block ctype = do
+    let cut = cut_of ctype bytes block.index
+    parts ← read_each (read (is_digest ctype)) (map (slice bytes) cut.parts)
+    Ok (tree (node_with bytes block ctype cut) parts)
 
   -- the message that the bytes are, where so many levels may stand, its own among them; it is refused where there is none, otherwise by
   -- its own headers, otherwise by the first of its parts that is refused
   unfoldable pub read_levels : ℕ → Bool → List ℕ → Reads Tree
   read_levels zero in_digest bytes = Err recursion_limit
-  read_levels (suc levels) in_digest bytes =
-      read_then (read_headers bytes) (λ block. read_parts (read_levels levels) bytes block (node_type in_digest block.headers))
+  read_levels (suc levels) in_digest bytes = do
+    block ← read_headers bytes
+    read_parts (read_levels levels) bytes block (node_type in_digest block.headers)
 
   -- the message that the bytes are, where parts may stand down to a greatest level; the message itself stands at level 0
   unfoldable pub read_mail_in : ℕ → List ℕ → Reads Tree

@@ -1,10 +1,10 @@
 -- Lists of message ids: the identification fields of RFC 5322, section 3.6.4, where an id is any text within angle brackets.
-use Rattle.std.specs.Prelude.{ℕ, Bool, ◌&&◌, ◌==◌, List, [], ◌∷◌, ◌++◌, map, drop, Result, Ok, Err, codes, if◌then◌else◌}
+use Rattle.std.specs.Prelude.{ℕ, Bool, ◌&&◌, ◌==◌, List, [], ◌∷◌, ◌++◌, map, drop, Ok, Err, codes, if◌then◌else◌}
 use Rattle.std.specs.List.{slice_split, join_with_byte, list_any, before_first}
 use Rattle.std.specs.Str.{trim_start}
 use Rattle.mail_codec.specs.Ascii.{space, less_than, greater_than}
 use Rattle.mail_codec.specs.Places.{is_empty, stands}
-use Rattle.mailparse.specs.Refusal.{Refusal, generic}
+use Rattle.mailparse.specs.Refusal.{◌>>=◌, Reads, Refusal, generic}
 
 -- no `<` where an id was wanted
 abbrev pub id_not_opened : Refusal
@@ -18,37 +18,38 @@ id_not_closed = generic (codes "Message IDs must end with >")
 abbrev pub is_closing : ℕ → Bool
 is_closing b = b == greater_than
 
--- whether bytes begin with an id's `<`, after white
+-- whether bytes begin with an id's `<`, after whitespace
 abbrev pub opens_id : List ℕ → Bool
 opens_id bytes = stands (codes "<") (trim_start bytes)
 
--- the id of a piece that ends at a `>`: after white and a `<`
+-- the id of a piece that ends at a `>`: after whitespace and a `<`
 abbrev pub id_of_piece : List ℕ → List ℕ
 id_of_piece piece = drop 1 (trim_start piece)
 
 -- the ids with one more at the front
-abbrev pub with_id : List ℕ → Result (List (List ℕ)) Refusal → Result (List (List ℕ)) Refusal
-with_id id (Ok ids) = Ok (id ∷ ids)
-with_id id (Err refusal) = Err refusal
+abbrev pub with_id : List ℕ → Reads (List (List ℕ)) → Reads (List (List ℕ))
+with_id id ids = do
+  others ← ids
+  Ok (id ∷ others)
 
--- what follows the last `>`: no ids if it is white, otherwise a refusal
-abbrev pub ids_at_end : List ℕ → Result (List (List ℕ)) Refusal
+-- what follows the last `>`: no ids if it is whitespace, otherwise a refusal
+abbrev pub ids_at_end : List ℕ → Reads (List (List ℕ))
 ids_at_end bytes =
     if is_empty (trim_start bytes) then Ok [] else
     if opens_id bytes then Err id_not_closed else Err id_not_opened
 
--- the ids of the pieces of a text between its `>`: each but the last is white, `<` and an id, and the last is white
-abbrev pub ids_of_pieces : List (List ℕ) → Result (List (List ℕ)) Refusal
+-- the ids of the pieces of a text between its `>`: each but the last is whitespace, `<` and an id, and the last is whitespace
+abbrev pub ids_of_pieces : List (List ℕ) → Reads (List (List ℕ))
 ids_of_pieces [] = Ok []
 ids_of_pieces (last ∷ []) = ids_at_end last
 ids_of_pieces (piece ∷ next ∷ more) =
     if opens_id piece then with_id (id_of_piece piece) (ids_of_pieces (next ∷ more)) else Err id_not_opened
 
 -- the ids of a text, or the refusal at the first place that breaks the form
-unfoldable pub message_ids : List ℕ → Result (List (List ℕ)) Refusal
+unfoldable pub message_ids : List ℕ → Reads (List (List ℕ))
 message_ids text = ids_of_pieces (slice_split is_closing text)
 
--- the text begins with a whole id, after white
+-- the text begins with a whole id, after whitespace
 unfoldable pub begins_with_id : List ℕ → Bool
 begins_with_id text = list_any is_closing text && opens_id (before_first is_closing text)
 

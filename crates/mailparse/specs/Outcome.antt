@@ -1,4 +1,4 @@
--- What a call answered, set beside what a definition gives; the crate's own words.
+-- What a call returned, set beside what a definition gives; the crate's own words.
 use Rattle.std.specs.Prelude.{◌≡◌, ℕ, List, map, Option, Some, None, Result, Ok, Err, String, string_bytes}
 use Rattle.std.specs.Global.{Global, Vec}
 use Rattle.std.specs.Cow.{cow_str_bytes}
@@ -31,7 +31,7 @@ IsRefusalOrMemory (Base64DecodeError fault) given = given ≡ Err (base64_fault 
 IsRefusalOrMemory (EncodingError text) given = given ≡ Err (encoding (cow_str_bytes text))
 IsRefusalOrMemory (Generic text) given = given ≡ Err (generic text.now)
 
--- the call answered, seen by the view, exactly what the definition gives
+-- the call returned, seen by the view, exactly what the definition gives
 abbrev pub Answers : {X Y : Type 0} → (X → Y) → Result X MailParseError → Result Y Refusal → Type 0
 Answers view (Ok x) given = given ≡ Ok (view x)
 Answers view (Err e) given = IsRefusal e given
@@ -46,15 +46,15 @@ abbrev pub IsMemory : MailParseError → Type 0
 IsMemory (Memory e) = Unit {0}
 IsMemory _ = ⊥
 
--- the call gave that text, or memory ran out
+-- the call returned that text, or memory ran out
 abbrev pub GivesText : Result (String Global) MailParseError → List ℕ → Type 0
 GivesText result text = AnswersOrMemory (λ t. string_bytes t) result (Ok text)
 
--- the call gave those texts, or memory ran out
+-- the call returned those texts, or memory ran out
 abbrev pub GivesTexts : Result (Vec (String Global)) MailParseError → List (List ℕ) → Type 0
 GivesTexts result texts = AnswersOrMemory (λ v. map (λ t. string_bytes t) v.items) result (Ok texts)
 
--- the call read the text that a definition gives, or answered its refusal, unless memory ran out
+-- the call read the text that a definition gives, or returned its refusal, unless memory ran out
 abbrev pub ReadsText : Result (String Global) MailParseError → Result (List ℕ) Refusal → Type 0
 ReadsText result given = AnswersOrMemory (λ t. string_bytes t) result given
 

@@ -1,12 +1,12 @@
 -- The value and the pairs of a text that has parameters: RFC 2045, section 5.1, as this crate reads it. Keys are put
 -- into ASCII lower case, and of equal keys the last one counts.
-use Rattle.std.specs.Prelude.{◌≡◌, ℕ, Bool, ◌==◌, nat_lt, List, [], ◌∷◌, length, drop, flat_map, Option, Some, None, option_map, option_to_list, String, string_bytes, if◌then◌else◌}
+use Rattle.std.specs.Prelude.{◌≡◌, ℕ, Bool, ◌==◌, nat_lt, List, [], ◌∷◌, length, drop, flat_map, Option, Some, None, option_map, option_to_list, slice_index_or, String, string_bytes, if◌then◌else◌}
 use Rattle.std.specs.BTreeMap.{BTreeMap, get_by_text}
 use Rattle.std.specs.List.{position_or_len, before_first, after_first}
 use Rattle.std.specs.Map.{update_all}
 use Rattle.std.specs.Str.{bytes_eq, str_to_ascii_lowercase, trim}
 use Rattle.mail_codec.specs.Ascii.{equals_sign}
-use Rattle.mailparse.specs.Pieces.{pieces, unescape}
+use Rattle.mailparse.specs.Segments.{segments, unescape}
 
 -- texts by their names
 abbrev pub Texts : Type 0
@@ -32,27 +32,22 @@ last_of pairs = update_all bytes_eq no_texts pairs
 abbrev pub is_equals : ℕ → Bool
 is_equals b = b == equals_sign
 
--- the pair of a piece that holds `=`: what stands before the first one, without white around it and in lower case, is the key;
--- what stands after it, without white around it, stands for the value
+-- the pair of a segment that holds `=`: what stands before the first one, without whitespace around it and in lower case, is the key;
+-- what stands after it, without whitespace around it, stands for the value
 unfoldable pub pair_of : List ℕ → Option (List ℕ × List ℕ)
-pair_of piece =
-    if nat_lt (position_or_len is_equals piece) (length piece)
-    then Some (str_to_ascii_lowercase (trim (before_first is_equals piece)), unescape (trim (after_first is_equals piece)))
+pair_of segment =
+    if nat_lt (position_or_len is_equals segment) (length segment)
+    then Some (str_to_ascii_lowercase (trim (before_first is_equals segment)), unescape (trim (after_first is_equals segment)))
     else None
 
--- the pairs of pieces, in order; a piece without `=` has none
+-- the pairs of segments, in order; a segment without `=` has none
 abbrev pub pairs_in : List (List ℕ) → List (List ℕ × List ℕ)
-pairs_in pieces = flat_map (λ piece. option_to_list (pair_of piece)) pieces
+pairs_in segments = flat_map (λ segment. option_to_list (pair_of segment)) segments
 
--- the pairs of a text: those of all its pieces after the first
+-- the pairs of a text: those of all its segments after the first
 unfoldable pub pairs_of : List ℕ → List (List ℕ × List ℕ)
-pairs_of text = pairs_in (drop 1 (pieces text))
+pairs_of text = pairs_in (drop 1 (segments text))
 
--- the first of the pieces
-abbrev pub first_piece : List (List ℕ) → List ℕ
-first_piece [] = []
-first_piece (piece ∷ more) = piece
-
--- the value of a text: its first piece, without white around it
+-- the value of a text: its first segment, without whitespace around it
 unfoldable pub value_of : List ℕ → List ℕ
-value_of text = trim (first_piece (pieces text))
+value_of text = trim (slice_index_or (segments text) 0 [])

@@ -31,12 +31,8 @@ recursion_limit = generic (codes "Recursion limit reached")
 abbrev pub Reads : Type 0 → Type 0
 Reads A = Result A Refusal
 
--- what is read, as it is seen by a function
-abbrev pub read_map : {A B : Type 0} → (A → B) → Reads A → Reads B
-read_map f (Ok x) = Ok (f x)
-read_map f (Err refusal) = Err refusal
-
 -- what is read after something else, unless that was refused
-abbrev pub read_then : {A B : Type 0} → Reads A → (A → Reads B) → Reads B
-read_then (Ok x) f = f x
-read_then (Err refusal) f = Err refusal
+infixl 10 ◌>>=◌
+abbrev pub ◌>>=◌ : {A B : Type 0} → Reads A → (A → Reads B) → Reads B
+(Ok x) >>= f = f x
+(Err refusal) >>= f = Err refusal

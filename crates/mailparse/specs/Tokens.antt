@@ -11,9 +11,9 @@ use Rattle.mail_codec.specs.Charset.{Charsets}
 use Rattle.mail_codec.specs.Places.{stands, place_from}
 use Rattle.mailparse.specs.EncodedWord.{word_text}
 
--- what a token is: text that is not encoded, white throughout (or empty), the end of a line, or an encoded word that decodes
+-- what a token is: text that is not encoded, whitespace throughout (or empty), the end of a line, or an encoded word that decodes
 pub data TokenKind : Type 0 where
-  plain_text white_space line_end decoded_word : TokenKind
+  plain_text whitespace line_end decoded_word : TokenKind
 
 -- a token of a line: what it is, and the range of the line where it stands
 pub record TokenRange : Type 0 where
@@ -21,7 +21,7 @@ pub record TokenRange : Type 0 where
   pub from : ℕ
   pub to : ℕ
 
--- a character that may stand directly beside an encoded word: white, or one of `"`, `(`, `)`, `<`, `>` and `,`
+-- a character that may stand directly beside an encoded word: whitespace, or one of `"`, `(`, `)`, `<`, `>` and `,`
 abbrev pub is_boundary : ℕ → Bool
 is_boundary c = is_whitespace c || list_any (λ d. c == d) (quote ∷ opening_parenthesis ∷ closing_parenthesis ∷ less_than ∷ greater_than ∷ comma ∷ [])
 
@@ -50,15 +50,15 @@ opening line s = place_from begins_opening line s
 abbrev pub closing : List ℕ → ℕ → ℕ
 closing line s = place_from begins_closing line s
 
--- whether a text is white throughout, as the empty one is
-abbrev pub is_white : List ℕ → Bool
-is_white text = list_all is_whitespace (chars text)
+-- whether a text is whitespace throughout, as the empty one is
+abbrev pub is_all_whitespace : List ℕ → Bool
+is_all_whitespace text = list_all is_whitespace (chars text)
 
--- the token of what stands outside of all words: white, otherwise text
+-- the token of what stands outside of all words: whitespace, otherwise text
 abbrev pub outside_range : List ℕ → ℕ → ℕ → TokenRange
-outside_range line from to = record { kind = if is_white (slice_range line from to) then white_space else plain_text; from = from; to = to }
+outside_range line from to = record { kind = if is_all_whitespace (slice_range line from to) then whitespace else plain_text; from = from; to = to }
 
--- a token that is text, white or not
+-- a token that is text, whitespace or not
 abbrev pub text_range : ℕ → ℕ → TokenRange
 text_range from to = record { kind = plain_text; from = from; to = to }
 
@@ -117,19 +117,21 @@ module _ (known : Charsets) where
   abbrev pub AreTokens : List ℕ → List TokenRange → Type 0
   AreTokens line tokens = AreTokensFrom line 0 tokens
 
-  -- a group, computed
+  -- the group at s, computed, whose word would stand from v to e
   abbrev pub group_of_word : List ℕ → ℕ → ℕ → ℕ → TokenGroup
   group_of_word line s v e = record {
     tokens = outside_range line s v ∷ (if is_some (word_text known (inside line v e)) then word_range v e else text_range v (e + 2)) ∷ [];
     next = Some (e + 2);
   }
 
+  -- the group at s, computed, whose least `=?` is at v and whose least closing `?=` after it is at e
   abbrev pub group_of_opening : List ℕ → ℕ → ℕ → ℕ → TokenGroup
   group_of_opening line s v e =
       if boundary_before line v
       then (if e == length line then record { tokens = outside_range line s v ∷ text_range v (v + 2) ∷ []; next = Some (v + 2) } else group_of_word line s v e)
       else record { tokens = text_range s (v + 2) ∷ []; next = Some (v + 2) }
 
+  -- the group at s, computed
   unfoldable pub group_at : List ℕ → ℕ → TokenGroup
   group_at line s =
       let v = opening line s in

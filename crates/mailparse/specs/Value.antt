@@ -9,7 +9,7 @@ use Rattle.mail_codec.specs.Latin1.{latin1_text}
 use Rattle.mail_codec.specs.Places.{stands}
 use Rattle.mailparse.specs.EncodedWord.{word_text}
 use Rattle.mailparse.specs.Refusal.{Refusal, value_not_utf8}
-use Rattle.mailparse.specs.Tokens.{TokenKind, plain_text, white_space, line_end, decoded_word, TokenRange, inside, is_white, token_ranges}
+use Rattle.mailparse.specs.Tokens.{TokenKind, plain_text, whitespace, line_end, decoded_word, TokenRange, inside, is_all_whitespace, token_ranges}
 
 -- a token of a value: what it is, and the text that it shows where it shows
 pub record Token : Type 0 where
@@ -18,39 +18,41 @@ pub record Token : Type 0 where
 
 -- the token of what stands outside of all words
 abbrev pub outside_token : List ℕ → Token
-outside_token bytes = record { kind = if is_white bytes then white_space else plain_text; shown = bytes }
+outside_token bytes = record { kind = if is_all_whitespace bytes then whitespace else plain_text; shown = bytes }
 
 -- the token of a line's end: where it shows, it shows one space
 abbrev pub newline : Token
 newline = record { kind = line_end; shown = space ∷ [] }
 
--- whether the token is a decoded word, or white
+-- whether there is a token and it is a decoded word
 abbrev pub is_word : Option TokenKind → Bool
 is_word (Some decoded_word) = true
 is_word _ = false
 
-abbrev pub is_white_space : Option TokenKind → Bool
-is_white_space (Some white_space) = true
-is_white_space _ = false
+-- whether there is a token and it is whitespace
+abbrev pub is_whitespace_token : Option TokenKind → Bool
+is_whitespace_token (Some whitespace) = true
+is_whitespace_token _ = false
 
--- whether a token is held, by the kinds of the two tokens before it, the nearer one last: white with a decoded word directly
--- before it, and a line's end with a decoded word, or with such white, directly before it
+-- whether a token is held, by the kinds of the two tokens before it, the nearer one last: whitespace with a decoded word directly
+-- before it, and a line's end with a decoded word, or with such whitespace, directly before it
 abbrev pub is_held : Option TokenKind → Option TokenKind → TokenKind → Bool
-is_held earlier before white_space = is_word before
-is_held earlier before line_end = is_word before || (is_white_space before && is_word earlier)
+is_held earlier before whitespace = is_word before
+is_held earlier before line_end = is_word before || (is_whitespace_token before && is_word earlier)
 is_held earlier before plain_text = false
 is_held earlier before decoded_word = false
 
--- whether a held token shows, by the tokens after it: text follows, or, after white, a line's end and then text
+-- whether a held token shows, by the tokens after it: text follows, or, after whitespace, a line's end and then text
 abbrev pub is_released : TokenKind → List TokenKind → Bool
 is_released _ (plain_text ∷ _) = true
-is_released white_space (line_end ∷ plain_text ∷ _) = true
+is_released whitespace (line_end ∷ plain_text ∷ _) = true
 is_released _ _ = false
 
 -- whether a token shows
 abbrev pub shows : Option TokenKind → Option TokenKind → TokenKind → List TokenKind → Bool
 shows earlier before kind after = not (is_held earlier before kind) || is_released kind after
 
+-- the kinds of tokens, in order
 abbrev pub kinds : List Token → List TokenKind
 kinds tokens = map (λ t. t.kind) tokens
 
@@ -76,6 +78,7 @@ module _ (known : Charsets) where
   token_text decoded_word line from to = unwrap_or (word_text known (inside line from (to - 2))) []
   token_text _ line from to = slice_range line from to
 
+  -- the token that stands at a range of a line
   abbrev pub token_of : List ℕ → TokenRange → Token
   token_of line range = record { kind = range.kind; shown = token_text range.kind line range.from range.to }
 
@@ -89,7 +92,7 @@ module _ (known : Charsets) where
   tokens_of_lines (line ∷ []) = line_tokens line
   tokens_of_lines (line ∷ next ∷ more) = line_tokens line ++ (newline ∷ tokens_of_lines (next ∷ more))
 
-  -- the tokens of a value's text: each of its lines first loses the white before its text
+  -- the tokens of a value's text: each of its lines first loses the whitespace before its text
   unfoldable pub value_tokens : List ℕ → List Token
   value_tokens text = tokens_of_lines (map trim_start (lines text))
 

@@ -1,13 +1,14 @@
 -- Words that private functions alone need; no public clause speaks of them.
 pub mod Cuts
-pub mod Unfolding
-pub mod DelimiterLines
-pub mod Pieces
+pub mod Shown
+pub mod Delimiters
+pub mod Segments
 pub mod Pairs
-pub mod Dates
+pub mod Date
 pub mod IdRows
 pub mod MessageIds
-pub mod StarredKeys
-pub mod Deciders
+pub mod Sections
+pub mod ExtendedValues
+pub mod CharsetSources
 pub mod Continuations
 pub mod Filled

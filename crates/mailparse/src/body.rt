@@ -31,9 +31,26 @@ pub enum Body<'a> {
 }
 
 impl<'a> Body<'a> {
-    /// The body of these bytes, of this content type, in the transfer coding that the text names:
-    /// exactly `base64`, `quoted-printable`, `7bit`, `8bit` or `binary`, in lower case; any other
-    /// text, and none, means `7bit`. Takes no memory.
+    /// Returns the body of these bytes and this content type, in the transfer coding that the text
+    /// names.
+    ///
+    /// The names are exactly `base64`, `quoted-printable`, `7bit`, `8bit` and `binary`, in lower
+    /// case; any other text, and none, means `7bit`. Takes no memory. `ParsedMail::get_body_encoded`
+    /// makes the body of a message.
+    ///
+    /// # Examples
+    ///
+    /// ```rust
+    /// use mailparse::ParsedContentType;
+    /// use mailparse::body::Body;
+    ///
+    /// let ctype = ParsedContentType::default(alloc)?;
+    /// let name = Some(String::from_str(alloc, "base64")?);
+    /// let Body::Base64(body) = Body::new(b"aGk=", &ctype, &name) else {
+    ///     return Err("another coding".into());
+    /// };
+    /// assert_eq!(rt; body.get_decoded_as_string(alloc)?.as_str(), "hi");
+    /// ```
     #[tactic(auto, unfolding(crate::specs::Body::kind_named))]
     pub fn new(
         body: &'a [u8],

@@ -16,17 +16,34 @@ const DEFAULT_CHARSET: &str = "us-ascii";
 /// The type of a message's content, its charset and its parameters (RFC 2045, section 5).
 #[derive(Debug, Drop)]
 pub struct ParsedContentType {
-    /// The type and the subtype, as `text/plain`.
+    /// The type and the subtype in ASCII lower case, as `text/plain`.
     pub mimetype: String,
-    /// The label of the charset that a text is in.
+    /// The label of the charset that a text is in, or `us-ascii` where none was given.
     pub charset: String,
-    /// All parameters by name, the charset among them where it was given.
+    /// All parameters by name in ASCII lower case, the charset among them where it was given.
     pub params: BTreeMap<String, String>,
 }
 
 impl ParsedContentType {
-    /// The type where nothing says it: `text/plain` in `us-ascii`, without parameters (RFC 2045,
-    /// section 5.2). The error is that memory ran out.
+    /// Returns the type of a message that names none: `text/plain` in `us-ascii`, without parameters
+    /// (RFC 2045, section 5.2).
+    ///
+    /// Takes memory for the two texts.
+    ///
+    /// # Errors
+    ///
+    /// `MailParseError::Memory` where it runs out of memory.
+    ///
+    /// # Examples
+    ///
+    /// ```rust
+    /// use mailparse::ParsedContentType;
+    ///
+    /// let ctype = ParsedContentType::default(alloc)?;
+    /// assert_eq!(rt; ctype.mimetype.as_str(), "text/plain");
+    /// assert_eq!(rt; ctype.charset.as_str(), "us-ascii");
+    /// assert_eq!(rt; ctype.params.len(), 0);
+    /// ```
     pub fn default(alloc: Global) -> Result<ParsedContentType, MailParseError>
         ensures { AnswersOrMemory content_type result (Ok default_type) }
     {
@@ -38,15 +55,29 @@ impl ParsedContentType {
     }
 }
 
-/// Reads the value of a `Content-Type` header as `get_value` gives it (RFC 2045, section 5.1; RFC
+/// Reads the value of a `Content-Type` header, as `get_value` returns it (RFC 2045, section 5.1; RFC
 /// 2231, sections 3 and 4).
 ///
-/// The type is what stands before the first semicolon outside quotes, without white around it and
-/// in ASCII lower case; it need not be one that anybody knows. The charset is the parameter of that
-/// name, which stays among the parameters, or `us-ascii` where there is none. Every text is read;
-/// the error is that memory ran out.
+/// The type is what stands before the first semicolon outside quotes, without whitespace around it
+/// and in ASCII lower case; it need not be one that anybody knows. The charset is the parameter of
+/// that name, which stays among the parameters, or `us-ascii` where there is none. Every text is
+/// read. Takes memory for the texts and the parameters.
 ///
-/// `text/html; charset=utf-8` is the type `text/html` in the charset `utf-8`, with one parameter.
+/// # Errors
+///
+/// `MailParseError::Memory` where it runs out of memory.
+///
+/// # Examples
+///
+/// ```rust
+/// use mailparse::parse_content_type;
+///
+/// let ctype = parse_content_type(alloc, "Text/HTML; charset=utf-8; name=\"a;b\"")?;
+/// assert_eq!(rt; ctype.mimetype.as_str(), "text/html");
+/// assert_eq!(rt; ctype.charset.as_str(), "utf-8");
+/// assert_eq!(rt; ctype.params.get("name").ok_or("no name")?.as_str(), "a;b");
+/// assert_eq!(rt; ctype.params.len(), 2);
+/// ```
 pub fn parse_content_type(alloc: Global, text: &str) -> Result<ParsedContentType, MailParseError>
     ensures { AnswersOrMemory content_type result (Ok (content_type_of text.now)) }
 {

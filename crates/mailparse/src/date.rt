@@ -2,7 +2,7 @@
 ghost use Rattle.std.specs.Prelude.{◌≡◌, [], IfOk, MatchOption};
 ghost use Rattle.mailparse.specs.Date.{date_seconds, date_words, from_hour, words};
 ghost use Rattle.mailparse.specs.Outcome.{Answers};
-ghost use Rattle.mailparse.specs.private.Dates.{IsFirstNumber, IsNear};
+ghost use Rattle.mailparse.specs.private.Date.{IsFirstNumber, IsNear};
 
 mod calendar;
 mod fields;
@@ -13,20 +13,34 @@ use calendar::day_number;
 use fields::{month_number, next_number, year_number, zone_seconds};
 use words::next_word;
 
-/// The seconds from 1 January 1970, 0 h UTC, to a date as mail writes it.
+/// Returns the seconds from 1 January 1970, 0 h UTC, to a date as mail writes it (RFC 5322, sections
+/// 3.3 and 4.3).
 ///
 /// The words between spaces and colons are a day, a month, a year, an hour, a minute, a second and
 /// a zone, in this order. What stands before the first number below 256 is passed over, and so is
 /// what stands after the zone. Words at the end may be absent: a text without a year is 0. A number
-/// of two digits is a year from 1970 to 2069. It takes no memory.
+/// of two digits is a year from 1970 to 2069. Takes no memory.
 ///
-/// The error is a `Generic`: `Invalid day` for a day that is not 1 to 31, `Unrecognized month`,
-/// `Invalid year` for one that is not a number below 2^32, `Disallowed year` for one from 100 to
-/// 1969, `Invalid hour`, `Invalid minute` and `Invalid second` for one that is not a number below
-/// 256, and `Invalid timezone` for a zone that is neither a number from -2400 to 2400 nor a name.
-/// The first invalid word counts.
+/// # Errors
 ///
-/// `dateparse("Sun, 02 Oct 2016 07:06:22 -0700 (PDT)")` is 1475417182.
+/// `MailParseError::Generic` for the first word that is not what its place wants, with the text:
+///
+/// - `Invalid day` for a day that is not 1 to 31,
+/// - `Unrecognized month` for a word that names no month,
+/// - `Invalid year` for a year that is not a number below 2^32,
+/// - `Disallowed year` for a year from 100 to 1969,
+/// - `Invalid hour`, `Invalid minute` or `Invalid second` for one that is not a number below 256,
+/// - `Invalid timezone` for a zone that is neither a number from -2400 to 2400 nor a name.
+///
+/// # Examples
+///
+/// ```rust
+/// use mailparse::dateparse;
+///
+/// assert_eq!(rt; dateparse("Sun, 02 Oct 2016 07:06:22 -0700 (PDT)")?, 1475417182);
+/// assert_eq!(rt; dateparse("1 Jan 70 00:01")?, 60);
+/// assert!(rt; dateparse("1 Foo 2000").is_err());
+/// ```
 #[tactic(auto, unfolding(crate::specs::Date::date_seconds))]
 pub fn dateparse(date: &str) -> Result<i64, MailParseError>
     ensures { Answers (λ seconds. seconds) result (date_seconds date.now) }
@@ -66,7 +80,7 @@ fn first_number(date: &str) -> Option<(u8, &str)>
 /// The seconds of the hour, the minute, the second and the zone that a text begins with, as far as
 /// they are there.
 fn time_of_day(text: &str) -> Result<i64, MailParseError>
-    ensures sum { Answers (λ seconds. seconds) result (from_hour (words text.now)) }
+    ensures read { Answers (λ seconds. seconds) result (from_hour (words text.now)) }
     ensures bounds { IfOk result (IsNear 1100000) }
 {
     let Some((hour, rest)) = next_number(text, "Invalid hour")? else {

@@ -13,7 +13,7 @@ use std::collections::BTreeMap;
 /// The kind of a disposition (RFC 2183, section 2).
 #[derive(Debug, Drop, PartialEq)]
 pub enum DispositionType {
-    /// Shown with the message. This is also what no text at all means.
+    /// Shown with the message; also what no text at all means.
     Inline,
     /// Kept apart from the message, to be opened on demand.
     Attachment,
@@ -37,11 +37,25 @@ impl Default for DispositionType {
 }
 
 impl DispositionType {
-    /// An equal value. It takes memory for the text of an `Extension` alone; the error is that
-    /// memory ran out.
+    /// Returns an equal value.
+    ///
+    /// Takes memory for the text of an `Extension` alone.
+    ///
+    /// # Errors
+    ///
+    /// `MailParseError::Memory` where it runs out of memory.
+    ///
+    /// # Examples
+    ///
+    /// ```rust
+    /// use mailparse::DispositionType;
+    ///
+    /// let kind = DispositionType::Attachment.clone(alloc)?;
+    /// assert!(rt; kind == DispositionType::Attachment);
+    /// ```
     pub fn clone(&self, alloc: Global) -> Result<DispositionType, MailParseError>
         ensures same { AnswersOrMemory kind result (Ok (kind self.now)) }
-        ensures no_memory { IsNamed (kind self.now) → IsOk result }
+        ensures no_alloc { IsNamed (kind self.now) → IsOk result }
     {
         match self {
             DispositionType::Inline => Ok(DispositionType::Inline),
@@ -55,18 +69,29 @@ impl DispositionType {
     }
 }
 
-/// How a part of a message is to be shown, and the parameters, such as a name for its file (RFC
-/// 2183, section 2).
+/// How a message or a part of one is to be shown, and the parameters, such as a name for its file
+/// (RFC 2183, section 2).
 #[derive(Debug, Drop)]
 pub struct ParsedContentDisposition {
     /// The kind of the disposition.
     pub disposition: DispositionType,
-    /// All parameters by name.
+    /// All parameters by name in ASCII lower case.
     pub params: BTreeMap<String, String>,
 }
 
 impl ParsedContentDisposition {
-    /// The disposition where nothing says it: `Inline`, without parameters. Takes no memory.
+    /// Returns the disposition of a message that names none: `Inline`, without parameters.
+    ///
+    /// Takes no memory.
+    ///
+    /// # Examples
+    ///
+    /// ```rust
+    /// use mailparse::{DispositionType, ParsedContentDisposition};
+    ///
+    /// let shown = ParsedContentDisposition::default(alloc);
+    /// assert!(rt; shown.disposition == DispositionType::Inline);
+    /// ```
     pub fn default(alloc: Global) -> ParsedContentDisposition
         ensures { disposition result ≡ default_disposition }
     {
@@ -77,15 +102,28 @@ impl ParsedContentDisposition {
     }
 }
 
-/// Reads the value of a `Content-Disposition` header as `get_value` gives it (RFC 2183, section 2;
-/// RFC 2231, sections 3 and 4).
+/// Reads the value of a `Content-Disposition` header, as `get_value` returns it (RFC 2183, section
+/// 2; RFC 2231, sections 3 and 4).
 ///
-/// The kind is what stands before the first semicolon outside quotes, without white around it and
-/// in ASCII lower case: `inline`, `attachment` and `form-data` have names of their own, any other
-/// text is an `Extension`, and no text at all means `Inline`. Every text is read; the error is that
-/// memory ran out.
+/// The kind is what stands before the first semicolon outside quotes, without whitespace around it
+/// and in ASCII lower case: `inline`, `attachment` and `form-data` have names of their own, any
+/// other text is an `Extension`, and no text at all means `Inline`. Every text is read. Takes memory
+/// for the text and the parameters.
 ///
-/// `attachment; filename="a b"` is an `Attachment` with one parameter.
+/// # Errors
+///
+/// `MailParseError::Memory` where it runs out of memory.
+///
+/// # Examples
+///
+/// ```rust
+/// use mailparse::{DispositionType, parse_content_disposition};
+///
+/// let value = "attachment; filename*0*=utf-8''%E2%82; filename*1*=%AC.txt";
+/// let shown = parse_content_disposition(alloc, value)?;
+/// assert!(rt; shown.disposition == DispositionType::Attachment);
+/// assert_eq!(rt; shown.params.get("filename").ok_or("no name")?.as_str(), "€.txt");
+/// ```
 pub fn parse_content_disposition(
     alloc: Global,
     text: &str,

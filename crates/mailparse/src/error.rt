@@ -6,10 +6,10 @@ use std::alloc::{AllocError, AllocFailed};
 use std::borrow::CowStr;
 use thiserror::Error;
 
-/// Why a call gave no answer.
+/// What a call refuses, or that it runs out of memory.
 #[derive(Debug, Drop, Error)]
 pub enum MailParseError {
-    /// A body that is not quoted-printable. No call answers it: every text is read.
+    /// A body that is not quoted-printable. No call returns it: every text is read.
     #[error("QuotedPrintable decode error: {0}")]
     QuotedPrintableDecodeError(QuotedPrintableFault),
     /// A body that is not Base64.
@@ -21,25 +21,25 @@ pub enum MailParseError {
     /// The input is not what the call reads; the text says what is wrong with it.
     #[error("{0}")]
     Generic(&'static str),
-    /// Memory ran out.
+    /// The call runs out of memory.
     #[error("out of memory")]
     Memory(AllocError),
 }
 
-/// Where a text stops being quoted-printable. No call answers it.
+/// The fault of a text that is not quoted-printable. No call returns it.
 #[derive(Clone, Copy, Debug, PartialEq, Eq, Error)]
 #[error("no quoted-printable text")]
 pub struct QuotedPrintableFault;
 
-/// Where a text stops being Base64.
+/// The fault of a text that is not Base64.
 #[derive(Clone, Copy, Debug, PartialEq, Eq, Error)]
 #[error("group {group} is no Base64 group")]
 pub struct Base64Fault {
-    /// The index, from 0, of the first invalid group of four.
+    /// The index, counted from 0, of the first invalid group of four.
     pub group: usize,
 }
 
-/// The fault that an error wraps.
+/// The fault that an error wraps, as `MailParseError::source` returns it.
 #[derive(Clone, Copy, Debug)]
 pub enum Wrapped<'a> {
     /// The fault of a quoted-printable text.
@@ -49,7 +49,22 @@ pub enum Wrapped<'a> {
 }
 
 impl MailParseError {
-    /// The fault that the error wraps: that of the two decode errors, otherwise `None`.
+    /// Returns the fault that the error wraps: that of the two decode errors, otherwise `None`.
+    ///
+    /// Takes no memory.
+    ///
+    /// # Examples
+    ///
+    /// ```rust
+    /// use mailparse::{Wrapped, parse_mail};
+    ///
+    /// let mail = parse_mail(alloc, b"Content-Transfer-Encoding: base64\n\naGk=a")?;
+    /// let error = mail.get_body(alloc).err().ok_or("no error")?;
+    /// let Some(Wrapped::Base64(fault)) = error.source() else {
+    ///     return Err("another fault".into());
+    /// };
+    /// assert_eq!(rt; fault.group, 1);
+    /// ```
     pub fn source(&self) -> Option<Wrapped<'_>>
         ensures { HasSource self.now result }
     {

@@ -1,20 +1,20 @@
 //! One header of a message: its key and its value, as bytes and as text.
 ghost use Rattle.std.specs.Prelude.{◌≡◌, ◌↔◌, Ok, IfOk, IsOk, IsErr, IsAscii, string_bytes};
 ghost use Rattle.std.specs.Cow.{cow_str_bytes, IsBorrowedStr};
-ghost use Rattle.mailparse.specs.Header.{Header};
-ghost use Rattle.mailparse.specs.Keys.{key_text};
+ghost use Rattle.mailparse.specs.Header.{Header, key_text};
 ghost use Rattle.mailparse.specs.Outcome.{Answers, AnswersOrMemory, GivesText, ReadsText};
 ghost use Rattle.mailparse.specs.Value.{lenient_value, strict_value};
 
-mod line;
+mod encoded_word;
 pub(crate) mod parse;
+mod shown;
+mod tokens;
 mod value;
-mod word;
 
 use crate::error::MailParseError;
 use crate::lossy_text::LossyText;
 use mail_codec::charset::decode_latin1;
-use std::alloc::Global;
+use std::alloc::{AllocError, Global};
 use std::borrow::CowStr;
 use std::marker::Model;
 use std::{fmt, str};
@@ -35,8 +35,23 @@ impl<'a> Model for MailHeader<'a> {
 }
 
 impl<'a> MailHeader<'a> {
-    /// The text of the key: one character for each byte, the one of its number (IANA's ISO-8859-1).
-    /// The error is that memory ran out.
+    /// Returns the text of the key: one character for each byte, the one of its number (IANA's
+    /// ISO-8859-1).
+    ///
+    /// Takes memory for the text; `get_key_ref` borrows it where it can.
+    ///
+    /// # Errors
+    ///
+    /// `MailParseError::Memory` where it runs out of memory.
+    ///
+    /// # Examples
+    ///
+    /// ```rust
+    /// use mailparse::parse_header;
+    ///
+    /// let (header, _) = parse_header(b"Subject: Hi")?;
+    /// assert_eq!(rt; header.get_key(alloc)?.as_str(), "Subject");
+    /// ```
     pub fn get_key(&self, alloc: Global) -> Result<String, MailParseError>
         ensures { GivesText result (key_text self.now) }
     {
@@ -44,23 +59,52 @@ impl<'a> MailHeader<'a> {
         Ok(text.into_owned(alloc)?)
     }
 
-    /// The text of the key, borrowed exactly where all its bytes are ASCII: then it takes no memory
-    /// and succeeds. Otherwise the error is that memory ran out.
+    /// Returns the text of the key as `get_key` does, borrowed where all its bytes are ASCII, and
+    /// only there.
+    ///
+    /// Where it borrows it takes no memory and succeeds.
+    ///
+    /// # Errors
+    ///
+    /// `MailParseError::Memory` where it runs out of memory.
+    ///
+    /// # Examples
+    ///
+    /// ```rust
+    /// use mailparse::parse_header;
+    ///
+    /// let (header, _) = parse_header(b"Subject: Hi")?;
+    /// assert_eq!(rt; header.get_key_ref(alloc)?.as_str(), "Subject");
+    /// ```
     pub fn get_key_ref(&self, alloc: Global) -> Result<CowStr<'_>, MailParseError>
-        ensures text { AnswersOrMemory (λ text. cow_str_bytes text) result
+        ensures read { AnswersOrMemory (λ text. cow_str_bytes text) result
             (Ok (key_text self.now)) }
         ensures borrowed { IfOk result (λ text. IsBorrowedStr text ↔ IsAscii self.now.key) }
-        ensures no_memory { IsAscii self.now.key → IsOk result }
+        ensures no_alloc { IsAscii self.now.key → IsOk result }
     {
         Ok(decode_latin1(alloc, self.get_key_raw())?)
     }
 
-    /// The text of the value: its lines are joined, a space for each line end that shows, and its
-    /// encoded words decoded (RFC 5322, section 2.2.3; RFC 2047, sections 2, 4 and 6.2). Bytes that
-    /// are not UTF-8 are read as Latin-1, one character for each byte. The error is that memory ran
-    /// out.
+    /// Returns the text of the value: its lines are joined, a space for each line end that shows, and
+    /// its encoded words decoded (RFC 5322, section 2.2.3; RFC 2047, sections 2, 4 and 6.2).
     ///
-    /// The value `=?utf-8?Q?caf=C3=A9?=` reads as `café`.
+    /// Bytes that are not UTF-8 are read as Latin-1, one character for each byte; `get_value_utf8`
+    /// refuses them. Takes memory for the text.
+    ///
+    /// # Errors
+    ///
+    /// `MailParseError::Memory` where it runs out of memory.
+    ///
+    /// # Examples
+    ///
+    /// ```rust
+    /// use mailparse::parse_header;
+    ///
+    /// let (header, _) = parse_header(b"Subject: =?utf-8?Q?caf=C3=A9?=\r\n at noon")?;
+    /// assert_eq!(rt; header.get_value(alloc)?.as_str(), "café at noon");
+    /// let (header, _) = parse_header(b"Subject: caf\xE9")?;
+    /// assert_eq!(rt; header.get_value(alloc)?.as_str(), "café");
+    /// ```
     #[tactic(auto, unfolding(crate::specs::Value::lenient_value))]
     pub fn get_value(&self, alloc: Global) -> Result<String, MailParseError>
         ensures { GivesText result (lenient_value self.now.value) }
@@ -71,12 +115,11 @@ impl<'a> MailHeader<'a> {
     /// The text of the value as `get_value` reads it; where it is a part of the value's bytes they
     /// are borrowed.
     #[tactic(auto, unfolding(crate::specs::Value::lenient_value))]
-    pub(crate) fn get_value_ref(&self, alloc: Global) -> Result<CowStr<'_>, MailParseError>
-        ensures { AnswersOrMemory (λ text. cow_str_bytes text) result
-            (Ok (lenient_value self.now.value)) }
+    pub(crate) fn get_value_ref(&self, alloc: Global) -> Result<CowStr<'_>, AllocError>
+        ensures { IfOk result (λ text. cow_str_bytes text ≡ lenient_value self.now.value) }
     {
         match str::from_utf8(self.get_value_raw()) {
-            Ok(text) => Ok(value_ref(alloc, text)?),
+            Ok(text) => value_ref(alloc, text),
             Err(_) => {
                 let text = decode_latin1(alloc, self.get_value_raw())?;
                 let value = value_ref(alloc, text.as_str())?.into_owned(alloc)?;
@@ -85,12 +128,29 @@ impl<'a> MailHeader<'a> {
         }
     }
 
-    /// The text of the value as `get_value` reads it, where its bytes are UTF-8; other bytes are
-    /// refused before any memory is taken. Otherwise the error is that memory ran out.
+    /// Returns the text of the value as `get_value` does, where its bytes are UTF-8 (RFC 6532).
+    ///
+    /// Takes memory for the text, and none where it refuses the bytes.
+    ///
+    /// # Errors
+    ///
+    /// `MailParseError::EncodingError` where the bytes are not UTF-8, and `MailParseError::Memory`
+    /// where it runs out of memory.
+    ///
+    /// # Examples
+    ///
+    /// ```rust
+    /// use mailparse::parse_header;
+    ///
+    /// let (header, _) = parse_header(b"Subject: caf\xC3\xA9")?;
+    /// assert_eq!(rt; header.get_value_utf8(alloc)?.as_str(), "café");
+    /// let (header, _) = parse_header(b"Subject: caf\xE9")?;
+    /// assert!(rt; header.get_value_utf8(alloc).is_err());
+    /// ```
     #[tactic(auto, unfolding(crate::specs::Value::strict_value))]
     pub fn get_value_utf8(&self, alloc: Global) -> Result<String, MailParseError>
         ensures read { ReadsText result (strict_value self.now.value) }
-        ensures no_memory { IsErr (strict_value self.now.value) →
+        ensures no_alloc { IsErr (strict_value self.now.value) →
             Answers (λ text. string_bytes text) result (strict_value self.now.value) }
     {
         let Ok(text) = str::from_utf8(self.get_value_raw()) else {
@@ -101,16 +161,38 @@ impl<'a> MailHeader<'a> {
         Ok(value_ref(alloc, text)?.into_owned(alloc)?)
     }
 
-    /// The bytes of the key, as they stand in the message, spaces before the colon among them.
+    /// Returns the bytes of the key, as they stand in the message, spaces before the colon among
+    /// them.
+    ///
     /// Takes no memory.
+    ///
+    /// # Examples
+    ///
+    /// ```rust
+    /// use mailparse::parse_header;
+    ///
+    /// let (header, _) = parse_header(b"To : you")?;
+    /// assert_eq!(rt; header.get_key_raw(), b"To ".as_slice());
+    /// ```
     pub fn get_key_raw(&self) -> &[u8]
         ensures { result.now ≡ self.now.key }
     {
         self.key
     }
 
-    /// The bytes of the value, as they stand in the message: without the spaces at its front and
-    /// the line end after it, with the line ends inside it. Takes no memory.
+    /// Returns the bytes of the value, as they stand in the message: without the spaces at its front
+    /// and the line end after it, with the line ends inside it.
+    ///
+    /// Takes no memory.
+    ///
+    /// # Examples
+    ///
+    /// ```rust
+    /// use mailparse::parse_header;
+    ///
+    /// let (header, _) = parse_header(b"A:  b \r\n\tc\r\n\r\n")?;
+    /// assert_eq!(rt; header.get_value_raw(), b"b \r\n\tc".as_slice());
+    /// ```
     pub fn get_value_raw(&self) -> &[u8]
         ensures { result.now ≡ self.now.value }
     {

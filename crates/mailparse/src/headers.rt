@@ -1,4 +1,4 @@
-//! The header block of a message, to go over its headers and to look them up.
+//! The header block of a message, to iterate over its headers and to look them up.
 ghost use Rattle.std.specs.Prelude.{◌≡◌};
 ghost use Rattle.std.specs.Iterator.Runs.{EveryRun, ItemsMapTo};
 ghost use Rattle.std.specs.Slice.Iter.{iter_rest, iter_steps};
@@ -12,6 +12,8 @@ use std::marker::Model;
 use std::{fmt, slice};
 
 /// The header block of a message: its bytes, and the list of its headers.
+///
+/// It is iterated over in the order of the message, and looked up by `MailHeaderMap`.
 #[derive(Drop)]
 pub struct Headers<'a> {
     raw_bytes: &'a [u8],
@@ -33,7 +35,18 @@ impl<'a> Headers<'a> {
         Headers { raw_bytes, headers }
     }
 
-    /// The bytes of the header block, the blank line that ends it among them. Takes no memory.
+    /// Returns the bytes of the header block, the blank line that ends it among them.
+    ///
+    /// Takes no memory.
+    ///
+    /// # Examples
+    ///
+    /// ```rust
+    /// use mailparse::parse_mail;
+    ///
+    /// let mail = parse_mail(alloc, b"Subject: Hi\n\nbody")?;
+    /// assert_eq!(rt; mail.get_headers().get_raw_bytes(), b"Subject: Hi\n\n".as_slice());
+    /// ```
     pub fn get_raw_bytes(&self) -> &'a [u8]
         ensures { result.now ≡ self.now.bytes }
     {
@@ -48,7 +61,7 @@ impl<'a> Headers<'a> {
     }
 }
 
-/// Goes over the headers in the order in which they stand in the message.
+/// Iterates over the headers in the order in which they stand in the message.
 impl<'a> IntoIterator for Headers<'a> {
     type Item = &'a MailHeader<'a>;
 

@@ -1,5 +1,48 @@
-//! Reads mail: headers, the header block, types and dispositions with their parameters, the message
-//! with its parts, bodies, dates and message ids.
+//! Reads mail: headers and the text of their values, types and dispositions with their parameters,
+//! parts inside parts, bodies, dates and message ids.
+//!
+//! `parse_mail` reads a whole message. What it returns borrows the bytes of the message; values and
+//! bodies are decoded where they are asked for. `parse_header`, `parse_headers`,
+//! `parse_content_type`, `parse_content_disposition`, `dateparse` and `msgidparse` each read a part
+//! of a message by itself.
+//!
+//! No call panics, whatever the bytes are. What takes memory has the argument `alloc` and returns a
+//! `Result`; each call says what else it refuses.
+//!
+//! # Examples
+//!
+//! A program that prints the subject of a mail, its plain text, and the names of its attachments:
+//!
+//! ```rust
+//! #![tactic(auto)]
+//!
+//! use mailparse::{DispositionType, MailHeaderMap, parse_mail};
+//! use std::io::Read;
+//!
+//! fn main(rt: HostRuntime) -> anyhow::Result<()> {
+//!     let alloc = rt.alloc();
+//!     let mut raw = Vec::new(alloc);
+//!     rt.reader().read_to_end(&mut raw)?;
+//!     let mail = parse_mail(alloc, raw.as_slice())?;
+//!     if let Some(subject) = mail.headers.get_first_value(alloc, "Subject")? {
+//!         println!(rt; "Subject: {subject}")?;
+//!     }
+//!     for part in mail.parts(alloc)? {
+//!         let shown = part.get_content_disposition(alloc)?;
+//!         if shown.disposition == DispositionType::Attachment {
+//!             if let Some(name) = shown.params.get("filename") {
+//!                 println!(rt; "Attachment: {name}")?;
+//!             }
+//!         } else if part.ctype.mimetype.as_str() == "text/plain" {
+//!             println!(rt; "{}", part.get_body(alloc)?)?;
+//!         }
+//!     }
+//!     Ok(())
+//! }
+//! ```
+//!
+//! The examples of the calls stand in a function that has the runtime `rt` and its allocator
+//! `alloc`.
 #![tactic(auto)]
 
 pub mod body;

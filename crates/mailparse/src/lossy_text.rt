@@ -28,7 +28,7 @@ fn write_escaped<W: fmt::Write>(text: &str, f: &mut fmt::Formatter<W>) -> fmt::R
     Ok(())
 }
 
-/// Writes one character so: a quotation mark is escaped and an apostrophe is not.
+/// Writes one character as it stands there: a quotation mark is escaped, an apostrophe is not.
 fn write_escaped_character<W: fmt::Write>(
     character: char,
     f: &mut fmt::Formatter<W>,

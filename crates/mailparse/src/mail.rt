@@ -20,17 +20,19 @@ use crate::header::MailHeader;
 use crate::headers::Headers;
 use crate::headers::block::parse_headers;
 use crate::headers::map::MailHeaderMap;
-use delimiters::{cut_body, cut_part};
+use delimiters::{cut_part, cut_preamble};
 pub use parts::PartsIterator;
 use parts::push_parts;
 use std::alloc::Global;
-use types::{delimiter_line, is_digest, node_type};
+use types::{delimiter_of, is_digest, node_type};
 
 /// How many levels of parts may stand below a message: parts inside parts.
 const MAX_LEVELS: u8 = 100;
 
-/// A message that was read, or a part of one. The fields that are public may be changed; what the
-/// methods answer follows them.
+/// A message that was read, or a part of one.
+///
+/// It borrows the bytes of the message. The public fields may be changed; what the methods return
+/// follows them.
 #[derive(Debug, Drop)]
 pub struct ParsedMail<'a> {
     /// The bytes of the message.
@@ -41,27 +43,63 @@ pub struct ParsedMail<'a> {
     pub headers: Vec<MailHeader<'a>>,
     /// Its type.
     pub ctype: ParsedContentType,
-    /// The bytes of its body, up to the first part.
+    /// The bytes of its body: in a message with parts, those of the preamble.
     body_bytes: &'a [u8],
     /// Its parts, in the order in which they stand.
     pub subparts: Vec<ParsedMail<'a>>,
 }
 
 impl<'a> ParsedMail<'a> {
-    /// The header block: its bytes, and the headers that `headers` holds now. Takes no memory.
+    /// Returns the header block: its bytes, and the headers that `headers` holds now.
+    ///
+    /// Takes no memory.
+    ///
+    /// # Examples
+    ///
+    /// ```rust
+    /// use mailparse::parse_mail;
+    ///
+    /// let mail = parse_mail(alloc, b"Subject: Hi\nTo: you\n\nbody")?;
+    /// let mut keys = Vec::new(alloc);
+    /// for header in mail.get_headers() {
+    ///     keys.push(header.get_key(alloc)?)?;
+    /// }
+    /// assert_eq!(rt; keys.len(), 2);
+    /// assert_eq!(rt; keys[1].as_str(), "To");
+    /// ```
     pub fn get_headers(&self) -> Headers<'_>
         ensures { result ≡ block_of (root (tree_of self.now)) }
     {
         Headers::new(self.header_bytes, self.headers.as_slice())
     }
 
-    /// The body in the transfer coding that it has (RFC 2045, section 6): the one that the first
-    /// `Content-Transfer-Encoding` names, in any case, and otherwise `7bit`. Nothing is decoded
-    /// yet. The one error is that memory ran out.
+    /// Returns the body in its transfer coding, which the first `Content-Transfer-Encoding` names
+    /// (RFC 2045, section 6).
+    ///
+    /// The name counts in any case; any other text, and none, means `7bit`. Nothing is decoded yet.
+    /// Takes memory for the name of the coding.
+    ///
+    /// # Errors
+    ///
+    /// `MailParseError::Memory` where it runs out of memory.
+    ///
+    /// # Examples
+    ///
+    /// ```rust
+    /// use mailparse::body::Body;
+    /// use mailparse::parse_mail;
+    ///
+    /// let mail = parse_mail(alloc, b"Content-Transfer-Encoding: BASE64\n\naGk=")?;
+    /// let Body::Base64(body) = mail.get_body_encoded(alloc)? else {
+    ///     return Err("another coding".into());
+    /// };
+    /// assert_eq!(rt; body.get_raw(), b"aGk=".as_slice());
+    /// assert_eq!(rt; body.get_decoded(alloc)?.as_slice(), b"hi".as_slice());
+    /// ```
     pub fn get_body_encoded(&self, alloc: Global) -> Result<Body<'_>, MailParseError>
-        ensures body { let node = root (tree_of self.now) in
+        ensures read { let node = root (tree_of self.now) in
             IfOk result (IsBody (body_kind node) (content_of node)) }
-        ensures fault { IfErr result IsMemory }
+        ensures only_memory { IfErr result IsMemory }
     {
         let mut encoding = self
             .headers
@@ -72,14 +110,27 @@ impl<'a> ParsedMail<'a> {
         Ok(Body::new(self.body_bytes, &self.ctype, &encoding))
     }
 
-    /// The text that the body stands for: its transfer coding is undone, and the bytes are read
-    /// under the charset of the type that `ctype` holds now. A byte order mark decides first, and
-    /// under an unknown label each byte that is not ASCII is U+FFFD.
+    /// Returns the text that the body stands for: its transfer coding is undone, and the bytes are
+    /// read under the charset of the type that `ctype` holds now.
     ///
-    /// Refuses a body that is to be Base64 and is not, by the index of the first invalid group;
-    /// otherwise the one error is that memory ran out.
+    /// A byte order mark overrules that charset, and under an unknown label each byte that is not
+    /// ASCII is U+FFFD. Takes memory for the bytes and for the text. Of a message with parts it is
+    /// the text before the first part.
     ///
-    /// For `Subject: test\n\nThis is the body` it is `This is the body`.
+    /// # Errors
+    ///
+    /// `MailParseError::Base64DecodeError` where a body in Base64 is not Base64, with the index,
+    /// counted from 0, of the first invalid group of four; and `MailParseError::Memory` where it
+    /// runs out of memory.
+    ///
+    /// # Examples
+    ///
+    /// ```rust
+    /// use mailparse::parse_mail;
+    ///
+    /// let mail = parse_mail(alloc, b"Subject: Hi\n\nHello, you")?;
+    /// assert_eq!(rt; mail.get_body(alloc)?.as_str(), "Hello, you");
+    /// ```
     #[tactic(auto, unfolding(crate::specs::Body::decoded_text, crate::specs::Body::text_under, crate::specs::Body::decoded))]
     pub fn get_body(&self, alloc: Global) -> Result<String, MailParseError>
         ensures { ReadsText result (body_text (root (tree_of self.now))) }
@@ -93,8 +144,25 @@ impl<'a> ParsedMail<'a> {
         }
     }
 
-    /// The bytes that the body stands for: its transfer coding is undone, and no charset is looked
-    /// at. Refused as `get_body` is.
+    /// Returns the bytes that the body stands for: its transfer coding is undone, and no charset is
+    /// looked at.
+    ///
+    /// Takes memory for the bytes. Of a message with parts they are the bytes before the first part.
+    ///
+    /// # Errors
+    ///
+    /// `MailParseError::Base64DecodeError` where a body in Base64 is not Base64, with the index,
+    /// counted from 0, of the first invalid group of four; and `MailParseError::Memory` where it
+    /// runs out of memory.
+    ///
+    /// # Examples
+    ///
+    /// ```rust
+    /// use mailparse::parse_mail;
+    ///
+    /// let mail = parse_mail(alloc, b"Content-Transfer-Encoding: base64\n\n/w==")?;
+    /// assert_eq!(rt; mail.get_body_raw(alloc)?.as_slice(), b"\xFF".as_slice());
+    /// ```
     #[tactic(auto, unfolding(crate::specs::Body::decoded))]
     pub fn get_body_raw(&self, alloc: Global) -> Result<Vec<u8>, MailParseError>
         ensures { ReadsBytes result (body_bytes (root (tree_of self.now))) }
@@ -108,8 +176,26 @@ impl<'a> ParsedMail<'a> {
         }
     }
 
-    /// How the message is to be shown (RFC 2183): what its first `Content-Disposition` says, and
-    /// otherwise `Inline` without parameters. The one error is that memory ran out.
+    /// Returns how the message is to be shown: what its first `Content-Disposition` says, and
+    /// otherwise `Inline` without parameters (RFC 2183, section 2).
+    ///
+    /// Takes memory for the text and the parameters.
+    ///
+    /// # Errors
+    ///
+    /// `MailParseError::Memory` where it runs out of memory.
+    ///
+    /// # Examples
+    ///
+    /// ```rust
+    /// use mailparse::{DispositionType, parse_mail};
+    ///
+    /// let raw = b"Content-Disposition: attachment; filename=\"a b.txt\"\n\n";
+    /// let mail = parse_mail(alloc, raw)?;
+    /// let shown = mail.get_content_disposition(alloc)?;
+    /// assert!(rt; shown.disposition == DispositionType::Attachment);
+    /// assert_eq!(rt; shown.params.get("filename").ok_or("no name")?.as_str(), "a b.txt");
+    /// ```
     pub fn get_content_disposition(
         &self,
         alloc: Global,
@@ -122,11 +208,32 @@ impl<'a> ParsedMail<'a> {
         }
     }
 
-    /// The message itself, and then its parts, each before its own parts. Takes memory for the list
-    /// of them; the one error is that memory ran out.
+    /// Returns an iterator over the message itself and then its parts, each before its own parts.
+    ///
+    /// Takes memory for the list of them.
+    ///
+    /// # Errors
+    ///
+    /// `MailParseError::Memory` where it runs out of memory.
+    ///
+    /// # Examples
+    ///
+    /// ```rust
+    /// use mailparse::parse_mail;
+    ///
+    /// let raw = b"Content-Type: multipart/mixed; boundary=b\n\n--b\n\none\n--b\n\ntwo\n--b--\n";
+    /// let mail = parse_mail(alloc, raw)?;
+    /// let mut plain = 0;
+    /// for part in mail.parts(alloc)? {
+    ///     if part.ctype.mimetype.as_str() == "text/plain" {
+    ///         plain += 1;
+    ///     }
+    /// }
+    /// assert_eq!(rt; plain, 2);
+    /// ```
     pub fn parts<'m>(&'m self, alloc: Global) -> Result<PartsIterator<'m, 'a>, MailParseError>
-        ensures parts { AnswersOrMemory trees_left result (Ok (trees_within (tree_of self.now))) }
-        ensures few { IfOk result (λ iterator. length (trees_left iterator) < 2 ^ 64) }
+        ensures read { AnswersOrMemory trees_left result (Ok (trees_within (tree_of self.now))) }
+        ensures bounds { IfOk result (λ iterator. length (trees_left iterator) < 2 ^ 64) }
     {
         let mut parts = Vec::new(alloc);
         push_parts(self, &mut parts)?;
@@ -134,27 +241,60 @@ impl<'a> ParsedMail<'a> {
     }
 }
 
-/// Reads a message: its header block, and after the blank line its body, or its parts (RFC 5322,
+/// Reads a message: its header block, and after the blank line its body and its parts (RFC 5322,
 /// section 2.1; RFC 2046, section 5.1).
 ///
 /// A message whose type begins with `multipart` and has a boundary is cut at each line that begins
-/// with `--` and the boundary. Each part is read as a message in the same way.
+/// with `--` and the boundary. Each part is read as a message in the same way. Any bytes are a
+/// message, the empty input too, but for the three things under Errors.
 ///
-/// Any bytes are a message, the empty input too, but for three things, which are refused wherever
-/// they stand, the message itself before its parts: a header that begins with a space, a CR without
-/// LF where a header or the blank line is wanted, and a part more than 100 levels below the
-/// message. A refusal that comes before the first header is answered as itself; otherwise memory
-/// may run out.
+/// Takes memory for the lists of headers and parts and for the types; bodies and values are decoded
+/// where they are asked for. However the parts are nested, the headers, the bytes of the bodies and
+/// three for each part are together at most the bytes of the message.
 ///
-/// However the parts are nested, the headers, the bytes of the bodies and three for each part are
-/// together at most the bytes of the message.
+/// # Errors
 ///
-/// `parse_mail(alloc, b"Subject: Hi\n\nbody")` has one header, the body `body` and no parts.
+/// The first of these in reading order, the headers of a message before its parts:
+///
+/// - `MailParseError::Generic` with the text `Header cannot start with a space; it is likely an
+///   overhanging line from a previous header`;
+/// - `MailParseError::Generic` with the text `Headers were followed by an unexpected lone CR
+///   character!`, for a CR without LF where a header or the blank line is wanted;
+/// - `MailParseError::Generic` with the text `Recursion limit reached`, for a part more than 100
+///   levels below the message;
+/// - `MailParseError::Memory` where it runs out of memory.
+///
+/// What is refused before the first header is refused without taking memory.
+///
+/// # Examples
+///
+/// ```rust
+/// use mailparse::{MailHeaderMap, parse_mail};
+///
+/// let raw = b"Subject: A test\n\
+///     Content-Type: multipart/alternative; boundary=edge\n\n\
+///     --edge\n\
+///     Content-Type: text/plain; charset=utf-8\n\
+///     Content-Transfer-Encoding: quoted-printable\n\n\
+///     5 =E2=82=AC\n\
+///     --edge\n\
+///     Content-Type: text/html\n\
+///     Content-Transfer-Encoding: base64\n\n\
+///     PGI+NTwvYj4=\n\
+///     --edge--\n";
+/// let mail = parse_mail(alloc, raw)?;
+/// let subject = mail.headers.get_first_value(alloc, "Subject")?.ok_or("no subject")?;
+/// assert_eq!(rt; subject.as_str(), "A test");
+/// assert_eq!(rt; mail.subparts.len(), 2);
+/// assert_eq!(rt; mail.subparts[0].get_body(alloc)?.as_str(), "5 €");
+/// assert_eq!(rt; mail.subparts[1].ctype.mimetype.as_str(), "text/html");
+/// assert_eq!(rt; mail.subparts[1].get_body(alloc)?.as_str(), "<b>5</b>");
+/// ```
 #[tactic(auto, unfolding(crate::specs::Mail::read_mail, crate::specs::Mail::read_mail_in))]
 pub fn parse_mail(alloc: Global, raw: &[u8]) -> Result<ParsedMail<'_>, MailParseError>
     ensures read { AnswersOrMemory tree_of result (read_mail raw.now) }
     ensures bounded { IfOk result (λ mail. IsBounded (tree_of mail) (length raw.now)) }
-    ensures no_memory { header_count raw.now ≡ 0 → IsErr (read_headers raw.now) →
+    ensures no_alloc { header_count raw.now ≡ 0 → IsErr (read_headers raw.now) →
         Answers tree_of result (read_mail raw.now) }
 {
     parse_mail_recursive(alloc, raw, false, MAX_LEVELS + 1)
@@ -169,7 +309,7 @@ fn parse_mail_recursive(
 ) -> Result<ParsedMail<'_>, MailParseError>
     ensures read { AnswersOrMemory tree_of result
         (read_levels four_charsets levels in_digest raw.now) }
-    ensures no_memory { 0 < levels → header_count raw.now ≡ 0 → IsErr (read_headers raw.now) →
+    ensures no_alloc { 0 < levels → header_count raw.now ≡ 0 → IsErr (read_headers raw.now) →
         Answers tree_of result (read_levels four_charsets levels in_digest raw.now) }
 {
     if levels == 0 {
@@ -177,7 +317,7 @@ fn parse_mail_recursive(
     }
     let (headers, index) = parse_headers(alloc, raw)?;
     let ctype = node_type(alloc, &headers, in_digest)?;
-    let Some(line) = delimiter_line(alloc, &ctype)? else {
+    let Some(delimiter) = delimiter_of(alloc, &ctype)? else {
         return Ok(ParsedMail {
             raw_bytes: raw,
             header_bytes: &raw[..index],
@@ -188,11 +328,11 @@ fn parse_mail_recursive(
         });
     };
     let is_digest = is_digest(&ctype);
-    let (end, first) = cut_body(raw, index, line.as_slice());
+    let (end, first) = cut_preamble(raw, index, delimiter.as_slice());
     let mut subparts = Vec::new(alloc);
     let mut next = first;
     while let Some(start) = next {
-        let (part_end, after) = cut_part(raw, start, line.as_slice());
+        let (part_end, after) = cut_part(raw, start, delimiter.as_slice());
         let part = &raw[start..part_end];
         subparts.push(parse_mail_recursive(alloc, part, is_digest, levels - 1)?)?;
         next = after;

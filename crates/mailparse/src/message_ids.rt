@@ -14,7 +14,8 @@ use std::alloc::Global;
 use std::fmt::{self, Write};
 use std::ops::{Deref, DerefMut};
 
-/// The ids of a header such as `References`, in order, each without its angle brackets.
+/// The ids of a header such as `References`, in order, each without its angle brackets (RFC 5322,
+/// section 3.6.4).
 ///
 /// It is read and changed as the vector that it holds. It is shown as mail writes it: each id in
 /// angle brackets, one space between each two.
@@ -62,7 +63,22 @@ impl DerefMut for MessageIdList {
 }
 
 impl MessageIdList {
-    /// An equal list in memory of its own. The error is that memory ran out.
+    /// Returns an equal list.
+    ///
+    /// Takes memory for the list and its ids.
+    ///
+    /// # Errors
+    ///
+    /// `MailParseError::Memory` where it runs out of memory.
+    ///
+    /// # Examples
+    ///
+    /// ```rust
+    /// use mailparse::msgidparse;
+    ///
+    /// let ids = msgidparse(alloc, "<one@a>")?;
+    /// assert!(rt; ids.clone(alloc)? == ids);
+    /// ```
     pub fn clone(&self, alloc: Global) -> Result<MessageIdList, MailParseError>
         ensures { AnswersOrMemory ids_of result (Ok (ids_of self.now)) }
     {
@@ -89,20 +105,34 @@ impl fmt::Display for MessageIdList {
     }
 }
 
-/// Reads the ids of a header such as `Message-ID`, `In-Reply-To` or `References`.
+/// Reads the ids of a header such as `Message-ID`, `In-Reply-To` or `References` (RFC 5322, section
+/// 3.6.4).
 ///
 /// Each id is what stands between a `<` and the first `>` after it. It may be empty, and may hold
-/// white and any other character. Before, between and after ids stands white or nothing. A text of
-/// white alone is the empty list, and takes no memory.
+/// whitespace and any other character. Before, between and after ids stands whitespace or nothing; a
+/// text of whitespace alone is the empty list. Takes memory for the list and its ids, and none
+/// before the first whole id.
 ///
-/// The error is the `Generic` with the text `Message IDs must start with <` where something else
-/// stands, the one with the text `Message IDs must end with >` where no `>` follows a `<`,
-/// whichever comes first, or that memory ran out; before the first id it takes no memory.
+/// # Errors
 ///
-/// `msgidparse(alloc, "<one@a> <two@b>")` is the list of `one@a` and `two@b`.
+/// The first of these in reading order: `MailParseError::Generic` with the text `Message IDs must
+/// start with <` where something else stands, or with `Message IDs must end with >` where no `>`
+/// follows a `<`; and `MailParseError::Memory` where it runs out of memory.
+///
+/// # Examples
+///
+/// ```rust
+/// use mailparse::msgidparse;
+///
+/// let ids = msgidparse(alloc, "<one@a> <two@b>")?;
+/// assert_eq!(rt; ids.len(), 2);
+/// assert_eq!(rt; ids[0].as_str(), "one@a");
+/// assert_eq!(rt; format!(in alloc; "{ids}")?.as_str(), "<one@a> <two@b>");
+/// assert!(rt; msgidparse(alloc, "one@a").is_err());
+/// ```
 pub fn msgidparse(alloc: Global, ids: &str) -> Result<MessageIdList, MailParseError>
     ensures read { AnswersOrMemory ids_of result (message_ids ids.now) }
-    ensures no_memory { begins_with_id ids.now ≡ false →
+    ensures no_alloc { begins_with_id ids.now ≡ false →
         Answers ids_of result (message_ids ids.now) }
 {
     let mut found = Vec::new(alloc);
@@ -115,7 +145,7 @@ pub fn msgidparse(alloc: Global, ids: &str) -> Result<MessageIdList, MailParseEr
     Ok(MessageIdList(found))
 }
 
-/// The id that a text begins with, after white, and the text after its `>`; `None` where no `>` is
+/// The id that a text begins with, after whitespace, and the text after its `>`; `None` where no `>` is
 /// left.
 fn next_id(text: &str) -> Result<Option<(&str, &str)>, MailParseError>
     ensures { MatchResult result (λ found. IsNextIdOrNone text.now found)
@@ -138,14 +168,14 @@ fn cut_at_closing(text: &str) -> Option<(&str, &str)>
     text.split_once('>')
 }
 
-/// What stands after white and a `<` at the front of a text, if these stand there.
+/// What stands after whitespace and a `<` at the front of a text, if these stand there.
 fn opened_id(text: &str) -> Option<&str>
     ensures { MatchOption result (opens_id text.now ≡ false) (λ id. IsOpenedId text.now id.now) }
 {
     text.trim_start().strip_prefix('<')
 }
 
-/// Refuses what stands after the last `>`, if it is not white.
+/// Refuses what stands after the last `>`, if it is not whitespace.
 fn check_end(text: &str) -> Result<(), MailParseError>
     ensures { Answers (λ _. []) result (ids_at_end text.now) }
 {

@@ -1,33 +1,30 @@
 //! The parameters of a value (RFC 2045, section 5.1; RFC 2231, sections 3 and 4).
-ghost use Rattle.std.specs.Prelude.{◌≡◌, IfErr, IfOk, string_bytes};
+ghost use Rattle.std.specs.Prelude.{◌≡◌, IfOk, string_bytes};
 ghost use Rattle.std.specs.Str.{str_to_ascii_lowercase};
 ghost use Rattle.mailparse.specs.Continuations.{parameters_of};
-ghost use Rattle.mailparse.specs.Outcome.{IsMemory};
 ghost use Rattle.mailparse.specs.Pairs.{HasTexts, pairs_of, value_of};
 
 mod continuations;
+mod extended_values;
 mod pairs;
-mod parts;
-mod pieces;
-mod starred;
+mod sections;
+mod segments;
 
-use crate::error::MailParseError;
 use continuations::resolve;
 use pairs::pairs;
-use pieces::cut_piece;
+use segments::cut_segment;
 use std::alloc::{AllocError, Global};
 use std::collections::BTreeMap;
 
-/// The value of a text, without white around it, and its parameters by name.
+/// The value of a text, without whitespace around it, and its parameters by name.
 pub(crate) fn parameters(
     alloc: Global,
     text: &str,
-) -> Result<(&str, BTreeMap<String, String>), MailParseError>
+) -> Result<(&str, BTreeMap<String, String>), AllocError>
     ensures value { IfOk result (λ found. found.0.now ≡ value_of text.now) }
     ensures params { IfOk result (λ found. HasTexts found.1 (parameters_of (pairs_of text.now))) }
-    ensures fault { IfErr result IsMemory }
 {
-    let (value, rest) = cut_piece(text);
+    let (value, rest) = cut_segment(text);
     let pairs = pairs(alloc, rest)?;
     Ok((value.trim(), resolve(alloc, pairs)?))
 }

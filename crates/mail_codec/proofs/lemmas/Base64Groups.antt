@@ -119,24 +119,24 @@ pub length-without_ends : (absent : RunEnd) (xs : List ℕ) → length (without_
 length-without_ends absent xs =
     omega (arith, length-filter (λ b. not (ends_run absent b)) xs, count_by-le-length (λ b. not (ends_run absent b)) xs)
 
--- no line end is left where no white is
+-- no line end is left where no whitespace is
 kept_of : (b : ℕ) → is_ascii_whitespace b ≡ false → is_kept b ≡ true
 kept_of b h =
     let no_13 : b ≢ 13 = λ (e : b ≡ 13). let bad : is_ascii_whitespace 13 ≡ false = rw e at h in cc bad in
     let no_10 : b ≢ 10 = λ (e : b ≡ 10). let bad : is_ascii_whitespace 10 ≡ false = rw e at h in cc bad in
     rw (ne_eqb b 13 no_13, ne_eqb b 10 no_10) refl
 
-without_line_ends-white : (xs : List ℕ) → without_line_ends (without_ascii_whitespace xs) ≡ without_ascii_whitespace xs
-without_line_ends-white [] = refl
-without_line_ends-white (x ∷ xs) = elim (cases_Bool (is_ascii_whitespace x)) [
-  | inl white ↦ rw white (without_line_ends-white xs)
-  | inr other ↦ rw (other, kept_of x other) (ap (λ (r : List ℕ). x ∷ r) (without_line_ends-white xs))
+without_line_ends-whitespace : (xs : List ℕ) → without_line_ends (without_ascii_whitespace xs) ≡ without_ascii_whitespace xs
+without_line_ends-whitespace [] = refl
+without_line_ends-whitespace (x ∷ xs) = elim (cases_Bool (is_ascii_whitespace x)) [
+  | inl found ↦ rw found (without_line_ends-whitespace xs)
+  | inr other ↦ rw (other, kept_of x other) (ap (λ (r : List ℕ). x ∷ r) (without_line_ends-whitespace xs))
 ]
 
--- so a body without its white is read in groups at once
-pub base64_without_white : (body : List ℕ) → base64 (without_ascii_whitespace body) ≡ groups_from 0 (without_ascii_whitespace body)
+-- so a body without its whitespace is read in groups at once
+pub base64_without_whitespace : (body : List ℕ) → base64 (without_ascii_whitespace body) ≡ groups_from 0 (without_ascii_whitespace body)
 unfolding base64
-base64_without_white body = ap (groups_from 0) (without_line_ends-white body)
+base64_without_whitespace body = ap (groups_from 0) (without_line_ends-whitespace body)
 
 -- ---- windows of a text
 

@@ -8,8 +8,9 @@ use Rattle.std.proofs.lemmas.Bool.{cases_Bool}
 use Rattle.std.proofs.lemmas.List.{append-nil, append_assoc, drop-drop, take_all, length-drop}
 use Rattle.std.proofs.lemmas.List.Splits.{slice_split_none, slice_split_first}
 use Rattle.std.proofs.lemmas.List.Sums.{fails_before_first}
+use Rattle.mail_codec.specs.Ascii.{is_blank}
 use Rattle.mail_codec.specs.Places.{first_place, begins, trimmed_at_end}
-use Rattle.mail_codec.specs.QuotedPrintable.{Line, ends_in, lf, cr_lf, is_blank, ended_line, lines_of_pieces, lines_of, line_bytes, quoted_printable, unescaped}
+use Rattle.mail_codec.specs.QuotedPrintable.{Line, ends_in, lf, cr_lf, ended_line, lines_of_pieces, lines_of, line_bytes, quoted_printable, unescaped}
 use Rattle.mail_codec.proofs.lemmas.Places.{first_place-begins}
 
 -- the last byte, as std's `strip_suffix` tests it

@@ -10,7 +10,7 @@ use Rattle.std.proofs.Math.Nat.{mul-suc}
 use Rattle.mail_codec.specs.Places.{first_place, begins, place, stands, text_place}
 use Rattle.mail_codec.specs.private.Runs.{ends_run, may_end_run}
 use Rattle.mail_codec.specs.declared.bytescan.runs.RunEnd.{RunEnd}
-use Rattle.mail_codec.specs.declared.bytescan.runs.RunEnd.TheVariants.{Byte, LineEnd, White}
+use Rattle.mail_codec.specs.declared.bytescan.runs.RunEnd.TheVariants.{Byte, LineEnd, Whitespace}
 use Rattle.std.proofs.lemmas.Bool.Decides.{nat_tests, Decides-eqb}
 use Rattle.mail_codec.specs.private.Words.{IsMask}
 use Rattle.mail_codec.proofs.lemmas.Places.{PassedTo, first_place-≤, first_place-drop, place_from_weaker, place-found}
@@ -96,7 +96,7 @@ both_zero m n e = (omega (arith, le_or_l m n), omega (arith, le_or_r m n))
 pub ends_may : (end : RunEnd) (b : ℕ) → ends_run end b ≡ true → may_end_run end b ≡ true
 ends_may (Byte wanted) b h = h
 ends_may LineEnd b h = h
-ends_may White b h = grind (arith, nat_tests)
+ends_may Whitespace b h = grind (arith, nat_tests)
 
 begins_may : (end : RunEnd) (rest : List ℕ) → begins (ends_run end) rest ≡ true → begins (may_end_run end) rest ≡ true
 begins_may end [] h = h

@@ -1,8 +1,7 @@
--- How the parts of the decoder of Base64 say what they did; this crate's own words for private
--- functions.
+-- How the private functions of the Base64 decoder say what they did; this crate's own words.
 use Rattle.std.specs.Prelude.{ℕ, List, Result, Ok, Err}
 
--- what appended bytes say: the items that are there, or the fault
-abbrev pub answer_over : Result (Unit {0}) ℕ → List ℕ → Result (List ℕ) ℕ
-answer_over (Ok done) items = Ok items
-answer_over (Err n) items = Err n
+-- the items that a list has now, or the fault
+abbrev pub items_unless_fault : Result (Unit {0}) ℕ → List ℕ → Result (List ℕ) ℕ
+items_unless_fault (Ok done) items = Ok items
+items_unless_fault (Err n) items = Err n

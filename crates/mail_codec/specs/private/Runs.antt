@@ -3,19 +3,19 @@ use Rattle.std.specs.Prelude.{◌≡◌, ℕ, suc, ◌<◌, ◌≤◌, Bool, fal
 use Rattle.std.specs.Char.{is_ascii_whitespace}
 use Rattle.mail_codec.specs.Ascii.{line_feed, carriage_return, space}
 use Rattle.mail_codec.specs.declared.bytescan.runs.RunEnd.{RunEnd}
-use Rattle.mail_codec.specs.declared.bytescan.runs.RunEnd.TheVariants.{Byte, LineEnd, White}
+use Rattle.mail_codec.specs.declared.bytescan.runs.RunEnd.TheVariants.{Byte, LineEnd, Whitespace}
 
 -- The byte ends a run.
 abbrev pub ends_run : RunEnd → ℕ → Bool
 ends_run (Byte wanted) b = b == wanted
 ends_run LineEnd b = b == carriage_return || b == line_feed
-ends_run White b = is_ascii_whitespace b
+ends_run Whitespace b = is_ascii_whitespace b
 
 -- The byte passes the test that a word's bytes take at once: each byte that ends a run does.
 abbrev pub may_end_run : RunEnd → ℕ → Bool
 may_end_run (Byte wanted) b = b == wanted
 may_end_run LineEnd b = b == carriage_return || b == line_feed
-may_end_run White b = nat_lt b (suc space)
+may_end_run Whitespace b = nat_lt b (suc space)
 
 -- No run ends from one place up to another.
 abbrev pub NoneEnds : RunEnd → List ℕ → ℕ → ℕ → Type 0

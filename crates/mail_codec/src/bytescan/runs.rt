@@ -19,8 +19,8 @@ pub(crate) enum RunEnd {
     Byte(u8),
     /// CR and LF.
     LineEnd,
-    /// ASCII white space: space, tab, LF, FF and CR.
-    White,
+    /// ASCII whitespace: space, tab, LF, FF and CR.
+    Whitespace,
 }
 
 impl RunEnd {
@@ -32,7 +32,7 @@ impl RunEnd {
         match self {
             RunEnd::Byte(wanted) => byte == wanted,
             RunEnd::LineEnd => byte == b'\r' || byte == b'\n',
-            RunEnd::White => byte.is_ascii_whitespace(),
+            RunEnd::Whitespace => byte.is_ascii_whitespace(),
         }
     }
 
@@ -45,7 +45,7 @@ impl RunEnd {
         match self {
             RunEnd::Byte(wanted) => byte == wanted,
             RunEnd::LineEnd => byte == b'\r' || byte == b'\n',
-            RunEnd::White => byte <= b' ',
+            RunEnd::Whitespace => byte <= b' ',
         }
     }
 
@@ -57,7 +57,7 @@ impl RunEnd {
         match self {
             RunEnd::Byte(wanted) => equal_mask(bytes, wanted),
             RunEnd::LineEnd => either_mask(bytes, b'\r', b'\n'),
-            RunEnd::White => space_mask(bytes),
+            RunEnd::Whitespace => space_mask(bytes),
         }
     }
 }
@@ -83,7 +83,7 @@ pub(crate) fn push_runs(kept: &mut Vec<u8>, bytes: &[u8], end: RunEnd) -> Result
 }
 
 /// Appends the runs that end within the word at place `at`, the first of which starts at `from`.
-/// Each byte that is marked is tested again. Answers where the run starts that does not end there.
+/// Each byte that is marked is tested again. Returns where the run starts that does not end there.
 #[inline(always)]
 fn push_marked(
     kept: &mut Vec<u8>,
@@ -97,7 +97,7 @@ fn push_marked(
     requires start { from ≤ at }
     requires free { NoneEnds end bytes.now from at }
     requires marked { IsMask (may_end_run end) (take 8 (drop at bytes.now)) marks }
-    ensures next { IfOk result (λ next. next ≤ at + 8) }
+    ensures bounds { IfOk result (λ next. next ≤ at + 8) }
     ensures free { IfOk result (λ next. NoneEnds end bytes.now next (at + 8)) }
     ensures kept { IfOk result (λ next. kept.new.items ++ without_ends end (drop next bytes.now)
         ≡ kept.old.items ++ without_ends end (drop from bytes.now)) }
@@ -147,7 +147,7 @@ fn push_tail(
 #[inline(always)]
 pub(crate) fn run_len(bytes: &[u8], end: RunEnd) -> usize
     ensures least { result ≡ first_place (begins (ends_run end)) bytes.now }
-    ensures within { result ≤ length bytes.now }
+    ensures bounds { result ≤ length bytes.now }
 {
     let mut at = 0;
     'ends: while at < bytes.len() {
@@ -168,7 +168,7 @@ pub(crate) fn run_len(bytes: &[u8], end: RunEnd) -> usize
 #[inline(always)]
 pub(crate) fn may_end_len(bytes: &[u8], end: RunEnd) -> usize
     ensures least { result ≡ first_place (begins (may_end_run end)) bytes.now }
-    ensures within { result ≤ length bytes.now }
+    ensures bounds { result ≤ length bytes.now }
 {
     if let Some(word) = bytes.first_chunk::<8>() {
         let mask = end.mask(word);
@@ -183,7 +183,7 @@ pub(crate) fn may_end_len(bytes: &[u8], end: RunEnd) -> usize
 /// The length of the steps at the front that hold no byte that may end a run.
 #[inline(always)]
 fn free_len(bytes: &[u8], end: RunEnd) -> usize
-    ensures within { result ≤ length bytes.now }
+    ensures bounds { result ≤ length bytes.now }
     ensures free { first_place (begins (may_end_run end)) bytes.now
         ≡ result + first_place (begins (may_end_run end)) (drop result bytes.now) }
 {
@@ -216,7 +216,7 @@ fn may_hold_end(step: &[u8; STEP], end: RunEnd) -> bool
 #[inline(always)]
 fn near_len(bytes: &[u8], end: RunEnd) -> usize
     ensures least { result ≡ first_place (begins (may_end_run end)) bytes.now }
-    ensures within { result ≤ length bytes.now }
+    ensures bounds { result ≤ length bytes.now }
 {
     let (words, tail) = bytes.as_chunks::<8>();
     let mut at = 0;
@@ -234,7 +234,7 @@ fn near_len(bytes: &[u8], end: RunEnd) -> usize
 #[inline(always)]
 fn tail_len(tail: &[u8], end: RunEnd) -> usize
     ensures least { result ≡ first_place (begins (may_end_run end)) tail.now }
-    ensures within { result ≤ length tail.now }
+    ensures bounds { result ≤ length tail.now }
 {
     for (place, byte) in tail.iter().enumerate() {
         if end.may_be_met_by(*byte) {

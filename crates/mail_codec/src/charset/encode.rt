@@ -2,7 +2,7 @@
 ghost use Rattle.std.specs.Prelude.{◌≡◌, ◌+◌, ◌≤◌, ◌++◌, length, take, encode_utf8};
 ghost use Rattle.std.specs.Char.{IsScalar};
 
-/// Writes the character at `at`, and answers where it ends.
+/// Writes the character at `at`, and returns where it ends.
 ///
 /// Written by hand, since `char::encode_utf8` promises what text it lends, but not what the buffer
 /// holds afterwards.
@@ -10,7 +10,7 @@ pub(crate) fn put_char(buffer: &mut [u8], at: usize, character: char) -> usize
     requires { at + 4 ≤ length buffer.old }
     ensures written { take result buffer.new ≡ take at buffer.old ++ encode_utf8 character }
     ensures length { result ≡ at + length (encode_utf8 character) }
-    ensures within { result ≤ at + 4 }
+    ensures bounds { result ≤ at + 4 }
     ensures scalar { IsScalar character }
 {
     let code = character as u32;

@@ -76,10 +76,10 @@ pub(crate) fn decode<'a>(
     high: &HighHalf,
     bytes: &'a [u8],
 ) -> Result<CowStr<'a>, AllocError>
-    ensures text { IfOk result
+    ensures read { IfOk result
         (λ t. cow_str_bytes t ≡ encode_utf8_all (map (single_byte_char high.now) bytes.now)) }
     ensures borrowed { IfOk result (λ t. IsBorrowedStr t ↔ IsAscii bytes.now) }
-    ensures no_memory { IsAscii bytes.now → IsOk result }
+    ensures no_alloc { IsAscii bytes.now → IsOk result }
 {
     if bytes.is_ascii() {
         // SAFETY: ASCII is UTF-8.
@@ -114,13 +114,13 @@ fn push_text(text: &mut String, high: &HighHalf, bytes: &[u8]) -> Result<(), All
     Ok(())
 }
 
-/// Writes the text of the bytes to the front of the buffer, and answers its length.
+/// Writes the text of the bytes to the front of the buffer, and returns its length.
 fn encode_block(buffer: &mut [u8], high: &HighHalf, bytes: &[u8]) -> usize
     requires { 4 * length bytes.now ≤ length buffer.old }
-    ensures text { take result buffer.new
+    ensures written { take result buffer.new
         ≡ encode_utf8_all (map (single_byte_char high.now) bytes.now) }
     ensures utf8 { IsUtf8 (take result buffer.new) }
-    ensures within { result ≤ length buffer.old }
+    ensures bounds { result ≤ length buffer.old }
 {
     let mut at = 0;
     for byte in bytes {
@@ -142,7 +142,7 @@ fn character(high: &HighHalf, byte: u8) -> char
 
 /// How many bytes the whole blocks at the front have that are all ASCII.
 fn ascii_blocks_length(bytes: &[u8]) -> usize
-    ensures within { result ≤ length bytes.now }
+    ensures bounds { result ≤ length bytes.now }
     ensures ascii { IsAscii (take result bytes.now) }
 {
     let mut at = 0;

@@ -2,7 +2,7 @@
 ghost use Rattle.std.specs.Prelude.{◌≡◌, ◌<◌, ◌≤◌, ◌∷◌, ◌++◌, length, take, drop, IsUtf8, if◌then◌else◌, IsTrue, IfOk, encode_utf8_all, string_bytes};
 ghost use Rattle.std.specs.Char.Utf16.{is_high_surrogate, is_low_surrogate, surrogate_pair_char};
 ghost use Rattle.mail_codec.specs.Charset.{utf_16_chars};
-ghost use Rattle.mail_codec.specs.private.ByteOrder.{unit_of};
+ghost use Rattle.mail_codec.specs.private.Utf16.{unit_of};
 
 use super::encode::put_char;
 use std::alloc::{AllocError, Global};
@@ -49,18 +49,18 @@ pub(crate) fn decode(alloc: Global, order: ByteOrder, bytes: &[u8]) -> Result<St
     Ok(text)
 }
 
-/// Writes as many characters as there is room for, and answers how many bytes were read and
+/// Writes as many characters as there is room for, and returns how many bytes were read and
 /// written.
 fn encode_front(buffer: &mut [u8], order: ByteOrder, bytes: &[u8]) -> (usize, usize)
     requires room { 4 ≤ length buffer.old }
     requires some { 0 < length bytes.now }
-    ensures text { encode_utf8_all (utf_16_chars (unit_of order) bytes.now)
+    ensures written { encode_utf8_all (utf_16_chars (unit_of order) bytes.now)
         ≡ take result.1 buffer.new
         ++ encode_utf8_all (utf_16_chars (unit_of order) (drop result.0 bytes.now)) }
     ensures utf8 { IsUtf8 (take result.1 buffer.new) }
     ensures takes_some { 0 < result.0 }
     ensures takes_within { result.0 ≤ length bytes.now }
-    ensures within { result.1 ≤ length buffer.old }
+    ensures bounds { result.1 ≤ length buffer.old }
 {
     let mut taken = 0;
     let mut at = 0;

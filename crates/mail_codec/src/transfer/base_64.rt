@@ -2,7 +2,7 @@
 ghost use Rattle.std.specs.Prelude.{◌≡◌, ◌+◌, ◌*◌, ◌/◌, ◌%◌, ◌^◌, ◌<◌, ◌≤◌, ◌≢◌, ◌++◌, length, drop, vec_len, IfOk, OnOk, option_map, if◌then◌else◌};
 ghost use Rattle.mail_codec.specs.Ascii.{equals_sign};
 ghost use Rattle.mail_codec.specs.Base64.{base64, bytes_of_values, group_bytes, groups_from, items_or_fault, letter_value, prepend};
-ghost use Rattle.mail_codec.specs.private.Base64.{answer_over};
+ghost use Rattle.mail_codec.specs.private.Base64.{items_unless_fault};
 ghost use Rattle.mail_codec.specs.Places.{without_ascii_whitespace};
 ghost use Rattle.mail_codec.specs.private.Runs.{without_ends};
 
@@ -17,32 +17,57 @@ use std::alloc::{AllocError, Global};
 /// How many bytes of a Base64 text are read at a time.
 const WINDOW: usize = 4096;
 
-/// The bytes that a Base64 text stands for (RFC 4648, section 4). CR and LF count as absent
-/// wherever they stand, groups with padding may stand anywhere, and bits that make no whole byte
-/// are ignored.
+/// Returns the bytes that a Base64 text stands for (RFC 4648, section 4).
 ///
-/// The inner error is the index, from 0, of the first invalid group of four; a short last group is
-/// invalid. The outer error comes where memory runs out: the answer takes memory, which is reserved
-/// at once, and so do a few kilobytes of letters on the way.
+/// CR and LF count as absent wherever they stand, groups with padding may stand anywhere, and bits
+/// that make no whole byte are ignored. Takes memory for the bytes, which is reserved at once, and a
+/// few kilobytes for letters on the way.
 ///
-/// `decode_base64(alloc, b"aG\r\nk=")` is the bytes `hi`; of `aGk=a` the inner error is 1.
+/// # Errors
+///
+/// The inner error is the index, counted from 0, of the first invalid group of four; a short last
+/// group is invalid. The outer error comes where it runs out of memory.
+///
+/// # Examples
+///
+/// ```rust
+/// use mail_codec::transfer::decode_base64;
+///
+/// let bytes = decode_base64(alloc, b"aG\r\nk=")?.ok().ok_or("an invalid group")?;
+/// assert_eq!(rt; bytes.as_slice(), b"hi".as_slice());
+/// assert_eq!(rt; decode_base64(alloc, b"aGk=a")?.err(), Some(1));
+/// ```
 #[tactic(auto, unfolding(crate::specs::Base64::base64))]
 pub fn decode_base64(alloc: Global, text: &[u8]) -> Result<Result<Vec<u8>, usize>, AllocError>
-    ensures { IfOk result (λ answer. items_or_fault answer ≡ base64 text.now) }
+    ensures { IfOk result (λ decoded. items_or_fault decoded ≡ base64 text.now) }
 {
     decode_base64_without(alloc, text, RunEnd::LineEnd)
 }
 
-/// The bytes that a Base64 body stands for (RFC 2045, section 6.8), in which all ASCII white space
-/// counts as absent: space, tab, LF, FF and CR, but not 0x0B. Errors and memory are as for
-/// `decode_base64`; no copy of the body is made.
+/// Returns the bytes that a Base64 body stands for (RFC 2045, section 6.8).
 ///
-/// `decode_base64_body(alloc, b"aG k=")` is the bytes `hi`.
+/// All ASCII whitespace counts as absent: space, tab, LF, FF and CR, but not the vertical tab
+/// (0x0B). Otherwise it reads as `decode_base64` does, and takes memory as that does: no copy of the
+/// body is made.
+///
+/// # Errors
+///
+/// The inner error is the index, counted from 0, of the first invalid group of four; a short last
+/// group is invalid. The outer error comes where it runs out of memory.
+///
+/// # Examples
+///
+/// ```rust
+/// use mail_codec::transfer::decode_base64_body;
+///
+/// let bytes = decode_base64_body(alloc, b"aG k=")?.ok().ok_or("an invalid group")?;
+/// assert_eq!(rt; bytes.as_slice(), b"hi".as_slice());
+/// ```
 pub fn decode_base64_body(alloc: Global, body: &[u8]) -> Result<Result<Vec<u8>, usize>, AllocError>
     ensures { IfOk result
-        (λ answer. items_or_fault answer ≡ base64 (without_ascii_whitespace body.now)) }
+        (λ decoded. items_or_fault decoded ≡ base64 (without_ascii_whitespace body.now)) }
 {
-    decode_base64_without(alloc, body, RunEnd::White)
+    decode_base64_without(alloc, body, RunEnd::Whitespace)
 }
 
 /// The bytes of the groups of a text without what counts as absent, a window of the text at a time.
@@ -53,7 +78,7 @@ fn decode_base64_without(
     absent: RunEnd,
 ) -> Result<Result<Vec<u8>, usize>, AllocError>
     ensures { IfOk result
-        (λ answer. items_or_fault answer ≡ groups_from 0 (without_ends absent text.now)) }
+        (λ decoded. items_or_fault decoded ≡ groups_from 0 (without_ends absent text.now)) }
 {
     let mut bytes = Vec::with_capacity(alloc, text.len() / 4 * 3)?;
     let mut letters = Vec::with_capacity(alloc, text.len().min(WINDOW + 3))?;
@@ -90,7 +115,7 @@ fn keep_from(letters: &mut Vec<u8>, at: usize)
     letters.truncate(left);
 }
 
-/// Appends the bytes of whole groups, of which the first has index `first`, or answers the index
+/// Appends the bytes of whole groups, of which the first has index `first`, or returns the index
 /// of the first invalid one. `full` and `decoded` are lent to be written over.
 fn decode_groups(
     bytes: &mut Vec<u8>,
@@ -100,9 +125,9 @@ fn decode_groups(
     decoded: &mut Vec<u8>,
 ) -> Result<Result<(), usize>, AllocError>
     requires whole { length letters.now % 4 ≡ 0 }
-    requires few { first + length letters.now / 4 < 2 ^ 64 }
-    ensures { IfOk result (λ answer. prepend bytes.old.items (groups_from first letters.now)
-        ≡ answer_over answer bytes.new.items) }
+    requires fits { first + length letters.now / 4 < 2 ^ 64 }
+    ensures { IfOk result (λ done. prepend bytes.old.items (groups_from first letters.now)
+        ≡ items_unless_fault done bytes.new.items) }
 {
     match STANDARD.decode_vec(letters, bytes) {
         Ok(()) => Ok(Ok(())),
@@ -123,9 +148,9 @@ fn decode_each_group(
     first: usize,
 ) -> Result<Result<(), usize>, AllocError>
     requires whole { length letters.now % 4 ≡ 0 }
-    requires few { first + length letters.now / 4 < 2 ^ 64 }
-    ensures { IfOk result (λ answer. prepend bytes.old.items (groups_from first letters.now)
-        ≡ answer_over answer bytes.new.items) }
+    requires fits { first + length letters.now / 4 < 2 ^ 64 }
+    ensures { IfOk result (λ done. prepend bytes.old.items (groups_from first letters.now)
+        ≡ items_unless_fault done bytes.new.items) }
 {
     'groups: for number in 0..letters.len() / 4 {
         let at = 4 * number;
@@ -142,7 +167,7 @@ fn decode_each_group(
     Ok(Ok(()))
 }
 
-/// Appends the bytes of a group and answers true, or answers false where it is invalid. The missing
+/// Appends the bytes of a group and returns true, or returns false where it is invalid. The missing
 /// letters of a group with padding are filled up with `A`, whose value is 0, and their bytes cut
 /// off.
 fn push_group(bytes: &mut Vec<u8>, p: u8, q: u8, r: u8, s: u8) -> Result<bool, AllocError>
@@ -154,7 +179,7 @@ fn push_group(bytes: &mut Vec<u8>, p: u8, q: u8, r: u8, s: u8) -> Result<bool, A
     push_bytes(bytes, p, q, third, fourth, group_len(r, s))
 }
 
-/// Appends the first `len` bytes of four letters and answers true, or answers false where not all
+/// Appends the first `len` bytes of four letters and returns true, or returns false where not all
 /// four are letters.
 fn push_bytes(
     bytes: &mut Vec<u8>,

@@ -1,9 +1,9 @@
 //! Quoted-printable, over bytes (RFC 2045, section 6.7).
 ghost use Rattle.std.specs.Prelude.{◌≡◌, ◌==◌, ◌+◌, ◌<◌, ◌≤◌, ◌-◌, length, take, drop, slice_index, IfOk, OnSome, IfSome};
 ghost use Rattle.std.specs.List.{suffix_len};
-ghost use Rattle.mail_codec.specs.Ascii.{equals_sign};
+ghost use Rattle.mail_codec.specs.Ascii.{equals_sign, is_blank};
 ghost use Rattle.mail_codec.specs.Places.{begins, first_place};
-ghost use Rattle.mail_codec.specs.QuotedPrintable.{digit_value, ended_line, first_escape, is_blank, line_bytes, quoted_printable, unescaped};
+ghost use Rattle.mail_codec.specs.QuotedPrintable.{digit_value, ended_line, first_escape, line_bytes, quoted_printable, unescaped};
 
 use crate::bytescan::runs::{RunEnd, run_len};
 use crate::bytescan::words::{equal_mask, first_marked};
@@ -32,14 +32,25 @@ static DIGIT_VALUES: [u8; 256] = [
     0xFF, 0xFF, 0xFF, 0xFF, 0xFF, 0xFF, 0xFF, 0xFF, 0xFF, 0xFF, 0xFF, 0xFF, 0xFF, 0xFF, 0xFF, 0xFF,
 ];
 
-/// The bytes that a quoted-printable text stands for (RFC 2045, section 6.7). Of each line the
-/// spaces and tabs at its end go, then a final `=` together with the line end, which is LF or CR
-/// LF; then each `=` with two hexadecimal digits of either case, from the left, is one byte. Every
-/// other byte stays, so no text is refused.
+/// Returns the bytes that a quoted-printable text stands for (RFC 2045, section 6.7).
 ///
-/// The error comes where memory runs out: the answer takes memory, which is reserved at once.
+/// Of each line the spaces and tabs at its end go, then a final `=` together with the line end,
+/// which is LF or CR LF; then each `=` with two hexadecimal digits of either case, from the left, is
+/// one byte. Every other byte stays, so no text is refused. Takes memory for the bytes, which is
+/// reserved at once.
 ///
-/// `decode_quoted_printable(alloc, b"caf=C3=A9=\r\n!")` is the bytes of `café!`.
+/// # Errors
+///
+/// Where it runs out of memory.
+///
+/// # Examples
+///
+/// ```rust
+/// use mail_codec::transfer::decode_quoted_printable;
+///
+/// let bytes = decode_quoted_printable(alloc, b"caf=C3=A9=\r\n!  \n")?;
+/// assert_eq!(rt; bytes.as_slice(), "café!\n".as_bytes());
+/// ```
 pub fn decode_quoted_printable(alloc: Global, text: &[u8]) -> Result<Vec<u8>, AllocError>
     ensures { IfOk result (λ bytes. bytes.items ≡ quoted_printable text.now) }
 {
@@ -49,8 +60,8 @@ pub fn decode_quoted_printable(alloc: Global, text: &[u8]) -> Result<Vec<u8>, Al
     Ok(bytes)
 }
 
-/// Writes the bytes that a text stands for at the front, and answers how many they are. Here and
-/// below, what stands after them may be written over: they are at most as many as they are read of.
+/// Writes the bytes that a text stands for at the front of `output`, and returns how many they are.
+/// Here and below, the bytes after them may be overwritten: no more are written than are read.
 fn put_lines(output: &mut [u8], text: &[u8]) -> usize
     requires room { length text.now ≤ length output.old }
     ensures { take result output.new ≡ quoted_printable text.now }
@@ -72,7 +83,7 @@ fn put_lines(output: &mut [u8], text: &[u8]) -> usize
 fn put_ended_line(output: &mut [u8], piece: &[u8]) -> usize
     requires room { length piece.now < length output.old }
     ensures written { take result output.new ≡ line_bytes (ended_line piece.now) }
-    ensures within { result ≤ length piece.now + 1 }
+    ensures bounds { result ≤ length piece.now + 1 }
 {
     if let Some(content) = piece.strip_suffix(b"\r") {
         return put_line(output, content, b"\r\n");
@@ -86,7 +97,7 @@ fn put_line(output: &mut [u8], content: &[u8], ending: &[u8]) -> usize
     requires room { length content.now + length ending.now ≤ length output.old }
     ensures written { take result output.new
         ≡ line_bytes (record { content = content.now; ending = ending.now }) }
-    ensures within { result ≤ length content.now + length ending.now }
+    ensures bounds { result ≤ length content.now + length ending.now }
 {
     let kept = &content[..trimmed_len(content)];
     match kept.strip_suffix(b"=") {
@@ -102,7 +113,7 @@ fn put_line(output: &mut [u8], content: &[u8], ending: &[u8]) -> usize
 /// How many bytes stand before the spaces and tabs at the end.
 fn trimmed_len(content: &[u8]) -> usize
     ensures len { result ≡ length content.now - suffix_len is_blank content.now }
-    ensures within { result ≤ length content.now }
+    ensures bounds { result ≤ length content.now }
 {
     match content.iter().rposition(|byte| !is_blank(*byte)) {
         Some(last) => last + 1,
@@ -121,7 +132,7 @@ fn is_blank(byte: u8) -> bool
 fn put_unescaped(output: &mut [u8], kept: &[u8]) -> usize
     requires room { length kept.now ≤ length output.old }
     ensures written { take result output.new ≡ unescaped kept.now }
-    ensures within { result ≤ length kept.now }
+    ensures bounds { result ≤ length kept.now }
 {
     let mut len = 0;
     let mut at = 0;
@@ -150,7 +161,7 @@ fn put_run(output: &mut [u8], bytes: &[u8]) -> usize
     requires room { length bytes.now ≤ length output.old }
     ensures written { take result output.new ≡ take result bytes.now }
     ensures least { result ≡ first_place (begins (λ b. b == equals_sign)) bytes.now }
-    ensures within { result ≤ length bytes.now }
+    ensures bounds { result ≤ length bytes.now }
 {
     let (words, tail) = bytes.as_chunks::<8>();
     let mut at = 0;
@@ -171,7 +182,7 @@ fn put_tail(output: &mut [u8], tail: &[u8]) -> usize
     requires room { length tail.now ≤ length output.old }
     ensures written { take result output.new ≡ take result tail.now }
     ensures least { result ≡ first_place (begins (λ b. b == equals_sign)) tail.now }
-    ensures within { result ≤ length tail.now }
+    ensures bounds { result ≤ length tail.now }
 {
     for (place, byte) in tail.iter().enumerate() {
         if *byte == b'=' {
@@ -186,8 +197,8 @@ fn put_tail(output: &mut [u8], tail: &[u8]) -> usize
 fn escape_at(kept: &[u8], at: usize) -> Option<u8>
     requires within { at < length kept.now }
     requires sign { slice_index kept.now at ≡ equals_sign }
-    ensures value { result ≡ first_escape (drop at kept.now) }
-    ensures whole { OnSome result (at + 3 ≤ length kept.now) }
+    ensures read { result ≡ first_escape (drop at kept.now) }
+    ensures bounds { OnSome result (at + 3 ≤ length kept.now) }
 {
     if kept.len() - at < 3 {
         return None;
@@ -200,8 +211,8 @@ fn escape_at(kept: &[u8], at: usize) -> Option<u8>
 /// The value of a hexadecimal digit, of either case.
 #[inline(always)]
 fn digit_value(digit: u8) -> Option<u8>
-    ensures value { result ≡ digit_value digit }
-    ensures small { IfSome result (λ value. value < 16) }
+    ensures read { result ≡ digit_value digit }
+    ensures bounds { IfSome result (λ value. value < 16) }
 {
     let value = DIGIT_VALUES[digit as usize];
     if value == NO_DIGIT {

@@ -10,10 +10,10 @@ use Rattle.std.specs.List.{All, list_all}
 use Rattle.std.specs.Str.{IsAscii, chars, encode_utf8_all, trim, trim_start, trim_end, skip_leading_whitespace, drop_trailing_whitespace, str_to_ascii_lowercase}
 use Rattle.mail_codec.specs.Ascii.{quote, semicolon}
 use Rattle.mailparse.specs.Pairs.{pair_of, pairs_of, value_of}
-use Rattle.mailparse.specs.Pieces.{outside, with_front, pieces, pieces_from, unescape}
+use Rattle.mailparse.specs.Segments.{outside, with_front, segments, segments_from, unescape}
 use Rattle.mailparse.proofs.lemmas.Pairs.{pair_of-some, pairs_in-some, pairs_of-later, value_of-first}
-use Rattle.mailparse.proofs.lemmas.Pieces.{at_other}
-use Rattle.mailparse.proofs.lemmas.Plain.{graphic_no_white}
+use Rattle.mailparse.proofs.lemmas.Segments.{at_other}
+use Rattle.mailparse.proofs.lemmas.Plain.{graphic_no_whitespace}
 use Rattle.mail_codec.specs.Charset.{Charsets}
 use Rattle.mail_laws.specs.Boundaries.{IsAlphanumeric, boundary_type, one_text}
 use Rattle.mailparse.specs.ContentType.{content_type_in, type_with}
@@ -30,20 +30,20 @@ graphic_ascii : (text : List ℕ) → Graphic text → IsAscii text
 graphic_ascii text h i =
     ⊎_elim (λ lt. omega (arith, (h i 0 lt).1)) (λ past. omega (arith, get_or_past text i 0 past)) (cases_lt i (length text))
 
-white_free : (b : ℕ) (text : List ℕ) → Graphic (b ∷ text) → is_whitespace b ≡ false
-white_free b text h =
+free_of_whitespace : (b : ℕ) (text : List ℕ) → Graphic (b ∷ text) → is_whitespace b ≡ false
+free_of_whitespace b text h =
     let first = All-head (λ b. (33 ≤ b) × (b ≤ 126)) b text h in
-    graphic_no_white b first.0 first.1
+    graphic_no_whitespace b first.0 first.1
 
 nothing_trailing : (text : List ℕ) → Graphic text → drop_trailing_whitespace text ≡ text
 nothing_trailing [] h = refl
 nothing_trailing (b ∷ text) h =
-    cond-false _ _ _ (and_left _ _ (white_free b text h))
+    cond-false _ _ _ (and_left _ _ (free_of_whitespace b text h))
     ∙ ap (λ x. b ∷ x) (nothing_trailing text (All-tail (λ b. (33 ≤ b) × (b ≤ 126)) b text h))
 
 nothing_leading : (text : List ℕ) → Graphic text → skip_leading_whitespace text ≡ text
 nothing_leading [] h = refl
-nothing_leading (b ∷ text) h = cond-false _ _ _ (white_free b text h)
+nothing_leading (b ∷ text) h = cond-false _ _ _ (free_of_whitespace b text h)
 
 -- loses nothing at either end
 pub trim-graphic : (text : List ℕ) → Graphic text → trim text ≡ text
@@ -69,11 +69,11 @@ bounds b h =
 graphic : (text : List ℕ) → IsAlphanumeric text → Graphic text
 graphic text h = λ i d lt. let at = bounds _ (h i d lt) in (omega (arith, at.0), omega (arith, at.1))
 
-one_piece : (text : List ℕ) → IsAlphanumeric text → pieces_from outside text ≡ text ∷ []
-one_piece [] h = refl
-one_piece (b ∷ text) h =
+one_segment : (text : List ℕ) → IsAlphanumeric text → segments_from outside text ≡ text ∷ []
+one_segment [] h = refl
+one_segment (b ∷ text) h =
     let first = bounds b (h 0 0 (omega arith)) in
-    at_other b text (λ e. absurd (omega (arith, first.0))) first.2 ∙ ap (with_front (b ∷ [])) (one_piece text (λ i d lt. h (suc i) d (omega arith)))
+    at_other b text (λ e. absurd (omega (arith, first.0))) first.2 ∙ ap (with_front (b ∷ [])) (one_segment text (λ i d lt. h (suc i) d (omega arith)))
 
 unescape-alphanumeric : (text : List ℕ) → IsAlphanumeric text → unescape text ≡ text
 unfolding unescape
@@ -84,7 +84,7 @@ unescape-alphanumeric (b ∷ text) h =
 
 -- ---- the whole text
 
--- a byte that neither begins a quoted run nor ends a piece
+-- a byte that neither begins a quoted run nor ends a segment
 abbrev plain : ℕ → Bool
 plain b = not (eqb b quote) && not (eqb b semicolon)
 
@@ -95,21 +95,21 @@ different b n h = go (eqb b n) refl h
     go true e h = absurd (cc)
     go false e h = eqb-false b n e
 
-pieces_after : (front rest : List ℕ) (p : List ℕ) (ps : List (List ℕ)) → list_all plain front ≡ true → pieces_from outside rest ≡ p ∷ ps
-    → pieces_from outside (front ++ rest) ≡ (front ++ p) ∷ ps
-pieces_after [] rest p ps h e = e
-pieces_after (b ∷ front) rest p ps h e =
+segments_after : (front rest : List ℕ) (p : List ℕ) (ps : List (List ℕ)) → list_all plain front ≡ true → segments_from outside rest ≡ p ∷ ps
+    → segments_from outside (front ++ rest) ≡ (front ++ p) ∷ ps
+segments_after [] rest p ps h e = e
+segments_after (b ∷ front) rest p ps h e =
     let here = and_parts (plain b) (list_all plain front) h in
     let own = and_parts (not (eqb b quote)) (not (eqb b semicolon)) here.0 in
     at_other b (front ++ rest) (different b quote own.0) (different b semicolon own.1)
-    ∙ ap (with_front (b ∷ [])) (pieces_after front rest p ps here.1 e)
+    ∙ ap (with_front (b ∷ [])) (segments_after front rest p ps here.1 e)
 
-boundary_pieces : (boundary : List ℕ) → IsAlphanumeric boundary
-    → pieces (boundary_type boundary) ≡ codes "multipart/mixed" ∷ (codes " boundary=" ++ boundary) ∷ []
-unfolding pieces
-boundary_pieces boundary h =
-    pieces_after (codes "multipart/mixed") (codes "; boundary=" ++ boundary) [] ((codes " boundary=" ++ boundary) ∷ []) refl
-    (ap (λ ps. [] ∷ ps) (pieces_after (codes " boundary=") boundary boundary [] refl (one_piece boundary h)))
+boundary_segments : (boundary : List ℕ) → IsAlphanumeric boundary
+    → segments (boundary_type boundary) ≡ codes "multipart/mixed" ∷ (codes " boundary=" ++ boundary) ∷ []
+unfolding segments
+boundary_segments boundary h =
+    segments_after (codes "multipart/mixed") (codes "; boundary=" ++ boundary) [] ((codes " boundary=" ++ boundary) ∷ []) refl
+    (ap (λ ps. [] ∷ ps) (segments_after (codes " boundary=") boundary boundary [] refl (one_segment boundary h)))
 
 trim_key : trim (codes " boundary") ≡ codes "boundary"
 unfolding trim_start trim_end chars encode
@@ -129,11 +129,11 @@ boundary_pair boundary h =
 
 pub boundary_value : (boundary : List ℕ) → IsAlphanumeric boundary → value_of (boundary_type boundary) ≡ codes "multipart/mixed"
 boundary_value boundary h =
-    value_of-first (boundary_type boundary) (codes "multipart/mixed") _ (boundary_pieces boundary h) ∙ trim_value
+    value_of-first (boundary_type boundary) (codes "multipart/mixed") _ (boundary_segments boundary h) ∙ trim_value
 
 pub boundary_pairs : (boundary : List ℕ) → IsAlphanumeric boundary → pairs_of (boundary_type boundary) ≡ (codes "boundary", boundary) ∷ []
 boundary_pairs boundary h =
-    pairs_of-later (boundary_type boundary) (codes "multipart/mixed") _ (boundary_pieces boundary h)
+    pairs_of-later (boundary_type boundary) (codes "multipart/mixed") _ (boundary_segments boundary h)
     ∙ pairs_in-some (codes " boundary=" ++ boundary) [] (codes "boundary") boundary (boundary_pair boundary h)
 
 -- ---- its type

@@ -4,7 +4,7 @@ use Rattle.std.proofs.lemmas.Bool.{cond-true, cond-false}
 use Rattle.std.specs.List.{filter, range_with_len}
 use Rattle.mail_codec.specs.Ascii.{backslash}
 use Rattle.mail_codec.specs.Places.{begins}
-use Rattle.mailparse.specs.Pieces.{is_odd, without_escapes}
+use Rattle.mailparse.specs.Segments.{is_odd, without_escapes}
 use Rattle.mail_laws.specs.Escapes.{backslashes_before, stays, staying}
 
 -- one character more

@@ -33,11 +33,11 @@ read_opened piece rest free opens = read_piece piece rest free ∙ ap (λ t. con
 read_not_opened : (piece rest : List ℕ) → HoldsNoClosing piece → opens_id piece ≡ false → message_ids (piece ++ 62 ∷ rest) ≡ Err id_not_opened
 read_not_opened piece rest free shut = read_piece piece rest free ∙ ap (λ t. cond t (with_id (id_of_piece piece) (message_ids rest)) (Err id_not_opened)) shut
 
-at_end_white : (text : List ℕ) → trim_start text ≡ [] → ids_at_end text ≡ Ok []
-at_end_white text white = ap (λ (t : List ℕ). cond (is_empty t) (Ok []) (cond (stands (60 ∷ []) t) (Err id_not_closed) (Err id_not_opened))) white
+at_end_whitespace : (text : List ℕ) → trim_start text ≡ [] → ids_at_end text ≡ Ok []
+at_end_whitespace text whitespace = ap (λ (t : List ℕ). cond (is_empty t) (Ok []) (cond (stands (60 ∷ []) t) (Err id_not_closed) (Err id_not_opened))) whitespace
 
 pub form_is_read : {text : List ℕ} {ids : List (List ℕ)} → AreIds text ids → message_ids text ≡ Ok ids
-form_is_read {text = text} (no_ids free white) = read_last text free ∙ at_end_white text white
+form_is_read {text = text} (no_ids free whitespace) = read_last text free ∙ at_end_whitespace text whitespace
 form_is_read {text = text} (one_more opened id rest {ids = ids} cut free trimmed others) =
     let opens : opens_id opened ≡ true = ap (stands (60 ∷ [])) trimmed in
     let is : id_of_piece opened ≡ id = ap (drop 1) trimmed in
@@ -97,15 +97,15 @@ opened_is (b ∷ t) h = go (eqb 60 b) refl
 
 -- the text without `>` that is left
 form-last : (text : List ℕ) → HoldsNoClosing text → Form text
-form-last text free = by_white (trim_start text) refl
+form-last text free = by_whitespace (trim_start text) refl
   where
     by_open : (v : Bool) → opens_id text ≡ v → trim_start text ≢ [] → Form text
     by_open true e some = inr (id_not_closed, not_closed free e)
     by_open false e some = inr (id_not_opened, not_opened free some e)
 
-    by_white : (t : List ℕ) → trim_start text ≡ t → Form text
-    by_white [] e = inl ([], no_ids free e)
-    by_white (b ∷ t) e = by_open (opens_id text) refl (λ none. absurd (differ (sym e ∙ none)))
+    by_whitespace : (t : List ℕ) → trim_start text ≡ t → Form text
+    by_whitespace [] e = inl ([], no_ids free e)
+    by_whitespace (b ∷ t) e = by_open (opens_id text) refl (λ none. absurd (differ (sym e ∙ none)))
       where
         differ : b ∷ t ≡ [] → ⊥
         differ f = cc

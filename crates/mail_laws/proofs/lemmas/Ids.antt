@@ -14,7 +14,7 @@ use Rattle.mailparse.proofs.lemmas.EncodedWord.{any_from_place}
 use Rattle.mailparse.proofs.lemmas.MessageIds.{pieces_step}
 use Rattle.mail_laws.specs.Ids.{HoldsNoClosing}
 
--- a `<` in front is not white, and a space before it goes
+-- a `<` in front is not whitespace, and a space before it goes
 encoded_after : (b : ℕ) (cs : List ℕ) (id : List ℕ) → b < 128 → encode_utf8_all cs ≡ id → encode_utf8_all (b ∷ cs) ≡ b ∷ id
 encoded_after b cs id lt e = ap (λ front. front ++ encode_utf8_all cs) (encode_ascii b lt) ∙ ap (λ r. b ∷ r) e
 

@@ -8,10 +8,11 @@ use Rattle.std.specs.Map.{update, update_all}
 use Rattle.std.specs.Option.{is_some, option_map, option_or, option_map_or}
 use Rattle.std.specs.Str.{bytes_eq}
 use Rattle.mail_codec.specs.Charset.{Charsets}
-use Rattle.mailparse.specs.Continuations.{text, octets, alone, is_star, numbered, is_first_of, is_base, is_used, parts_of, piece_name, joined, joined_at, names_of, has_left, part_at, parameters_in}
+use Rattle.mailparse.specs.Continuations.{is_first_of, is_base, is_used, sections_of, joined, joined_at, names_of, parameters_in}
+use Rattle.mailparse.specs.ExtendedValues.{has_left, section_at, starred, is_starred, name_under, is_extended, octets_of, reading_of}
+use Rattle.mailparse.specs.Sections.{text, octets, alone, is_star, numbered, section_name}
 use Rattle.mailparse.specs.Pairs.{Texts, no_texts, last_of}
 use Rattle.mail_laws.specs.StarFree.{AreStarFree}
-use Rattle.mailparse.specs.StarredKeys.{starred, is_starred, name_under, is_waiting, octets_of, reading_of}
 
 abbrev has_star : List ℕ → Bool
 has_star name = list_any is_star name
@@ -49,16 +50,16 @@ module _ (known : Charsets) (pairs : List (List ℕ × List ℕ)) (free : AreSta
   keys : Texts
   keys = last_of pairs
 
-  none_waits : (name : List ℕ) → is_waiting (last_of pairs) name ≡ false
-  none_waits name = ap (λ t. is_some t && not (is_some (last_of pairs name))) (none_starred pairs (starred name) free (starred_has name))
+  none_extended : (name : List ℕ) → is_extended (last_of pairs) name ≡ false
+  none_extended name = ap (λ t. is_some t && not (is_some (last_of pairs name))) (none_starred pairs (starred name) free (starred_has name))
 
   none_reads : (name : List ℕ) → reading_of known (last_of pairs) name ≡ None
   unfolding reading_of
-  none_reads name = cond-false _ _ _ (none_waits name)
+  none_reads name = cond-false _ _ _ (none_extended name)
 
-  part_is : (name : List ℕ) → part_at known (last_of pairs) name ≡ option_map text (last_of pairs name)
-  unfolding part_at
-  part_is name =
+  section_is : (name : List ℕ) → section_at known (last_of pairs) name ≡ option_map text (last_of pairs name)
+  unfolding section_at
+  section_is name =
       ap (λ r. option_or (option_map (λ reading. cond (is_some (numbered name)) (octets reading (octets_of (last_of pairs) name)) (text (reading (octets_of (last_of pairs) name)))) r)
       (cond (has_left known (last_of pairs) name) None (option_map text (last_of pairs name)))) (none_reads name)
       ∙ cond-false _ _ _ (and_right (is_starred name) _ (ap is_some (none_reads (name_under name))))
@@ -68,36 +69,36 @@ module _ (known : Charsets) (pairs : List (List ℕ × List ℕ)) (free : AreSta
   unfolding numbered
   unnumbered name none = cond-false _ _ _ none
 
-  first_of_none : (base name : List ℕ) → (is_some (part_at known (last_of pairs) name) && is_first_of base name) ≡ false
+  first_of_none : (base name : List ℕ) → (is_some (section_at known (last_of pairs) name) && is_first_of base name) ≡ false
   first_of_none base name = go (has_star name) refl
     where
-      go : (t : Bool) → has_star name ≡ t → (is_some (part_at known (last_of pairs) name) && is_first_of base name) ≡ false
-      go true e = ap (λ p. is_some p && is_first_of base name) (part_is name ∙ ap (option_map text) (none_starred pairs name free e))
+      go : (t : Bool) → has_star name ≡ t → (is_some (section_at known (last_of pairs) name) && is_first_of base name) ≡ false
+      go true e = ap (λ p. is_some p && is_first_of base name) (section_is name ∙ ap (option_map text) (none_starred pairs name free e))
       go false e = and_right _ _ (ap (λ n. option_map_or (λ n. bytes_eq n.0 base && eqb n.1 0) n false) (unnumbered name e))
 
-  no_bases : (names : List (List ℕ)) (base : List ℕ) → is_base (part_at known (last_of pairs)) names base ≡ false
+  no_bases : (names : List (List ℕ)) (base : List ℕ) → is_base (section_at known (last_of pairs)) names base ≡ false
   no_bases names base = and_right _ _ (none names)
     where
-      none : (names : List (List ℕ)) → list_any (λ name. is_some (part_at known (last_of pairs) name) && is_first_of base name) names ≡ false
+      none : (names : List (List ℕ)) → list_any (λ name. is_some (section_at known (last_of pairs) name) && is_first_of base name) names ≡ false
       none [] = refl
-      none (name ∷ names) = ap (λ t. t || list_any (λ name. is_some (part_at known (last_of pairs) name) && is_first_of base name) names) (first_of_none base name) ∙ none names
+      none (name ∷ names) = ap (λ t. t || list_any (λ name. is_some (section_at known (last_of pairs) name) && is_first_of base name) names) (first_of_none base name) ∙ none names
 
-  none_used : (names : List (List ℕ)) (name : List ℕ) → is_used (part_at known (last_of pairs)) names name ≡ false
+  none_used : (names : List (List ℕ)) (name : List ℕ) → is_used (section_at known (last_of pairs)) names name ≡ false
   none_used names name = go (numbered name)
     where
       go : (n : Option (List ℕ × ℕ))
-          → option_map_or (λ n. is_base (part_at known (last_of pairs)) names n.0 && (ltb n.1 (length (parts_of (part_at known (last_of pairs)) n.0)) && bytes_eq name (piece_name n.0 n.1))) n false ≡ false
+          → option_map_or (λ n. is_base (section_at known (last_of pairs)) names n.0 && (ltb n.1 (length (sections_of (section_at known (last_of pairs)) n.0)) && bytes_eq name (section_name n.0 n.1))) n false ≡ false
       go None = refl
-      go (Some n) = ap (λ t. t && (ltb n.1 (length (parts_of (part_at known (last_of pairs)) n.0)) && bytes_eq name (piece_name n.0 n.1))) (no_bases names n.0)
+      go (Some n) = ap (λ t. t && (ltb n.1 (length (sections_of (section_at known (last_of pairs)) n.0)) && bytes_eq name (section_name n.0 n.1))) (no_bases names n.0)
 
   pub parameters_are_pairs : (name : List ℕ) → parameters_in known pairs name ≡ last_of pairs name
   unfolding joined_at
   parameters_are_pairs name =
       let names = names_of (map (λ pair. pair.0) pairs) in
-      let at = part_at known (last_of pairs) in
-      ap (λ t. option_or (cond t None (option_map alone (at name))) (cond (is_base at names name) (Some (joined (parts_of at name))) None)) (none_used names name)
-      ∙ ap (λ t. option_or (option_map alone (at name)) (cond t (Some (joined (parts_of at name))) None)) (no_bases names name)
-      ∙ ap (λ p. option_or (option_map alone p) None) (part_is name)
+      let at = section_at known (last_of pairs) in
+      ap (λ t. option_or (cond t None (option_map alone (at name))) (cond (is_base at names name) (Some (joined (sections_of at name))) None)) (none_used names name)
+      ∙ ap (λ t. option_or (option_map alone (at name)) (cond t (Some (joined (sections_of at name))) None)) (no_bases names name)
+      ∙ ap (λ p. option_or (option_map alone p) None) (section_is name)
       ∙ alone_text (last_of pairs name)
     where
       alone_text : (t : Option (List ℕ)) → option_or (option_map alone (option_map text t)) None ≡ t

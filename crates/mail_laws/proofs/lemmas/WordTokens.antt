@@ -1,37 +1,37 @@
 -- Lemmas on what shows between two adjacent decoded words.
 use Rattle.std.proofs.Common.{◌≡◌, ℕ, cond, not, ◌||◌, List, [], ◌∷◌, ◌++◌, Option, Some, None, refl, sym, ap, ◌∙◌}
-use Rattle.mailparse.specs.Tokens.{TokenKind, plain_text, white_space, line_end, decoded_word}
+use Rattle.mailparse.specs.Tokens.{TokenKind, plain_text, whitespace, line_end, decoded_word}
 use Rattle.mailparse.specs.Value.{Token, is_released, is_held, kinds, newline, shown_after, shown_tokens, shows}
-use Rattle.mail_laws.specs.WordTokens.{word, white}
+use Rattle.mail_laws.specs.WordTokens.{word, whitespace_token}
 
 -- what stands after a decoded word releases nothing that stands before it
 released-same : (kind : TokenKind) (front a b : List TokenKind) → is_released kind (front ++ decoded_word ∷ a) ≡ is_released kind (front ++ decoded_word ∷ b)
 released-same plain_text [] a b = refl
-released-same white_space [] a b = refl
+released-same whitespace [] a b = refl
 released-same line_end [] a b = refl
 released-same decoded_word [] a b = refl
 released-same kind (plain_text ∷ front) a b = refl
-released-same plain_text (white_space ∷ front) a b = refl
-released-same white_space (white_space ∷ front) a b = refl
-released-same line_end (white_space ∷ front) a b = refl
-released-same decoded_word (white_space ∷ front) a b = refl
+released-same plain_text (whitespace ∷ front) a b = refl
+released-same whitespace (whitespace ∷ front) a b = refl
+released-same line_end (whitespace ∷ front) a b = refl
+released-same decoded_word (whitespace ∷ front) a b = refl
 released-same plain_text (decoded_word ∷ front) a b = refl
-released-same white_space (decoded_word ∷ front) a b = refl
+released-same whitespace (decoded_word ∷ front) a b = refl
 released-same line_end (decoded_word ∷ front) a b = refl
 released-same decoded_word (decoded_word ∷ front) a b = refl
 released-same plain_text (line_end ∷ front) a b = refl
 released-same line_end (line_end ∷ front) a b = refl
 released-same decoded_word (line_end ∷ front) a b = refl
-released-same white_space (line_end ∷ []) a b = refl
-released-same white_space (line_end ∷ plain_text ∷ front) a b = refl
-released-same white_space (line_end ∷ white_space ∷ front) a b = refl
-released-same white_space (line_end ∷ line_end ∷ front) a b = refl
-released-same white_space (line_end ∷ decoded_word ∷ front) a b = refl
+released-same whitespace (line_end ∷ []) a b = refl
+released-same whitespace (line_end ∷ plain_text ∷ front) a b = refl
+released-same whitespace (line_end ∷ whitespace ∷ front) a b = refl
+released-same whitespace (line_end ∷ line_end ∷ front) a b = refl
+released-same whitespace (line_end ∷ decoded_word ∷ front) a b = refl
 
 -- what stood before a decoded word holds nothing after it
 held-same : (e f : Option TokenKind) (kind : TokenKind) → is_held e (Some decoded_word) kind ≡ is_held f (Some decoded_word) kind
 held-same e f plain_text = refl
-held-same e f white_space = refl
+held-same e f whitespace = refl
 held-same e f line_end = refl
 held-same e f decoded_word = refl
 
@@ -55,14 +55,14 @@ shown-same e b (token ∷ front) text rest other same =
     ap (λ released. cond (not (is_held e b token.kind) || released) token.shown [] ++ shown_after b (Some token.kind) (front ++ word text ∷ rest)) after
     ∙ ap (λ (shown : List ℕ). cond (shows e b token.kind (kinds (front ++ word text ∷ other))) token.shown [] ++ shown) (shown-same b (Some token.kind) front text rest other same)
 
-pub white-between : (before rest : List Token) (first gap second : List ℕ)
-    → shown_tokens (before ++ word first ∷ white gap ∷ word second ∷ rest) ≡ shown_tokens (before ++ word first ∷ word second ∷ rest)
-white-between before rest first gap second =
-    shown-same None None before first (white gap ∷ word second ∷ rest) (word second ∷ rest)
-    (λ f. ap (λ (shown : List ℕ). second ++ shown) (shown-after_word (Some white_space) (Some decoded_word) rest))
+pub whitespace-between : (before rest : List Token) (first gap second : List ℕ)
+    → shown_tokens (before ++ word first ∷ whitespace_token gap ∷ word second ∷ rest) ≡ shown_tokens (before ++ word first ∷ word second ∷ rest)
+whitespace-between before rest first gap second =
+    shown-same None None before first (whitespace_token gap ∷ word second ∷ rest) (word second ∷ rest)
+    (λ f. ap (λ (shown : List ℕ). second ++ shown) (shown-after_word (Some whitespace) (Some decoded_word) rest))
 
 pub line_end-between : (before rest : List Token) (first gap second : List ℕ)
-    → shown_tokens (before ++ word first ∷ white gap ∷ newline ∷ white [] ∷ word second ∷ rest) ≡ shown_tokens (before ++ word first ∷ word second ∷ rest)
+    → shown_tokens (before ++ word first ∷ whitespace_token gap ∷ newline ∷ whitespace_token [] ∷ word second ∷ rest) ≡ shown_tokens (before ++ word first ∷ word second ∷ rest)
 line_end-between before rest first gap second =
-    shown-same None None before first (white gap ∷ newline ∷ white [] ∷ word second ∷ rest) (word second ∷ rest)
-    (λ f. ap (λ (shown : List ℕ). second ++ shown) (shown-after_word (Some white_space) (Some decoded_word) rest))
+    shown-same None None before first (whitespace_token gap ∷ newline ∷ whitespace_token [] ∷ word second ∷ rest) (word second ∷ rest)
+    (λ f. ap (λ (shown : List ℕ). second ++ shown) (shown-after_word (Some whitespace) (Some decoded_word) rest))

@@ -4,19 +4,20 @@ use Rattle.std.proofs.lemmas.Bool.{and_left, and_right, cond-false}
 use Rattle.std.specs.List.{list_any}
 use Rattle.std.specs.Option.{option_and_then, option_map_or, option_or, option_to_list}
 use Rattle.std.specs.Str.{bytes_eq}
-use Rattle.mailparse.specs.Continuations as words
-use Rattle.mailparse.specs.Continuations.{Part, alone, is_base, is_first_of, is_text, is_used, joined, joined_at, numbered, parts_of, piece_name}
+use Rattle.mailparse.specs.Sections as words
+use Rattle.mailparse.specs.Continuations.{is_base, is_first_of, is_used, joined, joined_at, sections_of}
+use Rattle.mailparse.specs.Sections.{Section, alone, is_text, numbered, section_name}
 use Rattle.mailparse.specs.private.Continuations.{first_base_of, first_bases, is_taken, joined_text, left_by}
 use Rattle.mailparse.specs.private.Filled.{filled, holds_name}
 use Rattle.mailparse.proofs.lemmas.Filled.{filled_again, filled_skip, or_true}
-use Rattle.mailparse.proofs.lemmas.StarredKeys.{equal_bytes, same_bytes}
+use Rattle.mailparse.proofs.lemmas.ExtendedValues.{equal_bytes, same_bytes}
 
 -- ---- the bases of names
 
 abbrev hit : Option (List ℕ) → List ℕ → Bool
 hit base q = option_map_or (λ b. bytes_eq b q) base false
 
-hit_is : (at : List ℕ → Option Part) (q name : List ℕ) → (not (is_text (at q)) && is_first_of q name) ≡ hit (first_base_of at name) q
+hit_is : (at : List ℕ → Option Section) (q name : List ℕ) → (not (is_text (at q)) && is_first_of q name) ≡ hit (first_base_of at name) q
 hit_is at q name = go (numbered name)
   where
     taken : (n : List ℕ × ℕ) (t : Bool) → bytes_eq n.0 q ≡ true → hit (cond t (Some n.0) None) q ≡ t
@@ -48,7 +49,7 @@ hit_is at q name = go (numbered name)
     go (Some n) = pick n (bytes_eq n.0 q) refl
 
 -- the bases of names where something stands
-pub holds_first : (at : List ℕ → Option Part) (names : List (List ℕ)) (q : List ℕ) → ((z : List ℕ) → holds_name names z ≡ true → is_some (at z) ≡ true)
+pub holds_first : (at : List ℕ → Option Section) (names : List (List ℕ)) (q : List ℕ) → ((z : List ℕ) → holds_name names z ≡ true → is_some (at z) ≡ true)
     → holds_name (first_bases at names) q ≡ is_base at names q
 holds_first at [] q some = sym (and_right _ _ refl)
 holds_first at (name ∷ names) q some =
@@ -70,17 +71,17 @@ holds_first at (name ∷ names) q some =
 -- ---- what is left
 
 -- what was joined is what was taken
-pub taken_used : (at : List ℕ → Option Part) (names bases : List (List ℕ)) → ((z : List ℕ) → holds_name bases z ≡ is_base at names z) → (q : List ℕ)
+pub taken_used : (at : List ℕ → Option Section) (names bases : List (List ℕ)) → ((z : List ℕ) → holds_name bases z ≡ is_base at names z) → (q : List ℕ)
     → is_taken at bases q ≡ is_used at names q
 taken_used at names bases same q = go (numbered q)
   where
-    go : (o : Option (List ℕ × ℕ)) → option_map_or (λ n. holds_name bases n.0 && (ltb n.1 (length (parts_of at n.0)) && bytes_eq q (piece_name n.0 n.1))) o false
-        ≡ option_map_or (λ n. is_base at names n.0 && (ltb n.1 (length (parts_of at n.0)) && bytes_eq q (piece_name n.0 n.1))) o false
+    go : (o : Option (List ℕ × ℕ)) → option_map_or (λ n. holds_name bases n.0 && (ltb n.1 (length (sections_of at n.0)) && bytes_eq q (section_name n.0 n.1))) o false
+        ≡ option_map_or (λ n. is_base at names n.0 && (ltb n.1 (length (sections_of at n.0)) && bytes_eq q (section_name n.0 n.1))) o false
     go None = refl
-    go (Some n) = ap (λ b. b && (ltb n.1 (length (parts_of at n.0)) && bytes_eq q (piece_name n.0 n.1))) (same n.0)
+    go (Some n) = ap (λ b. b && (ltb n.1 (length (sections_of at n.0)) && bytes_eq q (section_name n.0 n.1))) (same n.0)
 
--- the texts in the end: those of the other parts, those that were left, those of the bases
-pub in_the_end : (at : List ℕ → Option Part) (names : List (List ℕ)) (q : List ℕ) (extended : Option Part) (text base given : Option (List ℕ))
+-- the texts in the end: those of the other sections, those that were left, those of the bases
+pub in_the_end : (at : List ℕ → Option Section) (names : List (List ℕ)) (q : List ℕ) (extended : Option Section) (text base given : Option (List ℕ))
     → ((z : List ℕ) → holds_name names z ≡ true → is_some (at z) ≡ true)
     → option_or extended (option_map words.text text) ≡ left_by at (first_bases at names) q → base ≡ joined_text at (first_bases at names) q
     → given ≡ option_or (option_map alone extended) (option_or text base) → given ≡ joined_at at names q
@@ -91,9 +92,9 @@ in_the_end at names q extended text base given some left joined_is made =
     ∙ ap (λ o. option_or (option_map alone o) base) left
     ∙ ap (λ b. option_or (option_map alone (cond b None (at q))) base) (taken_used at names (first_bases at names) bases q)
     ∙ ap (λ o. option_or o base) (inner (is_used at names q))
-    ∙ ap (option_or (cond (is_used at names q) None (option_map alone (at q)))) (joined_is ∙ ap (λ b. cond b (Some (joined (parts_of at q))) None) (bases q))
+    ∙ ap (option_or (cond (is_used at names q) None (option_map alone (at q)))) (joined_is ∙ ap (λ b. cond b (Some (joined (sections_of at q))) None) (bases q))
   where
-    over : (e : Option Part) (t : Option (List ℕ)) → option_or (option_map alone e) (option_or t base) ≡ option_or (option_map alone (option_or e (option_map words.text t))) base
+    over : (e : Option Section) (t : Option (List ℕ)) → option_or (option_map alone e) (option_or t base) ≡ option_or (option_map alone (option_or e (option_map words.text t))) base
     over None None = refl
     over None (Some t) = refl
     over (Some e) t = refl

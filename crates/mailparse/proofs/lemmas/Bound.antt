@@ -4,7 +4,7 @@ use Rattle.std.specs.List.{sum_by}
 use Rattle.std.proofs.lemmas.List.{map-append}
 use Rattle.std.proofs.lemmas.List.Sums.{sum_by-cons, sum_by-append}
 use Rattle.mail_codec.specs.Charset.{Charsets, four_charsets}
-use Rattle.mailparse.specs.Refusal.{Reads, read_map, read_then}
+use Rattle.mailparse.specs.Refusal.{◌>>=◌, Reads}
 use Rattle.mailparse.specs.Outcome.{AnswersOrMemory}
 use Rattle.mailparse.specs.Block.{HeaderList, read_headers}
 use Rattle.mailparse.specs.ContentType.{ContentType}
@@ -14,7 +14,8 @@ use Rattle.mailparse.specs.Bound.{IsBounded}
 use Rattle.mailparse.specs.Views.{tree_of}
 use Rattle.mailparse.specs.declared.error.MailParseError.{MailParseError}
 use Rattle.mailparse.specs.declared.mail.ParsedMail.{ParsedMail}
-use Rattle.mailparse.proofs.lemmas.Apart.{cut_of-apart, Apart-sum}
+use Rattle.mailparse.proofs.lemmas.Refusal.{read_map}
+use Rattle.mailparse.proofs.lemmas.Ranges.{cut_of-apart, Apart-sum}
 use Rattle.mailparse.proofs.lemmas.Block.{Bounded, read_headers-bounded}
 
 -- ---- what messages take together
@@ -92,7 +93,7 @@ read_each-fits read fits bytes (range ∷ ranges) parts e =
     (λ others more. read_each-fits read fits bytes ranges others more)
   where
     by_part : (first : Reads Tree) (rest : Reads Forest) → read (slice bytes range) ≡ first → read_each read (map (slice bytes) ranges) ≡ rest
-        → read_then first (λ t. read_map (part_and t) rest) ≡ Ok parts
+        → ◌>>=◌ first (λ t. read_map (part_and t) rest) ≡ Ok parts
         → ((others : Forest) → read_each read (map (slice bytes) ranges) ≡ Ok others → weight_in others ≤ sum_by (λ r. r.end - r.start + 3) ranges)
         → weight_in parts ≤ sum_by (λ r. r.end - r.start + 3) (range ∷ ranges)
     by_part (Err refusal) rest f g h ih = absurd (cc)
@@ -137,7 +138,7 @@ module _ (known : Charsets) where
           subst (λ (u : Tree). weight (nodes u) ≤ length bytes + 3) same (node-fits bytes block ctype parts (read_headers-bounded bytes block read) all)
 
       by_block : (block : Reads HeaderList) → read_headers bytes ≡ block
-          → read_then block (λ b. read_parts known (read_levels known levels) bytes b (node_type known in_digest b.headers)) ≡ Ok t
+          → ◌>>=◌ block (λ b. read_parts known (read_levels known levels) bytes b (node_type known in_digest b.headers)) ≡ Ok t
           → ((digest : Bool) → Fits (read_levels known levels digest)) → weight (nodes t) ≤ length bytes + 3
       by_block (Err refusal) read h ih = absurd (cc)
       by_block (Ok block) read h ih = by_parts block (node_type known in_digest block.headers) read _ refl h (ih (is_digest (node_type known in_digest block.headers)))
@@ -147,7 +148,7 @@ module _ (known : Charsets) where
   unfolding read_mail_in
   read_mail_in-bounded greatest bytes t e = IsBounded-by_weight (length bytes) t (read_levels-fits (suc greatest) false bytes t e)
 
--- and so what a call answered that reads a message
+-- and so what a call returned that reads a message
 pub answer-bounded : (result : Result ParsedMail MailParseError) (levels : ℕ) (in_digest : Bool) (bytes : List ℕ)
     → AnswersOrMemory tree_of result (read_levels four_charsets levels in_digest bytes) → IfOk result (λ mail. IsBounded (tree_of mail) (length bytes))
 answer-bounded (Err e) levels in_digest bytes h = tt

@@ -8,7 +8,7 @@ use Rattle.std.specs.List.{list_all}
 use Rattle.std.specs.Str.{chars, trim_start, encode_utf8_all, skip_leading_whitespace, IsUtf8, IsCharBoundary}
 use Rattle.mailparse.specs.private.Cuts.{IsCut, IsOpening, KeepsClosing}
 use Rattle.mail_codec.specs.Places.{stands, place_from}
-use Rattle.mailparse.specs.Tokens.{white_space, plain_text, opening, closing, begins_closing, begins_with_boundary, is_boundary, is_white}
+use Rattle.mailparse.specs.Tokens.{whitespace, plain_text, opening, closing, begins_closing, begins_with_boundary, is_boundary, is_all_whitespace}
 use Rattle.mailparse.specs.Value.{outside_token}
 use Rattle.mail_codec.proofs.lemmas.Places.{place_from_same, place_from_here, place_from_next, place_from_passes}
 use Rattle.mailparse.proofs.lemmas.Places.{place_from_via}
@@ -76,7 +76,7 @@ reverse-chars text rest c utf8 scalar e =
     ap (λ t. reverse (chars t)) e ∙ ap reverse (chars-append rest (encode_utf8 c) whole ∙ ap (λ cs. chars rest ++ cs) (chars-encode c scalar))
     ∙ reverse-append (chars rest) (c ∷ [])
 
--- ---- white
+-- ---- whitespace
 
 encoded_some : (c : ℕ) (bytes : List ℕ) → eqb (length (encode_utf8 c ++ bytes)) 0 ≡ false
 encoded_some c bytes =
@@ -85,9 +85,9 @@ encoded_some c bytes =
     let bounds = len_utf8_bounds c in
     ne_eqb _ _ (λ e. absurd (omega arith))
 
-white_chars : (cs : List ℕ) → list_all is_whitespace cs ≡ eqb (length (encode_utf8_all (skip_leading_whitespace cs))) 0
-white_chars [] = refl
-white_chars (c ∷ cs) = go (is_whitespace c) refl (white_chars cs)
+whitespace_chars : (cs : List ℕ) → list_all is_whitespace cs ≡ eqb (length (encode_utf8_all (skip_leading_whitespace cs))) 0
+whitespace_chars [] = refl
+whitespace_chars (c ∷ cs) = go (is_whitespace c) refl (whitespace_chars cs)
   where
     go : (t : Bool) → is_whitespace c ≡ t → list_all is_whitespace cs ≡ eqb (length (encode_utf8_all (skip_leading_whitespace cs))) 0
         → list_all is_whitespace (c ∷ cs) ≡ eqb (length (encode_utf8_all (skip_leading_whitespace (c ∷ cs)))) 0
@@ -98,19 +98,19 @@ white_chars (c ∷ cs) = go (is_whitespace c) refl (white_chars cs)
         ap (λ t. t && list_all is_whitespace cs) e ∙ sym (encoded_some c (encode_utf8_all cs))
         ∙ ap (λ t. eqb (length (encode_utf8_all (cond t (skip_leading_whitespace cs) (c ∷ cs)))) 0) (sym e)
 
--- a text is white throughout if nothing is left of it once the white at its start is gone
-pub is_white-trim_start : (text : List ℕ) → is_white text ≡ eqb (length (trim_start text)) 0
+-- a text is whitespace throughout if nothing is left of it once the whitespace at its start is gone
+pub is_all_whitespace-trim_start : (text : List ℕ) → is_all_whitespace text ≡ eqb (length (trim_start text)) 0
 unfolding trim_start
-is_white-trim_start text = white_chars (chars text)
+is_all_whitespace-trim_start text = whitespace_chars (chars text)
 
 -- the token of what stands outside of all words
-pub outside_token-white : (text : List ℕ) → eqb (length (trim_start text)) 0 ≡ true → record { kind = white_space; shown = text } ≡ outside_token text
-outside_token-white text e =
-    sym (ap (λ k. record { kind = k; shown = text }) (cond-true _ _ _ (is_white-trim_start text ∙ e)))
+pub outside_token-whitespace : (text : List ℕ) → eqb (length (trim_start text)) 0 ≡ true → record { kind = whitespace; shown = text } ≡ outside_token text
+outside_token-whitespace text e =
+    sym (ap (λ k. record { kind = k; shown = text }) (cond-true _ _ _ (is_all_whitespace-trim_start text ∙ e)))
 
 pub outside_token-text : (text : List ℕ) → eqb (length (trim_start text)) 0 ≡ false → record { kind = plain_text; shown = text } ≡ outside_token text
 outside_token-text text e =
-    sym (ap (λ k. record { kind = k; shown = text }) (cond-false _ _ _ (is_white-trim_start text ∙ e)))
+    sym (ap (λ k. record { kind = k; shown = text }) (cond-false _ _ _ (is_all_whitespace-trim_start text ∙ e)))
 
 -- ---- where a line may be cut
 

@@ -1,15 +1,18 @@
--- Lemmas on delimiters: where the first one stands.
-use Rattle.std.proofs.Common.{◌≡◌, ◌≢◌, ◌⊎◌, ℕ, zero, suc, ◌+◌, ◌-◌, ◌<◌, ◌≤◌, Bool, true, false, cond, eqb, List, [], ◌∷◌, ◌&&◌, ◌||◌, length, take, drop, get_or, Option, Some, None, option_map, refl, sym, ap, ◌∙◌, subst, ⊎_elim, arith, length-drop, get_or-drop}
-use Rattle.std.specs.Prelude.{nat_lt}
+-- Lemmas on delimiters: where the first one stands, and the ranges of the parts.
+use Rattle.std.proofs.Common.{◌≡◌, ℕ, zero, suc, ◌+◌, ◌-◌, ◌<◌, ◌≤◌, Bool, true, false, cond, eqb, List, [], ◌∷◌, ◌&&◌, ◌||◌, length, drop, get_or, Option, Some, None, option_map, refl, sym, ap, ◌∙◌, subst, ⊎_elim, arith, length-drop, get_or-drop, ◌++◌, map}
+use Rattle.std.specs.Prelude.{nat_lt, ◌==◌, filter_map, option_and_then, codes, if◌then◌else◌}
 use Rattle.std.proofs.lemmas.Bool.{cond-true, cond-false, cases_lt, cases_eq, lt-ltb, le-ltb, eq-eqb, eqb-true, ne_eqb, and_parts, and_from, and_left, and_right, false≢true}
 use Rattle.std.proofs.lemmas.List.{drop-drop}
 use Rattle.bstr.specs.Find.{OccursAt, FindsNeedle}
-use Rattle.mail_codec.specs.Places.{stands, begins, first_place, least, place, text_place, byte_place}
+use Rattle.mail_codec.specs.Places.{stands, begins, first_place, least, byte_place, values_below}
 use Rattle.mail_codec.proofs.lemmas.Places.{least-is, least-before, least-passes, first_place-before}
 use Rattle.mailparse.specs.Header.{is_line_feed}
-use Rattle.mailparse.specs.Delimiters.{least_from, starts_line, is_delimiter, delimiter_from, line_after}
-use Rattle.mailparse.specs.private.DelimiterLines.{NoDelimiter}
+use Rattle.mailparse.specs.Delimiters.{least_from, starts_line, is_delimiter, delimiter_from, line_after, part_after, is_close_delimiter, next_part, part_start, part_starts, part_range}
+use Rattle.mailparse.specs.private.Delimiters.{NoDelimiter}
 use Rattle.mail_codec.proofs.lemmas.WordSearches.{place_none, place_some}
+use Rattle.mailparse.specs.Ranges.{Range}
+use Rattle.mailparse.proofs.lemmas.Block.{values_below-same}
+use Rattle.mail_codec.specs.Ascii.{line_feed}
 
 -- ---- the least place from a start on
 
@@ -64,6 +67,9 @@ least_from-out test start end p e =
 
 -- ---- a text that stands
 
+eqb_swap : (a b : ℕ) → eqb a b ≡ eqb b a
+eqb_swap a b = ⊎_elim (λ e. ap (λ x. eqb x b) e ∙ ap (λ x. eqb b x) (sym e)) (λ n. ne_eqb a b n ∙ sym (ne_eqb b a (λ e. n (sym e)))) (cases_eq a b)
+
 or_false : (x y : Bool) → x ≡ false → y ≡ false → (x || y) ≡ false
 or_false x y e f = rw (e, f) refl
 
@@ -87,37 +93,33 @@ reads_stands (x ∷ text) (b ∷ rest) fits h =
     and_from (eqb x b) (stands text rest) (eq-eqb x b (sym (h 0 (omega arith)))) (reads_stands text rest (omega arith) (λ j low. h (suc j) (omega arith)))
 
 -- a text stands only where its first byte does
-pub stands_first : (key rest : List ℕ) → 0 < length key → stands (take 1 key) rest ≡ false → stands key rest ≡ false
+pub stands_first : (key rest : List ℕ) → 0 < length key → begins (λ b. b == get_or key 0 0) rest ≡ false → stands key rest ≡ false
 stands_first [] rest some h = absurd (omega arith)
 stands_first (x ∷ key) [] some h = refl
-stands_first (x ∷ key) (b ∷ rest) some h = by_test (eqb x b) _ h
-  where
-    by_test : (t u : Bool) → (t && true) ≡ false → (t && u) ≡ false
-    by_test true u e = absurd (false≢true (sym e))
-    by_test false u e = refl
+stands_first (x ∷ key) (b ∷ rest) some h = ap (λ t. t && stands key rest) (eqb_swap x b ∙ h)
 
 -- where a delimiter stands, all of it stands within the bytes
-pub is_delimiter-fits : (d bytes : List ℕ) (start p : ℕ) → p ≤ length bytes → is_delimiter d bytes start p ≡ true → p + length d ≤ length bytes
-is_delimiter-fits d bytes start p within h =
-    let fits = (stands_reads d (drop p bytes) (and_parts (starts_line bytes start p) (stands d (drop p bytes)) h).1).0 in
+pub is_delimiter-fits : (dash_boundary bytes : List ℕ) (start p : ℕ) → p ≤ length bytes → is_delimiter dash_boundary bytes start p ≡ true → p + length dash_boundary ≤ length bytes
+is_delimiter-fits dash_boundary bytes start p within h =
+    let fits = (stands_reads dash_boundary (drop p bytes) (and_parts (starts_line bytes start p) (stands dash_boundary (drop p bytes)) h).1).0 in
     let len = length-drop p bytes in
     omega arith
 
 -- ---- the first delimiter
 
-pub delimiter_from-some : (d bytes : List ℕ) (start p : ℕ) → start ≤ p → p < length bytes → is_delimiter d bytes start p ≡ true → NoDelimiter d bytes start p
-    → Some p ≡ delimiter_from d bytes start
+pub delimiter_from-some : (dash_boundary bytes : List ℕ) (start p : ℕ) → start ≤ p → p < length bytes → is_delimiter dash_boundary bytes start p ≡ true → NoDelimiter dash_boundary bytes start p
+    → Some p ≡ delimiter_from dash_boundary bytes start
 unfolding delimiter_from
-delimiter_from-some d bytes start p low high at none =
-    sym (least_from-some (is_delimiter d bytes start) start (length bytes) p (record { low = low; high = high; passes = at; before = none }))
+delimiter_from-some dash_boundary bytes start p low high at none =
+    sym (least_from-some (is_delimiter dash_boundary bytes start) start (length bytes) p (record { low = low; high = high; passes = at; before = none }))
 
-pub delimiter_from-none : (d bytes : List ℕ) (start : ℕ) → NoDelimiter d bytes start (length bytes) → None ≡ delimiter_from d bytes start
+pub delimiter_from-none : (dash_boundary bytes : List ℕ) (start : ℕ) → NoDelimiter dash_boundary bytes start (length bytes) → None ≡ delimiter_from dash_boundary bytes start
 unfolding delimiter_from
-delimiter_from-none d bytes start none = sym (least_from-none (is_delimiter d bytes start) start (length bytes) none)
+delimiter_from-none dash_boundary bytes start none = sym (least_from-none (is_delimiter dash_boundary bytes start) start (length bytes) none)
 
-pub delimiter_from-out : (d bytes : List ℕ) (start p : ℕ) → delimiter_from d bytes start ≡ Some p → IsLeastFrom (is_delimiter d bytes start) start (length bytes) p
+pub delimiter_from-out : (dash_boundary bytes : List ℕ) (start p : ℕ) → delimiter_from dash_boundary bytes start ≡ Some p → IsLeastFrom (is_delimiter dash_boundary bytes start) start (length bytes) p
 unfolding delimiter_from
-delimiter_from-out d bytes start p e = least_from-out (is_delimiter d bytes start) start (length bytes) p e
+delimiter_from-out dash_boundary bytes start p e = least_from-out (is_delimiter dash_boundary bytes start) start (length bytes) p e
 
 -- what a search was told that is seen by a function
 nowhere : (f : ℕ → ℕ) (o : Option ℕ) → None ≡ option_map f o → None ≡ o
@@ -136,34 +138,33 @@ somewhere f at (Some k) e = (k, refl, unwrap (f k) e)
 
 -- ---- a search from one first byte to the next
 
-no_delimiter_before : (key bytes : List ℕ) (start from j : ℕ) → 0 < length key → NoDelimiter key bytes start from → first_place (stands (take 1 key)) (drop from bytes) ≡ j
-    → NoDelimiter key bytes start (from + j)
+no_delimiter_before : (key bytes : List ℕ) (start from j : ℕ) → 0 < length key → NoDelimiter key bytes start from
+    → first_place (begins (λ b. b == get_or key 0 0)) (drop from bytes) ≡ j → NoDelimiter key bytes start (from + j)
 no_delimiter_before key bytes start from j some none first k low high =
     ⊎_elim (λ below. none k low below)
     (λ above.
+    let first_byte = begins (λ b. b == get_or key 0 0) in
     let there : drop (k - from) (drop from bytes) ≡ drop k bytes = drop-drop (k - from) from bytes ∙ ap (λ n. drop n bytes) (omega arith) in
-    let fails : stands (take 1 key) (drop (k - from) (drop from bytes)) ≡ false =
-    first_place-before (stands (take 1 key)) (drop from bytes) (k - from) (omega (arith, first)) in
-    and_right (starts_line bytes start k) _ (stands_first key (drop k bytes) some (ap (stands (take 1 key)) (sym there) ∙ fails)))
+    let fails : first_byte (drop (k - from) (drop from bytes)) ≡ false = first_place-before first_byte (drop from bytes) (k - from) (omega (arith, first)) in
+    and_right (starts_line bytes start k) _ (stands_first key (drop k bytes) some (ap first_byte (sym there) ∙ fails)))
     (cases_lt k from)
 
 -- no first byte of the key is left
 pub no_delimiter_left : (key bytes : List ℕ) (start from : ℕ) → 0 < length key → from ≤ length bytes → NoDelimiter key bytes start from
-    → None ≡ option_map (λ k. from + k) (text_place (drop from bytes) (take 1 key)) → NoDelimiter key bytes start (length bytes)
-no_delimiter_left [] bytes start from some within none e = absurd (omega arith)
-no_delimiter_left (x ∷ key) bytes start from some within none e = λ k low high.
+    → None ≡ option_map (λ k. from + k) (byte_place (drop from bytes) (get_or key 0 0)) → NoDelimiter key bytes start (length bytes)
+no_delimiter_left key bytes start from some within none e = λ k low high.
     let len = length-drop from bytes in
-    no_delimiter_before (x ∷ key) bytes start from (length (drop from bytes)) some none
-    (place_none (stands (x ∷ [])) (drop from bytes) (nowhere (λ k. from + k) (place (stands (x ∷ [])) (drop from bytes)) e)) k low (omega arith)
+    no_delimiter_before key bytes start from (length (drop from bytes)) some none
+    (place_none (begins (λ b. b == get_or key 0 0)) (drop from bytes) (nowhere (λ k. from + k) (byte_place (drop from bytes) (get_or key 0 0)) e)) k low (omega arith)
 
 -- the next first byte of the key
 pub no_delimiter_to : (key bytes : List ℕ) (start from at : ℕ) → 0 < length key → NoDelimiter key bytes start from
-    → Some at ≡ option_map (λ k. from + k) (text_place (drop from bytes) (take 1 key)) → NoDelimiter key bytes start at
-no_delimiter_to [] bytes start from at some none e = absurd (omega arith)
-no_delimiter_to (x ∷ key) bytes start from at some none e =
-    let here = somewhere (λ k. from + k) at (place (stands (x ∷ [])) (drop from bytes)) e in
-    subst (NoDelimiter (x ∷ key) bytes start) (sym here.2)
-    (no_delimiter_before (x ∷ key) bytes start from here.0 some none (sym (place_some (stands (x ∷ [])) (drop from bytes) here.0 here.1).0))
+    → Some at ≡ option_map (λ k. from + k) (byte_place (drop from bytes) (get_or key 0 0)) → NoDelimiter key bytes start at
+no_delimiter_to key bytes start from at some none e =
+    let here = somewhere (λ k. from + k) at (byte_place (drop from bytes) (get_or key 0 0)) e in
+    subst (NoDelimiter key bytes start) (sym here.2)
+    (no_delimiter_before key bytes start from here.0 some none
+    (sym (place_some (begins (λ b. b == get_or key 0 0)) (drop from bytes) here.0 here.1).0))
 
 -- past its start no line starts on a line
 no_delimiter_on_line : (key bytes : List ℕ) (start at j : ℕ) → start ≤ at → NoDelimiter key bytes start at → is_delimiter key bytes start at ≡ false
@@ -197,21 +198,18 @@ no_delimiter_to_line key bytes start at next after none here e =
 
 -- ---- a search for the LF and the delimiter after it
 
-eqb_swap : (a b : ℕ) → eqb a b ≡ eqb b a
-eqb_swap a b = ⊎_elim (λ e. ap (λ x. eqb x b) e ∙ ap (λ x. eqb b x) (sym e)) (λ n. ne_eqb a b n ∙ sym (ne_eqb b a (λ e. n (sym e)))) (cases_eq a b)
-
-feed_and : (d rest : List ℕ) → stands (10 ∷ d) rest ≡ (begins is_line_feed rest && stands d (drop 1 rest))
-feed_and d [] = refl
-feed_and d (b ∷ rest) = ap (λ t. t && stands d rest) (eqb_swap 10 b)
+feed_and : (dash_boundary rest : List ℕ) → stands (10 ∷ dash_boundary) rest ≡ (begins is_line_feed rest && stands dash_boundary (drop 1 rest))
+feed_and dash_boundary [] = refl
+feed_and dash_boundary (b ∷ rest) = ap (λ t. t && stands dash_boundary rest) (eqb_swap 10 b)
 
 -- past the start a delimiter stands where a LF and the delimiter stand one place before
-is_delimiter-line : (d bytes : List ℕ) (start p : ℕ) → start < p → is_delimiter d bytes start p ≡ stands (10 ∷ d) (drop (p - 1) bytes)
-is_delimiter-line d bytes start p later =
+is_delimiter-line : (dash_boundary bytes : List ℕ) (start p : ℕ) → start < p → is_delimiter dash_boundary bytes start p ≡ stands (10 ∷ dash_boundary) (drop (p - 1) bytes)
+is_delimiter-line dash_boundary bytes start p later =
     let other : eqb p start ≡ false = ne_eqb p start (λ e. absurd (omega (arith, later))) in
     let there : drop 1 (drop (p - 1) bytes) ≡ drop p bytes = drop-drop 1 (p - 1) bytes ∙ ap (λ n. drop n bytes) (omega arith) in
-    ap (λ t. (t || begins is_line_feed (drop (p - 1) bytes)) && stands d (drop p bytes)) other
-    ∙ ap (λ rest. begins is_line_feed (drop (p - 1) bytes) && stands d rest) (sym there)
-    ∙ sym (feed_and d (drop (p - 1) bytes))
+    ap (λ t. (t || begins is_line_feed (drop (p - 1) bytes)) && stands dash_boundary (drop p bytes)) other
+    ∙ ap (λ rest. begins is_line_feed (drop (p - 1) bytes) && stands dash_boundary rest) (sym there)
+    ∙ sym (feed_and dash_boundary (drop (p - 1) bytes))
 
 stands_occurs : (text bytes : List ℕ) (k : ℕ) → k ≤ length bytes → stands text (drop k bytes) ≡ true → OccursAt bytes text k
 stands_occurs text bytes k within h =
@@ -226,50 +224,192 @@ occurs_stands text bytes k h =
     reads_stands text (drop k bytes) (omega arith) (λ j low. get_or-drop k bytes j 0 ∙ h.reads j low)
 
 -- the start itself is one where the delimiter stands
-pub is_delimiter-start : (d bytes : List ℕ) (start : ℕ) → is_delimiter d bytes start start ≡ stands d (drop start bytes)
-is_delimiter-start d bytes start = ap (λ t. (t || begins is_line_feed (drop (start - 1) bytes)) && stands d (drop start bytes)) (eq-eqb start start refl)
+pub is_delimiter-start : (dash_boundary bytes : List ℕ) (start : ℕ) → is_delimiter dash_boundary bytes start start ≡ stands dash_boundary (drop start bytes)
+is_delimiter-start dash_boundary bytes start = ap (λ t. (t || begins is_line_feed (drop (start - 1) bytes)) && stands dash_boundary (drop start bytes)) (eq-eqb start start refl)
 
 -- none stands up to a place before which the LF and the delimiter occur nowhere
-none_to : (d bytes : List ℕ) (start to : ℕ) → start ≤ length bytes → to ≤ length (drop start bytes) → stands d (drop start bytes) ≡ false
-    → ((k : ℕ) → 0 ≤ k → k < to → OccursAt (drop start bytes) (10 ∷ d) k → ⊥) → NoDelimiter d bytes start (suc (start + to))
-none_to d bytes start to within fits first none k low high =
-    ⊎_elim (λ same. subst (λ p. is_delimiter d bytes start p ≡ false) (sym same) (is_delimiter-start d bytes start ∙ first))
+none_to : (dash_boundary bytes : List ℕ) (start to : ℕ) → start ≤ length bytes → to ≤ length (drop start bytes) → stands dash_boundary (drop start bytes) ≡ false
+    → ((k : ℕ) → 0 ≤ k → k < to → OccursAt (drop start bytes) (10 ∷ dash_boundary) k → ⊥) → NoDelimiter dash_boundary bytes start (suc (start + to))
+none_to dash_boundary bytes start to within fits first none k low high =
+    ⊎_elim (λ same. subst (λ p. is_delimiter dash_boundary bytes start p ≡ false) (sym same) (is_delimiter-start dash_boundary bytes start ∙ first))
     (λ other.
     let i = k - 1 - start in
     let there : drop i (drop start bytes) ≡ drop (k - 1) bytes = drop-drop i start bytes ∙ ap (λ n. drop n bytes) (omega (arith, other)) in
-    is_delimiter-line d bytes start k (omega (arith, other)) ∙ ap (stands (10 ∷ d)) (sym there)
-    ∙ by_test i (omega (arith, other)) (stands (10 ∷ d) (drop i (drop start bytes))) refl)
+    is_delimiter-line dash_boundary bytes start k (omega (arith, other)) ∙ ap (stands (10 ∷ dash_boundary)) (sym there)
+    ∙ by_test i (omega (arith, other)) (stands (10 ∷ dash_boundary) (drop i (drop start bytes))) refl)
     (cases_eq k start)
   where
-    by_test : (i : ℕ) → i < to → (t : Bool) → stands (10 ∷ d) (drop i (drop start bytes)) ≡ t → t ≡ false
-    by_test i low true e = absurd (none i (omega arith) low (stands_occurs (10 ∷ d) (drop start bytes) i (omega arith) e))
+    by_test : (i : ℕ) → i < to → (t : Bool) → stands (10 ∷ dash_boundary) (drop i (drop start bytes)) ≡ t → t ≡ false
+    by_test i low true e = absurd (none i (omega arith) low (stands_occurs (10 ∷ dash_boundary) (drop start bytes) i (omega arith) e))
     by_test i low false e = refl
 
 -- where the search found nothing
-pub found_nowhere : (d bytes : List ℕ) (start : ℕ) → start ≤ length bytes → stands d (drop start bytes) ≡ false → FindsNeedle (drop start bytes) (10 ∷ d) 0 None
-    → None ≡ delimiter_from d bytes start
-found_nowhere d bytes start within first none =
+pub found_nowhere : (dash_boundary bytes : List ℕ) (start : ℕ) → start ≤ length bytes → stands dash_boundary (drop start bytes) ≡ false → FindsNeedle (drop start bytes) (10 ∷ dash_boundary) 0 None
+    → None ≡ delimiter_from dash_boundary bytes start
+found_nowhere dash_boundary bytes start within first none =
     let len = length-drop start bytes in
-    delimiter_from-none d bytes start (λ k low high.
-    none_to d bytes start (length (drop start bytes)) within (omega arith) first (λ j least small occurs. none j least (omega arith) occurs) k low (omega arith))
+    delimiter_from-none dash_boundary bytes start (λ k low high.
+    none_to dash_boundary bytes start (length (drop start bytes)) within (omega arith) first (λ j least small occurs. none j least (omega arith) occurs) k low (omega arith))
 
 -- where it found a place
-pub found_line : (d bytes : List ℕ) (start k : ℕ) → 0 < length d → start ≤ length bytes → stands d (drop start bytes) ≡ false → FindsNeedle (drop start bytes) (10 ∷ d) 0 (Some k)
-    → (Some (start + k + 1) ≡ delimiter_from d bytes start) × (start + k + 1 + length d ≤ length bytes)
-found_line d bytes start k some within first found =
+pub found_line : (dash_boundary bytes : List ℕ) (start k : ℕ) → 0 < length dash_boundary → start ≤ length bytes → stands dash_boundary (drop start bytes) ≡ false → FindsNeedle (drop start bytes) (10 ∷ dash_boundary) 0 (Some k)
+    → (Some (start + k + 1) ≡ delimiter_from dash_boundary bytes start) × (start + k + 1 + length dash_boundary ≤ length bytes)
+found_line dash_boundary bytes start k some within first found =
     let len = length-drop start bytes in
     let fits = found.1.fits in
     let there : drop k (drop start bytes) ≡ drop (start + k + 1 - 1) bytes = drop-drop k start bytes ∙ ap (λ n. drop n bytes) (omega arith) in
-    let at : is_delimiter d bytes start (start + k + 1) ≡ true =
-    is_delimiter-line d bytes start (start + k + 1) (omega arith) ∙ ap (stands (10 ∷ d)) (sym there) ∙ occurs_stands (10 ∷ d) (drop start bytes) k found.1 in (
-      delimiter_from-some d bytes start (start + k + 1) (omega arith) (omega arith) at
-          (λ j low high. none_to d bytes start k within (omega arith) first (λ i least small occurs. found.0.before i least small occurs) j low (omega arith)),
+    let at : is_delimiter dash_boundary bytes start (start + k + 1) ≡ true =
+    is_delimiter-line dash_boundary bytes start (start + k + 1) (omega arith) ∙ ap (stands (10 ∷ dash_boundary)) (sym there) ∙ occurs_stands (10 ∷ dash_boundary) (drop start bytes) k found.1 in (
+      delimiter_from-some dash_boundary bytes start (start + k + 1) (omega arith) (omega arith) at
+          (λ j low high. none_to dash_boundary bytes start k within (omega arith) first (λ i least small occurs. found.0.before i least small occurs) j low (omega arith)),
       omega arith,
     )
 
 -- where the delimiter stands at the start
-pub starts_delimiter : (d bytes : List ℕ) (start : ℕ) → 0 < length d → stands d (drop start bytes) ≡ true → Some start ≡ delimiter_from d bytes start
-starts_delimiter d bytes start some h =
-    let fits = (stands_reads d (drop start bytes) h).0 in
+pub starts_delimiter : (dash_boundary bytes : List ℕ) (start : ℕ) → 0 < length dash_boundary → stands dash_boundary (drop start bytes) ≡ true → Some start ≡ delimiter_from dash_boundary bytes start
+starts_delimiter dash_boundary bytes start some h =
+    let fits = (stands_reads dash_boundary (drop start bytes) h).0 in
     let len = length-drop start bytes in
-    delimiter_from-some d bytes start start (omega arith) (omega arith) (is_delimiter-start d bytes start ∙ h) (λ k low high. absurd (omega arith))
+    delimiter_from-some dash_boundary bytes start start (omega arith) (omega arith) (is_delimiter-start dash_boundary bytes start ∙ h) (λ k low high. absurd (omega arith))
+
+-- ---- the ranges of the parts
+
+-- the place after a line lies after it, within the bytes
+pub line_after-bounds : (bytes : List ℕ) (p next : ℕ) → p ≤ length bytes → line_after bytes p ≡ Some next → (p < next) × (next ≤ length bytes)
+line_after-bounds bytes p next within e =
+    let there = somewhere (λ k. suc (p + k)) next (byte_place (drop p bytes) 10) (sym e) in
+    let found = place_some (begins is_line_feed) (drop p bytes) there.0 there.1 in
+    let place = found.0 in
+    let low = found.1 in
+    let same = there.2 in
+    let len = length-drop p bytes in
+    (omega arith, omega arith)
+
+-- the next part starts after this one does, within the bytes
+pub next_part-bounds : (dash_boundary bytes : List ℕ) (s next : ℕ) → next_part dash_boundary bytes s ≡ Some next → (s < next) × (next ≤ length bytes)
+next_part-bounds dash_boundary bytes s next e = by_delimiter (delimiter_from dash_boundary bytes s) refl e
+  where
+    clash : None ≡ Some next → ⊥
+    clash h = cc
+
+    by_last : (p : ℕ) → delimiter_from dash_boundary bytes s ≡ Some p → (t : Bool) → if t then None else part_after dash_boundary bytes p ≡ Some next → (s < next) × (next ≤ length bytes)
+    by_last p f true h = absurd (clash h)
+    by_last p f false h =
+        let least = delimiter_from-out dash_boundary bytes s p f in
+        let low = least.low in
+        let high = least.high in
+        let fits = is_delimiter-fits dash_boundary bytes s p (omega arith) least.passes in
+        let after = line_after-bounds bytes (p + length dash_boundary) next fits h in
+        (omega (arith, after.0), after.1)
+
+    by_delimiter : (o : Option ℕ) → delimiter_from dash_boundary bytes s ≡ o → option_and_then (λ p. if is_close_delimiter dash_boundary bytes p then None else part_after dash_boundary bytes p) o ≡ Some next
+        → (s < next) × (next ≤ length bytes)
+    by_delimiter None f h = absurd (clash h)
+    by_delimiter (Some p) f h = by_last p f (is_close_delimiter dash_boundary bytes p) h
+
+part_start-more : (dash_boundary bytes : List ℕ) (s j : ℕ) → part_start dash_boundary bytes (Some s) (suc j) ≡ part_start dash_boundary bytes (next_part dash_boundary bytes s) j
+part_start-more dash_boundary bytes s zero = refl
+part_start-more dash_boundary bytes s (suc j) = ap (option_and_then (next_part dash_boundary bytes)) (part_start-more dash_boundary bytes s j)
+
+part_start-bounds : (dash_boundary bytes : List ℕ) (s j p : ℕ) → s ≤ length bytes → part_start dash_boundary bytes (Some s) j ≡ Some p → (s + j ≤ p) × (p ≤ length bytes)
+part_start-bounds dash_boundary bytes s zero p within e = let same = unwrap e in (omega arith, omega arith)
+  where
+    unwrap : Some s ≡ Some p → s ≡ p
+    unwrap h = cc
+part_start-bounds dash_boundary bytes s (suc j) p within e = by_part (part_start dash_boundary bytes (Some s) j) refl (λ q. part_start-bounds dash_boundary bytes s j q within) e
+  where
+    clash : None ≡ Some p → ⊥
+    clash h = cc
+
+    by_part : (o : Option ℕ) → part_start dash_boundary bytes (Some s) j ≡ o → ((q : ℕ) → part_start dash_boundary bytes (Some s) j ≡ Some q → (s + j ≤ q) × (q ≤ length bytes))
+        → option_and_then (next_part dash_boundary bytes) o ≡ Some p → (s + suc j ≤ p) × (p ≤ length bytes)
+    by_part None f ih h = absurd (clash h)
+    by_part (Some q) f ih h =
+        let before = (ih q f).0 in
+        let more = next_part-bounds dash_boundary bytes q p h in
+        (omega (arith, more.0), more.1)
+
+-- the ranges of the parts, by where the first one starts
+abbrev pub part_ranges : List ℕ → List ℕ → Option ℕ → List Range
+part_ranges dash_boundary bytes first = map (part_range dash_boundary bytes) (part_starts dash_boundary bytes first)
+
+-- where none stands, none follows
+part_start-none : (dash_boundary bytes : List ℕ) (j : ℕ) → part_start dash_boundary bytes None j ≡ None
+part_start-none dash_boundary bytes zero = refl
+part_start-none dash_boundary bytes (suc j) = ap (option_and_then (next_part dash_boundary bytes)) (part_start-none dash_boundary bytes j)
+
+-- the values that are there
+abbrev present : List (Option ℕ) → List ℕ
+present = filter_map (λ start. start)
+
+present-none : (n : ℕ) (f : ℕ → Option ℕ) → ((j : ℕ) → f j ≡ None) → present (values_below n f) ≡ []
+present-none zero f none = refl
+present-none (suc n) f none =
+    ap (λ (o : Option ℕ). present (o ∷ values_below n (λ j. f (suc j)))) (none 0) ∙ present-none n (λ j. f (suc j)) (λ j. none (suc j))
+
+-- a last value that is not there does not count
+present-last : (n : ℕ) (f : ℕ → Option ℕ) → f n ≡ None → present (values_below (suc n) f) ≡ present (values_below n f)
+present-last zero f none = ap (λ (o : Option ℕ). present (o ∷ [])) none
+present-last (suc n) f none = go (f 0) (present-last n (λ j. f (suc j)) none)
+  where
+    go : (o : Option ℕ) → present (values_below (suc n) (λ j. f (suc j))) ≡ present (values_below n (λ j. f (suc j)))
+        → present (o ∷ values_below (suc n) (λ j. f (suc j))) ≡ present (o ∷ values_below n (λ j. f (suc j)))
+    go None same = same
+    go (Some x) same = ap (λ (rest : List ℕ). x ∷ rest) same
+
+pub part_ranges-none : (dash_boundary bytes : List ℕ) → part_ranges dash_boundary bytes None ≡ []
+unfolding part_starts
+part_ranges-none dash_boundary bytes =
+    ap (map (part_range dash_boundary bytes)) (present-none (suc (length bytes)) (part_start dash_boundary bytes None) (part_start-none dash_boundary bytes))
+
+-- no part that follows another one has the number of bytes as its number
+no_part_past : (dash_boundary bytes : List ℕ) (s : ℕ) → part_start dash_boundary bytes (next_part dash_boundary bytes s) (length bytes) ≡ None
+no_part_past dash_boundary bytes s = by_next (next_part dash_boundary bytes s) refl
+  where
+    by_part : (next : ℕ) → next_part dash_boundary bytes s ≡ Some next → (o : Option ℕ) → part_start dash_boundary bytes (Some next) (length bytes) ≡ o → o ≡ None
+    by_part next e None f = refl
+    by_part next e (Some p) f =
+        let here = next_part-bounds dash_boundary bytes s next e in
+        let there = part_start-bounds dash_boundary bytes next (length bytes) p here.1 f in
+        absurd (omega (arith, here.0, there.0, there.1))
+
+    by_next : (o : Option ℕ) → next_part dash_boundary bytes s ≡ o → part_start dash_boundary bytes o (length bytes) ≡ None
+    by_next None e = part_start-none dash_boundary bytes (length bytes)
+    by_next (Some next) e = by_part next e (part_start dash_boundary bytes (Some next) (length bytes)) refl
+
+part_starts-some : (dash_boundary bytes : List ℕ) (s : ℕ)
+    → part_starts dash_boundary bytes (Some s) ≡ s ∷ part_starts dash_boundary bytes (next_part dash_boundary bytes s)
+unfolding part_starts
+part_starts-some dash_boundary bytes s =
+    let more = values_below-same (length bytes) (λ j. part_start dash_boundary bytes (Some s) (suc j)) (part_start dash_boundary bytes (next_part dash_boundary bytes s))
+    (part_start-more dash_boundary bytes s) in
+    ap (λ (rest : List (Option ℕ)). s ∷ present rest) more
+    ∙ ap (λ (rest : List ℕ). s ∷ rest)
+    (sym (present-last (length bytes) (part_start dash_boundary bytes (next_part dash_boundary bytes s)) (no_part_past dash_boundary bytes s)))
+
+-- the parts from one on are it and those from the next one on
+pub part_ranges-some : (dash_boundary bytes : List ℕ) (s : ℕ) → part_ranges dash_boundary bytes (Some s) ≡ part_range dash_boundary bytes s ∷ part_ranges dash_boundary bytes (next_part dash_boundary bytes s)
+part_ranges-some dash_boundary bytes s = ap (map (part_range dash_boundary bytes)) (part_starts-some dash_boundary bytes s)
+
+-- ---- searches with keys that no delimiter has: by their contracts, what `find_from_u8` and
+-- `find_from_u8_line_prefix` return on short texts
+
+-- the first `o` in `hello world` from 5 on, and from 8 on
+pub byte_after_a_place : option_map (λ k. 5 + k) (byte_place (drop 5 (codes "hello world")) 111) ≡ Some 7
+byte_after_a_place = refl
+
+pub no_byte_after_a_place : option_map (λ k. 8 + k) (byte_place (drop 8 (codes "hello world")) 111) ≡ None
+no_byte_after_a_place = refl
+
+-- the first line from a place on that begins with a key
+pub key_on_the_next_line : delimiter_from (codes "he") (codes "hello" ++ line_feed ∷ codes "hello") 1 ≡ Some 6
+unfolding delimiter_from
+key_on_the_next_line = refl
+
+pub key_where_a_line_starts : delimiter_from (codes "wo") (codes "hello" ++ line_feed ∷ codes "world") 6 ≡ Some 6
+unfolding delimiter_from
+key_where_a_line_starts = refl
+
+pub no_key_in_the_line : delimiter_from (codes "wo") (codes "hello" ++ line_feed ∷ codes "world") 7 ≡ None
+unfolding delimiter_from
+no_key_in_the_line = refl

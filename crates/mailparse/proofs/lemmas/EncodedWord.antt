@@ -121,15 +121,15 @@ module _ (known : Charsets) where
       → known label ≡ None → None ≡ word_text known inside
   word_no_charset inside label rest encoding encoded first second unknown =
       sym (word_parts inside label rest encoding encoded first second
-      ∙ ap (option_and_then (λ text. option_map text (encoded_bytes encoding encoded))) unknown)
+      ∙ ap (option_and_then (λ text. option_and_then (λ bytes. Some (text bytes)) (encoded_bytes encoding encoded))) unknown)
 
   -- whose encoded text stands for no bytes
   pub word_no_bytes : (inside label rest encoding encoded : List ℕ) (decode : List ℕ → List ℕ) → IsCutAtMark inside label rest
       → IsCutAtMark rest encoding encoded → known label ≡ Some decode → encoded_bytes encoding encoded ≡ None → None ≡ word_text known inside
   word_no_bytes inside label rest encoding encoded decode first second some none =
       sym (word_parts inside label rest encoding encoded first second
-      ∙ ap (option_and_then (λ text. option_map text (encoded_bytes encoding encoded))) some
-      ∙ ap (option_map decode) none)
+      ∙ ap (option_and_then (λ text. option_and_then (λ bytes. Some (text bytes)) (encoded_bytes encoding encoded))) some
+      ∙ ap (option_and_then (λ bytes. Some (decode bytes))) none)
 
   -- whose label names a charset and whose encoded text stands for bytes
   pub word_whole : (inside label rest encoding encoded bytes text : List ℕ) (decode : List ℕ → List ℕ) → IsCutAtMark inside label rest
@@ -137,8 +137,8 @@ module _ (known : Charsets) where
       → Some text ≡ word_text known inside
   word_whole inside label rest encoding encoded bytes text decode first second some stands reads =
       sym (word_parts inside label rest encoding encoded first second
-      ∙ ap (option_and_then (λ text. option_map text (encoded_bytes encoding encoded))) some
-      ∙ ap (option_map decode) stands
+      ∙ ap (option_and_then (λ text. option_and_then (λ bytes. Some (text bytes)) (encoded_bytes encoding encoded))) some
+      ∙ ap (option_and_then (λ bytes. Some (decode bytes))) stands
       ∙ ap Some (sym reads))
 
 -- a label among the four charsets, or not

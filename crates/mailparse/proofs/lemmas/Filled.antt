@@ -10,7 +10,7 @@ use Rattle.std.specs.String.{string_cmp}
 use Rattle.std.specs.Str.{bytes_eq}
 use Rattle.mailparse.specs.private.Filled.{filled, holds_name}
 use Rattle.mailparse.proofs.lemmas.Pairs.{mapped}
-use Rattle.mailparse.proofs.lemmas.StarredKeys.{equal_bytes}
+use Rattle.mailparse.proofs.lemmas.ExtendedValues.{equal_bytes}
 
 pub any_push : (test : List ℕ → Bool) (names : List (List ℕ)) (name : List ℕ) → list_any test (names ++ name ∷ []) ≡ (list_any test names || test name)
 any_push test [] name = go (test name)

@@ -5,10 +5,10 @@ use Rattle.std.proofs.lemmas.Bool.{cases_lt, eqb-true}
 use Rattle.std.proofs.lemmas.List.{drop_more, drop-take, drop-drop, take-take, get_or-take}
 use Rattle.std.proofs.Math.ListN.{drop_of_length-le}
 use Rattle.std.proofs.Math.Seq.{take-append_seam}
-use Rattle.mail_codec.specs.Ascii.{colon}
+use Rattle.mail_codec.specs.Ascii.{colon, is_blank}
 use Rattle.mail_codec.specs.Places.{first_place, place, place_from, begins, IsFirstPlace}
 use Rattle.mail_codec.proofs.lemmas.Places.{first_place-≤, first_place-here, first_place-past, first_place-passes, first_place-before, first_place-is_first, IsFirstPlace-unique, begins-at, place_from_same, place_from_here, place_from_next, place_from_passes}
-use Rattle.mailparse.specs.Header.{ends_key, Header, is_blank, is_line_end, is_line_feed, ends_header, key_end, has_colon, header_end, value_start, value_end, header_of, header_length, read_header}
+use Rattle.mailparse.specs.Header.{ends_key, Header, is_line_end, is_line_feed, ends_header, key_end, has_colon, header_end, value_start, value_end, header_of, header_length, read_header}
 use Rattle.mailparse.specs.Refusal.{empty_string, leading_space}
 use Rattle.mailparse.proofs.lemmas.Places.{place_from_via}
 use Rattle.mail_codec.proofs.lemmas.WordSearches.{place_none, place_some}

@@ -1,49 +1,95 @@
--- The parts of a base, one after the other.
-use Rattle.std.proofs.Common.{◌≡◌, ℕ, zero, suc, ◌+◌, ◌-◌, ◌<◌, ◌≤◌, List, [], ◌∷◌, ◌++◌, flat_map, append_assoc, append-nil, Option, Some, None, refl, sym, ap, ◌∙◌, arith}
-use Rattle.mailparse.specs.Continuations.{Group, Part, as_far, group_text, groups, joined, most_parts, octets, onto_run, parts_from, piece_name, run, text, text_alone}
-use Rattle.mailparse.specs.private.Continuations.{joined_after}
+-- The sections of a base, one after the other.
+use Rattle.std.proofs.Common.{◌≡◌, ℕ, zero, suc, ◌+◌, ◌-◌, ◌<◌, ◌≤◌, Bool, true, false, not, is_some, List, [], ◌∷◌, ◌++◌, flat_map, append_assoc, append-nil, Option, Some, None, refl, sym, ap, ◌∙◌, arith}
+use Rattle.std.proofs.lemmas.Bool.{cond-false, cond-true}
+use Rattle.std.specs.Option.{option_to_list}
+use Rattle.mail_codec.specs.Places.{least, values_below}
+use Rattle.mailparse.specs.Continuations.{Group, group_text, groups, is_missing, joined, most_sections, onto_run, run, sections_of, text_alone, walked_after}
+use Rattle.mailparse.specs.private.Continuations.{as_far, sections_from}
+use Rattle.mailparse.specs.Sections.{Section, octets, section_name, text}
 
-pub most : most_parts ≡ 18446744073709551615
-unfolding most_parts
+pub most : most_sections ≡ 18446744073709551615
+unfolding most_sections
 most = refl
 
--- no part stands at the next number
-pub parts_none : (at : List ℕ → Option Part) (base : List ℕ) (n number : ℕ) → at (piece_name base number) ≡ None → parts_from at base n number ≡ []
-parts_none at base zero number e = refl
-parts_none at base (suc n) number e = ap (λ o. as_far o (parts_from at base n (suc number))) e
+-- no section stands at the next number
+pub sections_none : (at : List ℕ → Option Section) (base : List ℕ) (n number : ℕ) → at (section_name base number) ≡ None → sections_from at base n number ≡ []
+sections_none at base zero number e = refl
+sections_none at base (suc n) number e = ap (λ o. as_far o (sections_from at base n (suc number))) e
 
 -- one does
-pub parts_some : (at : List ℕ → Option Part) (base : List ℕ) (most number : ℕ) (part : Part) → number < most → at (piece_name base number) ≡ Some part
-    → parts_from at base (most - number) number ≡ part ∷ parts_from at base (most - (number + 1)) (number + 1)
-parts_some at base most number part below e =
+pub sections_some : (at : List ℕ → Option Section) (base : List ℕ) (most number : ℕ) (section : Section) → number < most → at (section_name base number) ≡ Some section
+    → sections_from at base (most - number) number ≡ section ∷ sections_from at base (most - (number + 1)) (number + 1)
+sections_some at base most number section below e =
     let left : most - number ≡ suc (most - (number + 1)) = omega arith in
     let next : suc number ≡ number + 1 = omega arith in
-    ap (λ n. parts_from at base n number) left
-    ∙ ap (λ o. as_far o (parts_from at base (most - (number + 1)) (suc number))) e
-    ∙ ap (λ j. part ∷ parts_from at base (most - (number + 1)) j) next
+    ap (λ n. sections_from at base n number) left
+    ∙ ap (λ o. as_far o (sections_from at base (most - (number + 1)) (suc number))) e
+    ∙ ap (λ j. section ∷ sections_from at base (most - (number + 1)) j) next
 
 -- all numbers are used up
-pub parts_end : (at : List ℕ → Option Part) (base : List ℕ) (most number : ℕ) → most ≤ number → parts_from at base (most - number) number ≡ []
-parts_end at base most number full = let none : most - number ≡ 0 = omega arith in ap (λ n. parts_from at base n number) none
+pub sections_end : (at : List ℕ → Option Section) (base : List ℕ) (most number : ℕ) → most ≤ number → sections_from at base (most - number) number ≡ []
+sections_end at base most number full = let none : most - number ≡ 0 = omega arith in ap (λ n. sections_from at base n number) none
+
+number_next : (number k : ℕ) → number + suc k ≡ suc number + k
+number_next number k = omega arith
+
+-- the sections below the least number at which nothing stands are those from 0 on, as far as there are any
+from_number : (at : List ℕ → Option Section) (base : List ℕ) (most number : ℕ) (test : ℕ → Bool) (f : ℕ → Option Section)
+    → ((k : ℕ) → test k ≡ is_missing at base (number + k)) → ((k : ℕ) → f k ≡ at (section_name base (number + k)))
+    → flat_map option_to_list (values_below (least test most) f) ≡ sections_from at base most number
+from_number at base zero number test f missing stands = refl
+from_number at base (suc most) number test f missing stands =
+    go (at (section_name base number)) refl
+    (from_number at base most (suc number) (λ k. test (suc k)) (λ k. f (suc k)) (λ k. missing (suc k) ∙ ap (is_missing at base) (number_next number k))
+    (λ k. stands (suc k) ∙ ap (λ n. at (section_name base n)) (number_next number k)))
+  where
+    here : number + 0 ≡ number
+    here = omega arith
+
+    first : f 0 ≡ at (section_name base number)
+    first = stands 0 ∙ ap (λ n. at (section_name base n)) here
+
+    tested : test 0 ≡ not (is_some (at (section_name base number)))
+    tested = missing 0 ∙ ap (is_missing at base) here
+
+    go : (o : Option Section) → at (section_name base number) ≡ o
+        → flat_map option_to_list (values_below (least (λ k. test (suc k)) most) (λ k. f (suc k))) ≡ sections_from at base most (suc number)
+        → flat_map option_to_list (values_below (least test (suc most)) f) ≡ as_far (at (section_name base number)) (sections_from at base most (suc number))
+    go None e more =
+        let yes : test 0 ≡ true = tested ∙ ap (λ o. not (is_some o)) e in
+        ap (λ n. flat_map option_to_list (values_below n f)) (cond-true (test 0) 0 (suc (least (λ k. test (suc k)) most)) yes)
+        ∙ sym (ap (λ o. as_far o (sections_from at base most (suc number))) e)
+    go (Some section) e more =
+        let no : test 0 ≡ false = tested ∙ ap (λ o. not (is_some o)) e in
+        ap (λ n. flat_map option_to_list (values_below n f)) (cond-false (test 0) 0 (suc (least (λ k. test (suc k)) most)) no)
+        ∙ ap (λ o. option_to_list o ++ flat_map option_to_list (values_below (least (λ k. test (suc k)) most) (λ k. f (suc k)))) (first ∙ e)
+        ∙ ap (λ rest. section ∷ rest) more
+        ∙ sym (ap (λ o. as_far o (sections_from at base most (suc number))) e)
+
+pub sections_are : (at : List ℕ → Option Section) (base : List ℕ) → sections_of at base ≡ sections_from at base most_sections 0
+sections_are at base = from_number at base most_sections 0 (is_missing at base) (λ number. at (section_name base number)) (λ k. ap (is_missing at base) (zero_more k)) (λ k. ap (λ n. at (section_name base n)) (zero_more k))
+  where
+    zero_more : (k : ℕ) → k ≡ 0 + k
+    zero_more k = omega arith
 
 -- ---- a walk that keeps a run open makes the texts of the groups
 
--- two pieces in front of groups
+-- two sections in front of groups
 pub onto_twice : (first second : List ℕ → List ℕ) (a b : List ℕ) (found : List Group) → onto_run second (a ++ b) found ≡ onto_run first a (onto_run second b found)
 onto_twice first second a b [] = refl
 onto_twice first second a b (text_alone t ∷ more) = refl
 onto_twice first second a b (run last others ∷ more) = ap (λ bytes. run last bytes ∷ more) (append_assoc a b others)
 
 -- after nothing, and after a run
-walked : (parts : List Part) → (joined_after None [] parts ≡ joined parts)
-    × ((reading : List ℕ → List ℕ) (bytes : List ℕ) → joined_after (Some reading) bytes parts ≡ flat_map group_text (onto_run reading bytes (groups parts)))
+walked : (sections : List Section) → (walked_after None [] sections ≡ joined sections)
+    × ((reading : List ℕ → List ℕ) (bytes : List ℕ) → walked_after (Some reading) bytes sections ≡ flat_map group_text (onto_run reading bytes (groups sections)))
 walked [] = (refl, λ reading bytes. sym (append-nil (reading bytes)))
-walked (text t ∷ parts) =
-    let h = walked parts in
+walked (text t ∷ sections) =
+    let h = walked sections in
     (ap (λ rest. t ++ rest) h.0, λ reading bytes. ap (λ rest. reading bytes ++ (t ++ rest)) h.0)
-walked (octets last more ∷ parts) =
-    let h = walked parts in
-    (h.1 last more, λ reading bytes. h.1 last (bytes ++ more) ∙ ap (flat_map group_text) (onto_twice reading last bytes more (groups parts)))
+walked (octets last more ∷ sections) =
+    let h = walked sections in
+    (h.1 last more, λ reading bytes. h.1 last (bytes ++ more) ∙ ap (flat_map group_text) (onto_twice reading last bytes more (groups sections)))
 
-pub joined_by_walk : (parts : List Part) → joined_after None [] parts ≡ joined parts
-joined_by_walk parts = (walked parts).0
+pub joined_by_walk : (sections : List Section) → walked_after None [] sections ≡ joined sections
+joined_by_walk sections = (walked sections).0

@@ -6,14 +6,14 @@ use Rattle.std.specs.Borrow.{Bor}
 use Rattle.std.specs.Str.{trim_start}
 use Rattle.mail_codec.specs.Charset.{Charsets}
 use Rattle.mailparse.specs.Value.{newline, line_tokens, tokens_of_lines}
-use Rattle.mailparse.specs.declared.header.value.ShownValue.{ShownValue}
-use Rattle.mailparse.specs.private.Unfolding.{Shows}
-use Rattle.mailparse.proofs.lemmas.Unfolding.{Shows-append, Shows-at}
+use Rattle.mailparse.specs.declared.header.shown.ShownValue.{ShownValue}
+use Rattle.mailparse.specs.private.Shown.{Shows}
+use Rattle.mailparse.proofs.lemmas.Shown.{Shows-append, Shows-at}
 
 pub more_is_some : {A : Type 0} (xs : List A) (x : A) → false ≡ eqb (length (xs ++ x ∷ [])) 0
 more_is_some xs x = let len = length-append xs (x ∷ []) in sym (ne_eqb _ _ (λ e. absurd (omega arith)))
 
--- the lines of an iterator's items, without the white before their text
+-- the lines of an iterator's items, without the whitespace before their text
 abbrev pub trimmed : List (Bor (List ℕ)) → List (List ℕ)
 trimmed items = map (λ line. trim_start line.now) items
 

@@ -1,4 +1,4 @@
--- Lemmas on what a call answered beside what a definition gives.
+-- Lemmas on what a call returned beside what a definition gives.
 use Rattle.std.proofs.Common.{◌≡◌, Option, Some, None, Result, Err}
 use Rattle.std.specs.Cow.{cow_str_bytes}
 use Rattle.mailparse.specs.Refusal.{Refusal, generic, encoding, base64_fault}

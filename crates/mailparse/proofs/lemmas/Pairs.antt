@@ -1,5 +1,5 @@
 -- Lemmas on the pairs of a text, and on the map that holds them.
-use Rattle.std.proofs.Common.{◌≡◌, ℕ, suc, ◌<◌, Bool, true, false, cond, ltb, List, ◌∷◌, ◌++◌, length, drop, Option, Some, None, refl, sym, ap, ◌∙◌, arith}
+use Rattle.std.proofs.Common.{◌≡◌, ℕ, suc, ◌<◌, Bool, true, false, cond, ltb, List, [], ◌∷◌, ◌++◌, length, drop, Option, Some, None, refl, sym, ap, ◌∙◌, arith}
 use Rattle.std.proofs.lemmas.Bool.{cond-true, cond-false, lt-ltb, le-ltb}
 use Rattle.std.proofs.lemmas.Map.Text.{btree_map_updates_text}
 use Rattle.std.specs.Borrow.{Bor}
@@ -8,12 +8,12 @@ use Rattle.std.specs.Global.{Global}
 use Rattle.std.specs.List.{position_or_len, before_first, after_first}
 use Rattle.std.specs.Map.{update, update_all}
 use Rattle.std.specs.Option.{option_map, option_to_list}
-use Rattle.std.specs.Prelude.{String, string_bytes}
+use Rattle.std.specs.Prelude.{String, string_bytes, slice_index_or}
 use Rattle.std.specs.Str.{bytes_eq, str_to_ascii_lowercase, trim}
 use Rattle.std.specs.String.{string_cmp}
-use Rattle.mailparse.specs.Pairs.{Texts, text_at, is_equals, pair_of, pairs_in, pairs_of, first_piece, value_of}
-use Rattle.mailparse.specs.Pieces.{pieces, unescape}
-use Rattle.mailparse.specs.private.Pairs.{pair}
+use Rattle.mailparse.specs.Pairs.{Texts, text_at, is_equals, pair_of, pairs_in, pairs_of, value_of}
+use Rattle.mailparse.specs.Segments.{segments, unescape}
+use Rattle.mailparse.specs.private.Pairs.{pair_view}
 
 -- ---- the map
 
@@ -39,42 +39,42 @@ stored old new key value updates = λ i name.
     (ap (option_map string_bytes) (btree_map_updates_text (string_bytes key) old new (Some value) updates name)
     ∙ mapped string_bytes (bytes_eq (string_bytes key) name) value _) i
 
--- ---- one piece
+-- ---- one segment
 
-pub pair_of-some : (piece : List ℕ) → position_or_len is_equals piece < length piece
-    → pair_of piece ≡ Some (str_to_ascii_lowercase (trim (before_first is_equals piece)), unescape (trim (after_first is_equals piece)))
+pub pair_of-some : (segment : List ℕ) → position_or_len is_equals segment < length segment
+    → pair_of segment ≡ Some (str_to_ascii_lowercase (trim (before_first is_equals segment)), unescape (trim (after_first is_equals segment)))
 unfolding pair_of
-pair_of-some piece lt = cond-true _ _ _ (lt-ltb _ _ lt)
+pair_of-some segment lt = cond-true _ _ _ (lt-ltb _ _ lt)
 
-pub pair_of-none : (piece : List ℕ) → position_or_len is_equals piece ≡ length piece → pair_of piece ≡ None
+pub pair_of-none : (segment : List ℕ) → position_or_len is_equals segment ≡ length segment → pair_of segment ≡ None
 unfolding pair_of
-pair_of-none piece e = cond-false _ _ _ (ap (λ n. ltb n (length piece)) e ∙ le-ltb (length piece) (length piece) (omega arith))
+pair_of-none segment e = cond-false _ _ _ (ap (λ n. ltb n (length segment)) e ∙ le-ltb (length segment) (length segment) (omega arith))
 
--- ---- the walk over the pieces
+-- ---- the walk over the segments
 
-pub pairs_in-some : (piece : List ℕ) (more : List (List ℕ)) (key value : List ℕ) → pair_of piece ≡ Some (key, value)
-    → pairs_in (piece ∷ more) ≡ (key, value) ∷ pairs_in more
-pairs_in-some piece more key value e = ap (λ p. option_to_list p ++ pairs_in more) e
+pub pairs_in-some : (segment : List ℕ) (more : List (List ℕ)) (key value : List ℕ) → pair_of segment ≡ Some (key, value)
+    → pairs_in (segment ∷ more) ≡ (key, value) ∷ pairs_in more
+pairs_in-some segment more key value e = ap (λ p. option_to_list p ++ pairs_in more) e
 
--- a piece with a pair
-pub stores_pair : (texts new all : Texts) (found : List (List ℕ)) (piece : List ℕ) (more : List (List ℕ)) (key value : List ℕ)
-    → found ≡ piece ∷ more → pair_of piece ≡ Some (key, value) → new ≡ update bytes_eq texts key (Some value)
+-- a segment with a pair
+pub stores_pair : (texts new all : Texts) (found : List (List ℕ)) (segment : List ℕ) (more : List (List ℕ)) (key value : List ℕ)
+    → found ≡ segment ∷ more → pair_of segment ≡ Some (key, value) → new ≡ update bytes_eq texts key (Some value)
     → stores texts (pairs_in found) ≡ all → stores new (pairs_in more) ≡ all
-stores_pair texts new all found piece more key value cut e put here =
+stores_pair texts new all found segment more key value cut e put here =
     ap (λ t. stores t (pairs_in more)) put
-    ∙ sym (ap (λ ps. stores texts (pairs_in ps)) cut ∙ ap (stores texts) (pairs_in-some piece more key value e))
+    ∙ sym (ap (λ ps. stores texts (pairs_in ps)) cut ∙ ap (stores texts) (pairs_in-some segment more key value e))
     ∙ here
 
 pub pair_is : (found : String Global × String Global) (given : List ℕ × List ℕ) → string_bytes found.0 ≡ given.0 → string_bytes found.1 ≡ given.1
-    → Some (pair found) ≡ Some given
+    → Some (pair_view found) ≡ Some given
 pair_is found given key value = λ i. Some (key i, value i)
 
 -- ---- a whole text
 
-pub value_of-first : (text piece : List ℕ) (more : List (List ℕ)) → pieces text ≡ piece ∷ more → value_of text ≡ trim piece
+pub value_of-first : (text segment : List ℕ) (more : List (List ℕ)) → segments text ≡ segment ∷ more → value_of text ≡ trim segment
 unfolding value_of
-value_of-first text piece more e = ap (λ ps. trim (first_piece ps)) e
+value_of-first text segment more e = ap (λ ps. trim (slice_index_or ps 0 [])) e
 
-pub pairs_of-later : (text piece : List ℕ) (more : List (List ℕ)) → pieces text ≡ piece ∷ more → pairs_of text ≡ pairs_in more
+pub pairs_of-later : (text segment : List ℕ) (more : List (List ℕ)) → segments text ≡ segment ∷ more → pairs_of text ≡ pairs_in more
 unfolding pairs_of
-pairs_of-later text piece more e = ap (λ ps. pairs_in (drop 1 ps)) e
+pairs_of-later text segment more e = ap (λ ps. pairs_in (drop 1 ps)) e

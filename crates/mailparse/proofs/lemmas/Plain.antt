@@ -13,14 +13,14 @@ use Rattle.std.specs.Str.Lines.{lines, lines_of_parts}
 use Rattle.mail_codec.specs.Charset.{Charsets, four_charsets}
 use Rattle.mail_codec.specs.Latin1.{latin1_text}
 use Rattle.mail_codec.specs.Places.{first_place, begins, place}
-use Rattle.mailparse.specs.Tokens.{white_space, plain_text, begins_opening, is_white, opening, outside_range, last_group, no_opening}
+use Rattle.mailparse.specs.Tokens.{whitespace, plain_text, begins_opening, is_all_whitespace, opening, outside_range, last_group, no_opening}
 use Rattle.mailparse.specs.Refusal.{value_not_utf8}
 use Rattle.mailparse.proofs.lemmas.Value.{lenient-utf8}
 use Rattle.std.proofs.lemmas.Str.{IsUtf8-from_ascii}
 use Rattle.mailparse.specs.Value.{IsPlain, token_of, outside_token, line_tokens, tokens_of_lines, value_tokens, shown_tokens, shown_after, shown_value, lenient_value, strict_value}
 use Rattle.mail_codec.proofs.lemmas.Places.{first_place-≤, first_place-passes, first_place-before, begins-at}
 use Rattle.mail_codec.proofs.lemmas.WordSearches.{place_none}
-use Rattle.mailparse.proofs.lemmas.Unfolding.{token_of-outside}
+use Rattle.mailparse.proofs.lemmas.Shown.{token_of-outside}
 use Rattle.mailparse.proofs.lemmas.Tokens.{token_ranges_only}
 
 -- ---- printable ASCII
@@ -32,8 +32,8 @@ printable_ascii : (value : List ℕ) → Printable value → IsAscii value
 printable_ascii value h i =
     ⊎_elim (λ lt. omega (arith, (h i 0 lt).1)) (λ past. omega (arith, get_or_past value i 0 past)) (cases_lt i (length value))
 
-pub graphic_no_white : (b : ℕ) → 33 ≤ b → b ≤ 126 → is_whitespace b ≡ false
-graphic_no_white b low high =
+pub graphic_no_whitespace : (b : ℕ) → 33 ≤ b → b ≤ 126 → is_whitespace b ≡ false
+graphic_no_whitespace b low high =
     let other : (n : ℕ) → (b < n) ⊎ (n < b) → eqb b n ≡ false = λ n h. ne_eqb b n (λ e. ⊎_elim (λ l. absurd (omega arith)) (λ l. absurd (omega arith)) h) in
     or_from _ _ (or_from _ _ (or_from _ _ (or_from _ _ (or_from _ _ (or_from _ _ (or_from _ _ (or_from _ _ (or_from _ _ (or_from _ _
     (and_right (ltb 8 b) (ltb b 14) (le-ltb b 14 (omega arith)))
@@ -55,7 +55,7 @@ trim_start-plain b value h some =
     let ascii = printable_ascii (b ∷ value) h in
     let first = All-head (λ b. (32 ≤ b) × (b ≤ 126)) b value h in
     ap (λ cs. encode_utf8_all (skip_leading_whitespace cs)) (chars-IsAscii (b ∷ value) ascii)
-    ∙ ap encode_utf8_all (cond-false _ _ _ (graphic_no_white b (omega arith) first.1))
+    ∙ ap encode_utf8_all (cond-false _ _ _ (graphic_no_whitespace b (omega arith) first.1))
     ∙ encodes-IsAscii (b ∷ value) ascii
 
 trim_start-nil : trim_start [] ≡ []
@@ -76,9 +76,9 @@ no_opening_found line none =
     (cases_lt (first_place begins_opening line) (length line))
 
 shown_alone : (line : List ℕ) → shown_tokens (outside_token line ∷ []) ≡ line
-shown_alone line = go (is_white line)
+shown_alone line = go (is_all_whitespace line)
   where
-    go : (t : Bool) → shown_after None None (record { kind = cond t white_space plain_text; shown = line } ∷ []) ≡ line
+    go : (t : Bool) → shown_after None None (record { kind = cond t whitespace plain_text; shown = line } ∷ []) ≡ line
     go true = append-nil line
     go false = append-nil line
 
@@ -103,7 +103,7 @@ module _ (known : Charsets) where
       ∙ ap shown_tokens (line_tokens-plain (b ∷ value) plain.no_opening)
       ∙ shown_alone (b ∷ value)
 
-  -- a text of one line without `=?` shows itself, but for the white at its start
+  -- a text of one line without `=?` shows itself, but for the whitespace at its start
   pub shown_value-line : (text line : List ℕ) → None ≡ place (begins (λ b. eqb b 10)) text → line ≡ trim_start text → None ≡ place begins_opening line
       → line ≡ shown_value known text
   unfolding shown_value value_tokens

@@ -6,7 +6,7 @@ use Rattle.std.proofs.lemmas.Str.{chars-nil, chars_past_char}
 use Rattle.std.specs.Char.{encode_utf8}
 use Rattle.std.specs.Str.{chars, encode_utf8_all, IsUtf8}
 use Rattle.mail_codec.specs.Ascii.{backslash}
-use Rattle.mailparse.specs.Pieces.{is_odd, without_escapes}
+use Rattle.mailparse.specs.Segments.{is_odd, without_escapes}
 
 -- the characters that stay, by a flag: whether the first of them is escaped
 abbrev pub stays_after : Bool → List ℕ → List ℕ

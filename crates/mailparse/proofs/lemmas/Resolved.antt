@@ -8,20 +8,22 @@ use Rattle.std.specs.List.{list_any}
 use Rattle.std.specs.Map.{update, update_all}
 use Rattle.std.specs.Option.{option_map_or, option_or}
 use Rattle.std.specs.Str.{bytes_eq}
-use Rattle.mail_codec.specs.Charset.{four_charsets}
+use Rattle.mail_codec.specs.Charset.{Charsets, four_charsets}
 use Rattle.mailparse.specs.Continuations as joined
-use Rattle.mailparse.specs.Continuations.{is_base, is_first_of, is_text, joined_at, names_of, parameters_of, part_at}
+use Rattle.mailparse.specs.Sections as words
+use Rattle.mailparse.specs.Continuations.{is_base, is_first_of, joined_at, names_of, parameters_of}
+use Rattle.mailparse.specs.ExtendedValues.{section_at, is_extended, name_under, starred}
+use Rattle.mailparse.specs.Sections.{is_text}
+use Rattle.mailparse.specs.private.Continuations.{names_in, names_of_sections}
+use Rattle.mailparse.specs.private.Sections.{section_view, sections_at, stands_at}
 use Rattle.mailparse.specs.Pairs.{Texts, last_of, text_at}
-use Rattle.mailparse.specs.StarredKeys.{is_waiting, name_under, starred}
-use Rattle.mailparse.specs.private.Continuations.{names_in, names_of_parts}
 use Rattle.mailparse.specs.private.Filled.{holds_name}
-use Rattle.mailparse.specs.private.StarredKeys.{part_view, parts_at, stands_at}
-use Rattle.mailparse.specs.declared.parameters.parts.Parts.{Parts}
-use Rattle.mailparse.specs.declared.parameters.starred.Part.{Part}
-use Rattle.mailparse.proofs.lemmas.ExtendedParts.{extended_none}
-use Rattle.mailparse.proofs.lemmas.PartsOf.{named, part_none, unnamed}
-use Rattle.mailparse.proofs.lemmas.Speakers.{name_under_starred}
-use Rattle.mailparse.proofs.lemmas.StarredKeys.{equal_bytes, is_some_map, same_bytes}
+use Rattle.mailparse.specs.declared.parameters.sections.Sections.{Sections}
+use Rattle.mailparse.specs.declared.parameters.sections.Section.{Section}
+use Rattle.mailparse.proofs.lemmas.ExtendedSections.{extended_none}
+use Rattle.mailparse.proofs.lemmas.Sections.{named, section_none, unnamed}
+use Rattle.mailparse.proofs.lemmas.CharsetSources.{name_under_starred}
+use Rattle.mailparse.proofs.lemmas.ExtendedValues.{equal_bytes, is_some_map, same_bytes}
 
 -- ---- a test that passes only names of two lists answers the same of both
 
@@ -33,7 +35,7 @@ or_right : (a b : Bool) → b ≡ true → (a || b) ≡ true
 or_right true b h = refl
 or_right false b h = h
 
-or_either : (a b : Bool) → (a || b) ≡ true → (a ≡ true) ⊎ (b ≡ true)
+pub or_either : (a b : Bool) → (a || b) ≡ true → (a ≡ true) ⊎ (b ≡ true)
 or_either true b h = inl refl
 or_either false b h = inr h
 
@@ -57,25 +59,25 @@ any_same test xs ys inx iny = go (list_any test xs) (list_any test ys) refl refl
     go true false p q = let z = any_of test xs p in let clash : true ≡ false = sym (any_at test ys z.0 z.1 (iny z.0 z.1)) ∙ q in absurd (cc)
     go false true p q = let z = any_of test ys q in let clash : true ≡ false = sym (any_at test xs z.0 z.1 (inx z.0 z.1)) ∙ p in absurd (cc)
 
-base_names : (at : List ℕ → Option joined.Part) (xs ys : List (List ℕ)) → ((z : List ℕ) → is_some (at z) ≡ true → holds_name xs z ≡ true)
+base_names : (at : List ℕ → Option words.Section) (xs ys : List (List ℕ)) → ((z : List ℕ) → is_some (at z) ≡ true → holds_name xs z ≡ true)
     → ((z : List ℕ) → is_some (at z) ≡ true → holds_name ys z ≡ true) → (q : List ℕ) → is_base at xs q ≡ is_base at ys q
 base_names at xs ys inx iny q =
     ap (λ b. not (is_text (at q)) && b)
     (any_same (λ n. is_some (at n) && is_first_of q n) xs ys (λ z h. inx z (and_parts _ _ h).0) (λ z h. iny z (and_parts _ _ h).0))
 
 -- what a name has in the end, by a test of the bases
-abbrev joined_by : (List ℕ → Bool) → (List ℕ → Option joined.Part) → List ℕ → Option (List ℕ)
+abbrev joined_by : (List ℕ → Bool) → (List ℕ → Option words.Section) → List ℕ → Option (List ℕ)
 joined_by base at name =
     option_or
-    (cond (option_map_or (λ n. base n.0 && (ltb n.1 (length (joined.parts_of at n.0)) && bytes_eq name (joined.piece_name n.0 n.1))) (joined.numbered name) false)
-    None (option_map joined.alone (at name)))
-    (cond (base name) (Some (joined.joined (joined.parts_of at name))) None)
+    (cond (option_map_or (λ n. base n.0 && (ltb n.1 (length (joined.sections_of at n.0)) && bytes_eq name (words.section_name n.0 n.1))) (words.numbered name) false)
+    None (option_map words.alone (at name)))
+    (cond (base name) (Some (joined.joined (joined.sections_of at name))) None)
 
-by_base : (at : List ℕ → Option joined.Part) (names : List (List ℕ)) (q : List ℕ) → joined_at at names q ≡ joined_by (is_base at names) at q
+by_base : (at : List ℕ → Option words.Section) (names : List (List ℕ)) (q : List ℕ) → joined_at at names q ≡ joined_by (is_base at names) at q
 unfolding joined_at
 by_base at names q = refl
 
-joined_same : (at : List ℕ → Option joined.Part) (xs ys : List (List ℕ)) → ((z : List ℕ) → is_some (at z) ≡ true → holds_name xs z ≡ true)
+joined_same : (at : List ℕ → Option words.Section) (xs ys : List (List ℕ)) → ((z : List ℕ) → is_some (at z) ≡ true → holds_name xs z ≡ true)
     → ((z : List ℕ) → is_some (at z) ≡ true → holds_name ys z ≡ true) → (q : List ℕ) → joined_at at xs q ≡ joined_at at ys q
 joined_same at xs ys inx iny q =
     let same : is_base at xs ≡ is_base at ys = λ i b. base_names at xs ys inx iny b i in
@@ -114,16 +116,16 @@ names_under (k ∷ keys) q h =
     (λ rest. or_right (bytes_eq k q) _ (or_right (bytes_eq (name_under k) q) _ (names_under keys q rest)))
     (or_either (bytes_eq k (starred q)) (holds_name keys (starred q)) h)
 
-part_named : (pairs : List (List ℕ × List ℕ)) (q : List ℕ) → is_some (part_at four_charsets (last_of pairs) q) ≡ true → holds_name (names_of (map (λ p. p.0) pairs)) q ≡ true
-part_named pairs q h = go (last_of pairs q) refl
+pub section_named : (known : Charsets) (pairs : List (List ℕ × List ℕ)) (q : List ℕ) → is_some (section_at known (last_of pairs) q) ≡ true → holds_name (names_of (map (λ p. p.0) pairs)) q ≡ true
+section_named known pairs q h = go (last_of pairs q) refl
   where
-    waits : last_of pairs q ≡ None → (b : Bool) → is_waiting (last_of pairs) q ≡ b → holds_name (names_of (map (λ p. p.0) pairs)) q ≡ true
-    waits none true is = names_under (map (λ p. p.0) pairs) q (key_held pairs (starred q) (and_parts _ _ is).0)
-    waits none false is = absurd (some_of _ (part_none (last_of pairs) q none ∙ extended_none (last_of pairs) q is) h)
+    without_key : last_of pairs q ≡ None → (b : Bool) → is_extended (last_of pairs) q ≡ b → holds_name (names_of (map (λ p. p.0) pairs)) q ≡ true
+    without_key none true is = names_under (map (λ p. p.0) pairs) q (key_held pairs (starred q) (and_parts _ _ is).0)
+    without_key none false is = absurd (some_of _ (section_none known (last_of pairs) q none ∙ extended_none known (last_of pairs) q is) h)
 
     go : (o : Option (List ℕ)) → last_of pairs q ≡ o → holds_name (names_of (map (λ p. p.0) pairs)) q ≡ true
     go (Some v) is = names_key (map (λ p. p.0) pairs) q (key_held pairs q (ap is_some is))
-    go None is = waits is (is_waiting (last_of pairs) q) refl
+    go None is = without_key is (is_extended (last_of pairs) q) refl
 
 entry_named : {X : Type 0} (m : BTreeMap (String Global) X) (q : List ℕ) → is_some (get_by_text m q) ≡ true → holds_name (names_in m) q ≡ true
 entry_named m q h = go (holds_name (names_in m) q) refl
@@ -132,42 +134,42 @@ entry_named m q h = go (holds_name (names_in m) q) refl
     go true is = is
     go false is = absurd (some_of _ (unnamed q m is) h)
 
--- the names of parts are those at which something stands
+-- the names of sections are those at which something stands
 holds_both : (xs ys : List (List ℕ)) (q : List ℕ) → holds_name (xs ++ ys) q ≡ (holds_name xs q || holds_name ys q)
 holds_both xs ys q = list_any-append (λ n. bytes_eq n q) xs ys
 
-pub parts_named : (parts : Parts) (q : List ℕ) → is_some (stands_at parts q) ≡ true → holds_name (names_of_parts parts) q ≡ true
-parts_named parts q h = holds_both (names_in parts.texts) (names_in parts.extended) q ∙ go (get_by_text parts.extended q) refl h
+pub sections_named : (sections : Sections) (q : List ℕ) → is_some (stands_at sections q) ≡ true → holds_name (names_of_sections sections) q ≡ true
+sections_named sections q h = holds_both (names_in sections.texts) (names_in sections.extended) q ∙ go (get_by_text sections.extended q) refl h
   where
-    go : (o : Option Part) → get_by_text parts.extended q ≡ o → is_some (option_or (option_map part_view (get_by_text parts.extended q)) (option_map joined.text (text_at parts.texts q))) ≡ true
-        → (holds_name (names_in parts.texts) q || holds_name (names_in parts.extended) q) ≡ true
-    go (Some p) is some = or_right _ _ (entry_named parts.extended q (ap is_some is))
+    go : (o : Option Section) → get_by_text sections.extended q ≡ o → is_some (option_or (option_map section_view (get_by_text sections.extended q)) (option_map words.text (text_at sections.texts q))) ≡ true
+        → (holds_name (names_in sections.texts) q || holds_name (names_in sections.extended) q) ≡ true
+    go (Some p) is some = or_right _ _ (entry_named sections.extended q (ap is_some is))
     go None is some =
-        or_left _ _ (entry_named parts.texts q
-        (sym (is_some_map string_bytes (get_by_text parts.texts q)) ∙ sym (is_some_map joined.text (text_at parts.texts q))
-        ∙ sym (ap (λ o. is_some (option_or (option_map part_view o) (option_map joined.text (text_at parts.texts q)))) is) ∙ some))
+        or_left _ _ (entry_named sections.texts q
+        (sym (is_some_map string_bytes (get_by_text sections.texts q)) ∙ sym (is_some_map words.text (text_at sections.texts q))
+        ∙ sym (ap (λ o. is_some (option_or (option_map section_view o) (option_map words.text (text_at sections.texts q)))) is) ∙ some))
 
-pub named_parts : (parts : Parts) (q : List ℕ) → holds_name (names_of_parts parts) q ≡ true → is_some (stands_at parts q) ≡ true
-named_parts parts q h =
+pub named_sections : (sections : Sections) (q : List ℕ) → holds_name (names_of_sections sections) q ≡ true → is_some (stands_at sections q) ≡ true
+named_sections sections q h =
     ⊎_elim
-    (λ text. second (parts_at parts.extended q) _ (is_some_map joined.text (text_at parts.texts q) ∙ is_some_map string_bytes (get_by_text parts.texts q) ∙ named q parts.texts text))
-    (λ extended. first (option_map joined.text (text_at parts.texts q)) _ (is_some_map part_view (get_by_text parts.extended q) ∙ named q parts.extended extended))
-    (or_either _ _ (sym (holds_both (names_in parts.texts) (names_in parts.extended) q) ∙ h))
+    (λ text. second (sections_at sections.extended q) _ (is_some_map words.text (text_at sections.texts q) ∙ is_some_map string_bytes (get_by_text sections.texts q) ∙ named q sections.texts text))
+    (λ extended. first (option_map words.text (text_at sections.texts q)) _ (is_some_map section_view (get_by_text sections.extended q) ∙ named q sections.extended extended))
+    (or_either _ _ (sym (holds_both (names_in sections.texts) (names_in sections.extended) q) ∙ h))
   where
-    second : (o p : Option joined.Part) → is_some p ≡ true → is_some (option_or o p) ≡ true
+    second : (o p : Option words.Section) → is_some p ≡ true → is_some (option_or o p) ≡ true
     second None p h = h
     second (Some x) p h = refl
 
-    first : (p o : Option joined.Part) → is_some o ≡ true → is_some (option_or o p) ≡ true
+    first : (p o : Option words.Section) → is_some o ≡ true → is_some (option_or o p) ≡ true
     first p None h = absurd (cc)
     first p (Some x) h = refl
 
-pub resolved : (keys : Texts) (at : List ℕ → Option joined.Part) (names : List (List ℕ)) (given : Option (List ℕ)) (q : List ℕ) → ((z : List ℕ) → at z ≡ part_at four_charsets keys z)
+pub resolved : (keys : Texts) (at : List ℕ → Option words.Section) (names : List (List ℕ)) (given : Option (List ℕ)) (q : List ℕ) → ((z : List ℕ) → at z ≡ section_at four_charsets keys z)
     → ((z : List ℕ) → is_some (at z) ≡ true → holds_name names z ≡ true) → given ≡ joined_at at names q
     → (pairs : List (List ℕ × List ℕ)) → ((z : List ℕ) → keys z ≡ last_of pairs z) → given ≡ parameters_of pairs q
 resolved keys at names given q read have made pairs holds =
     let known : keys ≡ last_of pairs = λ i z. holds z i in
-    let same : at ≡ part_at four_charsets (last_of pairs) = λ i z. (read z ∙ ap (λ k. part_at four_charsets k z) known) i in
+    let same : at ≡ section_at four_charsets (last_of pairs) = λ i z. (read z ∙ ap (λ k. section_at four_charsets k z) known) i in
     made
-    ∙ joined_same at names (names_of (map (λ p. p.0) pairs)) have (λ z h. part_named pairs z (sym (ap (λ a. is_some (a z)) same) ∙ h)) q
+    ∙ joined_same at names (names_of (map (λ p. p.0) pairs)) have (λ z h. section_named four_charsets pairs z (sym (ap (λ a. is_some (a z)) same) ∙ h)) q
     ∙ ap (λ a. joined_at a (names_of (map (λ p. p.0) pairs)) q) same

@@ -1,53 +1,54 @@
--- The pieces of bases, and what stands at the names once they are taken.
+-- The sections of bases, and what stands at the names once they are taken.
 use Rattle.std.proofs.Common.{◌≡◌, ℕ, zero, suc, ◌+◌, ◌<◌, ◌^◌, Bool, true, false, ◌&&◌, ◌||◌, cond, ltb, List, [], ◌∷◌, ◌++◌, length, Option, Some, None, is_some, refl, sym, ap, ◌∙◌, arith, ⊎_elim}
 use Rattle.std.proofs.lemmas.Bool.{and_left, cases_order, cond-false, cond-true, le-ltb, lt-ltb}
 use Rattle.std.specs.Option.{option_map_or}
 use Rattle.std.specs.Str.{bytes_eq}
-use Rattle.mailparse.specs.Continuations.{Part, as_far, joined, most_parts, numbered, parts_from, parts_of, piece_name}
-use Rattle.mailparse.specs.private.Continuations.{is_piece_below, is_taken, joined_text, left_by, without_pieces}
+use Rattle.mailparse.specs.Continuations.{joined, most_sections, sections_of}
+use Rattle.mailparse.specs.Sections.{Section, numbered, section_name}
+use Rattle.mailparse.specs.private.Continuations.{as_far, sections_from, is_section_below, is_taken, joined_text, left_by, without_sections}
 use Rattle.mailparse.specs.private.Filled.{holds_name}
 use Rattle.mailparse.proofs.lemmas.Filled.{filled_again, filled_push, holds_again, holds_push, or_false, or_true}
-use Rattle.mailparse.proofs.lemmas.Joining.{most}
-use Rattle.mailparse.proofs.lemmas.Numbers.{numbered_piece}
-use Rattle.mailparse.proofs.lemmas.PartsOf.{cond_none}
-use Rattle.mailparse.proofs.lemmas.StarredKeys.{equal_bytes, same_bytes}
+use Rattle.mailparse.proofs.lemmas.Joining.{most, sections_are}
+use Rattle.mailparse.proofs.lemmas.SectionNumbers.{numbered_section}
+use Rattle.mailparse.proofs.lemmas.Sections.{cond_none}
+use Rattle.mailparse.proofs.lemmas.ExtendedValues.{equal_bytes, same_bytes}
 
 and_true : (b : Bool) → (b && true) ≡ b
 and_true true = refl
 and_true false = refl
 
-both_taken : (e p : Bool) (x : Option Part) → cond e None (cond p None x) ≡ cond (p || e) None x
+both_taken : (e p : Bool) (x : Option Section) → cond e None (cond p None x) ≡ cond (p || e) None x
 both_taken true true x = refl
 both_taken true false x = refl
 both_taken false true x = refl
 both_taken false false x = refl
 
--- ---- the pieces of one base
+-- ---- the sections of one base
 
-piece_here : (base : List ℕ) (count z : ℕ) → count < 2 ^ 64 → is_piece_below base z (piece_name base count) ≡ ltb count z
-piece_here base count z below =
-    ap (λ o. option_map_or (λ n. bytes_eq base n.0 && (ltb n.1 z && bytes_eq (piece_name base count) (piece_name n.0 n.1))) o false) (numbered_piece base count below)
-    ∙ ap (λ b. b && (ltb count z && bytes_eq (piece_name base count) (piece_name base count))) (same_bytes base base refl)
-    ∙ ap (λ b. ltb count z && b) (same_bytes (piece_name base count) (piece_name base count) refl)
+section_here : (base : List ℕ) (count z : ℕ) → count < 2 ^ 64 → is_section_below base z (section_name base count) ≡ ltb count z
+section_here base count z below =
+    ap (λ o. option_map_or (λ n. bytes_eq base n.0 && (ltb n.1 z && bytes_eq (section_name base count) (section_name n.0 n.1))) o false) (numbered_section base count below)
+    ∙ ap (λ b. b && (ltb count z && bytes_eq (section_name base count) (section_name base count))) (same_bytes base base refl)
+    ∙ ap (λ b. ltb count z && b) (same_bytes (section_name base count) (section_name base count) refl)
     ∙ and_true (ltb count z)
 
--- one more number names one more piece
-one_more : (base : List ℕ) (count : ℕ) (q : List ℕ) → count < 2 ^ 64 → is_piece_below base (count + 1) q ≡ (is_piece_below base count q || bytes_eq (piece_name base count) q)
-one_more base count q below = go (bytes_eq (piece_name base count) q) refl
+-- one more number names one more section
+one_more : (base : List ℕ) (count : ℕ) (q : List ℕ) → count < 2 ^ 64 → is_section_below base (count + 1) q ≡ (is_section_below base count q || bytes_eq (section_name base count) q)
+one_more base count q below = go (bytes_eq (section_name base count) q) refl
   where
-    same_test : (n : List ℕ × ℕ) → bytes_eq (piece_name base count) q ≡ false → (b : Bool) → bytes_eq base n.0 ≡ b
-        → (bytes_eq base n.0 && (ltb n.1 (count + 1) && bytes_eq q (piece_name n.0 n.1))) ≡ (bytes_eq base n.0 && (ltb n.1 count && bytes_eq q (piece_name n.0 n.1)))
+    same_test : (n : List ℕ × ℕ) → bytes_eq (section_name base count) q ≡ false → (b : Bool) → bytes_eq base n.0 ≡ b
+        → (bytes_eq base n.0 && (ltb n.1 (count + 1) && bytes_eq q (section_name n.0 n.1))) ≡ (bytes_eq base n.0 && (ltb n.1 count && bytes_eq q (section_name n.0 n.1)))
     same_test n other false is = and_left _ _ is ∙ sym (and_left _ _ is)
     same_test n other true is =
         ap (λ t. bytes_eq base n.0 && t)
         (⊎_elim
         (λ same.
-        let apart : bytes_eq q (piece_name n.0 n.1) ≡ false =
-        differs (bytes_eq q (piece_name n.0 n.1)) refl same in
+        let apart : bytes_eq q (section_name n.0 n.1) ≡ false =
+        differs (bytes_eq q (section_name n.0 n.1)) refl same in
         ap (λ b. ltb n.1 (count + 1) && b) apart ∙ none (ltb n.1 (count + 1)) ∙ sym (ap (λ b. ltb n.1 count && b) apart ∙ none (ltb n.1 count)))
         (λ unlike. ⊎_elim
-        (λ lt. ap (λ b. b && bytes_eq q (piece_name n.0 n.1)) (lt-ltb n.1 (count + 1) (omega arith) ∙ sym (lt-ltb n.1 count lt)))
-        (λ gt. ap (λ b. b && bytes_eq q (piece_name n.0 n.1)) (le-ltb n.1 (count + 1) (omega arith) ∙ sym (le-ltb n.1 count (omega arith))))
+        (λ lt. ap (λ b. b && bytes_eq q (section_name n.0 n.1)) (lt-ltb n.1 (count + 1) (omega arith) ∙ sym (lt-ltb n.1 count lt)))
+        (λ gt. ap (λ b. b && bytes_eq q (section_name n.0 n.1)) (le-ltb n.1 (count + 1) (omega arith) ∙ sym (le-ltb n.1 count (omega arith))))
         unlike)
         (cases_order n.1 count))
       where
@@ -55,73 +56,75 @@ one_more base count q below = go (bytes_eq (piece_name base count) q) refl
         none true = refl
         none false = refl
 
-        differs : (b : Bool) → bytes_eq q (piece_name n.0 n.1) ≡ b → n.1 ≡ count → bytes_eq q (piece_name n.0 n.1) ≡ false
+        differs : (b : Bool) → bytes_eq q (section_name n.0 n.1) ≡ b → n.1 ≡ count → bytes_eq q (section_name n.0 n.1) ≡ false
         differs false e same = e
         differs true e same =
-            let whole : q ≡ piece_name base count = equal_bytes q (piece_name n.0 n.1) e ∙ ap (λ k. piece_name n.0 k) same ∙ ap (λ z. piece_name z count) (sym (equal_bytes base n.0 is)) in
-            let clash : false ≡ true = sym other ∙ same_bytes (piece_name base count) q (sym whole) in
+            let whole : q ≡ section_name base count = equal_bytes q (section_name n.0 n.1) e ∙ ap (λ k. section_name n.0 k) same ∙ ap (λ z. section_name z count) (sym (equal_bytes base n.0 is)) in
+            let clash : false ≡ true = sym other ∙ same_bytes (section_name base count) q (sym whole) in
             absurd (cc)
 
-    by_number : bytes_eq (piece_name base count) q ≡ false → (o : Option (List ℕ × ℕ))
-        → option_map_or (λ n. bytes_eq base n.0 && (ltb n.1 (count + 1) && bytes_eq q (piece_name n.0 n.1))) o false
-        ≡ option_map_or (λ n. bytes_eq base n.0 && (ltb n.1 count && bytes_eq q (piece_name n.0 n.1))) o false
+    by_number : bytes_eq (section_name base count) q ≡ false → (o : Option (List ℕ × ℕ))
+        → option_map_or (λ n. bytes_eq base n.0 && (ltb n.1 (count + 1) && bytes_eq q (section_name n.0 n.1))) o false
+        ≡ option_map_or (λ n. bytes_eq base n.0 && (ltb n.1 count && bytes_eq q (section_name n.0 n.1))) o false
     by_number other None = refl
     by_number other (Some n) = same_test n other (bytes_eq base n.0) refl
 
-    go : (b : Bool) → bytes_eq (piece_name base count) q ≡ b → is_piece_below base (count + 1) q ≡ (is_piece_below base count q || bytes_eq (piece_name base count) q)
+    go : (b : Bool) → bytes_eq (section_name base count) q ≡ b → is_section_below base (count + 1) q ≡ (is_section_below base count q || bytes_eq (section_name base count) q)
     go true is =
-        ap (is_piece_below base (count + 1)) (sym (equal_bytes (piece_name base count) q is)) ∙ piece_here base count (count + 1) below ∙ lt-ltb count (count + 1) (omega arith)
-        ∙ sym (ap (λ b. is_piece_below base count q || b) is ∙ or_true (is_piece_below base count q))
-    go false is = by_number is (numbered q) ∙ sym (ap (λ b. is_piece_below base count q || b) is ∙ or_false (is_piece_below base count q))
+        ap (is_section_below base (count + 1)) (sym (equal_bytes (section_name base count) q is)) ∙ section_here base count (count + 1) below ∙ lt-ltb count (count + 1) (omega arith)
+        ∙ sym (ap (λ b. is_section_below base count q || b) is ∙ or_true (is_section_below base count q))
+    go false is = by_number is (numbered q) ∙ sym (ap (λ b. is_section_below base count q || b) is ∙ or_false (is_section_below base count q))
 
--- the next piece is as it was
-pub next_stands : (at now : List ℕ → Option Part) (base : List ℕ) (count : ℕ) → count < 2 ^ 64 → ((q : List ℕ) → now q ≡ without_pieces at base count q)
-    → now (piece_name base count) ≡ at (piece_name base count)
-next_stands at now base count below before = before (piece_name base count) ∙ cond-false _ _ _ (piece_here base count count below ∙ le-ltb count count (omega arith))
+-- the next section is as it was
+pub next_stands : (at now : List ℕ → Option Section) (base : List ℕ) (count : ℕ) → count < 2 ^ 64 → ((q : List ℕ) → now q ≡ without_sections at base count q)
+    → now (section_name base count) ≡ at (section_name base count)
+next_stands at now base count below before = before (section_name base count) ∙ cond-false _ _ _ (section_here base count count below ∙ le-ltb count count (omega arith))
 
-pub taken_next : (at : List ℕ → Option Part) (base : List ℕ) (count : ℕ) (q : List ℕ) (old new : Option Part) → count < 2 ^ 64 → old ≡ without_pieces at base count q
-    → new ≡ cond (bytes_eq (piece_name base count) q) None old → new ≡ without_pieces at base (count + 1) q
+pub taken_next : (at : List ℕ → Option Section) (base : List ℕ) (count : ℕ) (q : List ℕ) (old new : Option Section) → count < 2 ^ 64 → old ≡ without_sections at base count q
+    → new ≡ cond (bytes_eq (section_name base count) q) None old → new ≡ without_sections at base (count + 1) q
 taken_next at base count q old new below before step =
-    step ∙ ap (cond (bytes_eq (piece_name base count) q) None) before ∙ both_taken (bytes_eq (piece_name base count) q) (is_piece_below base count q) (at q)
+    step ∙ ap (cond (bytes_eq (section_name base count) q) None) before ∙ both_taken (bytes_eq (section_name base count) q) (is_section_below base count q) (at q)
     ∙ ap (λ b. cond b None (at q)) (sym (one_more base count q below))
 
--- no piece was there to be taken
-pub taken_none : (at : List ℕ → Option Part) (base : List ℕ) (count : ℕ) (q : List ℕ) (old new : Option Part) → old ≡ without_pieces at base count q
-    → at (piece_name base count) ≡ None → new ≡ cond (bytes_eq (piece_name base count) q) None old → new ≡ without_pieces at base count q
-taken_none at base count q old new before none step = go (bytes_eq (piece_name base count) q) refl
+-- no section was there to be taken
+pub taken_none : (at : List ℕ → Option Section) (base : List ℕ) (count : ℕ) (q : List ℕ) (old new : Option Section) → old ≡ without_sections at base count q
+    → at (section_name base count) ≡ None → new ≡ cond (bytes_eq (section_name base count) q) None old → new ≡ without_sections at base count q
+taken_none at base count q old new before none step = go (bytes_eq (section_name base count) q) refl
   where
-    go : (b : Bool) → bytes_eq (piece_name base count) q ≡ b → new ≡ without_pieces at base count q
+    go : (b : Bool) → bytes_eq (section_name base count) q ≡ b → new ≡ without_sections at base count q
     go true is =
         step ∙ cond-true _ _ _ is
-        ∙ sym (ap (cond (is_piece_below base count q) None) (ap at (sym (equal_bytes (piece_name base count) q is)) ∙ none) ∙ cond_none (is_piece_below base count q))
+        ∙ sym (ap (cond (is_section_below base count q) None) (ap at (sym (equal_bytes (section_name base count) q is)) ∙ none) ∙ cond_none (is_section_below base count q))
     go false is = step ∙ cond-false _ _ _ is ∙ before
 
--- ---- the pieces of several bases
+-- ---- the sections of several bases
 
-left_here : (at : List ℕ → Option Part) (bases : List (List ℕ)) (base : List ℕ) (n : ℕ) → holds_name bases base ≡ false → n < 2 ^ 64
-    → left_by at bases (piece_name base n) ≡ at (piece_name base n)
+left_here : (at : List ℕ → Option Section) (bases : List (List ℕ)) (base : List ℕ) (n : ℕ) → holds_name bases base ≡ false → n < 2 ^ 64
+    → left_by at bases (section_name base n) ≡ at (section_name base n)
 left_here at bases base n other below =
     cond-false _ _ _
-    (ap (λ o. option_map_or (λ m. holds_name bases m.0 && (ltb m.1 (length (parts_of at m.0)) && bytes_eq (piece_name base n) (piece_name m.0 m.1))) o false) (numbered_piece base n below)
+    (ap (λ o. option_map_or (λ m. holds_name bases m.0 && (ltb m.1 (length (sections_of at m.0)) && bytes_eq (section_name base n) (section_name m.0 m.1))) o false) (numbered_section base n below)
     ∙ and_left _ _ other)
 
-parts_same : (at : List ℕ → Option Part) (bases : List (List ℕ)) (base : List ℕ) (n number : ℕ) → holds_name bases base ≡ false → number + n < 2 ^ 64
-    → parts_from (left_by at bases) base n number ≡ parts_from at base n number
-parts_same at bases base zero number other below = refl
-parts_same at bases base (suc n) number other below =
-    ap (λ o. as_far o (parts_from (left_by at bases) base n (suc number))) (left_here at bases base number other (omega arith))
-    ∙ ap (as_far (at (piece_name base number))) (parts_same at bases base n (suc number) other (omega arith))
+sections_same : (at : List ℕ → Option Section) (bases : List (List ℕ)) (base : List ℕ) (n number : ℕ) → holds_name bases base ≡ false → number + n < 2 ^ 64
+    → sections_from (left_by at bases) base n number ≡ sections_from at base n number
+sections_same at bases base zero number other below = refl
+sections_same at bases base (suc n) number other below =
+    ap (λ o. as_far o (sections_from (left_by at bases) base n (suc number))) (left_here at bases base number other (omega arith))
+    ∙ ap (as_far (at (section_name base number))) (sections_same at bases base n (suc number) other (omega arith))
 
--- a base that was not yet joined has all its parts
-pub all_parts : (at now : List ℕ → Option Part) (bases : List (List ℕ)) (base : List ℕ) → holds_name bases base ≡ false → ((q : List ℕ) → now q ≡ left_by at bases q)
-    → parts_of now base ≡ parts_of at base
-all_parts at now bases base other before =
+-- a base that was not yet joined has all its sections
+pub all_sections : (at now : List ℕ → Option Section) (bases : List (List ℕ)) (base : List ℕ) → holds_name bases base ≡ false → ((q : List ℕ) → now q ≡ left_by at bases q)
+    → sections_of now base ≡ sections_of at base
+all_sections at now bases base other before =
     let same : now ≡ left_by at bases = λ i q. before q i in
-    ap (λ a. parts_of a base) same
-    ∙ parts_same at bases base most_parts 0 other (let long = most in omega (arith, long))
+    ap (λ a. sections_of a base) same
+    ∙ sections_are (left_by at bases) base
+    ∙ sections_same at bases base most_sections 0 other (let long = most in omega (arith, long))
+    ∙ sym (sections_are at base)
 
-one_base : (at : List ℕ → Option Part) (bases : List (List ℕ)) (base q : List ℕ)
-    → is_taken at (bases ++ base ∷ []) q ≡ (is_taken at bases q || is_piece_below base (length (parts_of at base)) q)
+one_base : (at : List ℕ → Option Section) (bases : List (List ℕ)) (base q : List ℕ)
+    → is_taken at (bases ++ base ∷ []) q ≡ (is_taken at bases q || is_section_below base (length (sections_of at base)) q)
 one_base at bases base q = go (numbered q)
   where
     split : (h x y : Bool) → ((h || true) && x) ≡ ((h && x) || (true && x))
@@ -135,61 +138,61 @@ one_base at bases base q = go (numbered q)
     same false x y = refl
 
     pick : (n : List ℕ × ℕ) (b : Bool) → bytes_eq base n.0 ≡ b
-        → (holds_name (bases ++ base ∷ []) n.0 && (ltb n.1 (length (parts_of at n.0)) && bytes_eq q (piece_name n.0 n.1)))
-        ≡ ((holds_name bases n.0 && (ltb n.1 (length (parts_of at n.0)) && bytes_eq q (piece_name n.0 n.1)))
-        || (bytes_eq base n.0 && (ltb n.1 (length (parts_of at base)) && bytes_eq q (piece_name n.0 n.1))))
+        → (holds_name (bases ++ base ∷ []) n.0 && (ltb n.1 (length (sections_of at n.0)) && bytes_eq q (section_name n.0 n.1)))
+        ≡ ((holds_name bases n.0 && (ltb n.1 (length (sections_of at n.0)) && bytes_eq q (section_name n.0 n.1)))
+        || (bytes_eq base n.0 && (ltb n.1 (length (sections_of at base)) && bytes_eq q (section_name n.0 n.1))))
     pick n true is =
-        ap (λ b. b && (ltb n.1 (length (parts_of at n.0)) && bytes_eq q (piece_name n.0 n.1))) (holds_push bases base n.0 ∙ ap (λ b. holds_name bases n.0 || b) is)
-        ∙ split (holds_name bases n.0) (ltb n.1 (length (parts_of at n.0)) && bytes_eq q (piece_name n.0 n.1)) true
-        ∙ ap (λ b. (holds_name bases n.0 && (ltb n.1 (length (parts_of at n.0)) && bytes_eq q (piece_name n.0 n.1)))
-        || (b && (ltb n.1 (length (parts_of at n.0)) && bytes_eq q (piece_name n.0 n.1)))) (sym is)
-        ∙ ap (λ z. (holds_name bases n.0 && (ltb n.1 (length (parts_of at n.0)) && bytes_eq q (piece_name n.0 n.1)))
-        || (bytes_eq base n.0 && (ltb n.1 (length (parts_of at z)) && bytes_eq q (piece_name n.0 n.1)))) (sym (equal_bytes base n.0 is))
+        ap (λ b. b && (ltb n.1 (length (sections_of at n.0)) && bytes_eq q (section_name n.0 n.1))) (holds_push bases base n.0 ∙ ap (λ b. holds_name bases n.0 || b) is)
+        ∙ split (holds_name bases n.0) (ltb n.1 (length (sections_of at n.0)) && bytes_eq q (section_name n.0 n.1)) true
+        ∙ ap (λ b. (holds_name bases n.0 && (ltb n.1 (length (sections_of at n.0)) && bytes_eq q (section_name n.0 n.1)))
+        || (b && (ltb n.1 (length (sections_of at n.0)) && bytes_eq q (section_name n.0 n.1)))) (sym is)
+        ∙ ap (λ z. (holds_name bases n.0 && (ltb n.1 (length (sections_of at n.0)) && bytes_eq q (section_name n.0 n.1)))
+        || (bytes_eq base n.0 && (ltb n.1 (length (sections_of at z)) && bytes_eq q (section_name n.0 n.1)))) (sym (equal_bytes base n.0 is))
     pick n false is =
-        ap (λ b. b && (ltb n.1 (length (parts_of at n.0)) && bytes_eq q (piece_name n.0 n.1))) (holds_push bases base n.0 ∙ ap (λ b. holds_name bases n.0 || b) is)
-        ∙ same (holds_name bases n.0) (ltb n.1 (length (parts_of at n.0)) && bytes_eq q (piece_name n.0 n.1)) (ltb n.1 (length (parts_of at base)) && bytes_eq q (piece_name n.0 n.1))
-        ∙ ap (λ b. (holds_name bases n.0 && (ltb n.1 (length (parts_of at n.0)) && bytes_eq q (piece_name n.0 n.1)))
-        || (b && (ltb n.1 (length (parts_of at base)) && bytes_eq q (piece_name n.0 n.1)))) (sym is)
+        ap (λ b. b && (ltb n.1 (length (sections_of at n.0)) && bytes_eq q (section_name n.0 n.1))) (holds_push bases base n.0 ∙ ap (λ b. holds_name bases n.0 || b) is)
+        ∙ same (holds_name bases n.0) (ltb n.1 (length (sections_of at n.0)) && bytes_eq q (section_name n.0 n.1)) (ltb n.1 (length (sections_of at base)) && bytes_eq q (section_name n.0 n.1))
+        ∙ ap (λ b. (holds_name bases n.0 && (ltb n.1 (length (sections_of at n.0)) && bytes_eq q (section_name n.0 n.1)))
+        || (b && (ltb n.1 (length (sections_of at base)) && bytes_eq q (section_name n.0 n.1)))) (sym is)
 
     go : (o : Option (List ℕ × ℕ))
-        → option_map_or (λ n. holds_name (bases ++ base ∷ []) n.0 && (ltb n.1 (length (parts_of at n.0)) && bytes_eq q (piece_name n.0 n.1))) o false
-        ≡ (option_map_or (λ n. holds_name bases n.0 && (ltb n.1 (length (parts_of at n.0)) && bytes_eq q (piece_name n.0 n.1))) o false
-        || option_map_or (λ n. bytes_eq base n.0 && (ltb n.1 (length (parts_of at base)) && bytes_eq q (piece_name n.0 n.1))) o false)
+        → option_map_or (λ n. holds_name (bases ++ base ∷ []) n.0 && (ltb n.1 (length (sections_of at n.0)) && bytes_eq q (section_name n.0 n.1))) o false
+        ≡ (option_map_or (λ n. holds_name bases n.0 && (ltb n.1 (length (sections_of at n.0)) && bytes_eq q (section_name n.0 n.1))) o false
+        || option_map_or (λ n. bytes_eq base n.0 && (ltb n.1 (length (sections_of at base)) && bytes_eq q (section_name n.0 n.1))) o false)
     go None = refl
     go (Some n) = pick n (bytes_eq base n.0) refl
 
 -- a base was joined
-pub left_next : (at now : List ℕ → Option Part) (bases : List (List ℕ)) (base q : List ℕ) (new : Option Part) → holds_name bases base ≡ false
-    → ((z : List ℕ) → now z ≡ left_by at bases z) → new ≡ without_pieces now base (length (parts_of now base)) q → new ≡ left_by at (bases ++ base ∷ []) q
+pub left_next : (at now : List ℕ → Option Section) (bases : List (List ℕ)) (base q : List ℕ) (new : Option Section) → holds_name bases base ≡ false
+    → ((z : List ℕ) → now z ≡ left_by at bases z) → new ≡ without_sections now base (length (sections_of now base)) q → new ≡ left_by at (bases ++ base ∷ []) q
 left_next at now bases base q new other before step =
-    step ∙ ap (λ ps. without_pieces now base (length ps) q) (all_parts at now bases base other before)
-    ∙ ap (cond (is_piece_below base (length (parts_of at base)) q) None) (before q)
-    ∙ both_taken (is_piece_below base (length (parts_of at base)) q) (is_taken at bases q) (at q)
+    step ∙ ap (λ ps. without_sections now base (length ps) q) (all_sections at now bases base other before)
+    ∙ ap (cond (is_section_below base (length (sections_of at base)) q) None) (before q)
+    ∙ both_taken (is_section_below base (length (sections_of at base)) q) (is_taken at bases q) (at q)
     ∙ ap (λ b. cond b None (at q)) (sym (one_base at bases base q))
 
 -- it was joined before
-pub left_again : (at : List ℕ → Option Part) (bases : List (List ℕ)) (base q : List ℕ) (now : Option Part) → holds_name bases base ≡ true
+pub left_again : (at : List ℕ → Option Section) (bases : List (List ℕ)) (base q : List ℕ) (now : Option Section) → holds_name bases base ≡ true
     → now ≡ left_by at bases q → now ≡ left_by at (bases ++ base ∷ []) q
 left_again at bases base q now held before = before ∙ ap (λ b. cond b None (at q)) (sym (go (numbered q)))
   where
     go : (o : Option (List ℕ × ℕ))
-        → option_map_or (λ n. holds_name (bases ++ base ∷ []) n.0 && (ltb n.1 (length (parts_of at n.0)) && bytes_eq q (piece_name n.0 n.1))) o false
-        ≡ option_map_or (λ n. holds_name bases n.0 && (ltb n.1 (length (parts_of at n.0)) && bytes_eq q (piece_name n.0 n.1))) o false
+        → option_map_or (λ n. holds_name (bases ++ base ∷ []) n.0 && (ltb n.1 (length (sections_of at n.0)) && bytes_eq q (section_name n.0 n.1))) o false
+        ≡ option_map_or (λ n. holds_name bases n.0 && (ltb n.1 (length (sections_of at n.0)) && bytes_eq q (section_name n.0 n.1))) o false
     go None = refl
-    go (Some n) = ap (λ b. b && (ltb n.1 (length (parts_of at n.0)) && bytes_eq q (piece_name n.0 n.1))) (holds_again bases base n.0 held)
+    go (Some n) = ap (λ b. b && (ltb n.1 (length (sections_of at n.0)) && bytes_eq q (section_name n.0 n.1))) (holds_again bases base n.0 held)
 
-pub joined_next : (at : List ℕ → Option Part) (bases : List (List ℕ)) (base q text : List ℕ) (old new : Option (List ℕ)) → old ≡ joined_text at bases q
-    → text ≡ joined (parts_of at base) → new ≡ cond (bytes_eq base q) (Some text) old → new ≡ joined_text at (bases ++ base ∷ []) q
+pub joined_next : (at : List ℕ → Option Section) (bases : List (List ℕ)) (base q text : List ℕ) (old new : Option (List ℕ)) → old ≡ joined_text at bases q
+    → text ≡ joined (sections_of at base) → new ≡ cond (bytes_eq base q) (Some text) old → new ≡ joined_text at (bases ++ base ∷ []) q
 joined_next at bases base q text old new before made step =
-    filled_push (λ z. Some (joined (parts_of at z))) (λ _. None) bases base q old new before (step ∙ ap (λ t. cond (bytes_eq base q) (Some t) old) made)
+    filled_push (λ z. Some (joined (sections_of at z))) (λ _. None) bases base q old new before (step ∙ ap (λ t. cond (bytes_eq base q) (Some t) old) made)
 
-pub joined_again : (at : List ℕ → Option Part) (bases : List (List ℕ)) (base q : List ℕ) (old : Option (List ℕ)) → old ≡ joined_text at bases q
+pub joined_again : (at : List ℕ → Option Section) (bases : List (List ℕ)) (base q : List ℕ) (old : Option (List ℕ)) → old ≡ joined_text at bases q
     → holds_name bases base ≡ true → old ≡ joined_text at (bases ++ base ∷ []) q
-joined_again at bases base q old before held = filled_again (λ z. Some (joined (parts_of at z))) (λ _. None) bases base q old before held
+joined_again at bases base q old before held = filled_again (λ z. Some (joined (sections_of at z))) (λ _. None) bases base q old before held
 
-pub joined_known : (at : List ℕ → Option Part) (bases : List (List ℕ)) (base : List ℕ) (old : Option (List ℕ)) → old ≡ joined_text at bases base → is_some old ≡ holds_name bases base
+pub joined_known : (at : List ℕ → Option Section) (bases : List (List ℕ)) (base : List ℕ) (old : Option (List ℕ)) → old ≡ joined_text at bases base → is_some old ≡ holds_name bases base
 joined_known at bases base old before = ap is_some before ∙ go (holds_name bases base)
   where
-    go : (b : Bool) → is_some (cond b (Some (joined (parts_of at base))) None) ≡ b
+    go : (b : Bool) → is_some (cond b (Some (joined (sections_of at base))) None) ≡ b
     go true = refl
     go false = refl

@@ -1,9 +1,9 @@
 -- What the private functions of message ids tell each other.
-use Rattle.std.specs.Prelude.{◌≡◌, ◌<◌, ℕ, true, List, ◌∷◌, ◌++◌, length, Option, Some, None, Result, Ok, Err}
+use Rattle.std.specs.Prelude.{◌≡◌, ◌<◌, ℕ, true, List, ◌∷◌, ◌++◌, length, Option, Some, None, Ok}
 use Rattle.std.specs.List.{slice_split, list_any, before_first}
 use Rattle.std.specs.Borrow.{Bor}
 use Rattle.mailparse.specs.MessageIds.{begins_with_id, id_of_piece, ids_at_end, is_closing, message_ids, opens_id, with_id}
-use Rattle.mailparse.specs.Refusal.{Refusal}
+use Rattle.mailparse.specs.Refusal.{◌>>=◌, Reads}
 
 -- a text that holds a `>`, and what stands before and after the first
 pub record IsCutAtClosing (text piece after : List ℕ) : Type 0 where
@@ -12,12 +12,12 @@ pub record IsCutAtClosing (text piece after : List ℕ) : Type 0 where
   pub pieces : slice_split is_closing text ≡ piece ∷ slice_split is_closing after
   pub shorter : length after < length text
 
--- a text that begins with white and a `<`, and what stands after these
+-- a text that begins with whitespace and a `<`, and what stands after these
 pub record IsOpenedId (text id : List ℕ) : Type 0 where
   pub opens : opens_id text ≡ true
   pub is : id ≡ id_of_piece text
 
--- a text that begins with an id, after white, and what stands after the id
+-- a text that begins with an id, after whitespace, and what stands after the id
 pub record IsNextId (text id after : List ℕ) : Type 0 where
   pub begins : begins_with_id text ≡ true
   pub all : message_ids text ≡ with_id id (message_ids after)
@@ -29,6 +29,7 @@ IsNextIdOrNone text None = message_ids text ≡ ids_at_end text
 IsNextIdOrNone text (Some p) = IsNextId text p.0.now p.1.now
 
 -- ids before those of a text
-abbrev pub with_ids : List (List ℕ) → Result (List (List ℕ)) Refusal → Result (List (List ℕ)) Refusal
-with_ids front (Ok ids) = Ok (front ++ ids)
-with_ids front (Err refusal) = Err refusal
+abbrev pub with_ids : List (List ℕ) → Reads (List (List ℕ)) → Reads (List (List ℕ))
+with_ids front ids = do
+  others ← ids
+  Ok (front ++ others)

@@ -10,34 +10,82 @@ use crate::content_type::ParsedContentType;
 use crate::error::MailParseError;
 use std::alloc::Global;
 
-/// A body of bytes that stand as they are.
+/// A body of bytes that stand as they are (RFC 2045, section 2.9).
 #[derive(Clone, Copy)]
 pub struct BinaryBody<'a> {
     pub(super) content: BodyContent<'a>,
 }
 
 impl<'a> BinaryBody<'a> {
-    /// The content type that the body was made with. Takes no memory.
+    /// Returns the content type that the body was made with.
+    ///
+    /// Takes no memory.
+    ///
+    /// # Examples
+    ///
+    /// ```rust
+    /// use mailparse::body::Body;
+    /// use mailparse::parse_mail;
+    ///
+    /// let mail = parse_mail(alloc, b"Content-Transfer-Encoding: binary\n\nbody")?;
+    /// let Body::Binary(body) = mail.get_body_encoded(alloc)? else {
+    ///     return Err("another coding".into());
+    /// };
+    /// assert_eq!(rt; body.get_content_type().charset.as_str(), "us-ascii");
+    /// ```
     pub fn get_content_type(&self) -> &'a ParsedContentType
         ensures { content_type result.now ≡ (binary_content self.now).ctype }
     {
         self.content.ctype
     }
 
-    /// The bytes of the body as they stand in the message. Takes no memory.
+    /// Returns the bytes of the body as they stand in the message.
+    ///
+    /// Takes no memory.
+    ///
+    /// # Examples
+    ///
+    /// ```rust
+    /// use mailparse::body::Body;
+    /// use mailparse::parse_mail;
+    ///
+    /// let mail = parse_mail(alloc, b"Content-Transfer-Encoding: binary\n\nbody")?;
+    /// let Body::Binary(body) = mail.get_body_encoded(alloc)? else {
+    ///     return Err("another coding".into());
+    /// };
+    /// assert_eq!(rt; body.get_raw(), b"body".as_slice());
+    /// ```
     pub fn get_raw(&self) -> &'a [u8]
         ensures { result.now ≡ (binary_content self.now).raw }
     {
         self.content.raw
     }
 
-    /// The text of the body under the charset of its content type: a byte order mark decides first,
-    /// and under an unknown label each byte that is not ASCII is U+FFFD. The error is that memory
-    /// ran out.
+    /// Returns the text of the body under the charset of its content type.
+    ///
+    /// A byte order mark overrules that charset, and under an unknown label each byte that is not
+    /// ASCII is U+FFFD. Takes memory for the text.
+    ///
+    /// # Errors
+    ///
+    /// `MailParseError::Memory` where it runs out of memory.
+    ///
+    /// # Examples
+    ///
+    /// ```rust
+    /// use mailparse::body::Body;
+    /// use mailparse::parse_mail;
+    ///
+    /// let mail = parse_mail(alloc, b"Content-Transfer-Encoding: binary\n\ncaf\xE9")?;
+    /// let Body::Binary(body) = mail.get_body_encoded(alloc)? else {
+    ///     return Err("another coding".into());
+    /// };
+    /// assert_eq!(rt; body.get_as_string(alloc)?.as_str(), "café");
+    /// ```
     pub fn get_as_string(&self, alloc: Global) -> Result<String, MailParseError>
         ensures { GivesText result
             (text_under (binary_content self.now).ctype.charset (binary_content self.now).raw) }
     {
-        self.content.text_of(alloc, self.get_raw())
+        Ok(self.content.text_of(alloc, self.get_raw())?)
     }
 }

@@ -18,7 +18,7 @@ pub(super) enum Encoding {
     QuotedPrintable,
 }
 
-/// A body in Base64 or quoted-printable.
+/// A body in Base64 or quoted-printable (RFC 2045, sections 6.7 and 6.8).
 #[derive(Clone, Copy)]
 pub struct EncodedBody<'a> {
     pub(super) encoding: Encoding,
@@ -26,23 +26,73 @@ pub struct EncodedBody<'a> {
 }
 
 impl<'a> EncodedBody<'a> {
-    /// The content type that the body was made with. Takes no memory.
+    /// Returns the content type that the body was made with.
+    ///
+    /// Takes no memory.
+    ///
+    /// # Examples
+    ///
+    /// ```rust
+    /// use mailparse::body::Body;
+    /// use mailparse::parse_mail;
+    ///
+    /// let mail = parse_mail(alloc, b"Content-Transfer-Encoding: base64\n\naGk=")?;
+    /// let Body::Base64(body) = mail.get_body_encoded(alloc)? else {
+    ///     return Err("another coding".into());
+    /// };
+    /// assert_eq!(rt; body.get_content_type().charset.as_str(), "us-ascii");
+    /// ```
     pub fn get_content_type(&self) -> &'a ParsedContentType
         ensures { content_type result.now ≡ (encoded_content self.now).ctype }
     {
         self.content.ctype
     }
 
-    /// The bytes of the body as they stand in the message. Takes no memory.
+    /// Returns the bytes of the body as they stand in the message.
+    ///
+    /// Takes no memory.
+    ///
+    /// # Examples
+    ///
+    /// ```rust
+    /// use mailparse::body::Body;
+    /// use mailparse::parse_mail;
+    ///
+    /// let mail = parse_mail(alloc, b"Content-Transfer-Encoding: base64\n\naGk=")?;
+    /// let Body::Base64(body) = mail.get_body_encoded(alloc)? else {
+    ///     return Err("another coding".into());
+    /// };
+    /// assert_eq!(rt; body.get_raw(), b"aGk=".as_slice());
+    /// ```
     pub fn get_raw(&self) -> &'a [u8]
         ensures { result.now ≡ (encoded_content self.now).raw }
     {
         self.content.raw
     }
 
-    /// The bytes that the body stands for (RFC 2045, sections 6.7 and 6.8). Base64, in which ASCII
-    /// white space is ignored, is refused by the index of the first invalid group; quoted-printable
-    /// never is. Takes memory for the answer and, in Base64, a few kilobytes more.
+    /// Returns the bytes that the body stands for (RFC 2045, sections 6.7 and 6.8).
+    ///
+    /// In Base64 ASCII whitespace is ignored; in quoted-printable every text is read. Takes memory
+    /// for the bytes and, in Base64, a few kilobytes more.
+    ///
+    /// # Errors
+    ///
+    /// `MailParseError::Base64DecodeError` where a body in Base64 is not Base64, with the index,
+    /// counted from 0, of the first invalid group of four; and `MailParseError::Memory` where it
+    /// runs out of memory.
+    ///
+    /// # Examples
+    ///
+    /// ```rust
+    /// use mailparse::body::Body;
+    /// use mailparse::parse_mail;
+    ///
+    /// let mail = parse_mail(alloc, b"Content-Transfer-Encoding: Base64\n\naG k=\n")?;
+    /// let Body::Base64(body) = mail.get_body_encoded(alloc)? else {
+    ///     return Err("another coding".into());
+    /// };
+    /// assert_eq!(rt; body.get_decoded(alloc)?.as_slice(), b"hi".as_slice());
+    /// ```
     #[tactic(auto, unfolding(crate::specs::Body::decoded))]
     pub fn get_decoded(&self, alloc: Global) -> Result<Vec<u8>, MailParseError>
         ensures { ReadsBytes result
@@ -54,16 +104,37 @@ impl<'a> EncodedBody<'a> {
         }
     }
 
-    /// The text that the body stands for, under the charset of its content type: a byte order mark
-    /// decides first, and under an unknown label each byte that is not ASCII is U+FFFD. Refused as
-    /// `get_decoded` is.
+    /// Returns the text that the body stands for, under the charset of its content type.
+    ///
+    /// A byte order mark overrules that charset, and under an unknown label each byte that is not
+    /// ASCII is U+FFFD. Takes memory for the bytes and for the text.
+    ///
+    /// # Errors
+    ///
+    /// `MailParseError::Base64DecodeError` where a body in Base64 is not Base64, with the index,
+    /// counted from 0, of the first invalid group of four; and `MailParseError::Memory` where it
+    /// runs out of memory.
+    ///
+    /// # Examples
+    ///
+    /// ```rust
+    /// use mailparse::body::Body;
+    /// use mailparse::parse_mail;
+    ///
+    /// let raw = b"Content-Transfer-Encoding: quoted-printable\n\ncaf=E9";
+    /// let mail = parse_mail(alloc, raw)?;
+    /// let Body::QuotedPrintable(body) = mail.get_body_encoded(alloc)? else {
+    ///     return Err("another coding".into());
+    /// };
+    /// assert_eq!(rt; body.get_decoded_as_string(alloc)?.as_str(), "café");
+    /// ```
     #[tactic(auto, unfolding(crate::specs::Body::decoded_text, crate::specs::Body::text_under))]
     pub fn get_decoded_as_string(&self, alloc: Global) -> Result<String, MailParseError>
         ensures { ReadsText result (decoded_text (encoded_kind self.now)
             (encoded_content self.now).ctype.charset (encoded_content self.now).raw) }
     {
         let bytes = self.get_decoded(alloc)?;
-        self.content.text_of(alloc, bytes.as_slice())
+        Ok(self.content.text_of(alloc, bytes.as_slice())?)
     }
 }
 

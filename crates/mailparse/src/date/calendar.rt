@@ -10,8 +10,8 @@ pub(super) fn day_number(year: u32, month: usize, day: u8) -> i64
     requires year { 1970 ≤ year }
     requires month { month < 12 }
     requires day { 1 ≤ day }
-    ensures number { result ≡ pos (day_number year month day) }
-    ensures bound { day_number year month day < 2 ^ 41 }
+    ensures value { result ≡ pos (day_number year month day) }
+    ensures bounds { day_number year month day < 2 ^ 41 }
 {
     let days = days_of_years(u64::from(year) - 1970) + days_of_months(year, month);
     (days + u64::from(day) - 1) as i64
@@ -27,8 +27,8 @@ fn is_leap_year(year: u32) -> bool
 /// The days of the first `count` years from 1970 on: 477 leap years stand before 1970.
 fn days_of_years(count: u64) -> u64
     requires { count < 2 ^ 32 }
-    ensures sum { result ≡ days_of_years count }
-    ensures bound { result < 366 * 2 ^ 32 }
+    ensures value { result ≡ days_of_years count }
+    ensures bounds { result < 366 * 2 ^ 32 }
 {
     let last = 1969 + count;
     365 * count + (last / 4 - last / 100 + last / 400) - 477
@@ -37,8 +37,8 @@ fn days_of_years(count: u64) -> u64
 /// The days of the months of a year before this one, which is counted from 0.
 fn days_of_months(year: u32, month: usize) -> u64
     requires { month < 12 }
-    ensures sum { result ≡ sum (take month (month_lengths year)) }
-    ensures bound { result < 366 }
+    ensures value { result ≡ sum (take month (month_lengths year)) }
+    ensures bounds { result < 366 }
 {
     if month > 1 && is_leap_year(year) {
         DAYS_BEFORE[month] + 1

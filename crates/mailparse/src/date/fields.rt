@@ -3,7 +3,7 @@ ghost use Rattle.std.specs.Prelude.{◌≡◌, ◌≤◌, ◌<◌, ◌^◌, IfOk
 ghost use Rattle.mailparse.specs.Date.{from_zone, month_of, words, year_of, zone_of};
 ghost use Rattle.mailparse.specs.Outcome.{Answers};
 ghost use Rattle.mailparse.specs.Refusal.{generic};
-ghost use Rattle.mailparse.specs.private.Dates.{IsNear, next_number};
+ghost use Rattle.mailparse.specs.private.Date.{IsNear, next_number};
 
 use super::words::{look_up, next_word};
 use crate::error::MailParseError;
@@ -77,8 +77,8 @@ static ZONES: [(&str, i32); 36] = [
 
 /// The month that a word names, counted from 0.
 pub(super) fn month_number(word: &str) -> Result<usize, MailParseError>
-    ensures named { Answers (λ month. month) result (month_of word.now) }
-    ensures bound { IfOk result (λ month. month < 12) }
+    ensures read { Answers (λ month. month) result (month_of word.now) }
+    ensures bounds { IfOk result (λ month. month < 12) }
 {
     match look_up(&MONTHS, word) {
         Some(month) => Ok(month),
@@ -114,7 +114,7 @@ pub(super) fn next_number<'t>(
 ) -> Result<Option<(u32, &'t str)>, MailParseError>
     ensures read { Answers (λ found. option_map (λ p. (p.0, words p.1.now)) found) result
         (next_number (generic refusal.now) (words text.now)) }
-    ensures bound { IfOk result (λ found. IfSome found (λ p. p.0 < 256)) }
+    ensures bounds { IfOk result (λ found. IfSome found (λ p. p.0 < 256)) }
 {
     let Some((word, rest)) = next_word(text) else {
         return Ok(None);
@@ -127,7 +127,7 @@ pub(super) fn next_number<'t>(
 
 /// The seconds that the zone at the front of a text adds.
 pub(super) fn zone_seconds(text: &str) -> Result<i64, MailParseError>
-    ensures sum { Answers (λ seconds. seconds) result (from_zone (words text.now)) }
+    ensures read { Answers (λ seconds. seconds) result (from_zone (words text.now)) }
     ensures bounds { IfOk result (IsNear 100000) }
 {
     let Some((word, _)) = next_word(text) else {

@@ -21,8 +21,8 @@ pub(super) fn next_word(text: &str) -> Option<(&str, &str)>
 
 /// How many separators stand at the front.
 fn separators(bytes: &[u8]) -> usize
-    ensures count { result ≡ prefix_len is_separator bytes.now }
-    ensures within { result ≤ length bytes.now }
+    ensures value { result ≡ prefix_len is_separator bytes.now }
+    ensures bounds { result ≤ length bytes.now }
 {
     for (place, byte) in bytes.iter().enumerate() {
         if !is_separator(*byte) {
@@ -34,8 +34,8 @@ fn separators(bytes: &[u8]) -> usize
 
 /// How many bytes stand before the first separator.
 fn word_length(bytes: &[u8]) -> usize
-    ensures count { result ≡ prefix_len (λ b. not (is_separator b)) bytes.now }
-    ensures within { result ≤ length bytes.now }
+    ensures value { result ≡ prefix_len (λ b. not (is_separator b)) bytes.now }
+    ensures bounds { result ≤ length bytes.now }
 {
     for (place, byte) in bytes.iter().enumerate() {
         if is_separator(*byte) {

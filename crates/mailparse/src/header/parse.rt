@@ -1,9 +1,9 @@
 //! Cutting the header at the front of the bytes: where its key, its value and its end stand.
 ghost use Rattle.std.specs.Prelude.{◌≡◌, ◌==◌, ◌<◌, ◌≤◌, suc, min, not, length, take, drop, IfOk};
 ghost use Rattle.std.specs.List.{list_all};
-ghost use Rattle.mail_codec.specs.Ascii.{space};
+ghost use Rattle.mail_codec.specs.Ascii.{is_blank, space};
 ghost use Rattle.mail_codec.specs.Places.{first_place, place_from, begins};
-ghost use Rattle.mailparse.specs.Header.{is_blank, is_line_end, is_line_feed, ends_header};
+ghost use Rattle.mailparse.specs.Header.{is_line_end, is_line_feed, ends_header};
 ghost use Rattle.mailparse.specs.Header.{header_of, header_length, read_header};
 ghost use Rattle.mailparse.specs.Outcome.{Answers};
 
@@ -11,15 +11,28 @@ use super::MailHeader;
 use crate::error::MailParseError;
 use mail_codec::bytescan::find_byte;
 
-/// Reads the header at the front of `raw`, and tells how many bytes it takes, its line end among
-/// them (RFC 5322, sections 2.2 and 2.2.3).
+/// Reads the header at the front of `raw`, and returns it with the number of bytes that it takes, its
+/// line end among them (RFC 5322, sections 2.2 and 2.2.3).
 ///
 /// The key ends at the first colon; a line without one is a key alone. The value goes on over each
-/// line that begins with a space or a tab. Refuses the empty input and a first byte that is a
-/// space, and nothing else; takes no memory.
+/// line that begins with a space or a tab. Takes no memory.
 ///
-/// `parse_header(b"Subject: Hi\nTo: you")` is a header with the key `Subject` and the value `Hi`,
-/// and 12.
+/// # Errors
+///
+/// `MailParseError::Generic`: with the text `Empty string provided` for the empty input, and with
+/// `Header cannot start with a space; it is likely an overhanging line from a previous header` where
+/// the first byte is a space. Nothing else is refused.
+///
+/// # Examples
+///
+/// ```rust
+/// use mailparse::parse_header;
+///
+/// let (header, length) = parse_header(b"Subject: Hello,\n  you\nTo: me")?;
+/// assert_eq!(rt; header.get_key(alloc)?.as_str(), "Subject");
+/// assert_eq!(rt; header.get_value(alloc)?.as_str(), "Hello, you");
+/// assert_eq!(rt; length, 22);
+/// ```
 pub fn parse_header(raw: &[u8]) -> Result<(MailHeader<'_>, usize), MailParseError>
     ensures read { Answers (λ found. (found.0, found.1)) result (read_header raw.now) }
     ensures bounds { IfOk result (λ found. (0 < found.1) × (found.1 ≤ length raw.now)) }
@@ -55,7 +68,7 @@ fn cut_header(raw: &[u8]) -> (MailHeader<'_>, usize)
 fn line_feed_from(raw: &[u8], from: usize) -> usize
     requires { from ≤ length raw.now }
     ensures least { result ≡ place_from (begins is_line_feed) raw.now from }
-    ensures within { result ≤ length raw.now }
+    ensures bounds { result ≤ length raw.now }
 {
     match find_byte(&raw[from..], b'\n') {
         Some(place) => from + place,
@@ -63,13 +76,13 @@ fn line_feed_from(raw: &[u8], from: usize) -> usize
     }
 }
 
-/// Where a header ends whose first LF after its colon is at `first`: at the first LF from there on
-/// that no space or tab follows, or at the end.
+/// Where a header ends, whose first LF after its colon is at `first`: at the first LF from there on
+/// that no space or tab follows, or at the end of the bytes.
 fn header_end(raw: &[u8], first: usize) -> usize
-    requires fits { first ≤ length raw.now }
+    requires within { first ≤ length raw.now }
     requires found { place_from (begins is_line_feed) raw.now first ≡ first }
     ensures least { result ≡ place_from ends_header raw.now first }
-    ensures within { result ≤ length raw.now }
+    ensures bounds { result ≤ length raw.now }
 {
     let mut end = first;
     while end < raw.len() && is_continued(raw, end + 1) {

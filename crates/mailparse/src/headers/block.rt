@@ -10,13 +10,33 @@ use crate::header::parse::parse_header;
 use std::alloc::Global;
 
 /// Reads the headers at the front of `raw` up to the blank line that ends them, or to the end of
-/// input, and tells the offset just after the blank line (RFC 5322, section 2.1).
+/// input, and returns them with the offset just after the blank line (RFC 5322, section 2.1).
 ///
-/// A blank line is LF or CR LF. Refuses a header that begins with a space and a CR without LF where
-/// a header or the blank line is wanted, and otherwise only where memory runs out. It takes memory
-/// for the list of headers alone: before the first header nothing but those two is refused.
+/// A blank line is LF or CR LF. Takes memory for the list of headers alone.
 ///
-/// `parse_headers(alloc, b"Subject: Hi\n\nbody")` is one header, and 13.
+/// # Errors
+///
+/// The first of these in reading order:
+///
+/// - `MailParseError::Generic` with the text `Header cannot start with a space; it is likely an
+///   overhanging line from a previous header`;
+/// - `MailParseError::Generic` with the text `Headers were followed by an unexpected lone CR
+///   character!`, for a CR without LF where a header or the blank line is wanted;
+/// - `MailParseError::Memory` where it runs out of memory.
+///
+/// What is refused before the first header is refused without taking memory.
+///
+/// # Examples
+///
+/// ```rust
+/// use mailparse::{MailHeaderMap, parse_headers};
+///
+/// let (headers, index) = parse_headers(alloc, b"Subject: Hi\nTo: you\n\nbody")?;
+/// assert_eq!(rt; headers.len(), 2);
+/// let to = headers.get_first_value(alloc, "to")?.ok_or("no header")?;
+/// assert_eq!(rt; to.as_str(), "you");
+/// assert_eq!(rt; index, 21);
+/// ```
 pub fn parse_headers(
     alloc: Global,
     raw: &[u8],
@@ -24,7 +44,7 @@ pub fn parse_headers(
     ensures read { AnswersOrMemory header_list result (read_headers raw.now) }
     ensures bounds { IfOk result (λ found.
         (vec_len found.0 ≤ found.1) × (found.1 ≤ length raw.now)) }
-    ensures no_memory { header_count raw.now ≡ 0 →
+    ensures no_alloc { header_count raw.now ≡ 0 →
         Answers header_list result (read_headers raw.now) }
 {
     let mut headers = Vec::new(alloc);

@@ -3,7 +3,7 @@ ghost use Rattle.std.specs.Prelude.{◌≡◌, map, List, IsOk, IsNone, Ok, stri
 ghost use Rattle.std.specs.Option.{option_copied};
 ghost use Rattle.std.specs.Str.{str_eq_ignore_ascii_case};
 ghost use Rattle.mail_codec.specs.Latin1.{latin1_text};
-ghost use Rattle.mailparse.specs.Keys.{first_with_key, all_with_key, first_value, all_values, text_found};
+ghost use Rattle.mailparse.specs.Map.{first_with_key, all_with_key, first_value, all_values, text_found};
 ghost use Rattle.mailparse.specs.Outcome.{AnswersOrMemory, GivesTexts};
 
 use super::Headers;
@@ -21,33 +21,96 @@ pub trait MailHeaderMap {
     // The headers that the map has now.
     ghost present: { Self → List Header };
 
-    /// The first header with this name, or `None` where there is none. Takes no memory.
+    /// Returns the first header with this name, or `None` where there is none.
+    ///
+    /// Takes no memory.
+    ///
+    /// # Examples
+    ///
+    /// ```rust
+    /// use mailparse::{MailHeaderMap, parse_headers};
+    ///
+    /// let (headers, _) = parse_headers(alloc, b"To: a\nTo: b\n")?;
+    /// let header = headers.get_first_header("TO").ok_or("no header")?;
+    /// assert_eq!(rt; header.get_value_raw(), b"a".as_slice());
+    /// assert!(rt; headers.get_first_header("Cc").is_none());
+    /// ```
     fn get_first_header(&self, key: &str) -> Option<&MailHeader<'_>>
         ensures { option_copied result ≡ first_with_key key.now (present self.now) };
 
-    /// The value of the first header with this name, by `get_value`, or `None` where there is none;
-    /// then it takes no memory and succeeds. Otherwise the one error is that memory ran out.
+    /// Returns the value of the first header with this name, as `MailHeader::get_value` reads it, or
+    /// `None` where there is none.
+    ///
+    /// Takes memory for the value, and none where there is no such header.
+    ///
+    /// # Errors
+    ///
+    /// `MailParseError::Memory` where it runs out of memory.
+    ///
+    /// # Examples
+    ///
+    /// ```rust
+    /// use mailparse::{MailHeaderMap, parse_headers};
+    ///
+    /// let (headers, _) = parse_headers(alloc, b"To: a\nTo: b\n")?;
+    /// let value = headers.get_first_value(alloc, "To")?.ok_or("no header")?;
+    /// assert_eq!(rt; value.as_str(), "a");
+    /// assert!(rt; headers.get_first_value(alloc, "Cc")?.is_none());
+    /// ```
     fn get_first_value(&self, alloc: Global, key: &str) -> Result<Option<String>, MailParseError>
-        ensures found { AnswersOrMemory text_found result
+        ensures read { AnswersOrMemory text_found result
             (Ok (first_value key.now (present self.now))) }
-        ensures no_memory { IsNone (first_with_key key.now (present self.now)) → IsOk result };
+        ensures no_alloc { IsNone (first_with_key key.now (present self.now)) → IsOk result };
 
-    /// The values of all headers with this name, by `get_value`, in the order of the message.
-    /// Without one it takes no memory and succeeds; otherwise the one error is that memory ran out.
+    /// Returns the values of all headers with this name, as `MailHeader::get_value` reads them, in
+    /// the order of the message.
+    ///
+    /// Takes memory for the values and their list, and none where there is no such header.
+    ///
+    /// # Errors
+    ///
+    /// `MailParseError::Memory` where it runs out of memory.
+    ///
+    /// # Examples
+    ///
+    /// ```rust
+    /// use mailparse::{MailHeaderMap, parse_headers};
+    ///
+    /// let (headers, _) = parse_headers(alloc, b"To: a\nCc: c\nTo: b\n")?;
+    /// let values = headers.get_all_values(alloc, "To")?;
+    /// assert_eq!(rt; values.len(), 2);
+    /// assert_eq!(rt; values[1].as_str(), "b");
+    /// ```
     fn get_all_values(&self, alloc: Global, key: &str) -> Result<Vec<String>, MailParseError>
-        ensures found { GivesTexts result (all_values key.now (present self.now)) }
-        ensures no_memory { IsNone (first_with_key key.now (present self.now)) → IsOk result };
+        ensures read { GivesTexts result (all_values key.now (present self.now)) }
+        ensures no_alloc { IsNone (first_with_key key.now (present self.now)) → IsOk result };
 
-    /// All headers with this name, in the order of the message. Without one it takes no memory and
-    /// succeeds; otherwise the one error is that memory ran out.
+    /// Returns all headers with this name, in the order of the message.
+    ///
+    /// Takes memory for the list, and none where there is no such header.
+    ///
+    /// # Errors
+    ///
+    /// `MailParseError::Memory` where it runs out of memory.
+    ///
+    /// # Examples
+    ///
+    /// ```rust
+    /// use mailparse::{MailHeaderMap, parse_headers};
+    ///
+    /// let (headers, _) = parse_headers(alloc, b"To: a\nCc: c\nTo: b\n")?;
+    /// let found = headers.get_all_headers(alloc, "To")?;
+    /// assert_eq!(rt; found.len(), 2);
+    /// assert_eq!(rt; found[1].get_value_raw(), b"b".as_slice());
+    /// ```
     fn get_all_headers(
         &self,
         alloc: Global,
         key: &str,
     ) -> Result<Vec<&MailHeader<'_>>, MailParseError>
-        ensures found { AnswersOrMemory (λ v. map (λ h. h.now) v.items) result
+        ensures read { AnswersOrMemory (λ v. map (λ h. h.now) v.items) result
             (Ok (all_with_key key.now (present self.now))) }
-        ensures no_memory { IsNone (first_with_key key.now (present self.now)) → IsOk result };
+        ensures no_alloc { IsNone (first_with_key key.now (present self.now)) → IsOk result };
 }
 
 impl MailHeaderMap for Vec<MailHeader<'_>> {
@@ -116,8 +179,8 @@ fn first_value<'h>(
     list: &'h [MailHeader<'h>],
     key: &str,
 ) -> Result<Option<String>, MailParseError>
-    ensures found { AnswersOrMemory text_found result (Ok (first_value key.now list.now)) }
-    ensures no_memory { IsNone (first_with_key key.now list.now) → IsOk result }
+    ensures read { AnswersOrMemory text_found result (Ok (first_value key.now list.now)) }
+    ensures no_alloc { IsNone (first_with_key key.now list.now) → IsOk result }
 {
     match first_header(list, key) {
         None => Ok(None),
@@ -131,8 +194,8 @@ fn all_values<'h>(
     list: &'h [MailHeader<'h>],
     key: &str,
 ) -> Result<Vec<String>, MailParseError>
-    ensures found { GivesTexts result (all_values key.now list.now) }
-    ensures no_memory { IsNone (first_with_key key.now list.now) → IsOk result }
+    ensures read { GivesTexts result (all_values key.now list.now) }
+    ensures no_alloc { IsNone (first_with_key key.now list.now) → IsOk result }
 {
     let mut found = Vec::new(alloc);
     for h in list {
@@ -149,9 +212,9 @@ fn all_headers<'h>(
     list: &'h [MailHeader<'h>],
     key: &str,
 ) -> Result<Vec<&'h MailHeader<'h>>, MailParseError>
-    ensures found { AnswersOrMemory (λ v. map (λ h. h.now) v.items) result
+    ensures read { AnswersOrMemory (λ v. map (λ h. h.now) v.items) result
         (Ok (all_with_key key.now list.now)) }
-    ensures no_memory { IsNone (first_with_key key.now list.now) → IsOk result }
+    ensures no_alloc { IsNone (first_with_key key.now list.now) → IsOk result }
 {
     let mut found = Vec::new(alloc);
     for h in list {

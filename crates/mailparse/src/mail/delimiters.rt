@@ -1,56 +1,57 @@
 //! The delimiters that cut a body into parts, and where the parts stand (RFC 2046, section 5.1.1).
 //!
-//! A delimiter is handed in as its line: a LF, and then `--` and the boundary.
+//! A delimiter is handed in as a LF and the dash-boundary, which is `--` and the boundary.
 ghost use Rattle.std.specs.Prelude.{◌≡◌, ℕ, ◌+◌, ◌<◌, ◌≤◌, List, length, drop, option_map, IfSome};
-ghost use Rattle.mail_codec.specs.Places.{text_place};
-ghost use Rattle.mailparse.specs.Delimiters.{starts_line, is_delimiter, delimiter_from, line_after, is_last};
+ghost use Rattle.mail_codec.specs.Places.{byte_place};
+ghost use Rattle.mailparse.specs.Delimiters.{starts_line, is_delimiter, delimiter_from, line_after, is_close_delimiter};
 ghost use Rattle.mailparse.specs.Delimiters.{before_byte, before_line_end, end_from, first_part, next_part};
-ghost use Rattle.mailparse.specs.private.DelimiterLines.{IsDelimiterLine};
+ghost use Rattle.mailparse.specs.private.Delimiters.{IsDelimiter};
 
 use bstr::ByteSlice;
-use mail_codec::bytescan::{find, find_byte};
+use mail_codec::bytescan::find_byte;
 
-/// Where a body ends that starts at `start`, and where its first part starts, if it has one.
-pub(super) fn cut_body(raw: &[u8], start: usize, line: &[u8]) -> (usize, Option<usize>)
-    requires line { IsDelimiterLine line.now }
+/// Where the preamble ends that starts at `start`, and where the first part starts, if there is one.
+pub(super) fn cut_preamble(raw: &[u8], start: usize, delimiter: &[u8]) -> (usize, Option<usize>)
+    requires delimiter { IsDelimiter delimiter.now }
     requires within { start ≤ length raw.now }
-    ensures end { result.0 ≡ end_from (drop 1 line.now) raw.now start start }
-    ensures first { result.1 ≡ first_part (drop 1 line.now) raw.now start }
-    ensures bounds { (start ≤ result.0) × (result.0 ≤ length raw.now) }
-    ensures later { IfSome result.1 (λ next. (start < next) × (next ≤ length raw.now)) }
+    ensures end { result.0 ≡ end_from (drop 1 delimiter.now) raw.now start start }
+    ensures first { result.1 ≡ first_part (drop 1 delimiter.now) raw.now start }
+    ensures bounds { (start ≤ result.0) × (result.0 ≤ length raw.now)
+        × IfSome result.1 (λ next. (start < next) × (next ≤ length raw.now)) }
 {
-    let Some(at) = find_delimiter(raw, start, line) else {
+    let Some(at) = find_delimiter(raw, start, delimiter) else {
         return (start, None);
     };
     let end = before_line_end(raw, start, at);
-    (end, line_after(raw, at + (line.len() - 1)))
+    (end, line_after(raw, at + (delimiter.len() - 1)))
 }
 
 /// Where the part ends that starts at `start`, and where the next part starts, if there is one.
-pub(super) fn cut_part(raw: &[u8], start: usize, line: &[u8]) -> (usize, Option<usize>)
-    requires line { IsDelimiterLine line.now }
+pub(super) fn cut_part(raw: &[u8], start: usize, delimiter: &[u8]) -> (usize, Option<usize>)
+    requires delimiter { IsDelimiter delimiter.now }
     requires within { start ≤ length raw.now }
-    ensures end { result.0 ≡ end_from (drop 1 line.now) raw.now start (length raw.now) }
-    ensures next { result.1 ≡ next_part (drop 1 line.now) raw.now start }
-    ensures bounds { (start ≤ result.0) × (result.0 ≤ length raw.now) }
-    ensures later { IfSome result.1 (λ next. (start < next) × (next ≤ length raw.now)) }
+    ensures end { result.0 ≡ end_from (drop 1 delimiter.now) raw.now start (length raw.now) }
+    ensures next { result.1 ≡ next_part (drop 1 delimiter.now) raw.now start }
+    ensures bounds { (start ≤ result.0) × (result.0 ≤ length raw.now)
+        × IfSome result.1 (λ next. (start < next) × (next ≤ length raw.now)) }
 {
-    let Some(at) = find_delimiter(raw, start, line) else {
+    let Some(at) = find_delimiter(raw, start, delimiter) else {
         return (raw.len(), None);
     };
     let end = before_line_end(raw, start, at);
-    let after = at + (line.len() - 1);
-    if is_last(raw, after) {
+    let after = at + (delimiter.len() - 1);
+    if is_close_delimiter(raw, after) {
         return (end, None);
     }
     (end, line_after(raw, after))
 }
 
-/// Whether the delimiter that ends at `after` is the last: fewer than two bytes follow it, or `--`
-/// does.
-fn is_last(raw: &[u8], after: usize) -> bool
+/// Whether the delimiter whose dash-boundary ends at `after` is the close-delimiter: fewer than two
+/// bytes follow it, or `--` does.
+fn is_close_delimiter(raw: &[u8], after: usize) -> bool
     requires { after ≤ length raw.now }
-    ensures { (at : ℕ) (d : List ℕ) → at + length d ≡ after → result ≡ is_last d raw.now at }
+    ensures { (at : ℕ) (dash_boundary : List ℕ) → at + length dash_boundary ≡ after →
+        result ≡ is_close_delimiter dash_boundary raw.now at }
 {
     if raw.len() - after < 2 {
         return true;
@@ -60,47 +61,47 @@ fn is_last(raw: &[u8], after: usize) -> bool
 
 /// The place of the first delimiter at or after `start`, where `start` counts as the start of a line.
 ///
-/// A boundary that holds a LF is sought with the LF before it, and not line by line: that takes no
-/// more time than the two are long together.
-fn find_delimiter(raw: &[u8], start: usize, line: &[u8]) -> Option<usize>
-    requires line { IsDelimiterLine line.now }
+/// A dash-boundary that holds a LF is sought with the LF before it, and not line by line: that takes
+/// no more time than the two are long together.
+fn find_delimiter(raw: &[u8], start: usize, delimiter: &[u8]) -> Option<usize>
+    requires delimiter { IsDelimiter delimiter.now }
     requires within { start ≤ length raw.now }
-    ensures least { result ≡ delimiter_from (drop 1 line.now) raw.now start }
+    ensures least { result ≡ delimiter_from (drop 1 delimiter.now) raw.now start }
     ensures bounds { IfSome result (λ at.
-        (start ≤ at) × (at + length (drop 1 line.now) ≤ length raw.now)) }
+        (start ≤ at) × (at + length (drop 1 delimiter.now) ≤ length raw.now)) }
 {
-    let delimiter = &line[1..];
-    if find_byte(delimiter, b'\n').is_none() {
-        return find_from_u8_line_prefix(raw, start, delimiter);
+    let dash_boundary = &delimiter[1..];
+    if find_byte(dash_boundary, b'\n').is_none() {
+        return find_from_u8_line_prefix(raw, start, dash_boundary);
     }
     let rest = &raw[start..];
-    if rest.starts_with(delimiter) {
+    if rest.starts_with(dash_boundary) {
         return Some(start);
     }
-    let Some(place) = rest.find(line) else {
+    let Some(place) = rest.find(delimiter) else {
         return None;
     };
     Some(start + place + 1)
 }
 
-/// The first place at or after `ix_start` where a line begins with `key`, where `ix_start` counts as
-/// the start of a line.
+/// The first place at or after `start` where a line begins with `key`, where `start` counts as the
+/// start of a line.
 ///
 /// It goes from one first byte of `key` to the next, and past the end of each line that it has seen
 /// one in: lines without that byte are passed over.
-fn find_from_u8_line_prefix(line: &[u8], ix_start: usize, key: &[u8]) -> Option<usize>
+fn find_from_u8_line_prefix(raw: &[u8], start: usize, key: &[u8]) -> Option<usize>
     requires some { 0 < length key.now }
-    requires within { ix_start ≤ length line.now }
-    ensures least { result ≡ delimiter_from key.now line.now ix_start }
+    requires within { start ≤ length raw.now }
+    ensures least { result ≡ delimiter_from key.now raw.now start }
     ensures bounds { IfSome result (λ at.
-        (ix_start ≤ at) × (at + length key.now ≤ length line.now)) }
+        (start ≤ at) × (at + length key.now ≤ length raw.now)) }
 {
-    let mut from = ix_start;
-    while let Some(at) = find_from_u8(line, from, &key[..1]) {
-        if is_line_prefix(line, ix_start, at, key) {
+    let mut from = start;
+    while let Some(at) = find_from_u8(raw, from, key[0]) {
+        if is_line_prefix(raw, start, at, key) {
             return Some(at);
         }
-        let Some(next) = line_after(line, at) else {
+        let Some(next) = line_after(raw, at) else {
             return None;
         };
         from = next;
@@ -108,56 +109,44 @@ fn find_from_u8_line_prefix(line: &[u8], ix_start: usize, key: &[u8]) -> Option<
     None
 }
 
-/// The first place at or after `ix_start` where `key` stands.
-fn find_from_u8(line: &[u8], ix_start: usize, key: &[u8]) -> Option<usize>
-    requires some { 0 < length key.now }
-    requires within { ix_start ≤ length line.now }
-    ensures least { result
-        ≡ option_map (λ k. ix_start + k) (text_place (drop ix_start line.now) key.now) }
-    ensures bounds { IfSome result (λ at. (ix_start ≤ at) × (at < length line.now)) }
+/// The first place at or after `start` where a byte stands.
+fn find_from_u8(raw: &[u8], start: usize, byte: u8) -> Option<usize>
+    requires within { start ≤ length raw.now }
+    ensures least { result ≡ option_map (λ k. start + k) (byte_place (drop start raw.now) byte) }
+    ensures bounds { IfSome result (λ at. (start ≤ at) × (at < length raw.now)) }
 {
-    let place = find_key(&line[ix_start..], key)?;
-    Some(ix_start + place)
-}
-
-/// The first place where `key` stands.
-fn find_key(bytes: &[u8], key: &[u8]) -> Option<usize>
-    ensures { result ≡ text_place bytes.now key.now }
-{
-    match key {
-        [byte] => find_byte(bytes, *byte),
-        _ => find(bytes, key),
-    }
+    let place = find_byte(&raw[start..], byte)?;
+    Some(start + place)
 }
 
 /// Whether a line starts at `at` and begins with `key`, where `start` counts as the start of a line.
-fn is_line_prefix(line: &[u8], start: usize, at: usize, key: &[u8]) -> bool
+fn is_line_prefix(raw: &[u8], start: usize, at: usize, key: &[u8]) -> bool
     requires low { start ≤ at }
-    requires within { at ≤ length line.now }
-    ensures { result ≡ is_delimiter key.now line.now start at }
+    requires within { at ≤ length raw.now }
+    ensures { result ≡ is_delimiter key.now raw.now start at }
 {
-    if !starts_line(line, start, at) {
+    if !starts_line(raw, start, at) {
         return false;
     }
-    line[at..].starts_with(key)
+    raw[at..].starts_with(key)
 }
 
 /// Whether a line starts at `at`: it is `start`, or a LF stands before it.
-fn starts_line(line: &[u8], start: usize, at: usize) -> bool
+fn starts_line(raw: &[u8], start: usize, at: usize) -> bool
     requires low { start ≤ at }
-    requires within { at ≤ length line.now }
-    ensures { result ≡ starts_line line.now start at }
+    requires within { at ≤ length raw.now }
+    ensures { result ≡ starts_line raw.now start at }
 {
     if at == start {
         return true;
     }
-    line[at - 1] == b'\n'
+    raw[at - 1] == b'\n'
 }
 
 /// The place after the next LF at or after `at`.
 fn line_after(raw: &[u8], at: usize) -> Option<usize>
     requires { at ≤ length raw.now }
-    ensures next { result ≡ line_after raw.now at }
+    ensures value { result ≡ line_after raw.now at }
     ensures bounds { IfSome result (λ next. (at < next) × (next ≤ length raw.now)) }
 {
     let place = find_byte(&raw[at..], b'\n')?;
@@ -168,7 +157,7 @@ fn line_after(raw: &[u8], at: usize) -> Option<usize>
 fn before_line_end(raw: &[u8], start: usize, at: usize) -> usize
     requires low { start ≤ at }
     requires within { at ≤ length raw.now }
-    ensures end { result ≡ before_line_end raw.now start at }
+    ensures value { result ≡ before_line_end raw.now start at }
     ensures bounds { (start ≤ result) × (result ≤ at) }
 {
     before_byte(raw, start, before_byte(raw, start, at, b'\n'), b'\r')
@@ -178,7 +167,7 @@ fn before_line_end(raw: &[u8], start: usize, at: usize) -> usize
 fn before_byte(raw: &[u8], start: usize, at: usize, byte: u8) -> usize
     requires low { start ≤ at }
     requires within { at ≤ length raw.now }
-    ensures end { result ≡ before_byte byte raw.now start at }
+    ensures value { result ≡ before_byte byte raw.now start at }
     ensures bounds { (start ≤ result) × (result ≤ at) }
 {
     if start < at && raw[at - 1] == byte {

@@ -6,8 +6,10 @@ ghost use Rattle.mailparse.specs.Views.{tree_of};
 use crate::mail::ParsedMail;
 use std::alloc::AllocError;
 
-/// Goes over a message and its parts, each before its own parts. It holds the whole list; `next`
-/// takes no memory.
+/// An iterator over a message and its parts, each before its own parts, as `ParsedMail::parts`
+/// returns it.
+///
+/// It holds the whole list; `next` takes no memory.
 #[derive(Drop)]
 pub struct PartsIterator<'m, 'a> {
     pub(super) parts: Vec<&'m ParsedMail<'a>>,

@@ -1,15 +1,15 @@
 //! The type of a message, and what it says of its parts.
-ghost use Rattle.std.specs.Prelude.{◌≡◌, ◌∷◌, option_map, IfErr, IfOk, Ok};
+ghost use Rattle.std.specs.Prelude.{◌≡◌, ◌∷◌, option_map, IfOk, Ok};
 ghost use Rattle.mail_codec.specs.Charset.{four_charsets};
-ghost use Rattle.mailparse.specs.Mail.{delimiter_of, is_digest, node_type, part_type};
-ghost use Rattle.mailparse.specs.Outcome.{AnswersOrMemory, IsMemory};
+ghost use Rattle.mailparse.specs.Mail.{dash_boundary_of, is_digest, node_type, part_type};
+ghost use Rattle.mailparse.specs.Outcome.{AnswersOrMemory};
 ghost use Rattle.mailparse.specs.Views.{content_type};
 
 use crate::content_type::{ParsedContentType, parse_content_type};
 use crate::error::MailParseError;
 use crate::header::MailHeader;
 use crate::headers::map::MailHeaderMap;
-use std::alloc::Global;
+use std::alloc::{AllocError, Global};
 use std::collections::BTreeMap;
 
 /// The type of a message with these headers: what its first `Content-Type` says, and otherwise the
@@ -24,20 +24,21 @@ pub(super) fn node_type(
 {
     match headers.get_first_header("Content-Type") {
         Some(header) => parse_content_type(alloc, header.get_value_ref(alloc)?.as_str()),
-        None => part_type(alloc, in_digest),
+        None => Ok(part_type(alloc, in_digest)?),
     }
 }
 
-/// The type of a part without one of its own: plain text, and a message in a digest. The error is
-/// that memory ran out.
-fn part_type(alloc: Global, in_digest: bool) -> Result<ParsedContentType, MailParseError>
-    ensures { AnswersOrMemory content_type result (Ok (part_type in_digest)) }
+/// The type of a part without one of its own: plain text, and a message in a digest.
+fn part_type(alloc: Global, in_digest: bool) -> Result<ParsedContentType, AllocError>
+    ensures { IfOk result (λ ctype. content_type ctype ≡ part_type in_digest) }
 {
-    if !in_digest {
-        return ParsedContentType::default(alloc);
-    }
+    let mimetype = if in_digest {
+        "message/rfc822"
+    } else {
+        "text/plain"
+    };
     Ok(ParsedContentType {
-        mimetype: String::from_str(alloc, "message/rfc822")?,
+        mimetype: String::from_str(alloc, mimetype)?,
         charset: String::from_str(alloc, "us-ascii")?,
         params: BTreeMap::new(alloc),
     })
@@ -50,15 +51,15 @@ pub(super) fn is_digest(ctype: &ParsedContentType) -> bool
     ctype.mimetype.as_str() == "multipart/digest"
 }
 
-/// A LF, and then what the delimiters between the parts of this type begin with, if there may be
-/// parts. The error is that memory ran out.
-pub(super) fn delimiter_line(
+/// The delimiter between the parts of this type, if there may be parts: a LF and the dash-boundary,
+/// which is `--` and the boundary.
+pub(super) fn delimiter_of(
     alloc: Global,
     ctype: &ParsedContentType,
-) -> Result<Option<Vec<u8>>, MailParseError>
-    ensures line { IfOk result (λ line. option_map (λ l. l.items) line
-        ≡ option_map (λ d. 10 ∷ d) (delimiter_of (content_type ctype.now))) }
-    ensures fault { IfErr result IsMemory }
+) -> Result<Option<Vec<u8>>, AllocError>
+    ensures { IfOk result (λ delimiter. option_map (λ d. d.items) delimiter
+        ≡ option_map (λ dash_boundary. 10 ∷ dash_boundary)
+        (dash_boundary_of (content_type ctype.now))) }
 {
     if !ctype.mimetype.starts_with("multipart") {
         return Ok(None);
@@ -66,8 +67,8 @@ pub(super) fn delimiter_line(
     let Some(boundary) = ctype.params.get("boundary") else {
         return Ok(None);
     };
-    let mut line = Vec::with_capacity(alloc, 3 + boundary.len())?;
-    line.extend_from_slice(b"\n--")?;
-    line.extend_from_slice(boundary.as_bytes())?;
-    Ok(Some(line))
+    let mut delimiter = Vec::with_capacity(alloc, 3 + boundary.len())?;
+    delimiter.extend_from_slice(b"\n--")?;
+    delimiter.extend_from_slice(boundary.as_bytes())?;
+    Ok(Some(delimiter))
 }

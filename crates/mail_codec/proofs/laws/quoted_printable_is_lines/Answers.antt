@@ -4,5 +4,5 @@ use Rattle.mail_codec.proofs.laws.quoted_printable_is_lines.Goals as goal
 pub returns-clause-once : goal.returns-clause-once
 returns-clause-once c = lines_once
 
-pub returns-clause-reads : goal.returns-clause-reads
-returns-clause-reads c = quoted_printable_reads
+pub returns-clause-read : goal.returns-clause-read
+returns-clause-read c = quoted_printable_reads

@@ -1,14 +1,14 @@
 //! Base64 groups with padding, read together with others.
 ghost use Rattle.std.specs.Prelude.{◌≡◌, ℕ, Ok, true, false, ◌+◌, ◌*◌, ◌/◌, ◌%◌, ◌≤◌, ◌++◌, length, IfOk, OnOk};
 ghost use Rattle.mail_codec.specs.Base64.{groups_from, prepend};
-ghost use Rattle.mail_codec.specs.private.Padding.{cut_groups, filled, fourth, group_len, third};
+ghost use Rattle.mail_codec.specs.private.Padded.{cut_groups, filled, fourth, group_len, third};
 
 use base64::DecodeAllocError;
 use base64::engine::general_purpose::STANDARD;
 use std::alloc::AllocError;
 
-/// Appends the bytes of whole groups and answers true where all of them are groups, some padded
-/// perhaps; or appends nothing and answers false. The engine takes padding in the last group alone,
+/// Appends the bytes of whole groups and returns true where all of them are groups, some perhaps
+/// padded; otherwise appends nothing and returns false. The engine takes padding in the last group alone,
 /// so the missing letters are filled up, all groups are read at once, and then each is cut. `full`
 /// and `decoded` are lent to be written over, so that all windows share them.
 pub(crate) fn decode_padded_groups(
@@ -83,7 +83,7 @@ fn push_cut_groups(bytes: &mut Vec<u8>, letters: &[u8], decoded: &[u8]) -> Resul
 /// How many bytes a group stands for, by its third and its fourth byte.
 pub(crate) fn group_len(r: u8, s: u8) -> usize
     ensures len { result ≡ group_len r s }
-    ensures few { result ≤ 3 }
+    ensures bounds { result ≤ 3 }
 {
     if s != b'=' {
         return 3;

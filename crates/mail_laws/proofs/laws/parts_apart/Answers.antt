@@ -1,4 +1,4 @@
-use Rattle.mailparse.proofs.lemmas.Apart.{cut_of-apart}
+use Rattle.mailparse.proofs.lemmas.Ranges.{cut_of-apart}
 use Rattle.mailparse.proofs.lemmas.Block.{read_headers-bounded}
 use Rattle.mail_laws.proofs.laws.parts_apart.Goals as goal
 

@@ -1,5 +1,6 @@
-use Rattle.mail_laws.proofs.lemmas.Runs.{joined-walked}
+use Rattle.std.proofs.Common.{sym}
+use Rattle.mailparse.proofs.lemmas.Joining.{joined_by_walk}
 use Rattle.mail_laws.proofs.laws.runs_are_read_once.Goals as goal
 
 pub returns : goal.returns
-returns c = joined-walked
+returns c = λ sections. sym (joined_by_walk sections)

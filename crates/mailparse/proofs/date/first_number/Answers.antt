@@ -1,7 +1,7 @@
 use Rattle.std.proofs.Common.{◌≡◌, Some, None, sym, ap, ◌∙◌, rules}
 use Rattle.std.specs.Result.{result_ok}
 use Rattle.mailparse.specs.Date.{date_words, number_below, words}
-use Rattle.mailparse.proofs.lemmas.Dates.{date_words-here, date_words-past, number_below-parse}
+use Rattle.mailparse.proofs.lemmas.Date.{date_words-here, date_words-past, number_below-parse}
 use Rattle.mailparse.proofs.date.first_number.Goals as goal
 
 pub returns-in-Ok : goal.returns-in-Ok

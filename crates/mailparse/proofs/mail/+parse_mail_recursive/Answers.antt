@@ -4,24 +4,25 @@ use Rattle.std.proofs.lemmas.List.{map-append}
 use Rattle.std.proofs.lemmas.Option.{IfSome_then}
 use Rattle.std.proofs.lemmas.Result.{err_from_is_err_and}
 use Rattle.mail_codec.specs.Charset.{four_charsets}
-use Rattle.mailparse.specs.Refusal.{Reads, read_map}
+use Rattle.mailparse.specs.Refusal.{Reads}
 use Rattle.mailparse.specs.Block.{read_headers}
 use Rattle.mailparse.specs.ContentType.{ContentType}
 use Rattle.mailparse.specs.Delimiters.{end_from, first_part, next_part}
-use Rattle.mailparse.specs.Mail.{Tree, tree, Forest, no_parts, forest, delimiter_of, node_type, read_levels}
+use Rattle.mailparse.specs.Mail.{Tree, tree, Forest, no_parts, forest, dash_boundary_of, node_type, read_levels}
 use Rattle.mailparse.specs.Views.{content_type, tree_step, tree_of}
 use Rattle.mailparse.specs.declared.mail.ParsedMail.{ParsedMail}
 use Rattle.mailparse.specs.declared.mail.ParsedMail.TheFolds.{fold-roll-ParsedMail}
+use Rattle.mailparse.proofs.lemmas.Refusal.{read_map}
 use Rattle.mailparse.proofs.lemmas.Outcome.{IsRefusal-along, IsRefusalOrMemory-along}
-use Rattle.mailparse.proofs.lemmas.Parts.{with_trees, parts_from, parts_step, parts_refused, parts_end, read_levels-none, read_levels-refused, read_levels-leaf, read_levels-whole, line_none, IsDelimiterLine-of}
+use Rattle.mailparse.proofs.lemmas.Mail.{with_trees, parts_from, parts_step, parts_refused, parts_end, read_levels-none, read_levels-refused, read_levels-leaf, read_levels-whole, delimiter_none, IsDelimiter-of}
 use Rattle.mailparse.proofs.mail.+parse_mail_recursive.Goals as goal
 
 unwrap : (a b : ContentType) → ◌≡◌ {A = Reads ContentType} (Ok a) (Ok b) → a ≡ b
 unwrap a b e = cc
 
--- the line that was made
-made : (o : Option (Vec ℕ)) (line : Vec ℕ) (r : Option (List ℕ)) → o ≡ Some line → option_map (λ l. l.items) o ≡ r → Some line.items ≡ r
-made o line r e h = sym (ap (option_map (λ (l : Vec ℕ). l.items)) e) ∙ h
+-- the delimiter that was made
+made : (o : Option (Vec ℕ)) (delimiter : Vec ℕ) (r : Option (List ℕ)) → o ≡ Some delimiter → option_map (λ l. l.items) o ≡ r → Some delimiter.items ≡ r
+made o delimiter r e h = sym (ap (option_map (λ (l : Vec ℕ). l.items)) e) ∙ h
 
 pub returns-then-levels-eq0-clause-read : goal.returns-then-levels-eq0-clause-read
 returns-then-levels-eq0-clause-read t c = read_levels-none c.args.levels c.args.in_digest c.args.raw.now c.if-levels-eq0.true
@@ -34,12 +35,12 @@ returns-in_err-headers-clause-read t c =
     rw (p.1, p.2) (IsRefusalOrMemory-along c.in_err-headers.field-0.0 (read_headers raw) (read_levels four_charsets c.args.levels c.args.in_digest raw)
     (λ r e. read_levels-refused c.args.levels c.args.in_digest raw r some e) c.in_err-headers.ensures.read)
 
-pub returns-in_err-headers-clause-no_memory : goal.returns-in_err-headers-clause-no_memory
-returns-in_err-headers-clause-no_memory t c = λ some none refused.
+pub returns-in_err-headers-clause-no_alloc : goal.returns-in_err-headers-clause-no_alloc
+returns-in_err-headers-clause-no_alloc t c = λ some none refused.
     let p = err_from_is_err_and c.from_residual.result c.from_residual.ensures.1 in
     let raw = c.args.raw.now in
     rw (p.1, p.2) (IsRefusal-along c.in_err-headers.field-0.0 (read_headers raw) (read_levels four_charsets c.args.levels c.args.in_digest raw)
-    (λ r e. read_levels-refused c.args.levels c.args.in_digest raw r some e) (c.in_err-headers.ensures.no_memory none))
+    (λ r e. read_levels-refused c.args.levels c.args.in_digest raw r some e) (c.in_err-headers.ensures.no_alloc none))
 
 pub returns-in_default-clause-read : goal.returns-in_default-clause-read
 returns-in_default-clause-read t c =
@@ -49,19 +50,19 @@ returns-in_default-clause-read t c =
     let ctype = content_type c.in_ok-ctype.ctype in
     let some : 0 < c.args.levels = omega (arith, c.if-levels-eq0.false) in
     let type = unwrap (node_type four_charsets c.args.in_digest headers) ctype c.in_ok-ctype.ensures in
-    let nothing : None ≡ option_map (λ d. 10 ∷ d) (delimiter_of ctype) = sym (ap (option_map (λ (l : Vec ℕ). l.items)) c.in_default.is) ∙ c.in_ok-line.ensures.line in
+    let nothing : None ≡ option_map (λ dash_boundary. 10 ∷ dash_boundary) (dash_boundary_of ctype) = sym (ap (option_map (λ (l : Vec ℕ). l.items)) c.in_default.is) ∙ c.in_ok-delimiter.ensures in
     let parts : forest (map tree_of c.new.result.items) ≡ no_parts = ap (λ (ms : List ParsedMail). forest (map tree_of ms)) c.new.ensures.items in
-    read_levels-leaf c.args.levels c.args.in_digest raw headers index ctype some c.in_ok-headers.ensures.read type (line_none (delimiter_of ctype) nothing)
+    read_levels-leaf c.args.levels c.args.in_digest raw headers index ctype some c.in_ok-headers.ensures.read type (delimiter_none (dash_boundary_of ctype) nothing)
     ∙ ap (λ (f : Forest). Ok (tree (record { bytes = raw; block = take index raw; headers = headers; ctype = ctype; body = slice_range raw index (length raw) }) f)) (sym parts)
     ∙ ap Ok (sym (fold-roll-ParsedMail Tree tree_step _))
 
-pub cut_body-end-requires-clause-line : goal.cut_body-end-requires-clause-line
-cut_body-end-requires-clause-line t c =
-    rw c.as_slice.ensures.value (IsDelimiterLine-of c.in-Some.line.items (content_type c.in_ok-ctype.ctype) (made c.in_ok-line.field-0 c.in-Some.line _ c.in-Some.is c.in_ok-line.ensures.line))
+pub cut_preamble-end-requires-clause-delimiter : goal.cut_preamble-end-requires-clause-delimiter
+cut_preamble-end-requires-clause-delimiter t c =
+    rw c.as_slice.ensures.value (IsDelimiter-of c.in-Some.delimiter.items (content_type c.in_ok-ctype.ctype) (made c.in_ok-delimiter.field-0 c.in-Some.delimiter _ c.in-Some.is c.in_ok-delimiter.ensures))
 
-pub cut_part-part_end-requires-clause-line : goal.cut_part-part_end-requires-clause-line
-cut_part-part_end-requires-clause-line t c =
-    rw c.as_slice-in-Some-next.ensures.value (IsDelimiterLine-of c.in-Some.line.items (content_type c.in_ok-ctype.ctype) (made c.in_ok-line.field-0 c.in-Some.line _ c.in-Some.is c.in_ok-line.ensures.line))
+pub cut_part-part_end-requires-clause-delimiter : goal.cut_part-part_end-requires-clause-delimiter
+cut_part-part_end-requires-clause-delimiter t c =
+    rw c.as_slice-in-Some-next.ensures.value (IsDelimiter-of c.in-Some.delimiter.items (content_type c.in_ok-ctype.ctype) (made c.in_ok-delimiter.field-0 c.in-Some.delimiter _ c.in-Some.is c.in_ok-delimiter.ensures))
 
 pub returns-in_err-parse_mail_recursive-clause-read : goal.returns-in_err-parse_mail_recursive-clause-read
 returns-in_err-parse_mail_recursive-clause-read t c =
@@ -70,45 +71,45 @@ returns-in_err-parse_mail_recursive-clause-read t c =
     let headers = c.in_ok-headers.headers.items in
     let index = c.in_ok-headers.index in
     let ctype = content_type c.in_ok-ctype.ctype in
-    let line = c.in-Some.line.items in
+    let delimiter = c.in-Some.delimiter.items in
     let digest = c.is_digest-is_digest.result in
     let levels = c.args.levels - 1 in
     let some : 0 < c.args.levels = omega (arith, c.if-levels-eq0.false) in
     let type = unwrap (node_type four_charsets c.args.in_digest headers) ctype c.in_ok-ctype.ensures in
-    let whole = read_levels-whole c.args.levels c.args.in_digest raw headers index ctype line digest (end_from (drop 1 line) raw index index) some c.in_ok-headers.ensures.read type
-    (made c.in_ok-line.field-0 c.in-Some.line _ c.in-Some.is c.in_ok-line.ensures.line) c.is_digest-is_digest.ensures refl in
+    let whole = read_levels-whole c.args.levels c.args.in_digest raw headers index ctype delimiter digest (end_from (drop 1 delimiter) raw index index) some c.in_ok-headers.ensures.read type
+    (made c.in_ok-delimiter.field-0 c.in-Some.delimiter _ c.in-Some.is c.in_ok-delimiter.ensures) c.is_digest-is_digest.ensures refl in
     let start = c.in-Some-next.start in
     let part_end = c.cut_part-part_end.result.0 in
-    let ends : part_end ≡ end_from (drop 1 line) raw start (length raw) = c.cut_part-part_end.ensures.end ∙ ap (λ (l : List ℕ). end_from (drop 1 l) raw start (length raw)) c.as_slice-in-Some-next.ensures.value in
-    let all = parts_from levels digest (drop 1 line) raw (first_part (drop 1 line) raw index) in
-    let before = subst (λ (o : Option ℕ). with_trees (map tree_of c.loop-next.subparts.items) (parts_from levels digest (drop 1 line) raw o) ≡ all) c.in-Some-next.is c.loop-next.invariant.all in
+    let ends : part_end ≡ end_from (drop 1 delimiter) raw start (length raw) = c.cut_part-part_end.ensures.end ∙ ap (λ (l : List ℕ). end_from (drop 1 l) raw start (length raw)) c.as_slice-in-Some-next.ensures.value in
+    let all = parts_from levels digest (drop 1 delimiter) raw (first_part (drop 1 delimiter) raw index) in
+    let before = subst (λ (o : Option ℕ). with_trees (map tree_of c.loop-next.subparts.items) (parts_from levels digest (drop 1 delimiter) raw o) ≡ all) c.in-Some-next.is c.loop-next.invariant.all in
     rw (p.1, p.2) (IsRefusalOrMemory-along c.in_err-parse_mail_recursive.field-0.0 (read_levels four_charsets levels digest (slice_range raw start part_end))
     (read_levels four_charsets c.args.levels c.args.in_digest raw)
-    (λ r e. whole ∙ ap (read_map (tree (record { bytes = raw; block = take index raw; headers = headers; ctype = ctype; body = slice_range raw index (end_from (drop 1 line) raw index index) })))
-    (parts_refused levels digest (drop 1 line) raw (map tree_of c.loop-next.subparts.items) all start part_end r ends e before))
+    (λ r e. whole ∙ ap (read_map (tree (record { bytes = raw; block = take index raw; headers = headers; ctype = ctype; body = slice_range raw index (end_from (drop 1 delimiter) raw index index) })))
+    (parts_refused levels digest (drop 1 delimiter) raw (map tree_of c.loop-next.subparts.items) all start part_end r ends e before))
     c.in_err-parse_mail_recursive.ensures.read)
 
 pub loop-next-preserved : goal.loop-next-preserved
 loop-next-preserved t c =
     let raw = c.args.raw.now in
     let index = c.in_ok-headers.index in
-    let line = c.in-Some.line.items in
+    let delimiter = c.in-Some.delimiter.items in
     let digest = c.is_digest-is_digest.result in
     let levels = c.args.levels - 1 in
     let start = c.in-Some-next.start in
     let part_end = c.cut_part-part_end.result.0 in
     let after = c.cut_part-part_end.result.1 in
-    let ends : part_end ≡ end_from (drop 1 line) raw start (length raw) = c.cut_part-part_end.ensures.end ∙ ap (λ (l : List ℕ). end_from (drop 1 l) raw start (length raw)) c.as_slice-in-Some-next.ensures.value in
-    let next : after ≡ next_part (drop 1 line) raw start = c.cut_part-part_end.ensures.next ∙ ap (λ (l : List ℕ). next_part (drop 1 l) raw start) c.as_slice-in-Some-next.ensures.value in
-    let all = parts_from levels digest (drop 1 line) raw (first_part (drop 1 line) raw index) in
-    let before = subst (λ (o : Option ℕ). with_trees (map tree_of c.loop-next.subparts.items) (parts_from levels digest (drop 1 line) raw o) ≡ all) c.in-Some-next.is c.loop-next.invariant.all in
+    let ends : part_end ≡ end_from (drop 1 delimiter) raw start (length raw) = c.cut_part-part_end.ensures.end ∙ ap (λ (l : List ℕ). end_from (drop 1 l) raw start (length raw)) c.as_slice-in-Some-next.ensures.value in
+    let next : after ≡ next_part (drop 1 delimiter) raw start = c.cut_part-part_end.ensures.next ∙ ap (λ (l : List ℕ). next_part (drop 1 l) raw start) c.as_slice-in-Some-next.ensures.value in
+    let all = parts_from levels digest (drop 1 delimiter) raw (first_part (drop 1 delimiter) raw index) in
+    let before = subst (λ (o : Option ℕ). with_trees (map tree_of c.loop-next.subparts.items) (parts_from levels digest (drop 1 delimiter) raw o) ≡ all) c.in-Some-next.is c.loop-next.invariant.all in
     let part = c.in_ok-parse_mail_recursive.field-0 in
     let pushed : map tree_of c.push.new.self.items ≡ map tree_of c.loop-next.subparts.items ++ tree_of part ∷ [] =
     ap (map tree_of) c.in_ok-push.ensures.items ∙ map-append tree_of c.loop-next.subparts.items (part ∷ []) in
     record {
-      within = IfSome_then after c.cut_part-part_end.ensures.later (λ x bounds. bounds.1);
-      all = ap (λ (ts : List Tree). with_trees ts (parts_from levels digest (drop 1 line) raw after)) pushed
-          ∙ parts_step levels digest (drop 1 line) raw (map tree_of c.loop-next.subparts.items) all start part_end after (tree_of part) ends next
+      within = IfSome_then after c.cut_part-part_end.ensures.bounds.2 (λ x bounds. bounds.1);
+      all = ap (λ (ts : List Tree). with_trees ts (parts_from levels digest (drop 1 delimiter) raw after)) pushed
+          ∙ parts_step levels digest (drop 1 delimiter) raw (map tree_of c.loop-next.subparts.items) all start part_end after (tree_of part) ends next
           c.in_ok-parse_mail_recursive.ensures.read before;
     }
 
@@ -118,17 +119,17 @@ returns-clause-read t c =
     let headers = c.in_ok-headers.headers.items in
     let index = c.in_ok-headers.index in
     let ctype = content_type c.in_ok-ctype.ctype in
-    let line = c.in-Some.line.items in
+    let delimiter = c.in-Some.delimiter.items in
     let digest = c.is_digest-is_digest.result in
     let levels = c.args.levels - 1 in
     let some : 0 < c.args.levels = omega (arith, c.if-levels-eq0.false) in
     let type = unwrap (node_type four_charsets c.args.in_digest headers) ctype c.in_ok-ctype.ensures in
-    let end = c.cut_body-end.result.0 in
-    let ends : end ≡ end_from (drop 1 line) raw index index = c.cut_body-end.ensures.end ∙ ap (λ (l : List ℕ). end_from (drop 1 l) raw index index) c.as_slice.ensures.value in
-    let whole = read_levels-whole c.args.levels c.args.in_digest raw headers index ctype line digest end some c.in_ok-headers.ensures.read type
-    (made c.in_ok-line.field-0 c.in-Some.line _ c.in-Some.is c.in_ok-line.ensures.line) c.is_digest-is_digest.ensures ends in
-    let all = parts_from levels digest (drop 1 line) raw (first_part (drop 1 line) raw index) in
-    let done = subst (λ (o : Option ℕ). with_trees (map tree_of c.loop-next.subparts.items) (parts_from levels digest (drop 1 line) raw o) ≡ all) c.in_default-next.is c.loop-next.invariant.all in
+    let end = c.cut_preamble-end.result.0 in
+    let ends : end ≡ end_from (drop 1 delimiter) raw index index = c.cut_preamble-end.ensures.end ∙ ap (λ (l : List ℕ). end_from (drop 1 l) raw index index) c.as_slice.ensures.value in
+    let whole = read_levels-whole c.args.levels c.args.in_digest raw headers index ctype delimiter digest end some c.in_ok-headers.ensures.read type
+    (made c.in_ok-delimiter.field-0 c.in-Some.delimiter _ c.in-Some.is c.in_ok-delimiter.ensures) c.is_digest-is_digest.ensures ends in
+    let all = parts_from levels digest (drop 1 delimiter) raw (first_part (drop 1 delimiter) raw index) in
+    let done = subst (λ (o : Option ℕ). with_trees (map tree_of c.loop-next.subparts.items) (parts_from levels digest (drop 1 delimiter) raw o) ≡ all) c.in_default-next.is c.loop-next.invariant.all in
     whole ∙ ap (read_map (tree (record { bytes = raw; block = take index raw; headers = headers; ctype = ctype; body = slice_range raw index end })))
-    (parts_end levels digest (drop 1 line) raw (map tree_of c.loop-next.subparts.items) all done)
+    (parts_end levels digest (drop 1 delimiter) raw (map tree_of c.loop-next.subparts.items) all done)
     ∙ ap Ok (sym (fold-roll-ParsedMail Tree tree_step _))

@@ -2,7 +2,7 @@
 use Rattle.std.proofs.Common.{◌≡◌, ◌≤◌, ◌-◌, ℕ, suc, drop, length, map, Option, Some, None, IfSome}
 use Rattle.mailparse.specs.Delimiters.{first_part}
 use Rattle.mailparse.specs.Views.{tree_of}
-use Rattle.mailparse.proofs.lemmas.Parts.{with_trees, parts_from}
+use Rattle.mailparse.proofs.lemmas.Mail.{with_trees, parts_from}
 use Rattle.mailparse.proofs.mail.«+parse_mail_recursive».Given as goal
 
 abbrev pub decreases-parse_mail_recursive : goal.decreases-parse_mail_recursive
@@ -16,8 +16,8 @@ left size (Some start) = suc (size - start)
 abbrev pub invariant-loop-next : goal.invariant-loop-next
 invariant-loop-next l = record {
   within : IfSome l.next (λ s. s ≤ length l.raw);
-  all : with_trees (map tree_of l.subparts.items) (parts_from (l.levels - 1) l.is_digest (drop 1 l.line.items) l.raw l.next)
-      ≡ parts_from (l.levels - 1) l.is_digest (drop 1 l.line.items) l.raw (first_part (drop 1 l.line.items) l.raw l.index);
+  all : with_trees (map tree_of l.subparts.items) (parts_from (l.levels - 1) l.is_digest (drop 1 l.delimiter.items) l.raw l.next)
+      ≡ parts_from (l.levels - 1) l.is_digest (drop 1 l.delimiter.items) l.raw (first_part (drop 1 l.delimiter.items) l.raw l.index);
 }
 
 abbrev pub decreases-loop-next : goal.decreases-loop-next

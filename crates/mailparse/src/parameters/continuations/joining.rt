@@ -1,15 +1,16 @@
-//! The text that pieces make, joined in turn.
+//! The text that sections make, joined in turn.
 ghost use Rattle.std.specs.Prelude.{◌≡◌, ◌∷◌, ◌++◌, [], List, None, option_map, IfOk, OnOk, string_bytes};
 ghost use Rattle.mail_codec.specs.Charset.{text_of};
-ghost use Rattle.mailparse.specs.Continuations as joined;
-ghost use Rattle.mailparse.specs.private.Continuations.{joined_with, run_text};
-ghost use Rattle.mailparse.specs.private.StarredKeys.{part_view};
+ghost use Rattle.mailparse.specs.Continuations.{joined, run_text};
+ghost use Rattle.mailparse.specs.Sections as words;
+ghost use Rattle.mailparse.specs.private.Continuations.{joined_with};
+ghost use Rattle.mailparse.specs.private.Sections.{section_view};
 
-use crate::parameters::starred::Part;
+use crate::parameters::sections::Section;
 use mail_codec::charset::Charset;
 use std::alloc::{AllocError, Global};
 
-/// The text so far, and the run of pieces that is still to be read.
+/// The text so far, and the run of bytes that is still to be read.
 #[derive(Drop)]
 pub(super) struct Joining {
     text: String,
@@ -18,9 +19,9 @@ pub(super) struct Joining {
 }
 
 impl Joining {
-    /// No parts yet.
+    /// No sections yet.
     pub(super) fn new(alloc: Global) -> Joining
-        ensures { (parts : List joined.Part) → joined_with result parts ≡ joined.joined parts }
+        ensures { (sections : List words.Section) → joined_with result sections ≡ joined sections }
     {
         Joining {
             text: String::new(alloc),
@@ -54,17 +55,17 @@ impl Joining {
         Ok(())
     }
 
-    /// Joins one more part.
-    pub(super) fn push(&mut self, alloc: Global, part: &Part) -> Result<(), AllocError>
-        ensures { OnOk result ((rest : List joined.Part) →
-            joined_with self.old (part_view part.now ∷ rest) ≡ joined_with self.new rest) }
+    /// Joins one more section.
+    pub(super) fn push(&mut self, alloc: Global, section: &Section) -> Result<(), AllocError>
+        ensures { OnOk result ((rest : List words.Section) →
+            joined_with self.old (section_view section.now ∷ rest) ≡ joined_with self.new rest) }
     {
-        match part {
-            Part::Text(text) => {
+        match section {
+            Section::Text(text) => {
                 self.close(alloc)?;
                 self.text.push_str(text.as_str())
             }
-            Part::Octets(charset, bytes) => {
+            Section::Octets(charset, bytes) => {
                 self.run.extend_from_slice(bytes.as_slice())?;
                 self.charset = Some(*charset);
                 Ok(())
@@ -72,7 +73,7 @@ impl Joining {
         }
     }
 
-    /// The text of all parts.
+    /// The text of all sections.
     pub(super) fn finish(mut self, alloc: Global) -> Result<String, AllocError>
         ensures { IfOk result (λ text. string_bytes text ≡ joined_with self []) }
     {

@@ -18,5 +18,5 @@ pub rest-preserved : goal.rest-preserved
 rest-preserved c =
     rw c.in_ok-push_str-2.ensures.bytes
     (front_pushed c.args.high.now c.rest.rest.now _ _ _ _ c.min.result c.rest.invariant
-    (c.from_utf8_unchecked-else-run-gt0.ensures ∙ c.encode_block-length.ensures.text ∙ ap (spelled c.args.high.now) c.split_at.ensures.front)
+    (c.from_utf8_unchecked-else-run-gt0.ensures ∙ c.encode_block-length.ensures.written ∙ ap (spelled c.args.high.now) c.split_at.ensures.front)
     c.split_at.ensures.back)

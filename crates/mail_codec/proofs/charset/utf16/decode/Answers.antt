@@ -1,5 +1,5 @@
 use Rattle.std.proofs.Common.{sym, eqb-true}
-use Rattle.mail_codec.specs.private.ByteOrder.{unit_of}
+use Rattle.mail_codec.specs.private.Utf16.{unit_of}
 use Rattle.mail_codec.proofs.lemmas.CharsetUtf16.{chars_done}
 use Rattle.mail_codec.proofs.charset.utf16.decode.Goals as goal
 

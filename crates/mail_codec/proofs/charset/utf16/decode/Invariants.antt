@@ -1,6 +1,6 @@
 use Rattle.std.proofs.Common.{◌≡◌, ◌++◌, length, encode_utf8_all, string_bytes}
 use Rattle.mail_codec.specs.Charset.{utf_16_chars}
-use Rattle.mail_codec.specs.private.ByteOrder.{unit_of}
+use Rattle.mail_codec.specs.private.Utf16.{unit_of}
 use Rattle.mail_codec.proofs.charset.utf16.decode.Given as goal
 
 -- what was made, and then the text of the rest, is all

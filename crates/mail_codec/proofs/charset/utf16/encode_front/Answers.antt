@@ -1,7 +1,7 @@
 use Rattle.std.proofs.Common.{length-drop, arith}
 use Rattle.std.proofs.lemmas.List.{take_rest}
 use Rattle.std.proofs.lemmas.Str.{IsUtf8-append, IsUtf8-encode}
-use Rattle.mail_codec.specs.private.ByteOrder.{unit_of}
+use Rattle.mail_codec.specs.private.Utf16.{unit_of}
 use Rattle.mail_codec.proofs.lemmas.CharsetUtf16.{chars_written}
 use Rattle.mail_codec.proofs.charset.utf16.encode_front.Goals as goal
 

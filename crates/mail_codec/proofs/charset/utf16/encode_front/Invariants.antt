@@ -1,6 +1,6 @@
 use Rattle.std.proofs.Common.{◌≡◌, ◌-◌, ◌*◌, ◌≤◌, ◌++◌, length, take, drop, encode_utf8_all, IsUtf8}
 use Rattle.mail_codec.specs.Charset.{utf_16_chars}
-use Rattle.mail_codec.specs.private.ByteOrder.{unit_of}
+use Rattle.mail_codec.specs.private.Utf16.{unit_of}
 use Rattle.mail_codec.proofs.charset.utf16.encode_front.Given as goal
 
 -- what stands in the buffer, and then the text of the other bytes, is all

@@ -1,5 +1,5 @@
 use Rattle.std.proofs.Common.{◌∙◌, arith}
-use Rattle.mail_codec.specs.private.ByteOrder.{unit_of}
+use Rattle.mail_codec.specs.private.Utf16.{unit_of}
 use Rattle.mail_codec.proofs.lemmas.CharsetUtf16.{chars_odd, chars_character, chars_second, chars_end, chars_pair, chars_no_pair}
 use Rattle.mail_codec.proofs.charset.utf16.first_char.Goals as goal
 

@@ -1,4 +1,4 @@
-use Rattle.mail_codec.proofs.lemmas.Padding.{group_bytes-filled}
+use Rattle.mail_codec.proofs.lemmas.Padded.{group_bytes-filled}
 use Rattle.mail_codec.proofs.transfer.base_64.push_group.Goals as goal
 
 pub returns : goal.returns

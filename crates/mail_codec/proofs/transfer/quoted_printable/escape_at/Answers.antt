@@ -9,6 +9,6 @@ short_none (b ∷ []) h = refl
 short_none (b ∷ c ∷ []) h = refl
 short_none (b ∷ c ∷ d ∷ rest) h = absurd (omega arith)
 
-pub returns-then-kept-at-lt3-clause-value : goal.returns-then-kept-at-lt3-clause-value
-returns-then-kept-at-lt3-clause-value c =
+pub returns-then-kept-at-lt3-clause-read : goal.returns-then-kept-at-lt3-clause-read
+returns-then-kept-at-lt3-clause-read c =
     short_none (drop c.args.at c.args.kept.now) (omega (arith, length-drop c.args.at c.args.kept.now))

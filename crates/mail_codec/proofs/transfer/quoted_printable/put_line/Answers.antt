@@ -14,7 +14,7 @@ pub returns-in-None-clause-written : goal.returns-in-None-clause-written
 returns-in-None-clause-written c =
     let len = c.put_unescaped-len.result in
     let ending = c.copy_from_slice.ensures.after in
-    take-put_mid len _ c.put_unescaped-len.new.output c.copy_from_slice.new.self (len + length c.args.ending.now) (ap (λ xs. len + length xs) (sym ending)) (omega (arith, c.put_unescaped-len.auto.output, c.put_unescaped-len.ensures.within, length-take-le c.trimmed_len.result c.args.content.now c.trimmed_len.ensures.within))
+    take-put_mid len _ c.put_unescaped-len.new.output c.copy_from_slice.new.self (len + length c.args.ending.now) (ap (λ xs. len + length xs) (sym ending)) (omega (arith, c.put_unescaped-len.auto.output, c.put_unescaped-len.ensures.bounds, length-take-le c.trimmed_len.result c.args.content.now c.trimmed_len.ensures.bounds))
     ∙ ap (λ xs. xs ++ c.copy_from_slice.new.self) c.put_unescaped-len.ensures.written
     ∙ ap (λ xs. unescaped (take c.trimmed_len.result c.args.content.now) ++ xs) ending
     ∙ sym (line_bytes-hard c.args.content.now c.args.ending.now c.trimmed_len.result c.trimmed_len.ensures.len c.in-None.ensures.cases)

@@ -10,23 +10,23 @@ pub returns-then-line-text : goal.returns-then-line-text
 returns-then-line-text c =
     let found = c.run_len.ensures.least ∙ ap (first_place (begins (λ b. b == 10))) (take_rest c.args.text.now c.lines.at) in
     let rest = length-drop c.lines.at c.args.text.now in
-    let long = length-take-le (c.lines.at + c.run_len.result - c.lines.at) (drop c.lines.at c.args.text.now) (omega (arith, rest, c.run_len.ensures.within)) in
+    let long = length-take-le (c.lines.at + c.run_len.result - c.lines.at) (drop c.lines.at c.args.text.now) (omega (arith, rest, c.run_len.ensures.bounds)) in
     sym (line_last c.args.text.now (take c.lines.len c.lines.output) c.lines.at _ (omega arith) (ap (λ n. c.lines.at + n) found)
-    _ c.if-line-text.true (written_rest c.lines.len c.put_line.result c.lines.output c.put_line.new.output (omega (arith, long, rest, c.run_len.ensures.within, c.put_line.ensures.within)) c.put_line.auto.output _ c.put_line.ensures.written))
+    _ c.if-line-text.true (written_rest c.lines.len c.put_line.result c.lines.output c.put_line.new.output (omega (arith, long, rest, c.run_len.ensures.bounds, c.put_line.ensures.bounds)) c.put_line.auto.output _ c.put_line.ensures.written))
     ∙ c.lines.invariant.so_far
 
 pub lines-preserved : goal.lines-preserved
 lines-preserved c =
     let found = c.run_len.ensures.least ∙ ap (first_place (begins (λ b. b == 10))) (take_rest c.args.text.now c.lines.at) in
     let rest = length-drop c.lines.at c.args.text.now in
-    let long = length-take-le (c.lines.at + c.run_len.result - c.lines.at) (drop c.lines.at c.args.text.now) (omega (arith, rest, c.run_len.ensures.within)) in
+    let long = length-take-le (c.lines.at + c.run_len.result - c.lines.at) (drop c.lines.at c.args.text.now) (omega (arith, rest, c.run_len.ensures.bounds)) in
     record {
-      within = omega (arith, c.run_len.ensures.within, rest);
-      room = omega (arith, c.put_ended_line-len.ensures.within, c.run_len.ensures.within, rest, long);
+      within = omega (arith, c.run_len.ensures.bounds, rest);
+      room = omega (arith, c.put_ended_line-len.ensures.bounds, c.run_len.ensures.bounds, rest, long);
       so_far =
           sym (line_read c.args.text.now (take c.lines.len c.lines.output) c.lines.at _ (omega arith) (ap (λ n. c.lines.at + n) found)
-          _ (omega (arith, c.run_len.ensures.within, rest))
-          (written_rest c.lines.len c.put_ended_line-len.result c.lines.output c.put_ended_line-len.new.output (omega (arith, c.put_ended_line-len.ensures.within, c.run_len.ensures.within, rest, long)) c.put_ended_line-len.auto.output _ c.put_ended_line-len.ensures.written))
+          _ (omega (arith, c.run_len.ensures.bounds, rest))
+          (written_rest c.lines.len c.put_ended_line-len.result c.lines.output c.put_ended_line-len.new.output (omega (arith, c.put_ended_line-len.ensures.bounds, c.run_len.ensures.bounds, rest, long)) c.put_ended_line-len.auto.output _ c.put_ended_line-len.ensures.written))
           ∙ c.lines.invariant.so_far;
     }
 

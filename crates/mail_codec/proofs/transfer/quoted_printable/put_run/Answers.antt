@@ -46,5 +46,5 @@ pub returns-clause-written : goal.returns-clause-written
 returns-clause-written c =
     let end : (length c.args.bytes.now / 8) * 8 ≡ c.loop-word.at = omega (arith, c.as_chunks.ensures.front_len, c.loop-word.auto.word-index-end) in
     let tail = c.as_chunks.ensures.back ∙ ap (λ n. drop n c.args.bytes.now) end in
-    copied_rest c.loop-word.at c.put_tail.result c.loop-word.output c.put_tail.new.output (omega (arith, ap length tail, length-drop c.loop-word.at c.args.bytes.now, c.put_tail.ensures.within)) c.put_tail.auto.output c.args.bytes.now c.loop-word.invariant.written
+    copied_rest c.loop-word.at c.put_tail.result c.loop-word.output c.put_tail.new.output (omega (arith, ap length tail, length-drop c.loop-word.at c.args.bytes.now, c.put_tail.ensures.bounds)) c.put_tail.auto.output c.args.bytes.now c.loop-word.invariant.written
     (c.put_tail.ensures.written ∙ ap (take c.put_tail.result) tail)

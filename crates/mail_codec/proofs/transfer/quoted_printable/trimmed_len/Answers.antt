@@ -1,6 +1,6 @@
 use Rattle.std.proofs.Common.{◌+◌, ◌≤◌, length, arith, rules}
 use Rattle.std.proofs.lemmas.List.Sums.{suffix_len_is}
-use Rattle.mail_codec.specs.QuotedPrintable.{is_blank}
+use Rattle.mail_codec.specs.Ascii.{is_blank}
 use Rattle.mail_codec.proofs.transfer.quoted_printable.trimmed_len.Goals as goal
 
 pub returns-in-Some-clause-len : goal.returns-in-Some-clause-len

@@ -3,14 +3,14 @@ use Rattle.std.specs.Prelude.{ok_or}
 use Rattle.mailparse.specs.Date.{look_up, month_of, months, unrecognized_month}
 use Rattle.mailparse.proofs.date.fields.month_number.Goals as goal
 
-pub returns-in-Some-clause-named : goal.returns-in-Some-clause-named
+pub returns-in-Some-clause-read : goal.returns-in-Some-clause-read
 unfolding month_of
-returns-in-Some-clause-named c =
+returns-in-Some-clause-read c =
     let found : look_up months c.args.word.now ≡ Some c.in-Some.month = sym c.look_up.ensures ∙ c.in-Some.is in
     ap (λ month. ok_or month unrecognized_month) found
 
-pub returns-in-None-clause-named : goal.returns-in-None-clause-named
+pub returns-in-None-clause-read : goal.returns-in-None-clause-read
 unfolding month_of
-returns-in-None-clause-named c =
+returns-in-None-clause-read c =
     let found : look_up months c.args.word.now ≡ None = sym c.look_up.ensures ∙ c.in-None.is in
     ap (λ month. ok_or month unrecognized_month) found

@@ -1,7 +1,7 @@
 use Rattle.std.proofs.Common.{◌≡◌, ◌∷◌, Some, None, refl, ap, ◌∙◌}
 use Rattle.std.specs.Result.{result_ok}
 use Rattle.mailparse.specs.Date.{number_below, words}
-use Rattle.mailparse.proofs.lemmas.Dates.{number_below-parse}
+use Rattle.mailparse.proofs.lemmas.Date.{number_below-parse}
 use Rattle.mailparse.proofs.date.fields.next_number.Goals as goal
 
 pub returns-in-Ok-clause-read : goal.returns-in-Ok-clause-read

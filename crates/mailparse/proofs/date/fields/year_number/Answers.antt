@@ -1,8 +1,7 @@
 use Rattle.std.proofs.Common.{ap, ◌∙◌, refl, arith}
 use Rattle.std.proofs.lemmas.Bool.{lt-ltb, le-ltb}
 use Rattle.std.specs.Result.{result_ok}
-use Rattle.mailparse.specs.Date.{year_if_read}
-use Rattle.mailparse.proofs.lemmas.Dates.{year_of-parse}
+use Rattle.mailparse.proofs.lemmas.Date.{year_if_read, year_of-parse}
 use Rattle.mailparse.proofs.date.fields.year_number.Goals as goal
 
 pub returns-in_default-clause-read : goal.returns-in_default-clause-read

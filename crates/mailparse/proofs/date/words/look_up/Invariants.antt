@@ -1,7 +1,7 @@
 -- What the table has for the word, the rest of it has.
 use Rattle.std.proofs.Common.{◌≡◌, map, drop}
 use Rattle.mailparse.specs.Date.{look_up}
-use Rattle.mailparse.proofs.lemmas.Dates.{row_view}
+use Rattle.mailparse.proofs.lemmas.Date.{row_view}
 use Rattle.mailparse.proofs.date.words.look_up.Given as goal
 
 abbrev pub invariant-loop-name : goal.invariant-loop-name

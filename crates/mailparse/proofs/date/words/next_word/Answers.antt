@@ -1,7 +1,7 @@
 use Rattle.std.proofs.Common.{◌≡◌, ◌<◌, not, arith}
 use Rattle.std.specs.List.{prefix_len}
 use Rattle.mailparse.specs.Date.{is_separator}
-use Rattle.mailparse.proofs.lemmas.Dates.{cut_after_separators, cut_after_word, words-first, words-none}
+use Rattle.mailparse.proofs.lemmas.Date.{cut_after_separators, cut_after_word, words-first, words-none}
 use Rattle.mailparse.proofs.date.words.next_word.Goals as goal
 
 pub range_from-rest-requires : goal.range_from-rest-requires

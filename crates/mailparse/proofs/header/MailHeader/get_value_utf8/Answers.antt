@@ -5,12 +5,12 @@ use Rattle.mailparse.specs.Value.{shown_value}
 use Rattle.mailparse.proofs.lemmas.Value.{strict-utf8, strict-refused, strict-not_err}
 use Rattle.mailparse.proofs.header.MailHeader.get_value_utf8.Goals as goal
 
-pub returns-in_err-value_ref-clause-no_memory : goal.returns-in_err-value_ref-clause-no_memory
-returns-in_err-value_ref-clause-no_memory c = λ refused.
+pub returns-in_err-value_ref-clause-no_alloc : goal.returns-in_err-value_ref-clause-no_alloc
+returns-in_err-value_ref-clause-no_alloc c = λ refused.
     absurd (strict-not_err c.args.self.now.value (subst IsUtf8 c.get_value_raw.ensures c.in-Ok.ensures.cases.1) refused)
 
-pub returns-in_err-into_owned-clause-no_memory : goal.returns-in_err-into_owned-clause-no_memory
-returns-in_err-into_owned-clause-no_memory c = λ refused.
+pub returns-in_err-into_owned-clause-no_alloc : goal.returns-in_err-into_owned-clause-no_alloc
+returns-in_err-into_owned-clause-no_alloc c = λ refused.
     absurd (strict-not_err c.args.self.now.value (subst IsUtf8 c.get_value_raw.ensures c.in-Ok.ensures.cases.1) refused)
 
 pub returns-clause-read : goal.returns-clause-read
@@ -19,8 +19,8 @@ returns-clause-read c =
     strict-utf8 c.args.self.now.value (subst IsUtf8 value c.in-Ok.ensures.cases.1)
     ∙ ap (λ t. Ok t) (ap (shown_value four_charsets) (sym (c.in-Ok.ensures.cases.0 ∙ value)) ∙ sym c.in_ok-value_ref.ensures ∙ sym c.in_ok-into_owned.ensures.ok)
 
-pub returns-clause-no_memory : goal.returns-clause-no_memory
-returns-clause-no_memory c = λ refused.
+pub returns-clause-no_alloc : goal.returns-clause-no_alloc
+returns-clause-no_alloc c = λ refused.
     absurd (strict-not_err c.args.self.now.value (subst IsUtf8 c.get_value_raw.ensures c.in-Ok.ensures.cases.1) refused)
 
 pub returns-in_default-clause-read : goal.returns-in_default-clause-read

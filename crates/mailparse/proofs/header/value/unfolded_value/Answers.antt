@@ -4,17 +4,14 @@ use Rattle.std.proofs.lemmas.Iterator.Consumers.{YieldsList-end}
 use Rattle.std.proofs.lemmas.Iterator.Splits.{YieldsList-from_lines}
 use Rattle.mail_codec.specs.Charset.{four_charsets}
 use Rattle.mailparse.specs.Value.{shown_tokens, shown_value, value_tokens, tokens_of_lines, line_tokens}
-use Rattle.mailparse.specs.declared.header.value.Held.TheVariants as held
-use Rattle.mailparse.specs.declared.header.value.ShownValue.{ShownValue}
-use Rattle.mailparse.specs.private.Unfolding.{Shows}
+use Rattle.mailparse.specs.private.Shown.{Shows}
 use Rattle.mailparse.proofs.lemmas.Lines.{first_line, next_line, more_is_some, trimmed, trimmed_all}
-use Rattle.mailparse.proofs.lemmas.Unfolding.{starts_here, ends_here}
 use Rattle.mailparse.proofs.header.value.unfolded_value.Goals as goal
 use Rattle.mailparse.proofs.header.value.unfolded_value.Goals.{then-is_first, else-is_first+in_ok-push}
 
 pub loop-line-preserved : goal.loop-line-preserved
 loop-line-preserved c =
-    let start : ShownValue = record { text = c.in_ok-with_capacity.field-0; held = held.Nothing } in
+    let start = c.in_ok-shown.shown in
     let items = c.loop-line.yielded in
     let line = c.in-Some.line in
     let now = c.trim_start.result.now in
@@ -42,9 +39,8 @@ loop-line-preserved c =
 pub returns : goal.returns
 unfolding shown_value value_tokens
 returns c =
-    let start : ShownValue = record { text = c.in_ok-with_capacity.field-0; held = held.Nothing } in
     let tokens = tokens_of_lines four_charsets (trimmed c.loop-line.yielded) in
     let all = YieldsList-end (YieldsList-from_lines c.args.text.now cc) c.loop-line.yielded _ c.loop-line.yielded_by _ _ c.in-None.is c.next.ensures.steps in
-    sym (ends_here c.loop-line.shown) ∙ sym (c.loop-line.invariant.shown [])
-    ∙ starts_here start (tokens ++ []) c.in_ok-with_capacity.ensures.bytes refl
+    c.into_text.ensures ∙ sym (c.loop-line.invariant.shown [])
+    ∙ c.in_ok-shown.ensures (tokens ++ [])
     ∙ ap shown_tokens (append-nil tokens ∙ ap (tokens_of_lines four_charsets) (trimmed_all c.loop-line.yielded _ all.0))

@@ -2,7 +2,7 @@
 use Rattle.std.proofs.Common.{◌≡◌, eqb, length}
 use Rattle.mail_codec.specs.Charset.{four_charsets}
 use Rattle.mailparse.specs.Value.{tokens_of_lines}
-use Rattle.mailparse.specs.private.Unfolding.{Shows}
+use Rattle.mailparse.specs.private.Shown.{Shows}
 use Rattle.mailparse.proofs.lemmas.Lines.{trimmed}
 use Rattle.mailparse.proofs.header.value.unfolded_value.Given as goal
 

@@ -7,8 +7,8 @@ use Rattle.mailparse.proofs.lemmas.Outcome.{IsRefusal-along, IsRefusalOrMemory-f
 use Rattle.mailparse.proofs.lemmas.Block.{refused_further, ended_further, found_further, count_further, place_further, end_further, block_end-err, block_end-header, read_headers-bounded}
 use Rattle.mailparse.proofs.headers.block.parse_headers.Goals as goal
 
-pub returns-in_err-length-clause-no_memory : goal.returns-in_err-length-clause-no_memory
-returns-in_err-length-clause-no_memory c = λ _.
+pub returns-in_err-length-clause-no_alloc : goal.returns-in_err-length-clause-no_alloc
+returns-in_err-length-clause-no_alloc c = λ _.
     let p = err_from_is_err_and c.from_residual.result c.from_residual.ensures.1 in
     let raw = c.args.raw.now in
     let rest = drop c.loop-headers.place raw in
@@ -31,8 +31,8 @@ overflow_add-result c =
     let fits = end_further c.args.raw.now c.loop-headers.place c.in-Some.length c.loop-headers.invariant.within (ends ∙ ap (λ o. Ok o) c.in-Some.is) in
     search rules
 
-pub returns-in-Some-clause-no_memory : goal.returns-in-Some-clause-no_memory
-returns-in-Some-clause-no_memory c = λ _.
+pub returns-in-Some-clause-no_alloc : goal.returns-in-Some-clause-no_alloc
+returns-in-Some-clause-no_alloc c = λ _.
     let ends = rw take_rest at c.in_ok-length.ensures in
     ended_further c.args.raw.now c.loop-headers.headers.items c.loop-headers.place c.loop-headers.invariant.all c.in-Some.length (ends ∙ ap (λ o. Ok o) c.in-Some.is)
 
@@ -41,8 +41,8 @@ returns-in-Some-clause-read c =
     let ends = rw take_rest at c.in_ok-length.ensures in
     ended_further c.args.raw.now c.loop-headers.headers.items c.loop-headers.place c.loop-headers.invariant.all c.in-Some.length (ends ∙ ap (λ o. Ok o) c.in-Some.is)
 
-pub returns-in_err-header-clause-no_memory : goal.returns-in_err-header-clause-no_memory
-returns-in_err-header-clause-no_memory c = λ _.
+pub returns-in_err-header-clause-no_alloc : goal.returns-in_err-header-clause-no_alloc
+returns-in_err-header-clause-no_alloc c = λ _.
     let p = err_from_is_err_and c.from_residual-in_err-header.result c.from_residual-in_err-header.ensures.1 in
     let raw = c.args.raw.now in
     let rest = drop c.loop-headers.place raw in
@@ -61,8 +61,8 @@ returns-in_err-header-clause-read c =
     rw (p.1, p.2) (IsRefusalOrMemory-from c.in_err-header.field-0.0 (read_headers raw) (IsRefusal-along c.in_err-header.field-0.0 (read_header rest) (read_headers raw)
     (λ r e. refused_further raw c.loop-headers.headers.items c.loop-headers.place c.loop-headers.invariant.all r (block_end-header rest r (ends ∙ ap (λ o. Ok o) c.in_default.is) e)) refused))
 
-pub returns-in_err-push-clause-no_memory : goal.returns-in_err-push-clause-no_memory
-returns-in_err-push-clause-no_memory c = λ none.
+pub returns-in_err-push-clause-no_alloc : goal.returns-in_err-push-clause-no_alloc
+returns-in_err-push-clause-no_alloc c = λ none.
     let found = rw take_rest at c.in_ok-header.ensures.read in
     let ends = rw take_rest at c.in_ok-length.ensures in
     let more = count_further c.args.raw.now c.loop-headers.place (c.in_ok-header.header, c.in_ok-header.length) (ends ∙ ap (λ o. Ok o) c.in_default.is) found in

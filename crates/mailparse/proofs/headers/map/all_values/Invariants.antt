@@ -1,5 +1,5 @@
 use Rattle.std.proofs.Common.{◌≡◌, ◌++◌, map, drop, IsNone, string_bytes}
-use Rattle.mailparse.specs.Keys.{first_with_key, all_values}
+use Rattle.mailparse.specs.Map.{first_with_key, all_values}
 use Rattle.mailparse.proofs.headers.map.all_values.Given as goal
 
 -- those that were found, and then those of the rest, are all; where none is in the list, none is in the rest

@@ -1,5 +1,5 @@
 use Rattle.std.proofs.Common.{◌≡◌, drop}
-use Rattle.mailparse.specs.Keys.{first_with_key}
+use Rattle.mailparse.specs.Map.{first_with_key}
 use Rattle.mailparse.proofs.headers.map.first_header.Given as goal
 
 -- none was found so far

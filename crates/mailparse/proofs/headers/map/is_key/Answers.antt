@@ -1,6 +1,6 @@
 use Rattle.std.proofs.Common.{ap, sym, ◌∙◌, arith}
 use Rattle.std.specs.Str.{str_eq_ignore_ascii_case}
-use Rattle.mailparse.proofs.lemmas.Keys.{same_ascii, told_ascii}
+use Rattle.mailparse.proofs.lemmas.Map.{same_ascii, told_ascii}
 use Rattle.mailparse.proofs.headers.map.is_key.Goals as goal
 
 pub returns-then-is_ascii : goal.returns-then-is_ascii

@@ -3,7 +3,7 @@ use Rattle.std.specs.Str.{chars}
 use Rattle.std.proofs.lemmas.Iterator.{YieldsList-from_chars}
 use Rattle.std.proofs.lemmas.Iterator.Consumers.{YieldsList-turn, YieldsList-end}
 use Rattle.std.proofs.lemmas.List.{length_push}
-use Rattle.mailparse.proofs.lemmas.Keys.{same-none, same-differs, same-more, same-end, same_name}
+use Rattle.mailparse.proofs.lemmas.Map.{same-none, same-differs, same-more, same-end, same_name}
 use Rattle.mailparse.proofs.headers.map.is_spelled_by.Goals as goal
 
 pub returns-in_default : goal.returns-in_default

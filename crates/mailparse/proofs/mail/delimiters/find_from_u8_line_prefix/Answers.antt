@@ -6,24 +6,24 @@ pub returns-then-is_line_prefix-clause-least : goal.returns-then-is_line_prefix-
 returns-then-is_line_prefix-clause-least c =
     let low = c.in-Some.ensures.bounds.0 in
     let high = c.in-Some.ensures.bounds.1 in
-    let none = no_delimiter_to c.args.key.now c.args.line.now c.args.ix_start c.loop-at.from c.in-Some.at c.requires.some c.loop-at.invariant.none c.in-Some.ensures.least in
-    delimiter_from-some c.args.key.now c.args.line.now c.args.ix_start c.in-Some.at (omega arith) high
+    let none = no_delimiter_to c.args.key.now c.args.raw.now c.args.start c.loop-at.from c.in-Some.at c.requires.some c.loop-at.invariant.none c.in-Some.ensures.least in
+    delimiter_from-some c.args.key.now c.args.raw.now c.args.start c.in-Some.at (omega arith) high
     (sym c.is_line_prefix.ensures ∙ c.if-is_line_prefix.true) none
 
 pub returns-then-is_line_prefix-clause-bounds : goal.returns-then-is_line_prefix-clause-bounds
 returns-then-is_line_prefix-clause-bounds c =
     let low = c.in-Some.ensures.bounds.0 in
     let high = c.in-Some.ensures.bounds.1 in
-    (omega arith, is_delimiter-fits c.args.key.now c.args.line.now c.args.ix_start c.in-Some.at (omega arith) (sym c.is_line_prefix.ensures ∙ c.if-is_line_prefix.true))
+    (omega arith, is_delimiter-fits c.args.key.now c.args.raw.now c.args.start c.in-Some.at (omega arith) (sym c.is_line_prefix.ensures ∙ c.if-is_line_prefix.true))
 
 pub returns-in_default-line_after-clause-least : goal.returns-in_default-line_after-clause-least
 returns-in_default-line_after-clause-least c =
     let low = c.in-Some.ensures.bounds.0 in
     let high = c.in-Some.ensures.bounds.1 in
-    let none = no_delimiter_to c.args.key.now c.args.line.now c.args.ix_start c.loop-at.from c.in-Some.at c.requires.some c.loop-at.invariant.none c.in-Some.ensures.least in
-    delimiter_from-none c.args.key.now c.args.line.now c.args.ix_start
-    (no_delimiter_on_last_line c.args.key.now c.args.line.now c.args.ix_start c.in-Some.at (omega arith) (omega arith) none
-    (sym c.is_line_prefix.ensures ∙ c.if-is_line_prefix.false) c.in_default-line_after.ensures.next)
+    let none = no_delimiter_to c.args.key.now c.args.raw.now c.args.start c.loop-at.from c.in-Some.at c.requires.some c.loop-at.invariant.none c.in-Some.ensures.least in
+    delimiter_from-none c.args.key.now c.args.raw.now c.args.start
+    (no_delimiter_on_last_line c.args.key.now c.args.raw.now c.args.start c.in-Some.at (omega arith) (omega arith) none
+    (sym c.is_line_prefix.ensures ∙ c.if-is_line_prefix.false) c.in_default-line_after.ensures.value)
 
 pub loop-at-preserved : goal.loop-at-preserved
 loop-at-preserved c =
@@ -31,15 +31,15 @@ loop-at-preserved c =
     let high = c.in-Some.ensures.bounds.1 in
     let on = c.in-Some-line_after.ensures.bounds.0 in
     let within = c.in-Some-line_after.ensures.bounds.1 in
-    let none = no_delimiter_to c.args.key.now c.args.line.now c.args.ix_start c.loop-at.from c.in-Some.at c.requires.some c.loop-at.invariant.none c.in-Some.ensures.least in
+    let none = no_delimiter_to c.args.key.now c.args.raw.now c.args.start c.loop-at.from c.in-Some.at c.requires.some c.loop-at.invariant.none c.in-Some.ensures.least in
     record {
       low = omega arith;
       within = within;
-      none = no_delimiter_to_line c.args.key.now c.args.line.now c.args.ix_start c.in-Some.at c.in-Some-line_after.next (omega arith) none
-          (sym c.is_line_prefix.ensures ∙ c.if-is_line_prefix.false) c.in-Some-line_after.ensures.next;
+      none = no_delimiter_to_line c.args.key.now c.args.raw.now c.args.start c.in-Some.at c.in-Some-line_after.next (omega arith) none
+          (sym c.is_line_prefix.ensures ∙ c.if-is_line_prefix.false) c.in-Some-line_after.ensures.value;
     }
 
 pub returns-clause-least : goal.returns-clause-least
 returns-clause-least c =
-    delimiter_from-none c.args.key.now c.args.line.now c.args.ix_start
-    (no_delimiter_left c.args.key.now c.args.line.now c.args.ix_start c.loop-at.from c.requires.some c.loop-at.invariant.within c.loop-at.invariant.none c.in_default.ensures.least)
+    delimiter_from-none c.args.key.now c.args.raw.now c.args.start
+    (no_delimiter_left c.args.key.now c.args.raw.now c.args.start c.loop-at.from c.requires.some c.loop-at.invariant.within c.loop-at.invariant.none c.in_default.ensures.least)

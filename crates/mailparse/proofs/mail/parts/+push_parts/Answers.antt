@@ -3,7 +3,7 @@ use Rattle.std.proofs.lemmas.List.{map-append, append-nil, drop_all}
 use Rattle.mailparse.specs.Mail.{Tree, forest, trees_in}
 use Rattle.mailparse.specs.Views.{tree_of}
 use Rattle.mailparse.specs.declared.mail.ParsedMail.{ParsedMail}
-use Rattle.mailparse.proofs.lemmas.Trees.{trees_within-out}
+use Rattle.mailparse.proofs.lemmas.Mail.{trees_within-out}
 use Rattle.mailparse.proofs.mail.parts.+push_parts.Goals as goal
 
 abbrev trees : List (Bor ParsedMail) → List Tree

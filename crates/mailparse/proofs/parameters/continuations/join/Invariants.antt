@@ -1,16 +1,16 @@
--- The parts so far and those from the number on are all, and those so far were taken.
+-- The sections so far and those from the number on are all, and those so far were taken.
 use Rattle.std.proofs.Common.{◌≡◌, ◌≤◌, ◌-◌, ◌+◌, ℕ, List, length}
-use Rattle.mailparse.specs.Continuations.{joined, most_parts, parts_from, parts_of}
-use Rattle.mailparse.specs.private.Continuations.{joined_with, without_pieces}
-use Rattle.mailparse.specs.private.StarredKeys.{stands_at}
+use Rattle.mailparse.specs.Continuations.{joined, most_sections}
+use Rattle.mailparse.specs.private.Continuations.{sections_from, joined_with, without_sections}
+use Rattle.mailparse.specs.private.Sections.{stands_at}
 use Rattle.mailparse.proofs.parameters.continuations.join.Given as goal
 
 abbrev pub invariant-loop-count : goal.invariant-loop-count
 invariant-loop-count l = record {
   bound : l.count ≤ 18446744073709551615;
-  left : (q : List ℕ) → stands_at l.parts q ≡ without_pieces (stands_at l.initial.parts) l.base l.count q;
-  text : joined_with l.joining (parts_from (stands_at l.initial.parts) l.base (most_parts - l.count) l.count) ≡ joined (parts_of (stands_at l.initial.parts) l.base);
-  count : l.count + length (parts_from (stands_at l.initial.parts) l.base (most_parts - l.count) l.count) ≡ length (parts_of (stands_at l.initial.parts) l.base);
+  left : (q : List ℕ) → stands_at l.sections q ≡ without_sections (stands_at l.initial.sections) l.base l.count q;
+  text : joined_with l.joining (sections_from (stands_at l.initial.sections) l.base (most_sections - l.count) l.count) ≡ joined (sections_from (stands_at l.initial.sections) l.base most_sections 0);
+  count : l.count + length (sections_from (stands_at l.initial.sections) l.base (most_sections - l.count) l.count) ≡ length (sections_from (stands_at l.initial.sections) l.base most_sections 0);
 }
 
 abbrev pub decreases-loop-count : goal.decreases-loop-count

@@ -1,13 +1,13 @@
--- The pieces of the bases so far were joined, and taken.
+-- The sections of the bases so far were joined, and taken.
 use Rattle.std.proofs.Common.{◌≡◌, ℕ, List, map}
 use Rattle.std.specs.String.{string_bytes}
 use Rattle.mailparse.specs.Pairs.{text_at}
 use Rattle.mailparse.specs.private.Continuations.{joined_text, left_by}
-use Rattle.mailparse.specs.private.StarredKeys.{stands_at}
+use Rattle.mailparse.specs.private.Sections.{stands_at}
 use Rattle.mailparse.proofs.parameters.continuations.joined_bases.Given as goal
 
 abbrev pub invariant-loop-base : goal.invariant-loop-base
 invariant-loop-base l = record {
-  texts : (q : List ℕ) → text_at l.texts q ≡ joined_text (stands_at l.initial.parts) (map string_bytes l.yielded) q;
-  left : (q : List ℕ) → stands_at l.parts q ≡ left_by (stands_at l.initial.parts) (map string_bytes l.yielded) q;
+  texts : (q : List ℕ) → text_at l.texts q ≡ joined_text (stands_at l.initial.sections) (map string_bytes l.yielded) q;
+  left : (q : List ℕ) → stands_at l.sections q ≡ left_by (stands_at l.initial.sections) (map string_bytes l.yielded) q;
 }

@@ -1,19 +1,19 @@
 use Rattle.std.proofs.Common.{option_map, ap, ◌∙◌}
 use Rattle.std.specs.Option.{option_or}
-use Rattle.mailparse.specs.Continuations.{alone}
+use Rattle.mailparse.specs.Sections.{alone}
+use Rattle.mailparse.specs.private.Continuations.{joined_text, left_by, names_of_sections}
+use Rattle.mailparse.specs.private.Sections.{sections_at, stands_at}
 use Rattle.mailparse.specs.Pairs.{text_at}
-use Rattle.mailparse.specs.private.Continuations.{joined_text, left_by, names_of_parts}
-use Rattle.mailparse.specs.private.StarredKeys.{parts_at, stands_at}
 use Rattle.mailparse.proofs.lemmas.Bases.{in_the_end}
-use Rattle.mailparse.proofs.lemmas.Resolved.{named_parts}
+use Rattle.mailparse.proofs.lemmas.Resolved.{named_sections}
 use Rattle.mailparse.proofs.parameters.continuations.left_and_joined.Goals as goal
 
 pub returns : goal.returns
 returns c = λ q.
-    let at = stands_at c.args.parts in
-    let left = c.joined_bases.new.parts in
-    in_the_end at (names_of_parts c.args.parts) q (parts_at left.extended q) (text_at left.texts q) (text_at c.in_ok-joined_texts.joined_texts q) (text_at c.put_extended.new.texts q)
-    (named_parts c.args.parts)
+    let at = stands_at c.args.sections in
+    let left = c.joined_bases.new.sections in
+    in_the_end at (names_of_sections c.args.sections) q (sections_at left.extended q) (text_at left.texts q) (text_at c.in_ok-joined_texts.joined_texts q) (text_at c.put_extended.new.texts q)
+    (named_sections c.args.sections)
     (c.in_ok-joined_texts.ensures.left q ∙ ap (λ bs. left_by at bs q) c.in_ok-bases.ensures)
     (c.in_ok-joined_texts.ensures.texts q ∙ ap (λ bs. joined_text at bs q) c.in_ok-bases.ensures)
-    (c.in_ok-put_extended.ensures q ∙ ap (option_or (option_map alone (parts_at left.extended q))) (c.in_ok-put_joined.ensures q))
+    (c.in_ok-put_extended.ensures q ∙ ap (option_or (option_map alone (sections_at left.extended q))) (c.in_ok-put_joined.ensures q))

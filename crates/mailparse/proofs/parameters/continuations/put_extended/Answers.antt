@@ -7,27 +7,27 @@ use Rattle.std.specs.Global.{Global}
 use Rattle.std.specs.Option.{option_or}
 use Rattle.std.specs.Str.{bytes_eq}
 use Rattle.std.specs.String.{string_bytes, string_cmp, string_cmp_total}
-use Rattle.mailparse.specs.Continuations.{alone}
+use Rattle.mailparse.specs.Sections.{alone}
+use Rattle.mailparse.specs.private.Sections.{section_view, sections_at}
 use Rattle.mailparse.specs.Pairs.{text_at}
 use Rattle.mailparse.specs.private.Filled.{filled, holds_name, taken_name}
-use Rattle.mailparse.specs.private.StarredKeys.{part_view, parts_at}
-use Rattle.mailparse.specs.declared.parameters.starred.Part.{Part}
+use Rattle.mailparse.specs.declared.parameters.sections.Section.{Section}
 use Rattle.mailparse.proofs.lemmas.Filled.{filled_all, filled_push, stored}
-use Rattle.mailparse.proofs.lemmas.PartsOf.{names_taken, unnamed}
+use Rattle.mailparse.proofs.lemmas.Sections.{names_taken, unnamed}
 use Rattle.mailparse.proofs.parameters.continuations.put_extended.Goals as goal
 
 pub loop-name-preserved-in_ok-insert : goal.loop-name-preserved-in_ok-insert
 loop-name-preserved-in_ok-insert c = λ q.
     let t = text_at c.args.texts.now in
-    let p = parts_at c.args.extended in
+    let p = sections_at c.args.extended in
     let name = string_bytes c.in-Some.name in
     let names = map taken_name c.loop-name.yielded in
-    let e : String Global × Part = (c.in-Some.name, c.in-Some.part) in
+    let e : String Global × Section = (c.in-Some.name, c.in-Some.section) in
     let gives = c.into_iter-name-iterator.ensures.into_iter_gives in
-    let turn : get string_cmp c.args.extended c.in-Some.name ≡ Some c.in-Some.part =
-    All-turn (λ x. x) (λ (e : String Global × Part). get string_cmp c.args.extended e.0 ≡ Some e.1) c.args.extended.entries c.loop-name.yielded _ _ _ _ _
+    let turn : get string_cmp c.args.extended c.in-Some.name ≡ Some c.in-Some.section =
+    All-turn (λ x. x) (λ (e : String Global × Section). get string_cmp c.args.extended e.0 ≡ Some e.1) c.args.extended.entries c.loop-name.yielded _ _ _ _ _
     (All-found string_cmp_total c.args.extended gives.5) gives.0 c.loop-name.yielded_by c.in-Some.is c.next.ensures.steps in
-    let is = ap (λ o. option_or (option_map alone (option_map part_view o)) (t name)) turn in
+    let is = ap (λ o. option_or (option_map alone (option_map section_view o)) (t name)) turn in
     filled_push (λ z. option_or (option_map alone (p z)) (t z)) t names name q (text_at c.loop-name.texts q) _ (c.loop-name.invariant q)
     (stored string_bytes name c.loop-name.texts c.insert.new.self c.in_ok-text_alone.field-0 c.in_ok-insert.ensures.updates q
     ∙ ap (λ v. cond (bytes_eq name q) (Some v) (text_at c.loop-name.texts q)) c.in_ok-text_alone.ensures
@@ -37,15 +37,15 @@ loop-name-preserved-in_ok-insert c = λ q.
 pub loop-name-preserved : goal.loop-name-preserved
 loop-name-preserved c = λ q.
     let t = text_at c.args.texts.now in
-    let p = parts_at c.args.extended in
+    let p = sections_at c.args.extended in
     let name = string_bytes c.in-Some.name in
     let names = map taken_name c.loop-name.yielded in
-    let e : String Global × Part = (c.in-Some.name, c.in-Some.part) in
+    let e : String Global × Section = (c.in-Some.name, c.in-Some.section) in
     let gives = c.into_iter-name-iterator.ensures.into_iter_gives in
-    let turn : get string_cmp c.args.extended c.in-Some.name ≡ Some c.in-Some.part =
-    All-turn (λ x. x) (λ (e : String Global × Part). get string_cmp c.args.extended e.0 ≡ Some e.1) c.args.extended.entries c.loop-name.yielded _ _ _ _ _
+    let turn : get string_cmp c.args.extended c.in-Some.name ≡ Some c.in-Some.section =
+    All-turn (λ x. x) (λ (e : String Global × Section). get string_cmp c.args.extended e.0 ≡ Some e.1) c.args.extended.entries c.loop-name.yielded _ _ _ _ _
     (All-found string_cmp_total c.args.extended gives.5) gives.0 c.loop-name.yielded_by c.in-Some.is c.next.ensures.steps in
-    let is = ap (λ o. option_or (option_map alone (option_map part_view o)) (t name)) turn in
+    let is = ap (λ o. option_or (option_map alone (option_map section_view o)) (t name)) turn in
     filled_push (λ z. option_or (option_map alone (p z)) (t z)) t names name q (text_at c.loop-name.texts q) _ (c.loop-name.invariant q)
     (stored string_bytes name c.loop-name.texts c.insert.new.self c.in_ok-text_alone.field-0 c.in_ok-insert.ensures.updates q
     ∙ ap (λ v. cond (bytes_eq name q) (Some v) (text_at c.loop-name.texts q)) c.in_ok-text_alone.ensures
@@ -55,8 +55,8 @@ loop-name-preserved c = λ q.
 pub returns : goal.returns
 returns c = λ q.
     let t = text_at c.args.texts.now in
-    let p = parts_at c.args.extended in
+    let p = sections_at c.args.extended in
     let gives = c.into_iter-name-iterator.ensures.into_iter_gives in
     let all = YieldsList-end (YieldsList-from_rest c.args.extended.entries gives.0) c.loop-name.yielded _ c.loop-name.yielded_by _ _ c.in-None.is c.next.ensures.steps in
     filled_all (λ z. option_or (option_map alone (p z)) (t z)) t (map taken_name c.loop-name.yielded) q (text_at c.loop-name.texts q) (c.loop-name.invariant q)
-    (λ none. ap (λ o. option_or (option_map alone (option_map part_view o)) (t q)) (unnamed q c.args.extended (ap (λ ns. holds_name ns q) (sym (names_taken c.loop-name.yielded c.args.extended.entries all.0)) ∙ none)))
+    (λ none. ap (λ o. option_or (option_map alone (option_map section_view o)) (t q)) (unnamed q c.args.extended (ap (λ ns. holds_name ns q) (sym (names_taken c.loop-name.yielded c.args.extended.entries all.0)) ∙ none)))

@@ -1,13 +1,13 @@
--- The names so far have the texts of their parts.
+-- The names so far have the texts of their sections.
 use Rattle.std.proofs.Common.{◌≡◌, ℕ, List, map, option_map}
 use Rattle.std.specs.Option.{option_or}
-use Rattle.mailparse.specs.Continuations.{alone}
+use Rattle.mailparse.specs.Sections.{alone}
+use Rattle.mailparse.specs.private.Sections.{sections_at}
 use Rattle.mailparse.specs.Pairs.{text_at}
 use Rattle.mailparse.specs.private.Filled.{filled, taken_name}
-use Rattle.mailparse.specs.private.StarredKeys.{parts_at}
 use Rattle.mailparse.proofs.parameters.continuations.put_extended.Given as goal
 
 abbrev pub invariant-loop-name : goal.invariant-loop-name
 invariant-loop-name l =
     (q : List ℕ) → text_at l.texts q
-    ≡ filled (λ z. option_or (option_map alone (parts_at l.fn.extended z)) (text_at l.initial.texts z)) (text_at l.initial.texts) (map taken_name l.yielded) q
+    ≡ filled (λ z. option_or (option_map alone (sections_at l.fn.extended z)) (text_at l.initial.texts z)) (text_at l.initial.texts) (map taken_name l.yielded) q

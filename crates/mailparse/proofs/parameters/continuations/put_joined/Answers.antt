@@ -11,8 +11,8 @@ use Rattle.mailparse.specs.Pairs.{text_at}
 use Rattle.mailparse.specs.private.Filled.{filled, holds_name, taken_name}
 use Rattle.mailparse.proofs.lemmas.Bases.{base_kept, base_put}
 use Rattle.mailparse.proofs.lemmas.Filled.{filled_all, filled_push, stored}
-use Rattle.mailparse.proofs.lemmas.PartsOf.{names_taken, or_none, unnamed}
-use Rattle.mailparse.proofs.lemmas.StarredKeys.{is_some_map}
+use Rattle.mailparse.proofs.lemmas.Sections.{names_taken, or_none, unnamed}
+use Rattle.mailparse.proofs.lemmas.ExtendedValues.{is_some_map}
 use Rattle.mailparse.proofs.parameters.continuations.put_joined.Goals as goal
 
 pub loop-base-preserved-in_ok-insert-2 : goal.loop-base-preserved-in_ok-insert-2

@@ -1,11 +1,15 @@
+use Rattle.std.proofs.lemmas.Result.{IfOk-weaker}
 use Rattle.mailparse.specs.Pairs.{text_at}
-use Rattle.mailparse.specs.private.Continuations.{names_of_parts}
-use Rattle.mailparse.specs.private.StarredKeys.{stands_at}
-use Rattle.mailparse.proofs.lemmas.Resolved.{parts_named, resolved}
+use Rattle.mailparse.specs.private.Continuations.{names_of_sections}
+use Rattle.mailparse.specs.private.Sections.{stands_at}
+use Rattle.mailparse.proofs.lemmas.Resolved.{sections_named, resolved}
 use Rattle.mailparse.proofs.parameters.continuations.resolve.Goals as goal
 
-pub returns-clause-parameters : goal.returns-clause-parameters
-returns-clause-parameters c = λ ps holds q.
-    let parts = c.in_ok-parts.parts in
-    resolved (text_at c.args.pairs) (stands_at parts) (names_of_parts parts) (text_at c.in_ok-left_and_joined.field-0 q) q c.in_ok-parts.ensures
-    (parts_named parts) (c.in_ok-left_and_joined.ensures q) ps holds
+pub returns : goal.returns
+returns c =
+    let sections = c.in_ok-sections.sections in
+    IfOk-weaker c.left_and_joined.result _ _
+    (λ texts is ps holds q.
+    resolved (text_at c.args.pairs) (stands_at sections) (names_of_sections sections) (text_at texts q) q c.in_ok-sections.ensures
+    (sections_named sections) (is q) ps holds)
+    c.left_and_joined.ensures

@@ -1,7 +1,7 @@
 use Rattle.std.proofs.Common.{◌∙◌, ◌++◌, Ok, sym, ap, arith, vec_len, length}
 use Rattle.mail_codec.specs.Base64.{prepend}
-use Rattle.mail_codec.specs.private.Padding.{cut_groups}
-use Rattle.mail_codec.proofs.lemmas.Padding.{cut_reads, engine_filled, filled_len}
+use Rattle.mail_codec.specs.private.Padded.{cut_groups}
+use Rattle.mail_codec.proofs.lemmas.Padded.{cut_reads, engine_filled, filled_len}
 use Rattle.mail_codec.proofs.transfer.base_64.padded.decode_padded_groups.Goals as goal
 
 pub push_cut_groups-requires : goal.push_cut_groups-requires

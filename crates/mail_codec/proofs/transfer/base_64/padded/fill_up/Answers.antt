@@ -1,5 +1,5 @@
 use Rattle.std.proofs.Common.{◌∙◌, sym, arith}
-use Rattle.mail_codec.proofs.lemmas.Padding.{fill_step, fill_end}
+use Rattle.mail_codec.proofs.lemmas.Padded.{fill_step, fill_end}
 use Rattle.mail_codec.proofs.transfer.base_64.padded.fill_up.Goals as goal
 
 pub groups-preserved : goal.groups-preserved

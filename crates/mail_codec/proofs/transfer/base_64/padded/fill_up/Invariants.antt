@@ -1,5 +1,5 @@
 use Rattle.std.proofs.Common.{◌≡◌, ◌*◌, ◌++◌, drop}
-use Rattle.mail_codec.specs.private.Padding.{filled}
+use Rattle.mail_codec.specs.private.Padded.{filled}
 use Rattle.mail_codec.proofs.transfer.base_64.padded.fill_up.Given as goal
 
 -- what was made, then what is made of the groups that are left, is all

@@ -1,5 +1,5 @@
 use Rattle.std.proofs.Common.{◌≡◌, ◌+◌, ◌-◌, ◌*◌, ◌∙◌, sym, arith}
-use Rattle.mail_codec.proofs.lemmas.Padding.{cut_step, cut_end}
+use Rattle.mail_codec.proofs.lemmas.Padded.{cut_step, cut_end}
 use Rattle.mail_codec.proofs.transfer.base_64.padded.push_cut_groups.Goals as goal
 
 pub groups-preserved : goal.groups-preserved

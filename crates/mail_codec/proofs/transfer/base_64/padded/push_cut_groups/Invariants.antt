@@ -1,5 +1,5 @@
 use Rattle.std.proofs.Common.{◌≡◌, ◌*◌, ◌++◌, drop}
-use Rattle.mail_codec.specs.private.Padding.{cut_groups}
+use Rattle.mail_codec.specs.private.Padded.{cut_groups}
 use Rattle.mail_codec.proofs.transfer.base_64.padded.push_cut_groups.Given as goal
 
 -- what was appended, then what is cut of the groups that are left, is all

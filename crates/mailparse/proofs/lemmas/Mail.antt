@@ -1,0 +1,230 @@
+-- Lemmas on messages: their types, their trees, and how they are read.
+use Rattle.std.proofs.Common.{◌≡◌, ℕ, zero, suc, ◌-◌, ◌<◌, ◌≤◌, Bool, true, false, List, [], ◌∷◌, ◌++◌, length, map, take, drop, slice_range, Option, Some, None, option_map, Ok, Err, refl, sym, ap, ◌∙◌, subst, arith, Result}
+use Rattle.std.specs.Prelude.{codes, if◌then◌else◌}
+use Rattle.mail_codec.specs.Charset.{four_charsets}
+use Rattle.mail_codec.specs.Places.{stands}
+use Rattle.mailparse.specs.Refusal.{◌>>=◌, Refusal, Reads, recursion_limit}
+use Rattle.mailparse.specs.Header.{Header}
+use Rattle.mailparse.specs.Block.{HeaderList, read_headers}
+use Rattle.mailparse.specs.ContentType.{ContentType, content_type_in}
+use Rattle.mailparse.specs.Ranges.{Range, slice}
+use Rattle.mailparse.specs.Delimiters.{first_part, next_part, end_from, Cut, cut_parts}
+use Rattle.mailparse.specs.Mail.{Node, Tree, tree, Forest, no_parts, part_and, forest, is_digest, dash_boundary_of, cut_of, node_with, read_each, read_parts, node_type, read_levels, part_type, trees_within, trees_in}
+use Rattle.mailparse.specs.private.Delimiters.{IsDelimiter}
+use Rattle.mailparse.proofs.lemmas.Refusal.{read_map}
+use Rattle.std.specs.Option.{option_map_or}
+use Rattle.mailparse.specs.Map.{first_with_key}
+use Rattle.mailparse.specs.Value.{lenient_value}
+use Rattle.mailparse.specs.Views.{tree_step, tree_of}
+use Rattle.mailparse.specs.declared.mail.ParsedMail.{ParsedMail}
+use Rattle.mailparse.specs.declared.mail.ParsedMail.TheViews.{out-ParsedMail}
+use Rattle.mailparse.specs.declared.mail.ParsedMail.TheFolds.{fold_out-ParsedMail}
+use Rattle.mailparse.proofs.lemmas.Delimiters.{part_ranges-none, part_ranges-some, part_ranges}
+
+-- ---- the type of a message
+
+unwrapped : (a b : List ℕ) → ◌≡◌ {A = Result (List ℕ) Refusal} (Ok a) (Ok b) → a ≡ b
+unwrapped a b e = cc
+
+-- the type of a message whose first `Content-Type` has that text
+pub node_type-some : (in_digest : Bool) (headers : List Header) (h : Header) (text : List ℕ) → Some h ≡ first_with_key (codes "Content-Type") headers
+    → ◌≡◌ {A = Result (List ℕ) Refusal} (Ok (lenient_value h.value)) (Ok text) → content_type_in four_charsets text ≡ node_type four_charsets in_digest headers
+unfolding node_type lenient_value
+node_type-some in_digest headers h text first e =
+    ap (content_type_in four_charsets) (sym (unwrapped _ _ e))
+    ∙ ap (λ o. option_map_or (λ (x : Header). content_type_in four_charsets (lenient_value x.value)) o (part_type in_digest)) first
+
+-- the type of a message that has none
+pub node_type-none : (in_digest : Bool) (headers : List Header) → None ≡ first_with_key (codes "Content-Type") headers
+    → part_type in_digest ≡ node_type four_charsets in_digest headers
+unfolding node_type lenient_value
+node_type-none in_digest headers none =
+    ap (λ o. option_map_or (λ (x : Header). content_type_in four_charsets (lenient_value x.value)) o (part_type in_digest)) none
+
+-- ---- trees
+
+-- the message itself, and then those of its parts
+pub trees_within-out : (m : ParsedMail) → trees_within (tree_of m) ≡ tree_of m ∷ trees_in (forest (map tree_of (out-ParsedMail m).subparts.items))
+trees_within-out m =
+    let e = fold_out-ParsedMail Tree tree_step m in
+    ap trees_within e ∙ ap (λ (t : Tree). t ∷ trees_in (forest (map tree_of (out-ParsedMail m).subparts.items))) (sym e)
+
+-- ---- what is read of the parts
+
+-- some parts, and then others
+abbrev pub forest_and : List Tree → Forest → Forest
+forest_and [] rest = rest
+forest_and (t ∷ ts) rest = part_and t (forest_and ts rest)
+
+forest_and-push : (front : List Tree) (t : Tree) (rest : Forest) → forest_and front (part_and t rest) ≡ forest_and (front ++ t ∷ []) rest
+forest_and-push [] t rest = refl
+forest_and-push (u ∷ front) t rest = ap (part_and u) (forest_and-push front t rest)
+
+forest_and-none : (front : List Tree) → forest_and front no_parts ≡ forest front
+forest_and-none [] = refl
+forest_and-none (u ∷ front) = ap (part_and u) (forest_and-none front)
+
+-- parts that were read, and then what is read of the others
+abbrev pub with_trees : List Tree → Reads Forest → Reads Forest
+with_trees front rest = read_map (forest_and front) rest
+
+with_trees-push : (front : List Tree) (t : Tree) (rest : Reads Forest) → with_trees front (read_map (part_and t) rest) ≡ with_trees (front ++ t ∷ []) rest
+with_trees-push front t (Ok rest) = ap Ok (forest_and-push front t rest)
+with_trees-push front t (Err e) = refl
+
+-- what is read of the parts from one on
+abbrev pub parts_from : ℕ → Bool → List ℕ → List ℕ → Option ℕ → Reads Forest
+parts_from levels in_digest dash_boundary raw next = read_each (read_levels four_charsets levels in_digest) (map (slice raw) (part_ranges dash_boundary raw next))
+
+module _ (levels : ℕ) (in_digest : Bool) (dash_boundary raw : List ℕ) where
+  part_bytes : ℕ → List ℕ
+  part_bytes s = slice_range raw s (end_from dash_boundary raw s (length raw))
+
+  abbrev rest_from : ℕ → Tree → Reads Forest
+  rest_from s t = read_map (part_and t) (parts_from levels in_digest dash_boundary raw (next_part dash_boundary raw s))
+
+  parts_from-some : (s : ℕ) → parts_from levels in_digest dash_boundary raw (Some s)
+      ≡ ◌>>=◌ (read_levels four_charsets levels in_digest (part_bytes s)) (rest_from s)
+  unfolding part_bytes
+  parts_from-some s = ap (λ (rs : List Range). read_each (read_levels four_charsets levels in_digest) (map (slice raw) rs)) (part_ranges-some dash_boundary raw s)
+
+  -- a part more
+  pub parts_step : (front : List Tree) (all : Reads Forest) (s part_end : ℕ) (after : Option ℕ) (t : Tree) → part_end ≡ end_from dash_boundary raw s (length raw)
+      → after ≡ next_part dash_boundary raw s → read_levels four_charsets levels in_digest (slice_range raw s part_end) ≡ Ok t
+      → with_trees front (parts_from levels in_digest dash_boundary raw (Some s)) ≡ all
+      → with_trees (front ++ t ∷ []) (parts_from levels in_digest dash_boundary raw after) ≡ all
+  unfolding part_bytes
+  parts_step front all s part_end after t ends next read before =
+      let here : read_levels four_charsets levels in_digest (part_bytes s) ≡ Ok t =
+      ap (λ e. read_levels four_charsets levels in_digest (slice_range raw s e)) (sym ends) ∙ read in
+      ap (λ (o : Option ℕ). with_trees (front ++ t ∷ []) (parts_from levels in_digest dash_boundary raw o)) next
+      ∙ sym (with_trees-push front t (parts_from levels in_digest dash_boundary raw (next_part dash_boundary raw s)))
+      ∙ ap (λ (r : Reads Tree). with_trees front (◌>>=◌ r (rest_from s))) (sym here)
+      ∙ ap (with_trees front) (sym (parts_from-some s)) ∙ before
+
+  -- a part that is refused
+  pub parts_refused : (front : List Tree) (all : Reads Forest) (s part_end : ℕ) (e : Refusal) → part_end ≡ end_from dash_boundary raw s (length raw)
+      → read_levels four_charsets levels in_digest (slice_range raw s part_end) ≡ Err e
+      → with_trees front (parts_from levels in_digest dash_boundary raw (Some s)) ≡ all → all ≡ Err e
+  unfolding part_bytes
+  parts_refused front all s part_end e ends read before =
+      let here : read_levels four_charsets levels in_digest (part_bytes s) ≡ Err e =
+      ap (λ n. read_levels four_charsets levels in_digest (slice_range raw s n)) (sym ends) ∙ read in
+      sym before ∙ ap (with_trees front) (parts_from-some s) ∙ ap (λ (r : Reads Tree). with_trees front (◌>>=◌ r (rest_from s))) here
+
+  -- all parts
+  pub parts_end : (front : List Tree) (all : Reads Forest) → with_trees front (parts_from levels in_digest dash_boundary raw None) ≡ all → all ≡ Ok (forest front)
+  parts_end front all before =
+      sym before ∙ ap (λ (rs : List Range). with_trees front (read_each (read_levels four_charsets levels in_digest) (map (slice raw) rs))) (part_ranges-none dash_boundary raw)
+      ∙ ap Ok (forest_and-none front)
+
+-- ---- the reading of a message
+
+pub read_levels-none : (levels : ℕ) (in_digest : Bool) (raw : List ℕ) → levels ≡ 0 → read_levels four_charsets levels in_digest raw ≡ Err recursion_limit
+unfolding read_levels
+read_levels-none zero in_digest raw e = refl
+read_levels-none (suc levels) in_digest raw e = absurd (omega arith)
+
+read_levels-step : (levels : ℕ) (in_digest : Bool) (raw : List ℕ) → 0 < levels → read_levels four_charsets levels in_digest raw
+    ≡ ◌>>=◌ (read_headers raw) (λ block. read_parts four_charsets (read_levels four_charsets (levels - 1)) raw block (node_type four_charsets in_digest block.headers))
+unfolding read_levels
+read_levels-step zero in_digest raw some = absurd (omega arith)
+read_levels-step (suc levels) in_digest raw some =
+    let less : levels ≡ suc levels - 1 = omega arith in
+    ap (λ (n : ℕ). ◌>>=◌ (read_headers raw) (λ block. read_parts four_charsets (read_levels four_charsets n) raw block (node_type four_charsets in_digest block.headers))) less
+
+-- refused by its own headers
+pub read_levels-refused : (levels : ℕ) (in_digest : Bool) (raw : List ℕ) (e : Refusal) → 0 < levels → read_headers raw ≡ Err e → read_levels four_charsets levels in_digest raw ≡ Err e
+read_levels-refused levels in_digest raw e some refused = read_levels-step levels in_digest raw some ∙ (rw refused refl)
+
+-- a message with this block and this type
+module _ (levels : ℕ) (in_digest : Bool) (raw : List ℕ) (headers : List Header) (index : ℕ) (ctype : ContentType) where
+  typed : 0 < levels → read_headers raw ≡ Ok (record { headers = headers; index = index }) → node_type four_charsets in_digest headers ≡ ctype
+      → read_levels four_charsets levels in_digest raw
+      ≡ read_parts four_charsets (read_levels four_charsets (levels - 1)) raw (record { headers = headers; index = index }) ctype
+  typed some read type =
+      read_levels-step levels in_digest raw some
+      ∙ ap (λ (r : Reads HeaderList). ◌>>=◌ r (λ block. read_parts four_charsets (read_levels four_charsets (levels - 1)) raw block (node_type four_charsets in_digest block.headers))) read
+      ∙ ap (λ (t : ContentType). read_parts four_charsets (read_levels four_charsets (levels - 1)) raw (record { headers = headers; index = index }) t) type
+
+  -- one that has no parts
+  pub read_levels-leaf : 0 < levels → read_headers raw ≡ Ok (record { headers = headers; index = index }) → node_type four_charsets in_digest headers ≡ ctype
+      → dash_boundary_of ctype ≡ None
+      → read_levels four_charsets levels in_digest raw
+      ≡ Ok (tree (record { bytes = raw; block = take index raw; headers = headers; ctype = ctype; body = slice_range raw index (length raw) }) no_parts)
+  read_levels-leaf some read type none = typed some read type ∙ (rw none refl)
+
+  cut_at : (dash_boundary : List ℕ) → dash_boundary_of ctype ≡ Some dash_boundary → cut_of ctype raw index ≡ cut_parts dash_boundary raw index
+  cut_at dash_boundary e = rw e refl
+
+  node : List ℕ → Node
+  node dash_boundary = record { bytes = raw; block = take index raw; headers = headers; ctype = ctype; body = slice_range raw index (end_from dash_boundary raw index index) }
+
+  -- one that may have parts
+  pub read_levels-parts : (dash_boundary : List ℕ) → 0 < levels → read_headers raw ≡ Ok (record { headers = headers; index = index })
+      → node_type four_charsets in_digest headers ≡ ctype → dash_boundary_of ctype ≡ Some dash_boundary
+      → read_levels four_charsets levels in_digest raw
+      ≡ read_map (tree (record { bytes = raw; block = take index raw; headers = headers; ctype = ctype; body = slice_range raw index (end_from dash_boundary raw index index) }))
+      (parts_from (levels - 1) (is_digest ctype) dash_boundary raw (first_part dash_boundary raw index))
+  unfolding cut_parts
+  read_levels-parts dash_boundary some read type delimiter =
+      typed some read type
+      ∙ ap (λ (cut : Cut). read_map (tree (node_with raw (record { headers = headers; index = index }) ctype cut))
+      (read_each (read_levels four_charsets (levels - 1) (is_digest ctype)) (map (slice raw) cut.parts))) (cut_at dash_boundary delimiter)
+
+-- ---- the delimiter of a type, and the LF before it
+
+pub delimiter_some : (delimiter : List ℕ) (o : Option (List ℕ)) → Some delimiter ≡ option_map (λ dash_boundary. 10 ∷ dash_boundary) o → (o ≡ Some (drop 1 delimiter)) × (delimiter ≡ 10 ∷ drop 1 delimiter)
+delimiter_some delimiter None e = absurd (clash e)
+  where
+    clash : Some delimiter ≡ None → ⊥
+    clash h = cc
+delimiter_some delimiter (Some dash_boundary) e =
+    let same = unwrap e in
+    (ap (λ (l : List ℕ). Some (drop 1 l)) (sym same), same ∙ ap (λ (l : List ℕ). 10 ∷ drop 1 l) (sym same))
+  where
+    unwrap : Some delimiter ≡ Some (10 ∷ dash_boundary) → delimiter ≡ 10 ∷ dash_boundary
+    unwrap h = cc
+
+pub delimiter_none : (o : Option (List ℕ)) → None ≡ option_map (λ dash_boundary. 10 ∷ dash_boundary) o → o ≡ None
+delimiter_none None e = refl
+delimiter_none (Some dash_boundary) e = absurd (clash e)
+  where
+    clash : None ≡ Some (10 ∷ dash_boundary) → ⊥
+    clash h = cc
+
+-- a delimiter has at least the two bytes in front of the boundary
+pub dash_boundary_of-length : (ctype : ContentType) (dash_boundary : List ℕ) → dash_boundary_of ctype ≡ Some dash_boundary → 2 ≤ length dash_boundary
+dash_boundary_of-length ctype dash_boundary e = by_tests (stands (codes "multipart") ctype.mimetype) (ctype.params (codes "boundary")) e
+  where
+    clash : None ≡ Some dash_boundary → ⊥
+    clash h = cc
+
+    unwrap : (b : List ℕ) → Some (codes "--" ++ b) ≡ Some dash_boundary → codes "--" ++ b ≡ dash_boundary
+    unwrap b h = cc
+
+    by_tests : (t : Bool) (o : Option (List ℕ)) → if t then option_map (λ b. codes "--" ++ b) o else None ≡ Some dash_boundary → 2 ≤ length dash_boundary
+    by_tests false o h = absurd (clash h)
+    by_tests true None h = absurd (clash h)
+    by_tests true (Some b) h = subst (λ (x : List ℕ). 2 ≤ length x) (unwrap b h) (omega arith)
+
+pub IsDelimiter-of : (delimiter : List ℕ) (ctype : ContentType) → Some delimiter ≡ option_map (λ dash_boundary. 10 ∷ dash_boundary) (dash_boundary_of ctype) → IsDelimiter delimiter
+IsDelimiter-of delimiter ctype e =
+    let parts = delimiter_some delimiter (dash_boundary_of ctype) e in
+    let long = dash_boundary_of-length ctype (drop 1 delimiter) parts.0 in
+    record { feed = parts.1; some = omega arith }
+
+-- the reading of a message that may have parts, by what the code has of it
+pub read_levels-whole : (levels : ℕ) (in_digest : Bool) (raw : List ℕ) (headers : List Header) (index : ℕ) (ctype : ContentType) (delimiter : List ℕ) (digest : Bool) (end : ℕ)
+    → 0 < levels → read_headers raw ≡ Ok (record { headers = headers; index = index }) → node_type four_charsets in_digest headers ≡ ctype
+    → Some delimiter ≡ option_map (λ dash_boundary. 10 ∷ dash_boundary) (dash_boundary_of ctype) → digest ≡ is_digest ctype → end ≡ end_from (drop 1 delimiter) raw index index
+    → read_levels four_charsets levels in_digest raw
+    ≡ read_map (tree (record { bytes = raw; block = take index raw; headers = headers; ctype = ctype; body = slice_range raw index end }))
+    (parts_from (levels - 1) digest (drop 1 delimiter) raw (first_part (drop 1 delimiter) raw index))
+read_levels-whole levels in_digest raw headers index ctype delimiter digest end some read type made is ends =
+    let dash_boundary = drop 1 delimiter in
+    read_levels-parts levels in_digest raw headers index ctype dash_boundary some read type (delimiter_some delimiter (dash_boundary_of ctype) made).0
+    ∙ ap (λ (b : Bool). read_map (tree (record { bytes = raw; block = take index raw; headers = headers; ctype = ctype; body = slice_range raw index (end_from dash_boundary raw index index) }))
+    (parts_from (levels - 1) b dash_boundary raw (first_part dash_boundary raw index))) (sym is)
+    ∙ ap (λ (n : ℕ). read_map (tree (record { bytes = raw; block = take index raw; headers = headers; ctype = ctype; body = slice_range raw index n }))
+    (parts_from (levels - 1) digest dash_boundary raw (first_part dash_boundary raw index))) (sym ends)

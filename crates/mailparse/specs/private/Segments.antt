@@ -1,0 +1,23 @@
+-- The state of a byte in the code, the segments of what is left of a text, and its bytes before all quotes and semicolons.
+use Rattle.std.specs.Prelude.{ℕ, suc, ◌||◌, ◌==◌, List, [], ◌∷◌, Option, Some, None, if◌then◌else◌}
+use Rattle.std.specs.Borrow.{Bor}
+use Rattle.mail_codec.specs.Ascii.{quote, semicolon}
+use Rattle.mailparse.specs.Segments.{QuoteState, outside, quoted, escaped, segments}
+use Rattle.mailparse.specs.declared.parameters.segments.QuoteState.{QuoteState as CodeQuoteState}
+use Rattle.mailparse.specs.declared.parameters.segments.QuoteState.TheVariants as code
+
+-- a state of the code, as the definitions have it
+abbrev pub quote_state : CodeQuoteState → QuoteState
+quote_state code.Outside = outside
+quote_state code.Quoted = quoted
+quote_state code.Escaped = escaped
+
+-- the segments after a semicolon, and none where there is no semicolon
+abbrev pub segments_of_rest : Option (Bor (List ℕ)) → List (List ℕ)
+segments_of_rest None = []
+segments_of_rest (Some rest) = segments rest.now
+
+-- how many bytes at the front are neither a quote nor a semicolon
+abbrev pub plain_len : List ℕ → ℕ
+plain_len [] = 0
+plain_len (b ∷ bytes) = if b == semicolon || b == quote then 0 else suc (plain_len bytes)

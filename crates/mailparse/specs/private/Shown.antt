@@ -1,0 +1,48 @@
+-- What a reader of a value has made of the tokens so far, and what it holds back until it has seen the next ones; private to the
+-- reader of values.
+use Rattle.std.specs.Prelude.{◌≡◌, ℕ, List, [], ◌∷◌, ◌++◌, Some, None, string_bytes, if◌then◌else◌}
+use Rattle.mail_codec.specs.Ascii.{space}
+use Rattle.mailparse.specs.Tokens.{plain_text, whitespace, line_end, decoded_word}
+use Rattle.mailparse.specs.Value.{Token, kinds, is_released, newline, shown_after}
+use Rattle.mailparse.specs.declared.header.shown.Held.{Held}
+use Rattle.mailparse.specs.declared.header.shown.Held.TheVariants as held
+use Rattle.mailparse.specs.declared.header.shown.HeaderToken.{HeaderToken}
+use Rattle.mailparse.specs.declared.header.shown.HeaderToken.TheVariants as code
+use Rattle.mailparse.specs.declared.header.shown.ShownValue.{ShownValue}
+
+-- a token that is whitespace
+abbrev pub whitespace_token : List ℕ → Token
+whitespace_token gap = record { kind = whitespace; shown = gap }
+
+-- a token of the code, as the definitions have it
+abbrev pub token_view : HeaderToken → Token
+token_view (code.Text text) = record { kind = plain_text; shown = text.now }
+token_view (code.Whitespace gap) = whitespace_token gap.now
+token_view code.Newline = newline
+token_view (code.DecodedWord decoded) = record { kind = decoded_word; shown = string_bytes decoded }
+
+-- what is shown of what was held back, where text comes next
+abbrev pub released : Held → List ℕ
+released held.Nothing = []
+released held.Word = []
+released (held.Whitespace gap) = gap.now
+released (held.LineEnd gap) = gap.now ++ space ∷ []
+
+-- what is shown when these tokens follow: what was held back, where they release it, and what they show themselves
+abbrev pub shown_held : Held → List Token → List ℕ
+shown_held held.Nothing tokens = shown_after None None tokens
+shown_held held.Word tokens = shown_after None (Some decoded_word) tokens
+shown_held (held.Whitespace gap) tokens =
+    (if is_released whitespace (kinds tokens) then gap.now else [])
+    ++ shown_after (Some decoded_word) (Some whitespace) tokens
+shown_held (held.LineEnd gap) tokens =
+    (if is_released line_end (kinds tokens) then gap.now ++ space ∷ [] else [])
+    ++ shown_after None None tokens
+
+-- what a value shows whose tokens so far made this, when these follow
+abbrev pub shown_with : ShownValue → List Token → List ℕ
+shown_with value tokens = string_bytes value.text ++ shown_held value.held tokens
+
+-- a reader went on over these tokens
+abbrev pub Shows : ShownValue → List Token → ShownValue → Type 0
+Shows before tokens after = (rest : List Token) → shown_with before (tokens ++ rest) ≡ shown_with after rest

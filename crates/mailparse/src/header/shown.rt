@@ -1,0 +1,124 @@
+//! What a value shows, as its tokens are read one by one (RFC 2047, section 6.2): what is held back
+//! after a decoded word shows only where text comes next.
+ghost use Rattle.std.specs.Prelude.{◌≡◌, ◌++◌, ◌∷◌, [], List, IfOk, OnOk};
+ghost use Rattle.std.specs.String.{string_bytes};
+ghost use Rattle.mailparse.specs.Value.{Token, newline, shown_tokens};
+ghost use Rattle.mailparse.specs.private.Shown.{Shows, released, shown_with, token_view, whitespace_token};
+
+use std::alloc::{AllocError, Global};
+
+/// A token of a value.
+#[derive(Drop)]
+pub(crate) enum HeaderToken<'a> {
+    /// Text that is not encoded, whitespace or not.
+    Text(&'a str),
+    /// Whitespace throughout, or empty.
+    Whitespace(&'a str),
+    /// The end of a line, which shows one space.
+    Newline,
+    /// The text of an encoded word.
+    DecodedWord(String),
+}
+
+/// What is held back after the last token, until the next one tells whether it shows.
+#[derive(Clone, Copy)]
+enum Held<'a> {
+    /// Nothing, and nothing that comes next is held either.
+    Nothing,
+    /// Nothing yet: whitespace or a line's end directly after a decoded word is held.
+    Word,
+    /// Whitespace after a decoded word.
+    Whitespace(&'a str),
+    /// A line's end after a decoded word, with the whitespace between the two.
+    LineEnd(&'a str),
+}
+
+/// What a value shows, as far as its tokens are read.
+#[derive(Drop)]
+pub(crate) struct ShownValue<'a> {
+    text: String,
+    held: Held<'a>,
+}
+
+impl<'a> ShownValue<'a> {
+    /// Nothing, with room for a text of this length.
+    pub(crate) fn with_capacity(alloc: Global, length: usize) -> Result<ShownValue<'a>, AllocError>
+        ensures { IfOk result (λ shown. (tokens : List Token) →
+            shown_with shown tokens ≡ shown_tokens tokens) }
+    {
+        Ok(ShownValue {
+            text: String::with_capacity(alloc, length)?,
+            held: Held::Nothing,
+        })
+    }
+
+    /// The text that shows; what is still held back never does.
+    pub(crate) fn into_text(self) -> String
+        ensures { string_bytes result ≡ shown_with self.entry [] }
+    {
+        self.text
+    }
+
+    /// Takes the next token.
+    pub(crate) fn push(&mut self, token: HeaderToken<'a>) -> Result<(), AllocError>
+        ensures { OnOk result (Shows self.old (token_view token.entry ∷ []) self.new) }
+    {
+        match token {
+            HeaderToken::Text(text) => {
+                self.release()?;
+                self.text.push_str(text)
+            }
+            HeaderToken::Whitespace(gap) => self.push_whitespace(gap),
+            HeaderToken::Newline => self.push_newline(),
+            HeaderToken::DecodedWord(decoded) => {
+                self.held = Held::Word;
+                self.text.push_str(decoded.as_str())
+            }
+        }
+    }
+
+    /// Shows what is held back, since text comes next.
+    fn release(&mut self) -> Result<(), AllocError>
+        ensures written { OnOk result
+            (string_bytes self.new.text ≡ string_bytes self.old.text ++ released self.old.held) }
+        ensures held { OnOk result (self.new.held ≡ Held.Nothing) }
+    {
+        match self.held {
+            Held::Nothing | Held::Word => {}
+            Held::Whitespace(gap) => self.text.push_str(gap)?,
+            Held::LineEnd(gap) => {
+                self.text.push_str(gap)?;
+                self.text.push(' ')?;
+            }
+        }
+        self.held = Held::Nothing;
+        Ok(())
+    }
+
+    /// Takes whitespace, which is held directly after a decoded word.
+    fn push_whitespace(&mut self, gap: &'a str) -> Result<(), AllocError>
+        ensures { OnOk result (Shows self.old (whitespace_token gap.entry.now ∷ []) self.new) }
+    {
+        if let Held::Word = self.held {
+            self.held = Held::Whitespace(gap);
+            return Ok(());
+        }
+        self.held = Held::Nothing;
+        self.text.push_str(gap)
+    }
+
+    /// Takes a line's end, held directly after a decoded word and after whitespace that is held.
+    fn push_newline(&mut self) -> Result<(), AllocError>
+        ensures { OnOk result (Shows self.old (newline ∷ []) self.new) }
+    {
+        match self.held {
+            Held::Word => self.held = Held::LineEnd(""),
+            Held::Whitespace(gap) => self.held = Held::LineEnd(gap),
+            Held::Nothing | Held::LineEnd(_) => {
+                self.held = Held::Nothing;
+                self.text.push(' ')?;
+            }
+        }
+        Ok(())
+    }
+}

@@ -1,0 +1,145 @@
+//! The tokens of one line of a header's value (RFC 2047, sections 2 and 4).
+ghost use Rattle.std.specs.Prelude.{◌≡◌, ◌≢◌, ◌≤◌, [], ◌∷◌, length, reverse, MatchOption, OnOk};
+ghost use Rattle.std.specs.Str.{chars};
+ghost use Rattle.mail_codec.specs.Charset.{four_charsets};
+ghost use Rattle.mail_codec.specs.Places.{stands, place_from};
+ghost use Rattle.mailparse.specs.Tokens.{begins_with_boundary, closing, is_boundary, opening};
+ghost use Rattle.mailparse.specs.Value.{line_tokens, outside_token};
+ghost use Rattle.mailparse.specs.private.Cuts.{IsCut, IsOpening, KeepsClosing};
+ghost use Rattle.mailparse.specs.private.Shown.{Shows, token_view};
+
+use super::encoded_word::decode_word;
+use super::shown::{HeaderToken, ShownValue};
+use mail_codec::bytescan::find;
+use std::alloc::{AllocError, Global};
+
+/// Whether a character may stand directly beside an encoded word.
+fn is_boundary(c: char) -> bool
+    ensures { result ≡ is_boundary c }
+{
+    c.is_whitespace() || matches!(c, '"' | '(' | ')' | '<' | '>' | ',')
+}
+
+/// Whether the text is empty or its first character is a boundary.
+fn begins_with_boundary(text: &str) -> bool
+    ensures { result ≡ begins_with_boundary (chars text.now) }
+{
+    match text.chars().next() {
+        Some(c) => is_boundary(c),
+        None => true,
+    }
+}
+
+/// Whether the text is empty or its last character is a boundary.
+fn ends_with_boundary(text: &str) -> bool
+    ensures { result ≡ begins_with_boundary (reverse (chars text.now)) }
+{
+    match text.chars().next_back() {
+        Some(c) => is_boundary(c),
+        None => true,
+    }
+}
+
+/// The token of a text outside all encoded words.
+fn outside_token(text: &str) -> HeaderToken<'_>
+    ensures { token_view result ≡ outside_token text.now }
+{
+    if text.trim_start().is_empty() {
+        HeaderToken::Whitespace(text)
+    } else {
+        HeaderToken::Text(text)
+    }
+}
+
+/// The least place at or after `from` where these two bytes stand, or the length if they do not.
+fn find_pair(bytes: &[u8], from: usize, first: u8, second: u8) -> usize
+    requires { from ≤ length bytes.now }
+    ensures { result ≡ place_from (stands (first ∷ second ∷ [])) bytes.now from }
+{
+    match find(&bytes[from..], &[first, second]) {
+        Some(place) => from + place,
+        None => bytes.len(),
+    }
+}
+
+/// The least place at or after `from` where `=?` stands.
+fn find_opening(line: &str, from: usize) -> Option<usize>
+    requires { from ≤ length line.now }
+    ensures { MatchOption result (opening line.now from ≡ length line.now)
+        (λ v. IsOpening line.now from v) }
+{
+    let bytes = line.as_bytes();
+    let open = find_pair(bytes, from, b'=', b'?');
+    if open == bytes.len() {
+        None
+    } else {
+        Some(open)
+    }
+}
+
+/// The least place at or after `from` where `?=` stands with a boundary after it, or the length.
+fn find_closing(line: &str, from: usize) -> usize
+    requires { from ≤ length line.now }
+    ensures { result ≡ closing line.now from }
+{
+    let bytes = line.as_bytes();
+    let mut at = find_pair(bytes, from, b'?', b'=');
+    while at < bytes.len() {
+        if begins_with_boundary(&line[at + 2..]) {
+            return at;
+        }
+        at = find_pair(bytes, at + 1, b'?', b'=');
+    }
+    at
+}
+
+/// The same as `find_closing`, where `kept` is what an earlier search found, or 0 before the first: it
+/// stays right until the search is past it.
+fn find_closing_or_keep(line: &str, from: usize, kept: usize) -> usize
+    requires within { from ≤ length line.now }
+    requires keeps { KeepsClosing line.now from kept }
+    ensures least { result ≡ closing line.now from }
+    ensures cut { result ≢ length line.now → IsCut line.now result }
+{
+    if kept < from {
+        find_closing(line, from)
+    } else {
+        kept
+    }
+}
+
+/// Takes the tokens of one line, in order.
+///
+/// Its time is linear in the line's length: the end of a word is kept until the search is past it,
+/// and so is the fact that there is none.
+pub(crate) fn push_line<'a>(
+    alloc: Global,
+    line: &'a str,
+    shown: &mut ShownValue<'a>,
+) -> Result<(), AllocError>
+    ensures { OnOk result (Shows shown.old (line_tokens four_charsets line.now) shown.new) }
+{
+    let mut start = 0;
+    let mut close = 0;
+    while let Some(open) = find_opening(line, start) {
+        let inside = open + 2;
+        if !ends_with_boundary(&line[..open]) {
+            shown.push(HeaderToken::Text(&line[start..inside]))?;
+            start = inside;
+            continue;
+        }
+        shown.push(outside_token(&line[start..open]))?;
+        close = find_closing_or_keep(line, inside, close);
+        if close == line.len() {
+            shown.push(HeaderToken::Text(&line[open..inside]))?;
+            start = inside;
+            continue;
+        }
+        match decode_word(alloc, &line[inside..close])? {
+            Some(decoded) => shown.push(HeaderToken::DecodedWord(decoded))?,
+            None => shown.push(HeaderToken::Text(&line[open..close + 2]))?,
+        }
+        start = close + 2;
+    }
+    shown.push(outside_token(&line[start..]))
+}

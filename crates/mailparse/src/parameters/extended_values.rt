@@ -1,0 +1,166 @@
+//! Extended values, whose keys end in `*`: a charset, a language and percent pairs (RFC 2231,
+//! section 4).
+ghost use Rattle.std.specs.Prelude.{◌≡◌, ◌<◌, ℕ, List, length, map, option_map, IfOk, if◌then◌else◌};
+ghost use Rattle.std.specs.List.{All};
+ghost use Rattle.std.specs.Option.{is_some};
+ghost use Rattle.mail_codec.specs.Charset.{four_charsets, text_of};
+ghost use Rattle.mailparse.specs.ExtendedValues.{reading_of, section_at, text_in};
+ghost use Rattle.mailparse.specs.Pairs.{text_at};
+ghost use Rattle.mailparse.specs.private.ExtendedValues.{IsReading, extended_section, extended_view, names_read, read_section, reading_by, reading_view};
+ghost use Rattle.mailparse.specs.private.Filled.{holds_name};
+ghost use Rattle.mailparse.specs.private.Sections.{section_view, stands_at};
+ghost use Rattle.percent_encoding.specs.Percent.{percent_decode};
+
+mod charset_sources;
+mod names;
+
+use self::charset_sources::charset_sources;
+use self::names::{ExtendedName, extended_names};
+use super::sections::{Section, Sections, numbered};
+use mail_codec::charset::Charset;
+use percent_encoding::percent_decode;
+use std::alloc::{AllocError, Global};
+use std::collections::BTreeMap;
+
+/// What stands after the first two apostrophes of an extended value; nothing where there are fewer.
+fn text_in(value: &str) -> &str
+    ensures { result.now ≡ text_in value.now }
+{
+    let Some((_, rest)) = value.split_once('\'') else {
+        return "";
+    };
+    match rest.split_once('\'') {
+        Some((_, text)) => text,
+        None => "",
+    }
+}
+
+/// The bytes that percent pairs write.
+fn octets_of(alloc: Global, encoded: &str) -> Result<Vec<u8>, AllocError>
+    ensures { IfOk result (λ bytes. bytes.items ≡ percent_decode encoded.now) }
+{
+    let mut bytes = Vec::new(alloc);
+    percent_decode(encoded.as_bytes()).append_to(&mut bytes)?;
+    Ok(bytes)
+}
+
+/// What stands at a name whose extended value has these bytes in this charset.
+fn extended_section(
+    alloc: Global,
+    name: &str,
+    charset: Charset,
+    bytes: Vec<u8>,
+) -> Result<Section, AllocError>
+    ensures { IfOk result (λ section. section_view section
+        ≡ extended_section name.now (text_of charset) bytes.items) }
+{
+    if numbered(name).is_some() {
+        return Ok(Section::Octets(charset, bytes));
+    }
+    let text = charset.decode_without_bom_handling(alloc, bytes.as_slice())?;
+    Ok(Section::Text(text))
+}
+
+/// The percent pairs of an extended value: where the name is its own charset source, without the
+/// label and the language.
+fn encoded_in(value: &str, is_own_source: bool) -> &str
+    ensures { result.now ≡ (if is_own_source then text_in value.now else value.now) }
+{
+    if is_own_source { text_in(value) } else { value }
+}
+
+/// How the extended value of a name is read.
+#[derive(Drop)]
+struct Reading {
+    /// The name, without the star.
+    name: String,
+    /// The charset that the value of its charset source names.
+    charset: Charset,
+    /// Whether the name is its own charset source.
+    is_own_source: bool,
+}
+
+/// How the value of the name at a place is read, if the label of its charset source is known.
+fn reading_at(
+    alloc: Global,
+    extended: &[ExtendedName<'_>],
+    place: usize,
+    source: usize,
+) -> Result<Option<Reading>, AllocError>
+    requires place { place < length extended.now }
+    requires source { source < length extended.now }
+    ensures { IfOk result (λ reading. option_map reading_view reading
+        ≡ reading_by (map extended_view extended.now) place source) }
+{
+    let Some(charset) = extended[source].charset else {
+        return Ok(None);
+    };
+    Ok(Some(Reading {
+        name: String::from_str(alloc, extended[place].name)?,
+        charset,
+        is_own_source: source == place,
+    }))
+}
+
+/// How the values of the extended names are read, as far as their labels are known.
+fn readings(alloc: Global, pairs: &BTreeMap<String, String>) -> Result<Vec<Reading>, AllocError>
+    ensures each { IfOk result (λ found. All (IsReading (text_at pairs.now))
+        (map reading_view found.items)) }
+    ensures names { IfOk result (λ found. (q : List ℕ) →
+        holds_name (names_read found.items) q
+        ≡ is_some (reading_of four_charsets (text_at pairs.now) q)) }
+{
+    let extended = extended_names(alloc, pairs)?;
+    let sources = charset_sources(alloc, extended.as_slice())?;
+    let mut found = Vec::new(alloc);
+    let mut place = 0;
+    while place < extended.len() {
+        if let Some(reading) = reading_at(alloc, extended.as_slice(), place, sources[place])? {
+            found.push(reading)?;
+        }
+        place += 1;
+    }
+    Ok(found)
+}
+
+/// What an extended value gives at a name.
+fn read(
+    alloc: Global,
+    name: &str,
+    value: &str,
+    charset: Charset,
+    is_own_source: bool,
+) -> Result<Section, AllocError>
+    ensures { IfOk result (λ section. section_view section
+        ≡ read_section (name.now, charset, is_own_source) value.now) }
+{
+    let bytes = octets_of(alloc, encoded_in(value, is_own_source))?;
+    extended_section(alloc, name, charset, bytes)
+}
+
+/// What stands at each name once the extended values are read. A key that is read leaves the map
+/// before what it gives is written, so that no value is held twice.
+pub(super) fn sections_of(
+    alloc: Global,
+    pairs: BTreeMap<String, String>,
+) -> Result<Sections, AllocError>
+    ensures { IfOk result (λ sections. (q : List ℕ) → stands_at sections q
+        ≡ section_at four_charsets (text_at pairs) q) }
+{
+    let readings = readings(alloc, &pairs)?;
+    let mut texts = pairs;
+    let mut extended = BTreeMap::new(alloc);
+    for reading in readings {
+        let Reading {
+            name,
+            charset,
+            is_own_source,
+        } = reading;
+        let key = format!(in alloc; "{name}*")?;
+        if let Some(value) = texts.remove(key.as_str()) {
+            let section = read(alloc, name.as_str(), value.as_str(), charset, is_own_source)?;
+            extended.insert(name, section)?;
+        }
+    }
+    Ok(Sections { texts, extended })
+}

@@ -1,0 +1,141 @@
+//! The segments of a text that has parameters, and quoted texts (RFC 2045, section 5.1).
+ghost use Rattle.std.specs.Prelude.{◌≡◌, ◌==◌, ◌∷◌, ◌<◌, ◌≤◌, false, true, length, IfOk, IfSome, MatchOption};
+ghost use Rattle.std.specs.Str.{chars, encode_utf8_all};
+ghost use Rattle.std.specs.String.{string_bytes};
+ghost use Rattle.mail_codec.specs.Places.{begins, first_place};
+ghost use Rattle.mailparse.specs.Segments.{after, ends, inside_quotes, is_quoted, segments, unescape, without_escapes};
+ghost use Rattle.mailparse.specs.private.Segments.{plain_len, quote_state, segments_of_rest};
+
+use mail_codec::bytescan::find_byte;
+use std::alloc::{AllocError, Global};
+
+/// The state of a byte in a text.
+#[derive(Clone, Copy)]
+enum QuoteState {
+    /// Outside of all quoted runs.
+    Outside,
+    /// Within a quoted run.
+    Quoted,
+    /// Within a quoted run, directly after a backslash that escapes it.
+    Escaped,
+}
+
+impl QuoteState {
+    /// The state of the byte after this one.
+    fn after(self, byte: u8) -> QuoteState
+        ensures { quote_state result ≡ after (quote_state self) byte }
+    {
+        match self {
+            QuoteState::Outside => {
+                if byte == b'"' {
+                    QuoteState::Quoted
+                } else {
+                    QuoteState::Outside
+                }
+            }
+            QuoteState::Quoted => {
+                if byte == b'"' {
+                    QuoteState::Outside
+                } else if byte == b'\\' {
+                    QuoteState::Escaped
+                } else {
+                    QuoteState::Quoted
+                }
+            }
+            QuoteState::Escaped => QuoteState::Quoted,
+        }
+    }
+
+    /// Whether this byte ends a segment.
+    fn ends(self, byte: u8) -> bool
+        ensures { result ≡ ends (quote_state self) byte }
+    {
+        match self {
+            QuoteState::Outside => byte == b';',
+            QuoteState::Quoted | QuoteState::Escaped => false,
+        }
+    }
+}
+
+/// How many bytes stand before the first one like this, or how many there are.
+fn length_before(bytes: &[u8], byte: u8) -> usize
+    ensures least { result ≡ first_place (begins (λ b. b == byte)) bytes.now }
+    ensures bounds { result ≤ length bytes.now }
+{
+    match find_byte(bytes, byte) {
+        Some(place) => place,
+        None => bytes.len(),
+    }
+}
+
+/// How many bytes at the front are neither a quote nor a semicolon.
+fn plain_len(bytes: &[u8]) -> usize
+    ensures plain { result ≡ plain_len bytes.now }
+    ensures bounds { result ≤ length bytes.now }
+{
+    let end = length_before(bytes, b';');
+    length_before(&bytes[..end], b'"')
+}
+
+/// The first segment of a text, and what stands after its semicolon, if it has one. Takes no memory.
+pub(super) fn cut_segment(text: &str) -> (&str, Option<&str>)
+    ensures cut { segments text.now ≡ result.0.now ∷ segments_of_rest result.1 }
+    ensures shorter { IfSome result.1 (λ rest. length rest.now < length text.now) }
+{
+    let bytes = text.as_bytes();
+    let mut state = QuoteState::Outside;
+    for at in plain_len(bytes)..bytes.len() {
+        if state.ends(bytes[at]) {
+            return (&text[..at], Some(&text[at + 1..]));
+        }
+        state = state.after(bytes[at]);
+    }
+    (text, None)
+}
+
+/// What stands between the quotes of a text that begins and ends with one.
+fn inside_quotes(text: &str) -> Option<&str>
+    ensures { MatchOption result (is_quoted text.now ≡ false)
+        (λ inside. (is_quoted text.now ≡ true) × (inside.now ≡ inside_quotes text.now)) }
+{
+    if text.len() < 2 {
+        return None;
+    }
+    if !text.starts_with('"') {
+        return None;
+    }
+    if !text.ends_with('"') {
+        return None;
+    }
+    Some(&text[1..text.len() - 1])
+}
+
+/// The text that a text stands for: a quoted one for what stands between its quotes, without the
+/// backslashes that escape, any other text for itself.
+#[tactic(auto, unfolding(crate::specs::Segments::unescape))]
+pub(super) fn unescape(alloc: Global, text: &str) -> Result<String, AllocError>
+    ensures { IfOk result (λ plain. string_bytes plain ≡ unescape text.now) }
+{
+    match inside_quotes(text) {
+        Some(inside) => without_escapes(alloc, inside),
+        None => String::from_str(alloc, text),
+    }
+}
+
+/// A text without the backslashes that no backslash escapes.
+fn without_escapes(alloc: Global, text: &str) -> Result<String, AllocError>
+    ensures { IfOk result (λ plain.
+        string_bytes plain ≡ encode_utf8_all (without_escapes 0 (chars text.now))) }
+{
+    let mut plain = String::with_capacity(alloc, text.len())?;
+    let mut is_escaped = false;
+    for c in text.chars() {
+        if c == '\\' && !is_escaped {
+            is_escaped = true;
+            continue;
+        }
+        is_escaped = false;
+        plain.push(c)?;
+    }
+    Ok(plain)
+}

@@ -1,0 +1,285 @@
+#!/usr/bin/env python3
+"""Tries the edits that must fail: each changes the body of a function, and the prover has to refuse it.
+
+An edit is a file crates/CRATE/edits/NAME.edit: a line `file: src/..`, then pairs of lines, `old: TEXT`, which
+stands once in that file, and `new: TEXT`. It changes what stands in the body of a function, or a constant,
+which counts as a change of each function that uses it. (A body is proved against the contracts of what it
+calls, so edits of different functions do not touch one another. An edit of a contract, of a definition or
+of a proof goes to must-fail/, which `rt ci` tries.)
+
+The script proves each crate from nothing, in a copy of the repository. Then it checks the crate with a
+batch of edits at once, over the proofs that are kept, where no two edits of a batch change one function.
+An edit passes if the function that it changes is refused, and the line says which goal became false (or
+that its proof only names what is gone, which says little: such edits are listed at the end); each
+function that no edit changes has to be told as proved, or as waiting only for those that are refused.
+Where a batch does not tell clearly, or an edit was not refused in it, the edit is tried alone before it
+is called failed. First of all a batch with an edit that changes nothing is tried, which has to be told
+as not refused.
+
+NAME is a crate, or an edit, as CRATE/NAME; with none, all are tried. The last line is `N passed, N failed`,
+and the status is 1 where an edit failed.
+"""
+
+import argparse
+import os
+import signal
+import sys
+import tempfile
+import threading
+import time
+from concurrent.futures import FIRST_COMPLETED, ThreadPoolExecutor, wait
+
+from edits.checker import Checker, all_below, is_proved
+from edits.edit import Change, Crate, Edit, batches_of, edits_in, texts_with
+from edits.judge import Outcome, first_words, outcome_of, unclear
+
+TOP = os.path.dirname(os.path.dirname(os.path.realpath(__file__)))
+
+
+def processors():
+    """How many checks run side by side: one for each processor, as far as memory goes. A check takes up
+    to 2.5 GB, and the gate proves the crates beside it, so 4 GB are counted."""
+    with open("/proc/meminfo", encoding="utf-8") as opened:
+        free = next(int(it.split()[1]) for it in opened if it.startswith("MemAvailable"))
+    return max(1, min(len(os.sched_getaffinity(0)), free // 4_000_000))
+
+
+def read_words():
+    """The arguments, and what reads them."""
+    title, _, more = __doc__.partition("\n\n")
+    form = argparse.RawDescriptionHelpFormatter
+    reader = argparse.ArgumentParser(description=title, epilog=more, formatter_class=form)
+    reader.add_argument("--jobs", type=int, default=0, help="how many checks run side by side; one a processor")
+    reader.add_argument("--batch", type=int, default=16, help="how many edits are checked at once at most")
+    reader.add_argument("--kept", action="store_true", help="start from what `rt check` has kept in crates/*/out")
+    reader.add_argument("names", nargs="*", metavar="NAME", help="a crate, or an edit as CRATE/NAME")
+    return reader, reader.parse_args()
+
+
+class Stopped(Exception):
+    """Why the script cannot go on."""
+
+
+class Trial:
+    """The edits of one crate, and what became of them."""
+
+    def __init__(self, crate, edits, bad, size):
+        self.crate = crate
+        self.edits = edits
+        self.bad = bad
+        self.batches = batches_of(edits, size)
+        self.known = set()
+
+
+def chosen(names, crate, edits):
+    """The edits of a crate that the arguments name."""
+    if not names or crate in names:
+        return edits
+    return [it for it in edits if str(it) in names or f"{it}.edit" in names]
+
+
+def trials_of(names, size):
+    """The crates that have edits, lowest first, with those that were asked for."""
+    folder = f"{TOP}/crates"
+    found = []
+    for name in sorted(os.listdir(folder)):
+        if os.path.isdir(f"{folder}/{name}/edits"):
+            crate = Crate(f"{folder}/{name}")
+            good, bad = edits_in(crate, f"{folder}/{name}/edits")
+            good = chosen(names, name, good)
+            bad = [it for it in bad if not names or name in names or it[0].removesuffix(".edit") in names]
+            if good or bad:
+                found.append(Trial(crate, good, bad, size))
+    return found
+
+
+def unknown(names, trials):
+    """The arguments that name no crate with edits, and no edit."""
+    edits = [str(it) for trial in trials for it in trial.edits] + [it[0] for trial in trials for it in trial.bad]
+    known = {trial.crate.name for trial in trials}.union(it.removesuffix(".edit") for it in edits)
+    return [it for it in names if it.removesuffix(".edit") not in known]
+
+
+def edit_of_nothing(crate, known, but):
+    """An edit that adds an empty block to a function that the edit `but` does not change."""
+    for file, (functions, _) in crate.items.items():
+        for function in functions:
+            name = crate.name_of(file, function)
+            if name in known and name not in but.functions:
+                place = function.body + 1
+                change = Change(file, place, place, " {}")
+                return Edit(crate.name, "an edit that changes nothing", [change], {name})
+    return None
+
+
+class Run:
+    """One run of the script: what it counts, and where it prints."""
+
+    def __init__(self, trials, checker, jobs):
+        self.trials = trials
+        self.checker = checker
+        self.jobs = jobs
+        self.passed = 0
+        self.failed = 0
+        self.little = []
+        self.processor = 0.0
+        self.is_stopped = False
+        self.printing = threading.Lock()
+
+    def stop(self):
+        """Has what still runs try nothing more."""
+        self.is_stopped = True
+
+    def say(self, *lines):
+        with self.printing:
+            print(*lines, sep="\n", flush=True)
+
+    def took(self, ran):
+        with self.printing:
+            self.processor += ran.processor
+        return f"{ran.took:.0f} s, {ran.processor:.0f} processor seconds"
+
+    def tell(self, outcomes):
+        """Counts what became of some edits, and prints it."""
+        with self.printing:
+            for it in outcomes:
+                self.passed += it.is_refused
+                self.failed += not it.is_refused
+                self.little += [str(it.edit)] if it.says_little else []
+                print(f"{'passed' if it.is_refused else 'FAILED'} {it.edit}: {it.text}", flush=True)
+
+    def prove(self, name, trial, jobs):
+        """Proves a crate as it is, and keeps the proofs."""
+        said, ran = self.checker.prove(name, jobs)
+        if not is_proved(said):
+            raise Stopped(f"{name} is not proved as it is: {first_words(said)}")
+        self.say(f"{name}: proved as it is, {self.took(ran)}")
+        if trial:
+            trial.known = set(said.functions)
+            check_names(trial)
+
+    def show_that_it_can_fail(self, trial):
+        """Tries an edit that changes nothing beside one of the crate's: the one has to be told as not
+        refused, and the other as refused."""
+        real = trial.edits[0]
+        none = edit_of_nothing(trial.crate, trial.known, real)
+        both = [real, none]
+        said, ran = self.checker.check_with(trial.crate.name, texts_with(trial.crate, both))
+        why = unclear(trial.known, [real], said)
+        if why or outcome_of(none, said).is_refused:
+            raise Stopped(f"an edit that changes nothing was not told as such: {why or outcome_of(none, said).text}")
+        if not outcome_of(real, said).is_refused:
+            raise Stopped(f"beside an edit that changes nothing, {real} is not refused")
+        self.say(f"{trial.crate.name}: an edit that changes nothing is told as not refused, {self.took(ran)}")
+
+    def try_batch(self, trial, number):
+        """Checks a batch, and each of its edits alone that it does not show to be refused."""
+        batch = trial.batches[number]
+        said, ran = self.checker.check_with(trial.crate.name, texts_with(trial.crate, batch))
+        why = unclear(trial.known, batch, said)
+        outcomes = [] if why else [outcome_of(edit, said) for edit in batch]
+        self.say(f"{trial.crate.name}: batch {number + 1} of {len(trial.batches)}, {len(batch)} edits, {self.took(ran)}")
+        self.tell([it for it in outcomes if it.is_refused])
+        if why and len(batch) > 1:
+            self.say(f"{trial.crate.name}: batch {number + 1} does not tell clearly, so each of its edits is tried alone: {why}")
+        sure = {str(it.edit) for it in outcomes if it.is_refused}
+        for edit in batch:
+            if str(edit) not in sure and not self.is_stopped:
+                self.try_alone(trial, edit)
+
+    def try_alone(self, trial, edit):
+        """Checks the crate with one edit."""
+        said, ran = self.checker.check_with(trial.crate.name, texts_with(trial.crate, [edit]))
+        why = unclear(trial.known, [edit], said)
+        outcome = Outcome(edit, False, f"BAD EDIT: {why}") if why else outcome_of(edit, said)
+        self.say(f"{edit}: alone, {self.took(ran)}")
+        self.tell([outcome])
+
+
+def check_names(trial):
+    """Stops where an edit changes a function that the check does not tell of."""
+    for edit in trial.edits:
+        lost = sorted(edit.functions - trial.known)
+        if lost:
+            raise Stopped(f"{edit}: the check of the crate tells of no function {lost[0]}")
+
+
+def tasks_of(run):
+    """The tasks by their keys: what each waits for, how many jobs it may use, and its call."""
+    listed = run.checker.listed
+    with_edits = {it.crate.name: it for it in run.trials if it.edits}
+    needed = [name for it in with_edits for name in all_below(listed, it)]
+    tasks = {}
+    for name in dict.fromkeys(needed):
+        below = [("prove", it) for it in listed[name]]
+        tasks["prove", name] = below, lambda jobs, name=name: run.prove(name, with_edits.get(name), jobs)
+    trials = list(with_edits.values())
+    shown = []
+    if trials:
+        lowest = min(trials, key=lambda it: len(all_below(listed, it.crate.name)))
+        shown = [("nothing", lowest.crate.name)]
+        tasks[shown[0]] = [("prove", lowest.crate.name)], lambda jobs: run.show_that_it_can_fail(lowest)
+    for trial in trials:
+        waits = [("prove", trial.crate.name), *shown]
+        for number in range(len(trial.batches)):
+            call = lambda jobs, trial=trial, number=number: run.try_batch(trial, number)
+            tasks["batch", trial.crate.name, number] = waits, call
+    return tasks
+
+
+def run_tasks(tasks, lanes, stop):
+    """Runs the tasks side by side, each once those that it waits for have ended. Where one fails, it calls
+    `stop`, and returns once what runs has ended."""
+    done, running, left = set(), {}, dict(tasks)
+    with ThreadPoolExecutor(lanes) as pool:
+        try:
+            while left or running:
+                start_ready(pool, lanes, done, running, left)
+                for ended in wait(running, return_when=FIRST_COMPLETED).done:
+                    key, _ = running.pop(ended)
+                    ended.result()
+                    done.add(key)
+        except BaseException:
+            stop()
+            raise
+
+
+def start_ready(pool, lanes, done, running, left):
+    """Starts the tasks that wait for nothing, as far as lanes are idle. A proof gets the lanes that
+    nothing else is ready for."""
+    ready = [key for key, (waits, _) in left.items() if done.issuperset(waits)]
+    for at, key in enumerate(ready):
+        idle = lanes - sum(jobs for _, jobs in running.values())
+        if idle < 1:
+            return
+        jobs = max(1, idle - (len(ready) - at - 1)) if key[0] == "prove" else 1
+        running[pool.submit(left.pop(key)[1], jobs)] = key, jobs
+
+
+def main():
+    reader, words = read_words()
+    signal.signal(signal.SIGTERM, lambda *_: sys.exit(1))
+    started = time.monotonic()
+    trials = trials_of(words.names, max(1, words.batch))
+    lost = unknown(words.names, trials)
+    if lost:
+        reader.error(f"there is no crate with edits, and no edit, of the name {lost[0]}")
+    with tempfile.TemporaryDirectory(prefix="try-edits-") as room:
+        run = Run(trials, Checker(TOP, room, words.kept), words.jobs or processors())
+        for trial in trials:
+            run.tell(Outcome(name, False, f"BAD EDIT: {why}") for name, why in trial.bad)
+        try:
+            run_tasks(tasks_of(run), run.jobs, run.stop)
+        except Stopped as why:
+            run.say(f"stopped: {why}")
+            run.failed += 1
+    took = time.monotonic() - started
+    if run.little:
+        print("refused only since a proof names what is gone: " + " ".join(sorted(run.little)))
+    print(f"{took:.0f} s, {run.processor:.0f} processor seconds")
+    print(f"{run.passed} passed, {run.failed} failed")
+    return 1 if run.failed else 0
+
+
+if __name__ == "__main__":
+    sys.exit(main())
