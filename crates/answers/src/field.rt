@@ -1,45 +1,32 @@
 //! The fields of a line, read and written.
-ghost use Rattle.std.specs.Prelude.{Err, OnOk, string_bytes};
-ghost use Rattle.hex.specs.Hex.{encode_lower};
-ghost use Rattle.answers.specs.Fields.{bytes_field};
-ghost use Rattle.answers.specs.MailLines.{EndsInRefusal};
-ghost use Rattle.answers.specs.Outcomes.{Writes, WritesOutcome, WritesRefusal};
-ghost use Rattle.mailparse.specs.Outcome.{refusal_of};
 
-use crate::fault::LineFault;
+use hex::FromHexError;
 use mailparse::MailParseError;
 use std::alloc::{AllocError, Global};
 
-/// The bytes that a field writes.
-pub fn bytes_of(alloc: Global, field: Option<&str>) -> Result<Vec<u8>, LineFault> {
-    match field {
-        None | Some("") => Err(LineFault::Fields),
-        Some("-") => Ok(Vec::new(alloc)),
-        Some(digits) => Ok(hex::decode(alloc, digits)?),
-    }
-}
+/// A line that is none of a list: its call is unknown, or a field is absent or of another form.
+pub const FORM: MailParseError = MailParseError::Generic("not a line of a list");
 
-/// The text whose UTF-8 a field writes.
-pub fn text_of(alloc: Global, field: Option<&str>) -> Result<String, LineFault> {
-    let bytes = bytes_of(alloc, field)?;
-    match std::str::from_utf8(bytes.as_slice()) {
-        Ok(text) => Ok(String::from_str(alloc, text)?),
-        Err(_) => Err(LineFault::Fields),
+/// The bytes that a field writes.
+pub fn bytes_of(alloc: Global, field: &str) -> Result<Vec<u8>, MailParseError> {
+    if field == "-" {
+        return Ok(Vec::new(alloc));
+    }
+    match hex::decode(alloc, field) {
+        Ok(bytes) => Ok(bytes),
+        Err(FromHexError::OutOfMemory) => Err(MailParseError::Memory(AllocError)),
+        Err(_) => Err(FORM),
     }
 }
 
 /// Writes bytes in hexadecimal.
-pub fn push_digits(alloc: Global, line: &mut String, bytes: &[u8]) -> Result<(), AllocError>
-    ensures { Writes result line.old line.new (encode_lower bytes.now) }
-{
+pub fn push_digits(alloc: Global, line: &mut String, bytes: &[u8]) -> Result<(), AllocError> {
     let digits = hex::encode(alloc, bytes)?;
     line.push_str(digits.as_str())
 }
 
 /// Writes bytes in hexadecimal, a dash for none.
-pub fn push_bytes(alloc: Global, line: &mut String, bytes: &[u8]) -> Result<(), AllocError>
-    ensures { Writes result line.old line.new (bytes_field bytes.now) }
-{
+pub fn push_bytes(alloc: Global, line: &mut String, bytes: &[u8]) -> Result<(), AllocError> {
     if bytes.is_empty() {
         line.push_str("-")
     } else {
@@ -47,45 +34,29 @@ pub fn push_bytes(alloc: Global, line: &mut String, bytes: &[u8]) -> Result<(), 
     }
 }
 
-/// Writes what a call decoded or refused.
-pub fn push_outcome(
-    alloc: Global,
-    line: &mut String,
-    outcome: Result<Vec<u8>, MailParseError>,
-) -> Result<(), LineFault>
-    ensures { WritesOutcome outcome result line.old line.new }
-{
-    match outcome {
-        Ok(bytes) => {
-            line.push_str("d")?;
-            push_digits(alloc, line, bytes.as_slice())?;
-        }
-        Err(e) => push_refusal(alloc, line, e)?,
-    }
-    Ok(())
+/// Writes a text, a dash for an empty one.
+pub fn push_text(alloc: Global, line: &mut String, text: String) -> Result<(), AllocError> {
+    push_bytes(alloc, line, text.as_bytes())
 }
 
-/// Writes a refusal. Memory that ran out is none, nor is a fault of quoted-printable.
-pub fn push_refusal(alloc: Global, line: &mut String, e: MailParseError) -> Result<(), LineFault>
-    ensures written { WritesRefusal e result line.old line.new }
-    ensures outcome { WritesOutcome (Err e) result line.old line.new }
-    ensures refusal { OnOk result
-        (EndsInRefusal (refusal_of e) (string_bytes line.old) (string_bytes line.new)) }
-{
-    match e {
+/// Writes a refusal: `!` where bytes are not UTF-8, `e` and the Base64 group that is refused, or `g`
+/// and the text of the refusal. Memory that ran out is none.
+pub fn push_refusal(
+    alloc: Global,
+    line: &mut String,
+    refusal: MailParseError,
+) -> Result<(), MailParseError> {
+    match &refusal {
         MailParseError::Generic(text) => {
             line.push_str("g")?;
             push_digits(alloc, line, text.as_bytes())?;
-        }
-        MailParseError::EncodingError(text) => {
-            line.push_str("u")?;
-            push_digits(alloc, line, text.as_str().as_bytes())?;
         }
         MailParseError::Base64DecodeError(fault) => {
             let group = fault.group;
             write!(line, "e{group}")?;
         }
-        e => return Err(LineFault::from(e)),
+        MailParseError::EncodingError(_) => line.push_str("!")?,
+        _ => return Err(refusal),
     }
     Ok(())
 }

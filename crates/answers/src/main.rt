@@ -1,7 +1,7 @@
 //! Replays lists of answers on standard input, and says how many agree and which do not: the first
 //! word of a line names a call of the library, the next ones are what it is asked, and the last
-//! ones what it answers. Bytes, and texts as their UTF-8, are in hexadecimal, `-` for none; each
-//! module named after a call says what its lines hold.
+//! ones what it returns. Bytes, and texts as their UTF-8, are in hexadecimal, `-` for none; the
+//! function named after a call says what its lines hold.
 //!
 //! With the argument `again` a line for which memory ran out is tried again, as long as that may
 //! help: whoever refuses memory now and then sees that the answers stay the same.
@@ -12,21 +12,14 @@
 #![tactic(auto)]
 
 mod body;
-mod ctype;
-mod date;
-mod dispo;
-mod fault;
 mod field;
-mod judge;
 mod mail;
-mod msgid;
-mod params;
 mod replay;
-mod value;
+mod text;
 
 use replay::replay;
 use std::env;
-use std::io::{self, BufReader};
+use std::io::Read;
 use std::process::ExitCode;
 
 /// How often a line is tried again with `again`.
@@ -35,24 +28,33 @@ const TIMES: u32 = 1000;
 fn main(rt: HostRuntime) -> ExitCode {
     let times = match env::args(&rt).map(|mut words| words.nth(1)) {
         Ok(Some(word)) if word.as_str() == "again" => TIMES,
-        Ok(_) => 0,
+        Ok(_words) => 0,
         Err(fault) => {
             let _ = eprintln!(rt; "answers: {fault}");
             return ExitCode::FAILURE;
         }
     };
-    let reader = match BufReader::new(rt.alloc(), rt.reader()) {
-        Ok(reader) => reader,
-        Err(fault) => {
-            let _ = eprintln!(rt; "answers: {fault}");
-            return ExitCode::FAILURE;
-        }
+    let mut list = Vec::new(rt.alloc());
+    if let Err(fault) = rt.reader().read_to_end(&mut list) {
+        let _ = eprintln!(rt; "answers: {fault}");
+        return ExitCode::FAILURE;
+    }
+    let Ok(list) = std::str::from_utf8(list.as_slice()) else {
+        let _ = eprintln!(rt; "answers: the list is not UTF-8");
+        return ExitCode::FAILURE;
     };
-    match replay(rt.alloc(), reader, &mut io::writer(&rt), times) {
-        Ok(true) => ExitCode::SUCCESS,
-        Ok(false) => ExitCode::FAILURE,
-        Err(fault) => {
-            let _ = eprintln!(rt; "answers: {fault}");
+    match replay(rt.alloc(), list, times) {
+        Ok(tally) => {
+            let (lines, agreed) = (tally.lines, tally.agreed);
+            let written = println!(rt; "{}{agreed} of {lines} answers agree", tally.differences);
+            if written.is_ok() && agreed == lines {
+                ExitCode::SUCCESS
+            } else {
+                ExitCode::FAILURE
+            }
+        }
+        Err(_) => {
+            let _ = eprintln!(rt; "answers: out of memory");
             ExitCode::FAILURE
         }
     }

@@ -1,80 +1,83 @@
 //! A replay of a list.
 
-ghost use Rattle.std.specs.Prelude.{IfOk, IfSome, IsTrue};
-ghost use Rattle.answers.specs.Holds.{Holds, ListHolds};
+use crate::field::FORM;
+use crate::{body, mail, text};
+use mailparse::MailParseError;
+use std::alloc::{AllocError, Global};
 
-use crate::fault::LineFault;
-use crate::judge::{Verdict, judge_again};
-use std::alloc::Global;
-use std::io::{self, BufRead, Write};
-use thiserror::Error;
-
-/// Why a list was not replayed to its end.
-#[derive(Debug, Drop, Error)]
-pub enum ReplayFault {
-    /// A read or a write failed, or memory ran out for the next line.
-    #[error("{0}")]
-    Io(io::Error),
-    /// The line of this number, from 1, tells nothing.
-    #[error("line {0}: {1}")]
-    Line(u64, LineFault),
+/// What came of a replay.
+#[derive(Drop)]
+pub struct Tally {
+    /// How many lines the list has.
+    pub lines: u64,
+    /// How many of them agree with what the library returns.
+    pub agreed: u64,
+    /// The lines that differ, with what the library returns.
+    pub differences: String,
 }
 
-impl From<io::Error> for ReplayFault {
-    fn from(e: io::Error) -> ReplayFault {
-        ReplayFault::Io(e)
-    }
-}
-
-/// Compares each line of the list with what the library gives, writes which lines differ and how
-/// many agree, and tells whether all do: then the list holds, each line of it being what the
-/// library's definitions give. A line for which memory ran out is tried again, so many times at
-/// most.
-pub fn replay<R: BufRead + Drop, W: Write>(
-    alloc: Global,
-    reader: R,
-    writer: &mut W,
-    times: u32,
-) -> Result<bool, ReplayFault>
-    ensures { IfOk result (λ all. IsTrue all → IfSome (R.remaining reader) ListHolds) }
-{
-    let mut all_agree = true;
-    let mut lines = 0u64;
-    let mut agreed = 0u64;
-    for line in reader.lines(alloc) {
-        let line = line?;
-        lines = lines.saturating_add(1);
-        let agrees = replay_line(alloc, line.as_str(), lines, writer, times)?;
-        agreed = agreed.saturating_add(u64::from(agrees));
-        all_agree = all_agree && agrees;
-    }
-    write!(writer, "{agreed} of {lines} answers agree\n")?;
-    Ok(all_agree)
-}
-
-/// Compares the line of this number, writes where it differs, and tells whether it agrees: then it
-/// holds.
-fn replay_line<W: Write>(
-    alloc: Global,
-    line: &str,
-    number: u64,
-    writer: &mut W,
-    times: u32,
-) -> Result<bool, ReplayFault>
-    ensures { IfOk result (λ agrees. IsTrue agrees → Holds line.now) }
-{
-    let verdict = match judge_again(alloc, line, times) {
-        Ok(verdict) => verdict,
-        Err(fault) => return Err(ReplayFault::Line(number, fault)),
+/// Compares each line of the list with what the library returns. A line for which memory ran out is
+/// tried again, so many times at most.
+pub fn replay(alloc: Global, list: &str, times: u32) -> Result<Tally, AllocError> {
+    let mut tally = Tally {
+        lines: 0,
+        agreed: 0,
+        differences: String::new(alloc),
     };
-    match verdict {
-        Verdict::Agrees => Ok(true),
-        Verdict::Differs(found) => {
-            write!(
-                writer,
-                "line {number}: wants {line}\nline {number}: finds {found}\n"
-            )?;
-            Ok(false)
+    for line in list.lines() {
+        tally.compare_again(alloc, line, times)?;
+    }
+    Ok(tally)
+}
+
+impl Tally {
+    /// Compares the next line with what the library returns, again so many times at most where
+    /// memory ran out.
+    fn compare_again(&mut self, alloc: Global, line: &str, times: u32) -> Result<(), AllocError> {
+        self.lines = self.lines.saturating_add(1);
+        for _turn in 0..times {
+            if self.compare(alloc, line).is_ok() {
+                return Ok(());
+            }
         }
+        self.compare(alloc, line)
+    }
+
+    /// Compares a line with what the library returns. Nothing is counted where memory ran out.
+    fn compare(&mut self, alloc: Global, line: &str) -> Result<(), AllocError> {
+        let number = self.lines;
+        let difference = match difference(alloc, line) {
+            Ok(None) => String::new(alloc),
+            Ok(Some(found)) => format!(in alloc;
+                "line {number}: wants {line}\nline {number}: finds {found}\n"
+            )?,
+            Err(MailParseError::Memory(e)) => return Err(e),
+            Err(fault) => format!(in alloc;
+                "line {number}: wants {line}\nline {number}: {fault}\n"
+            )?,
+        };
+        self.differences.push_str(difference.as_str())?;
+        self.agreed = self.agreed.saturating_add(u64::from(difference.is_empty()));
+        Ok(())
+    }
+}
+
+/// What the library returns where a line says otherwise.
+fn difference(alloc: Global, line: &str) -> Result<Option<String>, MailParseError> {
+    let Some((call, fields)) = line.split_once(' ') else {
+        return Err(FORM);
+    };
+    let Some((asked, wanted)) = fields.split_once(' ') else {
+        return Err(FORM);
+    };
+    let found = match call {
+        "body" => body::answer(alloc, asked, wanted)?,
+        "mail" => mail::answer(alloc, asked)?,
+        _ => text::answer(alloc, call, asked)?,
+    };
+    if found.as_str() == wanted {
+        Ok(None)
+    } else {
+        Ok(Some(found))
     }
 }
