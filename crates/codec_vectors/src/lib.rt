@@ -1,15 +1,27 @@
 //! Tests of `mail_codec` on its public calls, and of the letters of the engine that it decodes
-//! with, with answers from outside: published test vectors, the tables of the standards, and texts
-//! that other programs gave.
+//! with. The expected values come from outside: published test vectors, the tables of the
+//! standards, and texts that other programs gave.
 #![tactic(auto)]
 
 #[cfg(test)]
-mod charsets;
+mod base64_texts;
+#[cfg(test)]
+mod byte_order_marks;
+#[cfg(test)]
+mod labels;
+#[cfg(test)]
+mod long_base64;
+#[cfg(test)]
+mod quoted_printable;
 #[cfg(test)]
 mod searches;
 #[cfg(test)]
+mod single_byte;
+#[cfg(test)]
 mod texts;
 #[cfg(test)]
-mod transfer;
+mod utf_16;
 #[cfg(test)]
-mod words;
+mod utf_8;
+#[cfg(test)]
+mod word_edges;

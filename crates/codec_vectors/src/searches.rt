@@ -1,34 +1,86 @@
 //! Searches in bytes.
-use crate::texts::{repeated, repeated_and};
+use crate::texts::{ByteCase, Bytes, Case, all_bytes, assert_bytes, cases, repeated, repeated_and};
 use mail_codec::bytescan::{find, find_byte, strip_ascii_whitespace};
 use std::alloc::{AllocError, Global};
 use std::test::Fail;
 
-/// How many times the first byte comes, what follows, and where `:` is.
-type ByteRow = (&'static [u8], usize, &'static [u8], Option<usize>);
+/// A byte that comes so many times, what follows, and the place of the first `:`.
+#[derive(Debug)]
+struct ByteRow {
+    byte: &'static [u8],
+    times: usize,
+    rest: &'static [u8],
+    place: Option<usize>,
+}
 
 static BYTES: [ByteRow; 10] = [
-    (b"a", 60, b";:;;", Some(61)),
-    (b"a", 64, b"", None),
-    (b";", 63, b":", Some(63)),
-    (b";", 64, b":", Some(64)),
-    (b";", 0, b"", None),
-    (b";", 0, b":", Some(0)),
-    (b";", 0, b"a::", Some(1)),
-    (b"\xBA", 70, b"\xBA:", Some(71)),
-    (b"\0", 9, b":", Some(9)),
-    (b"9", 200, b";", None),
+    ByteRow {
+        byte: b"a",
+        times: 60,
+        rest: b";:;;",
+        place: Some(61),
+    },
+    ByteRow {
+        byte: b"a",
+        times: 64,
+        rest: b"",
+        place: None,
+    },
+    ByteRow {
+        byte: b";",
+        times: 63,
+        rest: b":",
+        place: Some(63),
+    },
+    ByteRow {
+        byte: b";",
+        times: 64,
+        rest: b":",
+        place: Some(64),
+    },
+    ByteRow {
+        byte: b";",
+        times: 0,
+        rest: b"",
+        place: None,
+    },
+    ByteRow {
+        byte: b";",
+        times: 0,
+        rest: b":",
+        place: Some(0),
+    },
+    ByteRow {
+        byte: b";",
+        times: 0,
+        rest: b"a::",
+        place: Some(1),
+    },
+    ByteRow {
+        byte: b"\xBA",
+        times: 70,
+        rest: b"\xBA:",
+        place: Some(71),
+    },
+    ByteRow {
+        byte: b"\0",
+        times: 9,
+        rest: b":",
+        place: Some(9),
+    },
+    ByteRow {
+        byte: b"9",
+        times: 200,
+        rest: b";",
+        place: None,
+    },
 ];
 
 #[test]
-fn a_byte(rt: HostRuntime) -> Result<(), Fail> {
-    for (first, times, rest, place) in &BYTES {
-        let bytes = repeated_and(rt.alloc(), first, *times, rest)?;
-        assert_eq!(rt;
-            find_byte(bytes.as_slice(), b':'),
-            *place,
-            "{times} times {first:?}"
-        );
+fn the_first_place_of_a_byte(rt: HostRuntime) -> Result<(), Fail> {
+    for row in &BYTES {
+        let bytes = repeated_and(rt.alloc(), row.byte, row.times, row.rest)?;
+        assert_eq!(rt; find_byte(bytes.as_slice(), b':'), row.place, "{row:?}");
     }
     Ok(())
 }
@@ -63,84 +115,152 @@ fn a_byte_at_each_place(rt: HostRuntime) -> Result<(), Fail> {
 
 #[test]
 fn each_byte_among_all(rt: HostRuntime) {
-    let mut bytes = [0u8; 256];
-    for byte in 0..=255u8 {
-        bytes[byte as usize] = byte;
-    }
+    let bytes = all_bytes();
     for byte in 0..=255u8 {
         assert_eq!(rt; find_byte(&bytes, byte), Some(byte as usize));
     }
 }
 
-/// Bytes, a text, and where it is in them.
-static FOUND: [(&[u8], &[u8], Option<usize>); 14] = [
-    (b"hello world", b"", None),
-    (b"", b"", None),
-    (b"", b"a", None),
-    (b"hello world", b"o", Some(4)),
-    (b" world", b"o", Some(2)),
-    (b"rld", b"o", None),
-    (b"hello world", b"o w", Some(4)),
-    (b"hello world", b"world", Some(6)),
-    (b"hello world", b"worlds", None),
-    (b"hello world", b"hello world", Some(0)),
-    (b"hello", b"hello world", None),
-    (b"aaab", b"aab", Some(1)),
-    (b"--a--b", b"--b", Some(3)),
-    (b"\xFF\xFE\xFF\xFD", b"\xFF\xFD", Some(2)),
+/// Bytes, a text, and the place of the text in them.
+struct TextRow {
+    bytes: &'static [u8],
+    text: &'static [u8],
+    place: Option<usize>,
+}
+
+static TEXTS: [TextRow; 14] = [
+    TextRow {
+        bytes: b"hello world",
+        text: b"",
+        place: None,
+    },
+    TextRow {
+        bytes: b"",
+        text: b"",
+        place: None,
+    },
+    TextRow {
+        bytes: b"",
+        text: b"a",
+        place: None,
+    },
+    TextRow {
+        bytes: b"hello world",
+        text: b"o",
+        place: Some(4),
+    },
+    TextRow {
+        bytes: b" world",
+        text: b"o",
+        place: Some(2),
+    },
+    TextRow {
+        bytes: b"rld",
+        text: b"o",
+        place: None,
+    },
+    TextRow {
+        bytes: b"hello world",
+        text: b"o w",
+        place: Some(4),
+    },
+    TextRow {
+        bytes: b"hello world",
+        text: b"world",
+        place: Some(6),
+    },
+    TextRow {
+        bytes: b"hello world",
+        text: b"worlds",
+        place: None,
+    },
+    TextRow {
+        bytes: b"hello world",
+        text: b"hello world",
+        place: Some(0),
+    },
+    TextRow {
+        bytes: b"hello",
+        text: b"hello world",
+        place: None,
+    },
+    TextRow {
+        bytes: b"aaab",
+        text: b"aab",
+        place: Some(1),
+    },
+    TextRow {
+        bytes: b"--a--b",
+        text: b"--b",
+        place: Some(3),
+    },
+    TextRow {
+        bytes: b"\xFF\xFE\xFF\xFD",
+        text: b"\xFF\xFD",
+        place: Some(2),
+    },
 ];
 
 #[test]
-fn a_text(rt: HostRuntime) {
-    for row in &FOUND {
-        assert_eq!(rt; find(row.0, row.1), row.2, "{row:?}");
+fn the_first_place_of_a_text(rt: HostRuntime) {
+    for row in &TEXTS {
+        let place = find(row.bytes, row.text);
+        assert_eq!(rt;
+            place,
+            row.place,
+            "{:?} in {:?}",
+            Bytes(row.text),
+            Bytes(row.bytes)
+        );
     }
 }
 
-/// Whether these bytes stay where the white goes.
-fn is_kept(alloc: Global, bytes: &[u8], kept: &[u8]) -> Result<bool, AllocError> {
-    let answer = strip_ascii_whitespace(alloc, bytes)?;
-    Ok(answer.as_slice() == kept)
-}
-
-/// Bytes, and those that stay.
-static KEPT: [(&[u8], &[u8]); 6] = [
-    (b"a \x0Bb\tc\r\n", b"a\x0Bbc"),
-    (b" !!!!!!!", b"!!!!!!!"),
-    (b"", b""),
-    (b" \t\n\x0C\r", b""),
-    (b"\x0B\x85\xA0", b"\x0B\x85\xA0"),
-    (b"\xC2\xA0 \xE2\x80\x83", b"\xC2\xA0\xE2\x80\x83"),
-];
+/// Bytes, and those of them that are not whitespace.
+static STRIPPED: [ByteCase; 6] = cases! {
+    b"a \x0Bb\tc\r\n" => b"a\x0Bbc",
+    b" !!!!!!!" => b"!!!!!!!",
+    b"" => b"",
+    b" \t\n\x0C\r" => b"",
+    b"\x0B\x85\xA0" => b"\x0B\x85\xA0",
+    b"\xC2\xA0 \xE2\x80\x83" => b"\xC2\xA0\xE2\x80\x83",
+};
 
 #[test]
-fn without_white(rt: HostRuntime) -> Result<(), Fail> {
-    for row in &KEPT {
-        let kept = strip_ascii_whitespace(rt.alloc(), row.0)?;
-        assert_eq!(rt; kept.as_slice(), row.1, "{row:?}");
-    }
-    Ok(())
+fn bytes_without_whitespace(rt: HostRuntime) -> Result<(), Fail> {
+    Ok(assert_bytes(&rt, rt.alloc(), &STRIPPED, |alloc, bytes| {
+        strip_ascii_whitespace(alloc, bytes)
+    })?)
 }
 
 #[test]
-fn each_byte_white_or_not(rt: HostRuntime) -> Result<(), Fail> {
+fn each_byte_is_whitespace_or_stays(rt: HostRuntime) -> Result<(), Fail> {
     for byte in 0..=255u8 {
         let bytes = [b'a', byte, b'b'];
-        let is_white = byte == 9 || byte == 10 || byte == 12 || byte == 13 || byte == 32;
-        let kept = if is_white { b"ab" } else { bytes.as_slice() };
-        let found = strip_ascii_whitespace(rt.alloc(), &bytes)?;
-        assert_eq!(rt; found.as_slice(), kept, "{byte}");
+        let is_whitespace = byte == 9 || byte == 10 || byte == 12 || byte == 13 || byte == 32;
+        let expected = if is_whitespace {
+            b"ab"
+        } else {
+            bytes.as_slice()
+        };
+        let stripped = strip_ascii_whitespace(rt.alloc(), &bytes)?;
+        assert_eq!(rt; stripped.as_slice(), expected, "{byte}");
     }
     Ok(())
+}
+
+/// Whether these bytes are left where the whitespace goes.
+fn is_stripped(alloc: Global, bytes: &[u8], expected: &[u8]) -> Result<bool, AllocError> {
+    let stripped = strip_ascii_whitespace(alloc, bytes)?;
+    Ok(stripped.as_slice() == expected)
 }
 
 /// The first place of so many bytes where a space does not go, or another byte does.
 fn first_misread(alloc: Global, length: usize) -> Result<Option<usize>, AllocError> {
     let mut bytes = repeated(alloc, b"!", length)?;
-    let kept = repeated(alloc, b"!", length.saturating_sub(1))?;
+    let others = repeated(alloc, b"!", length.saturating_sub(1))?;
     for place in 0..bytes.len() {
         bytes[place] = b' ';
-        if !is_kept(alloc, bytes.as_slice(), kept.as_slice())? {
+        if !is_stripped(alloc, bytes.as_slice(), others.as_slice())? {
             return Ok(Some(place));
         }
         bytes[place] = b'!';

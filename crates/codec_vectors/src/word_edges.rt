@@ -18,14 +18,20 @@ fn is_found_among(byte: u8, filler: u8) -> bool {
     find_byte(&bytes, byte).is_none()
 }
 
+/// The first byte among whose repeats this one is not found.
+fn first_filler_missed(byte: u8) -> Option<u8> {
+    for filler in 0..=255u8 {
+        if byte != filler && !is_found_among(byte, filler) {
+            return Some(filler);
+        }
+    }
+    None
+}
+
 #[test]
 fn each_byte_among_each_other(rt: HostRuntime) {
     for byte in 0..=255u8 {
-        for filler in 0..=255u8 {
-            if byte != filler {
-                assert!(rt; is_found_among(byte, filler), "{byte} among {filler}");
-            }
-        }
+        assert_eq!(rt; first_filler_missed(byte), None, "{byte}");
     }
 }
 
@@ -44,14 +50,20 @@ fn is_found_between(byte: u8, beside: u8) -> bool {
     true
 }
 
+/// The first of the bytes that a borrow could mark between two of which this one is not found.
+fn first_neighbour_missed(byte: u8) -> Option<u8> {
+    for beside in [0x00u8, 0x7F, 0x80, 0xFF, byte ^ 1, byte ^ 0x80] {
+        if byte != beside && !is_found_between(byte, beside) {
+            return Some(beside);
+        }
+    }
+    None
+}
+
 #[test]
 fn each_byte_beside_bytes_that_borrow(rt: HostRuntime) {
     for byte in 0..=255u8 {
-        for beside in [0x00u8, 0x7F, 0x80, 0xFF, byte ^ 1, byte ^ 0x80] {
-            if byte != beside {
-                assert!(rt; is_found_between(byte, beside), "{byte} beside {beside}");
-            }
-        }
+        assert_eq!(rt; first_neighbour_missed(byte), None, "{byte}");
     }
 }
 
@@ -76,8 +88,8 @@ fn a_byte_from_each_start(rt: HostRuntime) -> Result<(), Fail> {
     Ok(())
 }
 
-/// The first place at which a byte among `!` is not dropped where it is white, or not kept where it
-/// is not. `!` is the least byte above space, and the one that a borrow marks falsely.
+/// The first place at which a byte among `!` is not dropped where it is whitespace, or not kept
+/// where it is not. `!` is the least byte above space, and the one that a borrow marks falsely.
 fn first_misread(alloc: Global, byte: u8) -> Result<Option<usize>, AllocError> {
     let mut bytes = repeated(alloc, b"!", 80)?;
     let others = repeated(alloc, b"!", 79)?;
@@ -105,17 +117,19 @@ fn each_low_byte_at_each_place(rt: HostRuntime) -> Result<(), Fail> {
     Ok(())
 }
 
+/// Whether whitespace so many times goes, and another low byte so many times stays.
+fn are_runs_read(alloc: Global, length: usize) -> Result<bool, AllocError> {
+    let whitespace = repeated(alloc, b"\r\n", length)?;
+    let low = repeated(alloc, b"\x0B", length)?;
+    let stripped = strip_ascii_whitespace(alloc, whitespace.as_slice())?;
+    let kept = strip_ascii_whitespace(alloc, low.as_slice())?;
+    Ok(stripped.is_empty() && kept.as_slice() == low.as_slice())
+}
+
 #[test]
-fn only_white_and_only_low_bytes(rt: HostRuntime) -> Result<(), Fail> {
+fn only_whitespace_and_only_other_low_bytes(rt: HostRuntime) -> Result<(), Fail> {
     for length in 0..=140usize {
-        let white = repeated(rt.alloc(), b"\r\n", length)?;
-        assert!(rt;
-            strip_ascii_whitespace(rt.alloc(), white.as_slice())?.is_empty(),
-            "{length}"
-        );
-        let low = repeated(rt.alloc(), b"\x0B", length)?;
-        let kept = strip_ascii_whitespace(rt.alloc(), low.as_slice())?;
-        assert_eq!(rt; kept.as_slice(), low.as_slice(), "{length}");
+        assert!(rt; are_runs_read(rt.alloc(), length)?, "{length}");
     }
     Ok(())
 }
