@@ -1,5 +1,5 @@
 //! Bodies by their transfer coding and their charset.
-use crate::texts::repeated;
+use crate::texts::{Bytes, Case, cases, repeated, shown_error};
 use mailparse::body::Body;
 use mailparse::{MailParseError, ParsedContentType};
 use std::alloc::{AllocError, Global};
@@ -32,7 +32,7 @@ fn kind_of(body: &Body<'_>) -> &'static str {
 }
 
 /// The bytes that a body stands for.
-fn bytes_of(alloc: Global, body: &Body<'_>) -> Result<Vec<u8>, MailParseError> {
+fn decoded_bytes(alloc: Global, body: &Body<'_>) -> Result<Vec<u8>, MailParseError> {
     match body {
         Body::Base64(encoded) | Body::QuotedPrintable(encoded) => encoded.get_decoded(alloc),
         Body::SevenBit(text) | Body::EightBit(text) => Ok(text.get_raw().to_vec(alloc)?),
@@ -41,7 +41,7 @@ fn bytes_of(alloc: Global, body: &Body<'_>) -> Result<Vec<u8>, MailParseError> {
 }
 
 /// The text of a body.
-fn text_of(alloc: Global, body: &Body<'_>) -> Result<String, MailParseError> {
+fn decoded_text(alloc: Global, body: &Body<'_>) -> Result<String, MailParseError> {
     match body {
         Body::Base64(encoded) | Body::QuotedPrintable(encoded) => {
             encoded.get_decoded_as_string(alloc)
@@ -51,8 +51,8 @@ fn text_of(alloc: Global, body: &Body<'_>) -> Result<String, MailParseError> {
     }
 }
 
-/// The bytes of a body as they stand.
-fn raw_of<'a>(body: &Body<'a>) -> &'a [u8] {
+/// The bytes of a body as they stand in the message.
+pub fn raw_bytes<'a>(body: &Body<'a>) -> &'a [u8] {
     match body {
         Body::Base64(encoded) | Body::QuotedPrintable(encoded) => encoded.get_raw(),
         Body::SevenBit(text) | Body::EightBit(text) => text.get_raw(),
@@ -61,7 +61,7 @@ fn raw_of<'a>(body: &Body<'a>) -> &'a [u8] {
 }
 
 /// The label of a body's charset.
-fn label_of<'a>(body: &Body<'a>) -> &'a str {
+fn charset_label<'a>(body: &Body<'a>) -> &'a str {
     match body {
         Body::Base64(encoded) | Body::QuotedPrintable(encoded) => {
             encoded.get_content_type().charset.as_str()
@@ -71,163 +71,363 @@ fn label_of<'a>(body: &Body<'a>) -> &'a str {
     }
 }
 
-/// The name of a transfer coding (none where it is empty), and the kind.
-static KINDS: [(&str, &str); 15] = [
-    ("base64", "base64"),
-    ("quoted-printable", "quoted-printable"),
-    ("7bit", "7bit"),
-    ("8bit", "8bit"),
-    ("binary", "binary"),
-    ("", "7bit"),
-    ("BASE64", "7bit"),
-    ("Base64", "7bit"),
-    ("base64 ", "7bit"),
-    (" base64", "7bit"),
-    ("Quoted-Printable", "7bit"),
-    ("quoted printable", "7bit"),
-    ("8BIT", "7bit"),
-    ("Binary", "7bit"),
-    ("x-uuencode", "7bit"),
-];
+/// The name of a transfer coding (none where it is empty), and the kind of the body.
+static KINDS: [Case<&str, &str>; 15] = cases! {
+    "base64" => "base64",
+    "quoted-printable" => "quoted-printable",
+    "7bit" => "7bit",
+    "8bit" => "8bit",
+    "binary" => "binary",
+    "" => "7bit",
+    "BASE64" => "7bit",
+    "Base64" => "7bit",
+    "base64 " => "7bit",
+    " base64" => "7bit",
+    "Quoted-Printable" => "7bit",
+    "quoted printable" => "7bit",
+    "8BIT" => "7bit",
+    "Binary" => "7bit",
+    "x-uuencode" => "7bit",
+};
 
 #[test]
-fn the_kind_by_the_name_to_the_byte(rt: HostRuntime) -> Result<(), Fail> {
+fn a_body_has_the_kind_that_is_named_to_the_byte(rt: HostRuntime) -> Result<(), Fail> {
     let ctype = type_with(rt.alloc(), "X-Label")?;
-    for row in &KINDS {
-        let encoding = coding(rt.alloc(), row.0)?;
+    for case in &KINDS {
+        let encoding = coding(rt.alloc(), case.input)?;
         let body = Body::new(b"aG k=", &ctype, &encoding);
-        assert_eq!(rt; kind_of(&body), row.1, "{row:?}");
-        assert_eq!(rt; raw_of(&body), b"aG k=".as_slice(), "{row:?}");
-        assert_eq!(rt; label_of(&body), "X-Label", "{row:?}");
+        assert_eq!(rt; kind_of(&body), case.expected, "{case:?}");
+        assert_eq!(rt; raw_bytes(&body), b"aG k=".as_slice(), "{case:?}");
+        assert_eq!(rt; charset_label(&body), "X-Label", "{case:?}");
     }
     let empty = Some(String::new(rt.alloc()));
-    assert_eq!(rt;
-        kind_of(&Body::new(b"x", &ctype, &empty)),
-        "7bit",
-        "the empty name"
-    );
+    let body = Body::new(b"x", &ctype, &empty);
+    assert_eq!(rt; kind_of(&body), "7bit", "the empty name");
     Ok(())
 }
 
-/// The transfer coding, the body, and the bytes that it stands for.
-type BytesRow = (&'static str, &'static [u8], &'static [u8]);
+/// The name of a transfer coding, a body, and the bytes that it stands for.
+struct DecodedBytes {
+    coding: &'static str,
+    raw: &'static [u8],
+    decoded: &'static [u8],
+}
 
-static BYTES: [BytesRow; 18] = [
-    ("base64", b"", b""),
-    ("base64", b"aGVsbG 8gd\r\n29ybGQ=", b"hello world"),
-    ("base64", b"aGk=aGk=", b"hihi"),
-    ("base64", b"aGl=", b"hi"),
-    ("base64", b"aG k=", b"hi"),
-    ("base64", b" \t\n\x0C\raGk=\x0C", b"hi"),
-    ("base64", b" \r\n", b""),
-    ("quoted-printable", b"", b""),
-    (
-        "quoted-printable",
-        b"a =\r\nb=C3=A9=zz \nc=",
-        b"a b\xC3\xA9=zz\nc",
-    ),
-    ("quoted-printable", b"a= \r\nb", b"ab"),
-    ("quoted-printable", b"a==\nb", b"a=b"),
-    ("quoted-printable", b"=3d=C3=A", b"=\xC3=A"),
-    ("quoted-printable", b"a=\rb", b"a=\rb"),
-    ("7bit", b"a=3D \r\n", b"a=3D \r\n"),
-    ("8bit", b"\xFF\0", b"\xFF\0"),
-    ("binary", b"\r\n=\r\n", b"\r\n=\r\n"),
-    ("BASE64", b"aGk=", b"aGk="),
-    ("", b"aGk=", b"aGk="),
+static DECODED_BYTES: [DecodedBytes; 18] = [
+    DecodedBytes {
+        coding: "base64",
+        raw: b"",
+        decoded: b"",
+    },
+    DecodedBytes {
+        coding: "base64",
+        raw: b"aGVsbG 8gd\r\n29ybGQ=",
+        decoded: b"hello world",
+    },
+    DecodedBytes {
+        coding: "base64",
+        raw: b"aGk=aGk=",
+        decoded: b"hihi",
+    },
+    DecodedBytes {
+        coding: "base64",
+        raw: b"aGl=",
+        decoded: b"hi",
+    },
+    DecodedBytes {
+        coding: "base64",
+        raw: b"aG k=",
+        decoded: b"hi",
+    },
+    DecodedBytes {
+        coding: "base64",
+        raw: b" \t\n\x0C\raGk=\x0C",
+        decoded: b"hi",
+    },
+    DecodedBytes {
+        coding: "base64",
+        raw: b" \r\n",
+        decoded: b"",
+    },
+    DecodedBytes {
+        coding: "quoted-printable",
+        raw: b"",
+        decoded: b"",
+    },
+    DecodedBytes {
+        coding: "quoted-printable",
+        raw: b"a =\r\nb=C3=A9=zz \nc=",
+        decoded: b"a b\xC3\xA9=zz\nc",
+    },
+    DecodedBytes {
+        coding: "quoted-printable",
+        raw: b"a= \r\nb",
+        decoded: b"ab",
+    },
+    DecodedBytes {
+        coding: "quoted-printable",
+        raw: b"a==\nb",
+        decoded: b"a=b",
+    },
+    DecodedBytes {
+        coding: "quoted-printable",
+        raw: b"=3d=C3=A",
+        decoded: b"=\xC3=A",
+    },
+    DecodedBytes {
+        coding: "quoted-printable",
+        raw: b"a=\rb",
+        decoded: b"a=\rb",
+    },
+    DecodedBytes {
+        coding: "7bit",
+        raw: b"a=3D \r\n",
+        decoded: b"a=3D \r\n",
+    },
+    DecodedBytes {
+        coding: "8bit",
+        raw: b"\xFF\0",
+        decoded: b"\xFF\0",
+    },
+    DecodedBytes {
+        coding: "binary",
+        raw: b"\r\n=\r\n",
+        decoded: b"\r\n=\r\n",
+    },
+    DecodedBytes {
+        coding: "BASE64",
+        raw: b"aGk=",
+        decoded: b"aGk=",
+    },
+    DecodedBytes {
+        coding: "",
+        raw: b"aGk=",
+        decoded: b"aGk=",
+    },
 ];
 
-/// The bytes that the body of such a row stands for.
-fn bytes_of_row(alloc: Global, (name, raw, _): &BytesRow) -> Result<Vec<u8>, MailParseError> {
+/// The bytes that a body stands for under the name of a transfer coding.
+fn bytes_under(alloc: Global, name: &str, raw: &[u8]) -> Result<Vec<u8>, MailParseError> {
     let ctype = ParsedContentType::default(alloc)?;
     let encoding = coding(alloc, name)?;
-    bytes_of(alloc, &Body::new(raw, &ctype, &encoding))
+    decoded_bytes(alloc, &Body::new(raw, &ctype, &encoding))
 }
 
 #[test]
-fn decoded_bytes(rt: HostRuntime) -> Result<(), Fail> {
-    for row in &BYTES {
-        assert_eq!(rt; bytes_of_row(rt.alloc(), row)?.as_slice(), row.2, "{row:?}");
+fn bodies_are_decoded_to_bytes(rt: HostRuntime) -> Result<(), Fail> {
+    for row in &DECODED_BYTES {
+        let decoded = bytes_under(rt.alloc(), row.coding, row.raw)?;
+        assert_eq!(rt;
+            Bytes(decoded.as_slice()),
+            Bytes(row.decoded),
+            "{} {:?}",
+            row.coding,
+            Bytes(row.raw)
+        );
     }
     Ok(())
 }
 
 /// A body, and the number of its first group that is none.
-static NO_BASE64: [(&[u8], usize); 6] = [
-    (b"aGk", 0),
-    (b"aG\x0Bk=", 0),
-    (b"aGk=a", 1),
-    (b"aGVs=Gk=", 1),
-    (b"aGk= \r\n !", 1),
-    (b"aG\xA0k=", 0),
-];
+static INVALID_GROUPS: [Case<&[u8], usize>; 6] = cases! {
+    b"aGk" => 0,
+    b"aG\x0Bk=" => 0,
+    b"aGk=a" => 1,
+    b"aGVs=Gk=" => 1,
+    b"aGk= \r\n !" => 1,
+    b"aG\xA0k=" => 0,
+};
 
-/// The text of a refusal, or `read`.
-fn shown_refusal<T: Drop>(
-    alloc: Global,
-    answer: Result<T, MailParseError>,
-) -> Result<String, AllocError> {
-    match answer {
-        Err(error) => format!(in alloc; "{error}"),
-        Ok(_) => String::from_str(alloc, "read"),
-    }
+/// The errors of a body in Base64 that is read as bytes and as a text.
+fn base64_errors(alloc: Global, raw: &[u8]) -> Result<[String; 2], MailParseError> {
+    let ctype = ParsedContentType::default(alloc)?;
+    let encoding = coding(alloc, "base64")?;
+    let body = Body::new(raw, &ctype, &encoding);
+    let of_bytes = shown_error(alloc, decoded_bytes(alloc, &body))?;
+    let of_text = shown_error(alloc, decoded_text(alloc, &body))?;
+    Ok([of_bytes, of_text])
 }
 
 #[test]
-fn bodies_in_no_base64(rt: HostRuntime) -> Result<(), Fail> {
-    let alloc = rt.alloc();
-    let ctype = ParsedContentType::default(alloc)?;
-    let encoding = coding(alloc, "base64")?;
-    for row in &NO_BASE64 {
-        let group = row.1;
-        let wanted = format!(in alloc; "Base64 decode error: group {group} is no Base64 group")?;
-        let body = Body::new(row.0, &ctype, &encoding);
-        let bytes = shown_refusal(alloc, bytes_of(alloc, &body))?;
-        assert_eq!(rt; bytes.as_str(), wanted.as_str(), "{row:?}");
-        let text = shown_refusal(alloc, text_of(alloc, &body))?;
-        assert_eq!(rt; text.as_str(), wanted.as_str(), "{row:?}");
+fn base64_is_refused_at_its_first_invalid_group(rt: HostRuntime) -> Result<(), Fail> {
+    for case in &INVALID_GROUPS {
+        let group = case.expected;
+        let text = format!(in rt.alloc(); "Base64 decode error: group {group} is no Base64 group")?;
+        let [of_bytes, of_text] = base64_errors(rt.alloc(), case.input)?;
+        assert_eq!(rt; of_bytes, text, "{:?}", Bytes(case.input));
+        assert_eq!(rt; of_text, text, "{:?}", Bytes(case.input));
     }
     Ok(())
 }
 
-/// The transfer coding, the label, the body, and its text.
-type TextRow = (&'static str, &'static str, &'static [u8], &'static str);
+/// The name of a transfer coding, the label of a charset, a body, and its text.
+struct DecodedText {
+    coding: &'static str,
+    label: &'static str,
+    raw: &'static [u8],
+    text: &'static str,
+}
 
-static TEXTS: [TextRow; 26] = [
-    ("", "us-ascii", b"\x80", "\u{20AC}"),
-    ("", "foo", b"\x80", "\u{FFFD}"),
-    ("", "koi8-r", b"\x80", "\u{FFFD}"),
-    ("", "", b"a\xE9b", "a\u{FFFD}b"),
-    ("", "us-ascii", b"\xEF\xBB\xBF\x68", "h"),
-    ("", "foo", b"\xEF\xBB\xBF\x68", "\u{FFFD}\u{FFFD}\u{FFFD}h"),
-    ("", "utf-16", b"\x41\x00\x00\xD8\x42", "A\u{FFFD}"),
-    ("", "utf-16be", b"\x00\x41\xD8\x3D\xDE\x00", "A\u{1F600}"),
-    ("", "utf-16be", b"\xFF\xFE\x41\x00", "A"),
-    ("", "utf-16le", b"\x3D\xD8\x41\x00", "\u{FFFD}A"),
-    ("", "utf-16", b"\x41", "\u{FFFD}"),
-    ("", " \t\n\u{C}\rUTF-8 ", b"\xC3\xA9", "\u{E9}"),
-    ("", "utf-8\u{B}", b"\xC3\xA9", "\u{FFFD}\u{FFFD}"),
-    ("8bit", "utf-8", b"\xC3\xA9\xC3", "\u{E9}\u{FFFD}"),
-    ("binary", "latin1", b"\xC3\xA9\x9F", "\u{C3}\u{A9}\u{178}"),
-    ("BASE64", "utf-8", b"aGk=", "aGk="),
-    (
-        "base64",
-        "us-ascii",
-        b"aGVsbG 8gd\r\n29ybGQ=",
-        "hello world",
-    ),
-    ("base64", "utf-8", b"77u/aGk=", "hi"),
-    ("base64", "utf-8", b"/v8AaABp", "hi"),
-    ("base64", "utf-16", b"PdgA3g==", "\u{1F600}"),
-    ("base64", "foo", b"gIA=", "\u{FFFD}\u{FFFD}"),
-    ("quoted-printable", "utf-8", b"=E2=82=\r\n=AC", "\u{20AC}"),
-    ("quoted-printable", "us-ascii", b"=80 \n", "\u{20AC}\n"),
-    ("quoted-printable", "utf-16be", b"=FF=FEA=00", "A"),
-    ("quoted-printable", "foo", b"a=E9", "a\u{FFFD}"),
-    ("7bit", "iso-8859-1", b"", ""),
+static DECODED_TEXTS: [DecodedText; 26] = [
+    DecodedText {
+        coding: "",
+        label: "us-ascii",
+        raw: b"\x80",
+        text: "\u{20AC}",
+    },
+    DecodedText {
+        coding: "",
+        label: "foo",
+        raw: b"\x80",
+        text: "\u{FFFD}",
+    },
+    DecodedText {
+        coding: "",
+        label: "koi8-r",
+        raw: b"\x80",
+        text: "\u{FFFD}",
+    },
+    DecodedText {
+        coding: "",
+        label: "",
+        raw: b"a\xE9b",
+        text: "a\u{FFFD}b",
+    },
+    DecodedText {
+        coding: "",
+        label: "us-ascii",
+        raw: b"\xEF\xBB\xBF\x68",
+        text: "h",
+    },
+    DecodedText {
+        coding: "",
+        label: "foo",
+        raw: b"\xEF\xBB\xBF\x68",
+        text: "\u{FFFD}\u{FFFD}\u{FFFD}h",
+    },
+    DecodedText {
+        coding: "",
+        label: "utf-16",
+        raw: b"\x41\x00\x00\xD8\x42",
+        text: "A\u{FFFD}",
+    },
+    DecodedText {
+        coding: "",
+        label: "utf-16be",
+        raw: b"\x00\x41\xD8\x3D\xDE\x00",
+        text: "A\u{1F600}",
+    },
+    DecodedText {
+        coding: "",
+        label: "utf-16be",
+        raw: b"\xFF\xFE\x41\x00",
+        text: "A",
+    },
+    DecodedText {
+        coding: "",
+        label: "utf-16le",
+        raw: b"\x3D\xD8\x41\x00",
+        text: "\u{FFFD}A",
+    },
+    DecodedText {
+        coding: "",
+        label: "utf-16",
+        raw: b"\x41",
+        text: "\u{FFFD}",
+    },
+    DecodedText {
+        coding: "",
+        label: " \t\n\u{C}\rUTF-8 ",
+        raw: b"\xC3\xA9",
+        text: "\u{E9}",
+    },
+    DecodedText {
+        coding: "",
+        label: "utf-8\u{B}",
+        raw: b"\xC3\xA9",
+        text: "\u{FFFD}\u{FFFD}",
+    },
+    DecodedText {
+        coding: "8bit",
+        label: "utf-8",
+        raw: b"\xC3\xA9\xC3",
+        text: "\u{E9}\u{FFFD}",
+    },
+    DecodedText {
+        coding: "binary",
+        label: "latin1",
+        raw: b"\xC3\xA9\x9F",
+        text: "\u{C3}\u{A9}\u{178}",
+    },
+    DecodedText {
+        coding: "BASE64",
+        label: "utf-8",
+        raw: b"aGk=",
+        text: "aGk=",
+    },
+    DecodedText {
+        coding: "base64",
+        label: "us-ascii",
+        raw: b"aGVsbG 8gd\r\n29ybGQ=",
+        text: "hello world",
+    },
+    DecodedText {
+        coding: "base64",
+        label: "utf-8",
+        raw: b"77u/aGk=",
+        text: "hi",
+    },
+    DecodedText {
+        coding: "base64",
+        label: "utf-8",
+        raw: b"/v8AaABp",
+        text: "hi",
+    },
+    DecodedText {
+        coding: "base64",
+        label: "utf-16",
+        raw: b"PdgA3g==",
+        text: "\u{1F600}",
+    },
+    DecodedText {
+        coding: "base64",
+        label: "foo",
+        raw: b"gIA=",
+        text: "\u{FFFD}\u{FFFD}",
+    },
+    DecodedText {
+        coding: "quoted-printable",
+        label: "utf-8",
+        raw: b"=E2=82=\r\n=AC",
+        text: "\u{20AC}",
+    },
+    DecodedText {
+        coding: "quoted-printable",
+        label: "us-ascii",
+        raw: b"=80 \n",
+        text: "\u{20AC}\n",
+    },
+    DecodedText {
+        coding: "quoted-printable",
+        label: "utf-16be",
+        raw: b"=FF=FEA=00",
+        text: "A",
+    },
+    DecodedText {
+        coding: "quoted-printable",
+        label: "foo",
+        raw: b"a=E9",
+        text: "a\u{FFFD}",
+    },
+    DecodedText {
+        coding: "7bit",
+        label: "iso-8859-1",
+        raw: b"",
+        text: "",
+    },
 ];
 
-/// The text of a body under the name of a coding and the label of a charset.
+/// The text of a body under the name of a transfer coding and the label of a charset.
 fn text_under(
     alloc: Global,
     name: &str,
@@ -236,20 +436,27 @@ fn text_under(
 ) -> Result<String, MailParseError> {
     let ctype = type_with(alloc, label)?;
     let encoding = coding(alloc, name)?;
-    text_of(alloc, &Body::new(raw, &ctype, &encoding))
+    decoded_text(alloc, &Body::new(raw, &ctype, &encoding))
 }
 
 #[test]
-fn texts_under_labels(rt: HostRuntime) -> Result<(), Fail> {
-    for row in &TEXTS {
-        let text = text_under(rt.alloc(), row.0, row.1, row.2)?;
-        assert_eq!(rt; text.as_str(), row.3, "{row:?}");
+fn bodies_are_decoded_to_texts(rt: HostRuntime) -> Result<(), Fail> {
+    for row in &DECODED_TEXTS {
+        let text = text_under(rt.alloc(), row.coding, row.label, row.raw)?;
+        assert_eq!(rt;
+            text.as_str(),
+            row.text,
+            "{} {} {:?}",
+            row.coding,
+            row.label,
+            Bytes(row.raw)
+        );
     }
     Ok(())
 }
 
 #[test]
-fn the_type_where_nothing_says_it(rt: HostRuntime) -> Result<(), Fail> {
+fn the_default_content_type(rt: HostRuntime) -> Result<(), Fail> {
     let ctype = ParsedContentType::default(rt.alloc())?;
     assert_eq!(rt; ctype.mimetype.as_str(), "text/plain");
     assert_eq!(rt; ctype.charset.as_str(), "us-ascii");
@@ -261,12 +468,12 @@ fn the_type_where_nothing_says_it(rt: HostRuntime) -> Result<(), Fail> {
 }
 
 #[test]
-fn a_large_body(rt: HostRuntime) -> Result<(), Fail> {
+fn a_long_body_in_base64(rt: HostRuntime) -> Result<(), Fail> {
     let line = b"4oKsIGlzIGEgZXVybyBzaWduLCA=\r\n";
     let raw = repeated(rt.alloc(), line, 10_000)?;
     let text = "\u{20AC} is a euro sign, ";
-    let wanted = repeated(rt.alloc(), text.as_bytes(), 10_000)?;
-    let read = text_under(rt.alloc(), "base64", "utf-8", raw.as_slice())?;
-    assert!(rt; read.as_bytes() == wanted.as_slice());
+    let expected = repeated(rt.alloc(), text.as_bytes(), 10_000)?;
+    let found = text_under(rt.alloc(), "base64", "utf-8", raw.as_slice())?;
+    assert!(rt; found.as_bytes() == expected.as_slice());
     Ok(())
 }

@@ -2,63 +2,27 @@
 //!
 //! The expected texts were printed by a Rust program (rustc 1.95) that shows a key and a value as
 //! `format!("{:?}", String::from_utf8_lossy(bytes))` in a `debug_struct` of these names.
+use crate::texts::{Case, TextCase, all_key_bytes, assert_texts, cases, text_or_error};
 use mailparse::{MailParseError, parse_header, parse_mail};
 use std::alloc::{AllocError, Global};
 use std::test::Fail;
 
-/// A header, and its Debug text.
-static HEADERS: [(&[u8], &str); 14] = [
-    (
-        b"Subject:foo",
-        r#"MailHeader { key: "Subject", value: "foo" }"#,
-    ),
-    (b":", r#"MailHeader { key: "", value: "" }"#),
-    (
-        b"k\"q\":say \"hi\"",
-        r#"MailHeader { key: "k\"q\"", value: "say \"hi\"" }"#,
-    ),
-    (b"it's:'a'", r#"MailHeader { key: "it's", value: "'a'" }"#),
-    (
-        b"back\\slash:C:\\x\\n",
-        r#"MailHeader { key: "back\\slash", value: "C:\\x\\n" }"#,
-    ),
-    (
-        b"\0\x01\x1F:\x7F\x1B[0m\x08\x0C\x0B",
-        r#"MailHeader { key: "\0\u{1}\u{1f}", value: "\u{7f}\u{1b}[0m\u{8}\u{c}\u{b}" }"#,
-    ),
-    (
-        b"\xE9:Andr\xE9 \xC3\xA9",
-        r#"MailHeader { key: "�", value: "Andr� é" }"#,
-    ),
-    (
-        b"tab\tkey:a\r\n\tb\n c",
-        r#"MailHeader { key: "tab\tkey", value: "a\r\n\tb\n c" }"#,
-    ),
-    (
-        b"\xF0\x9F\x98\x80:\xF0\x9F\x98",
-        r#"MailHeader { key: "😀", value: "�" }"#,
-    ),
-    (
-        b"\xC0\xAF:\xED\xA0\x80\xFF\xFE",
-        r#"MailHeader { key: "��", value: "�����" }"#,
-    ),
-    (
-        b"e\xCC\x81:\xCC\x81",
-        r#"MailHeader { key: "e\u{301}", value: "\u{301}" }"#,
-    ),
-    (
-        b"\xE2\x80\x8B:\xC2\xA0\xE2\x80\xA8\xEF\xBB\xBF",
-        r#"MailHeader { key: "\u{200b}", value: "\u{a0}\u{2028}\u{feff}" }"#,
-    ),
-    (
-        b"\xC2\x85:\xC2\xAD\xEF\xBF\xBD\xEE\x80\x80",
-        r#"MailHeader { key: "\u{85}", value: "\u{ad}�\u{e000}" }"#,
-    ),
-    (
-        b"\xE2\x82\xAC:\xE2\x82",
-        r#"MailHeader { key: "€", value: "�" }"#,
-    ),
-];
+static HEADERS: [TextCase; 14] = cases! {
+    b"Subject:foo" => r#"MailHeader { key: "Subject", value: "foo" }"#,
+    b":" => r#"MailHeader { key: "", value: "" }"#,
+    b"k\"q\":say \"hi\"" => r#"MailHeader { key: "k\"q\"", value: "say \"hi\"" }"#,
+    b"it's:'a'" => r#"MailHeader { key: "it's", value: "'a'" }"#,
+    b"back\\slash:C:\\x\\n" => r#"MailHeader { key: "back\\slash", value: "C:\\x\\n" }"#,
+    b"\0\x01\x1F:\x7F\x1B[0m\x08\x0C\x0B" => r#"MailHeader { key: "\0\u{1}\u{1f}", value: "\u{7f}\u{1b}[0m\u{8}\u{c}\u{b}" }"#,
+    b"\xE9:Andr\xE9 \xC3\xA9" => r#"MailHeader { key: "�", value: "Andr� é" }"#,
+    b"tab\tkey:a\r\n\tb\n c" => r#"MailHeader { key: "tab\tkey", value: "a\r\n\tb\n c" }"#,
+    b"\xF0\x9F\x98\x80:\xF0\x9F\x98" => r#"MailHeader { key: "😀", value: "�" }"#,
+    b"\xC0\xAF:\xED\xA0\x80\xFF\xFE" => r#"MailHeader { key: "��", value: "�����" }"#,
+    b"e\xCC\x81:\xCC\x81" => r#"MailHeader { key: "e\u{301}", value: "\u{301}" }"#,
+    b"\xE2\x80\x8B:\xC2\xA0\xE2\x80\xA8\xEF\xBB\xBF" => r#"MailHeader { key: "\u{200b}", value: "\u{a0}\u{2028}\u{feff}" }"#,
+    b"\xC2\x85:\xC2\xAD\xEF\xBF\xBD\xEE\x80\x80" => r#"MailHeader { key: "\u{85}", value: "\u{ad}�\u{e000}" }"#,
+    b"\xE2\x82\xAC:\xE2\x82" => r#"MailHeader { key: "€", value: "�" }"#,
+};
 
 /// The Debug text of a header.
 fn shown_header(alloc: Global, raw: &[u8]) -> Result<String, MailParseError> {
@@ -66,30 +30,21 @@ fn shown_header(alloc: Global, raw: &[u8]) -> Result<String, MailParseError> {
     Ok(format!(in alloc; "{header:?}")?)
 }
 
+/// The same, or the text of the error.
+fn header_text(alloc: Global, raw: &[u8]) -> Result<String, AllocError> {
+    text_or_error(alloc, shown_header(alloc, raw))
+}
+
 #[test]
-fn one_header(rt: HostRuntime) -> Result<(), Fail> {
-    for row in &HEADERS {
-        assert_eq!(rt; shown_header(rt.alloc(), row.0)?.as_str(), row.1);
-    }
-    Ok(())
+fn debug_texts_of_headers(rt: HostRuntime) -> Result<(), Fail> {
+    Ok(assert_texts(&rt, rt.alloc(), &HEADERS, header_text)?)
 }
 
 /// The bytes 00 to 7F as a key, without LF and the colon, as they are shown.
 const SHOWN_ASCII: &str =
     r##"MailHeader { key: "\0\u{1}\u{2}\u{3}\u{4}\u{5}\u{6}\u{7}\u{8}\t\u{b}\u{c}\r\u{e}\u{f}\u{10}\u{11}\u{12}\u{13}\u{14}\u{15}\u{16}\u{17}\u{18}\u{19}\u{1a}\u{1b}\u{1c}\u{1d}\u{1e}\u{1f} !\"#$%&'()*+,-./0123456789;<=>?@ABCDEFGHIJKLMNOPQRSTUVWXYZ[\\]^_`abcdefghijklmnopqrstuvwxyz{|}~\u{7f}"##;
 
-/// A key of all bytes but LF and the colon.
-fn key_of_all_bytes(alloc: Global) -> Result<Vec<u8>, AllocError> {
-    let mut raw = Vec::new(alloc);
-    for byte in 0..=255u8 {
-        if byte != b':' && byte != b'\n' {
-            raw.push(byte)?;
-        }
-    }
-    Ok(raw)
-}
-
-/// How a header with that key is shown.
+/// How a header is shown whose key is all bytes that a key may have.
 fn shown_key_of_all_bytes(alloc: Global) -> Result<String, AllocError> {
     let mut shown = String::from_str(alloc, SHOWN_ASCII)?;
     for _ in 0x80..=255u8 {
@@ -100,22 +55,19 @@ fn shown_key_of_all_bytes(alloc: Global) -> Result<String, AllocError> {
 }
 
 #[test]
-fn a_key_of_all_bytes(rt: HostRuntime) -> Result<(), Fail> {
-    let raw = key_of_all_bytes(rt.alloc())?;
-    let wanted = shown_key_of_all_bytes(rt.alloc())?;
+fn the_debug_text_of_all_key_bytes(rt: HostRuntime) -> Result<(), Fail> {
+    let raw = all_key_bytes(rt.alloc())?;
+    let expected = shown_key_of_all_bytes(rt.alloc())?;
     let shown = shown_header(rt.alloc(), raw.as_slice())?;
-    assert_eq!(rt; shown.as_str(), wanted.as_str());
+    assert_eq!(rt; shown.as_str(), expected.as_str());
     Ok(())
 }
 
 /// A mail, and the Debug text of its block.
-static BLOCKS: [(&[u8], &str); 2] = [
-    (
-        b"Subject: foo\nAnother header: bar\n\nBody starts here",
-        r#"Headers { headers: [MailHeader { key: "Subject", value: "foo" }, MailHeader { key: "Another header", value: "bar" }] }"#,
-    ),
-    (b"\nbody", "Headers { headers: [] }"),
-];
+static BLOCKS: [TextCase; 2] = cases! {
+    b"Subject: foo\nAnother header: bar\n\nBody starts here" => r#"Headers { headers: [MailHeader { key: "Subject", value: "foo" }, MailHeader { key: "Another header", value: "bar" }] }"#,
+    b"\nbody" => "Headers { headers: [] }",
+};
 
 /// The Debug text of the block of a mail.
 fn shown_block(alloc: Global, raw: &[u8]) -> Result<String, MailParseError> {
@@ -124,10 +76,12 @@ fn shown_block(alloc: Global, raw: &[u8]) -> Result<String, MailParseError> {
     Ok(format!(in alloc; "{block:?}")?)
 }
 
+/// The same, or the text of the error.
+fn block_text(alloc: Global, raw: &[u8]) -> Result<String, AllocError> {
+    text_or_error(alloc, shown_block(alloc, raw))
+}
+
 #[test]
-fn a_block(rt: HostRuntime) -> Result<(), Fail> {
-    for row in &BLOCKS {
-        assert_eq!(rt; shown_block(rt.alloc(), row.0)?.as_str(), row.1);
-    }
-    Ok(())
+fn debug_texts_of_blocks(rt: HostRuntime) -> Result<(), Fail> {
+    Ok(assert_texts(&rt, rt.alloc(), &BLOCKS, block_text)?)
 }

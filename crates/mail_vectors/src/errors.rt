@@ -1,64 +1,48 @@
 //! The texts of the errors, and what they wrap.
+use crate::texts::{Case, cases};
 use mailparse::{Base64Fault, MailParseError, QuotedPrintableFault, Wrapped};
 use std::alloc::{AllocError, Global};
 use std::borrow::CowStr;
 use std::test::Fail;
 
 #[test]
-fn shown_texts(rt: HostRuntime) -> Result<(), Fail> {
+fn display_texts(rt: HostRuntime) -> Result<(), Fail> {
     let fault = Base64Fault {
         group: 18_446_744_073_709_551_615,
     };
-    let text = String::from_str(rt.alloc(), "an owned text")?;
-    let rows = [
-        (MailParseError::Generic("a text"), "a text"),
-        (MailParseError::Memory(AllocError), "out of memory"),
-        (MailParseError::from(AllocError), "out of memory"),
-        (
-            MailParseError::from(QuotedPrintableFault),
-            "QuotedPrintable decode error: no quoted-printable text",
-        ),
-        (
-            MailParseError::from(fault),
-            "Base64 decode error: group 18446744073709551615 is no Base64 group",
-        ),
-        (
-            MailParseError::from(CowStr::Borrowed("a text")),
-            "Encoding error: a text",
-        ),
-        (
-            MailParseError::EncodingError(CowStr::Owned(text)),
-            "Encoding error: an owned text",
-        ),
-    ];
-    for (error, text) in &rows {
-        let shown = format!(in rt.alloc(); "{error}")?;
-        assert_eq!(rt; shown.as_str(), *text);
+    let owned = String::from_str(rt.alloc(), "an owned text")?;
+    let rows = cases! {
+        MailParseError::Generic("a text") => "a text",
+        MailParseError::Memory(AllocError) => "out of memory",
+        MailParseError::from(AllocError) => "out of memory",
+        MailParseError::from(QuotedPrintableFault)
+            => "QuotedPrintable decode error: no quoted-printable text",
+        MailParseError::from(fault)
+            => "Base64 decode error: group 18446744073709551615 is no Base64 group",
+        MailParseError::from(CowStr::Borrowed("a text")) => "Encoding error: a text",
+        MailParseError::EncodingError(CowStr::Owned(owned)) => "Encoding error: an owned text",
+    };
+    for case in &rows {
+        let shown = format!(in rt.alloc(); "{}", case.input)?;
+        assert_eq!(rt; shown.as_str(), case.expected);
     }
     Ok(())
 }
 
 #[test]
 fn debug_texts(rt: HostRuntime) -> Result<(), Fail> {
-    let rows = [
-        (MailParseError::Generic("a \"b\""), r#"Generic("a \"b\"")"#),
-        (MailParseError::Memory(AllocError), "Memory(AllocError)"),
-        (
-            MailParseError::QuotedPrintableDecodeError(QuotedPrintableFault),
-            "QuotedPrintableDecodeError(QuotedPrintableFault)",
-        ),
-        (
-            MailParseError::Base64DecodeError(Base64Fault { group: 7 }),
-            "Base64DecodeError(Base64Fault { group: 7 })",
-        ),
-        (
-            MailParseError::EncodingError(CowStr::Borrowed("x")),
-            r#"EncodingError("x")"#,
-        ),
-    ];
-    for (error, text) in &rows {
-        let shown = format!(in rt.alloc(); "{error:?}")?;
-        assert_eq!(rt; shown.as_str(), *text);
+    let rows = cases! {
+        MailParseError::Generic("a \"b\"") => r#"Generic("a \"b\"")"#,
+        MailParseError::Memory(AllocError) => "Memory(AllocError)",
+        MailParseError::QuotedPrintableDecodeError(QuotedPrintableFault)
+            => "QuotedPrintableDecodeError(QuotedPrintableFault)",
+        MailParseError::Base64DecodeError(Base64Fault { group: 7 })
+            => "Base64DecodeError(Base64Fault { group: 7 })",
+        MailParseError::EncodingError(CowStr::Borrowed("x")) => r#"EncodingError("x")"#,
+    };
+    for case in &rows {
+        let shown = format!(in rt.alloc(); "{:?}", case.input)?;
+        assert_eq!(rt; shown.as_str(), case.expected);
     }
     Ok(())
 }

@@ -1,17 +1,19 @@
-//! Tests of `mailparse` on its public calls, with answers from outside: worked examples, and texts
-//! that other programs gave.
+//! Tests of `mailparse` on its public calls. The expected values come from outside: worked
+//! examples, standards, and texts that other programs gave.
 #![tactic(auto)]
 
 #[cfg(test)]
 mod bodies;
 #[cfg(test)]
-mod continuations;
-#[cfg(test)]
-mod cuts;
+mod content_types;
 #[cfg(test)]
 mod dates;
 #[cfg(test)]
 mod debug_texts;
+#[cfg(test)]
+mod dispositions;
+#[cfg(test)]
+mod encoded_words;
 #[cfg(test)]
 mod errors;
 #[cfg(test)]
@@ -23,12 +25,18 @@ mod message_ids;
 #[cfg(test)]
 mod messages;
 #[cfg(test)]
-mod parameters;
+mod part_types;
 #[cfg(test)]
 mod parts;
 #[cfg(test)]
 mod readme;
 #[cfg(test)]
+mod sections;
+#[cfg(test)]
 mod texts;
 #[cfg(test)]
+mod truncated_messages;
+#[cfg(test)]
 mod values;
+#[cfg(test)]
+mod word_boundaries;

@@ -1,5 +1,5 @@
 //! Keys as text, and looking headers up by their names.
-use crate::texts::{joined, repeated};
+use crate::texts::{Bytes, all_key_bytes, joined, repeated};
 use mailparse::{
     MailHeader, MailHeaderMap, MailParseError, parse_header, parse_headers, parse_mail,
 };
@@ -9,13 +9,17 @@ use std::process::Abort;
 use std::test::Fail;
 
 /// The raw value of the first header with this name.
-fn first_value<'m, M: MailHeaderMap>(map: &'m M, name: &str) -> Option<&'m [u8]> {
+fn first_raw_value<'m, M: MailHeaderMap>(map: &'m M, name: &str) -> Option<&'m [u8]> {
     let header = map.get_first_header(name)?;
     Some(header.get_value_raw())
 }
 
 /// The raw values of all headers with this name, `;` after each.
-fn all_values<M: MailHeaderMap>(alloc: Global, map: &M, name: &str) -> Result<Vec<u8>, Fail> {
+fn all_raw_values<M: MailHeaderMap>(
+    alloc: Global,
+    map: &M,
+    name: &str,
+) -> Result<Vec<u8>, MailParseError> {
     let mut values = Vec::new(alloc);
     for header in map.get_all_headers(alloc, name)? {
         values.extend_from_slice(header.get_value_raw())?;
@@ -25,65 +29,224 @@ fn all_values<M: MailHeaderMap>(alloc: Global, map: &M, name: &str) -> Result<Ve
 }
 
 /// Headers, a name, and the raw values of the headers that have it, `;` after each.
-type NameRow = (&'static [u8], &'static str, &'static [u8]);
+struct NameRow {
+    raw: &'static [u8],
+    name: &'static str,
+    values: &'static [u8],
+}
 
 static NAMES: [NameRow; 22] = [
-    (b"\xE9: 1", "\u{E9}", b"1;"),
-    (b"\xE9: 1", "\u{C9}", b""),
-    (b"\xC9: 1", "\u{E9}", b""),
-    (b"\xC3\xA9: 1", "\u{E9}", b""),
-    (b"\xC3\xA9: 1", "\u{C3}\u{A9}", b"1;"),
-    (b"Key: 1\nX: 2\nkEY: 3", "key", b"1;3;"),
-    (b"Key: 1\nX: 2\nkEY: 3", "KEY", b"1;3;"),
-    (b"Key: 1\nX: 2\nkEY: 3", "x", b"2;"),
-    (b"Key: 1\nX: 2\nkEY: 3", "", b""),
-    (b"Key: 1", "Ke", b""),
-    (b"Key: 1", "Keys", b""),
-    (b"Key: 1", " Key", b""),
-    (b"Subject : 1", "Subject", b""),
-    (b"Subject : 1", "subject ", b"1;"),
-    (
-        b"SuBJect : =?iso-8859-1?Q?=A1Hola,_se=F1or!?=",
-        "Subject",
-        b"",
-    ),
-    (b":x", "", b"x;"),
-    (b":x\nA: 1\n: y", "", b"x;y;"),
-    (b"", "", b""),
-    (b"\n", "", b""),
-    (b"A", "a", b";"),
-    (b"A\0: 1", "a\0", b"1;"),
-    (b"\tA: 1", "\ta", b"1;"),
+    NameRow {
+        raw: b"\xE9: 1",
+        name: "\u{E9}",
+        values: b"1;",
+    },
+    NameRow {
+        raw: b"\xE9: 1",
+        name: "\u{C9}",
+        values: b"",
+    },
+    NameRow {
+        raw: b"\xC9: 1",
+        name: "\u{E9}",
+        values: b"",
+    },
+    NameRow {
+        raw: b"\xC3\xA9: 1",
+        name: "\u{E9}",
+        values: b"",
+    },
+    NameRow {
+        raw: b"\xC3\xA9: 1",
+        name: "\u{C3}\u{A9}",
+        values: b"1;",
+    },
+    NameRow {
+        raw: b"Key: 1\nX: 2\nkEY: 3",
+        name: "key",
+        values: b"1;3;",
+    },
+    NameRow {
+        raw: b"Key: 1\nX: 2\nkEY: 3",
+        name: "KEY",
+        values: b"1;3;",
+    },
+    NameRow {
+        raw: b"Key: 1\nX: 2\nkEY: 3",
+        name: "x",
+        values: b"2;",
+    },
+    NameRow {
+        raw: b"Key: 1\nX: 2\nkEY: 3",
+        name: "",
+        values: b"",
+    },
+    NameRow {
+        raw: b"Key: 1",
+        name: "Ke",
+        values: b"",
+    },
+    NameRow {
+        raw: b"Key: 1",
+        name: "Keys",
+        values: b"",
+    },
+    NameRow {
+        raw: b"Key: 1",
+        name: " Key",
+        values: b"",
+    },
+    NameRow {
+        raw: b"Subject : 1",
+        name: "Subject",
+        values: b"",
+    },
+    NameRow {
+        raw: b"Subject : 1",
+        name: "subject ",
+        values: b"1;",
+    },
+    NameRow {
+        raw: b"SuBJect : =?iso-8859-1?Q?=A1Hola,_se=F1or!?=",
+        name: "Subject",
+        values: b"",
+    },
+    NameRow {
+        raw: b":x",
+        name: "",
+        values: b"x;",
+    },
+    NameRow {
+        raw: b":x\nA: 1\n: y",
+        name: "",
+        values: b"x;y;",
+    },
+    NameRow {
+        raw: b"",
+        name: "",
+        values: b"",
+    },
+    NameRow {
+        raw: b"\n",
+        name: "",
+        values: b"",
+    },
+    NameRow {
+        raw: b"A",
+        name: "a",
+        values: b";",
+    },
+    NameRow {
+        raw: b"A\0: 1",
+        name: "a\0",
+        values: b"1;",
+    },
+    NameRow {
+        raw: b"\tA: 1",
+        name: "\ta",
+        values: b"1;",
+    },
 ];
 
-/// Asserts that the headers with the name of such a row have its values, and the first the first.
+/// Headers, and characters whose number ends in that of a letter, or that Unicode folds to one.
+static OTHER_CHARACTERS: [NameRow; 8] = [
+    NameRow {
+        raw: b"k: 1",
+        name: "\u{212A}",
+        values: b"",
+    },
+    NameRow {
+        raw: b"s: 1",
+        name: "\u{17F}",
+        values: b"",
+    },
+    NameRow {
+        raw: b"e: 1",
+        name: "\u{165}",
+        values: b"",
+    },
+    NameRow {
+        raw: b"A: 1",
+        name: "\u{141}",
+        values: b"",
+    },
+    NameRow {
+        raw: b"\xFF: 1",
+        name: "\u{178}",
+        values: b"",
+    },
+    NameRow {
+        raw: b"\xB5: 1",
+        name: "\u{3BC}",
+        values: b"",
+    },
+    NameRow {
+        raw: b"\xE5: 1",
+        name: "\u{212B}",
+        values: b"",
+    },
+    NameRow {
+        raw: b"A: 1",
+        name: "\u{10041}",
+        values: b"",
+    },
+];
+
+/// The first value of a row, or none where it has no values.
+fn first_of(values: &[u8]) -> Option<&[u8]> {
+    if values.is_empty() {
+        return None;
+    }
+    values.split(|b| *b == b';').next()
+}
+
+/// Asserts that the headers with the name of a row have its values, and the first the first.
 fn assert_values<M: MailHeaderMap>(
     rt: &impl Abort,
     alloc: Global,
     map: &M,
     row: &NameRow,
-) -> Result<(), Fail> {
-    let (_, name, values) = *row;
-    let found = all_values(alloc, map, name)?;
-    assert_eq!(*rt; found.as_slice(), values, "{row:?}");
-    let first = values.split(|b| *b == b';').next();
-    let wanted = if values.is_empty() { None } else { first };
-    assert_eq!(*rt; first_value(map, name), wanted, "{row:?}");
+) -> Result<(), MailParseError> {
+    let found = all_raw_values(alloc, map, row.name)?;
+    assert_eq!(*rt;
+        Bytes(found.as_slice()),
+        Bytes(row.values),
+        "{} in {:?}",
+        row.name,
+        Bytes(row.raw)
+    );
+    let first = first_raw_value(map, row.name);
+    assert_eq!(*rt;
+        first,
+        first_of(row.values),
+        "{} in {:?}",
+        row.name,
+        Bytes(row.raw)
+    );
     Ok(())
 }
 
 #[test]
 fn headers_by_name(rt: HostRuntime) -> Result<(), Fail> {
     for row in &NAMES {
-        let mail = parse_mail(rt.alloc(), row.0)?;
+        let mail = parse_mail(rt.alloc(), row.raw)?;
         assert_values(&rt, rt.alloc(), &mail.headers, row)?;
         assert_values(&rt, rt.alloc(), &mail.get_headers(), row)?;
     }
     Ok(())
 }
 
+#[test]
+fn names_with_characters_above_ff(rt: HostRuntime) -> Result<(), Fail> {
+    for row in &OTHER_CHARACTERS {
+        let (headers, _) = parse_headers(rt.alloc(), row.raw)?;
+        assert_values(&rt, rt.alloc(), &headers, row)?;
+    }
+    Ok(())
+}
+
 /// Whether two bytes are the same letter of ASCII in either case, or the same byte.
-fn is_same(byte: u8, other: u8) -> bool {
+fn is_same_letter(byte: u8, other: u8) -> bool {
     byte == other
         || byte.is_ascii_alphabetic() && other.is_ascii_alphabetic() && byte | 32 == other | 32
 }
@@ -96,11 +259,11 @@ fn is_key<M: MailHeaderMap>(alloc: Global, map: &M, number: u8) -> Result<bool, 
 
 /// The first number whose character is taken for a key's byte that it is not, or is not taken for
 /// the one that it is.
-fn first_wrong(alloc: Global, byte: u8) -> Result<Option<u8>, MailParseError> {
+fn first_misread(alloc: Global, byte: u8) -> Result<Option<u8>, MailParseError> {
     let raw = [b'k', byte, b':', b'v'];
     let (headers, _) = parse_headers(alloc, &raw)?;
     for other in 0..=255u8 {
-        if is_key(alloc, &headers, other)? != is_same(byte, other) {
+        if is_key(alloc, &headers, other)? != is_same_letter(byte, other) {
             return Ok(Some(other));
         }
     }
@@ -108,32 +271,11 @@ fn first_wrong(alloc: Global, byte: u8) -> Result<Option<u8>, MailParseError> {
 }
 
 #[test]
-fn each_key_byte_and_each_character(rt: HostRuntime) -> Result<(), Fail> {
+fn keys_of_each_byte_by_names_of_each_character(rt: HostRuntime) -> Result<(), Fail> {
     for byte in 0..=255u8 {
         if byte != b':' && byte != b'\n' {
-            assert_eq!(rt; first_wrong(rt.alloc(), byte)?, None, "{byte}");
+            assert_eq!(rt; first_misread(rt.alloc(), byte)?, None, "{byte}");
         }
-    }
-    Ok(())
-}
-
-/// Headers, and characters whose number ends in that of a letter, or that Unicode folds to one.
-static NO_BYTES: [(&[u8], &str); 8] = [
-    (b"k: 1", "\u{212A}"),
-    (b"s: 1", "\u{17F}"),
-    (b"e: 1", "\u{165}"),
-    (b"A: 1", "\u{141}"),
-    (b"\xFF: 1", "\u{178}"),
-    (b"\xB5: 1", "\u{3BC}"),
-    (b"\xE5: 1", "\u{212B}"),
-    (b"A: 1", "\u{10041}"),
-];
-
-#[test]
-fn characters_that_no_byte_is(rt: HostRuntime) -> Result<(), Fail> {
-    for (raw, name) in &NO_BYTES {
-        let (headers, _) = parse_headers(rt.alloc(), raw)?;
-        assert_values(&rt, rt.alloc(), &headers, &(raw, name, b""))?;
     }
     Ok(())
 }
@@ -143,31 +285,31 @@ fn assert_key_text(
     rt: &impl Abort,
     alloc: Global,
     header: &MailHeader<'_>,
-    wanted: &str,
+    expected: &str,
     is_borrowed: bool,
-) -> Result<(), Fail> {
+) -> Result<(), MailParseError> {
     let text = header.get_key_ref(alloc)?;
-    assert_eq!(*rt; text.as_str(), wanted);
+    assert_eq!(*rt; text.as_str(), expected);
     assert_eq!(*rt;
         matches!(text, CowStr::Borrowed(_)),
         is_borrowed,
-        "{wanted:?}"
+        "{expected:?}"
     );
     let owned = header.get_key(alloc)?;
-    assert_eq!(*rt; owned.as_str(), wanted);
+    assert_eq!(*rt; owned.as_str(), expected);
     Ok(())
 }
 
 /// Asserts that a key of this byte is the character of its number, borrowed where it is ASCII.
-fn assert_key_of(rt: &impl Abort, alloc: Global, byte: u8) -> Result<(), Fail> {
+fn assert_key_of(rt: &impl Abort, alloc: Global, byte: u8) -> Result<(), MailParseError> {
     let raw = [b'k', byte, b':', b'v'];
     let (header, _) = parse_header(&raw)?;
-    let wanted = format!(in alloc; "k{}", char::from(byte))?;
-    assert_key_text(rt, alloc, &header, wanted.as_str(), byte < 0x80)
+    let expected = format!(in alloc; "k{}", char::from(byte))?;
+    assert_key_text(rt, alloc, &header, expected.as_str(), byte < 0x80)
 }
 
 #[test]
-fn each_byte_in_a_key(rt: HostRuntime) -> Result<(), Fail> {
+fn keys_with_each_byte(rt: HostRuntime) -> Result<(), Fail> {
     for byte in 0..=255u8 {
         if byte != b':' && byte != b'\n' {
             assert_key_of(&rt, rt.alloc(), byte)?;
@@ -176,20 +318,8 @@ fn each_byte_in_a_key(rt: HostRuntime) -> Result<(), Fail> {
     Ok(())
 }
 
-/// A header whose key is all bytes that a key may have.
-fn header_of_all_bytes(alloc: Global) -> Result<Vec<u8>, AllocError> {
-    let mut raw = Vec::new(alloc);
-    for byte in 0..=255u8 {
-        if byte != b':' && byte != b'\n' {
-            raw.push(byte)?;
-        }
-    }
-    raw.extend_from_slice(b": v")?;
-    Ok(raw)
-}
-
-/// The characters of the numbers of those bytes.
-fn text_of_all_bytes(alloc: Global) -> Result<String, AllocError> {
+/// The characters of the numbers of all bytes that a key may have.
+fn text_of_all_key_bytes(alloc: Global) -> Result<String, AllocError> {
     let mut text = String::new(alloc);
     for byte in 0..=255u8 {
         if byte != b':' && byte != b'\n' {
@@ -201,13 +331,14 @@ fn text_of_all_bytes(alloc: Global) -> Result<String, AllocError> {
 
 #[test]
 fn a_key_of_all_bytes(rt: HostRuntime) -> Result<(), Fail> {
-    let raw = header_of_all_bytes(rt.alloc())?;
-    let name = text_of_all_bytes(rt.alloc())?;
+    let mut raw = all_key_bytes(rt.alloc())?;
+    raw.extend_from_slice(b": v")?;
+    let name = text_of_all_key_bytes(rt.alloc())?;
     let (headers, _) = parse_headers(rt.alloc(), raw.as_slice())?;
     assert_eq!(rt; headers.len(), 1);
-    let value = first_value(&headers, name.as_str()).ok_or("no such header")?;
+    let value = first_raw_value(&headers, name.as_str()).ok_or("no such header")?;
     assert_eq!(rt; value, b"v".as_slice());
-    assert_key_text(&rt, rt.alloc(), &headers[0], name.as_str(), false)
+    Ok(assert_key_text(&rt, rt.alloc(), &headers[0], name.as_str(), false)?)
 }
 
 /// Ten thousand headers, of which the last is another.
@@ -217,12 +348,12 @@ fn many_and_last(alloc: Global) -> Result<Vec<u8>, AllocError> {
 }
 
 #[test]
-fn the_last_of_ten_thousand(rt: HostRuntime) -> Result<(), Fail> {
+fn the_last_of_ten_thousand_headers(rt: HostRuntime) -> Result<(), Fail> {
     let raw = many_and_last(rt.alloc())?;
     let (headers, _) = parse_headers(rt.alloc(), raw.as_slice())?;
     assert_eq!(rt; headers.len(), 10_000);
-    assert_eq!(rt; first_value(&headers, "LAST"), Some(b"here".as_slice()));
-    let last = all_values(rt.alloc(), &headers, "last")?;
+    assert_eq!(rt; first_raw_value(&headers, "LAST"), Some(b"here".as_slice()));
+    let last = all_raw_values(rt.alloc(), &headers, "last")?;
     assert_eq!(rt; last.as_slice(), b"here;".as_slice());
     assert_eq!(rt; headers.get_all_headers(rt.alloc(), "las")?.len(), 9_999);
     assert_eq!(rt; headers.get_all_headers(rt.alloc(), "lastly")?.len(), 0);

@@ -1,11 +1,8 @@
 //! Lists of message ids.
-use crate::texts::refusal;
+use crate::texts::{Case, cases, refusal};
 use mailparse::{MailParseError, MessageIdList, msgidparse};
 use std::alloc::Global;
 use std::test::Fail;
-
-/// A text, its ids, and the text that shows them.
-type IdsRow = (&'static str, &'static [&'static str], &'static str);
 
 /// Whether a list is these ids, in order.
 fn is_list(list: &MessageIdList, ids: &[&str]) -> bool {
@@ -20,42 +17,104 @@ fn is_list(list: &MessageIdList, ids: &[&str]) -> bool {
     true
 }
 
-static LISTS: [IdsRow; 16] = [
-    (
-        "<msg_one@foo.com>  <msg_two@bar.com>",
-        &["msg_one@foo.com", "msg_two@bar.com"],
-        "<msg_one@foo.com> <msg_two@bar.com>",
-    ),
-    ("<a b> <>", &["a b", ""], "<a b> <>"),
-    ("", &[], ""),
-    (" \t\r\n\u{A0}", &[], ""),
-    ("<a<b>", &["a<b"], "<a<b>"),
-    ("<a>\u{A0}<b>", &["a", "b"], "<a> <b>"),
-    ("<a><b>", &["a", "b"], "<a> <b>"),
-    (" <a> ", &["a"], "<a>"),
-    ("\u{3000}<a>\u{85}\x0b<b>\r\n", &["a", "b"], "<a> <b>"),
-    ("< a >", &[" a "], "< a >"),
-    ("<a\r\n b>", &["a\r\n b"], "<a\r\n b>"),
-    (
-        "<\u{E9}@\u{1F600}>",
-        &["\u{E9}@\u{1F600}"],
-        "<\u{E9}@\u{1F600}>",
-    ),
-    ("<a,b>", &["a,b"], "<a,b>"),
-    ("<<>", &["<"], "<<>"),
-    ("<>", &[""], "<>"),
-    ("<\u{3000}><\0>", &["\u{3000}", "\0"], "<\u{3000}> <\0>"),
+/// A text, its ids, and the text that shows them.
+#[derive(Debug)]
+struct ListRow {
+    text: &'static str,
+    ids: &'static [&'static str],
+    shown: &'static str,
+}
+
+static LISTS: [ListRow; 16] = [
+    ListRow {
+        text: "<msg_one@foo.com>  <msg_two@bar.com>",
+        ids: &["msg_one@foo.com", "msg_two@bar.com"],
+        shown: "<msg_one@foo.com> <msg_two@bar.com>",
+    },
+    ListRow {
+        text: "<a b> <>",
+        ids: &["a b", ""],
+        shown: "<a b> <>",
+    },
+    ListRow {
+        text: "",
+        ids: &[],
+        shown: "",
+    },
+    ListRow {
+        text: " \t\r\n\u{A0}",
+        ids: &[],
+        shown: "",
+    },
+    ListRow {
+        text: "<a<b>",
+        ids: &["a<b"],
+        shown: "<a<b>",
+    },
+    ListRow {
+        text: "<a>\u{A0}<b>",
+        ids: &["a", "b"],
+        shown: "<a> <b>",
+    },
+    ListRow {
+        text: "<a><b>",
+        ids: &["a", "b"],
+        shown: "<a> <b>",
+    },
+    ListRow {
+        text: " <a> ",
+        ids: &["a"],
+        shown: "<a>",
+    },
+    ListRow {
+        text: "\u{3000}<a>\u{85}\x0b<b>\r\n",
+        ids: &["a", "b"],
+        shown: "<a> <b>",
+    },
+    ListRow {
+        text: "< a >",
+        ids: &[" a "],
+        shown: "< a >",
+    },
+    ListRow {
+        text: "<a\r\n b>",
+        ids: &["a\r\n b"],
+        shown: "<a\r\n b>",
+    },
+    ListRow {
+        text: "<\u{E9}@\u{1F600}>",
+        ids: &["\u{E9}@\u{1F600}"],
+        shown: "<\u{E9}@\u{1F600}>",
+    },
+    ListRow {
+        text: "<a,b>",
+        ids: &["a,b"],
+        shown: "<a,b>",
+    },
+    ListRow {
+        text: "<<>",
+        ids: &["<"],
+        shown: "<<>",
+    },
+    ListRow {
+        text: "<>",
+        ids: &[""],
+        shown: "<>",
+    },
+    ListRow {
+        text: "<\u{3000}><\0>",
+        ids: &["\u{3000}", "\0"],
+        shown: "<\u{3000}> <\0>",
+    },
 ];
 
 #[test]
 fn lists_of_ids(rt: HostRuntime) -> Result<(), Fail> {
     for row in &LISTS {
-        let list = msgidparse(rt.alloc(), row.0)?;
-        let found = format!(in rt.alloc(); "{list:?}")?;
-        let wanted = format!(in rt.alloc(); "MessageIdList({:?})", row.1)?;
-        assert_eq!(rt; found.as_str(), wanted.as_str(), "{row:?}");
+        let list = msgidparse(rt.alloc(), row.text)?;
+        assert!(rt; is_list(&list, row.ids), "{row:?}, {list:?}");
         let shown = format!(in rt.alloc(); "{list}")?;
-        assert_eq!(rt; shown.as_str(), row.2, "{row:?}");
+        assert_eq!(rt; shown.as_str(), row.shown, "{row:?}");
     }
     Ok(())
 }
@@ -64,27 +123,28 @@ const NOT_OPENED: &str = "Message IDs must start with <";
 
 const NOT_CLOSED: &str = "Message IDs must end with >";
 
-static REFUSED: [(&str, &str); 14] = [
-    ("<a>,<b>", NOT_OPENED),
-    ("<a", NOT_CLOSED),
-    ("a", NOT_OPENED),
-    (">", NOT_OPENED),
-    ("<", NOT_CLOSED),
-    ("<a>>", NOT_OPENED),
-    ("<a> <c>>", NOT_OPENED),
-    ("<a> <", NOT_CLOSED),
-    ("<a> b", NOT_OPENED),
-    ("<a> >", NOT_OPENED),
-    ("a <b>", NOT_OPENED),
-    ("\u{200B}<a>", NOT_OPENED),
-    ("<a>\0", NOT_OPENED),
-    ("<a> b <c", NOT_OPENED),
-];
+static REFUSED: [Case<&str, &str>; 14] = cases! {
+    "<a>,<b>" => NOT_OPENED,
+    "<a" => NOT_CLOSED,
+    "a" => NOT_OPENED,
+    ">" => NOT_OPENED,
+    "<" => NOT_CLOSED,
+    "<a>>" => NOT_OPENED,
+    "<a> <c>>" => NOT_OPENED,
+    "<a> <" => NOT_CLOSED,
+    "<a> b" => NOT_OPENED,
+    "<a> >" => NOT_OPENED,
+    "a <b>" => NOT_OPENED,
+    "\u{200B}<a>" => NOT_OPENED,
+    "<a>\0" => NOT_OPENED,
+    "<a> b <c" => NOT_OPENED,
+};
 
 #[test]
-fn lists_that_are_refused(rt: HostRuntime) {
-    for row in &REFUSED {
-        assert_eq!(rt; refusal(msgidparse(rt.alloc(), row.0)), row.1, "{row:?}");
+fn refused_lists(rt: HostRuntime) {
+    for case in &REFUSED {
+        let text = refusal(msgidparse(rt.alloc(), case.input));
+        assert_eq!(rt; text, case.expected, "{case:?}");
     }
 }
 
@@ -98,7 +158,7 @@ fn list_of(alloc: Global, ids: &[&str]) -> Result<MessageIdList, MailParseError>
 }
 
 #[test]
-fn a_list_that_is_changed(rt: HostRuntime) -> Result<(), Fail> {
+fn a_list_of_ids_that_is_changed(rt: HostRuntime) -> Result<(), Fail> {
     let alloc = rt.alloc();
     let mut list = list_of(alloc, &["a", "c>"])?;
     let shown = format!(in alloc; "{list}")?;
@@ -118,7 +178,7 @@ fn a_list_that_is_changed(rt: HostRuntime) -> Result<(), Fail> {
 }
 
 #[test]
-fn the_debug_text_of_a_list(rt: HostRuntime) -> Result<(), Fail> {
+fn the_debug_text_of_a_list_of_ids(rt: HostRuntime) -> Result<(), Fail> {
     let alloc = rt.alloc();
     let list = list_of(alloc, &["a b", "\""])?;
     let text = format!(in alloc; "{list:?}")?;

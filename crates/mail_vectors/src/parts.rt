@@ -1,18 +1,27 @@
-//! Messages with parts: how they are cut, how deep they may go, and what their bodies are.
-use crate::texts::{LEADING_SPACE, LONE_CR, joined, refusal};
+//! Messages with parts: where delimiters stand, how deep parts may go, and what their bodies are.
+use crate::bodies::raw_bytes;
+use crate::messages::message_refusal;
+use crate::texts::{
+    Case, LEADING_SPACE, LONE_CR, TextCase, assert_texts, cases, joined, refusal, text_or_error,
+};
 use mailparse::body::Body;
 use mailparse::{MailParseError, parse_mail};
-use std::alloc::Global;
+use std::alloc::{AllocError, Global};
 use std::test::Fail;
 
-/// What a part is refused with that stands too deep.
+/// What a part that stands too deep is refused with.
 const TOO_DEEP: &str = "Recursion limit reached";
 
 /// The header and the blank line of a message whose boundary is `b`.
 pub const START: &[u8] = b"Content-Type: multipart/mixed; boundary=b\n\n";
 
-/// A message and its parts, each before its own parts: its type, how many headers and how many parts
-/// it has, and the text of its body.
+/// The message with this after its blank line, whose boundary is `b`.
+pub fn message_with(alloc: Global, body: &[u8]) -> Result<Vec<u8>, AllocError> {
+    joined(alloc, &[START, body])
+}
+
+/// A message and its parts, each before its own parts: its type, how many headers and how many
+/// parts it has, and the text of its body.
 fn outline(alloc: Global, raw: &[u8]) -> Result<String, MailParseError> {
     let mail = parse_mail(alloc, raw)?;
     let mut text = String::new(alloc);
@@ -30,115 +39,65 @@ fn outline(alloc: Global, raw: &[u8]) -> Result<String, MailParseError> {
     Ok(text)
 }
 
-/// What follows the blank line of a message whose boundary is `b`, and what is read.
-static CUTS: [(&[u8], &str); 16] = [
-    (
-        b"pre\n--b\n\none\n--bX\n\ntwo\n--b--\nrest",
-        "multipart/mixed 1 2 [pre] text/plain 0 0 [one] text/plain 0 0 [two] ",
-    ),
-    (b"--b--\n", "multipart/mixed 1 1 [] text/plain 0 0 [] "),
-    (
-        b"--b\n\nx\n--b\n",
-        "multipart/mixed 1 1 [] text/plain 0 0 [x] ",
-    ),
-    (
-        b"--b\n\nx\n--b\r\n",
-        "multipart/mixed 1 2 [] text/plain 0 0 [x] text/plain 0 0 [] ",
-    ),
-    (b"text", "multipart/mixed 1 0 [] "),
-    (b"", "multipart/mixed 1 0 [] "),
-    (b"--b", "multipart/mixed 1 0 [] "),
-    (b"a--b\n\nx", "multipart/mixed 1 0 [] "),
-    (b"a--b\nb--b", "multipart/mixed 1 0 [] "),
-    (
-        b"a--b\n--b\n\nx",
-        "multipart/mixed 1 1 [a--b] text/plain 0 0 [x] ",
-    ),
-    (
-        b"a\r\n--b\r\n\r\nx--b\r\n--b--",
-        "multipart/mixed 1 1 [a] text/plain 0 0 [x--b] ",
-    ),
-    (
-        b"a\n\n--b\n\nx\n\n--b--",
-        "multipart/mixed 1 1 [a\n] text/plain 0 0 [x\n] ",
-    ),
-    (
-        b"a\r\n\r\n--b\n\nx\r\r\n--b--",
-        "multipart/mixed 1 1 [a\r\n] text/plain 0 0 [x\r] ",
-    ),
-    (
-        b"--b\n\nx\n-\n--\n--c\n--b--",
-        "multipart/mixed 1 1 [] text/plain 0 0 [x\n-\n--\n--c] ",
-    ),
-    (
-        b"--b\nA: 1\n--b\n--b--",
-        "multipart/mixed 1 2 [] text/plain 1 0 [] text/plain 0 0 [] ",
-    ),
-    (
-        b"--b\n\nx\n--b-\n\ny\n--b--\n--b\n\nz",
-        "multipart/mixed 1 2 [] text/plain 0 0 [x] text/plain 0 0 [y] ",
-    ),
-];
-
-#[test]
-fn where_parts_are_cut(rt: HostRuntime) -> Result<(), Fail> {
-    for row in &CUTS {
-        let raw = joined(rt.alloc(), &[START, row.0])?;
-        assert_eq!(rt; outline(rt.alloc(), raw.as_slice())?.as_str(), row.1);
-    }
-    Ok(())
+/// The same, or the text of the error.
+fn outline_text(alloc: Global, raw: &[u8]) -> Result<String, AllocError> {
+    text_or_error(alloc, outline(alloc, raw))
 }
 
-/// A whole message, and what is read.
-static WHOLE: [(&[u8], &str); 10] = [
-    (b"", "text/plain 0 0 [] "),
-    (
-        b"Content-Type: multipart/mixed; boundary=\n\n--\n\nx\n----\n",
-        "multipart/mixed 1 1 [] text/plain 0 0 [x] ",
-    ),
-    (
-        b"Content-Type: multipart/mixed; boundary=\n\n--\n--\n--\n",
-        "multipart/mixed 1 2 [] text/plain 0 0 [] text/plain 0 0 [] ",
-    ),
-    (
-        b"Content-Type: multipart/mixed; boundary=\"=?utf-8?Q?a=0Ab?=\"\n\n--a\nb\n\nx\n--a\nb--\n",
-        "multipart/mixed 1 1 [] text/plain 0 0 [x] ",
-    ),
-    (
-        b"Content-Type: multipart/digest; boundary=d\n\n--d\n\nA: b\n--d--\n",
-        "multipart/digest 1 1 [] message/rfc822 0 0 [A: b] ",
-    ),
-    (
-        b"Content-Type: multipart/digests; boundary=d\n\n--d\n\nA: b\n--d--\n",
-        "multipart/digests 1 1 [] text/plain 0 0 [A: b] ",
-    ),
-    (
-        b"Content-Type: multipart/mixed\n\n--\n\nx\n----\n",
-        "multipart/mixed 1 0 [--\n\nx\n----\n] ",
-    ),
-    (
-        b"Content-Type: text/plain; boundary=b\n\n--b\n\nx\n--b--\n",
-        "text/plain 1 0 [--b\n\nx\n--b--\n] ",
-    ),
-    (
-        b"Content-Type: multipart/mixed; boundary=o\n\n--o\nContent-Type: multipart/mixed; boundary=i\n\n\
-            --i\n\nx\n--i--\n--o\n\nyy\n--o--\n",
-        "multipart/mixed 1 2 [] multipart/mixed 1 1 [] text/plain 0 0 [x] text/plain 0 0 [yy] ",
-    ),
-    // A boundary that begins with the one outside cuts no part of its own.
-    (
-        b"Content-Type: multipart/mixed; boundary=foo\n\n--foo\n\
-            Content-Type: multipart/mixed; boundary=foobar\n\n--foobar\n\nx\n--foobar--\n--foo--\n",
-        "multipart/mixed 1 3 [] multipart/mixed 1 0 [] text/plain 0 0 [x] text/plain 0 0 [] ",
-    ),
-];
+/// The outline of the message with this after its blank line, whose boundary is `b`.
+fn outline_of_body(alloc: Global, body: &[u8]) -> Result<String, AllocError> {
+    let raw = message_with(alloc, body)?;
+    outline_text(alloc, raw.as_slice())
+}
+
+/// What follows the blank line of a message with two parts, whose boundary is `b`.
+pub const TWO_PARTS: &[u8] = b"pre\n--b\n\none\n--bX\n\ntwo\n--b--\nrest";
+
+/// What follows the blank line of a message whose boundary is `b`, and the outline.
+static DELIMITERS: [TextCase; 16] = cases! {
+    b"pre\n--b\n\none\n--bX\n\ntwo\n--b--\nrest" => "multipart/mixed 1 2 [pre] text/plain 0 0 [one] text/plain 0 0 [two] ",
+    b"--b--\n" => "multipart/mixed 1 1 [] text/plain 0 0 [] ",
+    b"--b\n\nx\n--b\n" => "multipart/mixed 1 1 [] text/plain 0 0 [x] ",
+    b"--b\n\nx\n--b\r\n" => "multipart/mixed 1 2 [] text/plain 0 0 [x] text/plain 0 0 [] ",
+    b"text" => "multipart/mixed 1 0 [] ",
+    b"" => "multipart/mixed 1 0 [] ",
+    b"--b" => "multipart/mixed 1 0 [] ",
+    b"a--b\n\nx" => "multipart/mixed 1 0 [] ",
+    b"a--b\nb--b" => "multipart/mixed 1 0 [] ",
+    b"a--b\n--b\n\nx" => "multipart/mixed 1 1 [a--b] text/plain 0 0 [x] ",
+    b"a\r\n--b\r\n\r\nx--b\r\n--b--" => "multipart/mixed 1 1 [a] text/plain 0 0 [x--b] ",
+    b"a\n\n--b\n\nx\n\n--b--" => "multipart/mixed 1 1 [a\n] text/plain 0 0 [x\n] ",
+    b"a\r\n\r\n--b\n\nx\r\r\n--b--" => "multipart/mixed 1 1 [a\r\n] text/plain 0 0 [x\r] ",
+    b"--b\n\nx\n-\n--\n--c\n--b--" => "multipart/mixed 1 1 [] text/plain 0 0 [x\n-\n--\n--c] ",
+    b"--b\nA: 1\n--b\n--b--" => "multipart/mixed 1 2 [] text/plain 1 0 [] text/plain 0 0 [] ",
+    b"--b\n\nx\n--b-\n\ny\n--b--\n--b\n\nz" => "multipart/mixed 1 2 [] text/plain 0 0 [x] text/plain 0 0 [y] ",
+};
 
 #[test]
-fn whole_messages(rt: HostRuntime) -> Result<(), Fail> {
-    for row in &WHOLE {
-        assert_eq!(rt; outline(rt.alloc(), row.0)?.as_str(), row.1);
-    }
-    Ok(())
+fn delimiters_between_parts(rt: HostRuntime) -> Result<(), Fail> {
+    Ok(assert_texts(&rt, rt.alloc(), &DELIMITERS, outline_of_body)?)
+}
+
+/// A message, and its outline.
+static OUTLINES: [TextCase; 10] = cases! {
+    b"" => "text/plain 0 0 [] ",
+    b"Content-Type: multipart/mixed; boundary=\n\n--\n\nx\n----\n" => "multipart/mixed 1 1 [] text/plain 0 0 [x] ",
+    b"Content-Type: multipart/mixed; boundary=\n\n--\n--\n--\n" => "multipart/mixed 1 2 [] text/plain 0 0 [] text/plain 0 0 [] ",
+    b"Content-Type: multipart/mixed; boundary=\"=?utf-8?Q?a=0Ab?=\"\n\n--a\nb\n\nx\n--a\nb--\n" => "multipart/mixed 1 1 [] text/plain 0 0 [x] ",
+    b"Content-Type: multipart/digest; boundary=d\n\n--d\n\nA: b\n--d--\n" => "multipart/digest 1 1 [] message/rfc822 0 0 [A: b] ",
+    b"Content-Type: multipart/digests; boundary=d\n\n--d\n\nA: b\n--d--\n" => "multipart/digests 1 1 [] text/plain 0 0 [A: b] ",
+    b"Content-Type: multipart/mixed\n\n--\n\nx\n----\n" => "multipart/mixed 1 0 [--\n\nx\n----\n] ",
+    b"Content-Type: text/plain; boundary=b\n\n--b\n\nx\n--b--\n" => "text/plain 1 0 [--b\n\nx\n--b--\n] ",
+    b"Content-Type: multipart/mixed; boundary=o\n\n--o\nContent-Type: multipart/mixed; boundary=i\n\n\
+            --i\n\nx\n--i--\n--o\n\nyy\n--o--\n" => "multipart/mixed 1 2 [] multipart/mixed 1 1 [] text/plain 0 0 [x] text/plain 0 0 [yy] ",
+    // A boundary that begins with the one outside cuts no part of its own.
+    b"Content-Type: multipart/mixed; boundary=foo\n\n--foo\n\
+            Content-Type: multipart/mixed; boundary=foobar\n\n--foobar\n\nx\n--foobar--\n--foo--\n" => "multipart/mixed 1 3 [] multipart/mixed 1 0 [] text/plain 0 0 [x] text/plain 0 0 [] ",
+};
+
+#[test]
+fn boundaries_of_messages(rt: HostRuntime) -> Result<(), Fail> {
+    Ok(assert_texts(&rt, rt.alloc(), &OUTLINES, outline_text)?)
 }
 
 /// Messages inside messages, each with a boundary of its own.
@@ -159,7 +118,7 @@ fn count_of_parts(alloc: Global, raw: &[u8]) -> Result<usize, MailParseError> {
 }
 
 #[test]
-fn how_deep_parts_may_stand(rt: HostRuntime) -> Result<(), Fail> {
+fn parts_of_100_levels_and_of_101(rt: HostRuntime) -> Result<(), Fail> {
     let deep = nested(rt.alloc(), 100)?;
     assert_eq!(rt; deep.len(), 5300);
     assert_eq!(rt; count_of_parts(rt.alloc(), deep.as_slice())?, 101);
@@ -171,23 +130,25 @@ fn how_deep_parts_may_stand(rt: HostRuntime) -> Result<(), Fail> {
     Ok(())
 }
 
-static REFUSED: [(&[u8], &str); 3] = [
-    (b"--b\nA: 1\n\rB\n--b--\n", LONE_CR),
-    (b"--b\n x\n--b\n\rz\n--b--\n", LEADING_SPACE),
-    (b"--b\n\nx\n--b\n x\n--b--\n", LEADING_SPACE),
-];
+/// The text of the refusal of the message with this after its blank line, whose boundary is `b`.
+fn refusal_of_body(alloc: Global, body: &[u8]) -> Result<String, AllocError> {
+    let raw = message_with(alloc, body)?;
+    message_refusal(alloc, raw.as_slice())
+}
+
+static REFUSED: [TextCase; 3] = cases! {
+    b"--b\nA: 1\n\rB\n--b--\n" => LONE_CR,
+    b"--b\n x\n--b\n\rz\n--b--\n" => LEADING_SPACE,
+    b"--b\n\nx\n--b\n x\n--b--\n" => LEADING_SPACE,
+};
 
 #[test]
-fn parts_that_are_refused(rt: HostRuntime) -> Result<(), Fail> {
-    for row in &REFUSED {
-        let raw = joined(rt.alloc(), &[START, row.0])?;
-        assert_eq!(rt; refusal(parse_mail(rt.alloc(), raw.as_slice())), row.1);
-    }
-    Ok(())
+fn refused_parts(rt: HostRuntime) -> Result<(), Fail> {
+    Ok(assert_texts(&rt, rt.alloc(), &REFUSED, refusal_of_body)?)
 }
 
 #[test]
-fn the_charset_that_is_there_now(rt: HostRuntime) -> Result<(), Fail> {
+fn a_body_under_a_charset_that_was_set(rt: HostRuntime) -> Result<(), Fail> {
     let mut mail = parse_mail(rt.alloc(), b"\n\xC3\xA9")?;
     assert_eq!(rt; mail.get_body(rt.alloc())?.as_str(), "Ã©");
     let ctype = &mut mail.ctype;
@@ -197,8 +158,8 @@ fn the_charset_that_is_there_now(rt: HostRuntime) -> Result<(), Fail> {
 }
 
 #[test]
-fn the_parts_that_are_there_now(rt: HostRuntime) -> Result<(), Fail> {
-    let raw = joined(rt.alloc(), &[START, b"--b\n\none\n--b\n\ntwo\n--b--\n"])?;
+fn parts_that_were_removed(rt: HostRuntime) -> Result<(), Fail> {
+    let raw = message_with(rt.alloc(), b"--b\n\none\n--b\n\ntwo\n--b--\n")?;
     let mut mail = parse_mail(rt.alloc(), raw.as_slice())?;
     assert_eq!(rt; mail.parts(rt.alloc())?.count(), 3);
     let subparts = &mut mail.subparts;
@@ -208,7 +169,7 @@ fn the_parts_that_are_there_now(rt: HostRuntime) -> Result<(), Fail> {
 }
 
 #[test]
-fn a_body_in_base64(rt: HostRuntime) -> Result<(), Fail> {
+fn a_message_in_base64(rt: HostRuntime) -> Result<(), Fail> {
     let raw = b"Content-Transfer-Encoding: base64\r\n\r\naGVsbG 8gd\r\n29ybGQ=";
     let mail = parse_mail(rt.alloc(), raw)?;
     assert_eq!(rt; mail.get_body(rt.alloc())?.as_str(), "hello world");
@@ -219,19 +180,17 @@ fn a_body_in_base64(rt: HostRuntime) -> Result<(), Fail> {
     Ok(())
 }
 
-/// A message whose boundary stands in two pieces, the first of them percent-encoded.
-const BOUNDARY_IN_PIECES: &[u8] = b"Content-Type: multipart/mixed; \
+/// A message whose boundary stands in two sections, the first of them an extended value.
+const BOUNDARY_IN_SECTIONS: &[u8] = b"Content-Type: multipart/mixed; \
     boundary*0*=us-ascii''%62; boundary*1=x\n\n--bx\n\naGk=\n--bx--\n";
 
 #[test]
-fn a_boundary_in_pieces(rt: HostRuntime) -> Result<(), Fail> {
-    let mail = parse_mail(rt.alloc(), BOUNDARY_IN_PIECES)?;
+fn a_boundary_in_sections(rt: HostRuntime) -> Result<(), Fail> {
+    let mail = parse_mail(rt.alloc(), BOUNDARY_IN_SECTIONS)?;
     assert_eq!(rt; mail.subparts.len(), 1);
-    let part = &mail.subparts[0];
-    match part.get_body_encoded(rt.alloc())? {
-        Body::SevenBit(body) => assert_eq!(rt; body.get_raw(), b"aGk=".as_slice()),
-        _ => assert!(rt; false),
-    }
+    let body = mail.subparts[0].get_body_encoded(rt.alloc())?;
+    assert!(rt; matches!(body, Body::SevenBit(_)));
+    assert_eq!(rt; raw_bytes(&body), b"aGk=".as_slice());
     Ok(())
 }
 

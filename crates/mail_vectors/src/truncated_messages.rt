@@ -1,28 +1,14 @@
 //! How much a message and its parts hold together, and messages that are cut short at every length.
-use crate::parts::{START, TWO_CODINGS, nested};
-use crate::texts::{LONE_CR, joined, refusal};
-use mailparse::body::Body;
+use crate::bodies::raw_bytes;
+use crate::parts::{TWO_CODINGS, TWO_PARTS, message_with, nested};
+use crate::texts::{LONE_CR, refusal};
 use mailparse::{MailParseError, ParsedMail, parse_mail};
 use std::alloc::Global;
 use std::test::Fail;
 
-/// What follows the blank line of a message with two parts, whose boundary is `b`.
-const TWO_PARTS: &[u8] = b"pre\n--b\n\none\n--bX\n\ntwo\n--b--\nrest";
-
 /// A message whose lines end in CR and LF, with one part.
 const CARRIAGE_RETURNS: &[u8] =
     b"Content-Type: multipart/mixed; boundary=q\r\n\r\n--q\r\n\r\nx\n\r\n--q--\r\n";
-
-/// How many bytes the body has as it stands in the message.
-fn body_length(alloc: Global, part: &ParsedMail<'_>) -> Result<usize, MailParseError> {
-    match part.get_body_encoded(alloc)? {
-        Body::Base64(body) => Ok(body.get_raw().len()),
-        Body::QuotedPrintable(body) => Ok(body.get_raw().len()),
-        Body::SevenBit(body) => Ok(body.get_raw().len()),
-        Body::EightBit(body) => Ok(body.get_raw().len()),
-        Body::Binary(body) => Ok(body.get_raw().len()),
-    }
-}
 
 /// How many headers, how many bytes of bodies and how many parts a message has, parts of parts
 /// among them.
@@ -30,7 +16,7 @@ fn held(alloc: Global, mail: &ParsedMail<'_>) -> Result<(usize, usize, usize), M
     let (mut headers, mut bytes, mut nodes) = (0usize, 0usize, 0usize);
     for node in mail.parts(alloc)? {
         headers = headers.saturating_add(node.headers.len());
-        bytes = bytes.saturating_add(body_length(alloc, node)?);
+        bytes = bytes.saturating_add(raw_bytes(&node.get_body_encoded(alloc)?).len());
         nodes = nodes.saturating_add(1);
     }
     Ok((headers, bytes, nodes.saturating_sub(1)))
@@ -65,7 +51,7 @@ fn is_read(alloc: Global, raw: &[u8]) -> Result<bool, MailParseError> {
     Ok(are_bodies_read(alloc, &mail)? && is_bounded(alloc, &mail, raw.len())?)
 }
 
-/// The first length that a message may not be cut at: what is left is not read.
+/// The first length that a message may not be cut at, since what is left is not read.
 fn first_unread(alloc: Global, raw: &[u8]) -> Result<Option<usize>, MailParseError> {
     for length in 0..=raw.len() {
         if !is_read(alloc, &raw[..length])? {
@@ -76,20 +62,20 @@ fn first_unread(alloc: Global, raw: &[u8]) -> Result<Option<usize>, MailParseErr
 }
 
 #[test]
-fn a_message_of_two_parts_cut_at_every_length(rt: HostRuntime) -> Result<(), Fail> {
-    let raw = joined(rt.alloc(), &[START, TWO_PARTS])?;
+fn a_message_of_two_parts_cut_short_at_every_length(rt: HostRuntime) -> Result<(), Fail> {
+    let raw = message_with(rt.alloc(), TWO_PARTS)?;
     assert_eq!(rt; first_unread(rt.alloc(), raw.as_slice())?, None);
     Ok(())
 }
 
 #[test]
-fn a_message_in_two_codings_cut_at_every_length(rt: HostRuntime) -> Result<(), Fail> {
+fn a_message_in_two_codings_cut_short_at_every_length(rt: HostRuntime) -> Result<(), Fail> {
     assert_eq!(rt; first_unread(rt.alloc(), TWO_CODINGS)?, None);
     Ok(())
 }
 
 #[test]
-fn a_message_of_100_levels_cut_at_every_length(rt: HostRuntime) -> Result<(), Fail> {
+fn a_message_of_100_levels_cut_short_at_every_length(rt: HostRuntime) -> Result<(), Fail> {
     let raw = nested(rt.alloc(), 100)?;
     assert_eq!(rt; first_unread(rt.alloc(), raw.as_slice())?, None);
     Ok(())
@@ -98,7 +84,7 @@ fn a_message_of_100_levels_cut_at_every_length(rt: HostRuntime) -> Result<(), Fa
 /// A cut between the CR and the LF of a blank line leaves a CR alone: that of the message, and that
 /// of its part.
 #[test]
-fn a_message_with_carriage_returns_cut_at_every_length(rt: HostRuntime) -> Result<(), Fail> {
+fn a_message_with_carriage_returns_cut_short_at_every_length(rt: HostRuntime) -> Result<(), Fail> {
     assert_eq!(rt; CARRIAGE_RETURNS.len(), 63);
     for length in 0..=63 {
         let cut = &CARRIAGE_RETURNS[..length];
@@ -111,8 +97,8 @@ fn a_message_with_carriage_returns_cut_at_every_length(rt: HostRuntime) -> Resul
 }
 
 #[test]
-fn what_a_message_and_its_parts_hold(rt: HostRuntime) -> Result<(), Fail> {
-    let two_parts = joined(rt.alloc(), &[START, TWO_PARTS])?;
+fn what_messages_with_their_parts_hold(rt: HostRuntime) -> Result<(), Fail> {
+    let two_parts = message_with(rt.alloc(), TWO_PARTS)?;
     assert_eq!(rt; two_parts.len(), 76);
     let mail = parse_mail(rt.alloc(), two_parts.as_slice())?;
     assert_eq!(rt; held(rt.alloc(), &mail)?, (1, 9, 2));
