@@ -6,7 +6,7 @@ refusal.
 To `msgid` and a text the oracle answers `ids ok COUNT`, then a line `id HEX` for each and the line
 `idtext HEX` with the text that shows them; or `ids err TEXT`.
 
-The texts are chosen ones, ones made of ids and white, and ones of these two with a few characters
+The texts are chosen ones, ones made of ids and whitespace, and ones of these two with a few characters
 changed.
 """
 from .oracle import answers, hex_or_dash, questions, refusal
@@ -32,7 +32,7 @@ def chosen():
 
 
 def made(rng):
-    """Ids with white between them, or nothing."""
+    """Ids with whitespace between them, or nothing."""
     parts = [rng.choice(WHITE)]
     for _ in range(rng.randrange(1, 6)):
         parts += ["<" + rng.choice(IDS) + ">", rng.choice(WHITE)]

@@ -1,9 +1,9 @@
 """Texts with parameters, for the lists on types and on dispositions; and how their answers become
 fields.
 
-The texts are chosen ones, one for each edge of the rules; ones made of pieces with white, quotes and
+The texts are chosen ones, one for each edge of the rules; ones made of bits with whitespace, quotes and
 escapes; and ones of these two with a few characters changed. None of these holds a `*`. After them come texts of starred
-keys and of values in several pieces, and such texts with a few characters changed.
+keys and of values in several sections, and such texts with a few characters changed.
 """
 import random
 
@@ -56,7 +56,7 @@ EXTENDED = ["utf-8''%E2%82%AC", "utf-8'en'%C3", "UTF-8''a%", "iso-8859-1''%E9", 
 
 
 def starred(rng, values):
-    """A value and some starred keys, few names and many pieces of each."""
+    """A value and some starred keys, few names and many sections of each."""
     names = rng.sample(NAMES, rng.randrange(1, 4))
     text = rng.choice(values)
     for _ in range(rng.randrange(1, 7)):

@@ -8,7 +8,7 @@ text of the header's value, and `utf8 ok HEX` or `utf8 err ..`, the same where t
 UTF-8; HEX is two hexadecimal digits for each byte of UTF-8, or `-`.
 
 The values are of three kinds: chosen ones, one for each edge of the rules; ones made by a grammar
-of words, white space and folds; and ones of these two with a few bytes changed.
+of words, whitespace and folds; and ones of these two with a few bytes changed.
 """
 import base64
 import random
@@ -23,7 +23,7 @@ MUTATED = 300
 WIDE_WHITE = [c.encode("utf-8") for c in "\u0085\u00a0\u1680\u2003\u2028\u3000"]
 LATIN1_WHITE = [b"\xa0", b"\x85"]
 ASCII_WHITE = [b" ", b"  ", b"\t", b" \t ", b"\x0b", b"\x0c", b"\r"]
-# U+200B and U+FEFF look like white space and are none.
+# U+200B and U+FEFF look like whitespace and are none.
 NO_WHITE = ["\u200b".encode("utf-8"), "\ufeff".encode("utf-8"), b"\x00", b"\x1c", b"\x08"]
 FOLDS = [b"\n ", b"\r\n ", b"\n\t", b"\r\n\t", b"\n  \t", b"\n \n ", b"\r\r\n ", b"\n\r\n "]
 EDGES = [b'"', b"(", b")", b"<", b">", b","]
@@ -37,7 +37,7 @@ UNKNOWN_LABELS = [b"koi8-r", b"x", b"", b"utf-7", b"utf_8", b"iso-8859-2", b"utf
 CODINGS = [b"Q", b"q", b"B", b"b"]
 UNKNOWN_CODINGS = [b"", b"X", b"QQ", b"Q ", b"8bit"]
 
-# Q-encoded rests: escapes, ends in white, what only looks like an escape.
+# Q-encoded rests: escapes, ends in whitespace, what only looks like an escape.
 Q_RESTS = [
     b"", b"a", b"a_b", b"_", b"__", b"a_", b"a__", b"_a", b"a=20", b"a=20_", b"=20", b"a ", b"a\t",
     b"a \t ", b"a_ _", b"=5F", b"=5f_", b"=", b"a=", b"a=_", b"a=4", b"=4g", b"=g4", b"==41", b"=3D41",
@@ -71,7 +71,7 @@ NO_BASE64 = word(coding=b"B", rest=b"YQ")
 
 def chosen_values():
     """The values that are made for one edge each, by what they show."""
-    # Nothing, and nothing but white.
+    # Nothing, and nothing but whitespace.
     yield from [b"", b" ", b"  ", b"\t", b" \t", b"\n", b"\r", b"\r\n", b"\r\r\n", b"\x0b", b"\x0c"]
     yield from [b"\n ", b"\n  ", b" \n ", b"\r\n\t", b"\n \n ", b"\n b", b"\n\tb", b"\x0b\n b"]
     yield from WIDE_WHITE + LATIN1_WHITE + NO_WHITE

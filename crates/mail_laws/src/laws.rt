@@ -227,7 +227,7 @@ pub fn days_follow_each_other()
 /// number of times `<`, an id without `>`, `>` and whitespace. Any other text is refused for the first
 /// place that breaks the form.
 pub fn message_ids_have_a_form()
-    ensures reads { (text : List ℕ) (ids : List (List ℕ)) →
+    ensures read { (text : List ℕ) (ids : List (List ℕ)) →
         AreIds text ids ↔ (message_ids text ≡ Ok ids) }
     ensures refuses { (text : List ℕ) (refusal : Refusal) →
         Breaks text refusal ↔ (message_ids text ≡ Err refusal) }
@@ -235,7 +235,7 @@ pub fn message_ids_have_a_form()
 
 /// The text of a list of message ids reads back as the list exactly if no id holds a `>`.
 pub fn message_ids_read_back()
-    ensures reads { (ids : List (List ℕ)) → All IsUtf8 ids →
+    ensures read { (ids : List (List ℕ)) → All IsUtf8 ids →
         All HoldsNoClosing ids → message_ids (written_ids ids) ≡ Ok ids }
     ensures only { (ids : List (List ℕ)) → All IsUtf8 ids →
         message_ids (written_ids ids) ≡ Ok ids → All HoldsNoClosing ids }

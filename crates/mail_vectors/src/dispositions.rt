@@ -78,7 +78,7 @@ static DISPOSITIONS: [DispositionRow; 13] = [
         kind: "Extension(\"\u{C9}t\")",
         params: &[],
     },
-    // The name of a file in pieces, with a charset.
+    // The name of a file in sections, with a charset.
     DispositionRow {
         text: "attachment; filename*0*=utf-8''%E2%82; filename*1*=%AC.txt",
         kind: "Attachment",

@@ -2,17 +2,13 @@
 -- leniently as mail is written). The dash-boundary is `--` and the boundary; a line that begins with it is a delimiter, and what
 -- else stands on the line counts only for which delimiter is the close-delimiter. The preamble stands before the first
 -- delimiter; the epilogue follows the close-delimiter and is in no part. Places are counted from the first of the bytes.
-use Rattle.std.specs.Prelude.{ℕ, zero, suc, ◌+◌, ◌-◌, Bool, ◌||◌, ◌&&◌, ◌==◌, nat_lt, List, length, drop, map, filter_map, Option, Some, None, option_map, option_and_then, codes, if◌then◌else◌}
+use Rattle.std.specs.Prelude.{ℕ, zero, suc, ◌+◌, ◌-◌, Bool, ◌||◌, ◌&&◌, ◌==◌, nat_lt, List, length, drop, map, filter_map, Option, Some, None, option_map, codes, if◌then◌else◌}
 use Rattle.std.specs.Option.{option_map_or}
 use Rattle.mail_codec.specs.Ascii.{line_feed, carriage_return}
 use Rattle.mail_codec.specs.Places.{begins, stands, byte_place, least, values_below}
 use Rattle.mailparse.specs.Header.{is_line_feed}
+use Rattle.mailparse.specs.Options.{◌>>=◌}
 use Rattle.mailparse.specs.Ranges.{Range}
-
--- what follows from a place, where there is one
-infixl 10 ◌>>=◌
-abbrev pub ◌>>=◌ : {A B : Type 0} → Option A → (A → Option B) → Option B
-o >>= f = option_and_then f o
 
 -- the least place at or after a start and before an end that passes the test, where there is one
 abbrev pub least_from : (ℕ → Bool) → ℕ → ℕ → Option ℕ

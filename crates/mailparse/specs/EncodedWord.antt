@@ -1,5 +1,5 @@
 -- What stands inside an encoded word, between its `=?` and its `?=`: RFC 2047, sections 2 and 4, as this crate reads them.
-use Rattle.std.specs.Prelude.{◌≡◌, ℕ, Bool, true, ◌||◌, List, ◌++◌, length, drop, map, Option, Some, None, option_and_then, codes, if◌then◌else◌, ◌==◌}
+use Rattle.std.specs.Prelude.{◌≡◌, ℕ, Bool, true, ◌||◌, List, ◌++◌, length, drop, map, Option, Some, None, codes, if◌then◌else◌, ◌==◌}
 use Rattle.std.specs.List.{before_first, after_first, list_any}
 use Rattle.std.specs.Result.{result_ok}
 use Rattle.std.specs.Str.{bytes_eq, trim_end}
@@ -7,11 +7,7 @@ use Rattle.mail_codec.specs.Ascii.{space, question_mark, underscore}
 use Rattle.mail_codec.specs.Base64.{base64}
 use Rattle.mail_codec.specs.Charset.{Charsets}
 use Rattle.mail_codec.specs.QuotedPrintable.{quoted_printable}
-
--- what is read next, where there is something so far
-infixl 10 ◌>>=◌
-abbrev ◌>>=◌ : {A B : Type 0} → Option A → (A → Option B) → Option B
-found >>= next = option_and_then next found
+use Rattle.mailparse.specs.Options.{◌>>=◌}
 
 -- a question mark, which cuts the inside of a word
 abbrev pub is_question_mark : ℕ → Bool

@@ -5,8 +5,9 @@ ghost use Rattle.mailparse.specs.Outcome.{AnswersOrMemory};
 ghost use Rattle.mailparse.specs.Pairs.{text_at};
 ghost use Rattle.mailparse.specs.Views.{content_type};
 
+use crate::ascii_case::lower_case;
 use crate::error::MailParseError;
-use crate::parameters::{lower_case, parameters};
+use crate::parameters::parameters;
 use std::alloc::{AllocError, Global};
 use std::collections::BTreeMap;
 
@@ -80,6 +81,13 @@ impl ParsedContentType {
 /// ```
 pub fn parse_content_type(alloc: Global, text: &str) -> Result<ParsedContentType, MailParseError>
     ensures { AnswersOrMemory content_type result (Ok (content_type_of text.now)) }
+{
+    Ok(read_content_type(alloc, text)?)
+}
+
+/// The type that the value of a `Content-Type` header names.
+pub(crate) fn read_content_type(alloc: Global, text: &str) -> Result<ParsedContentType, AllocError>
+    ensures { IfOk result (λ ctype. content_type ctype ≡ content_type_of text.now) }
 {
     let (value, params) = parameters(alloc, text)?;
     let mimetype = lower_case(alloc, value)?;

@@ -5,8 +5,9 @@ ghost use Rattle.mailparse.specs.Disposition.{IsNamed, default_disposition, disp
 ghost use Rattle.mailparse.specs.Outcome.{AnswersOrMemory};
 ghost use Rattle.mailparse.specs.Views.{disposition, kind};
 
+use crate::ascii_case::lower_case;
 use crate::error::MailParseError;
-use crate::parameters::{lower_case, parameters};
+use crate::parameters::parameters;
 use std::alloc::{AllocError, Global};
 use std::collections::BTreeMap;
 

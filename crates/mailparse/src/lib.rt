@@ -45,6 +45,7 @@
 //! `alloc`.
 #![tactic(auto)]
 
+mod ascii_case;
 pub mod body;
 mod content_type;
 mod date;

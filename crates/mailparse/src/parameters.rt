@@ -1,6 +1,5 @@
 //! The parameters of a value (RFC 2045, section 5.1; RFC 2231, sections 3 and 4).
-ghost use Rattle.std.specs.Prelude.{◌≡◌, IfOk, string_bytes};
-ghost use Rattle.std.specs.Str.{str_to_ascii_lowercase};
+ghost use Rattle.std.specs.Prelude.{◌≡◌, IfOk};
 ghost use Rattle.mailparse.specs.Continuations.{parameters_of};
 ghost use Rattle.mailparse.specs.Pairs.{HasTexts, pairs_of, value_of};
 
@@ -27,13 +26,4 @@ pub(crate) fn parameters(
     let (value, rest) = cut_segment(text);
     let pairs = pairs(alloc, rest)?;
     Ok((value.trim(), resolve(alloc, pairs)?))
-}
-
-/// A text in ASCII lower case.
-pub(crate) fn lower_case(alloc: Global, text: &str) -> Result<String, AllocError>
-    ensures { IfOk result (λ lower. string_bytes lower ≡ str_to_ascii_lowercase text.now) }
-{
-    let mut lower = String::from_str(alloc, text)?;
-    lower.make_ascii_lowercase();
-    Ok(lower)
 }

@@ -18,7 +18,7 @@ pub prepend-nil : (r : Result (List ℕ) ℕ) → prepend [] r ≡ r
 prepend-nil (Ok c) = refl
 prepend-nil (Err n) = refl
 
--- an answer with bytes before it is Ok, or a fault, where the answer is
+-- a result with bytes before it is Ok, or a fault, where the result is
 pub prepend_ok : (a c : List ℕ) (r : Result (List ℕ) ℕ) → prepend a r ≡ Ok c → (b : List ℕ) × (r ≡ Ok b) × (a ++ b ≡ c)
 prepend_ok a c (Ok b) h = (b, refl, cc h)
 prepend_ok a c (Err n) h = cc h
@@ -27,7 +27,7 @@ pub prepend_err : (a : List ℕ) (n : ℕ) (r : Result (List ℕ) ℕ) → prepe
 prepend_err a n (Ok b) h = cc h
 prepend_err a n (Err m) h = cc h
 
--- a group's bytes before an answer that is Ok
+-- a group's bytes before a result that is Ok
 pub after_group_ok : (n : ℕ) (g : Option (List ℕ)) (r : Result (List ℕ) ℕ) (b : List ℕ) → after_group n g r ≡ Ok b
     → (c : List ℕ) × (d : List ℕ) × (g ≡ Some c) × (r ≡ Ok d) × (c ++ d ≡ b)
 after_group_ok n None r b h = cc h

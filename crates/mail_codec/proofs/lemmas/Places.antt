@@ -70,7 +70,7 @@ IsFirstPlace-unique test bytes p q h k =
     let high = IsFirstPlace-≤ test bytes q p k h in
     omega arith
 
--- a search that has come to place i, and whose answer is the first place from there on
+-- a search that has come to place i, and whose result is the first place from there on
 pub record PassedTo (test : List ℕ → Bool) (bytes : List ℕ) (answer i : ℕ) : Type 0 where
   pub within : i ≤ length bytes
   pub later : answer ≡ i + first_place test (drop i bytes)

@@ -9,7 +9,7 @@ use Rattle.mail_codec.proofs.lemmas.CharsetSingleByte.{agree}
 abbrev pub entry : ℕ → Option ℕ
 entry v = if v == 255 then None else Some v
 
--- an answer as a number
+-- a digit that was found, as a number
 abbrev code : Option ℕ → ℕ
 code None = 0
 code (Some v) = suc v

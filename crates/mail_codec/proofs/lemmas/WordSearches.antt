@@ -178,7 +178,7 @@ no_candidate needle bytes rest first at some is h there none =
     let later = on.later in
     omega arith
 
--- the answers of a search for a text
+-- what a search for a text returns
 not_empty : (text : List ℕ) → 0 < length text → (length text == 0) ≡ false
 not_empty [] h = absurd (omega arith)
 not_empty (b ∷ text) h = grind (arith, nat_tests)

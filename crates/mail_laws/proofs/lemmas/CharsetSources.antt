@@ -15,9 +15,9 @@ use Rattle.mailparse.specs.Pairs.{Texts, last_of}
 use Rattle.mailparse.specs.private.CharsetSources.{is_candidate_for}
 use Rattle.mailparse.specs.private.Filled.{holds_name}
 use Rattle.mailparse.proofs.lemmas.CharsetSources.{In, candidate_from, candidate_in, candidate_to, in_candidates, is_before, last_in, none_in, not_back, not_itself}
-use Rattle.mailparse.proofs.lemmas.ExtendedNames.{at_in, in_at}
+use Rattle.mailparse.proofs.lemmas.ExtendedValuesNames.{at_in, in_at}
 use Rattle.mailparse.proofs.lemmas.ExtendedValues.{equal_bytes}
-use Rattle.mailparse.proofs.lemmas.Resolved.{or_either, section_named}
+use Rattle.mailparse.proofs.lemmas.ContinuationsResolved.{or_either, section_named}
 use Rattle.mail_laws.specs.CharsetSources.{IsCandidate}
 
 -- ---- the form of a candidate

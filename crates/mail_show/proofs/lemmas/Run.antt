@@ -38,7 +38,7 @@ run-refused left_before left held input (EncodingError text) read refused = (Kee
 run-refused left_before left held input (Generic text) read refused = (Keeps-refl held, refused-input left_before left input (Generic text) read refused)
 run-refused left_before left held input (Memory e) read refused = (Keeps-refl held, tt)
 
--- the text that an exact answer shows
+-- the text that an exact result shows
 pub text-of_ok : (text given : List ℕ) → ◌≡◌ {A = Result (List ℕ) Refusal} (Ok given) (Ok text) → text ≡ given
 text-of_ok text given e = cc
 

@@ -16,7 +16,7 @@ use Rattle.std.specs.declared.cmp.Ordering.TheVariants.{Less, Equal, Greater}
 use Rattle.mailparse.specs.Pairs.{Texts}
 use Rattle.mailparse.specs.ExtendedValues.{charset_source, is_extended, last_starred, later, name_under, candidates, starred, starred_prefixes}
 use Rattle.mailparse.specs.private.CharsetSources.{AreInOrder, source_place, name_at, is_candidate_for}
-use Rattle.mailparse.proofs.lemmas.SourceRanges.{first_more, first_same}
+use Rattle.mailparse.proofs.lemmas.CharsetSourcesRanges.{first_more, first_same}
 
 -- ---- the members of a list
 

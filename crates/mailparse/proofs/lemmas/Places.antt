@@ -1,4 +1,4 @@
--- What the answer of a search says of least places.
+-- What the result of a search says of least places.
 use Rattle.std.proofs.Common.{◌≡◌, ℕ, ◌<◌, ◌≤◌, Bool, true, false, List, [], ◌∷◌, length, drop, Option, is_some, Some, None, refl, ◌∙◌, arith, length-drop}
 use Rattle.mail_codec.specs.Places.{is_empty, place, place_from}
 use Rattle.mail_codec.proofs.lemmas.WordSearches.{place_none}

@@ -1,30 +1,29 @@
 //! The type of a message, and what it says of its parts.
-ghost use Rattle.std.specs.Prelude.{◌≡◌, ◌∷◌, option_map, IfOk, Ok};
+ghost use Rattle.std.specs.Prelude.{◌≡◌, ◌∷◌, option_map, IfOk};
+ghost use Rattle.mail_codec.specs.Ascii.{line_feed};
 ghost use Rattle.mail_codec.specs.Charset.{four_charsets};
 ghost use Rattle.mailparse.specs.Mail.{dash_boundary_of, is_digest, node_type, part_type};
-ghost use Rattle.mailparse.specs.Outcome.{AnswersOrMemory};
 ghost use Rattle.mailparse.specs.Views.{content_type};
 
-use crate::content_type::{ParsedContentType, parse_content_type};
-use crate::error::MailParseError;
+use crate::content_type::{ParsedContentType, read_content_type};
 use crate::header::MailHeader;
 use crate::headers::map::MailHeaderMap;
 use std::alloc::{AllocError, Global};
 use std::collections::BTreeMap;
 
 /// The type of a message with these headers: what its first `Content-Type` says, and otherwise the
-/// type of a part without one. The error is that memory ran out.
+/// type of a part without one.
 pub(super) fn node_type(
     alloc: Global,
     headers: &Vec<MailHeader<'_>>,
     in_digest: bool,
-) -> Result<ParsedContentType, MailParseError>
-    ensures { AnswersOrMemory content_type result
-        (Ok (node_type four_charsets in_digest headers.now.items)) }
+) -> Result<ParsedContentType, AllocError>
+    ensures { IfOk result (λ ctype. content_type ctype
+        ≡ node_type four_charsets in_digest headers.now.items) }
 {
     match headers.get_first_header("Content-Type") {
-        Some(header) => parse_content_type(alloc, header.get_value_ref(alloc)?.as_str()),
-        None => Ok(part_type(alloc, in_digest)?),
+        Some(header) => read_content_type(alloc, header.get_value_ref(alloc)?.as_str()),
+        None => part_type(alloc, in_digest),
     }
 }
 
@@ -58,7 +57,7 @@ pub(super) fn delimiter_of(
     ctype: &ParsedContentType,
 ) -> Result<Option<Vec<u8>>, AllocError>
     ensures { IfOk result (λ delimiter. option_map (λ d. d.items) delimiter
-        ≡ option_map (λ dash_boundary. 10 ∷ dash_boundary)
+        ≡ option_map (λ dash_boundary. line_feed ∷ dash_boundary)
         (dash_boundary_of (content_type ctype.now))) }
 {
     if !ctype.mimetype.starts_with("multipart") {

@@ -10,7 +10,7 @@ ghost use Rattle.mailparse.specs.private.Sections.{section_view, sections_at, st
 mod joining;
 
 use self::joining::Joining;
-use super::extended_values::sections_of;
+use super::extended_values::read_sections;
 use super::sections::{Section, Sections, numbered};
 use std::alloc::{AllocError, Global};
 use std::collections::BTreeMap;
@@ -174,6 +174,6 @@ pub(super) fn resolve(
         text_at pairs q ≡ last_of ps q) → (q : List ℕ) → text_at texts q
         ≡ parameters_of ps q) }
 {
-    let sections = sections_of(alloc, pairs)?;
+    let sections = read_sections(alloc, pairs)?;
     left_and_joined(alloc, sections)
 }

@@ -140,7 +140,7 @@ fn read(
 
 /// What stands at each name once the extended values are read. A key that is read leaves the map
 /// before what it gives is written, so that no value is held twice.
-pub(super) fn sections_of(
+pub(super) fn read_sections(
     alloc: Global,
     pairs: BTreeMap<String, String>,
 ) -> Result<Sections, AllocError>

@@ -4,8 +4,8 @@ ghost use Rattle.mailparse.specs.Pairs.{HasTexts, last_of, pair_of, pairs_in};
 ghost use Rattle.mailparse.specs.private.Pairs.{pair_view};
 ghost use Rattle.mailparse.specs.private.Segments.{segments_of_rest};
 
-use super::lower_case;
 use super::segments::{cut_segment, unescape};
+use crate::ascii_case::lower_case;
 use std::alloc::{AllocError, Global};
 use std::collections::BTreeMap;
 

@@ -1,5 +1,5 @@
 use Rattle.std.proofs.Common.{sym}
-use Rattle.mailparse.proofs.lemmas.Joining.{joined_by_walk}
+use Rattle.mailparse.proofs.lemmas.ContinuationsJoining.{joined_by_walk}
 use Rattle.mail_laws.proofs.laws.runs_are_read_once.Goals as goal
 
 pub returns : goal.returns

@@ -1,6 +1,6 @@
 use Rattle.mailparse.specs.Pairs.{text_at}
 use Rattle.mailparse.specs.Views.{kind}
-use Rattle.mailparse.proofs.lemmas.Types.{disposition_is}
+use Rattle.mailparse.proofs.lemmas.ContentType.{disposition_is}
 use Rattle.mailparse.proofs.disposition.parse_content_disposition.Goals as goal
 
 pub returns : goal.returns

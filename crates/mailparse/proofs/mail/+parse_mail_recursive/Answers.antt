@@ -17,9 +17,6 @@ use Rattle.mailparse.proofs.lemmas.Outcome.{IsRefusal-along, IsRefusalOrMemory-a
 use Rattle.mailparse.proofs.lemmas.Mail.{with_trees, parts_from, parts_step, parts_refused, parts_end, read_levels-none, read_levels-refused, read_levels-leaf, read_levels-whole, delimiter_none, IsDelimiter-of}
 use Rattle.mailparse.proofs.mail.+parse_mail_recursive.Goals as goal
 
-unwrap : (a b : ContentType) → ◌≡◌ {A = Reads ContentType} (Ok a) (Ok b) → a ≡ b
-unwrap a b e = cc
-
 -- the delimiter that was made
 made : (o : Option (Vec ℕ)) (delimiter : Vec ℕ) (r : Option (List ℕ)) → o ≡ Some delimiter → option_map (λ l. l.items) o ≡ r → Some delimiter.items ≡ r
 made o delimiter r e h = sym (ap (option_map (λ (l : Vec ℕ). l.items)) e) ∙ h
@@ -49,7 +46,7 @@ returns-in_default-clause-read t c =
     let index = c.in_ok-headers.index in
     let ctype = content_type c.in_ok-ctype.ctype in
     let some : 0 < c.args.levels = omega (arith, c.if-levels-eq0.false) in
-    let type = unwrap (node_type four_charsets c.args.in_digest headers) ctype c.in_ok-ctype.ensures in
+    let type = sym c.in_ok-ctype.ensures in
     let nothing : None ≡ option_map (λ dash_boundary. 10 ∷ dash_boundary) (dash_boundary_of ctype) = sym (ap (option_map (λ (l : Vec ℕ). l.items)) c.in_default.is) ∙ c.in_ok-delimiter.ensures in
     let parts : forest (map tree_of c.new.result.items) ≡ no_parts = ap (λ (ms : List ParsedMail). forest (map tree_of ms)) c.new.ensures.items in
     read_levels-leaf c.args.levels c.args.in_digest raw headers index ctype some c.in_ok-headers.ensures.read type (delimiter_none (dash_boundary_of ctype) nothing)
@@ -75,7 +72,7 @@ returns-in_err-parse_mail_recursive-clause-read t c =
     let digest = c.is_digest-is_digest.result in
     let levels = c.args.levels - 1 in
     let some : 0 < c.args.levels = omega (arith, c.if-levels-eq0.false) in
-    let type = unwrap (node_type four_charsets c.args.in_digest headers) ctype c.in_ok-ctype.ensures in
+    let type = sym c.in_ok-ctype.ensures in
     let whole = read_levels-whole c.args.levels c.args.in_digest raw headers index ctype delimiter digest (end_from (drop 1 delimiter) raw index index) some c.in_ok-headers.ensures.read type
     (made c.in_ok-delimiter.field-0 c.in-Some.delimiter _ c.in-Some.is c.in_ok-delimiter.ensures) c.is_digest-is_digest.ensures refl in
     let start = c.in-Some-next.start in
@@ -123,7 +120,7 @@ returns-clause-read t c =
     let digest = c.is_digest-is_digest.result in
     let levels = c.args.levels - 1 in
     let some : 0 < c.args.levels = omega (arith, c.if-levels-eq0.false) in
-    let type = unwrap (node_type four_charsets c.args.in_digest headers) ctype c.in_ok-ctype.ensures in
+    let type = sym c.in_ok-ctype.ensures in
     let end = c.cut_preamble-end.result.0 in
     let ends : end ≡ end_from (drop 1 delimiter) raw index index = c.cut_preamble-end.ensures.end ∙ ap (λ (l : List ℕ). end_from (drop 1 l) raw index index) c.as_slice.ensures.value in
     let whole = read_levels-whole c.args.levels c.args.in_digest raw headers index ctype delimiter digest end some c.in_ok-headers.ensures.read type

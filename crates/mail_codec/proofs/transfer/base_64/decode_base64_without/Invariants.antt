@@ -3,7 +3,7 @@ use Rattle.mail_codec.specs.Base64.{groups_from, prepend}
 use Rattle.mail_codec.specs.private.Runs.{without_ends}
 use Rattle.mail_codec.proofs.transfer.base_64.decode_base64_without.Given as goal
 
--- the bytes so far, then the letters that are left over and the rest of the text, give the answer
+-- the bytes so far, then the letters that are left over and the rest of the text, give the result
 abbrev pub invariant-windows : goal.invariant-windows
 invariant-windows l = record {
   within : l.at ≤ length l.text;

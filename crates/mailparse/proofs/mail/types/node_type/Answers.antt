@@ -1,7 +1,6 @@
-use Rattle.std.proofs.Common.{Ok, ap, sym, ◌∙◌, subst}
+use Rattle.std.proofs.Common.{◌≡◌, IfOk, Ok, ap, sym, ◌∙◌, subst}
 use Rattle.std.specs.Option.{option_copied}
 use Rattle.mailparse.specs.ContentType.{ContentType}
-use Rattle.mailparse.specs.Outcome.{AnswersOrMemory}
 use Rattle.mailparse.specs.Views.{content_type}
 use Rattle.mailparse.proofs.lemmas.Mail.{node_type-some, node_type-none}
 use Rattle.mailparse.proofs.mail.types.node_type.Goals as goal
@@ -11,9 +10,9 @@ returns-in_ok-get_value_ref-in-Some c =
     let first = ap option_copied (sym c.in-Some.is) ∙ c.get_first_header.ensures in
     let named = node_type-some c.args.in_digest c.args.headers.now.items c.in-Some.header.now c.as_str.result.now first
     (ap (λ t. Ok t) (sym (c.as_str.ensures.value ∙ c.in_ok-get_value_ref-in-Some.ensures))) in
-    subst (λ (t : ContentType). AnswersOrMemory content_type c.parse_content_type.result (Ok t)) named c.parse_content_type.ensures
+    subst (λ (t : ContentType). IfOk c.read_content_type.result (λ ctype. content_type ctype ≡ t)) named c.read_content_type.ensures
 
-pub returns-in_ok-part_type-in-None : goal.returns-in_ok-part_type-in-None
-returns-in_ok-part_type-in-None c =
+pub returns-in-None : goal.returns-in-None
+returns-in-None c =
     let none = node_type-none c.args.in_digest c.args.headers.now.items (ap option_copied (sym c.in-None.is) ∙ c.get_first_header.ensures) in
-    ap Ok (sym none ∙ sym c.in_ok-part_type-in-None.ensures)
+    subst (λ (t : ContentType). IfOk c.part_type.result (λ ctype. content_type ctype ≡ t)) none c.part_type.ensures

@@ -5,8 +5,8 @@ use Rattle.mailparse.specs.Continuations.{joined, most_sections, sections_of}
 use Rattle.mailparse.specs.Sections.{section_name}
 use Rattle.mailparse.specs.private.Continuations.{joined_with, without_sections}
 use Rattle.mailparse.specs.private.Sections.{section_view, stands_at}
-use Rattle.mailparse.proofs.lemmas.Joining.{most, sections_are, sections_none, sections_some, sections_end}
-use Rattle.mailparse.proofs.lemmas.Taken.{next_stands, taken_next, taken_none}
+use Rattle.mailparse.proofs.lemmas.ContinuationsJoining.{most, sections_are, sections_none, sections_some, sections_end}
+use Rattle.mailparse.proofs.lemmas.ContinuationsTaken.{next_stands, taken_next, taken_none}
 use Rattle.mailparse.proofs.parameters.continuations.join.Goals as goal
 
 pub returns-in_default-clause-text : goal.returns-in_default-clause-text

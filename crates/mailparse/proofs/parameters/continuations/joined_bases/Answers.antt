@@ -8,7 +8,7 @@ use Rattle.mailparse.specs.Pairs.{text_at}
 use Rattle.mailparse.specs.private.Filled.{holds_name}
 use Rattle.mailparse.proofs.lemmas.Filled.{stored}
 use Rattle.mailparse.proofs.lemmas.ExtendedValues.{is_some_map}
-use Rattle.mailparse.proofs.lemmas.Taken.{all_sections, joined_again, joined_known, joined_next, left_again, left_next}
+use Rattle.mailparse.proofs.lemmas.ContinuationsTaken.{all_sections, joined_again, joined_known, joined_next, left_again, left_next}
 use Rattle.mailparse.proofs.parameters.continuations.joined_bases.Goals as goal
 
 pub loop-base-preserved-in_ok-insert-2 : goal.loop-base-preserved-in_ok-insert-2

@@ -4,8 +4,8 @@ use Rattle.mailparse.specs.Sections.{alone}
 use Rattle.mailparse.specs.private.Continuations.{joined_text, left_by, names_of_sections}
 use Rattle.mailparse.specs.private.Sections.{sections_at, stands_at}
 use Rattle.mailparse.specs.Pairs.{text_at}
-use Rattle.mailparse.proofs.lemmas.Bases.{in_the_end}
-use Rattle.mailparse.proofs.lemmas.Resolved.{named_sections}
+use Rattle.mailparse.proofs.lemmas.ContinuationsBases.{in_the_end}
+use Rattle.mailparse.proofs.lemmas.ContinuationsResolved.{named_sections}
 use Rattle.mailparse.proofs.parameters.continuations.left_and_joined.Goals as goal
 
 pub returns : goal.returns

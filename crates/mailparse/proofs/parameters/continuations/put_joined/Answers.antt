@@ -9,7 +9,7 @@ use Rattle.std.specs.Str.{bytes_eq}
 use Rattle.std.specs.String.{string_bytes, string_cmp, string_cmp_total}
 use Rattle.mailparse.specs.Pairs.{text_at}
 use Rattle.mailparse.specs.private.Filled.{filled, holds_name, taken_name}
-use Rattle.mailparse.proofs.lemmas.Bases.{base_kept, base_put}
+use Rattle.mailparse.proofs.lemmas.ContinuationsBases.{base_kept, base_put}
 use Rattle.mailparse.proofs.lemmas.Filled.{filled_all, filled_push, stored}
 use Rattle.mailparse.proofs.lemmas.Sections.{names_taken, or_none, unnamed}
 use Rattle.mailparse.proofs.lemmas.ExtendedValues.{is_some_map}

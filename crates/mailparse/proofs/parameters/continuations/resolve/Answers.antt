@@ -2,7 +2,7 @@ use Rattle.std.proofs.lemmas.Result.{IfOk-weaker}
 use Rattle.mailparse.specs.Pairs.{text_at}
 use Rattle.mailparse.specs.private.Continuations.{names_of_sections}
 use Rattle.mailparse.specs.private.Sections.{stands_at}
-use Rattle.mailparse.proofs.lemmas.Resolved.{sections_named, resolved}
+use Rattle.mailparse.proofs.lemmas.ContinuationsResolved.{sections_named, resolved}
 use Rattle.mailparse.proofs.parameters.continuations.resolve.Goals as goal
 
 pub returns : goal.returns

@@ -10,9 +10,9 @@ use Rattle.mailparse.specs.private.ExtendedValues.{IsReading, names_of, names_re
 use Rattle.mailparse.specs.private.Pairs.{pair_view}
 use Rattle.mailparse.specs.private.Filled.{holds_name}
 use Rattle.mailparse.specs.declared.parameters.extended_values.Reading.{Reading}
-use Rattle.mailparse.proofs.lemmas.SourceRanges.{long_names}
-use Rattle.mailparse.proofs.lemmas.ExtendedSections.{names_all, names_more, names_passed, place_read, place_within, reading_known, reading_made, extended_found}
-use Rattle.mailparse.proofs.lemmas.ExtendedNames.{map_of_texts}
+use Rattle.mailparse.proofs.lemmas.CharsetSourcesRanges.{long_names}
+use Rattle.mailparse.proofs.lemmas.ExtendedValuesSections.{names_all, names_more, names_passed, place_read, place_within, reading_known, reading_made, extended_found}
+use Rattle.mailparse.proofs.lemmas.ExtendedValuesNames.{map_of_texts}
 use Rattle.mailparse.proofs.parameters.extended_values.readings.Goals as goal
 use Rattle.mailparse.proofs.parameters.extended_values.readings.Goals.{in-Some+in_ok-push, in_default}
 

@@ -1,5 +1,5 @@
 use Rattle.std.proofs.Common.{Some, None, sym, ap, ◌∙◌, arith, option_map}
-use Rattle.mailparse.proofs.lemmas.SectionNumbers.{number_parsed, number_refused, numbered_no_star, numbered_cut, last_star}
+use Rattle.mailparse.proofs.lemmas.SectionsNumbers.{number_parsed, number_refused, numbered_no_star, numbered_cut, last_star}
 use Rattle.mailparse.proofs.parameters.sections.numbered.Goals as goal
 
 pub returns-in_err-base : goal.returns-in_err-base

@@ -3,7 +3,7 @@ use Rattle.std.proofs.lemmas.List.{nil_from_length}
 use Rattle.std.proofs.lemmas.Str.{IsUtf8-past_char}
 use Rattle.std.specs.Str.{IsUtf8}
 use Rattle.mail_codec.specs.Ascii.{backslash}
-use Rattle.mailparse.proofs.lemmas.Quoted.{unescapes_start, unescapes_end, unescapes_backslash, unescapes_other, stays_escaped, stays_plain}
+use Rattle.mailparse.proofs.lemmas.SegmentsQuoted.{unescapes_start, unescapes_end, unescapes_backslash, unescapes_other, stays_escaped, stays_plain}
 use Rattle.mailparse.proofs.parameters.segments.without_escapes.Goals as goal
 use Rattle.mailparse.proofs.parameters.segments.without_escapes.Goals.{else-c-eq92-via-then-c-eq92+else-not-is_escaped, else-c-eq92-via-else-c-eq92}
 

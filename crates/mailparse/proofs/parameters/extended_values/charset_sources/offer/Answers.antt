@@ -1,7 +1,7 @@
 use Rattle.std.proofs.Common.{◌≡◌, ◌+◌, length, ap, sym, ◌∙◌, false, true, arith}
 use Rattle.mailparse.specs.private.CharsetSources.{is_initial_section, name_at}
 use Rattle.mailparse.specs.private.ExtendedValues.{names_of}
-use Rattle.mailparse.proofs.lemmas.SourceRanges.{long_names, long_shared, name_of_place, range_found, offered, not_offered, within_shared}
+use Rattle.mailparse.proofs.lemmas.CharsetSourcesRanges.{long_names, long_shared, name_of_place, range_found, offered, not_offered, within_shared}
 use Rattle.mailparse.proofs.parameters.extended_values.charset_sources.offer.Goals as goal
 
 pub returns-then-not-ends_with-clause-offered : goal.returns-then-not-ends_with-clause-offered

@@ -1,6 +1,6 @@
 use Rattle.std.proofs.Common.{◌++◌, None, ap, ◌∙◌}
 use Rattle.mailparse.specs.Continuations.{walked_after}
-use Rattle.mailparse.proofs.lemmas.Joining.{joined_by_walk}
+use Rattle.mailparse.proofs.lemmas.ContinuationsJoining.{joined_by_walk}
 use Rattle.mailparse.proofs.parameters.continuations.joining.Joining.new.Goals as goal
 
 pub returns : goal.returns

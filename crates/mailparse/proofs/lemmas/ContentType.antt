@@ -13,15 +13,15 @@ use Rattle.mailparse.specs.Refusal.{Refusal}
 pub type_is : (text value mimetype charset : List ℕ) (params : Texts) → value ≡ value_of text → mimetype ≡ str_to_ascii_lowercase value
     → ((name : List ℕ) → params name ≡ parameters_in four_charsets (pairs_of text) name)
     → charset ≡ charset_named params
-    → ◌≡◌ {A = Result ContentType Refusal} (Ok (content_type_of text)) (Ok (record { mimetype = mimetype; charset = charset; params = params }))
+    → ◌≡◌ {A = ContentType} (record { mimetype = mimetype; charset = charset; params = params }) (content_type_of text)
 unfolding content_type_in
 type_is text value mimetype charset params is name same label =
     let here : params ≡ parameters_in four_charsets (pairs_of text) = λ i n. same n i in
-    sym (λ i. Ok (record {
+    λ i. record {
       mimetype = (name ∙ ap str_to_ascii_lowercase is) i;
       charset = (label ∙ ap charset_named here) i;
       params = here i;
-    }))
+    }
 
 -- and a disposition by its kind and its parameters
 pub disposition_is : (text value : List ℕ) (kind : Kind) (params : Texts) → value ≡ value_of text → kind ≡ disposition_named (str_to_ascii_lowercase value)

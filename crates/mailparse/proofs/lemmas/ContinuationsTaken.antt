@@ -8,8 +8,8 @@ use Rattle.mailparse.specs.Sections.{Section, numbered, section_name}
 use Rattle.mailparse.specs.private.Continuations.{as_far, sections_from, is_section_below, is_taken, joined_text, left_by, without_sections}
 use Rattle.mailparse.specs.private.Filled.{holds_name}
 use Rattle.mailparse.proofs.lemmas.Filled.{filled_again, filled_push, holds_again, holds_push, or_false, or_true}
-use Rattle.mailparse.proofs.lemmas.Joining.{most, sections_are}
-use Rattle.mailparse.proofs.lemmas.SectionNumbers.{numbered_section}
+use Rattle.mailparse.proofs.lemmas.ContinuationsJoining.{most, sections_are}
+use Rattle.mailparse.proofs.lemmas.SectionsNumbers.{numbered_section}
 use Rattle.mailparse.proofs.lemmas.Sections.{cond_none}
 use Rattle.mailparse.proofs.lemmas.ExtendedValues.{equal_bytes, same_bytes}
 

@@ -6,7 +6,7 @@ use Rattle.mailparse.specs.private.ExtendedValues.{names_read, without_starred}
 use Rattle.mailparse.specs.private.Sections.{sections_at}
 use Rattle.mailparse.specs.Pairs.{text_at}
 use Rattle.mailparse.specs.private.Filled.{filled}
-use Rattle.mailparse.proofs.parameters.extended_values.sections_of.Given as goal
+use Rattle.mailparse.proofs.parameters.extended_values.read_sections.Given as goal
 
 abbrev pub invariant-loop-reading : goal.invariant-loop-reading
 invariant-loop-reading l = record {

@@ -1,7 +1,7 @@
 use Rattle.std.proofs.Common.{string_bytes}
 use Rattle.mailparse.specs.Pairs.{text_at}
-use Rattle.mailparse.proofs.lemmas.Types.{type_is}
-use Rattle.mailparse.proofs.content_type.parse_content_type.Goals as goal
+use Rattle.mailparse.proofs.lemmas.ContentType.{type_is}
+use Rattle.mailparse.proofs.content_type.read_content_type.Goals as goal
 
 pub returns : goal.returns
 returns c =

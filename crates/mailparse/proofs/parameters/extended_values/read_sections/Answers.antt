@@ -11,10 +11,10 @@ use Rattle.mailparse.specs.private.Sections.{section_view, sections_at}
 use Rattle.mailparse.specs.Pairs.{text_at}
 use Rattle.mailparse.specs.private.Filled.{filled, holds_name}
 use Rattle.mailparse.specs.declared.parameters.extended_values.Reading.{Reading}
-use Rattle.mailparse.proofs.lemmas.ExtendedSections.{names_of_all, reading_turn}
+use Rattle.mailparse.proofs.lemmas.ExtendedValuesSections.{names_of_all, reading_turn}
 use Rattle.mailparse.proofs.lemmas.Filled.{filled_again, filled_push, removed, stored}
 use Rattle.mailparse.proofs.lemmas.Sections.{sections_read, starred_leaves, value_gone, value_there}
-use Rattle.mailparse.proofs.parameters.extended_values.sections_of.Goals as goal
+use Rattle.mailparse.proofs.parameters.extended_values.read_sections.Goals as goal
 
 pub loop-reading-preserved-in-Some-remove : goal.loop-reading-preserved-in-Some-remove
 loop-reading-preserved-in-Some-remove c =

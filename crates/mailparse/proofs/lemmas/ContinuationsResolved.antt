@@ -20,12 +20,12 @@ use Rattle.mailparse.specs.Pairs.{Texts, last_of, text_at}
 use Rattle.mailparse.specs.private.Filled.{holds_name}
 use Rattle.mailparse.specs.declared.parameters.sections.Sections.{Sections}
 use Rattle.mailparse.specs.declared.parameters.sections.Section.{Section}
-use Rattle.mailparse.proofs.lemmas.ExtendedSections.{extended_none}
+use Rattle.mailparse.proofs.lemmas.ExtendedValuesSections.{extended_none}
 use Rattle.mailparse.proofs.lemmas.Sections.{named, section_none, unnamed}
 use Rattle.mailparse.proofs.lemmas.CharsetSources.{name_under_starred}
 use Rattle.mailparse.proofs.lemmas.ExtendedValues.{equal_bytes, is_some_map, same_bytes}
 
--- ---- a test that passes only names of two lists answers the same of both
+-- ---- a test that passes only names of two lists says the same of both
 
 or_left : (a b : Bool) → a ≡ true → (a || b) ≡ true
 or_left true b h = refl

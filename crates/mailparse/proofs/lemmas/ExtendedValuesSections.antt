@@ -21,7 +21,7 @@ use Rattle.mailparse.specs.declared.parameters.extended_values.names.ExtendedNam
 use Rattle.mailparse.proofs.lemmas.Filled.{holds_push, or_false, or_true}
 use Rattle.mailparse.proofs.lemmas.CharsetSources.{source_place_within, charset_source_at, is_before, not_itself}
 use Rattle.mailparse.proofs.lemmas.ExtendedValues.{equal_bytes, is_some_map, same_bytes}
-use Rattle.mailparse.proofs.lemmas.ExtendedNames.{AreExtended, IsFound, IsMapOf, are_extended, at_in, in_found}
+use Rattle.mailparse.proofs.lemmas.ExtendedValuesNames.{AreExtended, IsFound, IsMapOf, are_extended, at_in, in_found}
 use Rattle.percent_encoding.specs.Percent.{percent_decode}
 
 map_twice : {A B C : Type 0} (f : B → C) (g : A → B) (xs : List A) → map f (map g xs) ≡ map (λ x. f (g x)) xs
