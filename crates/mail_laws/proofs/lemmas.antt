@@ -9,3 +9,4 @@ pub mod Percent
 pub mod IdGrammar
 pub mod CharsetSources
 pub mod Escapes
+pub mod Levels

@@ -1,5 +1,5 @@
 //! The laws. Each function does nothing; its contract is the law.
-ghost use Rattle.std.specs.Prelude.{Contains, IsSome, map, ◌≡◌, ◌<◌, ◌≤◌, ◌++◌, ℕ, suc, List, [], ◌∷◌, codes, length, take, Decides, None, Ok, ◌+◌, ◌-◌, ◌*◌, ◌/◌, All, slice_index, replicate, ◌==◌, false, ◌↔◌, Err};
+ghost use Rattle.std.specs.Prelude.{Contains, IsSome, map, ◌≡◌, ◌<◌, ◌≤◌, ◌++◌, ℕ, suc, List, [], ◌∷◌, codes, length, take, Decides, None, Ok, ◌+◌, ◌-◌, ◌*◌, ◌/◌, All, slice_index, replicate, ◌==◌, false, ◌↔◌, ◌⊎◌, Err};
 ghost use Rattle.std.specs.List.{flat_map, list_any};
 ghost use Rattle.std.specs.Cmp.Lexicographic.{slice_cmp};
 ghost use Rattle.std.specs.Ordering.{is_lt, nat_cmp};
@@ -33,7 +33,7 @@ ghost use Rattle.mailparse.specs.Date.{day_number, days_of_years, month_lengths}
 ghost use Rattle.mailparse.specs.MessageIds.{message_ids, written_ids};
 ghost use Rattle.mail_laws.specs.IdGrammar.{AreIds, Breaks};
 ghost use Rattle.mail_laws.specs.Ids.{HoldsNoClosing};
-ghost use Rattle.mailparse.specs.Refusal.{Refusal};
+ghost use Rattle.mailparse.specs.Refusal.{Refusal, recursion_limit};
 ghost use Rattle.mail_laws.specs.Percent.{is_percent};
 ghost use Rattle.percent_encoding.specs.Percent.{percent_decode};
 
@@ -106,10 +106,22 @@ pub fn parts_apart()
 
 /// The headers of a message and of all its parts, the bytes of all their bodies, and three for each
 /// part are together at most the bytes of the message, so that no byte serves two of them: whatever
-/// charsets are known, and however deep parts may stand.
+/// charsets are known, and under every limit on levels.
 pub fn nodes_bounded()
     ensures { (known : Charsets) (greatest : ℕ) (bytes : List ℕ) (mail : Tree) →
         read_mail_in known greatest bytes ≡ Ok mail → IsBounded mail (length bytes) }
+{}
+
+/// A message that is read under one limit on levels is read as the same tree under every greater one,
+/// whatever charsets are known. Under the lower limit it is read or refused just as under the greater
+/// one, unless the lower limit itself refuses it.
+pub fn levels_agree()
+    ensures read { (known : Charsets) (lower greater : ℕ) (bytes : List ℕ) (mail : Tree) →
+        lower ≤ greater → read_mail_in known lower bytes ≡ Ok mail →
+        read_mail_in known greater bytes ≡ Ok mail }
+    ensures refused { (known : Charsets) (lower greater : ℕ) (bytes : List ℕ) → lower ≤ greater →
+        (read_mail_in known lower bytes ≡ Err recursion_limit)
+        ⊎ (read_mail_in known lower bytes ≡ read_mail_in known greater bytes) }
 {}
 
 /// A value of printable ASCII that does not begin with a space and holds no `=?` reads as itself.

@@ -66,5 +66,5 @@ pub use header::MailHeader;
 pub use header::parse::parse_header;
 pub use headers::block::parse_headers;
 pub use headers::map::MailHeaderMap;
-pub use mail::{ParsedMail, PartsIterator, parse_mail};
+pub use mail::{MAX_LEVELS, ParsedMail, PartsIterator, parse_mail, parse_mail_limited};
 pub use message_ids::{MessageIdList, msgidparse};

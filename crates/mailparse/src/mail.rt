@@ -1,10 +1,10 @@
 //! A message: its header block, its type, its body and its parts.
-ghost use Rattle.std.specs.Prelude.{◌≡◌, ◌<◌, ◌^◌, length, IfErr, IfOk, IsErr, Ok};
+ghost use Rattle.std.specs.Prelude.{◌≡◌, ◌<◌, ◌≤◌, ◌^◌, length, IfErr, IfOk, IsErr, Ok};
 ghost use Rattle.mail_codec.specs.Charset.{four_charsets};
 ghost use Rattle.mailparse.specs.Block.{header_count, read_headers};
 ghost use Rattle.mailparse.specs.BodyViews.{IsBody, content_of};
 ghost use Rattle.mailparse.specs.Bound.{IsBounded};
-ghost use Rattle.mailparse.specs.Mail.{block_of, body_bytes, body_kind, body_text, root, shown_as, trees_within, read_levels, read_mail};
+ghost use Rattle.mailparse.specs.Mail.{block_of, body_bytes, body_kind, body_text, root, shown_as, trees_within, read_levels, read_mail, read_mail_in};
 ghost use Rattle.mailparse.specs.Outcome.{Answers, AnswersOrMemory, IsMemory, ReadsText, ReadsBytes};
 ghost use Rattle.mailparse.specs.Views.{disposition, tree_of, trees_left};
 
@@ -26,8 +26,18 @@ use parts::push_parts;
 use std::alloc::Global;
 use types::{delimiter_of, is_digest, node_type};
 
-/// How many levels of parts may stand below a message: parts inside parts.
-const MAX_LEVELS: u8 = 100;
+/// How many levels of parts `parse_mail` reads below a message, and the greatest limit that
+/// `parse_mail_limited` takes.
+///
+/// # Examples
+///
+/// ```rust
+/// use mailparse::{MAX_LEVELS, parse_mail_limited};
+///
+/// let mail = parse_mail_limited(alloc, b"Subject: Hi\n\nbody", MAX_LEVELS)?;
+/// assert_eq!(rt; mail.headers.len(), 1);
+/// ```
+pub const MAX_LEVELS: u8 = 100;
 
 /// A message that was read, or a part of one.
 ///
@@ -261,7 +271,7 @@ impl<'a> ParsedMail<'a> {
 /// - `MailParseError::Generic` with the text `Headers were followed by an unexpected lone CR
 ///   character!`, for a CR without LF where a header or the blank line is wanted;
 /// - `MailParseError::Generic` with the text `Recursion limit reached`, for a part more than 100
-///   levels below the message;
+///   levels below the message (`parse_mail_limited` takes a lower limit);
 /// - `MailParseError::Memory` where it runs out of memory.
 ///
 /// What is refused before the first header is refused without taking memory.
@@ -290,14 +300,62 @@ impl<'a> ParsedMail<'a> {
 /// assert_eq!(rt; mail.subparts[1].ctype.mimetype.as_str(), "text/html");
 /// assert_eq!(rt; mail.subparts[1].get_body(alloc)?.as_str(), "<b>5</b>");
 /// ```
-#[tactic(auto, unfolding(crate::specs::Mail::read_mail, crate::specs::Mail::read_mail_in))]
+#[tactic(auto, unfolding(crate::specs::Mail::read_mail))]
 pub fn parse_mail(alloc: Global, raw: &[u8]) -> Result<ParsedMail<'_>, MailParseError>
     ensures read { AnswersOrMemory tree_of result (read_mail raw.now) }
     ensures bounded { IfOk result (λ mail. IsBounded (tree_of mail) (length raw.now)) }
     ensures no_alloc { header_count raw.now ≡ 0 → IsErr (read_headers raw.now) →
         Answers tree_of result (read_mail raw.now) }
 {
-    parse_mail_recursive(alloc, raw, false, MAX_LEVELS + 1)
+    parse_mail_limited(alloc, raw, MAX_LEVELS)
+}
+
+/// Reads a message as `parse_mail` does, but with parts at most `levels` levels below it.
+///
+/// The message itself stands at level 0, its parts at level 1, and so on: under 0 every part is
+/// refused. A part that stands too deep is refused before its headers are read. What is read under
+/// one limit is read alike under every greater one. The caller proves that `levels` is at most
+/// `MAX_LEVELS`.
+///
+/// Takes memory as `parse_mail` does.
+///
+/// # Errors
+///
+/// The first of these in reading order, the headers of a message before its parts:
+///
+/// - `MailParseError::Generic` with the text `Header cannot start with a space; it is likely an
+///   overhanging line from a previous header`;
+/// - `MailParseError::Generic` with the text `Headers were followed by an unexpected lone CR
+///   character!`, for a CR without LF where a header or the blank line is wanted;
+/// - `MailParseError::Generic` with the text `Recursion limit reached`, for a part more than
+///   `levels` levels below the message;
+/// - `MailParseError::Memory` where it runs out of memory.
+///
+/// What is refused before the first header is refused without taking memory.
+///
+/// # Examples
+///
+/// ```rust
+/// use mailparse::parse_mail_limited;
+///
+/// let raw = b"Content-Type: multipart/mixed; boundary=b\n\n--b\n\none\n--b--\n";
+/// let mail = parse_mail_limited(alloc, raw, 1)?;
+/// assert_eq!(rt; mail.subparts.len(), 1);
+/// assert!(rt; parse_mail_limited(alloc, raw, 0).is_err());
+/// ```
+#[tactic(auto, unfolding(crate::specs::Mail::read_mail_in))]
+pub fn parse_mail_limited(
+    alloc: Global,
+    raw: &[u8],
+    levels: u8,
+) -> Result<ParsedMail<'_>, MailParseError>
+    requires { levels ≤ MAX_LEVELS }
+    ensures read { AnswersOrMemory tree_of result (read_mail_in four_charsets levels raw.now) }
+    ensures bounded { IfOk result (λ mail. IsBounded (tree_of mail) (length raw.now)) }
+    ensures no_alloc { header_count raw.now ≡ 0 → IsErr (read_headers raw.now) →
+        Answers tree_of result (read_mail_in four_charsets levels raw.now) }
+{
+    parse_mail_recursive(alloc, raw, false, levels + 1)
 }
 
 /// Reads a message where so many levels may stand, its own among them.

@@ -1,4 +1,4 @@
-use Rattle.std.proofs.Common.{◌≢◌, ℕ, List, ◌∷◌, [], ◌∙◌, ap, sym, ⊎_elim}
+use Rattle.std.proofs.Common.{◌≢◌, ℕ, List, ◌∷◌, ◌∙◌, ap, sym, ⊎_elim}
 use lib.Utf8.{encode}
 use Rattle.std.specs.Borrow.{Bor}
 use Rattle.std.specs.String.{string_bytes}

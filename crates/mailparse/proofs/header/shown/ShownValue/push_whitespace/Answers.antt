@@ -1,4 +1,4 @@
-use Rattle.std.proofs.Common.{[], ◌∙◌, ap, sym}
+use Rattle.std.proofs.Common.{◌∙◌, ap, sym}
 use Rattle.std.specs.String.{string_bytes}
 use Rattle.mailparse.specs.declared.header.shown.Held.TheVariants as held
 use Rattle.mailparse.proofs.lemmas.Shown.{on_push, shown_of, takes_whitespace}

@@ -1,6 +1,6 @@
 use Rattle.std.proofs.Common.{false}
 use Rattle.mailparse.proofs.lemmas.Bound.{answer-bounded}
-use Rattle.mailparse.proofs.mail.parse_mail.Goals as goal
+use Rattle.mailparse.proofs.mail.parse_mail_limited.Goals as goal
 
 pub returns-clause-bounded : goal.returns-clause-bounded
 returns-clause-bounded c = answer-bounded c.parse_mail_recursive.result _ false c.args.raw.now c.parse_mail_recursive.ensures.read
