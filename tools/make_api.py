@@ -22,6 +22,8 @@ Made by `tools/make_api.py` from the doc comments in the sources; do not edit it
 sentence of its comment; the comments themselves go on with the errors, the memory that a call takes, and examples.
 What takes memory has an argument `alloc: Global` and returns a `Result`.
 """
+# what has no section of its own
+ENTRIES = {"const", "fn"}
 # what only contracts see
 GHOST_TRAITS = {"Model"}
 
@@ -103,11 +105,11 @@ def members(lines, kind):
 def add_item(module, lines, at, doc, derives):
     """Adds what begins at a line of the top level to its module."""
     line = lines[at]
-    if match := re.match(r"pub (fn|struct|enum|trait) (\w+)", line):
+    if match := re.match(r"pub (const|fn|struct|enum|trait) (\w+)", line):
         kind, name = match.groups()
         text = signature_at(lines, at) if kind == "fn" else re.sub(r"^pub |\s*(\{|;)$", "", line.strip())
         item = Item(kind, name, text, doc, derives)
-        if kind != "fn":
+        if kind not in ENTRIES:
             item.members = members(block_at(lines, at), kind)
         module.items.append(item)
     elif match := re.match(r"impl(?:<[^>]*>)? (?:(.+) for )?((\w+).*?) \{", line):
@@ -212,13 +214,13 @@ def type_lines(item):
 def module_lines(name, doc, items):
     """The lines of a public module."""
     lines = ["", f"## `{name}`", "", *textwrap.wrap(Item("mod", name, name, doc).sentence(), width=120)]
-    calls = [item for item in items if item.kind == "fn"]
-    if calls:
+    entries = [item for item in items if item.kind in ENTRIES]
+    if entries:
         lines.append("")
-    for item in calls:
+    for item in entries:
         lines += entry(item.name if name.endswith("::laws") else item.signature, item.sentence())
     for item in items:
-        if item.kind != "fn":
+        if item.kind not in ENTRIES:
             lines += type_lines(item)
     return lines
 

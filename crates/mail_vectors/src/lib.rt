@@ -19,6 +19,8 @@ mod errors;
 #[cfg(test)]
 mod headers;
 #[cfg(test)]
+mod levels;
+#[cfg(test)]
 mod looking_up;
 #[cfg(test)]
 mod message_ids;

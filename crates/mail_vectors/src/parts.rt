@@ -10,7 +10,7 @@ use std::alloc::{AllocError, Global};
 use std::test::Fail;
 
 /// What a part that stands too deep is refused with.
-const TOO_DEEP: &str = "Recursion limit reached";
+pub const TOO_DEEP: &str = "Recursion limit reached";
 
 /// The header and the blank line of a message whose boundary is `b`.
 pub const START: &[u8] = b"Content-Type: multipart/mixed; boundary=b\n\n";
