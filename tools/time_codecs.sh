@@ -28,7 +28,7 @@ row() {
     fi
 }
 
-row base64 base64 lines absent text white base64 base64-body
+row base64 base64 lines absent text whitespace base64 base64-body
 row padded base64 base64-body
 row text quoted-printable quoted-printable
 row escapes quoted-printable quoted-printable

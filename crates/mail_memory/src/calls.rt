@@ -15,7 +15,7 @@ pub struct Fault {
 }
 
 /// Each group, by the name of one of its calls.
-static GROUPS: [&str; 15] = [
+static GROUPS: [&str; 19] = [
     "decode_base64",
     "decode_quoted_printable",
     "decode",
@@ -25,10 +25,14 @@ static GROUPS: [&str; 15] = [
     "get_first_value",
     "Headers",
     "parse_content_type",
+    "ParsedContentType::default",
     "parse_content_disposition",
     "msgidparse",
     "MessageIdList",
     "parse_mail",
+    "parse_mail_limited",
+    "parts",
+    "get_content_disposition",
     "get_body",
     "get_decoded",
 ];
@@ -56,11 +60,11 @@ fn make_group(
     again: u32,
 ) -> Result<(), Fault> {
     for _turn in 0..again {
-        if let Some(is_right) = answer(alloc, inputs, group) {
+        if let Some(is_right) = result_of(alloc, inputs, group) {
             return judge(group, is_right);
         }
     }
-    match answer(alloc, inputs, group) {
+    match result_of(alloc, inputs, group) {
         Some(is_right) => judge(group, is_right),
         None => Err(Fault {
             calls: group,
@@ -75,14 +79,14 @@ fn judge(group: &'static str, is_right: bool) -> Result<(), Fault> {
     } else {
         Err(Fault {
             calls: group,
-            what: "a wrong answer",
+            what: "a wrong result",
         })
     }
 }
 
 /// Makes the calls of a group once, and tells whether they return what is right, unless memory ran
 /// out.
-fn answer(alloc: Global, inputs: &Inputs<'_>, group: &str) -> Option<bool> {
+fn result_of(alloc: Global, inputs: &Inputs<'_>, group: &str) -> Option<bool> {
     match is_right(alloc, inputs, group) {
         Ok(is_right) => Some(is_right),
         Err(MailParseError::Memory(_e)) => None,
@@ -102,10 +106,14 @@ fn is_right(alloc: Global, inputs: &Inputs<'_>, group: &str) -> Result<bool, Mai
         "get_first_value" => headers::find(alloc, inputs),
         "Headers" => headers::show(alloc, inputs),
         "parse_content_type" => texts::read_types(alloc),
+        "ParsedContentType::default" => texts::make_default(alloc),
         "parse_content_disposition" => texts::read_dispositions(alloc, inputs),
         "msgidparse" => texts::read_ids(alloc),
         "MessageIdList" => texts::show_ids(alloc, &inputs.ids),
         "parse_mail" => mails::read(alloc),
+        "parse_mail_limited" => mails::read_limited(alloc),
+        "parts" => mails::go_over(alloc, &inputs.mail),
+        "get_content_disposition" => mails::get_disposition(alloc, &inputs.attached),
         "get_body" => mails::get_bodies(alloc, inputs),
         "get_decoded" => mails::decode_bodies(alloc, inputs),
         _ => Ok(false),

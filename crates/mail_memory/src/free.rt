@@ -32,9 +32,9 @@ pub fn are_right(
         && are_places()
 }
 
-/// Whether there is an answer, and it is right.
-fn is_true(answer: Result<bool, MailParseError>) -> bool {
-    answer.unwrap_or(false)
+/// Whether there is a result, and it is right.
+fn is_true(result: Result<bool, MailParseError>) -> bool {
+    result.unwrap_or(false)
 }
 
 /// Whether a header that has to be kept is refused, since memory is.

@@ -1,9 +1,11 @@
 //! The calls on messages and their bodies.
 
 use crate::found::{are_pairs, is_bytes, is_text};
-use crate::inputs::Inputs;
+use crate::inputs::{Inputs, TWO_CODINGS};
 use mailparse::body::{Body, EncodedBody};
-use mailparse::{DispositionType, MailParseError, ParsedContentType, ParsedMail, parse_mail};
+use mailparse::{
+    DispositionType, MailParseError, ParsedContentType, ParsedMail, parse_mail, parse_mail_limited,
+};
 use std::alloc::Global;
 
 /// `parse_mail`.
@@ -19,6 +21,12 @@ pub fn read(alloc: Global) -> Result<bool, MailParseError> {
             && is_bytes(bodies_of(alloc, extended)?, b";x;")
             && is_bytes(bodies_of(alloc, nested)?, b";;x;yy;"),
     )
+}
+
+/// `parse_mail_limited`.
+pub fn read_limited(alloc: Global) -> Result<bool, MailParseError> {
+    let mail = parse_mail_limited(alloc, TWO_CODINGS, 1)?;
+    Ok(mail.subparts.len() == 2)
 }
 
 /// The bodies of a message and its parts, with a semicolon after each.

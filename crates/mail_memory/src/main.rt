@@ -1,4 +1,4 @@
-//! Makes calls on fixed inputs, and says whether each returned the right answer.
+//! Makes calls on fixed inputs, and says whether each returned the right result.
 //!
 //! With the argument `again` the calls of a group for which memory ran out are made again on the
 //! same inputs, as long as that may help: whoever refuses memory now and then sees that what they
@@ -36,7 +36,7 @@ fn main(rt: HostRuntime) -> ExitCode {
     };
     match made {
         Ok(()) => {
-            let _ = println!(rt; "each call gave the right answer");
+            let _ = println!(rt; "each call gave the right result");
             ExitCode::SUCCESS
         }
         Err(fault) => {
@@ -52,7 +52,7 @@ fn make_free_calls(alloc: Global) -> Result<(), Fault> {
         Ok(true) => Ok(()),
         Ok(false) => Err(Fault {
             calls: "without memory",
-            what: "a wrong answer",
+            what: "a wrong result",
         }),
         Err(_fault) => Err(Fault {
             calls: "the inputs",

@@ -1,8 +1,8 @@
 //! Times works on the bytes of standard input: `mail_speed ROUNDS WORK..`.
 //!
 //! WORK is `lines` (each LF is found), `absent` (a byte is looked for that is absent), `text` (a
-//! text is, which begins with LF), `white` (ASCII white space goes), `base64`, `base64-body`
-//! (Base64 in which white space counts as absent, as in the body of a message), `quoted-printable`,
+//! text is, which begins with LF), `whitespace` (ASCII whitespace goes), `base64`, `base64-body`
+//! (Base64 in which whitespace counts as absent, as in the body of a message), `quoted-printable`,
 //! `parse` (a message is read), `values` (and the value of each of its headers) or `full` (the same
 //! of each of its parts, and the bodies are decoded). How much came out goes to standard output,
 //! and the nanoseconds for each byte of the input, the least and the median of the rounds, to

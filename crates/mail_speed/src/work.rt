@@ -11,7 +11,7 @@ pub fn run(alloc: Global, name: &str, input: &[u8]) -> Result<usize, MailParseEr
         "lines" => Ok(lines(input)),
         "absent" => Ok(find_byte(input, 0).unwrap_or(input.len())),
         "text" => Ok(find(input, b"\n\0").unwrap_or(input.len())),
-        "white" => Ok(strip_ascii_whitespace(alloc, input)?.len()),
+        "whitespace" => Ok(strip_ascii_whitespace(alloc, input)?.len()),
         "base64" => length_of(decode_base64(alloc, input)?),
         "base64-body" => length_of(decode_base64_body(alloc, input)?),
         "quoted-printable" => Ok(decode_quoted_printable(alloc, input)?.len()),
