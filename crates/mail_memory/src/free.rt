@@ -33,8 +33,8 @@ pub fn are_right(
 }
 
 /// Whether there is a result, and it is right.
-fn is_true(result: Result<bool, MailParseError>) -> bool {
-    result.unwrap_or(false)
+fn is_true(found: Result<bool, MailParseError>) -> bool {
+    found.unwrap_or(false)
 }
 
 /// Whether a header that has to be kept is refused, since memory is.
