@@ -155,7 +155,7 @@ class Run:
             raise Stopped(f"{name} is not proved as it is: {first_words(said)}")
         self.say(f"{name}: proved as it is, {self.took(ran)}")
         if trial:
-            trial.known = set(said.functions)
+            trial.known = said.names_of(trial.crate.name)
             check_names(trial)
 
     def show_that_it_can_fail(self, trial):

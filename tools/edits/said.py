@@ -53,6 +53,10 @@ class Said:
     errors: list
     text: str
 
+    def names_of(self, crate):
+        """What it says something of in that crate: a first check also tells of the libraries that it builds."""
+        return {name for name in self.functions if name.rpartition(" ")[2].startswith(f"{crate}::")}
+
 
 def read_output(text):
     """Reads what `rt check` printed."""

@@ -186,6 +186,11 @@ class SaidTest(unittest.TestCase):
         fine = [name for name, told in self.said.functions.items() if told.is_fine]
         self.assertEqual(fine, ["impl low::PairFrom", "low::plain", "low::caller"])
 
+    def test_what_is_told_of_a_library_is_not_of_the_crate(self):
+        both = said.read_output("enum below::Kind: proved\nfn below::low: proved\n" + PRINTED)
+        self.assertEqual(both.names_of("low"), self.known)
+        self.assertEqual(both.names_of("below"), {"enum below::Kind", "below::low"})
+
     def test_goals_have_their_places(self):
         self.assertEqual(self.said.errors, [])
         first, second = judge.outcome_of(names("first")[0], self.said), judge.outcome_of(names("second")[0], self.said)
