@@ -1,7 +1,7 @@
 //! The transfer coding Base64.
 ghost use Rattle.std.specs.Prelude.{◌<◌};
 
-use crate::texts::{ByteCase, Bytes, Case, cases};
+use crate::texts::{ByteCase, Bytes, Case, assert_holds, assert_same_for, cases};
 use base64::engine::general_purpose::STANDARD;
 use mail_codec::transfer::{decode_base64, decode_base64_body};
 use std::alloc::{AllocError, Global};
@@ -53,7 +53,7 @@ fn is_letter_of_value(letter: u8, value: Option<u8>) -> bool {
 #[test]
 fn each_letter_of_the_engine(rt: HostRuntime) {
     for letter in 0..=255u8 {
-        assert!(rt; is_letter_of_value(letter, value_of(letter)), "{letter}");
+        assert_holds(&rt, is_letter_of_value(letter, value_of(letter)), letter);
     }
 }
 
@@ -91,7 +91,7 @@ pub fn assert_bytes(
         Ok(bytes) => Ok(Bytes(bytes.as_slice())),
         Err(group) => Err(*group),
     };
-    assert_eq!(*rt; found, Ok(Bytes(expected)), "{call:?} {:?}", Bytes(text));
+    assert_same_for(rt, found, Ok(Bytes(expected)), (call, Bytes(text)));
     Ok(())
 }
 
@@ -104,7 +104,7 @@ pub fn assert_invalid(
     group: usize,
 ) -> Result<(), AllocError> {
     let found = decode(alloc, call, text)?.err();
-    assert_eq!(*rt; found, Some(group), "{call:?} {:?}", Bytes(text));
+    assert_same_for(rt, found, Some(group), (call, Bytes(text)));
     Ok(())
 }
 

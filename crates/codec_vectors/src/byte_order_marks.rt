@@ -1,5 +1,5 @@
 //! Byte order marks, and texts under labels.
-use crate::texts::Bytes;
+use crate::texts::{Bytes, assert_same_for};
 use mail_codec::charset::Charset;
 use std::test::Fail;
 
@@ -108,12 +108,11 @@ static MARKS: [MarkRow; 15] = [
 fn texts_after_a_look_for_a_byte_order_mark(rt: HostRuntime) -> Result<(), Fail> {
     for row in &MARKS {
         let text = row.charset.decode(rt.alloc(), row.bytes)?;
-        assert_eq!(rt;
+        assert_same_for(
+            &rt,
             text.as_str(),
             row.with_look,
-            "{:?} {:?}",
-            row.charset,
-            Bytes(row.bytes)
+            (row.charset, Bytes(row.bytes)),
         );
     }
     Ok(())
@@ -125,12 +124,11 @@ fn texts_without_a_look_for_a_byte_order_mark(rt: HostRuntime) -> Result<(), Fai
         let text = row
             .charset
             .decode_without_bom_handling(rt.alloc(), row.bytes)?;
-        assert_eq!(rt;
+        assert_same_for(
+            &rt,
             text.as_str(),
             row.without_look,
-            "{:?} {:?}",
-            row.charset,
-            Bytes(row.bytes)
+            (row.charset, Bytes(row.bytes)),
         );
     }
     Ok(())
@@ -231,13 +229,7 @@ fn texts_under_labels(rt: HostRuntime) -> Result<(), Fail> {
     for row in &LABELLED {
         let charset = Charset::for_label(row.label.as_bytes()).ok_or("no charset")?;
         let text = charset.decode(rt.alloc(), row.bytes)?;
-        assert_eq!(rt;
-            text.as_str(),
-            row.text,
-            "{} {:?}",
-            row.label,
-            Bytes(row.bytes)
-        );
+        assert_same_for(&rt, text.as_str(), row.text, (row.label, Bytes(row.bytes)));
     }
     Ok(())
 }

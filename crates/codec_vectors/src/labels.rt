@@ -1,5 +1,5 @@
 //! The labels of the charsets.
-use crate::texts::{Bytes, Case, cases, joined};
+use crate::texts::{Bytes, Case, assert_same_for, cases, joined};
 use mail_codec::charset::Charset;
 use std::alloc::{AllocError, Global};
 use std::process::Abort;
@@ -59,10 +59,10 @@ fn assert_label(
     charset: Charset,
 ) -> Result<(), AllocError> {
     let found = Charset::for_label(label.as_bytes());
-    assert_eq!(*rt; found, Some(charset), "{label:?}");
+    assert_same_for(rt, found, Some(charset), label);
     let spaced = format!(in alloc; " \t\n\u{C}\r{label}\r\u{C}\n\t ")?;
     let found = Charset::for_label(spaced.as_bytes());
-    assert_eq!(*rt; found, Some(charset), "{spaced:?}");
+    assert_same_for(rt, found, Some(charset), spaced);
     Ok(())
 }
 
@@ -80,12 +80,7 @@ fn labels_in_either_case_and_between_whitespace(rt: HostRuntime) -> Result<(), F
 fn assert_listed(rt: &impl Abort, alloc: Global, pieces: &[&[u8]]) -> Result<(), AllocError> {
     let label = joined(alloc, pieces)?;
     let label = label.as_slice();
-    assert_eq!(*rt;
-        Charset::for_label(label),
-        listed(label),
-        "{:?}",
-        Bytes(label)
-    );
+    assert_same_for(rt, Charset::for_label(label), listed(label), Bytes(label));
     Ok(())
 }
 
@@ -117,7 +112,7 @@ static NEIGHBOURS: [&str; 8] = [
 fn assert_no_label(rt: &impl Abort, alloc: Global, pieces: &[&[u8]]) -> Result<(), AllocError> {
     let label = joined(alloc, pieces)?;
     let label = label.as_slice();
-    assert_eq!(*rt; Charset::for_label(label), None, "{:?}", Bytes(label));
+    assert_same_for(rt, Charset::for_label(label), None, Bytes(label));
     Ok(())
 }
 
@@ -169,6 +164,6 @@ static UNKNOWN_LABELS: [&str; 25] = [
 #[test]
 fn unknown_labels(rt: HostRuntime) {
     for label in &UNKNOWN_LABELS {
-        assert_eq!(rt; Charset::for_label(label.as_bytes()), None, "{label:?}");
+        assert_same_for(&rt, Charset::for_label(label.as_bytes()), None, label);
     }
 }

@@ -1,6 +1,6 @@
 //! Long texts in Base64, cut by whitespace in many ways, with padding and with faults.
 use crate::base64_texts::{Call, assert_bytes, assert_invalid, decode};
-use crate::texts::{ByteCase, Bytes, Case, cases, joined, repeated, repeated_and};
+use crate::texts::{ByteCase, Bytes, Case, assert_same_for, cases, joined, repeated, repeated_and};
 use std::alloc::{AllocError, Global};
 use std::process::Abort;
 use std::test::Fail;
@@ -60,7 +60,7 @@ fn assert_long(
         let text = repeated(alloc, piece, 3000)?;
         assert_bytes(rt, alloc, call, text.as_slice(), bytes.as_slice())?;
         let faults = long_faults(alloc, call, text.as_slice())?;
-        assert_eq!(*rt; faults, LONG_FAULTS, "{:?}", Bytes(piece));
+        assert_same_for(rt, faults, LONG_FAULTS, Bytes(piece));
     }
     Ok(())
 }

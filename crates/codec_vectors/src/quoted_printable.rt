@@ -1,5 +1,5 @@
 //! The transfer coding quoted-printable.
-use crate::texts::{ByteCase, Bytes, Case, assert_bytes, cases, joined, repeated};
+use crate::texts::{ByteCase, Bytes, Case, assert_bytes, assert_same_for, cases, joined, repeated};
 use mail_codec::transfer::decode_quoted_printable;
 use std::alloc::{AllocError, Global};
 use std::process::Abort;
@@ -57,12 +57,7 @@ fn assert_decoded(
     expected: &[u8],
 ) -> Result<(), AllocError> {
     let bytes = decode_quoted_printable(alloc, text)?;
-    assert_eq!(*rt;
-        Bytes(bytes.as_slice()),
-        Bytes(expected),
-        "{:?}",
-        Bytes(text)
-    );
+    assert_same_for(rt, Bytes(bytes.as_slice()), Bytes(expected), Bytes(text));
     Ok(())
 }
 

@@ -1,5 +1,8 @@
 //! Searches in bytes.
-use crate::texts::{ByteCase, Bytes, Case, all_bytes, assert_bytes, cases, repeated, repeated_and};
+use crate::texts::{
+    ByteCase, Bytes, Case, all_bytes, assert_bytes, assert_holds, assert_same, assert_same_for,
+    cases, repeated, repeated_and,
+};
 use mail_codec::bytescan::{find, find_byte, strip_ascii_whitespace};
 use std::alloc::{AllocError, Global};
 use std::test::Fail;
@@ -80,7 +83,7 @@ static BYTES: [ByteRow; 10] = [
 fn the_first_place_of_a_byte(rt: HostRuntime) -> Result<(), Fail> {
     for row in &BYTES {
         let bytes = repeated_and(rt.alloc(), row.byte, row.times, row.rest)?;
-        assert_eq!(rt; find_byte(bytes.as_slice(), b':'), row.place, "{row:?}");
+        assert_same_for(&rt, find_byte(bytes.as_slice(), b':'), row.place, row);
     }
     Ok(())
 }
@@ -107,8 +110,8 @@ fn is_nowhere(alloc: Global, length: usize) -> Result<bool, AllocError> {
 #[test]
 fn a_byte_at_each_place(rt: HostRuntime) -> Result<(), Fail> {
     for length in 0..=200usize {
-        assert!(rt; is_nowhere(rt.alloc(), length)?, "of {length}");
-        assert_eq!(rt; first_missed(rt.alloc(), length)?, None, "of {length}");
+        assert_holds(&rt, is_nowhere(rt.alloc(), length)?, length);
+        assert_same_for(&rt, first_missed(rt.alloc(), length)?, None, length);
     }
     Ok(())
 }
@@ -117,7 +120,7 @@ fn a_byte_at_each_place(rt: HostRuntime) -> Result<(), Fail> {
 fn each_byte_among_all(rt: HostRuntime) {
     let bytes = all_bytes();
     for byte in 0..=255u8 {
-        assert_eq!(rt; find_byte(&bytes, byte), Some(byte as usize));
+        assert_same(&rt, find_byte(&bytes, byte), Some(byte as usize));
     }
 }
 
@@ -205,13 +208,7 @@ static TEXTS: [TextRow; 14] = [
 fn the_first_place_of_a_text(rt: HostRuntime) {
     for row in &TEXTS {
         let place = find(row.bytes, row.text);
-        assert_eq!(rt;
-            place,
-            row.place,
-            "{:?} in {:?}",
-            Bytes(row.text),
-            Bytes(row.bytes)
-        );
+        assert_same_for(&rt, place, row.place, (Bytes(row.text), Bytes(row.bytes)));
     }
 }
 
@@ -243,7 +240,7 @@ fn each_byte_is_whitespace_or_stays(rt: HostRuntime) -> Result<(), Fail> {
             bytes.as_slice()
         };
         let stripped = strip_ascii_whitespace(rt.alloc(), &bytes)?;
-        assert_eq!(rt; stripped.as_slice(), expected, "{byte}");
+        assert_same_for(&rt, stripped.as_slice(), expected, byte);
     }
     Ok(())
 }
@@ -271,7 +268,7 @@ fn first_misread(alloc: Global, length: usize) -> Result<Option<usize>, AllocErr
 #[test]
 fn a_space_at_each_place(rt: HostRuntime) -> Result<(), Fail> {
     for length in 1..=200usize {
-        assert_eq!(rt; first_misread(rt.alloc(), length)?, None, "of {length}");
+        assert_same_for(&rt, first_misread(rt.alloc(), length)?, None, length);
     }
     Ok(())
 }

@@ -1,5 +1,5 @@
 //! Texts under charsets of one byte for each character.
-use crate::texts::{Bytes, all_bytes};
+use crate::texts::{Bytes, all_bytes, assert_same, assert_same_for};
 use mail_codec::charset::{Charset, decode_ascii, decode_latin1};
 use std::alloc::{AllocError, Global};
 use std::borrow::CowStr;
@@ -30,9 +30,9 @@ fn assert_windows_1252(
     expected: &str,
 ) -> Result<(), AllocError> {
     let text = Charset::Windows1252.decode_without_bom_handling(alloc, bytes)?;
-    assert_eq!(*rt; text.as_str(), expected);
+    assert_same(rt, text.as_str(), expected);
     let text = Charset::Windows1252.decode(alloc, bytes)?;
-    assert_eq!(*rt; text.as_str(), expected);
+    assert_same(rt, text.as_str(), expected);
     Ok(())
 }
 
@@ -50,7 +50,7 @@ fn assert_latin1(
     expected: &str,
 ) -> Result<(), AllocError> {
     let text = decode_latin1(alloc, bytes)?;
-    assert_eq!(*rt; text.as_str(), expected, "{:?}", Bytes(bytes));
+    assert_same_for(rt, text.as_str(), expected, Bytes(bytes));
     Ok(())
 }
 
@@ -62,7 +62,7 @@ fn assert_ascii(
     expected: &str,
 ) -> Result<(), AllocError> {
     let text = decode_ascii(alloc, bytes)?;
-    assert_eq!(*rt; text.as_str(), expected, "{:?}", Bytes(bytes));
+    assert_same_for(rt, text.as_str(), expected, Bytes(bytes));
     Ok(())
 }
 
@@ -117,7 +117,7 @@ fn assert_borrowed(rt: &impl Abort, alloc: Global, byte: u8) -> Result<(), Alloc
         bytes[place] = byte;
         let is_ascii = byte < 0x80;
         let borrowed = are_borrowed(alloc, &bytes)?;
-        assert_eq!(*rt; borrowed, (is_ascii, is_ascii), "{byte} at {place}");
+        assert_same_for(rt, borrowed, (is_ascii, is_ascii), (byte, place));
     }
     Ok(())
 }
@@ -127,16 +127,16 @@ fn texts_are_borrowed_exactly_where_all_is_ascii(rt: HostRuntime) -> Result<(), 
     for byte in 0..=255u8 {
         assert_borrowed(&rt, rt.alloc(), byte)?;
     }
-    assert_eq!(rt; are_borrowed(rt.alloc(), b"")?, (true, true));
+    assert_same(&rt, are_borrowed(rt.alloc(), b"")?, (true, true));
     Ok(())
 }
 
 #[test]
 fn long_texts_borrowed_and_owned(rt: HostRuntime) -> Result<(), Fail> {
     let ascii = b"a long enough text of ASCII bytes alone\0\x7F";
-    assert_eq!(rt; are_borrowed(rt.alloc(), ascii)?, (true, true));
+    assert_same(&rt, are_borrowed(rt.alloc(), ascii)?, (true, true));
     let other = b"Andr\xE9 and a long enough text after the letter";
-    assert_eq!(rt; are_borrowed(rt.alloc(), other)?, (false, false));
+    assert_same(&rt, are_borrowed(rt.alloc(), other)?, (false, false));
     let text = "Andr\u{E9} and a long enough text after the letter";
     assert_latin1(&rt, rt.alloc(), other, text)?;
     let text = "Andr\u{FFFD} and a long enough text after the letter";

@@ -1,5 +1,5 @@
 //! UTF-16: surrogates in pairs and alone, and an odd byte at the end.
-use crate::texts::{Bytes, Case, cases, repeated_and};
+use crate::texts::{Bytes, Case, assert_same, assert_same_for, cases, repeated_and};
 use mail_codec::charset::Charset;
 use std::alloc::{AllocError, Global};
 use std::process::Abort;
@@ -125,9 +125,9 @@ fn assert_letters(
 ) -> Result<(), AllocError> {
     let bytes = letter_bytes(alloc, letters, big)?;
     let text = utf_16(big).decode(alloc, bytes.as_slice())?;
-    assert_eq!(*rt; text.as_str(), expected, "{:?}", Bytes(letters));
+    assert_same_for(rt, text.as_str(), expected, Bytes(letters));
     let text = utf_16(big).decode_without_bom_handling(alloc, bytes.as_slice())?;
-    assert_eq!(*rt; text.as_str(), expected, "{:?}", Bytes(letters));
+    assert_same_for(rt, text.as_str(), expected, Bytes(letters));
     Ok(())
 }
 
@@ -151,7 +151,7 @@ fn rows_of_units(rt: HostRuntime) -> Result<(), Fail> {
         assert_in_both_orders(&rt, rt.alloc(), units.as_bytes(), letters.as_bytes())?;
         count = count.saturating_add(1);
     }
-    assert_eq!(rt; count, 242);
+    assert_same(&rt, count, 242);
     Ok(())
 }
 
@@ -232,7 +232,7 @@ fn assert_numbers(
 ) -> Result<(), Fail> {
     let bytes = number_bytes(alloc, units, big)?;
     let text = utf_16(big).decode_without_bom_handling(alloc, bytes.as_slice())?;
-    assert_eq!(*rt; text.as_str(), expected, "{units}");
+    assert_same_for(rt, text.as_str(), expected, units);
     Ok(())
 }
 
@@ -246,6 +246,6 @@ fn units_at_the_ends_of_the_ranges_of_surrogates(rt: HostRuntime) -> Result<(), 
         assert_numbers(&rt, rt.alloc(), units, false, expected.as_str())?;
         count = count.saturating_add(1);
     }
-    assert_eq!(rt; count, 94);
+    assert_same(&rt, count, 94);
     Ok(())
 }

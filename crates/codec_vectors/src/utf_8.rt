@@ -1,5 +1,5 @@
 //! Bytes that are not UTF-8.
-use crate::texts::{Bytes, Case, cases};
+use crate::texts::{Bytes, Case, assert_same_for, cases};
 use mail_codec::charset::Charset;
 use std::alloc::{AllocError, Global};
 use std::process::Abort;
@@ -40,7 +40,7 @@ fn assert_utf_8(
     expected: &str,
 ) -> Result<(), AllocError> {
     let text = Charset::Utf8.decode_without_bom_handling(alloc, bytes)?;
-    assert_eq!(*rt; text.as_str(), expected, "{:?}", Bytes(bytes));
+    assert_same_for(rt, text.as_str(), expected, Bytes(bytes));
     Ok(())
 }
 

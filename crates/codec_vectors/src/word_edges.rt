@@ -1,6 +1,6 @@
 //! Searches about the edges of words of eight bytes and of steps of 64, and about the bytes that a
 //! borrow within a word could mark.
-use crate::texts::{repeated, repeated_and};
+use crate::texts::{assert_holds, assert_same_for, repeated, repeated_and};
 use mail_codec::bytescan::{find, find_byte, strip_ascii_whitespace};
 use std::alloc::{AllocError, Global};
 use std::test::Fail;
@@ -31,7 +31,7 @@ fn first_filler_missed(byte: u8) -> Option<u8> {
 #[test]
 fn each_byte_among_each_other(rt: HostRuntime) {
     for byte in 0..=255u8 {
-        assert_eq!(rt; first_filler_missed(byte), None, "{byte}");
+        assert_same_for(&rt, first_filler_missed(byte), None, byte);
     }
 }
 
@@ -63,7 +63,7 @@ fn first_neighbour_missed(byte: u8) -> Option<u8> {
 #[test]
 fn each_byte_beside_bytes_that_borrow(rt: HostRuntime) {
     for byte in 0..=255u8 {
-        assert_eq!(rt; first_neighbour_missed(byte), None, "{byte}");
+        assert_same_for(&rt, first_neighbour_missed(byte), None, byte);
     }
 }
 
@@ -83,7 +83,7 @@ fn first_missed_from(alloc: Global, start: usize) -> Result<Option<usize>, Alloc
 #[test]
 fn a_byte_from_each_start(rt: HostRuntime) -> Result<(), Fail> {
     for start in 0..16usize {
-        assert_eq!(rt; first_missed_from(rt.alloc(), start)?, None, "from {start}");
+        assert_same_for(&rt, first_missed_from(rt.alloc(), start)?, None, start);
     }
     Ok(())
 }
@@ -112,7 +112,7 @@ fn first_misread(alloc: Global, byte: u8) -> Result<Option<usize>, AllocError> {
 #[test]
 fn each_low_byte_at_each_place(rt: HostRuntime) -> Result<(), Fail> {
     for byte in 0..=0x20u8 {
-        assert_eq!(rt; first_misread(rt.alloc(), byte)?, None, "{byte}");
+        assert_same_for(&rt, first_misread(rt.alloc(), byte)?, None, byte);
     }
     Ok(())
 }
@@ -129,7 +129,7 @@ fn are_runs_read(alloc: Global, length: usize) -> Result<bool, AllocError> {
 #[test]
 fn only_whitespace_and_only_other_low_bytes(rt: HostRuntime) -> Result<(), Fail> {
     for length in 0..=140usize {
-        assert!(rt; are_runs_read(rt.alloc(), length)?, "{length}");
+        assert_holds(&rt, are_runs_read(rt.alloc(), length)?, length);
     }
     Ok(())
 }
@@ -153,7 +153,7 @@ fn first_text_missed(alloc: Global, letters: usize) -> Result<Option<usize>, All
 #[test]
 fn a_text_across_edges(rt: HostRuntime) -> Result<(), Fail> {
     for letters in [1usize, 2, 6, 7, 8, 9, 15, 16, 62, 63, 64, 65, 70] {
-        assert_eq!(rt; first_text_missed(rt.alloc(), letters)?, None, "{letters}");
+        assert_same_for(&rt, first_text_missed(rt.alloc(), letters)?, None, letters);
     }
     Ok(())
 }

@@ -1,5 +1,5 @@
 //! Bodies by their transfer coding and their charset.
-use crate::texts::{Bytes, Case, cases, repeated, shown_error};
+use crate::texts::{Bytes, Case, assert_same, assert_same_for, cases, repeated, shown_error};
 use mailparse::body::Body;
 use mailparse::{MailParseError, ParsedContentType};
 use std::alloc::{AllocError, Global};
@@ -96,13 +96,13 @@ fn a_body_has_the_kind_that_is_named_to_the_byte(rt: HostRuntime) -> Result<(), 
     for case in &KINDS {
         let encoding = coding(rt.alloc(), case.input)?;
         let body = Body::new(b"aG k=", &ctype, &encoding);
-        assert_eq!(rt; kind_of(&body), case.expected, "{case:?}");
-        assert_eq!(rt; raw_bytes(&body), b"aG k=".as_slice(), "{case:?}");
-        assert_eq!(rt; charset_label(&body), "X-Label", "{case:?}");
+        assert_same_for(&rt, kind_of(&body), case.expected, case);
+        assert_same_for(&rt, raw_bytes(&body), b"aG k=".as_slice(), case);
+        assert_same_for(&rt, charset_label(&body), "X-Label", case);
     }
     let empty = Some(String::new(rt.alloc()));
     let body = Body::new(b"x", &ctype, &empty);
-    assert_eq!(rt; kind_of(&body), "7bit", "the empty name");
+    assert_same_for(&rt, kind_of(&body), "7bit", "the empty name");
     Ok(())
 }
 
@@ -217,12 +217,11 @@ fn bytes_under(alloc: Global, name: &str, raw: &[u8]) -> Result<Vec<u8>, MailPar
 fn bodies_are_decoded_to_bytes(rt: HostRuntime) -> Result<(), Fail> {
     for row in &DECODED_BYTES {
         let decoded = bytes_under(rt.alloc(), row.coding, row.raw)?;
-        assert_eq!(rt;
+        assert_same_for(
+            &rt,
             Bytes(decoded.as_slice()),
             Bytes(row.decoded),
-            "{} {:?}",
-            row.coding,
-            Bytes(row.raw)
+            (row.coding, Bytes(row.raw)),
         );
     }
     Ok(())
@@ -254,8 +253,8 @@ fn base64_is_refused_at_its_first_invalid_group(rt: HostRuntime) -> Result<(), F
         let group = case.expected;
         let text = format!(in rt.alloc(); "Base64 decode error: group {group} is no Base64 group")?;
         let [of_bytes, of_text] = base64_errors(rt.alloc(), case.input)?;
-        assert_eq!(rt; of_bytes, text, "{:?}", Bytes(case.input));
-        assert_eq!(rt; of_text, text, "{:?}", Bytes(case.input));
+        assert_same_for(&rt, of_bytes.as_str(), text.as_str(), Bytes(case.input));
+        assert_same_for(&rt, of_text.as_str(), text.as_str(), Bytes(case.input));
     }
     Ok(())
 }
@@ -443,13 +442,11 @@ fn text_under(
 fn bodies_are_decoded_to_texts(rt: HostRuntime) -> Result<(), Fail> {
     for row in &DECODED_TEXTS {
         let text = text_under(rt.alloc(), row.coding, row.label, row.raw)?;
-        assert_eq!(rt;
+        assert_same_for(
+            &rt,
             text.as_str(),
             row.text,
-            "{} {} {:?}",
-            row.coding,
-            row.label,
-            Bytes(row.raw)
+            (row.coding, row.label, Bytes(row.raw)),
         );
     }
     Ok(())
@@ -458,12 +455,12 @@ fn bodies_are_decoded_to_texts(rt: HostRuntime) -> Result<(), Fail> {
 #[test]
 fn the_default_content_type(rt: HostRuntime) -> Result<(), Fail> {
     let ctype = ParsedContentType::default(rt.alloc())?;
-    assert_eq!(rt; ctype.mimetype.as_str(), "text/plain");
-    assert_eq!(rt; ctype.charset.as_str(), "us-ascii");
-    assert_eq!(rt; ctype.params.len(), 0);
+    assert_same(&rt, ctype.mimetype.as_str(), "text/plain");
+    assert_same(&rt, ctype.charset.as_str(), "us-ascii");
+    assert_same(&rt, ctype.params.len(), 0);
     let shown = format!(in rt.alloc(); "{ctype:?}")?;
     let text = r#"ParsedContentType { mimetype: "text/plain", charset: "us-ascii", params: {} }"#;
-    assert_eq!(rt; shown.as_str(), text);
+    assert_same(&rt, shown.as_str(), text);
     Ok(())
 }
 

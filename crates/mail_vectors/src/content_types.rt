@@ -1,7 +1,7 @@
 //! Content types with their parameters.
 //!
 //! The expected values were compared with those of the Rust crate `mailparse` 0.18.0.
-use crate::texts::repeated;
+use crate::texts::{assert_holds, assert_same, assert_same_for, repeated};
 use mailparse::{MailParseError, ParsedContentType, parse_content_type, parse_header};
 use std::alloc::Global;
 use std::collections::BTreeMap;
@@ -254,12 +254,12 @@ static TYPES: [TypeRow; 35] = [
 
 /// Asserts that a content type says what the row says.
 fn assert_type(rt: &impl Abort, found: &ParsedContentType, row: &TypeRow) {
-    assert_eq!(*rt; found.mimetype.as_str(), row.mimetype, "{row:?}");
-    assert_eq!(*rt; found.charset.as_str(), row.charset, "{row:?}");
-    assert!(*rt;
+    assert_same_for(rt, found.mimetype.as_str(), row.mimetype, row);
+    assert_same_for(rt, found.charset.as_str(), row.charset, row);
+    assert_holds(
+        rt,
         are_params(&found.params, row.params),
-        "{row:?}, {:?}",
-        found.params
+        (row, &found.params),
     );
 }
 
@@ -307,10 +307,10 @@ fn count_of_params(alloc: Global, piece: &str, times: usize) -> Result<usize, Fa
 #[test]
 fn long_texts(rt: HostRuntime) -> Result<(), Fail> {
     let mib = 1 << 20;
-    assert_eq!(rt; count_of_params(rt.alloc(), ";", mib)?, 0);
-    assert_eq!(rt; count_of_params(rt.alloc(), "\"", mib)?, 0);
-    assert_eq!(rt; count_of_params(rt.alloc(), "a=\"\\\"", mib / 5)?, 1);
-    assert_eq!(rt; count_of_params(rt.alloc(), "a=1;", mib / 4)?, 1);
+    assert_same(&rt, count_of_params(rt.alloc(), ";", mib)?, 0);
+    assert_same(&rt, count_of_params(rt.alloc(), "\"", mib)?, 0);
+    assert_same(&rt, count_of_params(rt.alloc(), "a=\"\\\"", mib / 5)?, 1);
+    assert_same(&rt, count_of_params(rt.alloc(), "a=1;", mib / 4)?, 1);
     Ok(())
 }
 
@@ -326,8 +326,8 @@ fn type_of_many_names(alloc: Global, count: u32) -> Result<ParsedContentType, Ma
 #[test]
 fn many_names(rt: HostRuntime) -> Result<(), Fail> {
     let found = type_of_many_names(rt.alloc(), 100_000)?;
-    assert_eq!(rt; found.params.len(), 100_000);
+    assert_same(&rt, found.params.len(), 100_000);
     let last = found.params.get("n99999").ok_or("no last name")?;
-    assert_eq!(rt; last.as_str(), "v99999");
+    assert_same(&rt, last.as_str(), "v99999");
     Ok(())
 }

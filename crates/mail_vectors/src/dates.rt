@@ -2,7 +2,7 @@
 //!
 //! The names of months and zones are those of RFC 5322, sections 3.3 and 4.3. The seconds are those
 //! of the Rust crate.
-use crate::texts::{Case, cases, refusal};
+use crate::texts::{Case, assert_same, assert_same_for, cases, refusal};
 use mailparse::{MailHeaderMap, MailParseError, dateparse, parse_mail};
 use std::alloc::Global;
 use std::process::Abort;
@@ -17,7 +17,7 @@ type RefusedCase = Case<&'static str, &'static str>;
 /// Asserts that each text is a date of these seconds.
 fn assert_seconds(rt: &impl Abort, cases: &[DateCase]) -> Result<(), MailParseError> {
     for case in cases {
-        assert_eq!(*rt; dateparse(case.input)?, case.expected, "{case:?}");
+        assert_same_for(rt, dateparse(case.input)?, case.expected, case);
     }
     Ok(())
 }
@@ -25,7 +25,7 @@ fn assert_seconds(rt: &impl Abort, cases: &[DateCase]) -> Result<(), MailParseEr
 /// Asserts that each text is refused.
 fn assert_refused(rt: &impl Abort, cases: &[RefusedCase]) {
     for case in cases {
-        assert_eq!(*rt; refusal(dateparse(case.input)), case.expected, "{case:?}");
+        assert_same_for(rt, refusal(dateparse(case.input)), case.expected, case);
     }
 }
 
@@ -138,7 +138,7 @@ fn assert_in_each_case(
     seconds: i64,
 ) -> Result<(), MailParseError> {
     let found = seconds_in_each_case(alloc, text)?;
-    assert_eq!(*rt; found, [seconds; 3], "{text}");
+    assert_same_for(rt, found, [seconds; 3], text);
     Ok(())
 }
 
@@ -343,6 +343,6 @@ fn the_date_of_a_message(rt: HostRuntime) -> Result<(), Fail> {
         Some(date) => dateparse(date.as_str())?,
         None => 0,
     };
-    assert_eq!(rt; seconds, 1_475_417_182);
+    assert_same(&rt, seconds, 1_475_417_182);
     Ok(())
 }

@@ -2,7 +2,9 @@
 //!
 //! The expected texts were printed by a Rust program (rustc 1.95) that shows a key and a value as
 //! `format!("{:?}", String::from_utf8_lossy(bytes))` in a `debug_struct` of these names.
-use crate::texts::{Case, TextCase, all_key_bytes, assert_texts, cases, text_or_error};
+use crate::texts::{
+    Case, TextCase, all_key_bytes, assert_same, assert_texts, cases, text_or_error,
+};
 use mailparse::{MailParseError, parse_header, parse_mail};
 use std::alloc::{AllocError, Global};
 use std::test::Fail;
@@ -59,7 +61,7 @@ fn the_debug_text_of_all_key_bytes(rt: HostRuntime) -> Result<(), Fail> {
     let raw = all_key_bytes(rt.alloc())?;
     let expected = shown_key_of_all_bytes(rt.alloc())?;
     let shown = shown_header(rt.alloc(), raw.as_slice())?;
-    assert_eq!(rt; shown.as_str(), expected.as_str());
+    assert_same(&rt, shown.as_str(), expected.as_str());
     Ok(())
 }
 

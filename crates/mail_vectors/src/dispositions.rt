@@ -2,6 +2,7 @@
 //!
 //! The expected values were compared with those of the Rust crate `mailparse` 0.18.0.
 use crate::content_types::{Params, are_params};
+use crate::texts::{assert_holds, assert_same, assert_same_for};
 use mailparse::{
     DispositionType, MailParseError, ParsedContentDisposition, parse_content_disposition,
 };
@@ -94,8 +95,8 @@ fn assert_kind(
     row: &DispositionRow,
 ) -> Result<(), MailParseError> {
     let shown = format!(in alloc; "{kind:?}")?;
-    assert_eq!(*rt; shown.as_str(), row.kind, "{row:?}");
-    assert!(*rt; kind.clone(alloc)? == *kind, "{row:?}");
+    assert_same_for(rt, shown.as_str(), row.kind, row);
+    assert_holds(rt, kind.clone(alloc)? == *kind, row);
     Ok(())
 }
 
@@ -104,10 +105,10 @@ fn content_dispositions(rt: HostRuntime) -> Result<(), Fail> {
     for row in &DISPOSITIONS {
         let found = parse_content_disposition(rt.alloc(), row.text)?;
         assert_kind(&rt, rt.alloc(), &found.disposition, row)?;
-        assert!(rt;
+        assert_holds(
+            &rt,
             are_params(&found.params, row.params),
-            "{row:?}, {:?}",
-            found.params
+            (row, &found.params),
         );
     }
     Ok(())
@@ -136,6 +137,6 @@ fn the_default_disposition(rt: HostRuntime) -> Result<(), Fail> {
     assert!(rt; found.params.is_empty());
     let shown = format!(in rt.alloc(); "{found:?}")?;
     let text = "ParsedContentDisposition { disposition: Inline, params: {} }";
-    assert_eq!(rt; shown.as_str(), text);
+    assert_same(&rt, shown.as_str(), text);
     Ok(())
 }

@@ -1,5 +1,5 @@
 //! The texts of the errors, and what they wrap.
-use crate::texts::{Case, cases};
+use crate::texts::{Case, assert_holds, assert_same, cases};
 use mailparse::{Base64Fault, MailParseError, QuotedPrintableFault, Wrapped};
 use std::alloc::{AllocError, Global};
 use std::borrow::CowStr;
@@ -24,7 +24,7 @@ fn display_texts(rt: HostRuntime) -> Result<(), Fail> {
     };
     for case in &rows {
         let shown = format!(in rt.alloc(); "{}", case.input)?;
-        assert_eq!(rt; shown.as_str(), case.expected);
+        assert_same(&rt, shown.as_str(), case.expected);
     }
     Ok(())
 }
@@ -42,7 +42,7 @@ fn debug_texts(rt: HostRuntime) -> Result<(), Fail> {
     };
     for case in &rows {
         let shown = format!(in rt.alloc(); "{:?}", case.input)?;
-        assert_eq!(rt; shown.as_str(), case.expected);
+        assert_same(&rt, shown.as_str(), case.expected);
     }
     Ok(())
 }
@@ -51,14 +51,16 @@ fn debug_texts(rt: HostRuntime) -> Result<(), Fail> {
 fn the_faults_alone(rt: HostRuntime) -> Result<(), Fail> {
     let fault = Base64Fault { group: 3 };
     let text = format!(in rt.alloc(); "{fault}, {QuotedPrintableFault}")?;
-    assert_eq!(rt;
+    assert_same(
+        &rt,
         text.as_str(),
-        "group 3 is no Base64 group, no quoted-printable text"
+        "group 3 is no Base64 group, no quoted-printable text",
     );
     let text = format!(in rt.alloc(); "{fault:?}, {QuotedPrintableFault:?}")?;
-    assert_eq!(rt;
+    assert_same(
+        &rt,
         text.as_str(),
-        "Base64Fault { group: 3 }, QuotedPrintableFault"
+        "Base64Fault { group: 3 }, QuotedPrintableFault",
     );
     Ok(())
 }
@@ -80,9 +82,10 @@ fn shown_source(alloc: Global, error: &MailParseError) -> Result<String, AllocEr
 fn the_fault_that_an_error_wraps(rt: HostRuntime) -> Result<(), Fail> {
     let error = MailParseError::Base64DecodeError(Base64Fault { group: 5 });
     assert!(rt; wraps_group(&error, 5));
-    assert_eq!(rt;
+    assert_same(
+        &rt,
         shown_source(rt.alloc(), &error)?.as_str(),
-        "Base64(Base64Fault { group: 5 })"
+        "Base64(Base64Fault { group: 5 })",
     );
     let error = MailParseError::QuotedPrintableDecodeError(QuotedPrintableFault);
     assert!(rt; matches!(error.source(), Some(Wrapped::QuotedPrintable(_))));
@@ -97,6 +100,6 @@ fn errors_that_wrap_nothing(rt: HostRuntime) {
         MailParseError::EncodingError(CowStr::Borrowed("x")),
     ];
     for error in &rows {
-        assert!(rt; error.source().is_none(), "{error:?}");
+        assert_holds(&rt, error.source().is_none(), error);
     }
 }

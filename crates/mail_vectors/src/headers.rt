@@ -1,7 +1,7 @@
 //! Single headers, and the block of headers.
 use crate::texts::{
-    Bytes, Case, LEADING_SPACE, LONE_CR, TextCase, assert_texts, cases, joined, refusal,
-    refusal_text, repeated,
+    Bytes, Case, LEADING_SPACE, LONE_CR, TextCase, assert_holds, assert_same, assert_same_for,
+    assert_texts, cases, joined, refusal, refusal_text, repeated,
 };
 use mailparse::{MailHeader, MailParseError, parse_header, parse_headers};
 use std::alloc::{AllocError, Global};
@@ -213,12 +213,7 @@ fn assert_header(
         Bytes(header.get_value_raw()),
         end,
     );
-    assert_eq!(*rt;
-        found,
-        (Bytes(key), Bytes(value), length),
-        "{:?}",
-        Bytes(raw)
-    );
+    assert_same_for(rt, found, (Bytes(key), Bytes(value), length), Bytes(raw));
     Ok(())
 }
 
@@ -252,7 +247,7 @@ fn refused_headers(rt: HostRuntime) -> Result<(), Fail> {
 fn assert_header_of_byte(rt: &impl Abort, byte: u8) -> Result<(), MailParseError> {
     let raw = [byte];
     match byte {
-        b' ' => assert_eq!(*rt; refusal(parse_header(&raw)), LEADING_SPACE),
+        b' ' => assert_same(rt, refusal(parse_header(&raw)), LEADING_SPACE),
         b'\n' | b':' => assert_header(rt, &raw, b"", b"", 1)?,
         _ => assert_header(rt, &raw, &raw, b"", 1)?,
     }
@@ -366,7 +361,7 @@ fn assert_block(
     end: usize,
 ) -> Result<(), MailParseError> {
     let (headers, index) = parse_headers(alloc, raw)?;
-    assert_eq!(*rt; (headers.len(), index), (count, end), "{:?}", Bytes(raw));
+    assert_same_for(rt, (headers.len(), index), (count, end), Bytes(raw));
     Ok(())
 }
 
@@ -404,8 +399,8 @@ fn refused_blocks(rt: HostRuntime) -> Result<(), Fail> {
 fn assert_block_of_byte(rt: &impl Abort, alloc: Global, byte: u8) -> Result<(), MailParseError> {
     let raw = [byte];
     match byte {
-        b' ' => assert_eq!(*rt; refusal(parse_headers(alloc, &raw)), LEADING_SPACE),
-        b'\r' => assert_eq!(*rt; refusal(parse_headers(alloc, &raw)), LONE_CR),
+        b' ' => assert_same(rt, refusal(parse_headers(alloc, &raw)), LEADING_SPACE),
+        b'\r' => assert_same(rt, refusal(parse_headers(alloc, &raw)), LONE_CR),
         b'\n' => assert_block(rt, alloc, &raw, 0, 1)?,
         _ => assert_block(rt, alloc, &raw, 1, 1)?,
     }
@@ -424,11 +419,11 @@ fn a_block_of_each_byte_alone(rt: HostRuntime) -> Result<(), Fail> {
 fn the_second_header_of_a_block(rt: HostRuntime) -> Result<(), Fail> {
     let raw = b"Subject: Test\nFrom: me@myself.com\nTo: you@yourself.com";
     let (headers, _) = parse_headers(rt.alloc(), raw)?;
-    assert_eq!(rt; headers.len(), 3);
+    assert_same(&rt, headers.len(), 3);
     let header = &headers[1];
-    assert_eq!(rt; header.get_key(rt.alloc())?.as_str(), "From");
-    assert_eq!(rt; header.get_key_raw(), b"From".as_slice());
-    assert_eq!(rt; header.get_value_raw(), b"me@myself.com".as_slice());
+    assert_same(&rt, header.get_key(rt.alloc())?.as_str(), "From");
+    assert_same(&rt, header.get_key_raw(), b"From".as_slice());
+    assert_same(&rt, header.get_value_raw(), b"me@myself.com".as_slice());
     Ok(())
 }
 
@@ -490,7 +485,7 @@ fn is_megabyte(alloc: Global, piece: &[u8], stays: bool) -> Result<bool, MailPar
 fn values_of_a_megabyte(rt: HostRuntime) -> Result<(), Fail> {
     for case in &REPEATED_PIECES {
         let is_read = is_megabyte(rt.alloc(), case.input, case.expected)?;
-        assert!(rt; is_read, "{:?} stays: {}", Bytes(case.input), case.expected);
+        assert_holds(&rt, is_read, (Bytes(case.input), case.expected));
     }
     Ok(())
 }

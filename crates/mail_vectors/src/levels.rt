@@ -1,6 +1,6 @@
 //! Limits on levels that the caller chooses.
 use crate::parts::{TOO_DEEP, TWO_PARTS, message_with, nested};
-use crate::texts::{Bytes, LEADING_SPACE, refusal};
+use crate::texts::{Bytes, LEADING_SPACE, assert_same, assert_same_for, refusal};
 use mailparse::{MAX_LEVELS, MailParseError, ParsedMail, parse_mail_limited};
 use std::alloc::Global;
 use std::process::Abort;
@@ -57,13 +57,7 @@ static LIMITS: [LimitRow; 7] = [
 fn assert_limit(rt: &impl Abort, alloc: Global, row: &LimitRow) -> Result<(), MailParseError> {
     let raw = message_with(alloc, row.body)?;
     let found = refusal(under(alloc, raw.as_slice(), row.levels));
-    assert_eq!(*rt;
-        found,
-        row.refusal,
-        "{:?} under {}",
-        Bytes(row.body),
-        row.levels
-    );
+    assert_same_for(rt, found, row.refusal, (Bytes(row.body), row.levels));
     Ok(())
 }
 
@@ -86,15 +80,15 @@ fn assert_nested(rt: &impl Abort, alloc: Global, times: u8) -> Result<(), MailPa
     let raw = nested(alloc, usize::from(times))?;
     let mail = under(alloc, raw.as_slice(), times)?;
     let wanted = usize::from(times).saturating_add(1);
-    assert_eq!(*rt; mail.parts(alloc)?.count(), wanted);
+    assert_same(rt, mail.parts(alloc)?.count(), wanted);
     let fewer = times.saturating_sub(1);
-    assert_eq!(*rt; refusal(under(alloc, raw.as_slice(), fewer)), TOO_DEEP);
+    assert_same(rt, refusal(under(alloc, raw.as_slice(), fewer)), TOO_DEEP);
     Ok(())
 }
 
 #[test]
 fn nested_messages_under_limits(rt: HostRuntime) -> Result<(), Fail> {
-    assert_eq!(rt; MAX_LEVELS, 100);
+    assert_same(&rt, MAX_LEVELS, 100);
     assert_nested(&rt, rt.alloc(), 3)?;
     assert_nested(&rt, rt.alloc(), 100)?;
     Ok(())

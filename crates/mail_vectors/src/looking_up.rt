@@ -1,5 +1,5 @@
 //! Keys as text, and looking headers up by their names.
-use crate::texts::{Bytes, all_key_bytes, joined, repeated};
+use crate::texts::{Bytes, all_key_bytes, assert_same, assert_same_for, joined, repeated};
 use mailparse::{
     MailHeader, MailHeaderMap, MailParseError, parse_header, parse_headers, parse_mail,
 };
@@ -208,21 +208,14 @@ fn assert_values<M: MailHeaderMap>(
     row: &NameRow,
 ) -> Result<(), MailParseError> {
     let found = all_raw_values(alloc, map, row.name)?;
-    assert_eq!(*rt;
+    assert_same_for(
+        rt,
         Bytes(found.as_slice()),
         Bytes(row.values),
-        "{} in {:?}",
-        row.name,
-        Bytes(row.raw)
+        (row.name, Bytes(row.raw)),
     );
     let first = first_raw_value(map, row.name);
-    assert_eq!(*rt;
-        first,
-        first_of(row.values),
-        "{} in {:?}",
-        row.name,
-        Bytes(row.raw)
-    );
+    assert_same_for(rt, first, first_of(row.values), (row.name, Bytes(row.raw)));
     Ok(())
 }
 
@@ -274,7 +267,7 @@ fn first_misread(alloc: Global, byte: u8) -> Result<Option<u8>, MailParseError> 
 fn keys_of_each_byte_by_names_of_each_character(rt: HostRuntime) -> Result<(), Fail> {
     for byte in 0..=255u8 {
         if byte != b':' && byte != b'\n' {
-            assert_eq!(rt; first_misread(rt.alloc(), byte)?, None, "{byte}");
+            assert_same_for(&rt, first_misread(rt.alloc(), byte)?, None, byte);
         }
     }
     Ok(())
@@ -289,14 +282,15 @@ fn assert_key_text(
     is_borrowed: bool,
 ) -> Result<(), MailParseError> {
     let text = header.get_key_ref(alloc)?;
-    assert_eq!(*rt; text.as_str(), expected);
-    assert_eq!(*rt;
+    assert_same(rt, text.as_str(), expected);
+    assert_same_for(
+        rt,
         matches!(text, CowStr::Borrowed(_)),
         is_borrowed,
-        "{expected:?}"
+        expected,
     );
     let owned = header.get_key(alloc)?;
-    assert_eq!(*rt; owned.as_str(), expected);
+    assert_same(rt, owned.as_str(), expected);
     Ok(())
 }
 
@@ -335,9 +329,9 @@ fn a_key_of_all_bytes(rt: HostRuntime) -> Result<(), Fail> {
     raw.extend_from_slice(b": v")?;
     let name = text_of_all_key_bytes(rt.alloc())?;
     let (headers, _) = parse_headers(rt.alloc(), raw.as_slice())?;
-    assert_eq!(rt; headers.len(), 1);
+    assert_same(&rt, headers.len(), 1);
     let value = first_raw_value(&headers, name.as_str()).ok_or("no such header")?;
-    assert_eq!(rt; value, b"v".as_slice());
+    assert_same(&rt, value, b"v".as_slice());
     Ok(assert_key_text(&rt, rt.alloc(), &headers[0], name.as_str(), false)?)
 }
 
@@ -351,11 +345,19 @@ fn many_and_last(alloc: Global) -> Result<Vec<u8>, AllocError> {
 fn the_last_of_ten_thousand_headers(rt: HostRuntime) -> Result<(), Fail> {
     let raw = many_and_last(rt.alloc())?;
     let (headers, _) = parse_headers(rt.alloc(), raw.as_slice())?;
-    assert_eq!(rt; headers.len(), 10_000);
-    assert_eq!(rt; first_raw_value(&headers, "LAST"), Some(b"here".as_slice()));
+    assert_same(&rt, headers.len(), 10_000);
+    assert_same(
+        &rt,
+        first_raw_value(&headers, "LAST"),
+        Some(b"here".as_slice()),
+    );
     let last = all_raw_values(rt.alloc(), &headers, "last")?;
-    assert_eq!(rt; last.as_slice(), b"here;".as_slice());
-    assert_eq!(rt; headers.get_all_headers(rt.alloc(), "las")?.len(), 9_999);
-    assert_eq!(rt; headers.get_all_headers(rt.alloc(), "lastly")?.len(), 0);
+    assert_same(&rt, last.as_slice(), b"here;".as_slice());
+    assert_same(
+        &rt,
+        headers.get_all_headers(rt.alloc(), "las")?.len(),
+        9_999,
+    );
+    assert_same(&rt, headers.get_all_headers(rt.alloc(), "lastly")?.len(), 0);
     Ok(())
 }

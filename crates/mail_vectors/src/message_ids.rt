@@ -1,5 +1,5 @@
 //! Lists of message ids.
-use crate::texts::{Case, cases, refusal};
+use crate::texts::{Case, assert_holds, assert_same, assert_same_for, cases, refusal};
 use mailparse::{MailParseError, MessageIdList, msgidparse};
 use std::alloc::Global;
 use std::test::Fail;
@@ -112,9 +112,9 @@ static LISTS: [ListRow; 16] = [
 fn lists_of_ids(rt: HostRuntime) -> Result<(), Fail> {
     for row in &LISTS {
         let list = msgidparse(rt.alloc(), row.text)?;
-        assert!(rt; is_list(&list, row.ids), "{row:?}, {list:?}");
+        assert_holds(&rt, is_list(&list, row.ids), (row, &list));
         let shown = format!(in rt.alloc(); "{list}")?;
-        assert_eq!(rt; shown.as_str(), row.shown, "{row:?}");
+        assert_same_for(&rt, shown.as_str(), row.shown, row);
     }
     Ok(())
 }
@@ -144,7 +144,7 @@ static REFUSED: [Case<&str, &str>; 14] = cases! {
 fn refused_lists(rt: HostRuntime) {
     for case in &REFUSED {
         let text = refusal(msgidparse(rt.alloc(), case.input));
-        assert_eq!(rt; text, case.expected, "{case:?}");
+        assert_same_for(&rt, text, case.expected, case);
     }
 }
 
@@ -162,12 +162,12 @@ fn a_list_of_ids_that_is_changed(rt: HostRuntime) -> Result<(), Fail> {
     let alloc = rt.alloc();
     let mut list = list_of(alloc, &["a", "c>"])?;
     let shown = format!(in alloc; "{list}")?;
-    assert_eq!(rt; shown.as_str(), "<a> <c>>");
+    assert_same(&rt, shown.as_str(), "<a> <c>>");
     let copy = list.clone(alloc)?;
     assert!(rt; copy == list);
     match list.pop() {
         Some(last) => assert!(rt; last.as_str() == "c>"),
-        None => assert!(rt; false, "the list is not empty"),
+        None => assert_holds(&rt, false, "the list is not empty"),
     }
     assert!(rt; copy != list);
     assert!(rt; is_list(&list, &["a"]));
@@ -182,6 +182,6 @@ fn the_debug_text_of_a_list_of_ids(rt: HostRuntime) -> Result<(), Fail> {
     let alloc = rt.alloc();
     let list = list_of(alloc, &["a b", "\""])?;
     let text = format!(in alloc; "{list:?}")?;
-    assert_eq!(rt; text.as_str(), r#"MessageIdList(["a b", "\""])"#);
+    assert_same(&rt, text.as_str(), r#"MessageIdList(["a b", "\""])"#);
     Ok(())
 }

@@ -1,7 +1,7 @@
 //! Whole messages: their block, their headers and their body.
 use crate::texts::{
-    Bytes, Case, LEADING_SPACE, LONE_CR, TextCase, assert_texts, cases, refusal, refusal_text,
-    repeated,
+    Bytes, Case, LEADING_SPACE, LONE_CR, TextCase, assert_same, assert_same_for, assert_texts,
+    cases, refusal, refusal_text, repeated,
 };
 use mailparse::{MailParseError, ParsedMail, parse_mail};
 use std::alloc::{AllocError, Global};
@@ -68,13 +68,13 @@ fn assert_message(
 ) -> Result<(), MailParseError> {
     let mail = parse_mail(alloc, raw)?;
     let found = Bytes(mail.get_headers().get_raw_bytes());
-    assert_eq!(*rt;
+    assert_same_for(
+        rt,
         (found, mail.headers.len()),
         (Bytes(block), count),
-        "{:?}",
-        Bytes(raw)
+        Bytes(raw),
     );
-    assert_eq!(*rt; Bytes(mail.raw_bytes), Bytes(raw));
+    assert_same(rt, Bytes(mail.raw_bytes), Bytes(raw));
     Ok(())
 }
 
@@ -109,8 +109,8 @@ fn refused_messages(rt: HostRuntime) -> Result<(), Fail> {
 fn assert_message_of_byte(rt: &impl Abort, alloc: Global, byte: u8) -> Result<(), MailParseError> {
     let raw = [byte];
     match byte {
-        b' ' => assert_eq!(*rt; refusal(parse_mail(alloc, &raw)), LEADING_SPACE),
-        b'\r' => assert_eq!(*rt; refusal(parse_mail(alloc, &raw)), LONE_CR),
+        b' ' => assert_same(rt, refusal(parse_mail(alloc, &raw)), LEADING_SPACE),
+        b'\r' => assert_same(rt, refusal(parse_mail(alloc, &raw)), LONE_CR),
         b'\n' => assert_message(rt, alloc, &raw, &raw, 0)?,
         _ => assert_message(rt, alloc, &raw, &raw, 1)?,
     }
@@ -161,8 +161,8 @@ fn count_in_place(mail: &ParsedMail<'_>) -> usize {
 #[test]
 fn headers_of_a_message_in_order(rt: HostRuntime) -> Result<(), Fail> {
     let mail = parse_mail(rt.alloc(), b"A: 1\nB: 2\nA: 3\n\nbody")?;
-    assert_eq!(rt; count_in_place(&mail), 3);
-    assert_eq!(rt; mail.get_headers().into_iter().count(), 3);
+    assert_same(&rt, count_in_place(&mail), 3);
+    assert_same(&rt, mail.get_headers().into_iter().count(), 3);
     Ok(())
 }
 
@@ -171,15 +171,15 @@ fn headers_that_were_removed(rt: HostRuntime) -> Result<(), Fail> {
     let mut mail = parse_mail(rt.alloc(), b"A: 1\nB: 2\n\nbody")?;
     let headers = &mut mail.headers;
     headers.clear();
-    assert_eq!(rt; mail.get_headers().into_iter().count(), 0);
+    assert_same(&rt, mail.get_headers().into_iter().count(), 0);
     let block = b"A: 1\nB: 2\n\n".as_slice();
-    assert_eq!(rt; mail.get_headers().get_raw_bytes(), block);
+    assert_same(&rt, mail.get_headers().get_raw_bytes(), block);
     Ok(())
 }
 
 #[test]
 fn a_message_of_many_headers(rt: HostRuntime) -> Result<(), Fail> {
     let raw = repeated(rt.alloc(), b"a:b\n", 50_000)?;
-    assert_eq!(rt; raw.len(), 200_000);
+    assert_same(&rt, raw.len(), 200_000);
     Ok(assert_message(&rt, rt.alloc(), raw.as_slice(), raw.as_slice(), 50_000)?)
 }

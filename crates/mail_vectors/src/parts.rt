@@ -2,7 +2,8 @@
 use crate::bodies::raw_bytes;
 use crate::messages::message_refusal;
 use crate::texts::{
-    Case, LEADING_SPACE, LONE_CR, TextCase, assert_texts, cases, joined, refusal, text_or_error,
+    Case, LEADING_SPACE, LONE_CR, TextCase, assert_same, assert_texts, cases, joined, refusal,
+    text_or_error,
 };
 use mailparse::body::Body;
 use mailparse::{MailParseError, parse_mail};
@@ -120,12 +121,13 @@ fn count_of_parts(alloc: Global, raw: &[u8]) -> Result<usize, MailParseError> {
 #[test]
 fn parts_of_100_levels_and_of_101(rt: HostRuntime) -> Result<(), Fail> {
     let deep = nested(rt.alloc(), 100)?;
-    assert_eq!(rt; deep.len(), 5300);
-    assert_eq!(rt; count_of_parts(rt.alloc(), deep.as_slice())?, 101);
+    assert_same(&rt, deep.len(), 5300);
+    assert_same(&rt, count_of_parts(rt.alloc(), deep.as_slice())?, 101);
     let deeper = nested(rt.alloc(), 101)?;
-    assert_eq!(rt;
+    assert_same(
+        &rt,
         refusal(parse_mail(rt.alloc(), deeper.as_slice())),
-        TOO_DEEP
+        TOO_DEEP,
     );
     Ok(())
 }
@@ -150,10 +152,10 @@ fn refused_parts(rt: HostRuntime) -> Result<(), Fail> {
 #[test]
 fn a_body_under_a_charset_that_was_set(rt: HostRuntime) -> Result<(), Fail> {
     let mut mail = parse_mail(rt.alloc(), b"\n\xC3\xA9")?;
-    assert_eq!(rt; mail.get_body(rt.alloc())?.as_str(), "Ã©");
+    assert_same(&rt, mail.get_body(rt.alloc())?.as_str(), "Ã©");
     let ctype = &mut mail.ctype;
     ctype.charset = String::from_str(rt.alloc(), "utf-8")?;
-    assert_eq!(rt; mail.get_body(rt.alloc())?.as_str(), "é");
+    assert_same(&rt, mail.get_body(rt.alloc())?.as_str(), "é");
     Ok(())
 }
 
@@ -161,10 +163,10 @@ fn a_body_under_a_charset_that_was_set(rt: HostRuntime) -> Result<(), Fail> {
 fn parts_that_were_removed(rt: HostRuntime) -> Result<(), Fail> {
     let raw = message_with(rt.alloc(), b"--b\n\none\n--b\n\ntwo\n--b--\n")?;
     let mut mail = parse_mail(rt.alloc(), raw.as_slice())?;
-    assert_eq!(rt; mail.parts(rt.alloc())?.count(), 3);
+    assert_same(&rt, mail.parts(rt.alloc())?.count(), 3);
     let subparts = &mut mail.subparts;
     subparts.clear();
-    assert_eq!(rt; mail.parts(rt.alloc())?.count(), 1);
+    assert_same(&rt, mail.parts(rt.alloc())?.count(), 1);
     Ok(())
 }
 
@@ -172,10 +174,11 @@ fn parts_that_were_removed(rt: HostRuntime) -> Result<(), Fail> {
 fn a_message_in_base64(rt: HostRuntime) -> Result<(), Fail> {
     let raw = b"Content-Transfer-Encoding: base64\r\n\r\naGVsbG 8gd\r\n29ybGQ=";
     let mail = parse_mail(rt.alloc(), raw)?;
-    assert_eq!(rt; mail.get_body(rt.alloc())?.as_str(), "hello world");
-    assert_eq!(rt;
+    assert_same(&rt, mail.get_body(rt.alloc())?.as_str(), "hello world");
+    assert_same(
+        &rt,
         mail.get_body_raw(rt.alloc())?.as_slice(),
-        b"hello world".as_slice()
+        b"hello world".as_slice(),
     );
     Ok(())
 }
@@ -187,10 +190,10 @@ const BOUNDARY_IN_SECTIONS: &[u8] = b"Content-Type: multipart/mixed; \
 #[test]
 fn a_boundary_in_sections(rt: HostRuntime) -> Result<(), Fail> {
     let mail = parse_mail(rt.alloc(), BOUNDARY_IN_SECTIONS)?;
-    assert_eq!(rt; mail.subparts.len(), 1);
+    assert_same(&rt, mail.subparts.len(), 1);
     let body = mail.subparts[0].get_body_encoded(rt.alloc())?;
     assert!(rt; matches!(body, Body::SevenBit(_)));
-    assert_eq!(rt; raw_bytes(&body), b"aGk=".as_slice());
+    assert_same(&rt, raw_bytes(&body), b"aGk=".as_slice());
     Ok(())
 }
 
@@ -213,14 +216,15 @@ pub const TWO_CODINGS: &[u8] = b"Subject: This is a test email\n\
 #[test]
 fn two_parts_in_different_codings(rt: HostRuntime) -> Result<(), Fail> {
     let mail = parse_mail(rt.alloc(), TWO_CODINGS)?;
-    assert_eq!(rt; mail.subparts.len(), 2);
-    assert_eq!(rt; mail.get_body_raw(rt.alloc())?.len(), 0);
+    assert_same(&rt, mail.subparts.len(), 2);
+    assert_same(&rt, mail.get_body_raw(rt.alloc())?.len(), 0);
     let plain = mail.subparts[0].get_body(rt.alloc())?;
-    assert_eq!(rt;
+    assert_same(
+        &rt,
         plain.as_str(),
-        "This is the plaintext version, in utf-8. Proof by Euro: €"
+        "This is the plaintext version, in utf-8. Proof by Euro: €",
     );
-    assert_eq!(rt; mail.subparts[1].ctype.mimetype.as_str(), "text/html");
+    assert_same(&rt, mail.subparts[1].ctype.mimetype.as_str(), "text/html");
     assert!(rt; mail.subparts[1].get_body(rt.alloc())?.starts_with("<html>"));
     Ok(())
 }

@@ -1,5 +1,6 @@
 //! A mail as a list of mails shows it: its subject, date, ids, text and attachments.
 
+use crate::texts::assert_same;
 use mailparse::{
     DispositionType, MailHeaderMap, MailParseError, MessageIdList, dateparse, msgidparse,
     parse_mail,
@@ -53,13 +54,13 @@ fn the_example_reads_a_whole_mail(rt: HostRuntime) -> Result<(), Fail> {
         --b\nContent-Type: text/plain; charset=utf-8\nContent-Transfer-Encoding: base64\n\n4oKs\n\
         --b\nContent-Disposition: attachment; filename*0*=utf-8''%E2%82; filename*1*=%AC.txt\n\nx\n--b--\n";
     let found = summary_of(rt.alloc(), mail)?;
-    assert_eq!(rt; found.subject.ok_or("no subject")?.as_str(), "café");
-    assert_eq!(rt; found.date.ok_or("no date")?, 1475417182);
+    assert_same(&rt, found.subject.ok_or("no subject")?.as_str(), "café");
+    assert_same(&rt, found.date.ok_or("no date")?, 1475417182);
     let ids = found.ids.ok_or("no id")?;
-    assert_eq!(rt; ids.len(), 1);
-    assert_eq!(rt; ids[0].as_str(), "one@example.org");
-    assert_eq!(rt; found.text.ok_or("no text")?.as_str(), "€");
-    assert_eq!(rt; found.attachments.len(), 1);
-    assert_eq!(rt; found.attachments[0].as_str(), "€.txt");
+    assert_same(&rt, ids.len(), 1);
+    assert_same(&rt, ids[0].as_str(), "one@example.org");
+    assert_same(&rt, found.text.ok_or("no text")?.as_str(), "€");
+    assert_same(&rt, found.attachments.len(), 1);
+    assert_same(&rt, found.attachments[0].as_str(), "€.txt");
     Ok(())
 }

@@ -3,7 +3,7 @@
 //! Which starred key is the charset source of a name, and how sections are joined, is this project's
 //! own choice: the expected values follow its rules in docs/RULES.md, and nothing is claimed of the
 //! Rust crate there.
-use crate::texts::{Case, cases};
+use crate::texts::{Case, assert_same_for, cases};
 use mailparse::{MailParseError, parse_content_type};
 use std::alloc::Global;
 use std::process::Abort;
@@ -33,7 +33,7 @@ fn assert_parameters(
 ) -> Result<(), MailParseError> {
     for case in cases {
         let shown = shown_parameters(alloc, case.input)?;
-        assert_eq!(*rt; shown.as_str(), case.expected, "{case:?}");
+        assert_same_for(rt, shown.as_str(), case.expected, case);
     }
     Ok(())
 }

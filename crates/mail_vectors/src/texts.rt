@@ -46,7 +46,7 @@ where
 {
     for case in cases {
         let text = read(alloc, case.input)?;
-        assert_eq!(*rt; text.as_str(), case.expected, "{:?}", Bytes(case.input));
+        assert_same_for(rt, text.as_str(), case.expected, Bytes(case.input));
     }
     Ok(())
 }
@@ -94,6 +94,27 @@ pub fn shown_error<T: Drop>(
         Err(error) => format!(in alloc; "{error}"),
         Ok(_) => String::from_str(alloc, "no error"),
     }
+}
+
+/// Asserts that what was found is what is expected. (`assert_eq!` is proved anew at each place where it
+/// stands, with all that its message prints; these three are proved once.)
+pub fn assert_same<T: PartialEq + Debug + Drop>(rt: &impl Abort, found: T, expected: T) {
+    assert_eq!(*rt; found, expected);
+}
+
+/// Asserts that what was found for an input is what is expected.
+pub fn assert_same_for<T: PartialEq + Debug + Drop, I: Debug + Drop>(
+    rt: &impl Abort,
+    found: T,
+    expected: T,
+    input: I,
+) {
+    assert_eq!(*rt; found, expected, "{input:?}");
+}
+
+/// Asserts that something holds of an input.
+pub fn assert_holds<I: Debug + Drop>(rt: &impl Abort, holds: bool, input: I) {
+    assert!(*rt; holds, "{input:?}");
 }
 
 /// The piece so many times.

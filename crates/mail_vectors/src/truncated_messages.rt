@@ -1,7 +1,7 @@
 //! How much a message and its parts hold together, and messages that are cut short at every length.
 use crate::bodies::raw_bytes;
 use crate::parts::{TWO_CODINGS, TWO_PARTS, message_with, nested};
-use crate::texts::{LONE_CR, refusal};
+use crate::texts::{LONE_CR, assert_holds, assert_same, assert_same_for, refusal};
 use mailparse::{MailParseError, ParsedMail, parse_mail};
 use std::alloc::Global;
 use std::test::Fail;
@@ -64,20 +64,20 @@ fn first_unread(alloc: Global, raw: &[u8]) -> Result<Option<usize>, MailParseErr
 #[test]
 fn a_message_of_two_parts_cut_short_at_every_length(rt: HostRuntime) -> Result<(), Fail> {
     let raw = message_with(rt.alloc(), TWO_PARTS)?;
-    assert_eq!(rt; first_unread(rt.alloc(), raw.as_slice())?, None);
+    assert_same(&rt, first_unread(rt.alloc(), raw.as_slice())?, None);
     Ok(())
 }
 
 #[test]
 fn a_message_in_two_codings_cut_short_at_every_length(rt: HostRuntime) -> Result<(), Fail> {
-    assert_eq!(rt; first_unread(rt.alloc(), TWO_CODINGS)?, None);
+    assert_same(&rt, first_unread(rt.alloc(), TWO_CODINGS)?, None);
     Ok(())
 }
 
 #[test]
 fn a_message_of_100_levels_cut_short_at_every_length(rt: HostRuntime) -> Result<(), Fail> {
     let raw = nested(rt.alloc(), 100)?;
-    assert_eq!(rt; first_unread(rt.alloc(), raw.as_slice())?, None);
+    assert_same(&rt, first_unread(rt.alloc(), raw.as_slice())?, None);
     Ok(())
 }
 
@@ -85,12 +85,12 @@ fn a_message_of_100_levels_cut_short_at_every_length(rt: HostRuntime) -> Result<
 /// of its part.
 #[test]
 fn a_message_with_carriage_returns_cut_short_at_every_length(rt: HostRuntime) -> Result<(), Fail> {
-    assert_eq!(rt; CARRIAGE_RETURNS.len(), 63);
+    assert_same(&rt, CARRIAGE_RETURNS.len(), 63);
     for length in 0..=63 {
         let cut = &CARRIAGE_RETURNS[..length];
         match length {
-            44 | 51 => assert_eq!(rt; refusal(parse_mail(rt.alloc(), cut)), LONE_CR, "{length}"),
-            _ => assert!(rt; is_read(rt.alloc(), cut)?, "{length}"),
+            44 | 51 => assert_same_for(&rt, refusal(parse_mail(rt.alloc(), cut)), LONE_CR, length),
+            _ => assert_holds(&rt, is_read(rt.alloc(), cut)?, length),
         }
     }
     Ok(())
@@ -99,12 +99,12 @@ fn a_message_with_carriage_returns_cut_short_at_every_length(rt: HostRuntime) ->
 #[test]
 fn what_messages_with_their_parts_hold(rt: HostRuntime) -> Result<(), Fail> {
     let two_parts = message_with(rt.alloc(), TWO_PARTS)?;
-    assert_eq!(rt; two_parts.len(), 76);
+    assert_same(&rt, two_parts.len(), 76);
     let mail = parse_mail(rt.alloc(), two_parts.as_slice())?;
-    assert_eq!(rt; held(rt.alloc(), &mail)?, (1, 9, 2));
+    assert_same(&rt, held(rt.alloc(), &mail)?, (1, 9, 2));
     let empty_boundary = b"Content-Type: multipart/mixed; boundary=\n\n--\n--\n--\n";
-    assert_eq!(rt; empty_boundary.len(), 51);
+    assert_same(&rt, empty_boundary.len(), 51);
     let mail = parse_mail(rt.alloc(), empty_boundary)?;
-    assert_eq!(rt; held(rt.alloc(), &mail)?, (1, 0, 2));
+    assert_same(&rt, held(rt.alloc(), &mail)?, (1, 0, 2));
     Ok(())
 }

@@ -2,7 +2,10 @@
 //!
 //! Where nothing else is said, the expected values are those of the Rust crate, built with the rules
 //! of this one where docs/DIFFERENCES.md says that the two differ.
-use crate::texts::{Bytes, Case, TextCase, assert_texts, cases, joined, repeated, text_or_error};
+use crate::texts::{
+    Bytes, Case, TextCase, assert_holds, assert_same_for, assert_texts, cases, joined, repeated,
+    text_or_error,
+};
 use mailparse::{MailHeaderMap, MailParseError, parse_header, parse_headers, parse_mail};
 use std::alloc::{AllocError, Global};
 use std::process::Abort;
@@ -162,7 +165,7 @@ fn headers_in_other_bytes_have_no_strict_value(rt: HostRuntime) -> Result<(), Fa
         "EncodingError(\"Invalid UTF-8 in header value\"), Encoding error: Invalid UTF-8 in header value";
     for case in &IN_OTHER_BYTES {
         let error = strict_error_of(rt.alloc(), case.input)?;
-        assert_eq!(rt; error.as_str(), text, "{:?}", Bytes(case.input));
+        assert_same_for(&rt, error.as_str(), text, Bytes(case.input));
     }
     Ok(assert_texts(&rt, rt.alloc(), &IN_OTHER_BYTES, value_text)?)
 }
@@ -202,9 +205,9 @@ fn key_of(alloc: Global, raw: &[u8]) -> Result<String, MailParseError> {
 fn keys_with_their_values(rt: HostRuntime) -> Result<(), Fail> {
     for row in &KEYS {
         let key = key_of(rt.alloc(), row.raw)?;
-        assert_eq!(rt; key.as_str(), row.key, "{:?}", Bytes(row.raw));
+        assert_same_for(&rt, key.as_str(), row.key, Bytes(row.raw));
         let value = value_of(rt.alloc(), row.raw)?;
-        assert_eq!(rt; value.as_str(), row.value, "{:?}", Bytes(row.raw));
+        assert_same_for(&rt, value.as_str(), row.value, Bytes(row.raw));
     }
     Ok(())
 }
@@ -302,21 +305,9 @@ fn assert_values<M: MailHeaderMap>(
     row: &NameRow,
 ) -> Result<(), MailParseError> {
     let first = first_value(alloc, map, row.name)?;
-    assert_eq!(*rt;
-        first.as_str(),
-        row.first,
-        "{} in {:?}",
-        row.name,
-        Bytes(row.raw)
-    );
+    assert_same_for(rt, first.as_str(), row.first, (row.name, Bytes(row.raw)));
     let all = all_values(alloc, map, row.name)?;
-    assert_eq!(*rt;
-        all.as_str(),
-        row.all,
-        "{} in {:?}",
-        row.name,
-        Bytes(row.raw)
-    );
+    assert_same_for(rt, all.as_str(), row.all, (row.name, Bytes(row.raw)));
     Ok(())
 }
 
@@ -415,12 +406,7 @@ fn is_long_row(alloc: Global, row: &LongRow) -> Result<bool, MailParseError> {
 fn long_values(rt: HostRuntime) -> Result<(), Fail> {
     for row in &LONG {
         let is_read = is_long_row(rt.alloc(), row)?;
-        assert!(rt;
-            is_read,
-            "many {:?} and {:?}",
-            Bytes(row.piece),
-            Bytes(row.end)
-        );
+        assert_holds(&rt, is_read, (Bytes(row.piece), Bytes(row.end)));
     }
     Ok(())
 }

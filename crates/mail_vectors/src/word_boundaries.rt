@@ -1,4 +1,5 @@
 //! Which characters beside an encoded word are its boundary.
+use crate::texts::assert_same_for;
 use crate::values::value_after_colon;
 use mailparse::MailParseError;
 use std::alloc::Global;
@@ -28,7 +29,7 @@ fn assert_value(
     expected: &str,
 ) -> Result<(), MailParseError> {
     let text = value_after_colon(alloc, value.as_bytes())?;
-    assert_eq!(*rt; text.as_str(), expected, "{value:?}");
+    assert_same_for(rt, text.as_str(), expected, value);
     Ok(())
 }
 
