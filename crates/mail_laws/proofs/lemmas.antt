@@ -11,4 +11,5 @@ pub mod CharsetSources
 pub mod Escapes
 pub mod Levels
 pub mod Least
+pub mod DelimiterPlaces
 pub mod RangeTree

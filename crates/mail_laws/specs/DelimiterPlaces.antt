@@ -1,9 +1,9 @@
 -- The delimiters of a body, and the ranges that they cut it into, in words of places (RFC 2046, section 5.1.1). A dash-boundary may hold any
 -- bytes, and the body may start at any place.
-use Rattle.std.specs.Prelude.{◌≡◌, ℕ, suc, ◌+◌, ◌-◌, ◌<◌, ◌≤◌, ◌⊎◌, List, [], ◌∷◌, length, take, drop, filter_map, codes}
+use Rattle.std.specs.Prelude.{◌≡◌, ℕ, suc, ◌+◌, ◌-◌, ◌<◌, ◌≤◌, ◌⊎◌, List, [], ◌∷◌, length, take, drop, map, filter_map, codes}
 use Rattle.mail_codec.specs.Ascii.{line_feed, carriage_return}
 use Rattle.mail_codec.specs.Places.{HasByteAt, HasTextAt}
-use Rattle.mailparse.specs.Delimiters.{Cut, delimiter_from, first_part, part_starts}
+use Rattle.mailparse.specs.Delimiters.{Cut, cut_parts, delimiter_from}
 use Rattle.mailparse.specs.Ranges.{Range}
 
 -- the range from one place up to another
@@ -75,4 +75,4 @@ module _ (dash_boundary bytes : List ℕ) (body : ℕ) where
 
   -- the delimiters as they are computed: the first in the body, and the first after the start of each part
   abbrev pub delimiters : List ℕ
-  delimiters = filter_map (delimiter_from dash_boundary bytes) (body ∷ part_starts dash_boundary bytes (first_part dash_boundary bytes body))
+  delimiters = filter_map (delimiter_from dash_boundary bytes) (body ∷ map (λ part. part.start) (cut_parts dash_boundary bytes body).parts)

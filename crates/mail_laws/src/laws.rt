@@ -10,6 +10,8 @@ ghost use Rattle.mailparse.specs.ContentType.{ContentType, content_type_in};
 ghost use Rattle.mailparse.specs.Bound.{IsBounded};
 ghost use Rattle.mailparse.specs.Mail.{Tree, cut_of, read_mail_in};
 ghost use Rattle.mailparse.specs.Ranges.{Apart, Range};
+ghost use Rattle.mailparse.specs.Delimiters.{Cut, cut_parts};
+ghost use Rattle.mail_laws.specs.DelimiterPlaces.{IsCutAt, delimiters};
 ghost use Rattle.mail_laws.specs.RangeTree.{AreNested, Holds, RangeTree, blocks_and_bodies, range_root, ranges_in, read_there};
 ghost use Rattle.mail_codec.specs.Charset.{Charsets};
 ghost use Rattle.mailparse.specs.Continuations.{joined, names_of, parameters_in, walked_after};
@@ -265,6 +267,20 @@ pub fn percent_free()
 pub fn least_is_least()
     ensures least { (test : ℕ → Bool) (bound : ℕ) → IsLeast test bound (least test bound) }
     ensures only { (test : ℕ → Bool) (bound n : ℕ) → IsLeast test bound n → n ≡ least test bound }
+{}
+
+/// Exactly one list of delimiters fits a body in words of places, and exactly one preamble with one
+/// list of parts, those that are computed: each delimiter begins a line, none stands between the line
+/// of one and the next, and the list ends at the first after the first that is the close-delimiter, or
+/// at the last; each part stands on the lines between two delimiters, or after the last, without the
+/// line end before the next.
+pub fn one_list_of_delimiters_fits()
+    ensures fits { (dash_boundary bytes : List ℕ) (body : ℕ) → IsCutAt dash_boundary bytes body
+        (delimiters dash_boundary bytes body) (cut_parts dash_boundary bytes body) }
+    ensures only { (dash_boundary bytes : List ℕ) (body : ℕ) (places : List ℕ) (cut : Cut) →
+        IsCutAt dash_boundary bytes body places cut → places ≡ delimiters dash_boundary bytes body }
+    ensures only_parts { (dash_boundary bytes : List ℕ) (body : ℕ) (places : List ℕ) (cut : Cut) →
+        IsCutAt dash_boundary bytes body places cut → cut ≡ cut_parts dash_boundary bytes body }
 {}
 
 /// What stands at the tree of ranges of a mail is the tree that is read: each message with its bytes,
