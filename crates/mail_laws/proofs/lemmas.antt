@@ -10,3 +10,6 @@ pub mod IdGrammar
 pub mod CharsetSources
 pub mod Escapes
 pub mod Levels
+pub mod Least
+pub mod DelimiterPlaces
+pub mod RangeTree

@@ -3,6 +3,9 @@ pub mod WordTokens
 pub mod StarFree
 pub mod Boundaries
 pub mod Percent
+pub mod Least
+pub mod DelimiterPlaces
+pub mod RangeTree
 pub use Rattle.mailparse.specs.Refusal
 pub use Rattle.mailparse.specs.Outcome
 pub use Rattle.mailparse.specs.Ranges
@@ -21,6 +24,7 @@ pub mod Ids
 pub mod CharsetSources
 pub mod Escapes
 pub mod IdGrammar
+pub use Rattle.mailparse.specs.Delimiters
 pub use Rattle.mailparse.specs.Mail
 pub use Rattle.mailparse.specs.Bound
 pub use Rattle.mailparse.specs.Date

@@ -1,5 +1,5 @@
 //! The laws. Each function does nothing; its contract is the law.
-ghost use Rattle.std.specs.Prelude.{Contains, IsSome, map, ◌≡◌, ◌<◌, ◌≤◌, ◌++◌, ℕ, suc, List, [], ◌∷◌, codes, length, take, Decides, None, Ok, ◌+◌, ◌-◌, ◌*◌, ◌/◌, All, slice_index, replicate, ◌==◌, false, ◌↔◌, ◌⊎◌, Err};
+ghost use Rattle.std.specs.Prelude.{Contains, Bool, IsSome, map, ◌≡◌, ◌<◌, ◌≤◌, ◌++◌, ℕ, suc, List, [], ◌∷◌, codes, length, take, Decides, None, Ok, ◌+◌, ◌-◌, ◌*◌, ◌/◌, All, slice_index, slice_index_or, replicate, ◌==◌, false, ◌↔◌, ◌⊎◌, Err};
 ghost use Rattle.std.specs.List.{flat_map, list_any};
 ghost use Rattle.std.specs.Cmp.Lexicographic.{slice_cmp};
 ghost use Rattle.std.specs.Ordering.{is_lt, nat_cmp};
@@ -9,7 +9,10 @@ ghost use Rattle.mailparse.specs.Block.{HeaderList, header_count, header_place, 
 ghost use Rattle.mailparse.specs.ContentType.{ContentType, content_type_in};
 ghost use Rattle.mailparse.specs.Bound.{IsBounded};
 ghost use Rattle.mailparse.specs.Mail.{Tree, cut_of, read_mail_in};
-ghost use Rattle.mailparse.specs.Ranges.{Apart};
+ghost use Rattle.mailparse.specs.Ranges.{Apart, Range};
+ghost use Rattle.mailparse.specs.Delimiters.{Cut, cut_parts};
+ghost use Rattle.mail_laws.specs.DelimiterPlaces.{IsCutAt, delimiters};
+ghost use Rattle.mail_laws.specs.RangeTree.{AreNested, Holds, RangeTree, blocks_and_bodies, range_root, ranges_in, read_there};
 ghost use Rattle.mail_codec.specs.Charset.{Charsets};
 ghost use Rattle.mailparse.specs.Continuations.{joined, names_of, parameters_in, walked_after};
 ghost use Rattle.mailparse.specs.ExtendedValues.{candidates, charset_source, section_at, starred};
@@ -26,7 +29,8 @@ ghost use Rattle.mailparse.specs.Views.{kind};
 ghost use Rattle.mail_laws.specs.Boundaries.{IsAlphanumeric, boundary_type, one_text};
 ghost use Rattle.mail_laws.specs.StarFree.{AreStarFree};
 ghost use Rattle.mailparse.specs.Value.{IsPlain, Token, lenient_value, newline, shown_tokens, strict_value};
-ghost use Rattle.mail_codec.specs.Places.{begins, values_below};
+ghost use Rattle.mail_codec.specs.Places.{begins, least, values_below};
+ghost use Rattle.mail_laws.specs.Least.{IsLeast};
 ghost use Rattle.mail_laws.specs.WordTokens.{whitespace_token, word};
 ghost use Rattle.mail_laws.specs.Spans.{StandBefore, blank_span, header_at, header_spans, key_range, value_range};
 ghost use Rattle.mailparse.specs.Date.{day_number, days_of_years, month_lengths};
@@ -256,4 +260,53 @@ pub fn message_ids_read_back()
 /// Percent decoding of a text without `%` gives its bytes.
 pub fn percent_free()
     ensures { (text : List ℕ) → list_any is_percent text ≡ false → percent_decode text ≡ text }
+{}
+
+/// The least number that passes a test is what its name says: it is at most the bound, passes the test
+/// where it is below the bound, and no number below it passes; and no other number is the least.
+pub fn least_is_least()
+    ensures least { (test : ℕ → Bool) (bound : ℕ) → IsLeast test bound (least test bound) }
+    ensures only { (test : ℕ → Bool) (bound n : ℕ) → IsLeast test bound n → n ≡ least test bound }
+{}
+
+/// Exactly one list of delimiters fits a body in words of places, and exactly one preamble with one
+/// list of parts, those that are computed: each delimiter begins a line, none stands between the line
+/// of one and the next, and the list ends at the first after the first that is the close-delimiter, or
+/// at the last; each part stands on the lines between two delimiters, or after the last, without the
+/// line end before the next.
+pub fn one_list_of_delimiters_fits()
+    ensures fits { (dash_boundary bytes : List ℕ) (body : ℕ) → IsCutAt dash_boundary bytes body
+        (delimiters dash_boundary bytes body) (cut_parts dash_boundary bytes body) }
+    ensures only { (dash_boundary bytes : List ℕ) (body : ℕ) (places : List ℕ) (cut : Cut) →
+        IsCutAt dash_boundary bytes body places cut → places ≡ delimiters dash_boundary bytes body }
+    ensures only_parts { (dash_boundary bytes : List ℕ) (body : ℕ) (places : List ℕ) (cut : Cut) →
+        IsCutAt dash_boundary bytes body places cut → cut ≡ cut_parts dash_boundary bytes body }
+{}
+
+/// What stands at the tree of ranges of a mail is the tree that is read: each message with its bytes,
+/// its header block, its keys and values, its body and its parts, all by ranges of the mail; and the
+/// ranges are refused just as the mail is. This holds whatever charsets are known, and under every
+/// limit on levels.
+pub fn ranges_give_tree()
+    ensures { (known : Charsets) (mail : List ℕ) (greatest : ℕ) →
+        read_there mail (ranges_in known mail greatest) ≡ read_mail_in known greatest mail }
+{}
+
+/// The header blocks and the bodies of a message and of all its parts stand apart in the mail, one
+/// after another, so that no byte serves two of them. In each message the keys and the values stand in
+/// order within its block, the body follows the block, and the parts follow the body in order, within
+/// the message, three bytes or more before each.
+pub fn ranges_apart()
+    ensures nested { (known : Charsets) (mail : List ℕ) (greatest : ℕ) (ranges : RangeTree) →
+        ranges_in known mail greatest ≡ Ok ranges →
+        ((range_root ranges).whole ≡ record { start = 0; end = length mail })
+        × AreNested ranges }
+    ensures apart { (known : Charsets) (mail : List ℕ) (greatest : ℕ) (ranges : RangeTree) →
+        ranges_in known mail greatest ≡ Ok ranges →
+        Apart 0 0 (blocks_and_bodies ranges) (length mail) }
+    ensures once { (known : Charsets) (mail : List ℕ) (greatest : ℕ) (ranges : RangeTree) →
+        ranges_in known mail greatest ≡ Ok ranges → (place i j : ℕ) (none : Range) →
+        i < length (blocks_and_bodies ranges) → j < length (blocks_and_bodies ranges) →
+        Holds (slice_index_or (blocks_and_bodies ranges) i none) place →
+        Holds (slice_index_or (blocks_and_bodies ranges) j none) place → i ≡ j }
 {}

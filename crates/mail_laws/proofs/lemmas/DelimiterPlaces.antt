@@ -1,0 +1,392 @@
+-- The delimiters of a body and its parts that are computed are those in words of places, and no others are.
+use Rattle.std.proofs.Common.{◌≡◌, ℕ, zero, suc, ◌+◌, ◌-◌, ◌<◌, ◌≤◌, Bool, true, false, ◌&&◌, ◌||◌, List, [], ◌∷◌, length, map, take, drop, Option, Some, None, option_map, refl, sym, ap, ◌∙◌, subst, ⊎_elim, inl, inr, ◌⊎◌, arith, length-drop, get_or-drop}
+use Rattle.std.specs.Prelude.{nat_lt, ◌==◌, filter_map, option_and_then, slice_index, codes, if◌then◌else◌}
+use Rattle.std.specs.List.{cons_option}
+use Rattle.std.specs.Option.{option_map_or}
+use Rattle.std.proofs.lemmas.Bool.{cases_lt, cases_eq, cases_Bool, lt-ltb, le-ltb, eq-eqb, eqb-true, ne_eqb, and_parts, and_from, or_left, or_right, false≢true}
+use Rattle.std.proofs.lemmas.Bool.Decides.{Decides-eqb}
+use Rattle.std.proofs.lemmas.List.{drop_all}
+use Rattle.std.proofs.lemmas.Slice.Eq.{slice_eq-Decides}
+use Rattle.mail_codec.specs.Places.{begins, stands, byte_place, least, HasByteAt, HasTextAt, IsFirstOf}
+use Rattle.mail_codec.proofs.lemmas.Places.{begins-at, least-before, true_not_false}
+use Rattle.mail_codec.proofs.lemmas.PlacesLaw.{byte_place-says}
+use Rattle.mailparse.specs.Header.{is_line_feed}
+use Rattle.mailparse.specs.Ranges.{Range}
+use Rattle.mailparse.specs.Delimiters.{least_from, starts_line, is_delimiter, delimiter_from, part_after, is_close_delimiter, first_part, next_part, before_byte, before_line_end, part_range, Cut, cut_parts}
+use Rattle.mailparse.proofs.lemmas.Delimiters.{delimiter_from-some, delimiter_from-none, delimiter_from-out, somewhere, part_ranges, part_ranges-none, part_ranges-some}
+use Rattle.mail_laws.specs.DelimiterPlaces.{range, EndsBefore, nothing_between, line_feed_before, both_before, HasDelimiterAt, NoneBetween, IsFirstFrom, EndsLine, NeverEnds, Closes, Follow, line_never_ends, last_delimiter, close_delimiter, next_delimiter, IsCutAt, no_delimiter, first_delimiter, delimiters}
+
+-- ---- bytes and texts at places
+
+byte-there : (bytes : List ℕ) (b p : ℕ) → HasByteAt bytes b p → begins (λ x. x == b) (drop p bytes) ≡ true
+byte-there bytes b p has = begins-at (λ x. x == b) bytes p has.0 ∙ eq-eqb _ b has.1
+
+byte-from : (bytes : List ℕ) (b p : ℕ) → begins (λ x. x == b) (drop p bytes) ≡ true → HasByteAt bytes b p
+byte-from bytes b p h = ⊎_elim (λ low. (low, eqb-true _ b (sym (begins-at (λ x. x == b) bytes p low) ∙ h)))
+    (λ high. absurd (false≢true (sym (ap (begins (λ x. x == b)) (drop_all p bytes high)) ∙ h))) (cases_lt p (length bytes))
+
+stands-there : (text bytes : List ℕ) → take (length text) bytes ≡ text → stands text bytes ≡ true
+stands-there text bytes e = (slice_eq-Decides Decides-eqb text (take (length text) bytes) (stands text bytes) refl).1 (sym e)
+
+stands-from : (text bytes : List ℕ) → stands text bytes ≡ true → take (length text) bytes ≡ text
+stands-from text bytes h = sym ((slice_eq-Decides Decides-eqb text (take (length text) bytes) (stands text bytes) refl).0 h)
+
+-- a byte of the rest from a place on
+rest-byte : (bytes : List ℕ) (b q k : ℕ) → HasByteAt (drop q bytes) b k → HasByteAt bytes b (q + k)
+rest-byte bytes b q k has = let len = length-drop q bytes in (omega (arith, has.0), sym (get_or-drop q bytes k 0) ∙ has.1)
+
+byte-rest : (bytes : List ℕ) (b q k : ℕ) → HasByteAt bytes b (q + k) → HasByteAt (drop q bytes) b k
+byte-rest bytes b q k has = let len = length-drop q bytes in (omega (arith, has.0), get_or-drop q bytes k 0 ∙ has.1)
+
+-- ---- what runs up to a place, less the line end before it
+
+nat_lt-and : (start p : ℕ) (t : Bool) → p ≤ start → (nat_lt start p && t) ≡ false
+nat_lt-and start p t low = ap (λ x. x && t) (le-ltb start p low)
+
+before_byte-cut : (b : ℕ) (bytes : List ℕ) (start p : ℕ) → start < p → HasByteAt bytes b (p - 1) → before_byte b bytes start p ≡ p - 1
+before_byte-cut b bytes start p low has =
+    ap (λ t. if t then p - 1 else p) (and_from (nat_lt start p) (begins (λ x. x == b) (drop (p - 1) bytes)) (lt-ltb start p low) (byte-there bytes b (p - 1) has))
+
+before_byte-start : (b : ℕ) (bytes : List ℕ) (start p : ℕ) → p ≤ start → before_byte b bytes start p ≡ p
+before_byte-start b bytes start p low = ap (λ t. if t then p - 1 else p) (nat_lt-and start p (begins (λ x. x == b) (drop (p - 1) bytes)) low)
+
+before_byte-other : (b : ℕ) (bytes : List ℕ) (start p : ℕ) → ¬ HasByteAt bytes b (p - 1) → before_byte b bytes start p ≡ p
+before_byte-other b bytes start p other = ⊎_elim
+    (λ h. absurd (other (byte-from bytes b (p - 1) (and_parts (nat_lt start p) (begins (λ x. x == b) (drop (p - 1) bytes)) h).1)))
+    (λ h. ap (λ t. if t then p - 1 else p) h)
+    (cases_Bool (nat_lt start p && begins (λ x. x == b) (drop (p - 1) bytes)))
+
+module _ (bytes : List ℕ) (s q : ℕ) where
+  ends-is : (e : ℕ) → EndsBefore bytes s q e → e ≡ before_line_end bytes s q
+  ends-is e (nothing_between start same) =
+      let feed = before_byte-start 10 bytes s q (omega arith) in
+      let return = before_byte-start 13 bytes s (before_byte 10 bytes s q) (omega arith) in
+      omega arith
+  ends-is e (line_feed_before next low feed other) =
+      let one : before_byte 10 bytes s q ≡ q - 1 = before_byte-cut 10 bytes s q (omega arith) (subst (HasByteAt bytes 10) (omega arith) feed) in
+      let here : before_byte 10 bytes s q ≡ e = one ∙ omega arith in
+      let none : before_byte 13 bytes s e ≡ e = ⊎_elim (λ start. before_byte-start 13 bytes s e (omega arith)) (λ not. before_byte-other 13 bytes s e not) other in
+      sym (ap (before_byte 13 bytes s) here ∙ none)
+  ends-is e (both_before next low return feed) =
+      let one : before_byte 10 bytes s q ≡ q - 1 = before_byte-cut 10 bytes s q (omega arith) (subst (HasByteAt bytes 10) (omega arith) feed) in
+      let here : before_byte 10 bytes s q ≡ suc e = one ∙ omega arith in
+      let two : before_byte 13 bytes s (suc e) ≡ suc e - 1 = before_byte-cut 13 bytes s (suc e) (omega arith) (subst (HasByteAt bytes 13) (omega arith) return) in
+      let there : suc e - 1 ≡ e = omega arith in
+      sym (ap (before_byte 13 bytes s) here ∙ two ∙ there)
+
+  as-computed : (e : ℕ) → EndsBefore bytes s q e → EndsBefore bytes s q (before_line_end bytes s q)
+  as-computed e h = subst (EndsBefore bytes s q) (ends-is e h) h
+
+  ends-fit : (q ≡ s) ⊎ ((s < q) × HasByteAt bytes 10 (q - 1)) → EndsBefore bytes s q (before_line_end bytes s q)
+  ends-fit (inl same) = as-computed s (nothing_between refl same)
+  ends-fit (inr line) = by_start (cases_eq (q - 1) s)
+    where
+      by_return : (q - 1 ≡ s → ⊥) → (begins (λ x. x == 13) (drop (q - 1 - 1) bytes) ≡ true) ⊎ (begins (λ x. x == 13) (drop (q - 1 - 1) bytes) ≡ false)
+          → EndsBefore bytes s q (before_line_end bytes s q)
+      by_return other (inl h) =
+          as-computed (q - 1 - 1) (both_before (omega (arith, line.0, other)) (omega (arith, line.0, other)) (byte-from bytes 13 (q - 1 - 1) h)
+          (subst (HasByteAt bytes 10) (omega (arith, line.0, other)) line.1))
+      by_return other (inr h) =
+          as-computed (q - 1) (line_feed_before (omega (arith, line.0)) (omega (arith, line.0)) line.1
+          (inr (λ has. true_not_false (byte-there bytes 13 (q - 1 - 1) has) h)))
+
+      by_start : (q - 1 ≡ s) ⊎ (q - 1 ≡ s → ⊥) → EndsBefore bytes s q (before_line_end bytes s q)
+      by_start (inl start) = as-computed (q - 1) (line_feed_before (omega (arith, line.0)) (omega (arith, line.0)) line.1 (inl start))
+      by_start (inr other) = by_return other (cases_Bool (begins (λ x. x == 13) (drop (q - 1 - 1) bytes)))
+
+-- ---- delimiters
+
+nowhere : (test : ℕ → Bool) (start end : ℕ) → least_from test start end ≡ None → (k : ℕ) → start ≤ k → k < end → test k ≡ false
+nowhere test start end e k low high =
+    let n = least (λ j. test (start + j)) (end - start) in
+    ⊎_elim (λ small. absurd (clash (start + n) (sym (ap (λ t. if t then Some (start + n) else None) (lt-ltb n (end - start) small)) ∙ e)))
+    (λ large. ap test (omega arith) ∙ least-before (λ j. test (start + j)) (end - start) (k - start) (omega arith))
+    (cases_lt n (end - start))
+  where
+    clash : (p : ℕ) → Some p ≡ None → ⊥
+    clash p h = cc
+
+-- Of some bytes with a body that starts at a place.
+module _ (d bytes : List ℕ) (body : ℕ) where
+  -- a line of the body starts there
+  abbrev LineStarts : ℕ → Type 0
+  LineStarts s = (s ≡ body) ⊎ ((body < s) × HasByteAt bytes 10 (s - 1))
+
+  line-of : (s p : ℕ) → LineStarts s → s ≤ p → starts_line bytes s p ≡ true → (p ≡ body) ⊎ HasByteAt bytes 10 (p - 1)
+  line-of s p start low h = by_place start (cases_eq p s)
+    where
+      by_place : LineStarts s → (p ≡ s) ⊎ (p ≡ s → ⊥) → (p ≡ body) ⊎ HasByteAt bytes 10 (p - 1)
+      by_place start (inr other) =
+          inr (byte-from bytes 10 (p - 1) (sym (ap (λ t. t || begins is_line_feed (drop (p - 1) bytes)) (ne_eqb p s other)) ∙ h))
+      by_place (inl e) (inl same) = inl (same ∙ e)
+      by_place (inr line) (inl same) = inr (subst (λ k. HasByteAt bytes 10 (k - 1)) (sym same) line.1)
+
+  line-is : (s p : ℕ) → LineStarts s → s ≤ p → (p ≡ body) ⊎ HasByteAt bytes 10 (p - 1) → starts_line bytes s p ≡ true
+  line-is s p start low (inr feed) = or_right (p == s) (begins is_line_feed (drop (p - 1) bytes)) (byte-there bytes 10 (p - 1) feed)
+  line-is s p (inl e) low (inl first) = or_left (p == s) (begins is_line_feed (drop (p - 1) bytes)) (eq-eqb p s (first ∙ sym e))
+  line-is s p (inr line) low (inl first) = absurd (omega (arith, line.0))
+
+  body-before : (s : ℕ) → LineStarts s → body ≤ s
+  body-before s (inl e) = omega arith
+  body-before s (inr line) = omega (arith, line.0)
+
+  has-delimiter : (s p : ℕ) → LineStarts s → s ≤ p → p < length bytes → is_delimiter d bytes s p ≡ true → HasDelimiterAt d bytes body p
+  has-delimiter s p start low high h =
+      let parts = and_parts (starts_line bytes s p) (stands d (drop p bytes)) h in
+      let before = body-before s start in
+      record { in_body = omega arith; within = high; line = line-of s p start low parts.0; begins = stands-from d (drop p bytes) parts.1 }
+
+  delimiter-is : (s p : ℕ) → LineStarts s → s ≤ p → HasDelimiterAt d bytes body p → is_delimiter d bytes s p ≡ true
+  delimiter-is s p start low has =
+      and_from (starts_line bytes s p) (stands d (drop p bytes)) (line-is s p start low has.line) (stands-there d (drop p bytes) has.begins)
+
+  not-delimiter : (s p : ℕ) → LineStarts s → s ≤ p → p < length bytes → ¬ HasDelimiterAt d bytes body p → is_delimiter d bytes s p ≡ false
+  not-delimiter s p start low high not =
+      ⊎_elim (λ h. absurd (not (has-delimiter s p start low high h))) (λ h. h) (cases_Bool (is_delimiter d bytes s p))
+
+  first-out : (s p : ℕ) → LineStarts s → delimiter_from d bytes s ≡ Some p → IsFirstFrom d bytes body s p
+  first-out s p start e =
+      let least = delimiter_from-out d bytes s p e in
+      record {
+        after = least.low;
+        stands = has-delimiter s p start least.low least.high least.passes;
+        before = λ k from to has. true_not_false (delimiter-is s k start from has) (least.before k from to);
+      }
+
+  first-is : (s p : ℕ) → LineStarts s → IsFirstFrom d bytes body s p → delimiter_from d bytes s ≡ Some p
+  first-is s p start first =
+      let high = first.stands.within in
+      sym (delimiter_from-some d bytes s p first.after high (delimiter-is s p start first.after first.stands)
+      (λ k low to. not-delimiter s k start low (omega arith) (first.before k low to)))
+
+  none-out : (s : ℕ) → LineStarts s → delimiter_from d bytes s ≡ None → NoneBetween d bytes body s (length bytes)
+  unfolding delimiter_from
+  none-out s start e k low high has = true_not_false (delimiter-is s k start low has) (nowhere (is_delimiter d bytes s) s (length bytes) e k low high)
+
+  none-is : (s : ℕ) → LineStarts s → NoneBetween d bytes body s (length bytes) → delimiter_from d bytes s ≡ None
+  none-is s start none = sym (delimiter_from-none d bytes s (λ k low high. not-delimiter s k start low high (none k low high)))
+
+  -- a delimiter that is the first from a start of a line on has nothing or a LF before it
+  line-before : (s q : ℕ) → LineStarts s → IsFirstFrom d bytes body s q → (q ≡ s) ⊎ ((s < q) × HasByteAt bytes 10 (q - 1))
+  line-before s q start first = by_place (cases_eq q s) first.stands.line
+    where
+      by_place : (q ≡ s) ⊎ (q ≡ s → ⊥) → (q ≡ body) ⊎ HasByteAt bytes 10 (q - 1) → (q ≡ s) ⊎ ((s < q) × HasByteAt bytes 10 (q - 1))
+      by_place (inl same) line = inl same
+      by_place (inr other) (inl e) = let before = body-before s start in let low = first.after in inl (omega arith)
+      by_place (inr other) (inr feed) = let low = first.after in inr (omega (arith, other), feed)
+
+  -- ---- the end of a delimiter's line, and the close-delimiter
+
+  after-is : (p l : ℕ) → EndsLine d bytes body p l → part_after d bytes p ≡ Some (suc l)
+  after-is p l ends =
+      let q = p + length d in
+      let after = ends.after in
+      let here : q + (l - q) ≡ l = omega arith in
+      let first : IsFirstOf (HasByteAt (drop q bytes) 10) (Some (l - q)) = (
+        byte-rest bytes 10 q (l - q) (subst (HasByteAt bytes 10) (sym here) ends.feed),
+        λ k low has. ends.before (q + k) (omega arith) (omega arith) (rest-byte bytes 10 q k has),
+      ) in
+      ap (option_map (λ k. suc (q + k))) (sym ((byte_place-says (drop q bytes) 10 (Some (l - q))).1 first)) ∙ ap (λ k. Some (suc k)) here
+
+  never-is : (p : ℕ) → NeverEnds d bytes body p → part_after d bytes p ≡ None
+  never-is p never =
+      let q = p + length d in
+      ap (option_map (λ k. suc (q + k))) (sym ((byte_place-says (drop q bytes) 10 None).1 (λ k has. never (q + k) (omega arith) (rest-byte bytes 10 q k has))))
+
+  after-out : (p s : ℕ) → part_after d bytes p ≡ Some s → (l : ℕ) × (s ≡ suc l) × EndsLine d bytes body p l
+  after-out p s e =
+      let q = p + length d in
+      let there = somewhere (λ k. suc (q + k)) s (byte_place (drop q bytes) 10) (sym e) in
+      let first : IsFirstOf (HasByteAt (drop q bytes) 10) (Some there.0) = (byte_place-says (drop q bytes) 10 (Some there.0)).0 there.1 in (
+        q + there.0,
+        there.2,
+        record {
+          after = omega arith;
+          feed = rest-byte bytes 10 q there.0 first.0;
+          before = λ k low high has.
+              first.1 (k - q) (omega arith) (byte-rest bytes 10 q (k - q) (subst (HasByteAt bytes 10) (omega arith) has));
+        },
+      )
+
+  never-out : (p : ℕ) → part_after d bytes p ≡ None → NeverEnds d bytes body p
+  never-out p e k low has =
+      let q = p + length d in
+      let none : IsFirstOf (HasByteAt (drop q bytes) 10) None = (byte_place-says (drop q bytes) 10 None).0 (unmapped (byte_place (drop q bytes) 10) e) in
+      none (k - q) (byte-rest bytes 10 q (k - q) (subst (HasByteAt bytes 10) (omega arith) has))
+    where
+      unmapped : (o : Option ℕ) → option_map (λ k. suc (p + length d + k)) o ≡ None → None ≡ o
+      unmapped None h = refl
+      unmapped (Some x) h = cc
+
+  closes-is : (p : ℕ) → Closes d bytes body p → is_close_delimiter d bytes p ≡ true
+  closes-is p (inl short) =
+      let len = length-drop (p + length d) bytes in
+      or_left (nat_lt (length (drop (p + length d) bytes)) 2) (stands (codes "--") (drop (p + length d) bytes)) (lt-ltb (length (drop (p + length d) bytes)) 2 (omega arith))
+  closes-is p (inr dashes) =
+      or_right (nat_lt (length (drop (p + length d) bytes)) 2) (stands (codes "--") (drop (p + length d) bytes)) (stands-there (codes "--") (drop (p + length d) bytes) dashes.1)
+
+  closes-out : (p : ℕ) → is_close_delimiter d bytes p ≡ true → Closes d bytes body p
+  closes-out p h =
+      let rest = drop (p + length d) bytes in
+      let len = length-drop (p + length d) bytes in
+      ⊎_elim (λ short. inl (omega arith))
+      (λ long. inr ((λ e. absurd (cc)), stands-from (codes "--") rest (sym (ap (λ t. t || stands (codes "--") rest) (le-ltb (length rest) 2 long)) ∙ h)))
+      (cases_lt (length rest) 2)
+
+  open-is : (p : ℕ) → ¬ Closes d bytes body p → is_close_delimiter d bytes p ≡ false
+  open-is p not = ⊎_elim (λ h. absurd (not (closes-out p h))) (λ h. h) (cases_Bool (is_close_delimiter d bytes p))
+
+  -- ---- the delimiters and parts from one on
+
+  -- the delimiters after the starts of parts
+  abbrev found : List Range → List ℕ
+  found parts = filter_map (delimiter_from d bytes) (map (λ part. part.start) parts)
+
+  -- where the part after the delimiter starts, if there is one, where it is not the first
+  abbrev next_from : Option ℕ → Option ℕ
+  next_from o = option_and_then (λ q. if is_close_delimiter d bytes q then None else part_after d bytes q) o
+
+  abbrev part_to : ℕ → Option ℕ → Range
+  part_to s o = range s (option_map_or (before_line_end bytes s) o (length bytes))
+
+  line-starts : (p l : ℕ) → body ≤ p → EndsLine d bytes body p l → LineStarts (suc l)
+  line-starts p l low ends =
+      let after = ends.after in
+      inr (omega arith, subst (HasByteAt bytes 10) (omega arith) ends.feed)
+
+  follow-fits : (n p : ℕ) → body ≤ p → p < length bytes → length bytes - p < n
+      → Follow d bytes body p (found (part_ranges d bytes (part_after d bytes p))) (part_ranges d bytes (part_after d bytes p))
+  follow-fits zero p low high fuel = absurd (omega arith)
+  follow-fits (suc n) p low high fuel = by_after (part_after d bytes p) refl (λ q. follow-fits n q)
+    where
+      by_close : (l q : ℕ) → EndsLine d bytes body p l → IsFirstFrom d bytes body (suc l) q → (t : Bool) → is_close_delimiter d bytes q ≡ t
+          → ((q : ℕ) → body ≤ q → q < length bytes → length bytes - q < n
+          → Follow d bytes body q (found (part_ranges d bytes (part_after d bytes q))) (part_ranges d bytes (part_after d bytes q)))
+          → Follow d bytes body p (q ∷ found (part_ranges d bytes (if t then None else part_after d bytes q)))
+          (range (suc l) (before_line_end bytes (suc l) q) ∷ part_ranges d bytes (if t then None else part_after d bytes q))
+      by_close l q ends first true e ih =
+          let fit = ends-fit bytes (suc l) q (line-before (suc l) q (line-starts p l low ends) first) in
+          subst (λ rs. Follow d bytes body p (q ∷ found rs) (range (suc l) (before_line_end bytes (suc l) q) ∷ rs)) (sym (part_ranges-none d bytes))
+          (close_delimiter ends first (closes-out q e) fit)
+      by_close l q ends first false e ih =
+          let fit = ends-fit bytes (suc l) q (line-before (suc l) q (line-starts p l low ends) first) in
+          let after = ends.after in
+          let from = first.after in
+          let in_body = first.stands.in_body in
+          let within = first.stands.within in
+          next_delimiter ends first (λ closes. true_not_false (closes-is q closes) e) fit (ih q in_body within (omega arith))
+
+      by_delimiter : (l : ℕ) → EndsLine d bytes body p l → (o : Option ℕ) → delimiter_from d bytes (suc l) ≡ o
+          → ((q : ℕ) → body ≤ q → q < length bytes → length bytes - q < n
+          → Follow d bytes body q (found (part_ranges d bytes (part_after d bytes q))) (part_ranges d bytes (part_after d bytes q)))
+          → Follow d bytes body p (cons_option o (found (part_ranges d bytes (next_from o)))) (part_to (suc l) o ∷ part_ranges d bytes (next_from o))
+      by_delimiter l ends None e ih =
+          subst (λ rs. Follow d bytes body p (found rs) (range (suc l) (length bytes) ∷ rs)) (sym (part_ranges-none d bytes))
+          (last_delimiter ends (none-out (suc l) (line-starts p l low ends) e))
+      by_delimiter l ends (Some q) e ih = by_close l q ends (first-out (suc l) q (line-starts p l low ends) e) (is_close_delimiter d bytes q) refl ih
+
+      by_after : (o : Option ℕ) → part_after d bytes p ≡ o
+          → ((q : ℕ) → body ≤ q → q < length bytes → length bytes - q < n
+          → Follow d bytes body q (found (part_ranges d bytes (part_after d bytes q))) (part_ranges d bytes (part_after d bytes q)))
+          → Follow d bytes body p (found (part_ranges d bytes o)) (part_ranges d bytes o)
+      by_after None e ih = subst (λ rs. Follow d bytes body p (found rs) rs) (sym (part_ranges-none d bytes)) (line_never_ends (never-out p e))
+      by_after (Some s) e ih =
+          let there = after-out p s e in
+          subst (λ k. Follow d bytes body p (found (part_ranges d bytes (Some k))) (part_ranges d bytes (Some k))) (sym there.1)
+          (subst (λ rs. Follow d bytes body p (found rs) rs) (sym (part_ranges-some d bytes (suc there.0)))
+          (by_delimiter there.0 there.2 (delimiter_from d bytes (suc there.0)) refl ih))
+
+  -- the parts from one on, by the delimiter after its start
+  ranges-by : (s : ℕ) (o next : Option ℕ) → delimiter_from d bytes s ≡ o → next_from o ≡ next
+      → (found (part_ranges d bytes (Some s)) ≡ cons_option o (found (part_ranges d bytes next)))
+      × (part_ranges d bytes (Some s) ≡ part_to s o ∷ part_ranges d bytes next)
+  ranges-by s o next e f =
+      let some = part_ranges-some d bytes s in (
+        ap found some ∙ ap (λ x. cons_option x (found (part_ranges d bytes (next_from x)))) e ∙ ap (λ x. cons_option o (found (part_ranges d bytes x))) f,
+        some ∙ ap (λ x. part_to s x ∷ part_ranges d bytes (next_from x)) e ∙ ap (λ x. part_to s o ∷ part_ranges d bytes x) f,
+      )
+
+  follow-only : {p : ℕ} {places : List ℕ} {parts : List Range} → Follow d bytes body p places parts → body ≤ p
+      → (places ≡ found (part_ranges d bytes (part_after d bytes p))) × (parts ≡ part_ranges d bytes (part_after d bytes p))
+  follow-only {p} (line_never_ends never) low =
+      let none : part_ranges d bytes (part_after d bytes p) ≡ [] = ap (part_ranges d bytes) (never-is p never) ∙ part_ranges-none d bytes in
+      (sym (ap found none), sym none)
+  follow-only {p} (last_delimiter {l = l} ends none) low =
+      let after = after-is p l ends in
+      let by = ranges-by (suc l) None None (none-is (suc l) (line-starts p l low ends) none) refl in
+      let left = part_ranges-none d bytes in (
+        sym (ap (λ o. found (part_ranges d bytes o)) after ∙ by.0 ∙ ap found left),
+        sym (ap (part_ranges d bytes) after ∙ by.1 ∙ ap (λ rs. range (suc l) (length bytes) ∷ rs) left),
+      )
+  follow-only {p} (close_delimiter {l = l} {q = q} {e = e} ends first closes end) low =
+      let after = after-is p l ends in
+      let by = ranges-by (suc l) (Some q) None (first-is (suc l) q (line-starts p l low ends) first) (ap (λ t. if t then None else part_after d bytes q) (closes-is q closes)) in
+      let left = part_ranges-none d bytes in
+      let is = ends-is bytes (suc l) q e end in (
+        sym (ap (λ o. found (part_ranges d bytes o)) after ∙ by.0 ∙ ap (λ rs. q ∷ found rs) left),
+        ap (λ k. range (suc l) k ∷ []) is
+            ∙ sym (ap (part_ranges d bytes) after ∙ by.1 ∙ ap (λ rs. range (suc l) (before_line_end bytes (suc l) q) ∷ rs) left),
+      )
+  follow-only {p} (next_delimiter {l = l} {q = q} {e = e} {places = places} {parts = parts} ends first not end more) low =
+      let after = after-is p l ends in
+      let by = ranges-by (suc l) (Some q) (part_after d bytes q) (first-is (suc l) q (line-starts p l low ends) first)
+      (ap (λ t. if t then None else part_after d bytes q) (open-is q not)) in
+      let rest = follow-only more first.stands.in_body in
+      let is = ends-is bytes (suc l) q e end in (
+        ap (λ (ps : List ℕ). q ∷ ps) rest.0 ∙ sym (ap (λ o. found (part_ranges d bytes o)) after ∙ by.0),
+        ap (λ k. range (suc l) k ∷ parts) is ∙ ap (λ (rs : List Range). range (suc l) (before_line_end bytes (suc l) q) ∷ rs) rest.1
+            ∙ sym (ap (part_ranges d bytes) after ∙ by.1),
+      )
+
+  -- ---- all of a body
+
+  cut : Range → List Range → Cut
+  cut whole parts = record { body = whole; parts = parts }
+
+  abbrev preamble_to : Option ℕ → Range
+  preamble_to o = range body (option_map_or (before_line_end bytes body) o body)
+
+  abbrev first_after : Option ℕ → Option ℕ
+  first_after o = option_and_then (part_after d bytes) o
+
+  pub cut-fits : IsCutAt d bytes body (delimiters d bytes body) (cut_parts d bytes body)
+  unfolding cut_parts
+  cut-fits = by_delimiter (delimiter_from d bytes body) refl
+    where
+      by_delimiter : (o : Option ℕ) → delimiter_from d bytes body ≡ o
+          → IsCutAt d bytes body (cons_option o (found (part_ranges d bytes (first_after o)))) (record { body = preamble_to o; parts = part_ranges d bytes (first_after o) })
+      by_delimiter None e =
+          subst (λ rs. IsCutAt d bytes body (found rs) (record { body = range body body; parts = rs })) (sym (part_ranges-none d bytes)) (no_delimiter (none-out body (inl refl) e))
+      by_delimiter (Some p) e =
+          let first = first-out body p (inl refl) e in
+          let fit = ends-fit bytes body p (line-before body p (inl refl) first) in
+          first_delimiter first fit (follow-fits (suc (length bytes)) p first.stands.in_body first.stands.within (omega arith))
+
+  cut-by : (o : Option ℕ) → delimiter_from d bytes body ≡ o
+      → (delimiters d bytes body ≡ cons_option o (found (part_ranges d bytes (first_after o))))
+      × (cut_parts d bytes body ≡ record { body = preamble_to o; parts = part_ranges d bytes (first_after o) })
+  unfolding cut_parts cut
+  cut-by o e = (
+    ap (λ x. cons_option x (found (part_ranges d bytes (first_after x)))) e,
+    ap (λ x. cut (preamble_to x) (part_ranges d bytes (first_after x))) e,
+  )
+
+  cut-is : {places : List ℕ} {whole : Cut} → IsCutAt d bytes body places whole → (places ≡ delimiters d bytes body) × (whole ≡ cut_parts d bytes body)
+  unfolding cut
+  cut-is (no_delimiter none) =
+      let by = cut-by None (none-is body (inl refl) none) in
+      let left = part_ranges-none d bytes in
+      (sym (by.0 ∙ ap found left), sym (by.1 ∙ ap (cut (range body body)) left))
+  cut-is (first_delimiter {p = p} {e = e} {places = places} {parts = parts} first end follow) =
+      let by = cut-by (Some p) (first-is body p (inl refl) first) in
+      let rest = follow-only follow first.stands.in_body in
+      let is = ends-is bytes body p e end in (
+        ap (λ (ps : List ℕ). p ∷ ps) rest.0 ∙ sym by.0,
+        ap (λ k. cut (range body k) parts) is ∙ ap (cut (range body (before_line_end bytes body p))) rest.1 ∙ sym by.1,
+      )
+
+  pub delimiters-only : (places : List ℕ) (whole : Cut) → IsCutAt d bytes body places whole → places ≡ delimiters d bytes body
+  delimiters-only places whole h = (cut-is h).0
+
+  pub parts-only : (places : List ℕ) (whole : Cut) → IsCutAt d bytes body places whole → whole ≡ cut_parts d bytes body
+  parts-only places whole h = (cut-is h).1

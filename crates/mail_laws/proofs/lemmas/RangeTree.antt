@@ -1,0 +1,361 @@
+-- The ranges of a message give its tree, and lie apart in the mail.
+use Rattle.std.proofs.Common.{◌≡◌, ℕ, zero, suc, ◌+◌, ◌-◌, ◌<◌, ◌≤◌, Bool, false, List, [], ◌∷◌, ◌++◌, length, map, take, drop, get_or, Ok, Err, refl, sym, ap, ◌∙◌, subst, inl, inr, ◌⊎◌, arith}
+use Rattle.std.specs.List.{flat_map}
+use Rattle.std.proofs.lemmas.Bool.{cases_lt}
+use Rattle.std.proofs.lemmas.List.{take-take, drop-take, drop-drop}
+use Rattle.mail_codec.specs.Charset.{Charsets}
+use Rattle.mail_codec.specs.Places.{values_below}
+use Rattle.mailparse.specs.Refusal.{◌>>=◌, Reads}
+use Rattle.mailparse.specs.Header.{Header}
+use Rattle.mailparse.specs.Block.{HeaderList, header_count, header_place, read_headers}
+use Rattle.mailparse.specs.ContentType.{ContentType}
+use Rattle.mailparse.specs.Mail.{Node, Tree, tree, Forest, part_and, cut_of, is_digest, node_type, node_with, read_each, read_levels, read_mail_in, read_parts}
+use Rattle.mailparse.specs.Ranges.{Range, Apart, slice}
+use Rattle.mailparse.proofs.lemmas.Block.{header_place-≤, header_place-first, read_headers-bounded, read_headers-index, values_below-same}
+use Rattle.mailparse.proofs.lemmas.Ranges.{cut_of-apart}
+use Rattle.mailparse.proofs.lemmas.Refusal.{read_map}
+use Rattle.mail_laws.specs.Spans.{header_at, key_range, value_range}
+use Rattle.mail_laws.specs.RangeTree.{moved, HeaderRanges, RangeNode, RangeTree, range_tree, RangeForest, no_ranges, ranges_and, range_root, header_there, node_there, tree_there, forest_there, headers_at, range_node, range_each, range_parts, range_levels, ranges_in, header_fields, wholes, LieInOrder, AreNested, AllNested, blocks_and_bodies, blocks_and_bodies_in, Holds}
+use Rattle.mail_laws.proofs.lemmas.Spans.{headers-at_ranges, ranges-in_order}
+
+-- ---- slices of slices
+
+take-length : (n : ℕ) (bytes : List ℕ) → length (take n bytes) ≤ n
+take-length zero bytes = omega arith
+take-length (suc n) [] = omega arith
+take-length (suc n) (b ∷ bytes) = let rest = take-length n bytes in omega arith
+
+slice-length : (mail : List ℕ) (whole : Range) → length (slice mail whole) ≤ whole.end - whole.start
+slice-length mail whole = take-length (whole.end - whole.start) (drop whole.start mail)
+
+slice-of_front : (mail : List ℕ) (place size from to : ℕ) → from ≤ to → to ≤ size
+    → take (to - from) (drop from (take size (drop place mail))) ≡ take ((place + to) - (place + from)) (drop (place + from) mail)
+slice-of_front mail place size from to order within =
+    let whole : size ≡ from + (size - from) = omega arith in
+    let same : to - from ≡ (place + to) - (place + from) = omega arith in
+    ap (λ n. take (to - from) (drop from (take n (drop place mail)))) whole
+    ∙ ap (take (to - from)) (drop-take from (size - from) (drop place mail))
+    ∙ take-take (to - from) (size - from) (drop from (drop place mail)) (omega arith)
+    ∙ ap (take (to - from)) (drop-drop from place mail)
+    ∙ ap (λ n. take n (drop (place + from) mail)) same
+
+-- what stands at a range of a slice stands at the moved range of the mail
+slice-moved : (mail : List ℕ) (whole r : Range) → r.start ≤ r.end → r.end ≤ length (slice mail whole) → slice (slice mail whole) r ≡ slice mail (moved whole.start r)
+slice-moved mail whole r order within =
+    let size = slice-length mail whole in
+    slice-of_front mail whole.start (whole.end - whole.start) r.start r.end order (omega arith)
+
+-- ---- the message that stands at a range
+
+header_from : List ℕ → List ℕ → Header
+header_from key value = record { key = key; value = value }
+
+map-values : {X Y : Type 0} (f : X → Y) (n : ℕ) (g : ℕ → X) → map f (values_below n g) ≡ values_below n (λ j. f (g j))
+map-values f zero g = refl
+map-values {Y = Y} f (suc n) g = ap (λ (ys : List Y). f (g 0) ∷ ys) (map-values f n (λ k. g (suc k)))
+
+module _ (mail : List ℕ) (whole : Range) where
+  header-there : (j : ℕ) → header_at (slice mail whole) j
+      ≡ header_there mail (record { key = moved whole.start (key_range (slice mail whole) j); value = moved whole.start (value_range (slice mail whole) j) })
+  unfolding header_from
+  header-there j =
+      let raw = slice mail whole in
+      let order = ranges-in_order raw j in
+      let place = header_place-≤ raw (suc j) in
+      let first = order.first_is_range in
+      let apart = order.apart in
+      let second = order.second_is_range in
+      let ends = order.ends in
+      ap (λ (key : List ℕ). header_from key (slice raw (value_range raw j))) (slice-moved mail whole (key_range raw j) first (omega arith))
+      ∙ ap (header_from (slice mail (moved whole.start (key_range raw j)))) (slice-moved mail whole (value_range raw j) second (omega arith))
+
+  headers-there : (block : HeaderList) → read_headers (slice mail whole) ≡ Ok block → map (header_there mail) (headers_at whole.start (slice mail whole)) ≡ block.headers
+  headers-there block read =
+      let raw = slice mail whole in
+      map-values (header_there mail) (header_count raw) (λ j. record { key = moved whole.start (key_range raw j); value = moved whole.start (value_range raw j) })
+      ∙ sym (headers-at_ranges raw block read ∙ values_below-same (header_count raw) (header_at raw)
+      (λ j. header_there mail (record { key = moved whole.start (key_range raw j); value = moved whole.start (value_range raw j) })) header-there)
+
+  block-there : (index : ℕ) → index ≤ length (slice mail whole) → slice mail (moved whole.start (record { start = 0; end = index })) ≡ take index (slice mail whole)
+  block-there index within =
+      let same : index - 0 ≡ index = omega arith in
+      sym (slice-moved mail whole (record { start = 0; end = index }) (omega arith) within) ∙ ap (λ n. take n (slice mail whole)) same
+
+-- ---- the tree that stands at the ranges
+
+Apart-order : (gap from : ℕ) (rs : List Range) (to : ℕ) → Apart gap from rs to → from ≤ to
+Apart-order gap from [] to h = h
+Apart-order gap from (r ∷ rs) to h = let more = Apart-order gap r.end rs to h.2 in omega (arith, h.0, h.1, more)
+
+node_of : List ℕ → List ℕ → List Header → ContentType → List ℕ → Node
+node_of bytes block headers ctype body = record { bytes = bytes; block = block; headers = headers; ctype = ctype; body = body }
+
+-- the message with this block, without its parts
+node-there : (mail : List ℕ) (whole : Range) (block : HeaderList) (ctype : ContentType) → read_headers (slice mail whole) ≡ Ok block
+    → node_there mail (range_node whole (slice mail whole) block ctype (cut_of ctype (slice mail whole) block.index))
+    ≡ node_with (slice mail whole) block ctype (cut_of ctype (slice mail whole) block.index)
+unfolding node_of
+node-there mail whole block ctype read =
+    let raw = slice mail whole in
+    let index = (read_headers-bounded raw block read).index in
+    let cut = cut_of ctype raw block.index in
+    let apart = cut_of-apart ctype raw block.index index in
+    let front = slice mail (moved whole.start (record { start = 0; end = block.index })) in
+    let fields = map (header_there mail) (headers_at whole.start raw) in
+    let order : cut.body.start ≤ cut.body.end = omega (arith, apart.0, apart.1) in
+    ap (λ (x : List ℕ). node_of raw x fields ctype (slice mail (moved whole.start cut.body))) (block-there mail whole block.index index)
+    ∙ ap (λ (x : List Header). node_of raw (take block.index raw) x ctype (slice mail (moved whole.start cut.body))) (headers-there mail whole block read)
+    ∙ ap (λ (x : List ℕ). node_of raw (take block.index raw) block.headers ctype x)
+    (sym (slice-moved mail whole cut.body order (Apart-order 3 cut.body.end cut.parts (length raw) apart.2)))
+
+-- a message and its parts, where they were read
+tree-there : (mail : List ℕ) (node : RangeNode) (n : Node) → node_there mail node ≡ n → (parts : Reads RangeForest)
+    → read_map (tree_there mail) (read_map (range_tree node) parts) ≡ read_map (tree n) (read_map (forest_there mail) parts)
+tree-there mail node n e (Ok parts) = ap (λ (x : Node). Ok (tree x (forest_there mail parts))) e
+tree-there mail node n e (Err refusal) = refl
+
+-- each of some parts
+first-there : (mail : List ℕ) (first : Reads RangeTree) (rest : Reads RangeForest)
+    → read_map (forest_there mail) (◌>>=◌ first (λ t. read_map (ranges_and t) rest))
+    ≡ ◌>>=◌ (read_map (tree_there mail) first) (λ t. read_map (part_and t) (read_map (forest_there mail) rest))
+first-there mail (Ok t) (Ok rest) = refl
+first-there mail (Ok t) (Err refusal) = refl
+first-there mail (Err refusal) rest = refl
+
+-- what is read at a range is read of the bytes that stand there
+abbrev Gives : List ℕ → (Range → Reads RangeTree) → (List ℕ → Reads Tree) → Type 0
+Gives mail ranges read = (whole : Range) → read_map (tree_there mail) (ranges whole) ≡ read (slice mail whole)
+
+each-there : (mail : List ℕ) (ranges : Range → Reads RangeTree) (read : List ℕ → Reads Tree) → Gives mail ranges read → (whole : Range) (gap from : ℕ) (rs : List Range)
+    → Apart gap from rs (length (slice mail whole))
+    → read_map (forest_there mail) (range_each ranges (map (moved whole.start) rs)) ≡ read_each read (map (slice (slice mail whole)) rs)
+each-there mail ranges read gives whole gap from [] apart = refl
+each-there mail ranges read gives whole gap from (r ∷ rs) apart =
+    let rest = each-there mail ranges read gives whole gap r.end rs apart.2 in
+    let here = gives (moved whole.start r) ∙ ap read (sym (slice-moved mail whole r apart.1 (Apart-order gap r.end rs (length (slice mail whole)) apart.2))) in
+    first-there mail (ranges (moved whole.start r)) (range_each ranges (map (moved whole.start) rs))
+    ∙ ap (λ (x : Reads Tree). ◌>>=◌ x (λ t. read_map (part_and t) (read_map (forest_there mail) (range_each ranges (map (moved whole.start) rs))))) here
+    ∙ ap (λ (x : Reads Forest). ◌>>=◌ (read (slice (slice mail whole) r)) (λ t. read_map (part_and t) x)) rest
+
+-- Under the charsets that are known.
+module _ (known : Charsets) (mail : List ℕ) where
+  parts-there : (ranges : Bool → Range → Reads RangeTree) (read : Bool → List ℕ → Reads Tree) → ((digest : Bool) → Gives mail (ranges digest) (read digest))
+      → (whole : Range) (block : HeaderList) (ctype : ContentType) → read_headers (slice mail whole) ≡ Ok block
+      → read_map (tree_there mail) (range_parts known mail ranges whole block ctype) ≡ read_parts known read (slice mail whole) block ctype
+  parts-there ranges read gives whole block ctype headers =
+      let raw = slice mail whole in
+      let cut = cut_of ctype raw block.index in
+      let apart = cut_of-apart ctype raw block.index (read_headers-bounded raw block headers).index in
+      tree-there mail (range_node whole raw block ctype cut) (node_with raw block ctype cut) (node-there mail whole block ctype headers)
+      (range_each (ranges (is_digest ctype)) (map (moved whole.start) cut.parts))
+      ∙ ap (read_map (tree (node_with raw block ctype cut)))
+      (each-there mail (ranges (is_digest ctype)) (read (is_digest ctype)) (gives (is_digest ctype)) whole 3 cut.body.end cut.parts apart.2)
+
+  levels-there : (levels : ℕ) (in_digest : Bool) → Gives mail (range_levels known mail levels in_digest) (read_levels known levels in_digest)
+  unfolding range_levels read_levels
+  levels-there zero in_digest whole = refl
+  levels-there (suc levels) in_digest whole = by_block (read_headers (slice mail whole)) refl (λ digest. levels-there levels digest)
+    where
+      by_block : (block : Reads HeaderList) → read_headers (slice mail whole) ≡ block
+          → ((digest : Bool) → Gives mail (range_levels known mail levels digest) (read_levels known levels digest))
+          → read_map (tree_there mail) (◌>>=◌ block (λ b. range_parts known mail (range_levels known mail levels) whole b (node_type known in_digest b.headers)))
+          ≡ ◌>>=◌ block (λ b. read_parts known (read_levels known levels) (slice mail whole) b (node_type known in_digest b.headers))
+      by_block (Err refusal) headers ih = refl
+      by_block (Ok block) headers ih =
+          parts-there (range_levels known mail levels) (read_levels known levels) ih whole block (node_type known in_digest block.headers) headers
+
+  -- the whole of a list is the list
+  whole-all : slice mail (record { start = 0; end = length mail }) ≡ mail
+  whole-all = take_whole (length mail - 0) mail (omega arith)
+    where
+      take_whole : (n : ℕ) (xs : List ℕ) → n ≡ length xs → take n xs ≡ xs
+      take_whole zero [] e = refl
+      take_whole zero (x ∷ xs) e = absurd (omega arith)
+      take_whole (suc n) [] e = refl
+      take_whole (suc n) (x ∷ xs) e = ap (λ (ys : List ℕ). x ∷ ys) (take_whole n xs (omega arith))
+
+  pub ranges_in-there : (greatest : ℕ) → read_map (tree_there mail) (ranges_in known mail greatest) ≡ read_mail_in known greatest mail
+  unfolding ranges_in read_mail_in
+  ranges_in-there greatest = levels-there (suc greatest) false (record { start = 0; end = length mail }) ∙ ap (read_levels known (suc greatest) false) whole-all
+
+-- ---- the ranges lie apart
+
+-- the same between wider places
+Apart-wider : (gap from : ℕ) (rs : List Range) (to less more : ℕ) → less ≤ from → to ≤ more → Apart gap from rs to → Apart gap less rs more
+Apart-wider gap from [] to less more low high h = omega (arith, h)
+Apart-wider gap from (r ∷ rs) to less more low high h = (omega (arith, h.0), h.1, Apart-wider gap r.end rs to r.end more (omega arith) high h.2)
+
+-- the same further on
+Apart-moved : (place gap from : ℕ) (rs : List Range) (to : ℕ) → Apart gap from rs to → Apart gap (place + from) (map (moved place) rs) (place + to)
+Apart-moved place gap from [] to h = omega (arith, h)
+Apart-moved place gap from (r ∷ rs) to h = (omega (arith, h.0), omega (arith, h.1), Apart-moved place gap r.end rs to h.2)
+
+-- one list and then another
+Apart-append : (gap from : ℕ) (rs ss : List Range) (between to : ℕ) → Apart gap from rs between → Apart gap between ss to → Apart gap from (rs ++ ss) to
+Apart-append gap from [] ss between to h k = Apart-wider gap between ss to from to h (omega arith) k
+Apart-append gap from (r ∷ rs) ss between to h k = (h.0, h.1, Apart-append gap r.end rs ss between to h.2 k)
+
+-- keys and values, each header from one place to the next
+record FieldsFit (f : ℕ → HeaderRanges) (place : ℕ → ℕ) : Type 0 where
+  pub key_start : (j : ℕ) → place j ≤ (f j).key.start
+  pub key : (j : ℕ) → (f j).key.start ≤ (f j).key.end
+  pub between : (j : ℕ) → (f j).key.end ≤ (f j).value.start
+  pub value : (j : ℕ) → (f j).value.start ≤ (f j).value.end
+  pub value_end : (j : ℕ) → (f j).value.end ≤ place (suc j)
+
+fields-apart : (n : ℕ) (f : ℕ → HeaderRanges) (place : ℕ → ℕ) → FieldsFit f place → Apart 0 (place 0) (header_fields (values_below n f)) (place n)
+fields-apart zero f place fit = omega arith
+fields-apart (suc n) f place fit =
+    let later : FieldsFit (λ j. f (suc j)) (λ j. place (suc j)) = record {
+      key_start = λ j. fit.key_start (suc j);
+      key = λ j. fit.key (suc j);
+      between = λ j. fit.between (suc j);
+      value = λ j. fit.value (suc j);
+      value_end = λ j. fit.value_end (suc j);
+    } in
+    let more = fields-apart n (λ j. f (suc j)) (λ j. place (suc j)) later in
+    let rest = Apart-wider 0 (place 1) (header_fields (values_below n (λ j. f (suc j)))) (place (suc n)) (f 0).value.end (place (suc n)) (fit.value_end 0) (omega arith) more in
+    (omega (arith, fit.key_start 0), fit.key 0, (omega (arith, fit.between 0), fit.value 0, rest))
+
+module _ (mail : List ℕ) (whole : Range) (block : HeaderList) (read : read_headers (slice mail whole) ≡ Ok block) where
+  fields-within : Apart 0 (moved whole.start (record { start = 0; end = block.index })).start (header_fields (headers_at whole.start (slice mail whole)))
+      (moved whole.start (record { start = 0; end = block.index })).end
+  fields-within =
+      let raw = slice mail whole in
+      let f : ℕ → HeaderRanges = λ j. record { key = moved whole.start (key_range raw j); value = moved whole.start (value_range raw j) } in
+      let fit : FieldsFit f (λ j. whole.start + header_place raw j) = record {
+        key_start = λ j. omega arith;
+        key = λ j. let order = (ranges-in_order raw j).first_is_range in omega arith;
+        between = λ j. let order = (ranges-in_order raw j).apart in omega arith;
+        value = λ j. let order = (ranges-in_order raw j).second_is_range in omega arith;
+        value_end = λ j. let order = (ranges-in_order raw j).ends in omega arith;
+      } in
+      let first = header_place-first raw in
+      let index = read_headers-index raw block read in
+      Apart-wider 0 (whole.start + header_place raw 0) (header_fields (headers_at whole.start raw)) (whole.start + header_place raw (header_count raw))
+      (whole.start + 0) (whole.start + block.index) (omega arith) (omega arith) (fields-apart (header_count raw) f (λ j. whole.start + header_place raw j) fit)
+
+  node-in_order : (ctype : ContentType) → whole.start ≤ whole.end
+      → LieInOrder (range_node whole (slice mail whole) block ctype (cut_of ctype (slice mail whole) block.index))
+      (map (moved whole.start) (cut_of ctype (slice mail whole) block.index).parts)
+  node-in_order ctype order =
+      let raw = slice mail whole in
+      let cut = cut_of ctype raw block.index in
+      let apart = cut_of-apart ctype raw block.index (read_headers-bounded raw block read).index in
+      let size = slice-length mail whole in
+      let start = apart.0 in
+      let end = apart.1 in
+      record {
+        front = omega arith;
+        fields = fields-within;
+        next = omega arith;
+        body = omega arith;
+        parts = Apart-wider 3 (whole.start + cut.body.end) (map (moved whole.start) cut.parts) (whole.start + length raw) (whole.start + cut.body.end) whole.end
+            (omega arith) (omega arith) (Apart-moved whole.start 3 cut.body.end cut.parts (length raw) apart.2);
+      }
+
+-- a message stands where it was read, and the ranges within it lie in order
+abbrev ReadsNested : (Range → Reads RangeTree) → Type 0
+ReadsNested ranges = (whole : Range) (t : RangeTree) → whole.start ≤ whole.end → ranges whole ≡ Ok t → ((range_root t).whole ≡ whole) × AreNested t
+
+each-nested : (ranges : Range → Reads RangeTree) → ReadsNested ranges → (gap from : ℕ) (rs : List Range) (to : ℕ) → Apart gap from rs to → (parts : RangeForest)
+    → range_each ranges rs ≡ Ok parts → (wholes parts ≡ rs) × AllNested parts
+each-nested ranges nests gap from [] to apart parts e =
+    let same : no_ranges ≡ parts = cc in
+    subst (λ (p : RangeForest). (wholes p ≡ []) × AllNested p) same (refl, tt)
+each-nested ranges nests gap from (r ∷ rs) to apart parts e =
+    by_part (ranges r) (range_each ranges rs) refl refl e (λ others more. each-nested ranges nests gap r.end rs to apart.2 others more)
+  where
+    by_part : (first : Reads RangeTree) (rest : Reads RangeForest) → ranges r ≡ first → range_each ranges rs ≡ rest
+        → ◌>>=◌ first (λ t. read_map (ranges_and t) rest) ≡ Ok parts
+        → ((others : RangeForest) → range_each ranges rs ≡ Ok others → (wholes others ≡ rs) × AllNested others)
+        → (wholes parts ≡ r ∷ rs) × AllNested parts
+    by_part (Err refusal) rest f g h ih = absurd (cc)
+    by_part (Ok t) (Err refusal) f g h ih = absurd (cc)
+    by_part (Ok t) (Ok others) f g h ih =
+        let same : ranges_and t others ≡ parts = cc in
+        let here = nests r t apart.1 f in
+        let more = ih others g in
+        subst (λ (p : RangeForest). (wholes p ≡ r ∷ rs) × AllNested p) same
+        (ap (λ (x : Range). x ∷ wholes others) here.0 ∙ ap (λ (xs : List Range). r ∷ xs) more.0, (here.1, more.1))
+
+module _ (known : Charsets) (mail : List ℕ) where
+  levels-nested : (levels : ℕ) (in_digest : Bool) → ReadsNested (range_levels known mail levels in_digest)
+  unfolding range_levels
+  levels-nested zero in_digest whole t order e = absurd (cc)
+  levels-nested (suc levels) in_digest whole t order e = by_block (read_headers (slice mail whole)) refl e (λ digest. levels-nested levels digest)
+    where
+      by_parts : (block : HeaderList) (ctype : ContentType) → read_headers (slice mail whole) ≡ Ok block → (parts : Reads RangeForest)
+          → range_each (range_levels known mail levels (is_digest ctype)) (map (moved whole.start) (cut_of ctype (slice mail whole) block.index).parts) ≡ parts
+          → read_map (range_tree (range_node whole (slice mail whole) block ctype (cut_of ctype (slice mail whole) block.index))) parts ≡ Ok t
+          → ReadsNested (range_levels known mail levels (is_digest ctype)) → ((range_root t).whole ≡ whole) × AreNested t
+      by_parts block ctype read (Err refusal) f h ih = absurd (cc)
+      by_parts block ctype read (Ok parts) f h ih =
+          let raw = slice mail whole in
+          let node = range_node whole raw block ctype (cut_of ctype raw block.index) in
+          let ranges = map (moved whole.start) (cut_of ctype raw block.index).parts in
+          let same : range_tree node parts ≡ t = cc in
+          let lie = node-in_order mail whole block read ctype order in
+          let all = each-nested (range_levels known mail levels (is_digest ctype)) ih 3 node.body.end ranges whole.end lie.parts parts f in
+          subst (λ (u : RangeTree). ((range_root u).whole ≡ whole) × AreNested u) same
+          (refl, (subst (LieInOrder node) (sym all.0) lie, all.1))
+
+      by_block : (block : Reads HeaderList) → read_headers (slice mail whole) ≡ block
+          → ◌>>=◌ block (λ b. range_parts known mail (range_levels known mail levels) whole b (node_type known in_digest b.headers)) ≡ Ok t
+          → ((digest : Bool) → ReadsNested (range_levels known mail levels digest)) → ((range_root t).whole ≡ whole) × AreNested t
+      by_block (Err refusal) read h ih = absurd (cc)
+      by_block (Ok block) read h ih = by_parts block (node_type known in_digest block.headers) read _ refl h (ih (is_digest (node_type known in_digest block.headers)))
+
+mutual
+  -- so the blocks and the bodies lie apart
+  tree-apart : (t : RangeTree) → AreNested t → Apart 0 (range_root t).whole.start (blocks_and_bodies t) (range_root t).whole.end
+  tree-apart (range_tree node parts) nested =
+      let lie = nested.0 in
+      let front = lie.front in
+      let next = lie.next in
+      let block = Apart-order 0 node.block.start (header_fields node.headers) node.block.end lie.fields in
+      (omega arith, block, (omega arith, lie.body, forest-apart parts node.body.end node.whole.end nested.1 lie.parts))
+
+  forest-apart : (ts : RangeForest) (from to : ℕ) → AllNested ts → Apart 3 from (wholes ts) to → Apart 0 from (blocks_and_bodies_in ts) to
+  forest-apart no_ranges from to nested apart = apart
+  forest-apart (ranges_and t ts) from to nested apart =
+      let whole = (range_root t).whole in
+      Apart-append 0 from (blocks_and_bodies t) (blocks_and_bodies_in ts) whole.end to
+      (Apart-wider 0 whole.start (blocks_and_bodies t) whole.end from whole.end (omega (arith, apart.0)) (omega arith) (tree-apart t nested.0))
+      (forest-apart ts whole.end to nested.1 apart.2)
+
+-- a range of the list starts at the place or after it
+later-start : (from : ℕ) (rs : List Range) (to j : ℕ) (d : Range) → Apart 0 from rs to → j < length rs → from ≤ (get_or rs j d).start
+later-start from [] to j d apart low = absurd (omega arith)
+later-start from (r ∷ rs) to zero d apart low = omega (arith, apart.0)
+later-start from (r ∷ rs) to (suc j) d apart low =
+    let more = later-start r.end rs to j d apart.2 (omega arith) in
+    omega (arith, apart.0, apart.1, more)
+
+-- no place is in two of them
+held-once : (from : ℕ) (rs : List Range) (to place i j : ℕ) (d : Range) → Apart 0 from rs to → i < length rs → j < length rs
+    → Holds (get_or rs i d) place → Holds (get_or rs j d) place → i ≡ j
+held-once from [] to place i j d apart low high here there = absurd (omega arith)
+held-once from (r ∷ rs) to place zero zero d apart low high here there = refl
+held-once from (r ∷ rs) to place zero (suc j) d apart low high here there =
+    let later = later-start r.end rs to j d apart.2 (omega arith) in
+    absurd (omega (arith, here.1, there.0, later))
+held-once from (r ∷ rs) to place (suc i) zero d apart low high here there =
+    let later = later-start r.end rs to i d apart.2 (omega arith) in
+    absurd (omega (arith, here.0, there.1, later))
+held-once from (r ∷ rs) to place (suc i) (suc j) d apart low high here there =
+    ap suc (held-once r.end rs to place i j d apart.2 (omega arith) (omega arith) here there)
+
+module _ (known : Charsets) (mail : List ℕ) (greatest : ℕ) (t : RangeTree) (read : ranges_in known mail greatest ≡ Ok t) where
+  pub ranges_in-nested : ((range_root t).whole ≡ record { start = 0; end = length mail }) × AreNested t
+  unfolding ranges_in
+  ranges_in-nested = levels-nested known mail (suc greatest) false (record { start = 0; end = length mail }) t (omega arith) read
+
+  pub ranges_in-apart : Apart 0 0 (blocks_and_bodies t) (length mail)
+  ranges_in-apart =
+      let nested = ranges_in-nested in
+      subst (λ (whole : Range). Apart 0 whole.start (blocks_and_bodies t) whole.end) nested.0 (tree-apart t nested.1)
+
+  pub ranges_in-once : (place i j : ℕ) (d : Range) → i < length (blocks_and_bodies t) → j < length (blocks_and_bodies t)
+      → Holds (get_or (blocks_and_bodies t) i d) place → Holds (get_or (blocks_and_bodies t) j d) place → i ≡ j
+  ranges_in-once place i j d low high here there = held-once 0 (blocks_and_bodies t) (length mail) place i j d ranges_in-apart low high here there

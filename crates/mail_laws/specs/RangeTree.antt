@@ -1,0 +1,170 @@
+-- The tree of a message as ranges of the mail: where the message and each of its parts stand, and in each its header block with the blank line,
+-- the keys and values of its headers, and its body. All places are counted from the first byte of the mail; the project's own words.
+use Rattle.std.specs.Prelude.{◌≡◌, ℕ, zero, suc, ◌+◌, ◌<◌, ◌≤◌, Bool, false, List, [], ◌∷◌, ◌++◌, length, map, Ok, Err}
+use Rattle.std.specs.List.{flat_map}
+use Rattle.mail_codec.specs.Charset.{Charsets}
+use Rattle.mail_codec.specs.Places.{values_below}
+use Rattle.mailparse.specs.Refusal.{◌>>=◌, recursion_limit, Reads}
+use Rattle.mailparse.specs.Header.{Header}
+use Rattle.mailparse.specs.Block.{HeaderList, header_count, read_headers}
+use Rattle.mailparse.specs.ContentType.{ContentType}
+use Rattle.mailparse.specs.Delimiters.{Cut}
+use Rattle.mailparse.specs.Mail.{Node, Tree, tree, Forest, no_parts, part_and, cut_of, is_digest, node_type}
+use Rattle.mailparse.specs.Ranges.{Range, Apart, slice}
+use Rattle.mail_laws.specs.Spans.{key_range, value_range}
+
+-- a range of what stands from a place on, as a range of the whole
+abbrev pub moved : ℕ → Range → Range
+moved place range = record { start = place + range.start; end = place + range.end }
+
+-- where the key and the value of a header stand
+pub record HeaderRanges : Type 0 where
+  pub key : Range
+  pub value : Range
+
+-- one message by itself: where it stands, with its block, its headers, its type and its body
+pub record RangeNode : Type 0 where
+  pub whole : Range
+  pub block : Range
+  pub headers : List HeaderRanges
+  pub ctype : ContentType
+  pub body : Range
+
+-- a message and its parts, in order, each with its own parts
+mutual
+  pub data RangeTree : Type 0 where
+    range_tree : RangeNode → RangeForest → RangeTree
+
+  pub data RangeForest : Type 0 where
+    no_ranges : RangeForest
+    ranges_and : RangeTree → RangeForest → RangeForest
+
+-- the message itself
+abbrev pub range_root : RangeTree → RangeNode
+range_root (range_tree node parts) = node
+
+-- ---- what stands there
+
+-- In a mail.
+module _ (mail : List ℕ) where
+  -- the header that stands there
+  abbrev pub header_there : HeaderRanges → Header
+  header_there header = record { key = slice mail header.key; value = slice mail header.value }
+
+  -- the message that stands there, without its parts
+  abbrev pub node_there : RangeNode → Node
+  node_there node = record {
+    bytes = slice mail node.whole;
+    block = slice mail node.block;
+    headers = map header_there node.headers;
+    ctype = node.ctype;
+    body = slice mail node.body;
+  }
+
+  abbrev mutual
+    -- the message and its parts
+    pub tree_there : RangeTree → Tree
+    tree_there (range_tree node parts) = tree (node_there node) (forest_there parts)
+
+    -- the same of each of some parts
+    pub forest_there : RangeForest → Forest
+    forest_there no_ranges = no_parts
+    forest_there (ranges_and t ts) = part_and (tree_there t) (forest_there ts)
+
+-- the tree that stands at the ranges, where they were read
+abbrev pub read_there : List ℕ → Reads RangeTree → Reads Tree
+read_there mail ranges = do
+  t ← ranges
+  Ok (tree_there mail t)
+
+-- ---- the reading
+
+-- where the headers of a block stand, whose bytes are those of the mail from a place on
+abbrev pub headers_at : ℕ → List ℕ → List HeaderRanges
+headers_at place bytes =
+    values_below (header_count bytes) (λ j. record { key = moved place (key_range bytes j); value = moved place (value_range bytes j) })
+
+-- the message with this block and this type that is cut so, and stands at this range with these bytes
+abbrev pub range_node : Range → List ℕ → HeaderList → ContentType → Cut → RangeNode
+range_node whole bytes block ctype cut = record {
+  whole = whole;
+  block = moved whole.start (record { start = 0; end = block.index });
+  headers = headers_at whole.start bytes;
+  ctype = ctype;
+  body = moved whole.start cut.body;
+}
+
+-- what is read at each range, in order; the first refusal refuses all
+abbrev pub range_each : (Range → Reads RangeTree) → List Range → Reads RangeForest
+range_each read [] = Ok no_ranges
+range_each read (part ∷ parts) = do
+  first ← read part
+  others ← range_each read parts
+  Ok (ranges_and first others)
+
+-- Of a mail, under the charsets that are known.
+module _ (known : Charsets) (mail : List ℕ) where
+  -- the message of this type that has this block, and stands at this range
+  abbrev pub range_parts : (Bool → Range → Reads RangeTree) → Range → HeaderList → ContentType → Reads RangeTree
+  range_parts read whole block ctype = do
+    let cut = cut_of ctype (slice mail whole) block.index
+    parts ← range_each (read (is_digest ctype)) (map (moved whole.start) cut.parts)
+    Ok (range_tree (range_node whole (slice mail whole) block ctype cut) parts)
+
+  -- the message that stands at a range, where so many levels may stand, its own among them
+  unfoldable pub range_levels : ℕ → Bool → Range → Reads RangeTree
+  range_levels zero in_digest whole = Err recursion_limit
+  range_levels (suc levels) in_digest whole = do
+    block ← read_headers (slice mail whole)
+    range_parts (range_levels levels) whole block (node_type known in_digest block.headers)
+
+  -- the tree of ranges of the mail, where parts may stand down to a greatest level
+  unfoldable pub ranges_in : ℕ → Reads RangeTree
+  ranges_in greatest = range_levels (suc greatest) false (record { start = 0; end = length mail })
+
+-- ---- how the ranges of a tree lie
+
+-- where the keys and the values of headers stand, in order
+abbrev pub header_fields : List HeaderRanges → List Range
+header_fields headers = flat_map (λ header. header.key ∷ header.value ∷ []) headers
+
+-- where each of some parts stands
+abbrev pub wholes : RangeForest → List Range
+wholes no_ranges = []
+wholes (ranges_and t ts) = (range_root t).whole ∷ wholes ts
+
+-- the ranges of one message lie in order, its parts at these
+pub record LieInOrder (node : RangeNode) (ranges : List Range) : Type 0 where
+  -- the block starts where the message does
+  pub front : node.block.start ≡ node.whole.start
+  -- keys and values stand one after another within the block
+  pub fields : Apart 0 node.block.start (header_fields node.headers) node.block.end
+  -- the body follows the block
+  pub next : node.body.start ≡ node.block.end
+  pub body : node.body.start ≤ node.body.end
+  -- the parts follow the body one after another within the message, three bytes or more before each
+  pub parts : Apart 3 node.body.end ranges node.whole.end
+
+abbrev mutual
+  -- so they lie in a message and in all its parts
+  pub AreNested : RangeTree → Type 0
+  AreNested (range_tree node parts) = LieInOrder node (wholes parts) × AllNested parts
+
+  -- and in each of some parts
+  pub AllNested : RangeForest → Type 0
+  AllNested no_ranges = Unit
+  AllNested (ranges_and t ts) = AreNested t × AllNested ts
+
+abbrev mutual
+  -- the block and the body of a message, then those of its parts, each before those of its own parts (preorder)
+  pub blocks_and_bodies : RangeTree → List Range
+  blocks_and_bodies (range_tree node parts) = node.block ∷ node.body ∷ blocks_and_bodies_in parts
+
+  -- the same of each of some parts
+  pub blocks_and_bodies_in : RangeForest → List Range
+  blocks_and_bodies_in no_ranges = []
+  blocks_and_bodies_in (ranges_and t ts) = blocks_and_bodies t ++ blocks_and_bodies_in ts
+
+-- a byte of the range stands at the place
+abbrev pub Holds : Range → ℕ → Type 0
+Holds range place = (range.start ≤ place) × (place < range.end)
