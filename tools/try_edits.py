@@ -9,6 +9,8 @@ of a proof goes to must-fail/, which `rt ci` tries.)
 
 The script proves each crate from nothing, in a copy of the repository. Then it checks the crate with a
 batch of edits at once, over the proofs that are kept, where no two edits of a batch change one function.
+(Where one batch holds all edits of a crate, and no other crate with edits stands on it, the check of that
+batch is the first check of the crate.)
 An edit passes if the function that it changes is refused, and the line says which goal became false (or
 that its proof only names what is gone, which says little: such edits are listed at the end); each
 function that no edit changes has to be told as proved, or as waiting only for those that are refused.
@@ -172,11 +174,11 @@ class Run:
             raise Stopped(f"beside an edit that changes nothing, {real} is not refused")
         self.say(f"{trial.crate.name}: an edit that changes nothing is told as not refused, {self.took(ran)}")
 
-    def try_batch(self, trial, number):
+    def try_batch(self, trial, number, jobs):
         """Checks a batch, and each of its edits alone that it does not show to be refused."""
         batch = trial.batches[number]
-        said, ran = self.checker.check_with(trial.crate.name, texts_with(trial.crate, batch))
-        why = unclear(trial.known, batch, said)
+        said, ran = self.checker.check_with(trial.crate.name, texts_with(trial.crate, batch), jobs)
+        why = unclear(trial.known or said.names_of(trial.crate.name), batch, said)
         outcomes = [] if why else [outcome_of(edit, said) for edit in batch]
         self.say(f"{trial.crate.name}: batch {number + 1} of {len(trial.batches)}, {len(batch)} edits, {self.took(ran)}")
         self.tell([it for it in outcomes if it.is_refused])
@@ -185,6 +187,8 @@ class Run:
         sure = {str(it.edit) for it in outcomes if it.is_refused}
         for edit in batch:
             if str(edit) not in sure and not self.is_stopped:
+                if not trial.known:
+                    self.prove(trial.crate.name, trial, jobs)
                 self.try_alone(trial, edit)
 
     def try_alone(self, trial, edit):
@@ -205,25 +209,26 @@ def check_names(trial):
 
 
 def tasks_of(run):
-    """The tasks by their keys: what each waits for, how many jobs it may use, and its call."""
+    """The tasks by their keys: what each waits for, and its call, which gets how many jobs it may use."""
     listed = run.checker.listed
-    with_edits = {it.crate.name: it for it in run.trials if it.edits}
-    needed = [name for it in with_edits for name in all_below(listed, it)]
+    trials = {it.crate.name: it for it in run.trials if it.edits}
+    if not trials:
+        return {}
+    lowest = min(trials.values(), key=lambda it: len(all_below(listed, it.crate.name)))
+    above = {below for name in trials for it in listed[name] for below in all_below(listed, it)}
     tasks = {}
-    for name in dict.fromkeys(needed):
-        below = [("prove", it) for it in listed[name]]
-        tasks["prove", name] = below, lambda jobs, name=name: run.prove(name, with_edits.get(name), jobs)
-    trials = list(with_edits.values())
-    shown = []
-    if trials:
-        lowest = min(trials, key=lambda it: len(all_below(listed, it.crate.name)))
-        shown = [("nothing", lowest.crate.name)]
-        tasks[shown[0]] = [("prove", lowest.crate.name)], lambda jobs: run.show_that_it_can_fail(lowest)
-    for trial in trials:
-        waits = [("prove", trial.crate.name), *shown]
+    for name in dict.fromkeys(it for name in trials for it in all_below(listed, name)):
+        trial = trials.get(name)
+        if name in above or trial is lowest or run.checker.is_kept or len(trial.batches) > 1:
+            below = [("prove", it) for it in listed[name]]
+            tasks["prove", name] = below, lambda jobs, name=name, trial=trial: run.prove(name, trial, jobs)
+    shown = ("nothing", lowest.crate.name)
+    tasks[shown] = [("prove", lowest.crate.name)], lambda jobs: run.show_that_it_can_fail(lowest)
+    for name, trial in trials.items():
+        proofs = [key for it in all_below(listed, name) if (key := ("prove", it)) in tasks]
         for number in range(len(trial.batches)):
-            call = lambda jobs, trial=trial, number=number: run.try_batch(trial, number)
-            tasks["batch", trial.crate.name, number] = waits, call
+            call = lambda jobs, trial=trial, number=number: run.try_batch(trial, number, jobs)
+            tasks["batch", name, number] = [*proofs, shown], call
     return tasks
 
 
@@ -245,14 +250,15 @@ def run_tasks(tasks, lanes, stop):
 
 
 def start_ready(pool, lanes, done, running, left):
-    """Starts the tasks that wait for nothing, as far as lanes are idle. A proof gets the lanes that
-    nothing else is ready for."""
+    """Starts the tasks that wait for nothing, as far as lanes are idle. A proof from nothing gets the lanes
+    that nothing else is ready for."""
     ready = [key for key, (waits, _) in left.items() if done.issuperset(waits)]
     for at, key in enumerate(ready):
         idle = lanes - sum(jobs for _, jobs in running.values())
         if idle < 1:
             return
-        jobs = max(1, idle - (len(ready) - at - 1)) if key[0] == "prove" else 1
+        is_first = key[0] == "prove" or (key[0] == "batch" and ("prove", key[1]) not in done)
+        jobs = max(1, idle - (len(ready) - at - 1)) if is_first else 1
         running[pool.submit(left.pop(key)[1], jobs)] = key, jobs
 
 

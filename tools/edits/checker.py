@@ -76,6 +76,7 @@ class Checker:
 
     def __init__(self, top, room, is_kept):
         self.room = room
+        self.is_kept = is_kept
         self.listed = crates_listed(top)
         self.base = f"{room}/base"
         os.mkdir(self.base)
@@ -86,7 +87,7 @@ class Checker:
         ran = run_check(f"{self.base}/crates/{crate}", jobs)
         return read_output(ran.output), ran
 
-    def check_with(self, crate, texts):
+    def check_with(self, crate, texts, jobs=1):
         """Checks a crate with these texts in place of its own, over what was proved."""
         with tempfile.TemporaryDirectory(prefix="batch-", dir=self.room) as copy:
             self.link_base(crate, copy)
@@ -95,7 +96,7 @@ class Checker:
                 os.remove(path)
                 with open(path, "w", encoding="utf-8", newline="") as opened:
                     opened.write(text)
-            ran = run_check(f"{copy}/crates/{crate}", 1)
+            ran = run_check(f"{copy}/crates/{crate}", jobs)
         return read_output(ran.output), ran
 
     def link_base(self, crate, copy):

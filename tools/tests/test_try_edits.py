@@ -246,51 +246,63 @@ class FakeChecker:
     """A checker of the crate `low`: refuses each function that has the text `wrong`, and does not read a
     crate that has the text `unread`."""
 
-    listed = {"low": []}
+    listed = {"low": [], "high": ["low"]}
+    is_kept = False
 
     def __init__(self):
         self.checked = []
+        self.proved = []
 
     def prove(self, crate, jobs):
-        return self.answer("")
+        self.proved.append(crate)
+        return self.answer(crate, "")
 
-    def check_with(self, crate, texts):
+    def check_with(self, crate, texts, jobs=1):
         self.checked.append(texts["src/lib.rt"])
-        return self.answer(texts["src/lib.rt"])
+        return self.answer(crate, texts["src/lib.rt"])
 
-    def answer(self, text):
+    def answer(self, crate, text):
         if "unread" in text:
             printed = "src/lib.rt:1:1: error: unread"
         else:
             bodies = {it.path: text[it.body : it.end] for it in source.items_of(text)[0]}
             wrong = {path for path, body in bodies.items() if "wrong" in body}
-            lines = [self.line(path, path in wrong) for path in (("a",), ("b",), ("c",))]
+            lines = [self.line(f"{crate}::{name}", (name,) in wrong) for name in "abc"]
             printed = "\n".join([*lines, f"logic={'not-proved' if wrong else 'proved'}"])
         return said.read_output(printed), checker.Ran(printed, 1.0, 2.0)
 
-    def line(self, path, is_wrong):
-        return f"fn low::{path[0]}: {'no proof: `search` did not prove `returns`' if is_wrong else 'proved'}"
+    def line(self, name, is_wrong):
+        return f"fn {name}: {'no proof: `search` did not prove `returns`' if is_wrong else 'proved'}"
 
 
 class ForgivingChecker(FakeChecker):
     """Refuses nothing."""
 
-    def line(self, path, is_wrong):
-        return f"fn low::{path[0]}: proved"
+    def line(self, name, is_wrong):
+        return f"fn {name}: proved"
 
 
 class StrictChecker(FakeChecker):
     """Refuses all functions of a crate that was changed."""
 
-    def answer(self, text):
-        return super().answer(text.replace("{", "{ wrong") if text else text)
+    def answer(self, crate, text):
+        return super().answer(crate, text.replace("{", "{ wrong") if text else text)
+
+
+def trial_with(crate_name, *news):
+    """A trial of a crate of three functions, whose edits write these texts into them."""
+    crate = crate_with({"lib.rt": "fn a() { 1 }\nfn b() { 2 }\nfn c() { 3 }\n"})
+    crate.name = crate_name
+    edits = [edit_of(crate, f"edit_{new}", (f"{{ {at + 1} }}", f"{{ {new} }}")) for at, new in enumerate(news)]
+    return try_edits.Trial(crate, edits, [], 8)
 
 
 class RunTest(unittest.TestCase):
     def run_with(self, checker_of_test, *news):
-        crate = crate_with({"lib.rt": "fn a() { 1 }\nfn b() { 2 }\nfn c() { 3 }\n"})
-        edits = [edit_of(crate, f"edit_{new}", (f"{{ {at + 1} }}", f"{{ {new} }}")) for at, new in enumerate(news)]
-        run = try_edits.Run([try_edits.Trial(crate, edits, [], 8)], checker_of_test, 2)
+        return self.run_of(checker_of_test, trial_with("low", *news))
+
+    def run_of(self, checker_of_test, *trials):
+        run = try_edits.Run(trials, checker_of_test, 2)
         with contextlib.redirect_stdout(io.StringIO()) as printed:
             try_edits.run_tasks(try_edits.tasks_of(run), 2, run.stop)
         return run, printed.getvalue()
@@ -321,9 +333,27 @@ class RunTest(unittest.TestCase):
 
     def test_nothing_goes_on_where_the_crate_is_not_proved(self):
         broken = FakeChecker()
-        broken.prove = lambda crate, jobs: broken.answer("fn a() { wrong }")
+        broken.prove = lambda crate, jobs: broken.answer(crate, "fn a() { wrong }")
         with self.assertRaisesRegex(try_edits.Stopped, "low is not proved as it is"):
             self.run_with(broken, "wrong")
+
+    def test_the_first_check_of_a_crate_at_the_top_is_that_of_its_batch(self):
+        checker_of_test = FakeChecker()
+        run, printed = self.run_of(checker_of_test, trial_with("low", "wrong"), trial_with("high", "wrong", "wrong + 1"))
+        self.assertEqual((run.passed, run.failed, checker_of_test.proved), (3, 0, ["low"]))
+        self.assertIn("passed high/edit_wrong + 1: refused: high::b: returns", printed)
+
+    def test_a_crate_at_the_top_is_proved_before_an_edit_is_tried_alone(self):
+        checker_of_test = FakeChecker()
+        run, printed = self.run_of(checker_of_test, trial_with("low", "wrong"), trial_with("high", "wrong", "right"))
+        self.assertEqual((run.passed, run.failed, checker_of_test.proved), (2, 1, ["low", "high"]))
+        self.assertIn("FAILED high/edit_right: NOT REFUSED: high::b is still proved", printed)
+
+    def test_what_is_kept_is_looked_at_first(self):
+        checker_of_test = FakeChecker()
+        checker_of_test.is_kept = True
+        self.run_of(checker_of_test, trial_with("low", "wrong"), trial_with("high", "wrong"))
+        self.assertEqual(checker_of_test.proved, ["low", "high"])
 
 
 def main():
