@@ -419,7 +419,7 @@ fn a_block_of_each_byte_alone(rt: HostRuntime) -> Result<(), Fail> {
 fn the_second_header_of_a_block(rt: HostRuntime) -> Result<(), Fail> {
     let raw = b"Subject: Test\nFrom: me@myself.com\nTo: you@yourself.com";
     let (headers, _) = parse_headers(rt.alloc(), raw)?;
-    assert_same(&rt, headers.len(), 3);
+    assert_eq!(rt; headers.len(), 3);
     let header = &headers[1];
     assert_same(&rt, header.get_key(rt.alloc())?.as_str(), "From");
     assert_same(&rt, header.get_key_raw(), b"From".as_slice());

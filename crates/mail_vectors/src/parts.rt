@@ -190,7 +190,7 @@ const BOUNDARY_IN_SECTIONS: &[u8] = b"Content-Type: multipart/mixed; \
 #[test]
 fn a_boundary_in_sections(rt: HostRuntime) -> Result<(), Fail> {
     let mail = parse_mail(rt.alloc(), BOUNDARY_IN_SECTIONS)?;
-    assert_same(&rt, mail.subparts.len(), 1);
+    assert_eq!(rt; mail.subparts.len(), 1);
     let body = mail.subparts[0].get_body_encoded(rt.alloc())?;
     assert!(rt; matches!(body, Body::SevenBit(_)));
     assert_same(&rt, raw_bytes(&body), b"aGk=".as_slice());
