@@ -52,7 +52,7 @@ module _ (dash_boundary bytes : List ℕ) (body : ℕ) where
   abbrev pub Closes : ℕ → Type 0
   Closes p = (length bytes < p + length dash_boundary + 2) ⊎ HasTextAt bytes (codes "--") (p + length dash_boundary)
 
-  -- the delimiters after the one at p, and the parts after it, each with its delimiter before it
+  -- the delimiters after the one at p, and the parts after it, in order
   pub data Follow : ℕ → List ℕ → List Range → Type 0 where
     -- neither, where its line has no end
     line_never_ends : {p : ℕ} → NeverEnds p → Follow p [] []

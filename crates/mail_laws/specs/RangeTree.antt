@@ -165,6 +165,6 @@ abbrev mutual
   blocks_and_bodies_in no_ranges = []
   blocks_and_bodies_in (ranges_and t ts) = blocks_and_bodies t ++ blocks_and_bodies_in ts
 
--- a byte of the range stands at the place
+-- the place is in the range
 abbrev pub Holds : Range → ℕ → Type 0
 Holds range place = (range.start ≤ place) × (place < range.end)

@@ -108,6 +108,55 @@ pub fn parts_apart()
         × Apart 3 cut.body.end cut.parts (length bytes) }
 {}
 
+/// `least` gives the least number that passes a test, or the bound, and no other number is the least.
+/// It is at most the bound, it passes where it is below the bound, and no number below it passes.
+pub fn least_is_least()
+    ensures least { (test : ℕ → Bool) (bound : ℕ) → IsLeast test bound (least test bound) }
+    ensures only { (test : ℕ → Bool) (bound n : ℕ) → IsLeast test bound n → n ≡ least test bound }
+{}
+
+/// Exactly one list of delimiters fits a body in words of places, and exactly one preamble with one
+/// list of parts: those that are computed. Each delimiter begins a line of the body, after the line of
+/// the one before, and none stands between them; the list ends at the close-delimiter, which the first
+/// is never taken for, or where none follows. Each part stands on the lines between a delimiter and
+/// the next, without the line end before the next, or, where none follows, on all lines that are left.
+pub fn one_list_of_delimiters_fits()
+    ensures fits { (dash_boundary bytes : List ℕ) (body : ℕ) → IsCutAt dash_boundary bytes body
+        (delimiters dash_boundary bytes body) (cut_parts dash_boundary bytes body) }
+    ensures only { (dash_boundary bytes : List ℕ) (body : ℕ) (places : List ℕ) (cut : Cut) →
+        IsCutAt dash_boundary bytes body places cut → places ≡ delimiters dash_boundary bytes body }
+    ensures only_parts { (dash_boundary bytes : List ℕ) (body : ℕ) (places : List ℕ) (cut : Cut) →
+        IsCutAt dash_boundary bytes body places cut → cut ≡ cut_parts dash_boundary bytes body }
+{}
+
+/// What stands at the tree of ranges of a mail is the tree that is read, whatever charsets are known
+/// and under every limit on levels. Each message has the range of the mail where it stands, and those
+/// of its header block, of its keys and values and of its body; and the ranges are refused just as the
+/// mail is.
+pub fn ranges_give_tree()
+    ensures { (known : Charsets) (mail : List ℕ) (greatest : ℕ) →
+        read_there mail (ranges_in known mail greatest) ≡ read_mail_in known greatest mail }
+{}
+
+/// The header blocks and the bodies of a message and of all its parts stand apart in the mail, one
+/// after another, so that no byte serves two of them. In each message the keys and the values stand in
+/// order within its block, the body follows the block, and the parts follow the body in order, within
+/// the message, three bytes or more before each.
+pub fn ranges_apart()
+    ensures nested { (known : Charsets) (mail : List ℕ) (greatest : ℕ) (ranges : RangeTree) →
+        ranges_in known mail greatest ≡ Ok ranges →
+        ((range_root ranges).whole ≡ record { start = 0; end = length mail })
+        × AreNested ranges }
+    ensures apart { (known : Charsets) (mail : List ℕ) (greatest : ℕ) (ranges : RangeTree) →
+        ranges_in known mail greatest ≡ Ok ranges →
+        Apart 0 0 (blocks_and_bodies ranges) (length mail) }
+    ensures once { (known : Charsets) (mail : List ℕ) (greatest : ℕ) (ranges : RangeTree) →
+        ranges_in known mail greatest ≡ Ok ranges → (place i j : ℕ) (none : Range) →
+        i < length (blocks_and_bodies ranges) → j < length (blocks_and_bodies ranges) →
+        Holds (slice_index_or (blocks_and_bodies ranges) i none) place →
+        Holds (slice_index_or (blocks_and_bodies ranges) j none) place → i ≡ j }
+{}
+
 /// The headers of a message and of all its parts, the bytes of all their bodies, and three for each
 /// part are together at most the bytes of the message, so that no byte serves two of them: whatever
 /// charsets are known, and under every limit on levels.
@@ -260,53 +309,4 @@ pub fn message_ids_read_back()
 /// Percent decoding of a text without `%` gives its bytes.
 pub fn percent_free()
     ensures { (text : List ℕ) → list_any is_percent text ≡ false → percent_decode text ≡ text }
-{}
-
-/// The least number that passes a test is what its name says: it is at most the bound, passes the test
-/// where it is below the bound, and no number below it passes; and no other number is the least.
-pub fn least_is_least()
-    ensures least { (test : ℕ → Bool) (bound : ℕ) → IsLeast test bound (least test bound) }
-    ensures only { (test : ℕ → Bool) (bound n : ℕ) → IsLeast test bound n → n ≡ least test bound }
-{}
-
-/// Exactly one list of delimiters fits a body in words of places, and exactly one preamble with one
-/// list of parts, those that are computed: each delimiter begins a line, none stands between the line
-/// of one and the next, and the list ends at the first after the first that is the close-delimiter, or
-/// at the last; each part stands on the lines between two delimiters, or after the last, without the
-/// line end before the next.
-pub fn one_list_of_delimiters_fits()
-    ensures fits { (dash_boundary bytes : List ℕ) (body : ℕ) → IsCutAt dash_boundary bytes body
-        (delimiters dash_boundary bytes body) (cut_parts dash_boundary bytes body) }
-    ensures only { (dash_boundary bytes : List ℕ) (body : ℕ) (places : List ℕ) (cut : Cut) →
-        IsCutAt dash_boundary bytes body places cut → places ≡ delimiters dash_boundary bytes body }
-    ensures only_parts { (dash_boundary bytes : List ℕ) (body : ℕ) (places : List ℕ) (cut : Cut) →
-        IsCutAt dash_boundary bytes body places cut → cut ≡ cut_parts dash_boundary bytes body }
-{}
-
-/// What stands at the tree of ranges of a mail is the tree that is read: each message with its bytes,
-/// its header block, its keys and values, its body and its parts, all by ranges of the mail; and the
-/// ranges are refused just as the mail is. This holds whatever charsets are known, and under every
-/// limit on levels.
-pub fn ranges_give_tree()
-    ensures { (known : Charsets) (mail : List ℕ) (greatest : ℕ) →
-        read_there mail (ranges_in known mail greatest) ≡ read_mail_in known greatest mail }
-{}
-
-/// The header blocks and the bodies of a message and of all its parts stand apart in the mail, one
-/// after another, so that no byte serves two of them. In each message the keys and the values stand in
-/// order within its block, the body follows the block, and the parts follow the body in order, within
-/// the message, three bytes or more before each.
-pub fn ranges_apart()
-    ensures nested { (known : Charsets) (mail : List ℕ) (greatest : ℕ) (ranges : RangeTree) →
-        ranges_in known mail greatest ≡ Ok ranges →
-        ((range_root ranges).whole ≡ record { start = 0; end = length mail })
-        × AreNested ranges }
-    ensures apart { (known : Charsets) (mail : List ℕ) (greatest : ℕ) (ranges : RangeTree) →
-        ranges_in known mail greatest ≡ Ok ranges →
-        Apart 0 0 (blocks_and_bodies ranges) (length mail) }
-    ensures once { (known : Charsets) (mail : List ℕ) (greatest : ℕ) (ranges : RangeTree) →
-        ranges_in known mail greatest ≡ Ok ranges → (place i j : ℕ) (none : Range) →
-        i < length (blocks_and_bodies ranges) → j < length (blocks_and_bodies ranges) →
-        Holds (slice_index_or (blocks_and_bodies ranges) i none) place →
-        Holds (slice_index_or (blocks_and_bodies ranges) j none) place → i ≡ j }
 {}

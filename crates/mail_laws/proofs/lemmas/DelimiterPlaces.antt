@@ -1,18 +1,18 @@
 -- The delimiters of a body and its parts that are computed are those in words of places, and no others are.
 use Rattle.std.proofs.Common.{◌≡◌, ℕ, zero, suc, ◌+◌, ◌-◌, ◌<◌, ◌≤◌, Bool, true, false, ◌&&◌, ◌||◌, List, [], ◌∷◌, length, map, take, drop, Option, Some, None, option_map, refl, sym, ap, ◌∙◌, subst, ⊎_elim, inl, inr, ◌⊎◌, arith, length-drop, get_or-drop}
-use Rattle.std.specs.Prelude.{nat_lt, ◌==◌, filter_map, option_and_then, slice_index, codes, if◌then◌else◌}
+use Rattle.std.specs.Prelude.{nat_lt, ◌==◌, filter_map, option_and_then, codes, if◌then◌else◌}
 use Rattle.std.specs.List.{cons_option}
 use Rattle.std.specs.Option.{option_map_or}
 use Rattle.std.proofs.lemmas.Bool.{cases_lt, cases_eq, cases_Bool, lt-ltb, le-ltb, eq-eqb, eqb-true, ne_eqb, and_parts, and_from, or_left, or_right, false≢true}
 use Rattle.std.proofs.lemmas.Bool.Decides.{Decides-eqb}
 use Rattle.std.proofs.lemmas.List.{drop_all}
 use Rattle.std.proofs.lemmas.Slice.Eq.{slice_eq-Decides}
-use Rattle.mail_codec.specs.Places.{begins, stands, byte_place, least, HasByteAt, HasTextAt, IsFirstOf}
+use Rattle.mail_codec.specs.Places.{begins, stands, byte_place, least, HasByteAt, IsFirstOf}
 use Rattle.mail_codec.proofs.lemmas.Places.{begins-at, least-before, true_not_false}
 use Rattle.mail_codec.proofs.lemmas.PlacesLaw.{byte_place-says}
 use Rattle.mailparse.specs.Header.{is_line_feed}
 use Rattle.mailparse.specs.Ranges.{Range}
-use Rattle.mailparse.specs.Delimiters.{least_from, starts_line, is_delimiter, delimiter_from, part_after, is_close_delimiter, first_part, next_part, before_byte, before_line_end, part_range, Cut, cut_parts}
+use Rattle.mailparse.specs.Delimiters.{least_from, starts_line, is_delimiter, delimiter_from, part_after, is_close_delimiter, before_byte, before_line_end, Cut, cut_parts}
 use Rattle.mailparse.proofs.lemmas.Delimiters.{delimiter_from-some, delimiter_from-none, delimiter_from-out, somewhere, part_ranges, part_ranges-none, part_ranges-some}
 use Rattle.mail_laws.specs.DelimiterPlaces.{range, EndsBefore, nothing_between, line_feed_before, both_before, HasDelimiterAt, NoneBetween, IsFirstFrom, EndsLine, NeverEnds, Closes, Follow, line_never_ends, last_delimiter, close_delimiter, next_delimiter, IsCutAt, no_delimiter, first_delimiter, delimiters}
 

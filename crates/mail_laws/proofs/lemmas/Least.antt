@@ -1,5 +1,5 @@
 -- The least number that passes a test is one number.
-use Rattle.std.proofs.Common.{◌≡◌, ℕ, zero, suc, ◌≤◌, Bool, true, false, cond, sym, refl, arith}
+use Rattle.std.proofs.Common.{◌≡◌, ℕ, zero, suc, ◌≤◌, Bool, true, false, cond, sym, arith}
 use Rattle.mail_codec.specs.Places.{least}
 use Rattle.mail_codec.proofs.lemmas.Places.{least-is, least-before, least-passes}
 use Rattle.mail_laws.specs.Least.{IsLeast}
