@@ -10,3 +10,5 @@ pub mod IdGrammar
 pub mod CharsetSources
 pub mod Escapes
 pub mod Levels
+pub mod OutlineViews
+pub mod OutlineConditions
