@@ -13,3 +13,5 @@ pub mod Levels
 pub mod Least
 pub mod DelimiterPlaces
 pub mod RangeTree
+pub mod OutlineViews
+pub mod OutlineConditions

@@ -33,3 +33,5 @@ pub use Rattle.mailparse.specs.Views
 pub use Rattle.mail_codec.specs.Ascii
 pub use Rattle.mail_codec.specs.Charset
 pub use Rattle.mail_codec.specs.Places
+pub mod Outlines
+pub mod OutlineViews

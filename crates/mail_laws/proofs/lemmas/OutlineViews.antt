@@ -1,0 +1,100 @@
+-- Lemmas on what a contract sees of an outline, and on what it is written as.
+use Rattle.std.proofs.Common.{◌≡◌, ℕ, List, [], ◌∷◌, ◌++◌, map, Result, Ok, Err, OnOk, is_ok, refl, sym, ap, ◌∙◌, append_assoc}
+use Rattle.std.specs.Global.{Vec}
+use Rattle.std.specs.Prelude.{codes, flat_map, if◌then◌else◌}
+use Rattle.mailparse.specs.Header.{Header}
+use Rattle.mail_laws.specs.Outlines.{OutlineTree, leaf, branch, forest_of, headers_of, crlf, header_line, header_block, dash_boundary, rendered, rendered_parts}
+use Rattle.mail_laws.specs.OutlineViews.{header_seen, headers_seen, kind_step, outline_step, outline_tree}
+use Rattle.mail_laws.specs.declared.render.Outline.{Outline}
+use Rattle.mail_laws.specs.declared.render.OutlineKind.{OutlineKind}
+use Rattle.mail_laws.specs.declared.render.OutlineKind.TheVariants.{Leaf, Branch, rolls-Leaf, rolls-Branch}
+use Rattle.mail_laws.specs.declared.render.OutlineKind.TheOpen.{OutlineKind-F}
+use Rattle.mail_laws.specs.declared.render.OutlineKind.TheViews.{out-Outline}
+use Rattle.mail_laws.specs.declared.render.OutlineKind.TheFolds.{fold-OutlineKind, fold-roll-OutlineKind, fold_out-Outline, fold_out-OutlineKind}
+
+-- what follows the headers makes an outline of them
+abbrev pub kind_tree : OutlineKind → List Header → OutlineTree
+kind_tree = fold-OutlineKind (List Header → OutlineTree) OutlineTree kind_step outline_step
+
+pub tree_out : (o : Outline) → outline_tree o ≡ kind_tree (out-Outline o).kind (headers_seen (out-Outline o).headers)
+tree_out o = fold_out-Outline (List Header → OutlineTree) OutlineTree kind_step outline_step o
+
+pub kind_tree-Leaf : (body : Vec ℕ) (headers : List Header) → kind_tree (Leaf body) headers ≡ leaf headers body.items
+kind_tree-Leaf body headers =
+    ap (λ k. kind_tree k headers) (sym (rolls-Leaf body))
+    ∙ ap (λ f. f headers) (fold-roll-OutlineKind (List Header → OutlineTree) OutlineTree kind_step outline_step (OutlineKind-F.Leaf body))
+
+pub kind_tree-Branch : (boundary : Vec ℕ) (parts : Vec Outline) (headers : List Header)
+    → kind_tree (Branch boundary parts) headers ≡ branch headers boundary.items (forest_of (map outline_tree parts.items))
+kind_tree-Branch boundary parts headers =
+    ap (λ k. kind_tree k headers) (sym (rolls-Branch boundary parts))
+    ∙ ap (λ f. f headers) (fold-roll-OutlineKind (List Header → OutlineTree) OutlineTree kind_step outline_step (OutlineKind-F.Branch boundary parts))
+
+headers_step : (kind : OutlineKind-F (List Header → OutlineTree) OutlineTree) (headers : List Header) → headers_of (kind_step kind headers) ≡ headers
+headers_step (OutlineKind-F.Leaf body) headers = refl
+headers_step (OutlineKind-F.Branch boundary parts) headers = refl
+
+-- the headers of an outline
+pub headers_tree : (o : Outline) → headers_of (outline_tree o) ≡ headers_seen o.headers
+headers_tree o =
+    ap headers_of (tree_out o)
+    ∙ ap (λ f. headers_of (f (headers_seen o.headers))) (fold_out-OutlineKind (List Header → OutlineTree) OutlineTree kind_step outline_step o.kind)
+    ∙ headers_step _ (headers_seen o.headers)
+
+-- an outline with a body
+pub tree_leaf : (o : Outline) (body : Vec ℕ) → o.kind ≡ Leaf body → outline_tree o ≡ leaf (headers_seen o.headers) body.items
+tree_leaf o body e = tree_out o ∙ ap (λ k. kind_tree k (headers_seen o.headers)) e ∙ kind_tree-Leaf body (headers_seen o.headers)
+
+-- an outline with parts
+pub tree_branch : (o : Outline) (boundary : Vec ℕ) (parts : Vec Outline) → o.kind ≡ Branch boundary parts
+    → outline_tree o ≡ branch (headers_seen o.headers) boundary.items (forest_of (map outline_tree parts.items))
+tree_branch o boundary parts e =
+    tree_out o ∙ ap (λ k. kind_tree k (headers_seen o.headers)) e ∙ kind_tree-Branch boundary parts (headers_seen o.headers)
+
+-- ---- what it is written as
+
+-- the lines of headers, one after another
+pub lines_seen : (pairs : List (Vec ℕ × Vec ℕ)) → flat_map header_line (map header_seen pairs) ≡ flat_map (λ p. header_line (header_seen p)) pairs
+lines_seen [] = refl
+lines_seen (p ∷ pairs) = ap (λ rest. header_line (header_seen p) ++ rest) (lines_seen pairs)
+
+-- a part with its delimiter and its line end
+abbrev pub part_text : List ℕ → OutlineTree → List ℕ
+part_text boundary part = (dash_boundary boundary ++ crlf) ++ (rendered part ++ crlf)
+
+-- the parts, one after another, and the close-delimiter
+pub parts_text : (boundary : List ℕ) (parts : List Outline) → rendered_parts boundary (forest_of (map outline_tree parts))
+    ≡ flat_map (λ o. part_text boundary (outline_tree o)) parts ++ (dash_boundary boundary ++ (codes "--" ++ crlf))
+parts_text boundary [] = refl
+parts_text boundary (o ∷ parts) =
+    let rest = rendered_parts boundary (forest_of (map outline_tree parts)) in
+    let here = part_text boundary (outline_tree o) in
+    sym (append_assoc (dash_boundary boundary) crlf (rendered (outline_tree o) ++ (crlf ++ rest)))
+    ∙ ap (λ x. (dash_boundary boundary ++ crlf) ++ x) (sym (append_assoc (rendered (outline_tree o)) crlf rest))
+    ∙ sym (append_assoc (dash_boundary boundary ++ crlf) (rendered (outline_tree o) ++ crlf) rest)
+    ∙ ap (λ x. here ++ x) (parts_text boundary parts)
+    ∙ sym (append_assoc here (flat_map (λ (o : Outline). part_text boundary (outline_tree o)) parts) (dash_boundary boundary ++ (codes "--" ++ crlf)))
+
+-- what is said of a call where it returned a value follows from what it left then
+pub on_ok : {T E P : Type 0} (r : Result T E) (new whole old : List ℕ) → new ≡ (if is_ok r then whole else old) → (new ≡ whole → P) → OnOk r P
+on_ok (Ok x) new whole old e done = done e
+on_ok (Err x) new whole old e done = _
+
+pub on_ok_then : {T E P Q : Type 0} (r : Result T E) → OnOk r P → (P → Q) → OnOk r Q
+on_ok_then (Ok x) p done = done p
+on_ok_then (Err x) p done = _
+
+-- all headers and the blank line
+pub block_written : (old before new : List ℕ) (pairs : List (Vec ℕ × Vec ℕ)) → before ≡ old ++ flat_map (λ p. header_line (header_seen p)) pairs → new ≡ before ++ crlf
+    → new ≡ old ++ header_block (map header_seen pairs)
+block_written old before new pairs b n =
+    n ∙ ap (λ x. x ++ crlf) (b ∙ ap (λ x. old ++ x) (sym (lines_seen pairs))) ∙ append_assoc old (flat_map header_line (map header_seen pairs)) crlf
+
+-- all parts and the close-delimiter
+pub parts_written : (old before new headers boundary : List ℕ) (parts : List Outline)
+    → before ≡ old ++ (headers ++ flat_map (λ o. part_text boundary (outline_tree o)) parts) → new ≡ before ++ (dash_boundary boundary ++ (codes "--" ++ crlf))
+    → new ≡ old ++ (headers ++ rendered_parts boundary (forest_of (map outline_tree parts)))
+parts_written old before new headers boundary parts b n =
+    let texts = flat_map (λ (o : Outline). part_text boundary (outline_tree o)) parts in
+    let end = dash_boundary boundary ++ (codes "--" ++ crlf) in
+    n ∙ ap (λ x. x ++ end) b ∙ append_assoc old (headers ++ texts) end ∙ ap (λ x. old ++ x) (append_assoc headers texts end ∙ ap (λ x. headers ++ x) (sym (parts_text boundary parts)))

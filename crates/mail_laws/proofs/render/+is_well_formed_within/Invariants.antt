@@ -1,0 +1,8 @@
+-- The parts that are left decide.
+use Rattle.std.proofs.Common.{◌≡◌, drop, map}
+use Rattle.mail_laws.specs.OutlineViews.{outline_tree}
+use Rattle.mail_laws.proofs.lemmas.OutlineConditions.{parts_well, well_within}
+use Rattle.mail_laws.proofs.render.+is_well_formed_within.Given as goal
+
+abbrev pub invariant-loop-part : goal.invariant-loop-part
+invariant-loop-part l = well_within (outline_tree l.outline) l.levels ≡ parts_well l.boundary.items (map outline_tree (drop l.part-index l.part-items)) l.levels

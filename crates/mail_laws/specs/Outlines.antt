@@ -1,0 +1,211 @@
+-- Outlines of messages: the bytes that they are written as, when they are well formed, and the messages that they stand for. The form is that of RFC 5322, section 2.1
+-- (headers, a blank line, a body) and of RFC 2046, section 5.1.1 (a delimiter before each part, and the close-delimiter); which outlines are well formed is the project's own
+-- rule. Places are counted from the first of the bytes.
+use Rattle.std.specs.Prelude.{◌≡◌, ℕ, suc, max, Bool, true, false, ◌&&◌, ◌||◌, not, ◌==◌, nat_le, List, [], ◌∷◌, ◌++◌, Option, is_some, is_none, codes, find, flat_map}
+use Rattle.std.specs.Char.{is_ascii_alphanumeric, is_ascii_graphic}
+use Rattle.std.specs.List.{list_all}
+use Rattle.std.specs.Option.{option_map_or}
+use Rattle.std.specs.Str.{bytes_eq, str_eq_ignore_ascii_case, str_to_ascii_lowercase}
+use Rattle.mail_codec.specs.Ascii.{carriage_return, line_feed, space, colon}
+use Rattle.mail_codec.specs.Charset.{Charsets}
+use Rattle.mail_codec.specs.Places.{is_empty, stands, text_place}
+use Rattle.mailparse.specs.Header.{Header}
+use Rattle.mailparse.specs.ContentType.{ContentType, content_type_in, default_type}
+use Rattle.mailparse.specs.Mail.{Node, Tree, tree, Forest, no_parts, part_and}
+use Rattle.mailparse.specs.Pairs.{value_of}
+use Rattle.mail_laws.specs.Boundaries.{boundary_type}
+
+-- an outline of a message: its headers and its body, or its headers, the boundary of its parts, and the parts, each an outline of its own
+mutual
+  pub data OutlineTree : Type 0 where
+    leaf : List Header → List ℕ → OutlineTree
+    branch : List Header → List ℕ → OutlineForest → OutlineTree
+
+  pub data OutlineForest : Type 0 where
+    no_outlines : OutlineForest
+    outline_and : OutlineTree → OutlineForest → OutlineForest
+
+-- the outlines of a list
+abbrev pub forest_of : List OutlineTree → OutlineForest
+forest_of [] = no_outlines
+forest_of (o ∷ os) = outline_and o (forest_of os)
+
+-- the headers of the outline itself
+abbrev pub headers_of : OutlineTree → List Header
+headers_of (leaf headers body) = headers
+headers_of (branch headers boundary parts) = headers
+
+-- ---- what an outline is written as
+
+-- CR LF
+abbrev pub crlf : List ℕ
+crlf = carriage_return ∷ line_feed ∷ []
+
+-- a header: its key, `: `, its value and CR LF
+abbrev pub header_line : Header → List ℕ
+header_line h = h.key ++ (codes ": " ++ (h.value ++ crlf))
+
+-- the header block: each header in order, and then the blank line
+abbrev pub header_block : List Header → List ℕ
+header_block headers = flat_map header_line headers ++ crlf
+
+-- the dash-boundary: `--` and the boundary
+abbrev pub dash_boundary : List ℕ → List ℕ
+dash_boundary boundary = codes "--" ++ boundary
+
+-- an outline: its header block, and then its body or its parts
+abbrev mutual
+  pub rendered : OutlineTree → List ℕ
+  rendered (leaf headers body) = header_block headers ++ body
+  rendered (branch headers boundary parts) = header_block headers ++ rendered_parts boundary parts
+
+  -- for each part the dash-boundary, CR LF, the part and CR LF; at the end the dash-boundary, `--` and CR LF
+  pub rendered_parts : List ℕ → OutlineForest → List ℕ
+  rendered_parts boundary no_outlines = dash_boundary boundary ++ (codes "--" ++ crlf)
+  rendered_parts boundary (outline_and part parts) =
+      dash_boundary boundary ++ (crlf ++ (rendered part ++ (crlf ++ rendered_parts boundary parts)))
+
+-- ---- the eight conditions of a well-formed outline
+
+-- a printable byte of ASCII that is no space and no colon (RFC 5322, section 2.2)
+abbrev pub is_key_byte : ℕ → Bool
+is_key_byte b = is_ascii_graphic b && not (b == colon)
+
+-- one such byte or more
+abbrev pub is_key : List ℕ → Bool
+is_key key = list_all is_key_byte key && not (is_empty key)
+
+-- 1. each key is that
+abbrev pub has_keys : OutlineTree → Bool
+has_keys outline = list_all (λ h. is_key h.key) (headers_of outline)
+
+-- a printable byte of ASCII or a space
+abbrev pub is_value_byte : ℕ → Bool
+is_value_byte b = is_ascii_graphic b || b == space
+
+-- a text of such bytes that does not begin with a space and does not hold `=?`
+abbrev pub is_plain : List ℕ → Bool
+is_plain value = list_all is_value_byte value && (not (stands (codes " ") value) && is_none (text_place value (codes "=?")))
+
+-- 2. each value is that
+abbrev pub has_plain_values : OutlineTree → Bool
+has_plain_values outline = list_all (λ h. is_plain h.value) (headers_of outline)
+
+-- the key is `Content-Type`, ignoring ASCII case
+abbrev pub has_type_key : Header → Bool
+has_type_key h = str_eq_ignore_ascii_case h.key (codes "Content-Type")
+
+-- the first header with that key, if there is one
+abbrev pub type_header : List Header → Option Header
+type_header headers = find has_type_key headers
+
+-- 3. where there are parts, that header is there, and its value is exactly `multipart/mixed; boundary=` and the boundary
+abbrev pub names_its_boundary : OutlineTree → Bool
+names_its_boundary (leaf headers body) = true
+names_its_boundary (branch headers boundary parts) =
+    option_map_or (λ h. bytes_eq h.value (boundary_type boundary)) (type_header headers) false
+
+-- 4. a boundary is one or more letters and digits of ASCII
+abbrev pub has_plain_boundary : OutlineTree → Bool
+has_plain_boundary (leaf headers body) = true
+has_plain_boundary (branch headers boundary parts) = list_all is_ascii_alphanumeric boundary && not (is_empty boundary)
+
+-- the mimetype that a text names: what stands before its first semicolon outside of quotes, without whitespace around it, in lower case
+abbrev pub mimetype_of : List ℕ → List ℕ
+mimetype_of text = str_to_ascii_lowercase (value_of text)
+
+-- 5. where there is a body, the mimetype of the first `Content-Type`, if there is one, does not begin with `multipart`
+abbrev pub is_not_multipart : OutlineTree → Bool
+is_not_multipart (leaf headers body) =
+    option_map_or (λ h. not (stands (codes "multipart") (mimetype_of h.value))) (type_header headers) true
+is_not_multipart (branch headers boundary parts) = true
+
+-- 6. where there are parts, there is one or more
+abbrev pub has_some_part : OutlineTree → Bool
+has_some_part (leaf headers body) = true
+has_some_part (branch headers boundary no_outlines) = false
+has_some_part (branch headers boundary (outline_and part parts)) = true
+
+-- the dash-boundary stands at the start of the bytes or after a LF in them
+abbrev pub holds_delimiter : List ℕ → List ℕ → Bool
+holds_delimiter boundary bytes =
+    stands (dash_boundary boundary) bytes || is_some (text_place bytes (line_feed ∷ dash_boundary boundary))
+
+-- no part, as it is written, holds a delimiter
+abbrev pub hold_no_delimiter : List ℕ → OutlineForest → Bool
+hold_no_delimiter boundary no_outlines = true
+hold_no_delimiter boundary (outline_and part parts) =
+    not (holds_delimiter boundary (rendered part)) && hold_no_delimiter boundary parts
+
+-- 7. where there are parts, none of them holds a delimiter
+abbrev pub has_clear_parts : OutlineTree → Bool
+has_clear_parts (leaf headers body) = true
+has_clear_parts (branch headers boundary parts) = hold_no_delimiter boundary parts
+
+-- the greatest level at which an outline stands: this one at level 0, its parts at level 1, and so on
+abbrev mutual
+  pub depth : OutlineTree → ℕ
+  depth (leaf headers body) = 0
+  depth (branch headers boundary parts) = depth_of_parts parts
+
+  -- the same of the parts of an outline
+  pub depth_of_parts : OutlineForest → ℕ
+  depth_of_parts no_outlines = 0
+  depth_of_parts (outline_and part parts) = max (suc (depth part)) (depth_of_parts parts)
+
+-- 8. no outline stands below level 100
+abbrev pub is_within_levels : OutlineTree → Bool
+is_within_levels outline = nat_le (depth outline) 100
+
+-- the first seven, of an outline by itself
+abbrev pub is_well_formed_here : OutlineTree → Bool
+is_well_formed_here outline =
+    has_keys outline && (has_plain_values outline && (names_its_boundary outline && (has_plain_boundary outline
+    && (is_not_multipart outline && (has_some_part outline && has_clear_parts outline)))))
+
+-- the same, of an outline and of every outline inside it
+abbrev mutual
+  pub is_well_formed_within : OutlineTree → Bool
+  is_well_formed_within (leaf headers body) = is_well_formed_here (leaf headers body)
+  is_well_formed_within (branch headers boundary parts) =
+      is_well_formed_here (branch headers boundary parts) && are_well_formed_within parts
+
+  -- the same of each part
+  pub are_well_formed_within : OutlineForest → Bool
+  are_well_formed_within no_outlines = true
+  are_well_formed_within (outline_and part parts) = is_well_formed_within part && are_well_formed_within parts
+
+-- an outline is well formed: all eight hold
+abbrev pub well_formed : OutlineTree → Bool
+well_formed outline = is_well_formed_within outline && is_within_levels outline
+
+abbrev pub IsWellFormed : OutlineTree → Type 0
+IsWellFormed outline = well_formed outline ≡ true
+
+-- ---- the message that an outline stands for
+
+-- the type: what the value of the first `Content-Type` names, and without one plain text
+abbrev pub type_of : Charsets → List Header → ContentType
+type_of known headers = option_map_or (λ h. content_type_in known h.value) (type_header headers) default_type
+
+-- a message of these bytes, with these headers and this body
+abbrev pub node_of : Charsets → List ℕ → List Header → List ℕ → Node
+node_of known bytes headers body = record {
+  bytes = bytes;
+  block = header_block headers;
+  headers = headers;
+  ctype = type_of known headers;
+  body = body;
+}
+
+-- the message that an outline stands for: its headers, its body, which is empty where there are parts, and its parts in order
+abbrev mutual
+  pub stands_for : Charsets → OutlineTree → Tree
+  stands_for known (leaf headers body) = tree (node_of known (rendered (leaf headers body)) headers body) no_parts
+  stands_for known (branch headers boundary parts) =
+      tree (node_of known (rendered (branch headers boundary parts)) headers []) (stand_for known parts)
+
+  -- the messages that the parts stand for
+  pub stand_for : Charsets → OutlineForest → Forest
+  stand_for known no_outlines = no_parts
+  stand_for known (outline_and part parts) = part_and (stands_for known part) (stand_for known parts)

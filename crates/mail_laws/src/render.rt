@@ -1,0 +1,239 @@
+//! Outlines of messages: what they are written as, and whether they read back.
+//!
+//! An outline is the headers of a message and its body, or its parts, each an outline of its own.
+//! Whoever sends mail writes a well-formed one by `render`; `mailparse::parse_mail` reads exactly
+//! those headers, bodies and parts of it.
+ghost use Rattle.std.specs.Prelude.{◌≡◌, ◌++◌, ◌&&◌, OnOk, Ok, nat_le, not};
+ghost use Rattle.mailparse.specs.Outcome.{AnswersOrMemory, ReadsBytes};
+ghost use Rattle.mail_laws.specs.Outlines.{dash_boundary, depth, header_block, header_line, holds_delimiter, is_well_formed_within, rendered, well_formed};
+ghost use Rattle.mail_laws.specs.OutlineViews.{headers_seen, outline_tree};
+
+mod conditions;
+
+use conditions::{has_boundary, has_plain_headers, holds_delimiter, is_not_multipart};
+use mailparse::{MAX_LEVELS, MailParseError};
+use std::alloc::{AllocError, Global};
+
+/// An outline of a message: its headers, and its body or its parts.
+///
+/// # Examples
+///
+/// ```rust
+/// use mail_laws::render::{Outline, OutlineKind, is_well_formed, render};
+/// use mailparse::parse_mail;
+///
+/// let mut headers = Vec::new(alloc);
+/// headers.push((b"Subject".to_vec(alloc)?, b"Hi".to_vec(alloc)?))?;
+/// let outline = Outline { headers, kind: OutlineKind::Leaf(b"body".to_vec(alloc)?) };
+/// assert!(rt; is_well_formed(alloc, &outline)?);
+/// let bytes = render(alloc, &outline)?;
+/// let mail = parse_mail(alloc, bytes.as_slice())?;
+/// assert_eq!(rt; mail.headers[0].get_value(alloc)?.as_str(), "Hi");
+/// assert_eq!(rt; mail.get_body(alloc)?.as_str(), "body");
+/// ```
+#[cycle(outline)]
+#[derive(Debug, Drop)]
+pub struct Outline {
+    /// The headers in order, each its key and its value.
+    pub headers: Vec<(Vec<u8>, Vec<u8>)>,
+    /// What follows the headers.
+    pub kind: OutlineKind,
+}
+
+/// What follows the headers of an outline.
+///
+/// # Examples
+///
+/// ```rust
+/// use mail_laws::render::OutlineKind;
+///
+/// let kind = OutlineKind::Leaf(b"body".to_vec(alloc)?);
+/// assert!(rt; matches!(kind, OutlineKind::Leaf(_)));
+/// ```
+#[cycle(outline)]
+#[derive(Debug, Drop)]
+pub enum OutlineKind {
+    /// A body, which may be any bytes.
+    Leaf(Vec<u8>),
+    /// Parts, between delimiters.
+    Branch {
+        /// The boundary, which the first `Content-Type` names.
+        boundary: Vec<u8>,
+        /// The parts in order, each an outline of its own.
+        parts: Vec<Outline>,
+    },
+}
+
+/// Returns the bytes that an outline is written as (RFC 5322, section 2.1; RFC 2046, section 5.1.1).
+///
+/// For each header they are its key, `: `, its value and CR LF; then CR LF; and then the body, or
+/// for each part `--`, the boundary, CR LF, the part and CR LF, and at the end `--`, the boundary,
+/// `--` and CR LF. Every outline is written so, well formed or not. Takes memory for the bytes.
+///
+/// # Errors
+///
+/// `MailParseError::Memory` where it runs out of memory.
+///
+/// # Examples
+///
+/// ```rust
+/// use mail_laws::render::{Outline, OutlineKind, render};
+///
+/// let part = Outline { headers: Vec::new(alloc), kind: OutlineKind::Leaf(b"x".to_vec(alloc)?) };
+/// assert_eq!(rt; render(alloc, &part)?.as_slice(), b"\r\nx".as_slice());
+/// let mut parts = Vec::new(alloc);
+/// parts.push(part)?;
+/// let kind = OutlineKind::Branch { boundary: b"q".to_vec(alloc)?, parts };
+/// let whole = Outline { headers: Vec::new(alloc), kind };
+/// let wanted = b"\r\n--q\r\n\r\nx\r\n--q--\r\n".as_slice();
+/// assert_eq!(rt; render(alloc, &whole)?.as_slice(), wanted);
+/// ```
+pub fn render(alloc: Global, outline: &Outline) -> Result<Vec<u8>, MailParseError>
+    ensures { ReadsBytes result (Ok (rendered (outline_tree outline.now))) }
+{
+    let mut bytes = Vec::new(alloc);
+    push_outline(outline, &mut bytes)?;
+    Ok(bytes)
+}
+
+/// Adds an outline: its header block, and then its body or its parts.
+fn push_outline(outline: &Outline, bytes: &mut Vec<u8>) -> Result<(), AllocError>
+    ensures written { OnOk result (bytes.new.items
+        ≡ bytes.old.items ++ rendered (outline_tree outline.now)) }
+{
+    push_header_block(&outline.headers, bytes)?;
+    match &outline.kind {
+        OutlineKind::Leaf(body) => bytes.extend_from_slice(body.as_slice()),
+        OutlineKind::Branch { boundary, parts } => {
+            for part in parts {
+                push_delimiter(boundary.as_slice(), b"\r\n", bytes)?;
+                push_outline(part, bytes)?;
+                bytes.extend_from_slice(b"\r\n")?;
+            }
+            push_delimiter(boundary.as_slice(), b"--\r\n", bytes)
+        }
+    }
+}
+
+/// Adds a header block: each header in order, and the blank line.
+fn push_header_block(
+    headers: &Vec<(Vec<u8>, Vec<u8>)>,
+    bytes: &mut Vec<u8>,
+) -> Result<(), AllocError>
+    ensures written { OnOk result (bytes.new.items
+        ≡ bytes.old.items ++ header_block (headers_seen headers.now)) }
+{
+    for header in headers {
+        push_header(header.0.as_slice(), header.1.as_slice(), bytes)?;
+    }
+    bytes.extend_from_slice(b"\r\n")
+}
+
+/// Adds a header: its key, `: `, its value and CR LF.
+fn push_header(key: &[u8], value: &[u8], bytes: &mut Vec<u8>) -> Result<(), AllocError>
+    ensures written { OnOk result (bytes.new.items
+        ≡ bytes.old.items ++ header_line (record { key = key.now; value = value.now })) }
+{
+    bytes.extend_from_slice(key)?;
+    bytes.extend_from_slice(b": ")?;
+    bytes.extend_from_slice(value)?;
+    bytes.extend_from_slice(b"\r\n")
+}
+
+/// Adds a dash-boundary, and what follows it on its line.
+fn push_delimiter(boundary: &[u8], rest: &[u8], bytes: &mut Vec<u8>) -> Result<(), AllocError>
+    ensures written { OnOk result (bytes.new.items
+        ≡ bytes.old.items ++ (dash_boundary boundary.now ++ rest.now)) }
+{
+    bytes.extend_from_slice(b"--")?;
+    bytes.extend_from_slice(boundary)?;
+    bytes.extend_from_slice(rest)
+}
+
+/// Returns whether an outline is well formed, so that what `render` writes is read back as it.
+///
+/// All of these have to hold, for the outline and for every outline inside it:
+///
+/// 1. Each key is one or more printable bytes of ASCII, without a space and a colon.
+/// 2. Each value is printable bytes of ASCII and spaces, does not begin with a space and does not
+///    hold `=?`.
+/// 3. Where there are parts, a header has the key `Content-Type`, ignoring ASCII case, and the value
+///    of the first such header is exactly `multipart/mixed; boundary=` and the boundary.
+/// 4. A boundary is one or more letters and digits of ASCII.
+/// 5. Where there is a body, the mimetype of the first `Content-Type`, if there is one, does not
+///    begin with `multipart`.
+/// 6. Where there are parts, there is at least one.
+/// 7. No part, as it is written, has `--` and the boundary at its start or after a LF.
+/// 8. No outline stands more than 100 levels below the whole.
+///
+/// Bodies may be any bytes. Takes memory for the bytes of parts and for a type.
+///
+/// # Errors
+///
+/// `MailParseError::Memory` where it runs out of memory.
+///
+/// # Examples
+///
+/// ```rust
+/// use mail_laws::render::{Outline, OutlineKind, is_well_formed};
+///
+/// let mut headers = Vec::new(alloc);
+/// headers.push((b"Subject".to_vec(alloc)?, b"Hi ".to_vec(alloc)?))?;
+/// let mut outline = Outline { headers, kind: OutlineKind::Leaf(b"\0\xFF".to_vec(alloc)?) };
+/// assert!(rt; is_well_formed(alloc, &outline)?);
+/// outline.headers.push((b"To".to_vec(alloc)?, b" you".to_vec(alloc)?))?;
+/// assert!(rt; !is_well_formed(alloc, &outline)?);
+/// ```
+pub fn is_well_formed(alloc: Global, outline: &Outline) -> Result<bool, MailParseError>
+    ensures { AnswersOrMemory (λ answer. answer) result
+        (Ok (well_formed (outline_tree outline.now))) }
+{
+    is_well_formed_within(alloc, outline, MAX_LEVELS)
+}
+
+/// Whether an outline is well formed where so many levels may stand below it.
+fn is_well_formed_within(
+    alloc: Global,
+    outline: &Outline,
+    levels: u8,
+) -> Result<bool, MailParseError>
+    ensures { let tree = outline_tree outline.now in
+        AnswersOrMemory (λ answer. answer) result
+        (Ok (is_well_formed_within tree && nat_le (depth tree) levels)) }
+{
+    if !has_plain_headers(&outline.headers) {
+        return Ok(false);
+    }
+    match &outline.kind {
+        OutlineKind::Leaf(_) => is_not_multipart(alloc, &outline.headers),
+        OutlineKind::Branch { boundary, parts } => {
+            if parts.is_empty() {
+                return Ok(false);
+            }
+            if levels == 0 {
+                return Ok(false);
+            }
+            if !has_boundary(&outline.headers, boundary.as_slice()) {
+                return Ok(false);
+            }
+            for part in parts {
+                if !is_clear(alloc, boundary.as_slice(), part)? {
+                    return Ok(false);
+                }
+                if !is_well_formed_within(alloc, part, levels - 1)? {
+                    return Ok(false);
+                }
+            }
+            Ok(true)
+        }
+    }
+}
+
+/// Whether a part, as it is written, holds no delimiter.
+fn is_clear(alloc: Global, boundary: &[u8], part: &Outline) -> Result<bool, MailParseError>
+    ensures { AnswersOrMemory (λ answer. answer) result
+        (Ok (not (holds_delimiter boundary.now (rendered (outline_tree part.now))))) }
+{
+    let bytes = render(alloc, part)?;
+    Ok(!holds_delimiter(alloc, boundary, bytes.as_slice())?)
+}
