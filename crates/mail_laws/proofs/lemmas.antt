@@ -10,3 +10,4 @@ pub mod IdGrammar
 pub mod CharsetSources
 pub mod Escapes
 pub mod Levels
+pub mod OutlineHeaders
