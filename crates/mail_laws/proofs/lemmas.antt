@@ -11,3 +11,6 @@ pub mod CharsetSources
 pub mod Escapes
 pub mod Levels
 pub mod OutlineHeaders
+pub mod OutlineParts
+pub mod OutlineTypes
+pub mod OutlineReadings

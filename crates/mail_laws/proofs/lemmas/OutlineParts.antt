@@ -104,9 +104,6 @@ AreClear d (p ∷ ps) = IsClear d p × AreClear d ps
 
 -- the dash-boundary: not empty, and without CR
 module _ (x : ℕ) (text : List ℕ) (free : list_all no_return (x ∷ text) ≡ true) where
-  abbrev d : List ℕ
-  d = x ∷ text
-
   -- a part that stands at a place, and then CR LF and the next delimiter
   module _ (bytes part more : List ℕ) (s : ℕ) (clear : IsClear (x ∷ text) part) (there : drop s bytes ≡ part ++ 13 ∷ 10 ∷ ((x ∷ text) ++ more)) where
     abbrev rest : List ℕ
@@ -201,22 +198,22 @@ module _ (x : ℕ) (text : List ℕ) (free : list_all no_return (x ∷ text) ≡
   ranges-written (p ∷ ps) bytes part s clear all there =
       let more = 13 ∷ 10 ∷ (p ++ 13 ∷ 10 ∷ written (x ∷ text) ps) in
       let q = s + length part + 2 + length (x ∷ text) in
-      let open : is_close_delimiter (x ∷ text) bytes (s + length part + 2) ≡ false =
+      let goes_on : is_close_delimiter (x ∷ text) bytes (s + length part + 2) ≡ false =
       closes bytes part more s clear there ∙ ap (λ t. t || stands (codes "--") more) (le-ltb (length more) 2 (omega arith)) in
       let at : drop q bytes ≡ more = behind_delimiter bytes part more s clear there q refl in
       let next : next_part (x ∷ text) bytes s ≡ Some (q + 2) =
-      next_by_delimiter bytes part more s clear there ∙ cond-false _ _ _ open
+      next_by_delimiter bytes part more s clear there ∙ cond-false _ _ _ goes_on
       ∙ line_after-crlf bytes (p ++ 13 ∷ 10 ∷ written (x ∷ text) ps) q at in
-      let then : drop (q + 2) bytes ≡ p ++ 13 ∷ 10 ∷ written (x ∷ text) ps = further bytes more q 2 (q + 2) at refl in
+      let behind_it : drop (q + 2) bytes ≡ p ++ 13 ∷ 10 ∷ written (x ∷ text) ps = further bytes more q 2 (q + 2) at refl in
       ap (map (slice bytes)) (part_ranges-some (x ∷ text) bytes s)
       ∙ ap (λ (p : List ℕ). p ∷ map (slice bytes) (part_ranges (x ∷ text) bytes (next_part (x ∷ text) bytes s))) (part_slice bytes part more s clear there)
       ∙ ap (λ (o : Option ℕ). part ∷ map (slice bytes) (part_ranges (x ∷ text) bytes o)) next
-      ∙ ap (λ (ps : List (List ℕ)). part ∷ ps) (ranges-written ps bytes p (q + 2) all.0 all.1 then)
+      ∙ ap (λ (ps : List (List ℕ)). part ∷ ps) (ranges-written ps bytes p (q + 2) all.0 all.1 behind_it)
 
   -- what is written is cut into its parts, and nothing stands before them
   module _ (bytes : List ℕ) (i : ℕ) (part : List ℕ) (ps : List (List ℕ)) (all : AreClear (x ∷ text) (part ∷ ps)) (there : drop i bytes ≡ written (x ∷ text) (part ∷ ps)) where
     first_delimiter : delimiter_from (x ∷ text) bytes i ≡ Some i
-    first_delimiter = sym (starts_delimiter (x ∷ text) bytes i (omega arith) (ap (stands (x ∷ text)) there ∙ stands-self (x ∷ text) _))
+    first_delimiter = sym (starts_delimiter (x ∷ text) bytes i (omega arith) (ap (stands (x ∷ text)) there ∙ stands-self (x ∷ text) (13 ∷ 10 ∷ (part ++ 13 ∷ 10 ∷ written (x ∷ text) ps))))
 
     preamble_end : end_from (x ∷ text) bytes i i ≡ i
     preamble_end =
@@ -233,8 +230,8 @@ module _ (x : ℕ) (text : List ℕ) (free : list_all no_return (x ∷ text) ≡
         further bytes (written (x ∷ text) (part ∷ ps)) i (length (x ∷ text)) (i + length (x ∷ text)) there refl
         ∙ drop_at (x ∷ text) (13 ∷ 10 ∷ (part ++ 13 ∷ 10 ∷ written (x ∷ text) ps)) (length (x ∷ text)) refl
 
-    first : first_part (x ∷ text) bytes i ≡ Some (i + length (x ∷ text) + 2)
-    first =
+    first_start : first_part (x ∷ text) bytes i ≡ Some (i + length (x ∷ text) + 2)
+    first_start =
         ap (option_and_then (part_after (x ∷ text) bytes)) first_delimiter
         ∙ line_after-crlf bytes (part ++ 13 ∷ 10 ∷ written (x ∷ text) ps) (i + length (x ∷ text)) behind_first
 
@@ -242,6 +239,6 @@ module _ (x : ℕ) (text : List ℕ) (free : list_all no_return (x ∷ text) ≡
     unfolding cut_parts
     parts-written =
         let q = i + length (x ∷ text) in
-        ap (λ (o : Option ℕ). map (slice bytes) (part_ranges (x ∷ text) bytes o)) first
+        ap (λ (o : Option ℕ). map (slice bytes) (part_ranges (x ∷ text) bytes o)) first_start
         ∙ ranges-written ps bytes part (q + 2) all.0 all.1
         (further bytes (13 ∷ 10 ∷ (part ++ 13 ∷ 10 ∷ written (x ∷ text) ps)) q 2 (q + 2) behind_first refl)
