@@ -8,7 +8,7 @@ ghost use Rattle.mailparse.specs.Header.{Header, read_header};
 ghost use Rattle.mailparse.specs.Block.{HeaderList, header_count, header_place, read_headers};
 ghost use Rattle.mailparse.specs.ContentType.{ContentType, content_type_in};
 ghost use Rattle.mailparse.specs.Bound.{IsBounded};
-ghost use Rattle.mailparse.specs.Mail.{Tree, cut_of, read_mail, read_mail_in};
+ghost use Rattle.mailparse.specs.Mail.{Node, Tree, cut_of, nodes, read_mail, read_mail_in};
 ghost use Rattle.mailparse.specs.Ranges.{Apart};
 ghost use Rattle.mail_codec.specs.Charset.{Charsets, four_charsets};
 ghost use Rattle.mailparse.specs.Continuations.{joined, names_of, parameters_in, walked_after};
@@ -24,7 +24,7 @@ ghost use Rattle.mailparse.specs.contracts.disposition.DispositionTypePartialEq.
 ghost use Rattle.mailparse.specs.declared.disposition.DispositionType.{DispositionType};
 ghost use Rattle.mailparse.specs.Views.{kind};
 ghost use Rattle.mail_laws.specs.Boundaries.{IsAlphanumeric, boundary_type, one_text};
-ghost use Rattle.mail_laws.specs.Outlines.{IsWellFormed, OutlineTree, depth, headers_of, is_well_formed_here, is_well_formed_within, rendered, stands_for};
+ghost use Rattle.mail_laws.specs.Outlines.{IsWellFormed, OutlineTree, depth, is_well_formed_within, rendered, stands_for};
 ghost use Rattle.mail_laws.specs.StarFree.{AreStarFree};
 ghost use Rattle.mailparse.specs.Value.{IsPlain, Token, lenient_value, lenient_value_with, newline, shown_tokens, strict_value};
 ghost use Rattle.mail_codec.specs.Places.{begins, values_below};
@@ -259,11 +259,10 @@ pub fn percent_free()
     ensures { (text : List ℕ) → list_any is_percent text ≡ false → percent_decode text ≡ text }
 {}
 
-/// What is written of an outline, well formed in all but its depth, is read as the message that it
+/// What is written of an outline that is well formed, but for its depth, is read as the message that it
 /// stands for under every limit on levels that is no less than its depth, and is refused for the limit
 /// under every lower one, whatever charsets are known; so a well-formed outline is read back. The values
-/// of its headers show as they are, and those of its parts, which are well formed too. Two such outlines
-/// that are written as the same bytes are one.
+/// of all headers show as they are. Two such outlines that are written as the same bytes are one.
 pub fn outline_reads_back()
     ensures read { (known : Charsets) (greatest : ℕ) (outline : OutlineTree) →
         is_well_formed_within outline ≡ true → depth outline ≤ greatest →
@@ -273,9 +272,10 @@ pub fn outline_reads_back()
         read_mail_in known greatest (rendered outline) ≡ Err recursion_limit }
     ensures mail { (outline : OutlineTree) → IsWellFormed outline →
         read_mail (rendered outline) ≡ Ok (stands_for four_charsets outline) }
-    ensures shown { (known : Charsets) (outline : OutlineTree) → is_well_formed_here outline ≡ true →
-        map (λ h. lenient_value_with known h.value) (headers_of outline)
-        ≡ map (λ h. h.value) (headers_of outline) }
+    ensures shown { (known : Charsets) (outline : OutlineTree) →
+        is_well_formed_within outline ≡ true →
+        All (λ (n : Node). map (λ h. lenient_value_with known h.value) n.headers
+        ≡ map (λ h. h.value) n.headers) (nodes (stands_for known outline)) }
     ensures only { (one two : OutlineTree) → is_well_formed_within one ≡ true →
         is_well_formed_within two ≡ true → rendered one ≡ rendered two → one ≡ two }
 {}

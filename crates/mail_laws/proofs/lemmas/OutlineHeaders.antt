@@ -1,5 +1,5 @@
 -- The header block of an outline, as it is written, reads as its headers.
-use Rattle.std.proofs.Common.{◌≡◌, ℕ, zero, suc, ◌+◌, ◌-◌, ◌≤◌, ⊎_elim, Bool, true, false, eqb, leb, not, ◌&&◌, ◌||◌, List, [], ◌∷◌, ◌++◌, length, take, drop, Ok, codes, refl, sym, ap, ◌∙◌, arith, append_assoc, length-append, flat_map}
+use Rattle.std.proofs.Common.{◌≡◌, ℕ, suc, ◌+◌, ◌-◌, ◌≤◌, ⊎_elim, Bool, true, false, eqb, leb, not, ◌&&◌, ◌||◌, List, [], ◌∷◌, ◌++◌, length, take, drop, Ok, codes, refl, sym, ap, ◌∙◌, arith, append_assoc, length-append, flat_map}
 use Rattle.std.specs.Char.{is_ascii_graphic}
 use Rattle.std.specs.List.{list_all}
 use Rattle.std.proofs.lemmas.Bool.{false≢true, and_parts, and_left, or_cases, eq-eqb, eqb-true, ne_eqb, leb-true}
@@ -8,7 +8,7 @@ use Rattle.mail_codec.specs.Ascii.{is_blank}
 use Rattle.mail_codec.specs.Places.{first_place, begins, stands, is_empty}
 use Rattle.mail_codec.proofs.lemmas.Places.{first_place-here, first_place-past}
 use Rattle.mailparse.specs.Header.{Header, ends_key, ends_header, is_line_end, key_end, has_colon, header_end, header_length, header_of}
-use Rattle.mailparse.specs.Block.{HeaderList, blank_line, headers_end, has_header, read_headers}
+use Rattle.mailparse.specs.Block.{blank_line, headers_end, has_header, read_headers}
 use Rattle.mailparse.proofs.lemmas.Header.{header_of-value, is_line_end-false}
 use Rattle.mailparse.proofs.lemmas.Block.{with_front, read_headers-more, read_headers-none}
 use Rattle.mail_laws.specs.Outlines.{crlf, header_line, header_block, is_key_byte, is_key, is_value_byte, is_plain}
@@ -112,7 +112,6 @@ last_feed rest no_blank = ap suc (first_place-here ends_header (10 ∷ rest) (ap
 
 module _ (key value rest : List ℕ) (keys : list_all is_key_byte key ≡ true) (values : list_all is_value_byte value ≡ true)
     (no_space : stands (codes " ") value ≡ false) (no_blank : begins is_blank rest ≡ false) where
-
   key_end-written : key_end (line key value rest) ≡ length key
   unfolding key_end
   key_end-written =

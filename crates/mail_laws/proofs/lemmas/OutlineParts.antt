@@ -1,15 +1,15 @@
 -- The parts of an outline, as they are written, are the parts that its delimiters cut.
-use Rattle.std.proofs.Common.{◌≡◌, ℕ, zero, suc, ◌+◌, ◌-◌, ◌<◌, ◌≤◌, ⊎_elim, Bool, true, false, eqb, not, ◌&&◌, ◌||◌, List, [], ◌∷◌, ◌++◌, length, map, take, drop, Option, Some, None, is_some, option_map, codes, refl, sym, ap, ◌∙◌, subst, arith, length-append, length-drop}
+use Rattle.std.proofs.Common.{◌≡◌, ℕ, suc, ◌+◌, ◌-◌, ◌≤◌, ⊎_elim, Bool, true, false, eqb, not, ◌&&◌, ◌||◌, List, [], ◌∷◌, ◌++◌, length, map, take, drop, Option, Some, None, is_some, option_map, codes, refl, sym, ap, ◌∙◌, subst, arith, length-append, length-drop}
 use Rattle.std.specs.Prelude.{nat_lt, option_and_then, if◌then◌else◌}
 use Rattle.std.specs.List.{list_all}
 use Rattle.std.specs.Option.{option_map_or}
-use Rattle.std.proofs.lemmas.Bool.{cond-true, cond-false, cases_lt, cases_eq, lt-ltb, le-ltb, eq-eqb, ne_eqb, and_parts, and_from, and_left, or_parts, false≢true}
+use Rattle.std.proofs.lemmas.Bool.{cond-true, cond-false, cases_lt, cases_eq, lt-ltb, le-ltb, eq-eqb, and_parts, and_from, and_left}
 use Rattle.std.proofs.lemmas.List.{drop-drop, drop-append-le, drop_all, drop_at, take_at}
 use Rattle.mail_codec.specs.Places.{stands, begins, place, byte_place}
 use Rattle.mail_codec.proofs.lemmas.Places.{first_place-before}
 use Rattle.mail_codec.proofs.lemmas.WordSearches.{place_none}
 use Rattle.mailparse.specs.Ranges.{Range, slice}
-use Rattle.mailparse.specs.Delimiters.{is_delimiter, delimiter_from, line_after, part_after, is_close_delimiter, first_part, next_part, before_byte, before_line_end, end_from, part_range, preamble_range, cut_parts}
+use Rattle.mailparse.specs.Delimiters.{is_delimiter, delimiter_from, line_after, part_after, is_close_delimiter, first_part, next_part, before_byte, before_line_end, end_from, part_range, cut_parts}
 use Rattle.mailparse.specs.private.Delimiters.{NoDelimiter}
 use Rattle.mailparse.proofs.lemmas.Delimiters.{is_delimiter-line, is_delimiter-start, delimiter_from-some, starts_delimiter, part_ranges, part_ranges-none, part_ranges-some}
 use Rattle.mailparse.proofs.lemmas.Places.{not_some}

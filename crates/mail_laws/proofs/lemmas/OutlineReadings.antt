@@ -1,11 +1,12 @@
 -- What is written of an outline reads as the message that it stands for.
-use Rattle.std.proofs.Common.{◌≡◌, ℕ, zero, suc, ◌+◌, ◌-◌, ◌<◌, ◌≤◌, max, ⊎_elim, Bool, true, false, eqb, not, ◌&&◌, ◌||◌, List, [], ◌∷◌, ◌++◌, length, map, take, drop, Option, Some, None, is_some, Ok, Err, codes, refl, sym, ap, ◌∙◌, subst, arith, length-append}
+use Rattle.std.proofs.Common.{◌≡◌, ℕ, zero, suc, ◌+◌, ◌-◌, ◌<◌, ◌≤◌, ⊎_elim, Bool, true, false, eqb, not, List, [], ◌∷◌, ◌++◌, length, map, take, drop, Option, Some, None, is_some, Ok, Err, codes, refl, sym, ap, ◌∙◌, subst, arith, length-append}
 use Rattle.std.specs.Char.{is_ascii_alphanumeric}
-use Rattle.std.specs.List.{list_all}
+use Rattle.std.specs.List.{All, list_all}
 use Rattle.std.specs.Option.{option_map_or}
 use Rattle.std.specs.Str.{bytes_eq}
 use Rattle.std.proofs.lemmas.Bool.{cond-false, cases_lt, ne_eqb, eqb-true, leb-true, and_parts, or_parts, false≢true}
-use Rattle.std.proofs.lemmas.List.{append_cancel_left, drop_at, take_at, take_all}
+use Rattle.std.proofs.lemmas.List.{append_cancel_left, drop_at, map-append, take_at, take_all}
+use Rattle.std.proofs.lemmas.List.Elements.{All-append, All-cons, All-nil}
 use lib.Pointwise.{bytes_decides}
 use Rattle.mail_codec.specs.Charset.{Charsets, four_charsets}
 use Rattle.mail_codec.specs.Places.{is_empty, place, stands, text_place}
@@ -15,10 +16,10 @@ use Rattle.mailparse.specs.Block.{HeaderList, read_headers}
 use Rattle.mailparse.specs.ContentType.{ContentType}
 use Rattle.mailparse.specs.Ranges.{slice}
 use Rattle.mailparse.specs.Delimiters.{Cut, cut_parts}
-use Rattle.mailparse.specs.Mail.{Node, Tree, tree, Forest, no_parts, part_and, root, parts_of, is_digest, cut_of, dash_boundary_of, node_with, read_each, read_parts, node_type, read_levels, read_mail_in, read_mail}
+use Rattle.mailparse.specs.Mail.{Node, Tree, tree, Forest, no_parts, part_and, root, parts_of, nodes, trees_in, trees_within, is_digest, cut_of, node_with, read_each, read_parts, node_type, read_levels, read_mail_in, read_mail}
 use Rattle.mailparse.specs.Value.{lenient_value_with}
 use Rattle.mail_laws.specs.Boundaries.{boundary_type}
-use Rattle.mail_laws.specs.Outlines.{OutlineTree, OutlineForest, leaf, branch, no_outlines, outline_and, header_block, dash_boundary, rendered, rendered_parts, is_key, is_plain, has_keys, has_plain_values, type_header, names_its_boundary, has_plain_boundary, is_not_multipart, has_some_part, holds_delimiter, hold_no_delimiter, has_clear_parts, depth, depth_of_parts, is_well_formed_here, is_well_formed_within, are_well_formed_within, type_of, node_of, stands_for, stand_for, headers_of, is_within_levels, IsWellFormed}
+use Rattle.mail_laws.specs.Outlines.{OutlineTree, OutlineForest, leaf, branch, no_outlines, outline_and, header_block, dash_boundary, rendered, rendered_parts, is_key, is_plain, has_keys, has_plain_values, type_header, names_its_boundary, has_plain_boundary, is_not_multipart, has_some_part, holds_delimiter, hold_no_delimiter, has_clear_parts, depth, depth_of_parts, is_well_formed_here, is_well_formed_within, are_well_formed_within, type_of, node_of, stands_for, stand_for, is_within_levels, IsWellFormed}
 use Rattle.mail_laws.proofs.lemmas.OutlineHeaders.{from_not, list_all-weaker, read_headers-written}
 use Rattle.mail_laws.proofs.lemmas.OutlineParts.{no_return, stands-nowhere, written, IsClear, AreClear, body-written, parts-written}
 use Rattle.mail_laws.proofs.lemmas.OutlineTypes.{lenient_value-plain_with, node_type-written, no_parts-leaf, type-branch}
@@ -309,15 +310,35 @@ outline_is_mail outline formed =
     let both = and_parts (is_well_formed_within outline) (is_within_levels outline) formed in
     outline_is_read four_charsets 100 outline both.0 (leb-true (depth outline) 100 both.1)
 
--- the values of its headers show as they are
-values-plain : (known : Charsets) (headers : List Header) → list_all (λ h. is_plain h.value) headers ≡ true
-    → map (λ h. lenient_value_with known h.value) headers ≡ map (λ h. h.value) headers
-values-plain known [] plain = refl
-values-plain known (h ∷ headers) plain =
-    let both = and_parts (is_plain h.value) (list_all (λ x. is_plain x.value) headers) plain in
-    ap (λ (v : List ℕ). v ∷ map (λ x. lenient_value_with known x.value) headers) (lenient_value-plain_with known h.value both.0)
-    ∙ ap (λ (vs : List (List ℕ)). h.value ∷ vs) (values-plain known headers both.1)
+-- ---- what its headers show
 
-pub values_show : (known : Charsets) (outline : OutlineTree) → is_well_formed_here outline ≡ true
-    → map (λ h. lenient_value_with known h.value) (headers_of outline) ≡ map (λ h. h.value) (headers_of outline)
-values_show known outline formed = values-plain known (headers_of outline) (IsFormed-from outline formed).values
+-- the values of a message's headers show as they are
+abbrev Shows : Charsets → Node → Type 0
+Shows known node = map (λ h. lenient_value_with known h.value) node.headers ≡ map (λ h. h.value) node.headers
+
+module _ (known : Charsets) where
+  values-plain : (headers : List Header) → list_all (λ h. is_plain h.value) headers ≡ true → map (λ h. lenient_value_with known h.value) headers ≡ map (λ h. h.value) headers
+  values-plain [] plain = refl
+  values-plain (h ∷ headers) plain =
+      let both = and_parts (is_plain h.value) (list_all (λ x. is_plain x.value) headers) plain in
+      ap (λ (v : List ℕ). v ∷ map (λ x. lenient_value_with known x.value) headers) (lenient_value-plain_with known h.value both.0)
+      ∙ ap (λ (vs : List (List ℕ)). h.value ∷ vs) (values-plain headers both.1)
+
+  mutual
+    pub values_show : (outline : OutlineTree) → is_well_formed_within outline ≡ true → All (Shows known) (nodes (stands_for known outline))
+    values_show (leaf headers body) formed =
+        All-cons (Shows known) (root (stands_for known (leaf headers body))) [] (values-plain headers (IsFormed-from (leaf headers body) formed).values)
+        (All-nil (Shows known))
+    values_show (branch headers boundary parts) formed =
+        let both = and_parts (is_well_formed_here (branch headers boundary parts)) (are_well_formed_within parts) formed in
+        All-cons (Shows known) (root (stands_for known (branch headers boundary parts))) (map root (trees_in (stand_for known parts)))
+        (values-plain headers (IsFormed-from (branch headers boundary parts) both.0).values) (values_of_parts_show parts both.1)
+
+    values_of_parts_show : (parts : OutlineForest) → are_well_formed_within parts ≡ true → All (Shows known) (map root (trees_in (stand_for known parts)))
+    values_of_parts_show no_outlines formed = All-nil (Shows known)
+    values_of_parts_show (outline_and part parts) formed =
+        let both = and_parts (is_well_formed_within part) (are_well_formed_within parts) formed in
+        let first = trees_within (stands_for known part) in
+        let others = trees_in (stand_for known parts) in
+        subst (All (Shows known)) (sym (map-append root first others))
+        (All-append (Shows known) (map root first) (map root others) (values_show part both.0) (values_of_parts_show parts both.1))
