@@ -15,3 +15,7 @@ pub mod DelimiterPlaces
 pub mod RangeTree
 pub mod OutlineViews
 pub mod OutlineConditions
+pub mod OutlineHeaders
+pub mod OutlineParts
+pub mod OutlineTypes
+pub mod OutlineReadings

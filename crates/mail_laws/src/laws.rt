@@ -1,5 +1,5 @@
 //! The laws. Each function does nothing; its contract is the law.
-ghost use Rattle.std.specs.Prelude.{Contains, Bool, IsSome, map, ◌≡◌, ◌<◌, ◌≤◌, ◌++◌, ℕ, suc, List, [], ◌∷◌, codes, length, take, Decides, None, Ok, ◌+◌, ◌-◌, ◌*◌, ◌/◌, All, slice_index, slice_index_or, replicate, ◌==◌, false, ◌↔◌, ◌⊎◌, Err};
+ghost use Rattle.std.specs.Prelude.{Contains, Bool, IsSome, map, ◌≡◌, ◌<◌, ◌≤◌, ◌++◌, ℕ, suc, List, [], ◌∷◌, codes, length, take, Decides, None, Ok, ◌+◌, ◌-◌, ◌*◌, ◌/◌, All, slice_index, slice_index_or, replicate, ◌==◌, false, ◌↔◌, ◌⊎◌, Err, true};
 ghost use Rattle.std.specs.List.{flat_map, list_any};
 ghost use Rattle.std.specs.Cmp.Lexicographic.{slice_cmp};
 ghost use Rattle.std.specs.Ordering.{is_lt, nat_cmp};
@@ -8,12 +8,12 @@ ghost use Rattle.mailparse.specs.Header.{Header, read_header};
 ghost use Rattle.mailparse.specs.Block.{HeaderList, header_count, header_place, read_headers};
 ghost use Rattle.mailparse.specs.ContentType.{ContentType, content_type_in};
 ghost use Rattle.mailparse.specs.Bound.{IsBounded};
-ghost use Rattle.mailparse.specs.Mail.{Tree, cut_of, read_mail_in};
+ghost use Rattle.mailparse.specs.Mail.{Tree, cut_of, read_mail_in, Node, nodes, read_mail};
 ghost use Rattle.mailparse.specs.Ranges.{Apart, Range};
 ghost use Rattle.mailparse.specs.Delimiters.{Cut, cut_parts};
 ghost use Rattle.mail_laws.specs.DelimiterPlaces.{IsCutAt, delimiters};
 ghost use Rattle.mail_laws.specs.RangeTree.{AreNested, Holds, RangeTree, blocks_and_bodies, range_root, ranges_in, read_there};
-ghost use Rattle.mail_codec.specs.Charset.{Charsets};
+ghost use Rattle.mail_codec.specs.Charset.{Charsets, four_charsets};
 ghost use Rattle.mailparse.specs.Continuations.{joined, names_of, parameters_in, walked_after};
 ghost use Rattle.mailparse.specs.ExtendedValues.{candidates, charset_source, section_at, starred};
 ghost use Rattle.mailparse.specs.Sections.{Section};
@@ -27,8 +27,9 @@ ghost use Rattle.mailparse.specs.contracts.disposition.DispositionTypePartialEq.
 ghost use Rattle.mailparse.specs.declared.disposition.DispositionType.{DispositionType};
 ghost use Rattle.mailparse.specs.Views.{kind};
 ghost use Rattle.mail_laws.specs.Boundaries.{IsAlphanumeric, boundary_type, one_text};
+ghost use Rattle.mail_laws.specs.Outlines.{IsWellFormed, OutlineTree, depth, is_well_formed_within, rendered, stands_for};
 ghost use Rattle.mail_laws.specs.StarFree.{AreStarFree};
-ghost use Rattle.mailparse.specs.Value.{IsPlain, Token, lenient_value, newline, shown_tokens, strict_value};
+ghost use Rattle.mailparse.specs.Value.{IsPlain, Token, lenient_value, newline, shown_tokens, strict_value, lenient_value_with};
 ghost use Rattle.mail_codec.specs.Places.{begins, least, values_below};
 ghost use Rattle.mail_laws.specs.Least.{IsLeast};
 ghost use Rattle.mail_laws.specs.WordTokens.{whitespace_token, word};
@@ -309,4 +310,25 @@ pub fn message_ids_read_back()
 /// Percent decoding of a text without `%` gives its bytes.
 pub fn percent_free()
     ensures { (text : List ℕ) → list_any is_percent text ≡ false → percent_decode text ≡ text }
+{}
+
+/// What is written of an outline that is well formed, but for its depth, is read as the message that it
+/// stands for under every limit on levels that is no less than its depth, and is refused for the limit
+/// under every lower one, whatever charsets are known; so a well-formed outline is read back. The values
+/// of all headers show as they are. Two such outlines that are written as the same bytes are one.
+pub fn outline_reads_back()
+    ensures read { (known : Charsets) (greatest : ℕ) (outline : OutlineTree) →
+        is_well_formed_within outline ≡ true → depth outline ≤ greatest →
+        read_mail_in known greatest (rendered outline) ≡ Ok (stands_for known outline) }
+    ensures refused { (known : Charsets) (greatest : ℕ) (outline : OutlineTree) →
+        is_well_formed_within outline ≡ true → greatest < depth outline →
+        read_mail_in known greatest (rendered outline) ≡ Err recursion_limit }
+    ensures mail { (outline : OutlineTree) → IsWellFormed outline →
+        read_mail (rendered outline) ≡ Ok (stands_for four_charsets outline) }
+    ensures shown { (known : Charsets) (outline : OutlineTree) →
+        is_well_formed_within outline ≡ true →
+        All (λ (n : Node). map (λ h. lenient_value_with known h.value) n.headers
+        ≡ map (λ h. h.value) n.headers) (nodes (stands_for known outline)) }
+    ensures only { (one two : OutlineTree) → is_well_formed_within one ≡ true →
+        is_well_formed_within two ≡ true → rendered one ≡ rendered two → one ≡ two }
 {}

@@ -203,7 +203,7 @@ feed_and dash_boundary [] = refl
 feed_and dash_boundary (b ∷ rest) = ap (λ t. t && stands dash_boundary rest) (eqb_swap 10 b)
 
 -- past the start a delimiter stands where a LF and the delimiter stand one place before
-is_delimiter-line : (dash_boundary bytes : List ℕ) (start p : ℕ) → start < p → is_delimiter dash_boundary bytes start p ≡ stands (10 ∷ dash_boundary) (drop (p - 1) bytes)
+pub is_delimiter-line : (dash_boundary bytes : List ℕ) (start p : ℕ) → start < p → is_delimiter dash_boundary bytes start p ≡ stands (10 ∷ dash_boundary) (drop (p - 1) bytes)
 is_delimiter-line dash_boundary bytes start p later =
     let other : eqb p start ≡ false = ne_eqb p start (λ e. absurd (omega (arith, later))) in
     let there : drop 1 (drop (p - 1) bytes) ≡ drop p bytes = drop-drop 1 (p - 1) bytes ∙ ap (λ n. drop n bytes) (omega arith) in

@@ -1,0 +1,244 @@
+-- The parts of an outline, as they are written, are the parts that its delimiters cut.
+use Rattle.std.proofs.Common.{◌≡◌, ℕ, suc, ◌+◌, ◌-◌, ◌≤◌, ⊎_elim, Bool, true, false, eqb, not, ◌&&◌, ◌||◌, List, [], ◌∷◌, ◌++◌, length, map, take, drop, Option, Some, None, is_some, option_map, codes, refl, sym, ap, ◌∙◌, subst, arith, length-append, length-drop}
+use Rattle.std.specs.Prelude.{nat_lt, option_and_then, if◌then◌else◌}
+use Rattle.std.specs.List.{list_all}
+use Rattle.std.specs.Option.{option_map_or}
+use Rattle.std.proofs.lemmas.Bool.{cond-true, cond-false, cases_lt, cases_eq, lt-ltb, le-ltb, eq-eqb, and_parts, and_from, and_left}
+use Rattle.std.proofs.lemmas.List.{drop-drop, drop-append-le, drop_all, drop_at, take_at}
+use Rattle.mail_codec.specs.Places.{stands, begins, place, byte_place}
+use Rattle.mail_codec.proofs.lemmas.Places.{first_place-before}
+use Rattle.mail_codec.proofs.lemmas.WordSearches.{place_none}
+use Rattle.mailparse.specs.Ranges.{Range, slice}
+use Rattle.mailparse.specs.Delimiters.{is_delimiter, delimiter_from, line_after, part_after, is_close_delimiter, first_part, next_part, before_byte, before_line_end, end_from, part_range, cut_parts}
+use Rattle.mailparse.specs.private.Delimiters.{NoDelimiter}
+use Rattle.mailparse.proofs.lemmas.Delimiters.{is_delimiter-line, is_delimiter-start, delimiter_from-some, starts_delimiter, part_ranges, part_ranges-none, part_ranges-some}
+use Rattle.mailparse.proofs.lemmas.Places.{not_some}
+use Rattle.mail_laws.proofs.lemmas.OutlineHeaders.{from_not, drop_past}
+
+-- ---- a text that stands
+
+-- a byte that is no CR
+abbrev pub no_return : ℕ → Bool
+no_return b = not (eqb b 13)
+
+-- a text without CR stands before a CR only where it stands by itself
+stands-before : (text front rest : List ℕ) → list_all no_return text ≡ true → stands text (front ++ 13 ∷ rest) ≡ stands text front
+stands-before [] front rest free = refl
+stands-before (x ∷ text) [] rest free =
+    and_left (eqb x 13) (stands text rest) (from_not (eqb x 13) (and_parts (no_return x) (list_all no_return text) free).0)
+stands-before (x ∷ text) (b ∷ front) rest free =
+    ap (λ t. eqb x b && t) (stands-before text front rest (and_parts (no_return x) (list_all no_return text) free).1)
+
+stands-self : (text rest : List ℕ) → stands text (text ++ rest) ≡ true
+stands-self [] rest = refl
+stands-self (x ∷ text) rest = and_from (eqb x x) (stands text (text ++ rest)) (eq-eqb x x refl) (stands-self text rest)
+
+-- a search that finds nothing passes over all places
+pub stands-nowhere : (x : ℕ) (text bytes : List ℕ) → is_some (place (stands (x ∷ text)) bytes) ≡ false → (k : ℕ) → stands (x ∷ text) (drop k bytes) ≡ false
+stands-nowhere x text bytes none k =
+    let whole = place_none (stands (x ∷ text)) bytes (not_some (place (stands (x ∷ text)) bytes) none) in
+    ⊎_elim (λ low. first_place-before (stands (x ∷ text)) bytes k (omega (arith, low, whole)))
+    (λ high. ap (stands (x ∷ text)) (drop_all k bytes high)) (cases_lt k (length bytes))
+
+-- ---- where a line ends by CR LF
+
+before_byte-one : (b : ℕ) (bytes : List ℕ) (start p : ℕ) → start ≤ p → begins (λ x. eqb x b) (drop p bytes) ≡ true → before_byte b bytes start (suc p) ≡ p
+before_byte-one b bytes start p low h =
+    let less : suc p - 1 ≡ p = omega arith in
+    let at : begins (λ x. eqb x b) (drop (suc p - 1) bytes) ≡ true = ap (λ n. begins (λ x. eqb x b) (drop n bytes)) less ∙ h in
+    cond-true (nat_lt start (suc p) && begins (λ x. eqb x b) (drop (suc p - 1) bytes)) (suc p - 1) (suc p)
+    (and_from _ _ (lt-ltb start (suc p) (omega arith)) at) ∙ less
+
+before_line_end-crlf : (bytes : List ℕ) (start p : ℕ) → start ≤ p → begins (λ x. eqb x 13) (drop p bytes) ≡ true → begins (λ x. eqb x 10) (drop (suc p) bytes) ≡ true
+    → before_line_end bytes start (suc (suc p)) ≡ p
+before_line_end-crlf bytes start p low return feed =
+    ap (before_byte 13 bytes start) (before_byte-one 10 bytes start (suc p) (omega arith) feed)
+    ∙ before_byte-one 13 bytes start p low return
+
+before_byte-start : (b : ℕ) (bytes : List ℕ) (start : ℕ) → before_byte b bytes start start ≡ start
+before_byte-start b bytes start =
+    cond-false (nat_lt start start && begins (λ x. eqb x b) (drop (start - 1) bytes)) (start - 1) start
+    (and_left (nat_lt start start) _ (le-ltb start start (omega arith)))
+
+before_line_end-start : (bytes : List ℕ) (start : ℕ) → before_line_end bytes start start ≡ start
+before_line_end-start bytes start =
+    ap (before_byte 13 bytes start) (before_byte-start 10 bytes start) ∙ before_byte-start 13 bytes start
+
+-- ---- what follows a delimiter
+
+-- a place further on
+further : (bytes text : List ℕ) (s k n : ℕ) → drop s bytes ≡ text → s + k ≡ n → drop n bytes ≡ drop k text
+further bytes text s k n there e = ap (λ m. drop m bytes) (sym e) ∙ sym (drop-drop k s bytes) ∙ ap (drop k) there
+
+-- a line that CR LF ends
+line_after-crlf : (bytes rest : List ℕ) (p : ℕ) → drop p bytes ≡ 13 ∷ 10 ∷ rest → line_after bytes p ≡ Some (p + 2)
+line_after-crlf bytes rest p there =
+    ap (λ (x : List ℕ). option_map (λ k. suc (p + k)) (byte_place x 10)) there
+    ∙ ap (option_map (λ k. suc (p + k))) (cond-true (nat_lt 1 (suc (suc (length rest)))) (Some 1) None (lt-ltb 1 (suc (suc (length rest))) (omega arith)))
+    ∙ ap Some (omega arith)
+
+-- ---- parts that are written one after another
+
+-- for each part the dash-boundary, CR LF, the part and CR LF; at the end the dash-boundary, `--` and CR LF
+abbrev pub written : List ℕ → List (List ℕ) → List ℕ
+written d [] = d ++ 45 ∷ 45 ∷ 13 ∷ 10 ∷ []
+written d (p ∷ ps) = d ++ 13 ∷ 10 ∷ (p ++ 13 ∷ 10 ∷ written d ps)
+
+-- what stands behind the first of its delimiters
+abbrev behind : List ℕ → List (List ℕ) → List ℕ
+behind d [] = 45 ∷ 45 ∷ 13 ∷ 10 ∷ []
+behind d (p ∷ ps) = 13 ∷ 10 ∷ (p ++ 13 ∷ 10 ∷ written d ps)
+
+written-behind : (d : List ℕ) (ps : List (List ℕ)) → written d ps ≡ d ++ behind d ps
+written-behind d [] = refl
+written-behind d (p ∷ ps) = refl
+
+-- a part that holds no delimiter
+pub record IsClear (d part : List ℕ) : Type 0 where
+  pub first : stands d part ≡ false
+  pub later : (k : ℕ) → stands (10 ∷ d) (drop k part) ≡ false
+
+abbrev pub AreClear : List ℕ → List (List ℕ) → Type 0
+AreClear d [] = Unit {0}
+AreClear d (p ∷ ps) = IsClear d p × AreClear d ps
+
+-- the dash-boundary: not empty, and without CR
+module _ (x : ℕ) (text : List ℕ) (free : list_all no_return (x ∷ text) ≡ true) where
+  -- a part that stands at a place, and then CR LF and the next delimiter
+  module _ (bytes part more : List ℕ) (s : ℕ) (clear : IsClear (x ∷ text) part) (there : drop s bytes ≡ part ++ 13 ∷ 10 ∷ ((x ∷ text) ++ more)) where
+    abbrev rest : List ℕ
+    rest = 10 ∷ ((x ∷ text) ++ more)
+
+    length-there : length bytes - s ≡ length part + 3 + length text + length more
+    length-there =
+        let a = length-append part (13 ∷ 10 ∷ ((x ∷ text) ++ more)) in
+        let b = length-append text more in
+        sym (length-drop s bytes) ∙ ap length there ∙ a ∙ omega arith
+
+    in_part : (k : ℕ) → k ≤ length part → stands (10 ∷ x ∷ text) (drop k (part ++ 13 ∷ rest)) ≡ false
+    in_part k low =
+        ap (stands (10 ∷ x ∷ text)) (drop-append-le k part (13 ∷ rest) low)
+        ∙ stands-before (10 ∷ x ∷ text) (drop k part) rest free ∙ clear.later k
+
+    no_delimiter : NoDelimiter (x ∷ text) bytes s (s + length part + 2)
+    no_delimiter k low high =
+        ⊎_elim (λ same. subst (λ p. is_delimiter (x ∷ text) bytes s p ≡ false) (sym same)
+        (is_delimiter-start (x ∷ text) bytes s ∙ ap (stands (x ∷ text)) there ∙ stands-before (x ∷ text) part rest free ∙ clear.first))
+        (λ other.
+        let i = k - 1 - s in
+        let less : s + i ≡ k - 1 = omega (arith, low, other) in
+        is_delimiter-line (x ∷ text) bytes s k (omega (arith, low, other))
+        ∙ ap (stands (10 ∷ x ∷ text)) (further bytes (part ++ 13 ∷ rest) s i (k - 1) there less)
+        ∙ in_part i (omega (arith, low, other, high)))
+        (cases_eq k s)
+
+    at_feed : (n : ℕ) → s + suc (length part) ≡ n → drop n bytes ≡ rest
+    at_feed n e = further bytes (part ++ 13 ∷ rest) s (suc (length part)) n there e ∙ drop_past part 13 rest
+
+    at_return : (n : ℕ) → s + length part ≡ n → drop n bytes ≡ 13 ∷ rest
+    at_return n e = further bytes (part ++ 13 ∷ rest) s (length part) n there e ∙ drop_at part (13 ∷ rest) (length part) refl
+
+    at_delimiter : (n : ℕ) → s + length part + 2 ≡ n → drop n bytes ≡ (x ∷ text) ++ more
+    at_delimiter n e = further bytes rest (s + suc (length part)) 1 n (at_feed (s + suc (length part)) refl) (omega (arith, e))
+
+    delimiter : is_delimiter (x ∷ text) bytes s (s + length part + 2) ≡ true
+    delimiter =
+        is_delimiter-line (x ∷ text) bytes s (s + length part + 2) (omega arith)
+        ∙ ap (stands (10 ∷ x ∷ text)) (at_feed (s + length part + 2 - 1) (omega arith))
+        ∙ stands-self (10 ∷ x ∷ text) more
+
+    found : delimiter_from (x ∷ text) bytes s ≡ Some (s + length part + 2)
+    found =
+        let size = length-there in
+        sym (delimiter_from-some (x ∷ text) bytes s (s + length part + 2) (omega arith) (omega arith) delimiter no_delimiter)
+
+    part_end : end_from (x ∷ text) bytes s (length bytes) ≡ s + length part
+    part_end =
+        let two : s + length part + 2 ≡ suc (suc (s + length part)) = omega arith in
+        ap (λ (o : Option ℕ). option_map_or (before_line_end bytes s) o (length bytes)) found
+        ∙ ap (before_line_end bytes s) two
+        ∙ before_line_end-crlf bytes s (s + length part) (omega arith)
+        (ap (begins (λ b. eqb b 13)) (at_return (s + length part) refl))
+        (ap (begins (λ b. eqb b 10)) (at_feed (suc (s + length part)) (omega arith)))
+
+    part_slice : slice bytes (part_range (x ∷ text) bytes s) ≡ part
+    part_slice =
+        let size : s + length part - s ≡ length part = omega arith in
+        ap (λ n. take (n - s) (drop s bytes)) part_end
+        ∙ ap (λ n. take n (drop s bytes)) size
+        ∙ ap (take (length part)) there
+        ∙ take_at part (13 ∷ rest) (length part) refl
+
+    behind_delimiter : (n : ℕ) → s + length part + 2 + length (x ∷ text) ≡ n → drop n bytes ≡ more
+    behind_delimiter n e =
+        further bytes ((x ∷ text) ++ more) (s + length part + 2) (length (x ∷ text)) n (at_delimiter (s + length part + 2) refl) e
+        ∙ drop_at (x ∷ text) more (length (x ∷ text)) refl
+
+    next_by_delimiter : next_part (x ∷ text) bytes s
+        ≡ if is_close_delimiter (x ∷ text) bytes (s + length part + 2) then None else part_after (x ∷ text) bytes (s + length part + 2)
+    next_by_delimiter =
+        ap (option_and_then (λ p. if is_close_delimiter (x ∷ text) bytes p then None else part_after (x ∷ text) bytes p)) found
+
+    closes : is_close_delimiter (x ∷ text) bytes (s + length part + 2) ≡ (nat_lt (length more) 2 || stands (codes "--") more)
+    closes = ap (λ (r : List ℕ). nat_lt (length r) 2 || stands (codes "--") r) (behind_delimiter (s + length part + 2 + length (x ∷ text)) refl)
+
+  -- the parts from one on are those that are written there
+  ranges-written : (ps : List (List ℕ)) (bytes part : List ℕ) (s : ℕ) → IsClear (x ∷ text) part → AreClear (x ∷ text) ps
+      → drop s bytes ≡ part ++ 13 ∷ 10 ∷ written (x ∷ text) ps
+      → map (slice bytes) (part_ranges (x ∷ text) bytes (Some s)) ≡ part ∷ ps
+  ranges-written [] bytes part s clear all there =
+      let more = 45 ∷ 45 ∷ 13 ∷ 10 ∷ [] in
+      let last : next_part (x ∷ text) bytes s ≡ None =
+      next_by_delimiter bytes part more s clear there
+      ∙ cond-true _ _ _ (closes bytes part more s clear there) in
+      ap (map (slice bytes)) (part_ranges-some (x ∷ text) bytes s)
+      ∙ ap (λ (p : List ℕ). p ∷ map (slice bytes) (part_ranges (x ∷ text) bytes (next_part (x ∷ text) bytes s))) (part_slice bytes part more s clear there)
+      ∙ ap (λ (o : Option ℕ). part ∷ map (slice bytes) (part_ranges (x ∷ text) bytes o)) last
+      ∙ ap (λ (rs : List Range). part ∷ map (slice bytes) rs) (part_ranges-none (x ∷ text) bytes)
+  ranges-written (p ∷ ps) bytes part s clear all there =
+      let more = 13 ∷ 10 ∷ (p ++ 13 ∷ 10 ∷ written (x ∷ text) ps) in
+      let q = s + length part + 2 + length (x ∷ text) in
+      let goes_on : is_close_delimiter (x ∷ text) bytes (s + length part + 2) ≡ false =
+      closes bytes part more s clear there ∙ ap (λ t. t || stands (codes "--") more) (le-ltb (length more) 2 (omega arith)) in
+      let at : drop q bytes ≡ more = behind_delimiter bytes part more s clear there q refl in
+      let next : next_part (x ∷ text) bytes s ≡ Some (q + 2) =
+      next_by_delimiter bytes part more s clear there ∙ cond-false _ _ _ goes_on
+      ∙ line_after-crlf bytes (p ++ 13 ∷ 10 ∷ written (x ∷ text) ps) q at in
+      let behind_it : drop (q + 2) bytes ≡ p ++ 13 ∷ 10 ∷ written (x ∷ text) ps = further bytes more q 2 (q + 2) at refl in
+      ap (map (slice bytes)) (part_ranges-some (x ∷ text) bytes s)
+      ∙ ap (λ (p : List ℕ). p ∷ map (slice bytes) (part_ranges (x ∷ text) bytes (next_part (x ∷ text) bytes s))) (part_slice bytes part more s clear there)
+      ∙ ap (λ (o : Option ℕ). part ∷ map (slice bytes) (part_ranges (x ∷ text) bytes o)) next
+      ∙ ap (λ (ps : List (List ℕ)). part ∷ ps) (ranges-written ps bytes p (q + 2) all.0 all.1 behind_it)
+
+  -- what is written is cut into its parts, and nothing stands before them
+  module _ (bytes : List ℕ) (i : ℕ) (part : List ℕ) (ps : List (List ℕ)) (all : AreClear (x ∷ text) (part ∷ ps)) (there : drop i bytes ≡ written (x ∷ text) (part ∷ ps)) where
+    first_delimiter : delimiter_from (x ∷ text) bytes i ≡ Some i
+    first_delimiter = sym (starts_delimiter (x ∷ text) bytes i (omega arith) (ap (stands (x ∷ text)) there ∙ stands-self (x ∷ text) (13 ∷ 10 ∷ (part ++ 13 ∷ 10 ∷ written (x ∷ text) ps))))
+
+    preamble_end : end_from (x ∷ text) bytes i i ≡ i
+    preamble_end =
+        ap (λ (o : Option ℕ). option_map_or (before_line_end bytes i) o i) first_delimiter ∙ before_line_end-start bytes i
+
+    pub body-written : slice bytes (cut_parts (x ∷ text) bytes i).body ≡ []
+    unfolding cut_parts
+    body-written =
+        let none : i - i ≡ 0 = omega arith in
+        ap (λ n. take (n - i) (drop i bytes)) preamble_end ∙ ap (λ n. take n (drop i bytes)) none
+
+    behind_first : drop (i + length (x ∷ text)) bytes ≡ 13 ∷ 10 ∷ (part ++ 13 ∷ 10 ∷ written (x ∷ text) ps)
+    behind_first =
+        further bytes (written (x ∷ text) (part ∷ ps)) i (length (x ∷ text)) (i + length (x ∷ text)) there refl
+        ∙ drop_at (x ∷ text) (13 ∷ 10 ∷ (part ++ 13 ∷ 10 ∷ written (x ∷ text) ps)) (length (x ∷ text)) refl
+
+    first_start : first_part (x ∷ text) bytes i ≡ Some (i + length (x ∷ text) + 2)
+    first_start =
+        ap (option_and_then (part_after (x ∷ text) bytes)) first_delimiter
+        ∙ line_after-crlf bytes (part ++ 13 ∷ 10 ∷ written (x ∷ text) ps) (i + length (x ∷ text)) behind_first
+
+    pub parts-written : map (slice bytes) (cut_parts (x ∷ text) bytes i).parts ≡ part ∷ ps
+    unfolding cut_parts
+    parts-written =
+        let q = i + length (x ∷ text) in
+        ap (λ (o : Option ℕ). map (slice bytes) (part_ranges (x ∷ text) bytes o)) first_start
+        ∙ ranges-written ps bytes part (q + 2) all.0 all.1
+        (further bytes (13 ∷ 10 ∷ (part ++ 13 ∷ 10 ∷ written (x ∷ text) ps)) q 2 (q + 2) behind_first refl)

@@ -1,0 +1,344 @@
+-- What is written of an outline reads as the message that it stands for.
+use Rattle.std.proofs.Common.{◌≡◌, ℕ, zero, suc, ◌+◌, ◌-◌, ◌<◌, ◌≤◌, ⊎_elim, Bool, true, false, eqb, not, List, [], ◌∷◌, ◌++◌, length, map, take, drop, Option, Some, None, is_some, Ok, Err, codes, refl, sym, ap, ◌∙◌, subst, arith, length-append}
+use Rattle.std.specs.Char.{is_ascii_alphanumeric}
+use Rattle.std.specs.List.{All, list_all}
+use Rattle.std.specs.Option.{option_map_or}
+use Rattle.std.specs.Str.{bytes_eq}
+use Rattle.std.proofs.lemmas.Bool.{cond-false, cases_lt, ne_eqb, eqb-true, leb-true, and_parts, or_parts, false≢true}
+use Rattle.std.proofs.lemmas.List.{append_cancel_left, drop_at, map-append, take_at, take_all}
+use Rattle.std.proofs.lemmas.List.Elements.{All-append, All-cons, All-nil}
+use lib.Pointwise.{bytes_decides}
+use Rattle.mail_codec.specs.Charset.{Charsets, four_charsets}
+use Rattle.mail_codec.specs.Places.{is_empty, place, stands, text_place}
+use Rattle.mailparse.specs.Refusal.{◌>>=◌, Reads, recursion_limit}
+use Rattle.mailparse.specs.Header.{Header}
+use Rattle.mailparse.specs.Block.{HeaderList, read_headers}
+use Rattle.mailparse.specs.ContentType.{ContentType}
+use Rattle.mailparse.specs.Ranges.{slice}
+use Rattle.mailparse.specs.Delimiters.{Cut, cut_parts}
+use Rattle.mailparse.specs.Mail.{Node, Tree, tree, Forest, no_parts, part_and, root, parts_of, nodes, trees_in, trees_within, is_digest, cut_of, node_with, read_each, read_parts, node_type, read_levels, read_mail_in, read_mail}
+use Rattle.mailparse.specs.Value.{lenient_value_with}
+use Rattle.mail_laws.specs.Boundaries.{boundary_type}
+use Rattle.mail_laws.specs.Outlines.{OutlineTree, OutlineForest, leaf, branch, no_outlines, outline_and, header_block, dash_boundary, rendered, rendered_parts, is_key, is_plain, has_keys, has_plain_values, type_header, names_its_boundary, has_plain_boundary, is_not_multipart, has_some_part, holds_delimiter, hold_no_delimiter, has_clear_parts, depth, depth_of_parts, is_well_formed_here, is_well_formed_within, are_well_formed_within, type_of, node_of, stands_for, stand_for, is_within_levels, IsWellFormed}
+use Rattle.mail_laws.proofs.lemmas.OutlineHeaders.{from_not, list_all-weaker, read_headers-written}
+use Rattle.mail_laws.proofs.lemmas.OutlineParts.{no_return, stands-nowhere, written, IsClear, AreClear, body-written, parts-written}
+use Rattle.mail_laws.proofs.lemmas.OutlineTypes.{lenient_value-plain_with, node_type-written, no_parts-leaf, type-branch}
+
+-- ---- the parts of an outline, as they are written
+
+abbrev renderings : OutlineForest → List (List ℕ)
+renderings no_outlines = []
+renderings (outline_and part parts) = rendered part ∷ renderings parts
+
+rendered_parts-written : (boundary : List ℕ) (parts : OutlineForest) → rendered_parts boundary parts ≡ written (dash_boundary boundary) (renderings parts)
+rendered_parts-written boundary no_outlines = refl
+rendered_parts-written boundary (outline_and part parts) =
+    ap (λ (x : List ℕ). dash_boundary boundary ++ 13 ∷ 10 ∷ (rendered part ++ 13 ∷ 10 ∷ x)) (rendered_parts-written boundary parts)
+
+IsClear-from : (boundary bytes : List ℕ) → holds_delimiter boundary bytes ≡ false → IsClear (dash_boundary boundary) bytes
+IsClear-from boundary bytes none =
+    let parts = or_parts (stands (dash_boundary boundary) bytes) (is_some (text_place bytes (10 ∷ dash_boundary boundary))) none in
+    let some : eqb (length (10 ∷ dash_boundary boundary)) 0 ≡ false = ne_eqb _ 0 (λ e. absurd (omega arith)) in
+    let nowhere : is_some (place (stands (10 ∷ dash_boundary boundary)) bytes) ≡ false =
+    ap (λ (o : Option ℕ). is_some o) (sym (cond-false (eqb (length (10 ∷ dash_boundary boundary)) 0) None (place (stands (10 ∷ dash_boundary boundary)) bytes) some)) ∙ parts.1 in
+    record { first = parts.0; later = stands-nowhere 10 (dash_boundary boundary) bytes nowhere }
+
+AreClear-from : (boundary : List ℕ) (parts : OutlineForest) → hold_no_delimiter boundary parts ≡ true → AreClear (dash_boundary boundary) (renderings parts)
+AreClear-from boundary no_outlines none = tt
+AreClear-from boundary (outline_and part parts) none =
+    let both = and_parts (not (holds_delimiter boundary (rendered part))) (hold_no_delimiter boundary parts) none in
+    (IsClear-from boundary (rendered part) (from_not _ both.0), AreClear-from boundary parts both.1)
+
+-- letters and digits are no CR
+no_return-alphanumeric : (b : ℕ) → is_ascii_alphanumeric b ≡ true → no_return b ≡ true
+no_return-alphanumeric b h = go (eqb b 13) refl
+  where
+    go : (t : Bool) → eqb b 13 ≡ t → not t ≡ true
+    go true e = absurd (false≢true (ap is_ascii_alphanumeric (sym (eqb-true b 13 e)) ∙ h))
+    go false e = refl
+
+dash_boundary-free : (boundary : List ℕ) → list_all is_ascii_alphanumeric boundary ≡ true → list_all no_return (dash_boundary boundary) ≡ true
+dash_boundary-free boundary all = list_all-weaker is_ascii_alphanumeric no_return no_return-alphanumeric boundary all
+
+-- ---- the conditions of an outline by itself
+
+record IsFormed (outline : OutlineTree) : Type 0 where
+  keys : has_keys outline ≡ true
+  values : has_plain_values outline ≡ true
+  names : names_its_boundary outline ≡ true
+  plain : has_plain_boundary outline ≡ true
+  other : is_not_multipart outline ≡ true
+  some : has_some_part outline ≡ true
+  clear : has_clear_parts outline ≡ true
+
+IsFormed-from : (outline : OutlineTree) → is_well_formed_here outline ≡ true → IsFormed outline
+IsFormed-from outline h =
+    let one = and_parts (has_keys outline) _ h in
+    let two = and_parts (has_plain_values outline) _ one.1 in
+    let three = and_parts (names_its_boundary outline) _ two.1 in
+    let four = and_parts (has_plain_boundary outline) _ three.1 in
+    let five = and_parts (is_not_multipart outline) _ four.1 in
+    let six = and_parts (has_some_part outline) (has_clear_parts outline) five.1 in
+    record { keys = one.0; values = two.0; names = three.0; plain = four.0; other = five.0; some = six.0; clear = six.1 }
+
+-- ---- one message
+
+-- what is read of each part, unless one is refused
+each_read : (read : List ℕ → Reads Tree) (part : List ℕ) (parts : List (List ℕ)) (t : Tree) (ts : Forest) → read part ≡ Ok t → read_each read parts ≡ Ok ts
+    → read_each read (part ∷ parts) ≡ Ok (part_and t ts)
+each_read read part parts t ts first others =
+    ap (λ (r : Reads Tree). ◌>>=◌ r (λ x. ◌>>=◌ (read_each read parts) (λ xs. Ok (part_and x xs)))) first
+    ∙ ap (λ (r : Reads Forest). ◌>>=◌ r (λ xs. Ok (part_and t xs))) others
+
+first_refused : (read : List ℕ → Reads Tree) (part : List ℕ) (parts : List (List ℕ)) → read part ≡ Err recursion_limit
+    → read_each read (part ∷ parts) ≡ Err recursion_limit
+first_refused read part parts first =
+    ap (λ (r : Reads Tree). ◌>>=◌ r (λ x. ◌>>=◌ (read_each read parts) (λ xs. Ok (part_and x xs)))) first
+
+later_refused : (read : List ℕ → Reads Tree) (part : List ℕ) (parts : List (List ℕ)) (t : Tree) → read part ≡ Ok t → read_each read parts ≡ Err recursion_limit
+    → read_each read (part ∷ parts) ≡ Err recursion_limit
+later_refused read part parts t first others =
+    ap (λ (r : Reads Tree). ◌>>=◌ r (λ x. ◌>>=◌ (read_each read parts) (λ xs. Ok (part_and x xs)))) first
+    ∙ ap (λ (r : Reads Forest). ◌>>=◌ r (λ xs. Ok (part_and t xs))) others
+
+-- Under the charsets that are known.
+module _ (known : Charsets) where
+  -- a message with this block, this type and this cut
+  read_levels-cut : (levels : ℕ) (bytes : List ℕ) (block : HeaderList) (ctype : ContentType) (cut : Cut) → read_headers bytes ≡ Ok block
+      → node_type known false block.headers ≡ ctype → cut_of ctype bytes block.index ≡ cut
+      → read_levels known (suc levels) false bytes
+      ≡ ◌>>=◌ (read_each (read_levels known levels (is_digest ctype)) (map (slice bytes) cut.parts)) (λ parts. Ok (tree (node_with bytes block ctype cut) parts))
+  unfolding read_levels
+  read_levels-cut levels bytes block ctype cut read type is =
+      ap (λ (r : Reads HeaderList). ◌>>=◌ r (λ b. read_parts known (read_levels known levels) bytes b (node_type known false b.headers))) read
+      ∙ ap (λ (t : ContentType). read_parts known (read_levels known levels) bytes block t) type
+      ∙ ap (λ (c : Cut). ◌>>=◌ (read_each (read_levels known levels (is_digest ctype)) (map (slice bytes) c.parts)) (λ parts. Ok (tree (node_with bytes block ctype c) parts))) is
+
+  read_levels-none : (bytes : List ℕ) → read_levels known zero false bytes ≡ Err recursion_limit
+  unfolding read_levels
+  read_levels-none bytes = refl
+
+  -- a message of an outline's headers, by its block and its body
+  abbrev made : List ℕ → List Header → List ℕ → List ℕ → Node
+  made bytes headers block body = record { bytes = bytes; block = block; headers = headers; ctype = type_of known headers; body = body }
+
+  made-same : (bytes : List ℕ) (headers : List Header) (block body : List ℕ) → block ≡ header_block headers → (whole : List ℕ) → body ≡ whole
+      → made bytes headers block body ≡ node_of known bytes headers whole
+  made-same bytes headers block body is whole e =
+      ap (λ (x : List ℕ). made bytes headers x body) is ∙ ap (made bytes headers (header_block headers)) e
+
+  leaf-written : (levels : ℕ) (headers : List Header) (body : List ℕ) → IsFormed (leaf headers body)
+      → read_levels known (suc levels) false (rendered (leaf headers body)) ≡ Ok (stands_for known (leaf headers body))
+  leaf-written levels headers body formed =
+      let block = header_block headers in
+      let bytes = block ++ body in
+      let index = length block in
+      let cut : Cut = record { body = record { start = index; end = length bytes }; parts = [] } in
+      let none = no_parts-leaf known headers formed.other in
+      let size : length bytes - index ≡ length body = let e = length-append block body in omega arith in
+      let rest : slice bytes (record { start = index; end = length bytes }) ≡ body =
+      ap (λ n. take n (drop index bytes)) size ∙ ap (take (length body)) (drop_at block body index refl) ∙ take_all (length body) body (omega arith) in
+      read_levels-cut levels bytes (record { headers = headers; index = index }) (type_of known headers) cut
+      (read_headers-written headers body formed.keys formed.values) (node_type-written known headers formed.keys formed.values)
+      (ap (λ (o : Option (List ℕ)). option_map_or (λ d. cut_parts d bytes index) o cut) none)
+      ∙ ap (λ (n : Node). Ok (tree n no_parts)) (made-same bytes headers (take index bytes) (slice bytes (record { start = index; end = length bytes })) (take_at block body index refl) body rest)
+
+  -- what is read of an outline with parts, by what is read of the parts
+  branch-by_parts : (levels : ℕ) (headers : List Header) (boundary part : List ℕ) (parts : List (List ℕ)) (whole : List ℕ)
+      → list_all (λ h. is_key h.key) headers ≡ true → list_all (λ h. is_plain h.value) headers ≡ true
+      → option_map_or (λ h. bytes_eq h.value (boundary_type boundary)) (type_header headers) false ≡ true
+      → list_all is_ascii_alphanumeric boundary ≡ true → AreClear (dash_boundary boundary) (part ∷ parts)
+      → whole ≡ written (dash_boundary boundary) (part ∷ parts)
+      → read_levels known (suc levels) false (header_block headers ++ whole)
+      ≡ ◌>>=◌ (read_each (read_levels known levels false) (part ∷ parts)) (λ found. Ok (tree (node_of known (header_block headers ++ whole) headers []) found))
+  branch-by_parts levels headers boundary part parts whole keys values names plain clear is =
+      let block = header_block headers in
+      let bytes = block ++ whole in
+      let index = length block in
+      let d = dash_boundary boundary in
+      let type = type-branch known headers boundary names plain in
+      let free = dash_boundary-free boundary plain in
+      let there : drop index bytes ≡ written d (part ∷ parts) = drop_at block whole index refl ∙ is in
+      let body : slice bytes (cut_parts d bytes index).body ≡ [] = body-written 45 (45 ∷ boundary) free bytes index part parts clear there in
+      let found : map (slice bytes) (cut_parts d bytes index).parts ≡ part ∷ parts = parts-written 45 (45 ∷ boundary) free bytes index part parts clear there in
+      read_levels-cut levels bytes (record { headers = headers; index = index }) (type_of known headers) (cut_parts d bytes index)
+      (read_headers-written headers whole keys values) (node_type-written known headers keys values)
+      (ap (λ (o : Option (List ℕ)). option_map_or (λ x. cut_parts x bytes index) o (record { body = record { start = index; end = length bytes }; parts = [] })) type.0)
+      ∙ ap (λ t. ◌>>=◌ (read_each (read_levels known levels t) (map (slice bytes) (cut_parts d bytes index).parts))
+      (λ xs. Ok (tree (node_with bytes (record { headers = headers; index = index }) (type_of known headers) (cut_parts d bytes index)) xs))) type.1
+      ∙ ap (λ (ps : List (List ℕ)). ◌>>=◌ (read_each (read_levels known levels false) ps)
+      (λ xs. Ok (tree (node_with bytes (record { headers = headers; index = index }) (type_of known headers) (cut_parts d bytes index)) xs))) found
+      ∙ ap (λ (n : Node). ◌>>=◌ (read_each (read_levels known levels false) (part ∷ parts)) (λ xs. Ok (tree n xs)))
+      (made-same bytes headers (take index bytes) (slice bytes (cut_parts d bytes index).body) (take_at block whole index refl) [] body)
+
+  branch-written : (levels : ℕ) (headers : List Header) (boundary : List ℕ) (parts : OutlineForest) → IsFormed (branch headers boundary parts)
+      → read_levels known (suc levels) false (rendered (branch headers boundary parts))
+      ≡ ◌>>=◌ (read_each (read_levels known levels false) (renderings parts)) (λ found. Ok (tree (node_of known (rendered (branch headers boundary parts)) headers []) found))
+  branch-written levels headers boundary no_outlines formed = absurd (false≢true formed.some)
+  branch-written levels headers boundary (outline_and part parts) formed =
+      branch-by_parts levels headers boundary (rendered part) (renderings parts) (rendered_parts boundary (outline_and part parts))
+      formed.keys formed.values formed.names (and_parts (list_all is_ascii_alphanumeric boundary) (not (is_empty boundary)) formed.plain).0
+      (AreClear-from boundary (outline_and part parts) formed.clear) (rendered_parts-written boundary (outline_and part parts))
+
+  -- ---- outlines with their parts
+
+  mutual
+    reads : (outline : OutlineTree) (n : ℕ) → is_well_formed_within outline ≡ true → depth outline ≤ n
+        → read_levels known (suc n) false (rendered outline) ≡ Ok (stands_for known outline)
+    reads (leaf headers body) n formed within = leaf-written n headers body (IsFormed-from (leaf headers body) formed)
+    reads (branch headers boundary parts) n formed within =
+        let both = and_parts (is_well_formed_here (branch headers boundary parts)) (are_well_formed_within parts) formed in
+        branch-written n headers boundary parts (IsFormed-from (branch headers boundary parts) both.0)
+        ∙ ap (λ (r : Reads Forest). ◌>>=◌ r (λ found. Ok (tree (node_of known (rendered (branch headers boundary parts)) headers []) found)))
+        (reads_parts parts n both.1 within)
+
+    reads_parts : (parts : OutlineForest) (n : ℕ) → are_well_formed_within parts ≡ true → depth_of_parts parts ≤ n
+        → read_each (read_levels known n false) (renderings parts) ≡ Ok (stand_for known parts)
+    reads_parts no_outlines n formed within = refl
+    reads_parts (outline_and part parts) zero formed within = absurd (omega (arith, within))
+    reads_parts (outline_and part parts) (suc n) formed within =
+        let both = and_parts (is_well_formed_within part) (are_well_formed_within parts) formed in
+        each_read (read_levels known (suc n) false) (rendered part) (renderings parts) (stands_for known part) (stand_for known parts)
+        (reads part n both.0 (omega (arith, within))) (reads_parts parts (suc n) both.1 (omega (arith, within)))
+
+  mutual
+    refuses : (outline : OutlineTree) (n : ℕ) → is_well_formed_within outline ≡ true → n < depth outline
+        → read_levels known (suc n) false (rendered outline) ≡ Err recursion_limit
+    refuses (leaf headers body) n formed deep = absurd (omega (arith, deep))
+    refuses (branch headers boundary parts) n formed deep =
+        let both = and_parts (is_well_formed_here (branch headers boundary parts)) (are_well_formed_within parts) formed in
+        branch-written n headers boundary parts (IsFormed-from (branch headers boundary parts) both.0)
+        ∙ ap (λ (r : Reads Forest). ◌>>=◌ r (λ found. Ok (tree (node_of known (rendered (branch headers boundary parts)) headers []) found)))
+        (refuses_parts parts n both.1 deep)
+
+    refuses_parts : (parts : OutlineForest) (n : ℕ) → are_well_formed_within parts ≡ true → n < depth_of_parts parts
+        → read_each (read_levels known n false) (renderings parts) ≡ Err recursion_limit
+    refuses_parts no_outlines n formed deep = absurd (omega (arith, deep))
+    refuses_parts (outline_and part parts) zero formed deep =
+        first_refused (read_levels known zero false) (rendered part) (renderings parts) (read_levels-none (rendered part))
+    refuses_parts (outline_and part parts) (suc n) formed deep =
+        let both = and_parts (is_well_formed_within part) (are_well_formed_within parts) formed in
+        ⊎_elim (λ below. first_refused (read_levels known (suc n) false) (rendered part) (renderings parts) (refuses part n both.0 below))
+        (λ within. later_refused (read_levels known (suc n) false) (rendered part) (renderings parts) (stands_for known part) (reads part n both.0 within)
+        (refuses_parts parts (suc n) both.1 (omega (arith, deep, within))))
+        (cases_lt n (depth part))
+
+  -- an outline no deeper than the limit is read
+  pub outline_is_read : (greatest : ℕ) (outline : OutlineTree) → is_well_formed_within outline ≡ true → depth outline ≤ greatest
+      → read_mail_in known greatest (rendered outline) ≡ Ok (stands_for known outline)
+  unfolding read_mail_in
+  outline_is_read greatest outline formed within = reads outline greatest formed within
+
+  -- and a deeper one is refused for the limit
+  pub outline_is_refused : (greatest : ℕ) (outline : OutlineTree) → is_well_formed_within outline ≡ true → greatest < depth outline
+      → read_mail_in known greatest (rendered outline) ≡ Err recursion_limit
+  unfolding read_mail_in
+  outline_is_refused greatest outline formed deep = refuses outline greatest formed deep
+
+  -- ---- the message that an outline stands for tells the outline
+
+  same_parts : (t u : Tree) (ts us : Forest) → part_and t ts ≡ part_and u us → (t ≡ u) × (ts ≡ us)
+  same_parts t u ts us e = (first e, others e)
+    where
+      first : part_and t ts ≡ part_and u us → t ≡ u
+      first h = cc
+
+      others : part_and t ts ≡ part_and u us → ts ≡ us
+      others h = cc
+
+  abbrev is_bare : Forest → Bool
+  is_bare no_parts = true
+  is_bare (part_and t ts) = false
+
+  -- an outline with parts stands for a message with parts
+  some_parts : (headers : List Header) (boundary : List ℕ) (parts : OutlineForest) → has_some_part (branch headers boundary parts) ≡ true → no_parts ≡ stand_for known parts → ⊥
+  some_parts headers boundary no_outlines some e = false≢true some
+  some_parts headers boundary (outline_and part parts) some e = false≢true (sym (ap is_bare e))
+
+  -- its first `Content-Type` tells its boundary
+  same_boundary : (found : Option Header) (one two : List ℕ) → option_map_or (λ h. bytes_eq h.value (boundary_type one)) found false ≡ true
+      → option_map_or (λ h. bytes_eq h.value (boundary_type two)) found false ≡ true → one ≡ two
+  same_boundary None one two e f = absurd (false≢true e)
+  same_boundary (Some h) one two e f =
+      append_cancel_left (codes "multipart/mixed; boundary=") one two
+      (sym ((bytes_decides h.value (boundary_type one)).0 e) ∙ (bytes_decides h.value (boundary_type two)).0 f)
+
+  mutual
+    tells : (one two : OutlineTree) → is_well_formed_within one ≡ true → is_well_formed_within two ≡ true → stands_for known one ≡ stands_for known two → one ≡ two
+    tells (leaf headers body) (leaf others rest) formed also e =
+        ap (λ (x : List Header). leaf x body) (ap (λ (t : Tree). (root t).headers) e) ∙ ap (leaf others) (ap (λ (t : Tree). (root t).body) e)
+    tells (leaf headers body) (branch others boundary parts) formed also e =
+        absurd (some_parts others boundary parts (IsFormed-from (branch others boundary parts) (and_parts (is_well_formed_here (branch others boundary parts)) (are_well_formed_within parts) also).0).some (ap parts_of e))
+    tells (branch headers boundary parts) (leaf others rest) formed also e =
+        absurd (some_parts headers boundary parts (IsFormed-from (branch headers boundary parts) (and_parts (is_well_formed_here (branch headers boundary parts)) (are_well_formed_within parts) formed).0).some (sym (ap parts_of e)))
+    tells (branch headers boundary parts) (branch others limit rest) formed also e =
+        let one = and_parts (is_well_formed_here (branch headers boundary parts)) (are_well_formed_within parts) formed in
+        let two = and_parts (is_well_formed_here (branch others limit rest)) (are_well_formed_within rest) also in
+        let same : headers ≡ others = ap (λ (t : Tree). (root t).headers) e in
+        let named : option_map_or (λ h. bytes_eq h.value (boundary_type boundary)) (type_header others) false ≡ true =
+        subst (λ (hs : List Header). option_map_or (λ h. bytes_eq h.value (boundary_type boundary)) (type_header hs) false ≡ true) same
+        (IsFormed-from (branch headers boundary parts) one.0).names in
+        ap (λ (x : List Header). branch x boundary parts) same
+        ∙ ap (λ (x : List ℕ). branch others x parts) (same_boundary (type_header others) boundary limit named (IsFormed-from (branch others limit rest) two.0).names)
+        ∙ ap (branch others limit) (tell parts rest one.1 two.1 (ap parts_of e))
+
+    tell : (one two : OutlineForest) → are_well_formed_within one ≡ true → are_well_formed_within two ≡ true → stand_for known one ≡ stand_for known two → one ≡ two
+    tell no_outlines no_outlines formed also e = refl
+    tell no_outlines (outline_and part parts) formed also e = absurd (false≢true (sym (ap is_bare e)))
+    tell (outline_and part parts) no_outlines formed also e = absurd (false≢true (ap is_bare e))
+    tell (outline_and part parts) (outline_and other others) formed also e =
+        let one = and_parts (is_well_formed_within part) (are_well_formed_within parts) formed in
+        let two = and_parts (is_well_formed_within other) (are_well_formed_within others) also in
+        let same = same_parts (stands_for known part) (stands_for known other) (stand_for known parts) (stand_for known others) e in
+        ap (λ (x : OutlineTree). outline_and x parts) (tells part other one.0 two.0 same.0) ∙ ap (outline_and other) (tell parts others one.1 two.1 same.1)
+
+-- outlines that are written as the same bytes are one
+pub outlines_are_one : (one two : OutlineTree) → is_well_formed_within one ≡ true → is_well_formed_within two ≡ true → rendered one ≡ rendered two → one ≡ two
+outlines_are_one one two formed also same =
+    let n = depth one + depth two in
+    tells four_charsets one two formed also
+    (unwrap (stands_for four_charsets one) (stands_for four_charsets two)
+    (sym (outline_is_read four_charsets n one formed (omega arith)) ∙ ap (read_mail_in four_charsets n) same ∙ outline_is_read four_charsets n two also (omega arith)))
+  where
+    unwrap : (t u : Tree) → ◌≡◌ {A = Reads Tree} (Ok t) (Ok u) → t ≡ u
+    unwrap t u e = cc
+
+-- a well-formed outline is read
+pub outline_is_mail : (outline : OutlineTree) → IsWellFormed outline → read_mail (rendered outline) ≡ Ok (stands_for four_charsets outline)
+unfolding read_mail
+outline_is_mail outline formed =
+    let both = and_parts (is_well_formed_within outline) (is_within_levels outline) formed in
+    outline_is_read four_charsets 100 outline both.0 (leb-true (depth outline) 100 both.1)
+
+-- ---- what its headers show
+
+-- the values of a message's headers show as they are
+abbrev Shows : Charsets → Node → Type 0
+Shows known node = map (λ h. lenient_value_with known h.value) node.headers ≡ map (λ h. h.value) node.headers
+
+module _ (known : Charsets) where
+  values-plain : (headers : List Header) → list_all (λ h. is_plain h.value) headers ≡ true → map (λ h. lenient_value_with known h.value) headers ≡ map (λ h. h.value) headers
+  values-plain [] plain = refl
+  values-plain (h ∷ headers) plain =
+      let both = and_parts (is_plain h.value) (list_all (λ x. is_plain x.value) headers) plain in
+      ap (λ (v : List ℕ). v ∷ map (λ x. lenient_value_with known x.value) headers) (lenient_value-plain_with known h.value both.0)
+      ∙ ap (λ (vs : List (List ℕ)). h.value ∷ vs) (values-plain headers both.1)
+
+  mutual
+    pub values_show : (outline : OutlineTree) → is_well_formed_within outline ≡ true → All (Shows known) (nodes (stands_for known outline))
+    values_show (leaf headers body) formed =
+        All-cons (Shows known) (root (stands_for known (leaf headers body))) [] (values-plain headers (IsFormed-from (leaf headers body) formed).values)
+        (All-nil (Shows known))
+    values_show (branch headers boundary parts) formed =
+        let both = and_parts (is_well_formed_here (branch headers boundary parts)) (are_well_formed_within parts) formed in
+        All-cons (Shows known) (root (stands_for known (branch headers boundary parts))) (map root (trees_in (stand_for known parts)))
+        (values-plain headers (IsFormed-from (branch headers boundary parts) both.0).values) (values_of_parts_show parts both.1)
+
+    values_of_parts_show : (parts : OutlineForest) → are_well_formed_within parts ≡ true → All (Shows known) (map root (trees_in (stand_for known parts)))
+    values_of_parts_show no_outlines formed = All-nil (Shows known)
+    values_of_parts_show (outline_and part parts) formed =
+        let both = and_parts (is_well_formed_within part) (are_well_formed_within parts) formed in
+        let first = trees_within (stands_for known part) in
+        let others = trees_in (stand_for known parts) in
+        subst (All (Shows known)) (sym (map-append root first others))
+        (All-append (Shows known) (map root first) (map root others) (values_show part both.0) (values_of_parts_show parts both.1))
