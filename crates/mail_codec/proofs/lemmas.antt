@@ -9,6 +9,7 @@ pub mod CharsetUtf8
 pub mod CharsetLabels
 pub mod CharsetMarks
 pub mod CharsetSingleByte
+pub mod Tables
 pub mod CharsetUtf16
 pub mod Base64Letters
 pub mod Base64Engine

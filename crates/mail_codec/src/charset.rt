@@ -1,6 +1,7 @@
 //! The charsets of mail text: their labels, and the text of bytes in each.
 //!
-//! Four are known: UTF-8, windows-1252 and UTF-16 in both byte orders.
+//! Four are known: UTF-8, windows-1252 and UTF-16 in both byte orders. A caller may hand in tables of
+//! others in which each byte is one character.
 ghost use Rattle.std.specs.Prelude.{◌≡◌, ◌↔◌, IfOk, IsOk, IsAscii, string_bytes};
 ghost use Rattle.std.specs.Cow.{cow_str_bytes, IsBorrowedStr};
 ghost use Rattle.mail_codec.specs.Charset.{ascii_text, charset_of_label, marked_text_of, text_of};
@@ -10,8 +11,10 @@ ghost use Rattle.mail_codec.specs.private.Marks.{marked, seen};
 mod encode;
 mod labels;
 mod single_byte;
+mod tables;
 mod utf16;
 
+pub use self::tables::{SingleByteTable, table_for_label};
 use self::utf16::ByteOrder;
 use bstr::ByteSlice;
 use std::alloc::{AllocError, Global};

@@ -64,7 +64,7 @@ pub(crate) fn charset_of(label: &[u8]) -> Option<Charset>
     }
 }
 
-fn is_among(labels: &[&str], label: &[u8]) -> bool
+pub(super) fn is_among(labels: &[&str], label: &[u8]) -> bool
     ensures { result ≡ is_among_labels (map (λ x. x.now) labels.now) label.now }
 {
     labels.iter().any(|known| is_same(label, known.as_bytes()))

@@ -1,0 +1,96 @@
+-- The tables of a caller: the one that is read under a label, and what none of them change.
+use Rattle.std.proofs.Common.{◌≡◌, ℕ, zero, suc, ◌+◌, ◌<◌, ◌≤◌, Bool, true, false, not, cond, ltb, List, [], ◌∷◌, map, length, get_or, Option, Some, None, is_some, option_map, find, refl, sym, ap, ◌∙◌, arith, suc-le-suc}
+use Rattle.std.proofs.lemmas.Bool.{cond-true, cond-false, ltb-false}
+use Rattle.std.proofs.lemmas.Option.{none-some}
+use Rattle.std.proofs.lemmas.List.Quantifiers.{position-Some}
+use Rattle.std.proofs.Math.Path.{fun_ext}
+use Rattle.std.specs.List.{position, position_or_len}
+use Rattle.std.specs.Option.{option_or}
+use Rattle.mail_codec.specs.Charset.{charset_of_label, four_charsets, is_among_labels, text_of, trimmed_label}
+use Rattle.mail_codec.specs.Tables.{charsets_with, has_label, table_of_label, table_text}
+use Rattle.mail_codec.specs.declared.charset.Charset.{Charset}
+use Rattle.mail_codec.specs.declared.charset.tables.SingleByteTable.{SingleByteTable}
+
+-- a table has a label that was trimmed
+abbrev pub has : List ℕ → SingleByteTable → Bool
+has trimmed table = is_among_labels (map (λ known. known.now) table.labels.now) trimmed
+
+-- the number of a table, by what was found
+pub table_none : (tables : List SingleByteTable) (label trimmed : List ℕ) → trimmed ≡ trimmed_label label → None ≡ position (has trimmed) tables
+    → None ≡ table_of_label tables label
+unfolding table_of_label
+table_none tables label trimmed t none = go (is_some (charset_of_label label)) refl
+  where
+    go : (b : Bool) → is_some (charset_of_label label) ≡ b → None ≡ table_of_label tables label
+    go true is = sym (cond-true _ _ _ is)
+    go false is = none ∙ ap (λ l. position (has l) tables) t ∙ sym (cond-false _ _ _ is)
+
+pub table_kept : (tables : List SingleByteTable) (label : List ℕ) (charset : Charset) → charset_of_label label ≡ Some charset → None ≡ table_of_label tables label
+unfolding table_of_label
+table_kept tables label charset is = sym (cond-true _ _ _ (ap is_some is))
+
+pub table_some : (tables : List SingleByteTable) (label trimmed : List ℕ) (number : ℕ) → trimmed ≡ trimmed_label label → Some number ≡ position (has trimmed) tables
+    → charset_of_label label ≡ None → Some number ≡ table_of_label tables label
+unfolding table_of_label
+table_some tables label trimmed number t some is = some ∙ ap (λ l. position (has l) tables) t ∙ sym (cond-false _ _ _ (ap is_some is))
+
+-- the first that passes, by its place
+find_at : {A : Type 0} (test : A → Bool) (xs : List A) (i : ℕ) (d : A) → i < length xs → test (get_or xs i d) ≡ true
+    → ((k : ℕ) → k < i → test (get_or xs k d) ≡ false) → find test xs ≡ Some (get_or xs i d)
+find_at test [] i d below here before = absurd (omega arith)
+find_at test (x ∷ xs) zero d below here before = cond-true _ _ _ here
+find_at test (x ∷ xs) (suc i) d below here before =
+    cond-false _ _ _ (before 0 (omega arith)) ∙ find_at test xs i d (omega arith) here (λ k lt. before (suc k) (suc-le-suc lt))
+
+find_past : {A : Type 0} (test : A → Bool) (xs : List A) → length xs ≤ position_or_len test xs → find test xs ≡ None
+find_past test [] past = refl
+find_past test (x ∷ xs) past = go (test x) refl (find_past test xs)
+  where
+    go : (b : Bool) → test x ≡ b → (length xs ≤ position_or_len test xs → find test xs ≡ None) → find test (x ∷ xs) ≡ None
+    go true is later = let first : position_or_len test (x ∷ xs) ≡ 0 = ap (λ t. cond (not t) (1 + position_or_len test xs) 0) is in absurd (omega (arith, first, past))
+    go false is later =
+        let next : position_or_len test (x ∷ xs) ≡ 1 + position_or_len test xs = ap (λ t. cond (not t) (1 + position_or_len test xs) 0) is in
+        cond-false _ _ _ is ∙ later (omega (arith, next, past))
+
+find_none : {A : Type 0} (test : A → Bool) (xs : List A) → position test xs ≡ None → find test xs ≡ None
+find_none test xs none = go (ltb (position_or_len test xs) (length xs)) refl
+  where
+    go : (b : Bool) → ltb (position_or_len test xs) (length xs) ≡ b → find test xs ≡ None
+    go true is = let clash : None ≡ Some (position_or_len test xs) = sym none ∙ cond-true _ _ _ is in absurd (none-some _ clash)
+    go false is = let past = ltb-false _ _ is in find_past test xs (omega arith)
+
+-- with a table that has the label
+pub charsets-table : (tables : List SingleByteTable) (label : List ℕ) (number : ℕ) (d : SingleByteTable) → Some number ≡ table_of_label tables label
+    → (charset_of_label label ≡ None) × (charsets_with tables label ≡ Some (table_text (get_or tables number d)))
+unfolding table_of_label charsets_with
+charsets-table tables label number d some = go (charset_of_label label) refl
+  where
+    go : (o : Option Charset) → charset_of_label label ≡ o → (charset_of_label label ≡ None) × (charsets_with tables label ≡ Some (table_text (get_or tables number d)))
+    go (Some charset) is = let clash : None ≡ Some number = sym (some ∙ cond-true _ _ _ (ap is_some is)) in absurd (none-some _ clash)
+    go None is =
+        let found = position-Some (has_label label) tables number d (sym (some ∙ cond-false _ _ _ (ap is_some is))) in (
+          is,
+          ap (λ o. option_or (option_map text_of o) (option_map table_text (find (has_label label) tables))) is
+              ∙ ap (option_map table_text) (find_at (has_label label) tables number d found.0 found.1 found.2),
+        )
+
+-- with one of the four
+pub charsets-kept : (tables : List SingleByteTable) (label : List ℕ) (charset : Charset) → charset_of_label label ≡ Some charset → charsets_with tables label ≡ Some (text_of charset)
+unfolding charsets_with
+charsets-kept tables label charset is = ap (λ o. option_or (option_map text_of o) (option_map table_text (find (has_label label) tables))) is
+
+-- with none of them
+pub charsets-none : (tables : List SingleByteTable) (label : List ℕ) → charset_of_label label ≡ None → None ≡ table_of_label tables label → charsets_with tables label ≡ None
+unfolding table_of_label charsets_with
+charsets-none tables label is none =
+    ap (λ o. option_or (option_map text_of o) (option_map table_text (find (has_label label) tables))) is
+    ∙ ap (option_map table_text) (find_none (has_label label) tables (sym (none ∙ cond-false _ _ _ (ap is_some is))))
+
+-- without tables the four are known
+pub charsets-four : charsets_with [] ≡ four_charsets
+unfolding charsets_with
+charsets-four = fun_ext (λ label. same (four_charsets label))
+  where
+    same : (o : Option (List ℕ → List ℕ)) → option_or o None ≡ o
+    same None = refl
+    same (Some reading) = refl

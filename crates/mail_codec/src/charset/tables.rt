@@ -1,0 +1,124 @@
+//! Charsets in which each byte is one character, handed in by the caller as tables.
+ghost use Rattle.std.specs.Prelude.{◌≡◌, ◌<◌, map, length, IfOk, IfSome, string_bytes};
+ghost use Rattle.std.specs.List.{position};
+ghost use Rattle.mail_codec.specs.Charset.{is_among_labels, marked};
+ghost use Rattle.mail_codec.specs.Tables.{table_of_label, table_text};
+
+use super::labels::is_among;
+use super::{Charset, marked, single_byte};
+use std::alloc::{AllocError, Global};
+
+/// A charset in which each byte is one character: its labels, and the characters of its high bytes.
+///
+/// A byte below 0x80 is its own character, and byte 0x80 + n is the character `high[n]`. Where a
+/// byte has no character, U+FFFD stands in the table.
+#[derive(Clone, Copy)]
+pub struct SingleByteTable<'t> {
+    /// The labels of the charset, without whitespace around them; ASCII case does not count.
+    pub labels: &'t [&'t str],
+    /// The characters of the bytes from 0x80 on, in order.
+    pub high: &'t [char; 128],
+}
+
+impl<'t> SingleByteTable<'t> {
+    /// Returns the text of the bytes under this table, or in the charset whose byte order mark they
+    /// begin with (the WHATWG Encoding Standard, section 6).
+    ///
+    /// A byte order mark is removed, and overrules the table. Takes memory for the text.
+    ///
+    /// # Errors
+    ///
+    /// Where it runs out of memory.
+    ///
+    /// # Examples
+    ///
+    /// ```rust
+    /// use mail_codec::charset::SingleByteTable;
+    ///
+    /// let table = SingleByteTable { labels: &["x-euro"], high: &['€'; 128] };
+    /// assert_eq!(rt; table.decode(alloc, b"5 \x80")?.as_str(), "5 €");
+    /// assert_eq!(rt; table.decode(alloc, b"\xEF\xBB\xBF\xC3\xA9")?.as_str(), "é");
+    /// ```
+    pub fn decode(&self, alloc: Global, bytes: &[u8]) -> Result<String, AllocError>
+        ensures { IfOk result (λ t. string_bytes t ≡ marked (table_text self.now) bytes.now) }
+    {
+        match marked(bytes) {
+            Some((charset, rest)) => charset.decode_without_bom_handling(alloc, rest),
+            None => self.decode_without_bom_handling(alloc, bytes),
+        }
+    }
+
+    /// Returns the text of the bytes under this table, a byte order mark read as any other bytes are
+    /// (the WHATWG Encoding Standard, section 9.1).
+    ///
+    /// Takes memory for the text.
+    ///
+    /// # Errors
+    ///
+    /// Where it runs out of memory.
+    ///
+    /// # Examples
+    ///
+    /// ```rust
+    /// use mail_codec::charset::SingleByteTable;
+    ///
+    /// let table = SingleByteTable { labels: &["x-euro"], high: &['€'; 128] };
+    /// let text = table.decode_without_bom_handling(alloc, b"\xFF\xFEa")?;
+    /// assert_eq!(rt; text.as_str(), "€€a");
+    /// ```
+    pub fn decode_without_bom_handling(
+        &self,
+        alloc: Global,
+        bytes: &[u8],
+    ) -> Result<String, AllocError>
+        ensures { IfOk result (λ t. string_bytes t ≡ table_text self.now bytes.now) }
+    {
+        single_byte::decode(alloc, self.high, bytes)?.into_owned(alloc)
+    }
+
+    /// Whether the table has the label.
+    fn has(&self, label: &[u8]) -> bool
+        ensures { result
+            ≡ is_among_labels (map (λ known. known.now) self.now.labels.now) label.now }
+    {
+        is_among(self.labels, label)
+    }
+}
+
+/// Returns the number, from 0, of the table that is read under the label: the first that has it.
+/// `None` where no table has it, and where one of the four charsets has it, which wins.
+///
+/// ASCII whitespace around the label (space, tab, LF, FF, CR) and ASCII case do not count; the
+/// labels of the tables are not trimmed. Takes no memory.
+///
+/// # Examples
+///
+/// ```rust
+/// use mail_codec::charset::{SingleByteTable, table_for_label};
+///
+/// let tables = [SingleByteTable { labels: &["x-euro", "utf-8"], high: &['€'; 128] }];
+/// assert_eq!(rt; table_for_label(b" X-Euro ", &tables), Some(0));
+/// assert_eq!(rt; table_for_label(b"utf-8", &tables), None);
+/// assert_eq!(rt; table_for_label(b"koi8-r", &tables), None);
+/// ```
+pub fn table_for_label(label: &[u8], tables: &[SingleByteTable<'_>]) -> Option<usize>
+    ensures number { result ≡ table_of_label tables.now label.now }
+    ensures bounds { IfSome result (λ number. number < length tables.now) }
+{
+    let Some(number) = first_with(tables, label.trim_ascii()) else {
+        return None;
+    };
+    match Charset::for_label(label) {
+        Some(_) => None,
+        None => Some(number),
+    }
+}
+
+/// The number of the first table that has the label.
+fn first_with(tables: &[SingleByteTable<'_>], label: &[u8]) -> Option<usize>
+    ensures number { result ≡ position (λ table.
+        is_among_labels (map (λ known. known.now) table.labels.now) label.now) tables.now }
+    ensures bounds { IfSome result (λ number. number < length tables.now) }
+{
+    tables.iter().position(|table| table.has(label))
+}
