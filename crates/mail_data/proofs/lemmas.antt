@@ -1,0 +1,3 @@
+pub mod FileNames
+pub mod Files
+pub mod Mailbox

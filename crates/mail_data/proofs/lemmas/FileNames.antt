@@ -1,0 +1,200 @@
+-- Lemmas on safe names of files.
+use Rattle.std.proofs.Common.{◌≡◌, ◌≢◌, ℕ, ◌+◌, ◌-◌, ◌<◌, ◌≤◌, Bool, true, false, not, List, [], ◌∷◌, ◌++◌, ◌||◌, length, get_or, map, refl, sym, ap, ◌∙◌, subst, arith, append_assoc, length-append, inl, inr}
+use Rattle.std.specs.Prelude.{nat_le, codes}
+use Rattle.std.specs.Char.{encode_utf8, len_utf8}
+use Rattle.std.specs.List.{list_all}
+use Rattle.std.specs.Str.{chars, encode_utf8_all, IsUtf8, bytes_eq}
+use Rattle.std.proofs.lemmas.Bool.{cond-true, cond-false, cases_Bool, le-leb, lt-leb, leb-true, and_parts, and_from, or_parts, or_cases, false≢true}
+use Rattle.std.proofs.lemmas.List.{append-nil}
+use Rattle.std.proofs.lemmas.Slice.Eq.{bytes_eq-Decides}
+use Rattle.std.proofs.lemmas.Str.{chars-nil, chars-encodes, chars_past_char, encodes-chars, scalars-chars, length-encode}
+use lib.Utf8.{scalar, scalars}
+use Rattle.mail_codec.specs.Places.{is_empty}
+use Rattle.mail_data.specs.FileNames.{front_name, front_within, is_reserved, is_unsafe, made_safe, safe_name, IsSafeName}
+
+-- what was written, and then what still fits of the rest
+abbrev pub filled : List ℕ → List ℕ → List ℕ
+filled out rest = out ++ encode_utf8_all (front_within (255 - length out) (map made_safe (chars rest)))
+
+pub filled-start : (name out rest : List ℕ) → out ≡ [] → rest ≡ name → filled out rest ≡ front_name name
+unfolding front_name
+filled-start name out rest none all = ap (λ (o : List ℕ). filled o rest) none ∙ ap (filled []) all
+
+pub filled-end : (out rest : List ℕ) → rest ≡ [] → filled out rest ≡ out
+filled-end out rest none = ap (filled out) none ∙ ap (λ (cs : List ℕ). out ++ encode_utf8_all (front_within (255 - length out) (map made_safe cs))) chars-nil ∙ append-nil out
+
+-- a character that no longer fits ends the name
+pub filled-full : (out rest next : List ℕ) (c : ℕ) → IsUtf8 rest → rest ≡ encode_utf8 c ++ next → length out ≤ 255
+    → 255 < length out + len_utf8 (made_safe c) → filled out rest ≡ out
+filled-full out rest next c utf8 e small big =
+    let d = made_safe c in
+    let n = len_utf8 d in
+    ap (λ (cs : List ℕ). out ++ encode_utf8_all (front_within (255 - length out) (map made_safe cs))) (chars_past_char rest next c utf8 e)
+    ∙ ap (λ (cs : List ℕ). out ++ encode_utf8_all cs) (cond-false (nat_le n (255 - length out)) _ _ (lt-leb n (255 - length out) (omega arith)))
+    ∙ append-nil out
+
+-- a character that fits
+pub filled-more : (out rest next new : List ℕ) (c : ℕ) → IsUtf8 rest → rest ≡ encode_utf8 c ++ next → new ≡ out ++ encode_utf8 (made_safe c)
+    → length out + len_utf8 (made_safe c) ≤ 255 → filled new next ≡ filled out rest
+filled-more out rest next new c utf8 e push fits =
+    let d = made_safe c in
+    let n = len_utf8 d in
+    let more = map made_safe (chars next) in
+    let len : length new ≡ length out + n = ap length push ∙ length-append out (encode_utf8 d) ∙ ap (λ k. length out + k) (length-encode d) in
+    let room : 255 - length new ≡ 255 - length out - n = omega arith in
+    ap (λ k. new ++ encode_utf8_all (front_within k more)) room
+    ∙ ap (λ (o : List ℕ). o ++ encode_utf8_all (front_within (255 - length out - n) more)) push
+    ∙ append_assoc out (encode_utf8 d) (encode_utf8_all (front_within (255 - length out - n) more))
+    ∙ ap (λ (cs : List ℕ). out ++ encode_utf8_all cs)
+    (sym (ap (λ (cs : List ℕ). front_within (255 - length out) (map made_safe cs)) (chars_past_char rest next c utf8 e)
+    ∙ cond-true (nat_le n (255 - length out)) _ _ (le-leb n (255 - length out) (omega arith))))
+
+-- ---- a name that was made safe is safe
+
+all_safe : List ℕ → Bool
+all_safe cs = list_all (λ c. not (is_unsafe c)) cs
+
+made_safe-safe : (c : ℕ) → not (is_unsafe (made_safe c)) ≡ true
+made_safe-safe c = elim (cases_Bool (is_unsafe c)) [
+  | inl u ↦ ap (λ d. not (is_unsafe d)) (cond-true (is_unsafe c) 95 c u)
+  | inr s ↦ ap (λ d. not (is_unsafe d)) (cond-false (is_unsafe c) 95 c s) ∙ ap not s
+]
+
+front_within-safe : (room : ℕ) (cs : List ℕ) → all_safe (front_within room (map made_safe cs)) ≡ true
+unfolding all_safe
+front_within-safe room [] = refl
+front_within-safe room (c ∷ cs) = elim (cases_Bool (nat_le (len_utf8 (made_safe c)) room)) [
+  | inl f ↦ ap all_safe (cond-true (nat_le (len_utf8 (made_safe c)) room) (made_safe c ∷ front_within (room - len_utf8 (made_safe c)) (map made_safe cs)) [] f)
+      ∙ and_from _ _ (made_safe-safe c) (front_within-safe (room - len_utf8 (made_safe c)) cs)
+  | inr n ↦ ap all_safe (cond-false (nat_le (len_utf8 (made_safe c)) room) (made_safe c ∷ front_within (room - len_utf8 (made_safe c)) (map made_safe cs)) [] n)
+]
+
+made_safe-scalar : (c : ℕ) → scalar c ≡ true → scalar (made_safe c) ≡ true
+made_safe-scalar c h = elim (cases_Bool (is_unsafe c)) [
+  | inl u ↦ ap scalar (cond-true (is_unsafe c) 95 c u)
+  | inr s ↦ ap scalar (cond-false (is_unsafe c) 95 c s) ∙ h
+]
+
+front_within-scalars : (room : ℕ) (cs : List ℕ) → scalars cs ≡ true → scalars (front_within room (map made_safe cs)) ≡ true
+front_within-scalars room [] h = refl
+front_within-scalars room (c ∷ cs) h =
+    let parts = and_parts (scalar c) (scalars cs) h in
+    let d = made_safe c in
+    let more = front_within (room - len_utf8 d) (map made_safe cs) in
+    elim (cases_Bool (nat_le (len_utf8 d) room)) [
+      | inl f ↦ ap scalars (cond-true (nat_le (len_utf8 d) room) (d ∷ more) [] f)
+          ∙ and_from (scalar d) (scalars more) (made_safe-scalar c parts.0) (front_within-scalars (room - len_utf8 d) cs parts.1)
+      | inr n ↦ ap scalars (cond-false (nat_le (len_utf8 d) room) (d ∷ more) [] n)
+    ]
+
+front_within-short : (room : ℕ) (cs : List ℕ) → length (encode_utf8_all (front_within room cs)) ≤ room
+front_within-short room [] = omega arith
+front_within-short room (c ∷ cs) =
+    let more = front_within (room - len_utf8 c) cs in
+    elim (cases_Bool (nat_le (len_utf8 c) room)) [
+      | inl f ↦
+          let e = ap (λ (ds : List ℕ). length (encode_utf8_all ds)) (cond-true (nat_le (len_utf8 c) room) (c ∷ more) [] f) in
+          let ih = front_within-short (room - len_utf8 c) cs in
+          let le = leb-true (len_utf8 c) room f in
+          omega (arith, e, ih, le, length-append (encode_utf8 c) (encode_utf8_all more), length-encode c)
+      | inr n ↦ let e = ap (λ (ds : List ℕ). length (encode_utf8_all ds)) (cond-false (nat_le (len_utf8 c) room) (c ∷ more) [] n) in omega (arith, e)
+    ]
+
+-- ---- a name that is safe stays
+
+not_true : (b : Bool) → not b ≡ true → b ≡ false
+not_true true h = absurd (false≢true h)
+not_true false h = refl
+
+made_safe-same : (cs : List ℕ) → all_safe cs ≡ true → map made_safe cs ≡ cs
+unfolding all_safe
+made_safe-same [] h = refl
+made_safe-same (c ∷ cs) h =
+    let parts = and_parts (not (is_unsafe c)) (all_safe cs) h in
+    ap (λ (d : ℕ). d ∷ map made_safe cs) (cond-false (is_unsafe c) 95 c (not_true (is_unsafe c) parts.0)) ∙ ap (λ (ds : List ℕ). c ∷ ds) (made_safe-same cs parts.1)
+
+front_within-all : (room : ℕ) (cs : List ℕ) → length (encode_utf8_all cs) ≤ room → front_within room cs ≡ cs
+front_within-all room [] h = refl
+front_within-all room (c ∷ cs) h =
+    let len = length-append (encode_utf8 c) (encode_utf8_all cs) in
+    let one = length-encode c in
+    cond-true (nat_le (len_utf8 c) room) (c ∷ front_within (room - len_utf8 c) cs) [] (le-leb (len_utf8 c) room (omega arith))
+    ∙ ap (λ (ds : List ℕ). c ∷ ds) (front_within-all (room - len_utf8 c) cs (omega arith))
+
+-- ---- the whole name
+
+single : IsSafeName (95 ∷ [])
+unfolding chars
+single = record {
+  some = λ e. let h = ap length e in omega arith;
+  not_here = λ e. let h : ◌≡◌ {A = ℕ} 95 46 = ap (λ (l : List ℕ). get_or l 0 0) e in omega arith;
+  not_above = λ e. let h : ◌≡◌ {A = ℕ} 95 46 = ap (λ (l : List ℕ). get_or l 0 0) e in omega arith;
+  short = omega arith;
+  characters = refl;
+}
+
+front_name-safe : (name : List ℕ) → IsUtf8 name → list_all (λ c. not (is_unsafe c)) (chars (front_name name)) ≡ true
+unfolding front_name all_safe
+front_name-safe name utf8 =
+    ap all_safe (chars-encodes (front_within 255 (map made_safe (chars name))) (front_within-scalars 255 (chars name) (scalars-chars name utf8)))
+    ∙ front_within-safe 255 (chars name)
+
+front_name-short : (name : List ℕ) → length (front_name name) ≤ 255
+unfolding front_name
+front_name-short name = front_within-short 255 (map made_safe (chars name))
+
+not_reserved : (name : List ℕ) → is_reserved name ≡ false → (name ≢ []) × (name ≢ codes ".") × (name ≢ codes "..")
+not_reserved name h =
+    let parts = or_parts (is_empty name || bytes_eq name (codes ".")) (bytes_eq name (codes "..")) h in
+    let more = or_parts (is_empty name) (bytes_eq name (codes ".")) parts.0 in
+    (
+      (λ e. false≢true (sym more.0 ∙ ap is_empty e)),
+      (λ e. false≢true (sym more.1 ∙ ap (λ (n : List ℕ). bytes_eq n (codes ".")) e)),
+      (λ e. false≢true (sym parts.1 ∙ ap (λ (n : List ℕ). bytes_eq n (codes "..")) e)),
+    )
+
+pub safe_name-safe : (name : List ℕ) → IsUtf8 name → IsSafeName (safe_name name)
+unfolding safe_name
+safe_name-safe name utf8 = elim (cases_Bool (is_reserved (front_name name))) [
+  | inl r ↦ subst IsSafeName (sym (cond-true (is_reserved (front_name name)) (codes "_") (front_name name) r)) single
+  | inr n ↦ subst IsSafeName (sym (cond-false (is_reserved (front_name name)) (codes "_") (front_name name) n)) (record {
+      some = (not_reserved (front_name name) n).0;
+      not_here = (not_reserved (front_name name) n).1;
+      not_above = (not_reserved (front_name name) n).2;
+      short = front_name-short name;
+      characters = front_name-safe name utf8;
+    })
+]
+
+front_name-same : (name : List ℕ) → IsUtf8 name → IsSafeName name → front_name name ≡ name
+unfolding front_name all_safe
+front_name-same name utf8 h =
+    let short = h.short in
+    let len = ap length (encodes-chars name utf8) in
+    ap (λ (cs : List ℕ). encode_utf8_all (front_within 255 cs)) (made_safe-same (chars name) h.characters)
+    ∙ ap encode_utf8_all (front_within-all 255 (chars name) (omega arith)) ∙ encodes-chars name utf8
+
+bytes_eq-true : (a b : List ℕ) → bytes_eq a b ≡ true → a ≡ b
+bytes_eq-true a b h = (bytes_eq-Decides a b).0 h
+
+empty_nil : (name : List ℕ) → is_empty name ≡ true → name ≡ []
+empty_nil [] h = refl
+empty_nil (b ∷ name) h = absurd (false≢true h)
+
+safe_not_reserved : (name : List ℕ) → IsSafeName name → is_reserved name ≡ false
+safe_not_reserved name h = elim (cases_Bool (is_reserved name)) [
+  | inr n ↦ n
+  | inl r ↦ absurd (elim (or_cases (is_empty name || bytes_eq name (codes ".")) (bytes_eq name (codes "..")) r) [
+      | inr above ↦ h.not_above (bytes_eq-true name (codes "..") above)
+      | inl more ↦ elim (or_cases (is_empty name) (bytes_eq name (codes ".")) more) [
+        | inl none ↦ h.some (empty_nil name none)
+        | inr here ↦ h.not_here (bytes_eq-true name (codes ".") here)
+      ]
+    ])
+]
+
+pub safe_name-same : (name : List ℕ) → IsUtf8 name → IsSafeName name → safe_name name ≡ name
+unfolding safe_name
+safe_name-same name utf8 h =
+    let same = front_name-same name utf8 h in
+    cond-false (is_reserved (front_name name)) (codes "_") (front_name name) (ap is_reserved same ∙ safe_not_reserved name h) ∙ same

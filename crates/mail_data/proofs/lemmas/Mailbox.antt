@@ -1,0 +1,285 @@
+-- Lemmas on mailboxes: where a mail ends, and that the mails make up the mailbox.
+use Rattle.std.proofs.Common.{◌≡◌, ℕ, zero, suc, ◌+◌, ◌-◌, ◌<◌, ◌≤◌, Bool, true, false, cond, eqb, List, [], ◌∷◌, ◌&&◌, ◌||◌, length, take, drop, Some, None, refl, sym, ap, ◌∙◌, arith, length-drop, ◌++◌, ◌⊎◌, inl, inr}
+use Rattle.std.specs.Prelude.{nat_lt, nat_eq, ◌==◌}
+use Rattle.std.specs.List.{flat_map}
+use Rattle.std.proofs.lemmas.Bool.{cond-true, cond-false, cases_Bool, lt-ltb, ltb-true, ne_eqb, and_parts, and_from, and_left, and_right, or_right, false≢true}
+use Rattle.std.proofs.lemmas.List.{append_assoc, drop-drop, drop_all, take_rest, take-append-drop}
+use Rattle.mail_codec.specs.Places.{stands, begins, first_place, least, byte_place, is_empty}
+use Rattle.mail_codec.proofs.lemmas.Places.{least-is, least-passes, first_place-before, first_place-passes}
+use Rattle.mail_codec.proofs.lemmas.WordSearches.{place_none, place_some}
+use Rattle.mail_data.specs.Mailbox.{mark, empty_line, ends_mail, starts_line, mail_length, line_length, entry_bytes, after_line, after_mail, after_ending, entry_at, next_entry, entries_within, entries_from, front_length, entries}
+
+-- ---- where a mail ends
+
+pub ends_mail-none : (bytes : List ℕ) (n : ℕ) → n ≡ empty_line bytes → n ≡ 0 → false ≡ ends_mail bytes
+unfolding ends_mail
+ends_mail-none bytes n e none =
+    let zero : empty_line bytes ≡ 0 = sym e ∙ none in
+    sym (and_left (nat_lt 0 (empty_line bytes)) (is_empty (drop (empty_line bytes) bytes) || stands mark (drop (empty_line bytes) bytes)) (ap (nat_lt 0) zero))
+
+is_empty-length : (bytes : List ℕ) → is_empty bytes ≡ nat_eq (length bytes) 0
+is_empty-length [] = refl
+is_empty-length (b ∷ bytes) = sym (ne_eqb (length (b ∷ bytes)) 0 (λ e. absurd (omega arith)))
+
+-- the two tests after an empty line
+ends_mail-some : (bytes after : List ℕ) (n : ℕ) → n ≡ empty_line bytes → (n ≡ 0 → ⊥) → take (length bytes - n) (drop n bytes) ≡ after
+    → ends_mail bytes ≡ (is_empty after || stands mark after)
+unfolding ends_mail
+ends_mail-some bytes after n e some same =
+    let pos : 0 < n = omega arith in
+    let rest : drop (empty_line bytes) bytes ≡ after = ap (λ k. drop k bytes) (sym e) ∙ sym (take_rest bytes n) ∙ same in
+    ap (λ t. t && (is_empty (drop (empty_line bytes) bytes) || stands mark (drop (empty_line bytes) bytes))) (ap (nat_lt 0) (sym e) ∙ lt-ltb 0 n pos)
+    ∙ ap (λ (r : List ℕ). is_empty r || stands mark r) rest
+
+pub ends_mail-empty : (bytes after : List ℕ) (n : ℕ) (r : Bool) → n ≡ empty_line bytes → (n ≡ 0 → ⊥) → take (length bytes - n) (drop n bytes) ≡ after
+    → r ≡ nat_eq (length after) 0 → r ≡ true → r ≡ ends_mail bytes
+ends_mail-empty bytes after n r e some same is holds =
+    holds ∙ sym (ends_mail-some bytes after n e some same ∙ ap (λ t. t || stands mark after) (is_empty-length after ∙ sym is ∙ holds))
+
+pub ends_mail-marked : (bytes after : List ℕ) (n : ℕ) (r s : Bool) → n ≡ empty_line bytes → (n ≡ 0 → ⊥) → take (length bytes - n) (drop n bytes) ≡ after
+    → r ≡ nat_eq (length after) 0 → r ≡ false → s ≡ stands mark after → s ≡ ends_mail bytes
+ends_mail-marked bytes after n r s e some same is fails marked =
+    marked ∙ sym (ends_mail-some bytes after n e some same ∙ ap (λ t. t || stands mark after) (is_empty-length after ∙ sym is ∙ fails))
+
+-- ---- the first line
+
+pub line_length-some : (bytes : List ℕ) (p : ℕ) → Some p ≡ byte_place bytes 10 → p + 1 ≡ line_length bytes
+unfolding line_length
+line_length-some bytes p found =
+    let at = place_some (begins (λ b. b == 10)) bytes p found in
+    let same = at.0 in
+    let low = at.1 in
+    omega arith
+
+pub line_length-none : (bytes : List ℕ) → None ≡ byte_place bytes 10 → length bytes ≡ line_length bytes
+unfolding line_length
+line_length-none bytes none = let all = place_none (begins (λ b. b == 10)) bytes none in omega arith
+
+-- ---- the end of a mail
+
+-- a mail ends at the line that starts at p
+abbrev pub is_end : List ℕ → ℕ → Bool
+is_end bytes p = starts_line bytes p && ends_mail (drop p bytes)
+
+-- no mail ends before a place
+abbrev pub NoEnd : List ℕ → ℕ → Type 0
+NoEnd bytes to = (k : ℕ) → k < to → is_end bytes k ≡ false
+
+-- no line starts where no LF stands before
+no_start : (bytes : List ℕ) (at k : ℕ) → at < k → k ≤ at + first_place (begins (λ b. b == 10)) (drop at bytes) → starts_line bytes k ≡ false
+no_start bytes at k low high =
+    let before : begins (λ b. b == 10) (drop (k - 1 - at) (drop at bytes)) ≡ false =
+    first_place-before (begins (λ b. b == 10)) (drop at bytes) (k - 1 - at) (omega arith) in
+    let same : at + (k - 1 - at) ≡ k - 1 = omega arith in
+    ap (λ t. t || begins (λ b. b == 10) (drop (k - 1) bytes)) (ne_eqb k 0 (λ e. absurd (omega arith)))
+    ∙ ap (λ n. begins (λ b. b == 10) (drop n bytes)) (sym same)
+    ∙ ap (begins (λ b. b == 10)) (sym (drop-drop (k - 1 - at) at bytes)) ∙ before
+
+-- no mail ends up to the next line
+no_end_to : (bytes : List ℕ) (at to : ℕ) → NoEnd bytes at → ends_mail (drop at bytes) ≡ false
+    → to ≤ suc (at + first_place (begins (λ b. b == 10)) (drop at bytes)) → NoEnd bytes to
+no_end_to bytes at to none not_here within k low = pick (compare_to k at)
+  where
+    compare_to : (k at : ℕ) → (k < at) ⊎ ((k ≡ at) ⊎ (at < k))
+    compare_to k at = elim (cases_Bool (nat_lt k at)) [
+      | inl l ↦ inl (ltb-true k at l)
+      | inr g ↦ elim (cases_Bool (nat_lt at k)) [
+        | inl m ↦ inr (inr (ltb-true at k m))
+        | inr h ↦ inr (inl (let a = ltb_false k at g in let b = ltb_false at k h in omega arith))
+      ]
+    ]
+      where
+        ltb_false : (a b : ℕ) → nat_lt a b ≡ false → b ≤ a
+        ltb_false a b e = grind (arith, e)
+
+    pick : (k < at) ⊎ ((k ≡ at) ⊎ (at < k)) → is_end bytes k ≡ false
+    pick (inl l) = none k l
+    pick (inr (inl e)) = ap (is_end bytes) e ∙ and_right (starts_line bytes at) (ends_mail (drop at bytes)) not_here
+    pick (inr (inr g)) = and_left (starts_line bytes k) (ends_mail (drop k bytes)) (no_start bytes at k g (omega arith))
+
+pub no_end_next : (bytes : List ℕ) (at p : ℕ) → NoEnd bytes at → ends_mail (drop at bytes) ≡ false → Some p ≡ byte_place (drop at bytes) 10
+    → NoEnd bytes (at + (p + 1))
+no_end_next bytes at p none not_here found =
+    let place = place_some (begins (λ b. b == 10)) (drop at bytes) p found in
+    let same = place.0 in
+    no_end_to bytes at (at + (p + 1)) none not_here (omega arith)
+
+pub next_within : (bytes : List ℕ) (at p : ℕ) → at ≤ length bytes → Some p ≡ byte_place (drop at bytes) 10 → at + (p + 1) ≤ length bytes
+next_within bytes at p within found =
+    let place = place_some (begins (λ b. b == 10)) (drop at bytes) p found in
+    let same = place.0 in
+    let low = place.1 in
+    let len = length-drop at bytes in
+    omega arith
+
+pub starts_next : (bytes : List ℕ) (at p : ℕ) → Some p ≡ byte_place (drop at bytes) 10 → starts_line bytes (at + (p + 1)) ≡ true
+starts_next bytes at p found =
+    let place = place_some (begins (λ b. b == 10)) (drop at bytes) p found in
+    let is = first_place-passes (begins (λ b. b == 10)) (drop at bytes) place.1 in
+    let same : at + (p + 1) - 1 ≡ at + p = omega arith in
+    or_right (eqb (at + (p + 1)) 0) (begins (λ b. b == 10) (drop (at + (p + 1) - 1) bytes))
+    (ap (λ n. begins (λ b. b == 10) (drop n bytes)) same ∙ ap (begins (λ b. b == 10)) (sym (drop-drop p at bytes))
+    ∙ ap (λ n. begins (λ b. b == 10) (drop n (drop at bytes))) place.0 ∙ is)
+
+pub mail_length-found : (bytes : List ℕ) (at : ℕ) → at ≤ length bytes → NoEnd bytes at → starts_line bytes at ≡ true → ends_mail (drop at bytes) ≡ true
+    → at ≡ mail_length bytes
+unfolding mail_length
+mail_length-found bytes at within none starts ends =
+    sym (least-is (is_end bytes) (length bytes) at within none (λ low. and_from (starts_line bytes at) (ends_mail (drop at bytes)) starts ends))
+
+pub mail_length-all : (bytes : List ℕ) (at : ℕ) → at ≤ length bytes → NoEnd bytes at → ends_mail (drop at bytes) ≡ false → None ≡ byte_place (drop at bytes) 10
+    → length bytes ≡ mail_length bytes
+unfolding mail_length
+mail_length-all bytes at within none not_here nowhere =
+    let all = place_none (begins (λ b. b == 10)) (drop at bytes) nowhere in
+    let len = length-drop at bytes in
+    sym (least-is (is_end bytes) (length bytes) (length bytes) (omega arith) (no_end_to bytes at (length bytes) none not_here (omega arith)) (λ low. absurd (omega arith)))
+
+-- ---- the mails
+
+mail_length-≤ : (bytes : List ℕ) → mail_length bytes ≤ length bytes
+unfolding mail_length
+mail_length-≤ bytes = least_le (is_end bytes) (length bytes)
+  where
+    least_le : (test : ℕ → Bool) (bound : ℕ) → least test bound ≤ bound
+    least_le test zero = omega arith
+    least_le test (suc bound) = elim (test 0) as (λ t. cond t 0 (suc (least (λ n. test (suc n)) bound)) ≤ suc bound) [
+      | true ↦ omega arith
+      | false ↦ let h = least_le (λ n. test (suc n)) bound in omega arith
+    ]
+
+-- the bytes are at their end or begin with a separator
+abbrev opens : List ℕ → Bool
+opens bytes = is_empty bytes || stands mark bytes
+
+ends_mail-opens : (bytes : List ℕ) → ends_mail bytes ≡ true → opens (after_ending bytes) ≡ true
+unfolding ends_mail
+ends_mail-opens bytes h = (and_parts (nat_lt 0 (empty_line bytes)) (opens (after_ending bytes)) h).1
+
+mail_ended : (bytes : List ℕ) → mail_length bytes < length bytes → ends_mail (after_mail bytes) ≡ true
+unfolding mail_length
+mail_ended bytes l = (and_parts (starts_line bytes (mail_length bytes)) (ends_mail (after_mail bytes)) (least-passes (is_end bytes) (length bytes) l)).1
+
+after_ending-nil : after_ending [] ≡ []
+unfolding empty_line
+after_ending-nil = refl
+
+-- after a mail and its empty line stands a separator or nothing
+after_opens : (bytes : List ℕ) → opens (after_ending (after_mail bytes)) ≡ true
+after_opens bytes = elim (cases_Bool (nat_lt (mail_length bytes) (length bytes))) [
+  | inl l ↦ ends_mail-opens (after_mail bytes) (mail_ended bytes (ltb-true (mail_length bytes) (length bytes) l))
+  | inr g ↦ let none : after_mail bytes ≡ [] = drop_all (mail_length bytes) bytes (grind (arith, g)) in
+      ap (λ (r : List ℕ). opens (after_ending r)) none ∙ ap opens after_ending-nil
+]
+
+line_length-some_bytes : (bytes : List ℕ) → 0 < length bytes → 0 < line_length bytes
+unfolding line_length
+line_length-some_bytes bytes some = omega arith
+
+stands-some : (bytes : List ℕ) → stands mark bytes ≡ true → 0 < length bytes
+stands-some [] h = absurd (false≢true h)
+stands-some (b ∷ bytes) h = omega arith
+
+-- each mail takes some bytes
+next_entry-shorter : (bytes : List ℕ) → stands mark bytes ≡ true → length (next_entry bytes) < length bytes
+next_entry-shorter bytes h =
+    let some = line_length-some_bytes bytes (stands-some bytes h) in
+    let low = stands-some bytes h in
+    let body = after_line bytes in
+    let a = length-drop (line_length bytes) bytes in
+    let b = length-drop (mail_length body) body in
+    let c = length-drop (empty_line (after_mail body)) (after_mail body) in
+    omega arith
+
+entries_within-enough : (n m : ℕ) (bytes : List ℕ) → length bytes ≤ n → length bytes ≤ m → entries_within n bytes ≡ entries_within m bytes
+entries_within-enough zero zero bytes a b = refl
+entries_within-enough zero (suc m) bytes a b = elim (cases_Bool (stands mark bytes)) [
+  | inl h ↦ absurd (let low = stands-some bytes h in omega arith)
+  | inr h ↦ sym (cond-false _ _ _ h)
+]
+entries_within-enough (suc n) zero bytes a b = elim (cases_Bool (stands mark bytes)) [
+  | inl h ↦ absurd (let low = stands-some bytes h in omega arith)
+  | inr h ↦ cond-false _ _ _ h
+]
+entries_within-enough (suc n) (suc m) bytes a b = elim (cases_Bool (stands mark bytes)) [
+  | inl h ↦ let less = next_entry-shorter bytes h in
+      cond-true _ _ _ h ∙ ap (λ es. entry_at bytes ∷ es) (entries_within-enough n m (next_entry bytes) (omega arith) (omega arith)) ∙ sym (cond-true _ _ _ h)
+  | inr h ↦ cond-false _ _ _ h ∙ sym (cond-false _ _ _ h)
+]
+
+pub entries_from-none : (bytes : List ℕ) → stands mark bytes ≡ false → entries_from bytes ≡ []
+unfolding entries_from
+entries_from-none bytes h = entries_within-enough (length bytes) (suc (length bytes)) bytes (omega arith) (omega arith) ∙ cond-false _ _ _ h
+
+pub entries_from-some : (bytes : List ℕ) → stands mark bytes ≡ true → entries_from bytes ≡ entry_at bytes ∷ entries_from (next_entry bytes)
+unfolding entries_from
+entries_from-some bytes h =
+    let less = next_entry-shorter bytes h in
+    entries_within-enough (length bytes) (suc (length bytes)) bytes (omega arith) (omega arith) ∙ cond-true _ _ _ h
+    ∙ ap (λ es. entry_at bytes ∷ es) (entries_within-enough (length bytes) (length (next_entry bytes)) (next_entry bytes) (omega arith) (omega arith))
+
+-- ---- the mails make up the mailbox
+
+cut_twice : (n m : ℕ) (bytes : List ℕ) → take n bytes ++ (take m (drop n bytes) ++ drop m (drop n bytes)) ≡ bytes
+cut_twice n m bytes = ap (λ (r : List ℕ). take n bytes ++ r) (take-append-drop m (drop n bytes)) ∙ take-append-drop n bytes
+
+entry-spans : (bytes : List ℕ) → entry_bytes (entry_at bytes) ++ next_entry bytes ≡ bytes
+entry-spans bytes =
+    let body = after_line bytes in
+    let line = take (line_length bytes) bytes in
+    let mail = take (mail_length body) body in
+    let ending = take (empty_line (after_mail body)) (after_mail body) in
+    append_assoc line (mail ++ ending) (next_entry bytes)
+    ∙ ap (λ (r : List ℕ). line ++ r) (append_assoc mail ending (next_entry bytes) ∙ cut_twice (mail_length body) (empty_line (after_mail body)) body)
+    ∙ take-append-drop (line_length bytes) bytes
+
+entries-span : (n : ℕ) (bytes : List ℕ) → length bytes ≤ n → opens bytes ≡ true → flat_map entry_bytes (entries_within n bytes) ≡ bytes
+entries-span zero [] fits h = refl
+entries-span zero (b ∷ bytes) fits h = absurd (omega arith)
+entries-span (suc n) bytes fits h = elim (cases_Bool (stands mark bytes)) [
+  | inl is ↦ let less = next_entry-shorter bytes is in
+      ap (flat_map entry_bytes) (cond-true _ _ _ is)
+      ∙ ap (λ (r : List ℕ). entry_bytes (entry_at bytes) ++ r) (entries-span n (next_entry bytes) (omega arith) (after_opens (after_line bytes)))
+      ∙ entry-spans bytes
+  | inr fails ↦ ap (flat_map entry_bytes) (cond-false (stands mark bytes) (entry_at bytes ∷ entries_within n (next_entry bytes)) [] fails) ∙ sym (none bytes fails h)
+]
+  where
+    none : (bytes : List ℕ) → stands mark bytes ≡ false → opens bytes ≡ true → bytes ≡ []
+    none [] fails h = refl
+    none (b ∷ bytes) fails h = absurd (false≢true (sym fails ∙ h))
+
+front-opens : (bytes : List ℕ) → opens (drop (front_length bytes) bytes) ≡ true
+unfolding front_length
+front-opens bytes = elim (cases_Bool (stands mark bytes)) [
+  | inl is ↦ ap (λ n. opens (drop n bytes)) (cond-true (stands mark bytes) 0 (mail_length bytes + empty_line (after_mail bytes)) is) ∙ or_right (is_empty bytes) (stands mark bytes) is
+  | inr fails ↦ ap (λ n. opens (drop n bytes)) (cond-false (stands mark bytes) 0 (mail_length bytes + empty_line (after_mail bytes)) fails)
+      ∙ ap opens (sym (drop-drop (empty_line (after_mail bytes)) (mail_length bytes) bytes)) ∙ after_opens bytes
+]
+
+pub mailbox-spans : (bytes : List ℕ) → take (front_length bytes) bytes ++ flat_map entry_bytes (entries bytes) ≡ bytes
+unfolding entries_from
+mailbox-spans bytes =
+    let rest = drop (front_length bytes) bytes in
+    ap (λ (r : List ℕ). take (front_length bytes) bytes ++ r) (entries-span (length rest) rest (omega arith) (front-opens bytes))
+    ∙ take-append-drop (front_length bytes) bytes
+
+pub mailbox-whole : (bytes front rest : List ℕ) (n : ℕ) → n ≡ front_length bytes → front ≡ take n bytes → rest ≡ drop n bytes
+    → front ++ flat_map entry_bytes (entries_from rest) ≡ bytes
+mailbox-whole bytes front rest n is before after =
+    ap (λ (f : List ℕ). f ++ flat_map entry_bytes (entries_from rest)) (before ∙ ap (λ k. take k bytes) is)
+    ∙ ap (λ (r : List ℕ). take (front_length bytes) bytes ++ flat_map entry_bytes (entries_from r)) (after ∙ ap (λ k. drop k bytes) is)
+    ∙ mailbox-spans bytes
+
+-- ---- what stands before the first separator
+
+pub front_length-none : (bytes : List ℕ) → true ≡ stands mark bytes → 0 ≡ front_length bytes
+unfolding front_length
+front_length-none bytes h = sym (cond-true (stands mark bytes) 0 _ (sym h))
+
+pub front_length-some : (bytes after : List ℕ) (n e : ℕ) → false ≡ stands mark bytes → n ≡ mail_length bytes → take (length bytes - n) (drop n bytes) ≡ after → e ≡ empty_line after
+    → n + e ≡ front_length bytes
+unfolding front_length
+front_length-some bytes after n e fails is same ending =
+    let rest : after_mail bytes ≡ after = ap (λ k. drop k bytes) (sym is) ∙ sym (take_rest bytes n) ∙ same in
+    let which : e ≡ empty_line (after_mail bytes) = ending ∙ ap empty_line (sym rest) in
+    sym (cond-false (stands mark bytes) 0 (mail_length bytes + empty_line (after_mail bytes)) (sym fails) ∙ omega arith)

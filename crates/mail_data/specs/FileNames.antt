@@ -1,0 +1,44 @@
+-- Names of files that are safe in any folder; the crate's own rule. A text is the list of its bytes in UTF-8.
+use Rattle.std.specs.Prelude.{◌≡◌, ◌≢◌, ℕ, ◌-◌, ◌≤◌, Bool, true, not, ◌||◌, ◌==◌, nat_le, List, [], ◌∷◌, length, map, chars, encode_utf8_all, codes, if◌then◌else◌}
+use Rattle.std.specs.Char.{is_control, len_utf8}
+use Rattle.std.specs.List.{list_all}
+use Rattle.std.specs.Str.{bytes_eq}
+use Rattle.mail_codec.specs.Ascii.{backslash, underscore}
+use Rattle.mail_codec.specs.Places.{is_empty}
+
+-- `/`
+abbrev pub slash : ℕ
+slash = 47
+
+-- a character that no safe name holds: `/`, `\` or a control character, NUL among them
+abbrev pub is_unsafe : ℕ → Bool
+is_unsafe c = c == slash || c == backslash || is_control c
+
+-- a name of no file: no text, or the name of a folder
+abbrev pub is_reserved : List ℕ → Bool
+is_reserved name = is_empty name || bytes_eq name (codes ".") || bytes_eq name (codes "..")
+
+-- a name is safe: it names a file in the folder where it is used, has at most 255 bytes, and holds no unsafe character
+pub record IsSafeName (name : List ℕ) : Type 0 where
+  pub some : name ≢ []
+  pub not_here : name ≢ codes "."
+  pub not_above : name ≢ codes ".."
+  pub short : length name ≤ 255
+  pub characters : list_all (λ c. not (is_unsafe c)) (chars name) ≡ true
+
+-- the character, or `_` for an unsafe one
+abbrev pub made_safe : ℕ → ℕ
+made_safe c = if is_unsafe c then underscore else c
+
+-- the most characters from the front that take no more than so many bytes
+abbrev pub front_within : ℕ → List ℕ → List ℕ
+front_within room [] = []
+front_within room (c ∷ cs) = if nat_le (len_utf8 c) room then c ∷ front_within (room - len_utf8 c) cs else []
+
+-- the characters made safe, as many from the front as 255 bytes hold
+unfoldable pub front_name : List ℕ → List ℕ
+front_name name = encode_utf8_all (front_within 255 (map made_safe (chars name)))
+
+-- the name made safe: that, or `_` where it is no name of a file
+unfoldable pub safe_name : List ℕ → List ℕ
+safe_name name = if is_reserved (front_name name) then codes "_" else front_name name

@@ -1,0 +1,15 @@
+pub mod FileNames
+pub mod Files
+pub mod FileViews
+pub mod Mailbox
+pub mod MailboxViews
+pub use Rattle.mail_codec.specs.Ascii
+pub use Rattle.mail_codec.specs.Places
+pub use Rattle.mail_codec.specs.Base64
+pub use Rattle.mailparse.specs.Disposition
+pub use Rattle.mailparse.specs.Mail
+pub use Rattle.mailparse.specs.Map
+pub use Rattle.mailparse.specs.Outcome
+pub use Rattle.mailparse.specs.Refusal
+pub use Rattle.mailparse.specs.Pairs
+pub use Rattle.mailparse.specs.Views

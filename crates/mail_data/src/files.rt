@@ -1,0 +1,223 @@
+//! The files that a mail carries.
+ghost use Rattle.std.specs.Prelude.{◌≡◌, ◌++◌, map, option_map, string_bytes, [], ◌∷◌, IfErr, IfOk, OnOk, Ok};
+ghost use Rattle.mailparse.specs.Mail.{root};
+ghost use Rattle.mailparse.specs.Map.{text_found};
+ghost use Rattle.mailparse.specs.Outcome.{AnswersOrMemory, IsMemory};
+ghost use Rattle.mailparse.specs.Views.{content_type, disposition, kind, tree_of};
+ghost use Rattle.mail_data.specs.Files.{are_of_file, attachments, attachments_under, file_name, files_among};
+ghost use Rattle.mail_data.specs.Files.{is_attachment, is_kept_apart, is_leaf, name_in, path_under, whole_path};
+ghost use Rattle.mail_data.specs.FileViews.{attachment_view};
+
+mod names;
+
+use mailparse::{
+    DispositionType, MailParseError, ParsedContentDisposition, ParsedContentType, ParsedMail,
+};
+pub use names::safe_file_name;
+use std::alloc::{AllocError, Global};
+
+/// A file that a mail carries, as `attachments` returns it.
+#[derive(Drop)]
+pub struct Attachment<'m, 'a> {
+    /// Where the part stands in the mail, as IMAP numbers parts (RFC 3501, section 6.4.5): `2.1` is
+    /// the first part of the second part, and `1` the body of a mail without parts.
+    pub path: String,
+    /// The part: `get_body_raw` returns the bytes of the file.
+    pub part: &'m ParsedMail<'a>,
+}
+
+/// Returns the name of the file that a part is: the parameter `filename` of its disposition (RFC
+/// 2183, section 2.3), otherwise the parameter `name` of its type, or `None` where it has neither.
+///
+/// The name is as the sender wrote it: `safe_file_name` makes it fit to be used. Takes memory for the
+/// disposition and the name.
+///
+/// # Errors
+///
+/// `MailParseError::Memory` where it runs out of memory.
+///
+/// # Examples
+///
+/// ```rust
+/// use mail_data::files::file_name;
+/// use mailparse::parse_mail;
+///
+/// let mail = parse_mail(alloc, b"Content-Type: image/png; name=\"a.png\"\n\n")?;
+/// assert_eq!(rt; file_name(alloc, &mail)?.ok_or("no name")?.as_str(), "a.png");
+/// ```
+#[tactic(auto, unfolding(crate::specs::Files::file_name))]
+pub fn file_name(alloc: Global, part: &ParsedMail<'_>) -> Result<Option<String>, MailParseError>
+    ensures { AnswersOrMemory text_found result (Ok (file_name (root (tree_of part.now)))) }
+{
+    let shown = part.get_content_disposition(alloc)?;
+    match named_file(&shown, &part.ctype) {
+        Some(name) => Ok(Some(String::from_str(alloc, name)?)),
+        None => Ok(None),
+    }
+}
+
+/// The name of a file that a disposition or else a type has.
+fn named_file<'n>(
+    shown: &'n ParsedContentDisposition,
+    ctype: &'n ParsedContentType,
+) -> Option<&'n str>
+    ensures { option_map (λ name. name.now) result
+        ≡ name_in (disposition shown.now) (content_type ctype.now) }
+{
+    match shown.params.get("filename") {
+        Some(name) => Some(name.as_str()),
+        None => match ctype.params.get("name") {
+            Some(name) => Some(name.as_str()),
+            None => None,
+        },
+    }
+}
+
+/// Returns whether a part is a file: it has no parts of its own, and its disposition is `attachment`
+/// or it has a file name.
+///
+/// So an image that is shown in the text counts if it has a name, and a forwarded message
+/// (`message/rfc822`), which is not read into, counts as any other part. Takes memory for the
+/// disposition.
+///
+/// # Errors
+///
+/// `MailParseError::Memory` where it runs out of memory.
+///
+/// # Examples
+///
+/// ```rust
+/// use mail_data::files::is_attachment;
+/// use mailparse::parse_mail;
+///
+/// let mail = parse_mail(alloc, b"Content-Disposition: inline; filename=a.txt\n\n")?;
+/// assert!(rt; is_attachment(alloc, &mail)?);
+/// let mail = parse_mail(alloc, b"Subject: Hi\n\nHello")?;
+/// assert!(rt; !is_attachment(alloc, &mail)?);
+/// ```
+pub fn is_attachment(alloc: Global, part: &ParsedMail<'_>) -> Result<bool, MailParseError>
+    ensures { AnswersOrMemory (λ is. is) result (Ok (is_attachment (tree_of part.now))) }
+{
+    if !is_leaf(part) {
+        return Ok(false);
+    }
+    let shown = part.get_content_disposition(alloc)?;
+    Ok(are_of_file(&shown, &part.ctype))
+}
+
+/// Whether a message has no parts.
+fn is_leaf(part: &ParsedMail<'_>) -> bool
+    ensures { result ≡ is_leaf (tree_of part.now) }
+{
+    part.subparts.as_slice().is_empty()
+}
+
+/// Whether a disposition and a type are those of a file.
+fn are_of_file(shown: &ParsedContentDisposition, ctype: &ParsedContentType) -> bool
+    ensures { result ≡ are_of_file (disposition shown.now) (content_type ctype.now) }
+{
+    is_kept_apart(&shown.disposition) || named_file(shown, ctype).is_some()
+}
+
+/// Whether a disposition is `attachment`.
+fn is_kept_apart(shown: &DispositionType) -> bool
+    ensures { result ≡ is_kept_apart (kind shown.now) }
+{
+    match shown {
+        DispositionType::Attachment => true,
+        _ => false,
+    }
+}
+
+/// Returns the files of a mail, in the order in which they stand, each with the path of its part.
+///
+/// Takes memory for the list and the paths.
+///
+/// # Errors
+///
+/// `MailParseError::Memory` where it runs out of memory.
+///
+/// # Examples
+///
+/// ```rust
+/// use mail_data::files::attachments;
+/// use mailparse::parse_mail;
+///
+/// let raw = b"Content-Type: multipart/mixed; boundary=b\n\n--b\n\nHello\n\
+///     --b\nContent-Disposition: attachment; filename=a.txt\n\none\n--b--\n";
+/// let mail = parse_mail(alloc, raw)?;
+/// let files = attachments(alloc, &mail)?;
+/// assert_eq!(rt; files.len(), 1);
+/// assert_eq!(rt; files[0].path.as_str(), "2");
+/// assert_eq!(rt; files[0].part.get_body_raw(alloc)?.as_slice(), b"one".as_slice());
+/// ```
+pub fn attachments<'m, 'a>(
+    alloc: Global,
+    mail: &'m ParsedMail<'a>,
+) -> Result<Vec<Attachment<'m, 'a>>, MailParseError>
+    ensures { AnswersOrMemory (λ files. map attachment_view files.items) result
+        (Ok (attachments (tree_of mail.now))) }
+{
+    let mut files = Vec::new(alloc);
+    push_attachments(alloc, mail, whole_path(mail), &mut files)?;
+    Ok(files)
+}
+
+/// The path of a whole message.
+fn whole_path(mail: &ParsedMail<'_>) -> &'static str
+    ensures { result.now ≡ whole_path (tree_of mail.now) }
+{
+    if is_leaf(mail) { "1" } else { "" }
+}
+
+/// Adds the files of a part that has this path.
+fn push_attachments<'m, 'a>(
+    alloc: Global,
+    mail: &'m ParsedMail<'a>,
+    path: &str,
+    files: &mut Vec<Attachment<'m, 'a>>,
+) -> Result<(), MailParseError>
+    ensures written { OnOk result (map attachment_view files.new.items
+        ≡ map attachment_view files.old.items ++ attachments_under path.now (tree_of mail.now)) }
+    ensures only_memory { IfErr result IsMemory }
+{
+    push_own(alloc, mail, path, files)?;
+    let mut number = 0;
+    for part in &mail.subparts {
+        number += 1;
+        let path = path_under(alloc, path, number)?;
+        push_attachments(alloc, part, path.as_str(), files)?;
+    }
+    Ok(())
+}
+
+/// Adds a part that has this path, if it is a file.
+fn push_own<'m, 'a>(
+    alloc: Global,
+    part: &'m ParsedMail<'a>,
+    path: &str,
+    files: &mut Vec<Attachment<'m, 'a>>,
+) -> Result<(), MailParseError>
+    ensures written { OnOk result (map attachment_view files.new.items
+        ≡ map attachment_view files.old.items ++ files_among ((path.now, tree_of part.now) ∷ [])) }
+    ensures only_memory { IfErr result IsMemory }
+{
+    if !is_attachment(alloc, part)? {
+        return Ok(());
+    }
+    let path = String::from_str(alloc, path)?;
+    files.push(Attachment { path, part })?;
+    Ok(())
+}
+
+/// The path of the part with this number, by the path of the message that it is a part of.
+#[tactic(auto, unfolding(crate::specs::Files::path_under))]
+fn path_under(alloc: Global, path: &str, number: usize) -> Result<String, AllocError>
+    ensures { IfOk result (λ text. string_bytes text ≡ path_under path.now number) }
+{
+    if path.is_empty() {
+        format!(in alloc; "{number}")
+    } else {
+        format!(in alloc; "{path}.{number}")
+    }
+}

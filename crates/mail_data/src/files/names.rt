@@ -1,0 +1,83 @@
+//! Names of files that are safe in any folder.
+ghost use Rattle.std.specs.Prelude.{◌≡◌, IfOk, string_bytes};
+ghost use Rattle.mail_data.specs.FileNames.{IsSafeName, front_name, is_reserved, made_safe, safe_name};
+
+use std::alloc::{AllocError, Global};
+
+/// The most bytes that a safe name has.
+const MOST_BYTES: usize = 255;
+
+/// Returns the name of a file made safe: it names a file in the folder where it is used, and no
+/// other.
+///
+/// Each `/`, `\` and control character, NUL among them, is `_` in it. It has at most 255 bytes, cut
+/// between characters. Where that leaves nothing, `.` or `..`, it is `_`. A name that already is so
+/// stays as it is. Marks that turn the direction of writing stay. Takes memory for the name.
+///
+/// # Errors
+///
+/// Where it runs out of memory.
+///
+/// # Examples
+///
+/// ```rust
+/// use mail_data::files::safe_file_name;
+///
+/// assert_eq!(rt; safe_file_name(alloc, "../../etc/passwd")?.as_str(), ".._.._etc_passwd");
+/// assert_eq!(rt; safe_file_name(alloc, "..")?.as_str(), "_");
+/// assert_eq!(rt; safe_file_name(alloc, "résumé.pdf")?.as_str(), "résumé.pdf");
+/// ```
+pub fn safe_file_name(alloc: Global, name: &str) -> Result<String, AllocError>
+    ensures read { IfOk result (λ safe. string_bytes safe ≡ safe_name name.now) }
+    ensures safe { IfOk result (λ safe. IsSafeName (string_bytes safe)) }
+    ensures same { IsSafeName name.now → IfOk result (λ safe. string_bytes safe ≡ name.now) }
+{
+    let safe = safe_name(alloc, name)?;
+    Ok(safe)
+}
+
+/// The characters made safe, as many from the front as 255 bytes hold, or `_` where these are no
+/// name of a file.
+#[tactic(auto, unfolding(crate::specs::FileNames::safe_name))]
+fn safe_name(alloc: Global, name: &str) -> Result<String, AllocError>
+    ensures { IfOk result (λ safe. string_bytes safe ≡ safe_name name.now) }
+{
+    let safe = front_name(alloc, name)?;
+    if is_reserved(safe.as_str()) {
+        return String::from_str(alloc, "_");
+    }
+    Ok(safe)
+}
+
+/// The characters made safe, as many from the front as 255 bytes hold.
+fn front_name(alloc: Global, name: &str) -> Result<String, AllocError>
+    ensures { IfOk result (λ safe. string_bytes safe ≡ front_name name.now) }
+{
+    let mut safe = String::new(alloc);
+    for c in name.chars() {
+        let c = made_safe(c);
+        if safe.len() + c.len_utf8() > MOST_BYTES {
+            return Ok(safe);
+        }
+        safe.push(c)?;
+    }
+    Ok(safe)
+}
+
+/// The character, or `_` in the place of one that is unsafe.
+fn made_safe(c: char) -> char
+    ensures { result ≡ made_safe c }
+{
+    if c == '/' || c == '\\' || c.is_control() {
+        '_'
+    } else {
+        c
+    }
+}
+
+/// Whether a name is no name of a file: it is empty or names a folder.
+fn is_reserved(name: &str) -> bool
+    ensures { result ≡ is_reserved name.now }
+{
+    name.is_empty() || name == "." || name == ".."
+}

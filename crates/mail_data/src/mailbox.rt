@@ -1,0 +1,208 @@
+//! Mailboxes: the mails of an mbox file (RFC 4155, appendix A).
+ghost use Rattle.std.specs.Prelude.{◌≡◌, ◌++◌, ◌≤◌, true, length, drop, take};
+ghost use Rattle.std.specs.List.{flat_map};
+ghost use Rattle.mail_data.specs.Mailbox.{Entry, ends_mail, empty_line, entries, entry_at, entry_bytes, front_length, line_length, mail_length, mark, next_entry};
+ghost use Rattle.mail_data.specs.MailboxViews.{entries_left};
+ghost use Rattle.mail_codec.specs.Places.{stands};
+
+use mail_codec::bytescan::find_byte;
+use std::marker::Model;
+
+/// A mail of a mailbox: three slices that lie one after another.
+#[derive(Drop)]
+pub struct MailboxEntry<'a> {
+    separator: &'a [u8],
+    mail: &'a [u8],
+    ending: &'a [u8],
+}
+
+/// A contract sees the bytes of the three.
+impl<'a> Model for MailboxEntry<'a> {
+    ghost Value = { Entry };
+
+    ghost view = { λ e. record { separator = e.separator.now; mail = e.mail.now; ending = e.ending.now } };
+}
+
+impl<'a> MailboxEntry<'a> {
+    /// Returns the line before the mail, which begins with `From `, its line end among them.
+    ///
+    /// Takes no memory.
+    pub fn separator(&self) -> &'a [u8]
+        ensures { result.now ≡ self.now.separator }
+    {
+        self.separator
+    }
+
+    /// Returns the bytes of the mail.
+    ///
+    /// They are as they stand in the mailbox: a line that a writer began with `>From ` stays so.
+    /// Takes no memory.
+    pub fn mail(&self) -> &'a [u8]
+        ensures { result.now ≡ self.now.mail }
+    {
+        self.mail
+    }
+
+    /// Returns the empty line that ends the mail, if there is one.
+    ///
+    /// Takes no memory.
+    pub fn ending(&self) -> &'a [u8]
+        ensures { result.now ≡ self.now.ending }
+    {
+        self.ending
+    }
+}
+
+/// An iterator over the mails of a mailbox, as `read_mailbox` returns it.
+///
+/// Nothing is copied, and no call takes memory.
+#[derive(Drop)]
+pub struct Mailbox<'a> {
+    front: &'a [u8],
+    rest: &'a [u8],
+}
+
+impl<'a> Mailbox<'a> {
+    /// Returns the bytes before the first separator: none in a mailbox that begins with one.
+    ///
+    /// Takes no memory.
+    pub fn front(&self) -> &'a [u8]
+        ensures { result.now ≡ self.now.front.now }
+    {
+        self.front
+    }
+}
+
+impl<'a> Iterator for Mailbox<'a> {
+    ghost use Rattle.std.specs.Iterator.{YieldsFirst, item_count};
+    ghost use Rattle.mail_data.specs.MailboxViews.{entries_left};
+
+    type Item = MailboxEntry<'a>;
+
+    ghost next_gives = { YieldsFirst entries_left };
+
+    ghost remaining = { item_count entries_left };
+
+    fn next(&mut self) -> Option<MailboxEntry<'a>> {
+        let rest = self.rest;
+        if !rest.starts_with(b"From ") {
+            return None;
+        }
+        let (entry, after) = cut_entry(rest);
+        self.rest = after;
+        Some(entry)
+    }
+}
+
+/// Reads a mailbox of mails one after another, each after a line that begins with `From ` (the mbox
+/// format of RFC 4155, appendix A).
+///
+/// Such a line separates mails where it is the first one or follows an empty line; elsewhere it
+/// belongs to the mail. Lines end with LF or CR LF. The empty line before a separator, and one at the
+/// end of the mailbox, belongs to no mail. What stands before the first separator is in no mail.
+/// Any bytes are read, and nothing is changed: `>From ` stays as it is. Takes no memory.
+///
+/// # Examples
+///
+/// ```rust
+/// use mail_data::mailbox::read_mailbox;
+///
+/// let bytes = b"From a@b Thu Jan  1 00:00:00 1970\nSubject: 1\n\none\n\nFrom c\nSubject: 2\n\ntwo\n";
+/// let mut mails = Vec::new(alloc);
+/// for entry in read_mailbox(bytes) {
+///     mails.push(entry.mail())?;
+/// }
+/// assert_eq!(rt; mails.len(), 2);
+/// assert_eq!(rt; mails[0], b"Subject: 1\n\none\n".as_slice());
+/// assert_eq!(rt; mails[1], b"Subject: 2\n\ntwo\n".as_slice());
+/// ```
+pub fn read_mailbox(bytes: &[u8]) -> Mailbox<'_>
+    ensures read { entries_left result ≡ entries bytes.now }
+    ensures front { result.front.now ≡ take (front_length bytes.now) bytes.now }
+    ensures whole { result.front.now ++ flat_map entry_bytes (entries_left result) ≡ bytes.now }
+{
+    let (front, rest) = bytes.split_at(front_length(bytes));
+    Mailbox { front, rest }
+}
+
+/// How many bytes stand before the first separator.
+fn front_length(bytes: &[u8]) -> usize
+    ensures value { result ≡ front_length bytes.now }
+    ensures bounds { result ≤ length bytes.now }
+{
+    if bytes.starts_with(b"From ") {
+        return 0;
+    }
+    let length = mail_length(bytes);
+    length + empty_line(&bytes[length..])
+}
+
+/// The mail at the front of bytes that begin with its separator, and the bytes after it.
+fn cut_entry(bytes: &[u8]) -> (MailboxEntry<'_>, &[u8])
+    ensures entry { result.0 ≡ entry_at bytes.now }
+    ensures after { result.1.now ≡ next_entry bytes.now }
+{
+    let (separator, body) = bytes.split_at(line_length(bytes));
+    let (mail, after) = body.split_at(mail_length(body));
+    let (ending, next) = after.split_at(empty_line(after));
+    let entry = MailboxEntry {
+        separator,
+        mail,
+        ending,
+    };
+    (entry, next)
+}
+
+/// How many bytes the first line has, its LF among them.
+fn line_length(bytes: &[u8]) -> usize
+    ensures value { result ≡ line_length bytes.now }
+    ensures bounds { result ≤ length bytes.now }
+{
+    match find_byte(bytes, b'\n') {
+        Some(place) => place + 1,
+        None => bytes.len(),
+    }
+}
+
+/// How many bytes stand before the first line at which a mail ends.
+fn mail_length(bytes: &[u8]) -> usize
+    ensures value { result ≡ mail_length bytes.now }
+    ensures bounds { result ≤ length bytes.now }
+{
+    let mut at = 0;
+    'lines: while !ends_mail(&bytes[at..]) {
+        let Some(place) = find_byte(&bytes[at..], b'\n') else {
+            return bytes.len();
+        };
+        at += place + 1;
+    }
+    at
+}
+
+/// Whether a mail ends at the front of these bytes, which begin a line: an empty line stands there,
+/// and after it a separator or nothing.
+fn ends_mail(bytes: &[u8]) -> bool
+    ensures { result ≡ ends_mail bytes.now }
+{
+    let length = empty_line(bytes);
+    if length == 0 {
+        return false;
+    }
+    let after = &bytes[length..];
+    after.is_empty() || after.starts_with(b"From ")
+}
+
+/// How many bytes the empty line at the front has, or 0 where none is.
+#[tactic(auto, unfolding(crate::specs::Mailbox::empty_line))]
+fn empty_line(bytes: &[u8]) -> usize
+    ensures value { result ≡ empty_line bytes.now }
+    ensures bounds { result ≤ length bytes.now }
+{
+    if bytes.starts_with(b"\n") {
+        1
+    } else if bytes.starts_with(b"\r\n") {
+        2
+    } else {
+        0
+    }
+}
