@@ -24,4 +24,6 @@ mod utf_16;
 #[cfg(test)]
 mod utf_8;
 #[cfg(test)]
+mod vector_lanes;
+#[cfg(test)]
 mod word_edges;

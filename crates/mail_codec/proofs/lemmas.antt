@@ -5,6 +5,8 @@ pub mod Words
 pub mod WordBytes
 pub mod WordSearches
 pub mod RunMarks
+pub mod Vectors
+pub mod VectorLetters
 pub mod CharsetUtf8
 pub mod CharsetLabels
 pub mod CharsetMarks
@@ -15,6 +17,7 @@ pub mod Base64Letters
 pub mod Base64Engine
 pub mod Base64Groups
 pub mod Base64Steps
+pub mod Base64Parts
 pub mod Padded
 pub mod Base64Law
 pub mod Written

@@ -21,3 +21,4 @@ pub mod bytescan;
 pub mod charset;
 pub mod laws;
 pub mod transfer;
+mod vectors;

@@ -7,11 +7,11 @@ use Rattle.base64.proofs.Tables.{all_below_at}
 use Rattle.mail_codec.specs.Base64.{alphabet, letter, letter_value, padding}
 
 -- a test that an option is this number
-abbrev is_value : Option ℕ → ℕ → Bool
+abbrev pub is_value : Option ℕ → ℕ → Bool
 is_value None v = false
 is_value (Some w) v = w == v
 
-is_value_true : (o : Option ℕ) (v : ℕ) → is_value o v ≡ true → o ≡ Some v
+pub is_value_true : (o : Option ℕ) (v : ℕ) → is_value o v ≡ true → o ≡ Some v
 is_value_true None v h = cc h
 is_value_true (Some w) v h = ap Some (eqb-true w v h)
 

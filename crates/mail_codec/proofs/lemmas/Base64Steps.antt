@@ -110,9 +110,9 @@ group_end letters cur n number h =
 
 -- ---- the whole text
 
-pub groups_start : (absent : RunEnd) (text bytes letters : List ℕ) → bytes ≡ [] → letters ≡ []
-    → prepend bytes (groups_from 0 (letters ++ without_ends absent text)) ≡ groups_from 0 (without_ends absent text)
-groups_start absent text bytes letters eb el = rw (eb, el) (prepend-nil (groups_from 0 (without_ends absent text)))
+pub groups_start : (absent : RunEnd) (text bytes letters : List ℕ) (first from : ℕ) → letters ≡ []
+    → prepend bytes (groups_from first (letters ++ without_ends absent (drop from text))) ≡ prepend bytes (groups_from first (without_ends absent (drop from text)))
+groups_start absent text bytes letters first from e = rw e refl
 
 -- at the end of the text nothing but the letters is left
 rest_at_end : (absent : RunEnd) (text letters : List ℕ) (at : ℕ) → length text ≤ at → letters ++ without_ends absent (drop at text) ≡ letters

@@ -1,9 +1,11 @@
 -- Texts in which each byte is one character: the tables, ASCII, and texts in pieces.
-use Rattle.std.proofs.Common.{◌≡◌, ℕ, ◌+◌, ◌-◌, ◌<◌, Bool, true, List, [], ◌∷◌, ◌++◌, map, take, drop, length, get_or, IsAscii, refl, sym, ap, append-nil, take-append-drop, ◌∙◌, encode_utf8, encode_utf8_all, append_assoc, arith, suc-le-suc, Fits, w8, map-id, ap₂, zero, suc, ◌==◌, ◌&&◌}
+use Rattle.std.proofs.Common.{◌≡◌, ℕ, ◌+◌, ◌-◌, ◌<◌, ◌≤◌, Bool, true, false, leb-false, List, [], ◌∷◌, ◌++◌, map, take, drop, length, get_or, IsAscii, refl, sym, ap, append-nil, take-append-drop, ◌∙◌, encode_utf8, encode_utf8_all, append_assoc, arith, suc-le-suc, Fits, w8, map-id, ap₂, zero, suc, ◌==◌, ◌&&◌}
 use Rattle.std.proofs.lemmas.Bool.Decides.{nat_tests, Decides-below_and, Decides-eqb}
 use Rattle.std.proofs.Math.Seq.{take-add}
 use Rattle.std.proofs.lemmas.Str.{IsAscii-append, encodes-IsAscii, encodes-append}
-use Rattle.std.proofs.lemmas.List.{map-append, take_more}
+use Rattle.std.proofs.lemmas.List.{map-append, take_more, take-take}
+use Rattle.std.specs.Prelude.{nat_le}
+use Rattle.mail_codec.specs.Places.{begins, first_place}
 use Rattle.mail_codec.specs.Charset.{windows_1252_char, ascii_char, ascii_text}
 use Rattle.mail_codec.specs.private.SingleByte.{single_byte_char}
 use Rattle.mail_codec.specs.Latin1.{latin1_text}
@@ -84,3 +86,24 @@ pub spelled_more : (high bs made character : List ℕ) (i : ℕ) → i < length 
     → made ++ character ≡ spelled high (take (i + 1) bs)
 spelled_more high bs made character i below h one =
     rw (h, one, take_more bs i 0, spelled-append) (ap (λ x. spelled high (take i bs) ++ x) (sym (append-nil (encode_utf8 (single_byte_char high (get_or bs i 0))))))
+
+-- the bytes before the first high one are ASCII
+pub ascii_front : (v : List ℕ) → IsAscii (take (first_place (begins (λ b. nat_le 128 b)) v) v)
+ascii_front [] = λ k. omega arith
+ascii_front (b ∷ v) = go (nat_le 128 b) refl (ascii_front v)
+  where
+    go : (t : Bool) → nat_le 128 b ≡ t → IsAscii (take (first_place (begins (λ x. nat_le 128 x)) v) v) → IsAscii (take (first_place (begins (λ x. nat_le 128 x)) (b ∷ v)) (b ∷ v))
+    go true e rest = rw e (λ k. omega arith)
+    go false e rest = rw e (elim [ zero ↦ leb-false 128 b e | suc k ↦ rest k ])
+
+-- more ASCII bytes
+pub ascii_more : (bs : List ℕ) (at m : ℕ) → m ≤ 16 → IsAscii (take at bs) → IsAscii (take m (take 16 (drop at bs))) → IsAscii (take (at + m) bs)
+ascii_more bs at m few front more =
+    rw take-add (IsAscii-append (take at bs) (take m (drop at bs)) front (rw (take-take m 16 (drop at bs) few) at more))
+
+-- a run of ASCII bytes after what was spelled
+pub spelled_run : (high bs : List ℕ) (from run : ℕ) → IsAscii (take run (drop from bs)) → spelled high (take from bs) ++ take run (drop from bs) ≡ spelled high (take (from + run) bs)
+spelled_run high bs from run low =
+    ap (λ xs. spelled high (take from bs) ++ xs) (sym (spelled_low high (take run (drop from bs)) low))
+    ∙ sym (spelled-append high (take from bs) (take run (drop from bs)))
+    ∙ ap (spelled high) (sym (take-add from run bs))

@@ -4,7 +4,7 @@ use Rattle.std.specs.Int.{w64, trailing_zeros}
 use Rattle.std.specs.List.{slice_get}
 use Rattle.std.specs.Simd.{first_chunks}
 use Rattle.std.proofs.lemmas.Bool.{cases_lt, lt-ltb, le-ltb}
-use Rattle.std.proofs.lemmas.List.{drop-drop, length-drop}
+use Rattle.std.proofs.lemmas.List.{drop-drop, length-drop, take_all}
 use Rattle.std.proofs.lemmas.Nat.{le_or_l, le_or_r}
 use Rattle.std.proofs.Math.Nat.{mul-suc}
 use Rattle.mail_codec.specs.Places.{first_place, begins, place, stands, text_place}
@@ -77,6 +77,16 @@ pub chunk_is : (n : ℕ) (bytes : List ℕ) (chunks : List (List ℕ)) (i at : �
     → i < length bytes / n → at ≡ n * i → get_or chunks i [] ≡ take n (drop at bytes)
 chunk_is n bytes chunks i at is l place =
     ap (λ (cs : List (List ℕ)). get_or cs i []) is ∙ chunk_at n (length bytes / n) bytes i l ∙ ap (λ (j : ℕ). take n (drop j bytes)) (sym place)
+
+-- the last n bytes, of which some were passed over before
+pub last_chunk : (test : ℕ → Bool) (bytes : List ℕ) (n at last p : ℕ) → PassedTo (begins test) bytes (first_place (begins test) bytes) at → last + n ≡ length bytes → last ≤ at
+    → p ≡ first_place (begins test) (take n (drop last bytes)) → first_place (begins test) bytes ≡ last + p
+last_chunk test bytes n at last p h ends back is =
+    let later = h.later in
+    let seen = first_place-drop (begins test) bytes last (omega arith) in
+    let whole : take n (drop last bytes) ≡ drop last bytes = take_all n (drop last bytes) (omega (arith, length-drop last bytes)) in
+    let same = ap (first_place (begins test)) whole in
+    omega arith
 
 -- the place that a mask tells
 pub marked_first : (test : ℕ → Bool) (bs : List ℕ) (m : ℕ) → length bs ≡ 8 → IsMask test bs m → m ≢ 0

@@ -4,6 +4,8 @@ use Rattle.std.proofs.Math.Seq.{take-append-add, take-add}
 use Rattle.std.proofs.lemmas.List.{take-take, take_rest, length-take-le, length-drop}
 use Rattle.std.proofs.lemmas.Slice.{take-put_mid}
 use borrow.Rule.Slice.PartMut.{put_mid}
+use lib.Lanes.{put_chunk}
+use Rattle.mail_codec.proofs.lemmas.Vectors.{stored_before, stored_at}
 
 -- what stands before the part stays, and then comes what the part begins with
 pub written_after : (at k n : ℕ) (xs part : List ℕ) → at ≤ length xs → n ≤ length part
@@ -34,3 +36,14 @@ module _ (at n : ℕ) (xs part : List ℕ) (fits : at + n ≤ length xs) (same :
   pub copied_rest : (bytes : List ℕ) → take at xs ≡ take at bytes → take n part ≡ take n (drop at bytes)
       → take (at + n) (put_mid at (length xs - at) xs part) ≡ take (at + n) bytes
   copied_rest bytes front more = copied_after at (length xs - at) n xs part bytes front (omega arith) enough more
+
+-- a vector copied from a place to the same place
+pub stored_copy : (at m : ℕ) (xs bytes : List ℕ) → take at xs ≡ take at bytes → at + 16 ≤ length xs → at + 16 ≤ length bytes → m ≤ 16
+    → take (at + m) (put_chunk at xs (take 16 (drop at bytes))) ≡ take (at + m) bytes
+stored_copy at m xs bytes front room within few =
+    let v = take 16 (drop at bytes) in
+    let long : length v ≡ 16 = length-take-le 16 (drop at bytes) (omega (arith, length-drop at bytes)) in
+    take-add at m (put_chunk at xs v)
+    ∙ ap (λ ys. ys ++ take m (drop at (put_chunk at xs v))) (stored_before at xs v ∙ front)
+    ∙ ap (λ ys. take at bytes ++ ys) (stored_at at m xs v (omega (arith, long)) (omega (arith, long)) ∙ take-take m 16 (drop at bytes) few)
+    ∙ sym (take-add at m bytes)

@@ -4,13 +4,14 @@
 ghost use Rattle.std.specs.Prelude.{◌≡◌, ◌≤◌, ◌+◌, ◌++◌, length, take, drop, IfOk, OnOk, false};
 ghost use Rattle.mail_codec.specs.Places.{begins, first_place};
 ghost use Rattle.mail_codec.specs.private.Runs.{ends_run, may_end_run, NoneEnds, without_ends};
+ghost use Rattle.mail_codec.specs.private.Vectors.{lane_mask};
 ghost use Rattle.mail_codec.specs.private.Words.{IsMask};
 
 use super::words::{either_mask, equal_mask, first_marked, space_mask};
+use crate::vectors::LANES;
+use crate::vectors::marks::{either_lanes, equal_lanes, first_lane, lanes_below};
 use std::alloc::AllocError;
-
-/// How many bytes a search tests together where it comes to long runs: eight words.
-const STEP: usize = 64;
+use std::simd::prelude::*;
 
 /// Which bytes end a run.
 #[derive(Clone, Copy)]
@@ -26,7 +27,7 @@ pub(crate) enum RunEnd {
 impl RunEnd {
     /// Whether the byte ends a run.
     #[inline(always)]
-    fn is_met_by(self, byte: u8) -> bool
+    pub(crate) fn is_met_by(self, byte: u8) -> bool
         ensures { result ≡ ends_run self byte }
     {
         match self {
@@ -58,6 +59,18 @@ impl RunEnd {
             RunEnd::Byte(wanted) => equal_mask(bytes, wanted),
             RunEnd::LineEnd => either_mask(bytes, b'\r', b'\n'),
             RunEnd::Whitespace => space_mask(bytes),
+        }
+    }
+
+    /// Marks those of sixteen bytes that may end a run.
+    #[inline(always)]
+    fn lanes(self, bytes: u8x16) -> u64
+        ensures { result ≡ lane_mask (may_end_run self) bytes }
+    {
+        match self {
+            RunEnd::Byte(wanted) => equal_lanes(bytes, wanted),
+            RunEnd::LineEnd => either_lanes(bytes, b'\r', b'\n'),
+            RunEnd::Whitespace => lanes_below(bytes, b'!'),
         }
     }
 }
@@ -163,53 +176,38 @@ pub(crate) fn run_len(bytes: &[u8], end: RunEnd) -> usize
     at
 }
 
-/// The least place of a byte that may end a run, or the length where there is none. Looks at one
-/// word first, since an end is often near; then goes by steps of 64 bytes, and by words of eight.
+/// The least place of a byte that may end a run, or the length where there is none: by vectors, and
+/// where there are fewer bytes than one has, by words.
 #[inline(always)]
 pub(crate) fn may_end_len(bytes: &[u8], end: RunEnd) -> usize
     ensures least { result ≡ first_place (begins (may_end_run end)) bytes.now }
     ensures bounds { result ≤ length bytes.now }
 {
-    if let Some(word) = bytes.first_chunk::<8>() {
-        let mask = end.mask(word);
-        if mask != 0 {
-            return first_marked(mask);
-        }
+    if bytes.len() < LANES {
+        near_len(bytes, end)
+    } else {
+        lanes_len(bytes, end)
     }
-    let free = free_len(bytes, end);
-    free + near_len(&bytes[free..], end)
 }
 
-/// The length of the steps at the front that hold no byte that may end a run.
+/// The least place of a byte that may end a run, or the length, by vectors. The last vector is that
+/// of the last sixteen bytes, of which some may have been looked at before.
 #[inline(always)]
-fn free_len(bytes: &[u8], end: RunEnd) -> usize
+fn lanes_len(bytes: &[u8], end: RunEnd) -> usize
+    requires { 16 ≤ length bytes.now }
+    ensures least { result ≡ first_place (begins (may_end_run end)) bytes.now }
     ensures bounds { result ≤ length bytes.now }
-    ensures free { first_place (begins (may_end_run end)) bytes.now
-        ≡ result + first_place (begins (may_end_run end)) (drop result bytes.now) }
 {
-    let (steps, _) = bytes.as_chunks::<STEP>();
-    let mut free = 0;
-    for step in steps {
-        if may_hold_end(step, end) {
-            return free;
+    let last = bytes.len() - LANES;
+    let mut at = 0;
+    'vectors: while at < last {
+        let place = first_lane(end.lanes(u8x16::from_slice(&bytes[at..])));
+        if place != LANES {
+            return at + place;
         }
-        free += STEP;
+        at += LANES;
     }
-    free
-}
-
-/// Whether a byte of the step may end a run. The masks of its words are put together, with no way
-/// out before the last, which the compiler turns into few instructions.
-#[inline(always)]
-fn may_hold_end(step: &[u8; STEP], end: RunEnd) -> bool
-    ensures { result ≡ false → first_place (begins (may_end_run end)) step.now ≡ 64 }
-{
-    let (words, _) = step.as_chunks::<8>();
-    let mut marks = 0;
-    for word in words {
-        marks |= end.mask(word);
-    }
-    marks != 0
+    last + first_lane(end.lanes(u8x16::from_slice(&bytes[last..])))
 }
 
 /// The least place of a byte that may end a run, or the length, by words of eight.

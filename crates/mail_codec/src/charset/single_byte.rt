@@ -5,8 +5,11 @@ ghost use Rattle.mail_codec.specs.Charset.{windows_1252_char};
 ghost use Rattle.mail_codec.specs.private.SingleByte.{single_byte_char};
 
 use super::encode::put_char;
+use crate::vectors::LANES;
+use crate::vectors::marks::{first_lane, lanes_from};
 use std::alloc::{AllocError, Global};
 use std::borrow::CowStr;
+use std::simd::prelude::*;
 use std::str;
 
 /// The characters of the bytes from 0x80 on, in order.
@@ -16,7 +19,7 @@ pub(crate) type HighHalf = [char; 128];
 const BLOCK: usize = 16;
 
 /// How many bytes at most are mapped together, where some are not ASCII.
-const MIXED: usize = 64;
+const MIXED: usize = 256;
 
 /// Those of windows-1252 (the WHATWG Encoding Standard, section 9.1).
 static WINDOWS_1252: HighHalf = [
@@ -123,8 +126,39 @@ fn encode_block(buffer: &mut [u8], high: &HighHalf, bytes: &[u8]) -> usize
     ensures bounds { result ≤ length buffer.old }
 {
     let mut at = 0;
-    for byte in bytes {
-        at = put_char(buffer, at, character(high, *byte));
+    let mut from = 0;
+    'characters: while from < bytes.len() {
+        let run = put_ascii(&mut buffer[at..], &bytes[from..]);
+        at += run;
+        from += run;
+        if from == bytes.len() {
+            return at;
+        }
+        at = put_char(buffer, at, character(high, bytes[from]));
+        from += 1;
+    }
+    at
+}
+
+/// Writes ASCII bytes that stand at the front, and returns how many: those before the first other
+/// byte, but for the last few, which make no whole vector. A vector is written whole before it is
+/// looked at.
+#[inline(always)]
+fn put_ascii(output: &mut [u8], bytes: &[u8]) -> usize
+    requires { length bytes.now ≤ length output.old }
+    ensures bounds { result ≤ length bytes.now }
+    ensures ascii { IsAscii (take result bytes.now) }
+    ensures written { take result output.new ≡ take result bytes.now }
+{
+    let mut at = 0;
+    'vectors: while bytes.len() - at >= LANES {
+        let vector = u8x16::from_slice(&bytes[at..]);
+        vector.copy_to_slice(&mut output[at..]);
+        let place = first_lane(lanes_from(vector, 0x80));
+        if place != LANES {
+            return at + place;
+        }
+        at += LANES;
     }
     at
 }

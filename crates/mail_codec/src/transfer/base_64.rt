@@ -2,14 +2,17 @@
 ghost use Rattle.std.specs.Prelude.{◌≡◌, ◌+◌, ◌*◌, ◌/◌, ◌%◌, ◌^◌, ◌<◌, ◌≤◌, ◌≢◌, ◌++◌, length, drop, vec_len, IfOk, OnOk, option_map, if◌then◌else◌};
 ghost use Rattle.mail_codec.specs.Ascii.{equals_sign};
 ghost use Rattle.mail_codec.specs.Base64.{base64, bytes_of_values, group_bytes, groups_from, items_or_fault, letter_value, prepend};
-ghost use Rattle.mail_codec.specs.private.Base64.{items_unless_fault};
+ghost use Rattle.mail_codec.specs.private.Base64.{KeepsLetters, items_unless_fault};
 ghost use Rattle.mail_codec.specs.Places.{without_ascii_whitespace};
 ghost use Rattle.mail_codec.specs.private.Runs.{without_ends};
 
+mod groups;
 mod padded;
 
+use self::groups::put_groups;
 use self::padded::{decode_padded_groups, filled_pair, group_len};
 use crate::bytescan::runs::{RunEnd, push_runs};
+use crate::vectors::LANES;
 use base64::DecodeAllocError;
 use base64::engine::general_purpose::STANDARD;
 use std::alloc::{AllocError, Global};
@@ -70,22 +73,48 @@ pub fn decode_base64_body(alloc: Global, body: &[u8]) -> Result<Result<Vec<u8>, 
     decode_base64_without(alloc, body, RunEnd::Whitespace)
 }
 
-/// The bytes of the groups of a text without what counts as absent, a window of the text at a time.
+/// The bytes of the groups of a text without what counts as absent: those of letters where they lie,
+/// and from the first other group on a window of the text at a time.
 #[inline(always)]
 fn decode_base64_without(
     alloc: Global,
     text: &[u8],
     absent: RunEnd,
 ) -> Result<Result<Vec<u8>, usize>, AllocError>
+    requires letters { KeepsLetters absent }
     ensures { IfOk result
         (λ decoded. items_or_fault decoded ≡ groups_from 0 (without_ends absent text.now)) }
 {
-    let mut bytes = Vec::with_capacity(alloc, text.len() / 4 * 3)?;
-    let mut letters = Vec::with_capacity(alloc, text.len().min(WINDOW + 3))?;
+    let mut bytes = vec![in alloc; 0u8; text.len() / 4 * 3 + LANES]?;
+    let (groups, at) = put_groups(bytes.as_mut_slice(), text, absent);
+    bytes.truncate(3 * groups);
+    if at == text.len() {
+        return Ok(Ok(bytes));
+    }
+    decode_windows(alloc, bytes, groups, text, at, absent)
+}
+
+/// The bytes, and after them those of the groups of a text from a place on, of which the first has
+/// index `first`: a window of the text at a time.
+fn decode_windows(
+    alloc: Global,
+    before: Vec<u8>,
+    first: usize,
+    text: &[u8],
+    from: usize,
+    absent: RunEnd,
+) -> Result<Result<Vec<u8>, usize>, AllocError>
+    requires within { from ≤ length text.now }
+    requires counted { 4 * first ≤ from }
+    ensures { IfOk result (λ decoded. items_or_fault decoded
+        ≡ prepend before.items (groups_from first (without_ends absent (drop from text.now)))) }
+{
+    let mut bytes = before;
+    let mut letters = Vec::with_capacity(alloc, (text.len() - from).min(WINDOW + 3))?;
     let mut full = Vec::new(alloc);
     let mut decoded = Vec::new(alloc);
-    let mut groups = 0;
-    let mut at = 0;
+    let mut groups = first;
+    let mut at = from;
     'windows: while at < text.len() {
         let end = (text.len() - at).min(WINDOW) + at;
         push_runs(&mut letters, &text[at..end], absent)?;

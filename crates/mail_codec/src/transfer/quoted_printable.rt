@@ -7,7 +7,10 @@ ghost use Rattle.mail_codec.specs.QuotedPrintable.{digit_value, ended_line, firs
 
 use crate::bytescan::runs::{RunEnd, run_len};
 use crate::bytescan::words::{equal_mask, first_marked};
+use crate::vectors::LANES;
+use crate::vectors::marks::{equal_lanes, first_lane};
 use std::alloc::{AllocError, Global};
+use std::simd::prelude::*;
 
 /// What stands in the table for a byte that is no digit.
 const NO_DIGIT: u8 = 0xFF;
@@ -154,10 +157,31 @@ fn put_unescaped(output: &mut [u8], kept: &[u8]) -> usize
     len
 }
 
-/// Writes the bytes before the first `=`, or all where there is none. A word is written whole before
-/// it is looked at, so that a copy of a few bytes has a length that is known.
+/// Writes the bytes before the first `=`, or all where there is none. A vector is written whole
+/// before it is looked at, so that a copy of a few bytes has a length that is known.
 #[inline(always)]
 fn put_run(output: &mut [u8], bytes: &[u8]) -> usize
+    requires room { length bytes.now ≤ length output.old }
+    ensures written { take result output.new ≡ take result bytes.now }
+    ensures least { result ≡ first_place (begins (λ b. b == equals_sign)) bytes.now }
+    ensures bounds { result ≤ length bytes.now }
+{
+    let mut at = 0;
+    'vectors: while bytes.len() - at >= LANES {
+        let vector = u8x16::from_slice(&bytes[at..]);
+        vector.copy_to_slice(&mut output[at..]);
+        let place = first_lane(equal_lanes(vector, b'='));
+        if place != LANES {
+            return at + place;
+        }
+        at += LANES;
+    }
+    at + put_words(&mut output[at..], &bytes[at..])
+}
+
+/// The same, by words.
+#[inline(always)]
+fn put_words(output: &mut [u8], bytes: &[u8]) -> usize
     requires room { length bytes.now ≤ length output.old }
     ensures written { take result output.new ≡ take result bytes.now }
     ensures least { result ≡ first_place (begins (λ b. b == equals_sign)) bytes.now }

@@ -1,0 +1,274 @@
+//! Each byte in each place of a vector of sixteen, and texts of every length up to a few vectors,
+//! beside the plain rules: Base64 group by group, quoted-printable and searches byte by byte.
+use crate::base64_texts::{Call, decode};
+use crate::texts::{Bytes, joined, repeated};
+use mail_codec::bytescan::{find_byte, strip_ascii_whitespace};
+use mail_codec::charset::{Charset, decode_latin1};
+use mail_codec::transfer::decode_quoted_printable;
+use std::alloc::{AllocError, Global};
+use std::test::Fail;
+
+/// The letters by their values (RFC 4648, table 1).
+const ALPHABET: &[u8; 64] = b"ABCDEFGHIJKLMNOPQRSTUVWXYZabcdefghijklmnopqrstuvwxyz0123456789+/";
+
+/// The value of a letter.
+fn value_of(letter: u8) -> Option<u32> {
+    ALPHABET
+        .iter()
+        .position(|known| *known == letter)
+        .map(|value| value as u32)
+}
+
+/// The three bytes of four letters.
+fn three_bytes(group: &[u8]) -> Option<[u8; 3]> {
+    let mut number = 0u32;
+    for letter in group {
+        number = number.wrapping_mul(64).wrapping_add(value_of(*letter)?);
+    }
+    Some([(number >> 16) as u8, (number >> 8) as u8, number as u8])
+}
+
+/// The bytes of groups of four letters without padding and without anything absent, or the number
+/// of the first that is none.
+fn plain_groups(alloc: Global, letters: &[u8]) -> Result<Result<Vec<u8>, usize>, AllocError> {
+    let mut bytes = Vec::new(alloc);
+    for (number, group) in letters.chunks(4).enumerate() {
+        match three_bytes(group) {
+            Some(decoded) if group.len() == 4 => bytes.extend_from_slice(&decoded)?,
+            _ => return Ok(Err(number)),
+        }
+    }
+    Ok(Ok(bytes))
+}
+
+/// Whether the text reads as the plain rule reads these letters.
+fn is_plain(alloc: Global, call: Call, text: &[u8], letters: &[u8]) -> Result<bool, AllocError> {
+    let decoded = decode(alloc, call, text)?;
+    let expected = plain_groups(alloc, letters)?;
+    Ok(match (decoded, expected) {
+        (Ok(decoded), Ok(expected)) => decoded.as_slice() == expected.as_slice(),
+        (Err(decoded), Err(expected)) => decoded == expected,
+        _ => false,
+    })
+}
+
+/// The letters in the order of their values, again and again.
+fn letters(alloc: Global, length: usize) -> Result<Vec<u8>, AllocError> {
+    let mut all = repeated(alloc, ALPHABET, 4)?;
+    all.truncate(length);
+    Ok(all)
+}
+
+/// The first lane of two vectors in which the byte is not read as the plain rule says: as a letter, as
+/// absent, or as a fault.
+fn first_lane_misread(alloc: Global, call: Call, byte: u8) -> Result<Option<usize>, AllocError> {
+    let whole = letters(alloc, 36)?;
+    for lane in 0..36usize {
+        let text = joined(alloc, &[&whole.as_slice()[..lane], &[byte], &whole.as_slice()[lane..]])?;
+        let absent = match call {
+            Call::Text => byte == b'\r' || byte == b'\n',
+            Call::Body => byte.is_ascii_whitespace(),
+        };
+        let kept = if absent { whole.as_slice() } else { text.as_slice() };
+        if !is_plain(alloc, call, text.as_slice(), kept)? {
+            return Ok(Some(lane));
+        }
+    }
+    Ok(None)
+}
+
+#[test]
+fn each_byte_among_letters_in_each_lane(rt: HostRuntime) -> Result<(), Fail> {
+    for byte in (0..=255u8).filter(|byte| *byte != b'=') {
+        assert_eq!(rt; first_lane_misread(rt.alloc(), Call::Text, byte)?, None, "{byte}");
+        assert_eq!(rt; first_lane_misread(rt.alloc(), Call::Body, byte)?, None, "{byte}");
+    }
+    Ok(())
+}
+
+/// The first lane of two vectors in which the byte, in the place of a letter, is misread.
+fn first_letter_misread(alloc: Global, byte: u8) -> Result<Option<usize>, AllocError> {
+    let mut text = letters(alloc, 36)?;
+    for lane in 0..36usize {
+        let before = text[lane];
+        text[lane] = byte;
+        if !is_plain(alloc, Call::Text, text.as_slice(), text.as_slice())? {
+            return Ok(Some(lane));
+        }
+        text[lane] = before;
+    }
+    Ok(None)
+}
+
+#[test]
+fn each_byte_as_a_letter_in_each_lane(rt: HostRuntime) -> Result<(), Fail> {
+    for byte in (0..=255u8).filter(|byte| !b"=\r\n".contains(byte)) {
+        assert_eq!(rt; first_letter_misread(rt.alloc(), byte)?, None, "{byte}");
+    }
+    Ok(())
+}
+
+/// Letters in lines of so many, and how the lines end.
+fn in_lines(alloc: Global, letters: &[u8], line: usize, end: &[u8]) -> Result<Vec<u8>, AllocError> {
+    let mut text = Vec::new(alloc);
+    for piece in letters.chunks(line.max(1)) {
+        text.extend_from_slice(piece)?;
+        text.extend_from_slice(end)?;
+    }
+    Ok(text)
+}
+
+/// The first number of letters up to 200 that, in such lines, are not read as the plain rule says.
+fn first_length_misread(alloc: Global, line: usize) -> Result<Option<usize>, AllocError> {
+    for length in 0..=200usize {
+        let whole = letters(alloc, length)?;
+        let lines = in_lines(alloc, whole.as_slice(), line, b"\r\n")?;
+        let spaced = in_lines(alloc, whole.as_slice(), line, b" \t\n")?;
+        if !is_plain(alloc, Call::Text, lines.as_slice(), whole.as_slice())?
+            || !is_plain(alloc, Call::Body, spaced.as_slice(), whole.as_slice())?
+        {
+            return Ok(Some(length));
+        }
+    }
+    Ok(None)
+}
+
+#[test]
+fn letters_of_each_length_in_lines(rt: HostRuntime) -> Result<(), Fail> {
+    for line in [1usize, 2, 3, 5, 7, 15, 16, 17, 19, 64, 73, 74, 75, 76, 77, 200] {
+        assert_eq!(rt; first_length_misread(rt.alloc(), line)?, None, "lines of {line}");
+    }
+    Ok(())
+}
+
+/// The first place of a byte, one byte after another.
+fn plain_place(bytes: &[u8], byte: u8) -> Option<usize> {
+    bytes.iter().position(|other| *other == byte)
+}
+
+/// The first length up to 200 for which a byte at some place is not found there.
+fn first_length_missed(alloc: Global) -> Result<Option<usize>, AllocError> {
+    for length in 0..=200usize {
+        let mut bytes = repeated(alloc, b"x", length)?;
+        if find_byte(bytes.as_slice(), b'\n').is_some() {
+            return Ok(Some(length));
+        }
+        for place in (0..length).rev() {
+            bytes[place] = b'\n';
+            if find_byte(bytes.as_slice(), b'\n') != plain_place(bytes.as_slice(), b'\n') {
+                return Ok(Some(length));
+            }
+        }
+    }
+    Ok(None)
+}
+
+#[test]
+fn a_byte_at_each_place_of_each_length(rt: HostRuntime) -> Result<(), Fail> {
+    assert_eq!(rt; first_length_missed(rt.alloc())?, None);
+    Ok(())
+}
+
+/// The bytes without whitespace, one byte after another.
+fn plain_stripped(alloc: Global, bytes: &[u8]) -> Result<Vec<u8>, AllocError> {
+    let mut kept = Vec::new(alloc);
+    for byte in bytes {
+        if !byte.is_ascii_whitespace() {
+            kept.push(*byte)?;
+        }
+    }
+    Ok(kept)
+}
+
+#[test]
+fn whitespace_goes_at_each_length(rt: HostRuntime) -> Result<(), Fail> {
+    let all = repeated(rt.alloc(), b"a \x0Bb\r\n\x1F!cdefghijklmnopqr\t", 10)?;
+    for length in 0..=200usize {
+        let bytes = &all.as_slice()[..length];
+        let stripped = strip_ascii_whitespace(rt.alloc(), bytes)?;
+        let expected = plain_stripped(rt.alloc(), bytes)?;
+        assert_eq!(rt; Bytes(stripped.as_slice()), Bytes(expected.as_slice()), "{length}");
+    }
+    Ok(())
+}
+
+/// What stands for this text in quoted-printable, when each byte is an escape whose number leaves
+/// this rest by three.
+fn escaped(alloc: Global, text: &[u8], rest: usize) -> Result<Vec<u8>, AllocError> {
+    let digits = b"0123456789ABCDEF";
+    let mut all = Vec::new(alloc);
+    for (number, byte) in text.iter().enumerate() {
+        if number % 3 == rest {
+            all.extend_from_slice(&[
+                b'=',
+                digits[(*byte >> 4) as usize],
+                digits[(*byte & 15) as usize],
+            ])?;
+        } else {
+            all.push(*byte)?;
+        }
+    }
+    Ok(all)
+}
+
+#[test]
+fn escapes_at_each_length(rt: HostRuntime) -> Result<(), Fail> {
+    let all = repeated(rt.alloc(), b"text of some letters, ", 10)?;
+    for length in 0..=200usize {
+        for rest in 0..4usize {
+            let text = joined(rt.alloc(), &[&all.as_slice()[..length], b"."])?;
+            let coded = escaped(rt.alloc(), text.as_slice(), rest)?;
+            let decoded = decode_quoted_printable(rt.alloc(), coded.as_slice())?;
+            assert_eq!(rt; Bytes(decoded.as_slice()), Bytes(text.as_slice()), "{length}");
+        }
+    }
+    Ok(())
+}
+
+/// The byte among sixteen letters and a full stop, in each lane, as a quoted-printable text reads:
+/// only `=`, LF and what stands before LF could change.
+fn first_byte_changed(alloc: Global, byte: u8) -> Result<Option<usize>, AllocError> {
+    let mut text = repeated(alloc, b"x", 36)?;
+    for lane in 0..35usize {
+        text[lane] = byte;
+        let decoded = decode_quoted_printable(alloc, text.as_slice())?;
+        if decoded.as_slice() != text.as_slice() {
+            return Ok(Some(lane));
+        }
+        text[lane] = b'x';
+    }
+    Ok(None)
+}
+
+#[test]
+fn each_byte_stays_in_each_lane(rt: HostRuntime) -> Result<(), Fail> {
+    for byte in 0..=255u8 {
+        assert_eq!(rt; first_byte_changed(rt.alloc(), byte)?, None, "{byte}");
+    }
+    Ok(())
+}
+
+/// The first number of ASCII bytes before which and after which a high byte is not read as U+00E9,
+/// in windows-1252 or in Latin-1.
+fn first_e_misread(alloc: Global, length: usize) -> Result<Option<usize>, AllocError> {
+    for place in 0..length {
+        let mut bytes = repeated(alloc, b"e", length)?;
+        bytes[place] = 0xE9;
+        let (front, back) = bytes.as_slice().split_at(place);
+        let expected = joined(alloc, &[front, b"\xC3\xA9", &back[1..]])?;
+        let text = Charset::Windows1252.decode_without_bom_handling(alloc, bytes.as_slice())?;
+        let latin1 = decode_latin1(alloc, bytes.as_slice())?;
+        if text.as_bytes() != expected.as_slice() || latin1.as_bytes() != expected.as_slice() {
+            return Ok(Some(place));
+        }
+    }
+    Ok(None)
+}
+
+#[test]
+fn a_high_byte_at_each_place_of_each_length(rt: HostRuntime) -> Result<(), Fail> {
+    for length in 0..=100usize {
+        assert_eq!(rt; first_e_misread(rt.alloc(), length)?, None, "{length}");
+    }
+    Ok(())
+}

@@ -1,0 +1,136 @@
+-- A text read in parts: blocks of letters, groups that go over line ends, and what is absent.
+use Rattle.std.proofs.Common.{◌≡◌, ℕ, zero, suc, ◌+◌, ◌*◌, ◌/◌, ◌%◌, ◌<◌, ◌≤◌, Bool, true, false, not, cond, filter, List, [], ◌∷◌, ◌++◌, length, take, drop, get_or, set, Result, Ok, Err, refl, sym, ap, ◌∙◌, inl, inr, arith}
+use Rattle.std.proofs.lemmas.Bool.{cases_Bool}
+use Rattle.std.proofs.lemmas.List.{append_assoc, drop-drop, drop_more, take-append-drop, take_more_set, length-take-le, length-drop}
+use Rattle.std.proofs.Math.Seq.{take-add}
+use Rattle.std.specs.List.{prefix_len}
+use Rattle.mail_codec.specs.Base64.{groups_from, prepend}
+use Rattle.mail_codec.specs.private.Base64.{KeepsLetters}
+use Rattle.mail_codec.specs.private.Runs.{ends_run, without_ends}
+use Rattle.mail_codec.specs.private.Vectors.{is_letter}
+use Rattle.mail_codec.specs.declared.bytescan.runs.RunEnd.{RunEnd}
+use Rattle.mail_codec.proofs.lemmas.Base64Groups.{groups_from-append, prepend-prepend, without_ends-append}
+use Rattle.mail_codec.proofs.lemmas.Base64Steps.{groups_end}
+
+-- ---- bytes that are kept, and bytes that are absent
+
+pub byte_passed : (absent : RunEnd) (text : List ℕ) (at : ℕ) → at < length text → ends_run absent (get_or text at 0) ≡ true
+    → without_ends absent (drop at text) ≡ without_ends absent (drop (at + 1) text)
+byte_passed absent text at h e = rw (drop_more text at 0 h, e) refl
+
+pub byte_kept : (absent : RunEnd) (text : List ℕ) (at : ℕ) → at < length text → ends_run absent (get_or text at 0) ≡ false
+    → without_ends absent (drop at text) ≡ get_or text at 0 ∷ without_ends absent (drop (at + 1) text)
+byte_kept absent text at h e = rw (drop_more text at 0 h, e) refl
+
+-- letters are kept
+pub letters_kept : (absent : RunEnd) → KeepsLetters absent → (m : ℕ) (xs : List ℕ) → m ≤ prefix_len is_letter xs → without_ends absent (take m xs) ≡ take m xs
+letters_kept absent keeps zero xs h = refl
+letters_kept absent keeps (suc m) [] h = refl
+letters_kept absent keeps (suc m) (x ∷ xs) h = go (is_letter x) refl h (letters_kept absent keeps m xs)
+  where
+    go : (t : Bool) → is_letter x ≡ t → suc m ≤ cond t (1 + prefix_len is_letter xs) 0
+        → (m ≤ prefix_len is_letter xs → without_ends absent (take m xs) ≡ take m xs) → without_ends absent (take (suc m) (x ∷ xs)) ≡ take (suc m) (x ∷ xs)
+    go true e h rest = rw (keeps x e) (ap (λ r. x ∷ r) (rest (omega arith)))
+    go false e h rest = absurd (omega arith)
+
+pub prefix_take : (p : ℕ → Bool) (n : ℕ) (xs : List ℕ) → prefix_len p (take n xs) ≤ prefix_len p xs
+prefix_take p zero xs = omega arith
+prefix_take p (suc n) [] = omega arith
+prefix_take p (suc n) (x ∷ xs) =
+    let rest = prefix_take p n xs in
+    elim (p x) as (λ v. cond v (1 + prefix_len p (take n xs)) 0 ≤ cond v (1 + prefix_len p xs) 0) [ true ↦ omega arith | false ↦ omega arith ]
+
+-- one more byte is gathered
+pub gathered_one : (absent : RunEnd) (text four : List ℕ) (found place b : ℕ) → found < length four → place < length text → b ≡ get_or text place 0 → ends_run absent b ≡ false
+    → take found four ++ without_ends absent (drop place text) ≡ take (found + 1) (set four found b) ++ without_ends absent (drop (place + 1) text)
+gathered_one absent text four found place b room within is kept =
+    let rest = without_ends absent (drop (place + 1) text) in
+    ap (λ r. take found four ++ r) (byte_kept absent text place within (ap (ends_run absent) (sym is) ∙ kept) ∙ ap (λ x. x ∷ rest) (sym is))
+    ∙ sym (append_assoc (take found four) (b ∷ []) rest)
+    ∙ ap (λ xs. xs ++ rest) (sym (take_more_set four found b room))
+
+-- nothing is left
+pub read_whole : (absent : RunEnd) (text out : List ℕ) (count at : ℕ)
+    → ((n : ℕ) → groups_from n (without_ends absent text) ≡ prepend (take (3 * count) out) (groups_from (n + count) (without_ends absent (drop at text))))
+    → at ≡ length text → groups_from 0 (without_ends absent text) ≡ Ok (take (3 * count) out)
+read_whole absent text out count at read e =
+    read 0 ∙ groups_end absent text (take (3 * count) out) [] at (0 + count) (omega arith) refl
+
+-- four items
+pub four_items : (xs : List ℕ) → length xs ≡ 4 → xs ≡ get_or xs 0 0 ∷ get_or xs 1 0 ∷ get_or xs 2 0 ∷ get_or xs 3 0 ∷ []
+four_items [] h = absurd (omega arith)
+four_items (a ∷ []) h = absurd (omega arith)
+four_items (a ∷ b ∷ []) h = absurd (omega arith)
+four_items (a ∷ b ∷ c ∷ []) h = absurd (omega arith)
+four_items (a ∷ b ∷ c ∷ d ∷ []) h = refl
+four_items (a ∷ b ∷ c ∷ d ∷ e ∷ xs) h = absurd (omega arith)
+
+-- ---- steps
+
+module _ (absent : RunEnd) (text : List ℕ) where
+  -- the text reads as these bytes, and then as what is left from a place on, whose first group has this number
+  abbrev pub ReadTo : List ℕ → ℕ → ℕ → Type 0
+  ReadTo bytes count at = (n : ℕ) → groups_from n (without_ends absent text) ≡ prepend bytes (groups_from (n + count) (without_ends absent (drop at text)))
+
+  -- more groups
+  pub read_more : (xs old new : List ℕ) (count at k next : ℕ) → ReadTo old count at
+      → without_ends absent (drop at text) ≡ xs ++ without_ends absent (drop next text) → length xs ≡ 4 * k → ((n : ℕ) → groups_from n xs ≡ Ok new)
+      → ReadTo (old ++ new) (count + k) next
+  read_more xs old new count at k next so_far split len read n =
+      let later = without_ends absent (drop next text) in
+      so_far n
+      ∙ ap (λ r. prepend old (groups_from (n + count) r)) split
+      ∙ ap (prepend old) (groups_from-append (n + count) xs later new (omega (arith, len)) (read (n + count)))
+      ∙ ap (λ m. prepend old (prepend new (groups_from m later))) {x = n + count + length xs / 4} {y = n + (count + k)} (omega (arith, len))
+      ∙ prepend-prepend old new (groups_from (n + (count + k)) later)
+
+  -- what stands before a place stays, and more is written there
+  written_more : (old new : List ℕ) (count k : ℕ) → take (3 * count) new ≡ take (3 * count) old
+      → take (3 * count) old ++ take (3 * k) (drop (3 * count) new) ≡ take (3 * (count + k)) new
+  written_more old new count k kept =
+      ap (λ xs. xs ++ take (3 * k) (drop (3 * count) new)) (sym kept)
+      ∙ sym (take-add (3 * count) (3 * k) new)
+      ∙ ap (λ m. take m new) {x = 3 * count + 3 * k} {y = 3 * (count + k)} (omega arith)
+
+  -- a block of letters
+  pub block_read : KeepsLetters absent → (old new : List ℕ) (count at k : ℕ) → ReadTo (take (3 * count) old) count at
+      → at + 4 * k ≤ length text → 4 * k ≤ prefix_len is_letter (drop at text) → take (3 * count) new ≡ take (3 * count) old
+      → ((n : ℕ) → groups_from n (take (4 * k) (drop at text)) ≡ Ok (take (3 * k) (drop (3 * count) new)))
+      → (count' at' : ℕ) → count' ≡ count + k → at' ≡ at + 4 * k → ReadTo (take (3 * count') new) count' at'
+  block_read keeps old new count at k so_far within letters kept read count' at' count_is at_is n =
+      let xs = take (4 * k) (drop at text) in
+      let following : drop (4 * k) (drop at text) ≡ drop at' text = drop-drop (4 * k) at text ∙ ap (λ i. drop i text) (omega (arith, at_is)) in
+      let split : without_ends absent (drop at text) ≡ xs ++ without_ends absent (drop at' text) =
+      ap (without_ends absent) (sym (take-append-drop (4 * k) (drop at text)))
+      ∙ without_ends-append absent xs (drop (4 * k) (drop at text))
+      ∙ ap (λ r. r ++ without_ends absent (drop (4 * k) (drop at text))) (letters_kept absent keeps (4 * k) (drop at text) letters)
+      ∙ ap (λ r. xs ++ without_ends absent r) following in
+      let len : length xs ≡ 4 * k = length-take-le (4 * k) (drop at text) (omega (arith, length-drop at text)) in
+      read_more xs (take (3 * count) old) (take (3 * k) (drop (3 * count) new)) count at k at' so_far split len read n
+      ∙ ap (λ bs. prepend bs (groups_from (n + (count + k)) (without_ends absent (drop at' text)))) (written_more old new count k kept)
+      ∙ ap (λ c. prepend (take (3 * c) new) (groups_from (n + c) (without_ends absent (drop at' text)))) (sym count_is)
+
+  -- one more group, perhaps over a line end
+  pub group_more : (old new : List ℕ) (count at next : ℕ) → ReadTo (take (3 * count) old) count at → take (3 * count) new ≡ take (3 * count) old
+      → ((n : ℕ) → groups_from n (without_ends absent (drop at text)) ≡ prepend (take 3 (drop (3 * count) new)) (groups_from (n + 1) (without_ends absent (drop next text))))
+      → ReadTo (take (3 * (count + 1)) new) (count + 1) next
+  group_more old new count at next so_far kept read n =
+      let later = without_ends absent (drop next text) in
+      so_far n
+      ∙ ap (prepend (take (3 * count) old)) (read (n + count))
+      ∙ prepend-prepend (take (3 * count) old) (take 3 (drop (3 * count) new)) (groups_from (n + count + 1) later)
+      ∙ ap (λ m. prepend (take (3 * count) old ++ take 3 (drop (3 * count) new)) (groups_from m later)) {x = n + count + 1} {y = n + (count + 1)} (omega arith)
+      ∙ ap (λ bs. prepend bs (groups_from (n + (count + 1)) later)) (written_more old new count 1 kept)
+
+  -- what is absent
+  pub absent_passed : (bytes : List ℕ) (count at next : ℕ) → ReadTo bytes count at
+      → without_ends absent (drop at text) ≡ without_ends absent (drop next text) → ReadTo bytes count next
+  absent_passed bytes count at next so_far passed n = so_far n ∙ ap (λ r. prepend bytes (groups_from (n + count) r)) passed
+
+-- a group of four bytes that were gathered
+pub gathered_read : (xs ys rest later bytes : List ℕ) → rest ≡ xs ++ later → length xs ≡ 4 → take 4 ys ≡ xs
+    → ((n : ℕ) → groups_from n (take 4 ys) ≡ Ok bytes) → (n : ℕ) → groups_from n rest ≡ prepend bytes (groups_from (n + 1) later)
+gathered_read xs ys rest later bytes split len front read n =
+    ap (groups_from n) split
+    ∙ groups_from-append n xs later bytes (omega (arith, len)) (ap (groups_from n) (sym front) ∙ read n)
+    ∙ ap (λ m. prepend bytes (groups_from m later)) {x = n + length xs / 4} {y = n + 1} (omega (arith, len))

@@ -1,0 +1,241 @@
+-- Letters of Base64 in a vector, and the bytes of their groups.
+use Rattle.std.proofs.Common.{◌≡◌, ℕ, zero, suc, ◌+◌, ◌-◌, ◌*◌, ◌/◌, ◌%◌, ◌^◌, ◌<◌, ◌≤◌, ◌≢◌, Bool, true, false, not, cond, ◌&&◌, ◌||◌, ◌==◌, nat_lt, bit_or, List, [], ◌∷◌, ◌++◌, map, length, take, drop, get_or, slice_index, replicate, Fits, w8, Option, Some, None, Result, Ok, Err, refl, sym, ap, subst, ◌∙◌, inl, inr, arith}
+use Rattle.std.proofs.lemmas.Bool.{agree_below, agree_below_at, and_parts, not-true, ltb-true}
+use Rattle.std.proofs.lemmas.List.{get_or-map, length-map, length-take-le, drop_more}
+use Rattle.std.proofs.lemmas.List.Sums.{prefix_len_passes, prefix_len-le-length}
+use Rattle.std.proofs.lemmas.Nat.{or_shifted, or_lt}
+use Rattle.std.proofs.lemmas.Simd.{Each1-from_get_or, get_or_narrower, get_or-zip2, get_or-replicate, length-zip2, sum_dots}
+use Rattle.std.proofs.Math.Seq.{take-add}
+use Rattle.std.specs.List.{prefix_len}
+use Rattle.std.specs.Option.{is_some}
+use lib.Lanes.{Each1, zip2, dots, digits_l, number_l, pick_l}
+use Rattle.mail_codec.specs.Base64.{letter, letter_value, padding, bytes_of_values, group_bytes, group_number, groups_from, after_group, prepend, three_bytes}
+use Rattle.mail_codec.specs.private.Vectors.{fault_of, group_of, is_letter, roll_place, three_at, value_of}
+use Rattle.mail_codec.proofs.lemmas.Vectors.{IsLanes, lane_fits}
+use Rattle.mail_codec.proofs.lemmas.Base64Letters.{is_value, is_value_true, letter-letter_value}
+use Rattle.mail_codec.proofs.lemmas.Base64Groups.{drop_four, groups_from-append}
+
+-- ---- all bytes as letters
+
+-- no fault is found at letters alone
+pub faults_agree : agree_below (λ b. not (not (fault_of b == 0))) is_letter 256 ≡ true
+unfolding letter_value
+faults_agree = refl
+
+-- a letter's value is what is computed, and it is no padding
+abbrev has_value : ℕ → Bool
+has_value b = not (is_letter b) || (is_value (letter_value b) (value_of b) && not (b == padding))
+
+values_agree : agree_below has_value (λ _. true) 256 ≡ true
+unfolding letter_value
+values_agree = refl
+
+or_right : (a b : Bool) → not a || b ≡ true → a ≡ true → b ≡ true
+or_right true b h e = h
+or_right false b h e = absurd (cc e)
+
+pub letter_read : (b : ℕ) → b < 256 → is_letter b ≡ true → (letter_value b ≡ Some (value_of b)) × (value_of b < 64) × ((b == padding) ≡ false)
+letter_read b h e =
+    let parts = and_parts _ _ (or_right _ _ (agree_below_at has_value (λ _. true) 256 b values_agree h) e) in
+    let is = is_value_true _ _ parts.0 in
+    (is, (letter-letter_value b (value_of b) is).0, not-true _ parts.1)
+
+-- ---- numbers of groups
+
+-- the weights of n groups
+abbrev pub fours : ℕ → ℕ → ℕ → ℕ → ℕ → List ℕ
+fours zero a b c d = []
+fours (suc n) a b c d = a ∷ b ∷ c ∷ d ∷ fours n a b c d
+
+abbrev pub four_sum : ℕ → ℕ → ℕ → ℕ → ℕ → ℕ → ℕ → ℕ → ℕ
+four_sum a b c d w x y z = (w * a + x * b) + (y * c + z * d)
+
+pub dots_at : (a b c d n k : ℕ) (v : List ℕ) → k < n → length v ≡ 4 * n
+    → get_or (dots v (fours n a b c d)) k 0 ≡ four_sum a b c d (get_or v (4 * k) 0) (get_or v (4 * k + 1) 0) (get_or v (4 * k + 2) 0) (get_or v (4 * k + 3) 0)
+dots_at a b c d zero k v h long = absurd (omega arith)
+dots_at a b c d (suc n) k [] h long = absurd (omega arith)
+dots_at a b c d (suc n) k (w ∷ []) h long = absurd (omega arith)
+dots_at a b c d (suc n) k (w ∷ x ∷ []) h long = absurd (omega arith)
+dots_at a b c d (suc n) k (w ∷ x ∷ y ∷ []) h long = absurd (omega arith)
+dots_at a b c d (suc n) zero (w ∷ x ∷ y ∷ z ∷ v) h long = refl
+dots_at a b c d (suc n) (suc k) (w ∷ x ∷ y ∷ z ∷ v) h long =
+    let on : (i j : ℕ) → i ≡ suc (suc (suc (suc j))) → get_or v j 0 ≡ get_or (w ∷ x ∷ y ∷ z ∷ v) i 0 = λ i j e. ap (λ m. get_or (w ∷ x ∷ y ∷ z ∷ v) m 0) (sym e) in
+    let e0 = on (4 * suc k) (4 * k) (omega arith) in
+    let e1 = on (4 * suc k + 1) (4 * k + 1) (omega arith) in
+    let e2 = on (4 * suc k + 2) (4 * k + 2) (omega arith) in
+    let e3 = on (4 * suc k + 3) (4 * k + 3) (omega arith) in
+    dots_at a b c d n k v (omega arith) (omega arith) ∙ (λ i. four_sum a b c d (e0 i) (e1 i) (e2 i) (e3 i))
+
+-- two pairs put together
+pub pairs_joined : (w x y z a b : ℕ) → w < 256 → x < 256 → y < 64 → z < 64 → a ≡ four_sum 64 1 0 0 w x y z → b ≡ four_sum 0 0 64 1 w x y z
+    → bit_or (a * 2 ^ 12 % 2 ^ 32) b ≡ group_number w x y z
+pairs_joined w x y z a b hw hx hy hz ea eb =
+    let low : a * 2 ^ 12 % 2 ^ 32 ≡ a * 2 ^ 12 = omega arith in
+    ap (λ (m : ℕ). bit_or m b) low ∙ or_shifted a 12 b (omega arith) ∙ omega arith
+
+-- the numbers of the groups of a vector of values
+module _ (v : List ℕ) (fits : IsLanes v) where
+  abbrev first_pairs : List ℕ
+  first_pairs = dots v (fours 4 64 1 0 0)
+
+  abbrev last_pairs : List ℕ
+  last_pairs = dots v (fours 4 0 0 64 1)
+
+  abbrev raised : List ℕ
+  raised = zip2 (λ a b. a * 2 ^ b % 2 ^ 32) first_pairs (replicate 4 12)
+
+  first_len : length first_pairs ≡ 4
+  first_len = (sum_dots 4 v (fours 4 64 1 0 0) fits.0 refl).1
+
+  last_len : length last_pairs ≡ 4
+  last_len = (sum_dots 4 v (fours 4 0 0 64 1) fits.0 refl).1
+
+  raised_len : length raised ≡ 4
+  raised_len = length-zip2 (λ a b. a * 2 ^ b % 2 ^ 32) first_pairs (replicate 4 12) first_len ∙ first_len
+
+  pub numbers_len : length (zip2 bit_or raised last_pairs) ≡ 4
+  numbers_len = length-zip2 bit_or raised last_pairs (raised_len ∙ sym last_len) ∙ raised_len
+
+  pub numbers_at : (k : ℕ) → k < 4 → get_or v (4 * k + 2) 0 < 64 → get_or v (4 * k + 3) 0 < 64
+      → get_or (zip2 bit_or raised last_pairs) k 0 ≡ group_number (get_or v (4 * k) 0) (get_or v (4 * k + 1) 0) (get_or v (4 * k + 2) 0) (get_or v (4 * k + 3) 0)
+  numbers_at k h hy hz =
+      get_or-zip2 bit_or raised last_pairs k 0 0 0 (omega (arith, raised_len)) (omega (arith, last_len))
+      ∙ ap (λ m. bit_or m (get_or last_pairs k 0))
+      (get_or-zip2 (λ a b. a * 2 ^ b % 2 ^ 32) first_pairs (replicate 4 12) k 0 0 0 (omega (arith, first_len)) (omega arith)
+      ∙ ap (λ s. get_or first_pairs k 0 * 2 ^ s % 2 ^ 32) (get_or-replicate 4 k 12 0 h))
+      ∙ pairs_joined (get_or v (4 * k) 0) (get_or v (4 * k + 1) 0) (get_or v (4 * k + 2) 0) (get_or v (4 * k + 3) 0) (get_or first_pairs k 0) (get_or last_pairs k 0)
+      (lane_fits v (4 * k) fits.1) (lane_fits v (4 * k + 1) fits.1) hy hz (dots_at 64 1 0 0 4 k v h fits.0) (dots_at 0 0 64 1 4 k v h fits.0)
+
+  pub numbers_fit : (k : ℕ) → k < 4 → get_or (zip2 bit_or raised last_pairs) k 0 < 2 ^ 32
+  numbers_fit k h =
+      let at = get_or-zip2 bit_or raised last_pairs k 0 0 0 (omega (arith, raised_len)) (omega (arith, last_len)) in
+      let high : get_or raised k 0 < 2 ^ 32 = omega (arith, get_or-zip2 (λ a b. a * 2 ^ b % 2 ^ 32) first_pairs (replicate 4 12) k 0 0 0 (omega (arith, first_len)) (omega arith)) in
+      let low : get_or last_pairs k 0 < 2 ^ 32 = omega (arith, dots_at 0 0 64 1 4 k v h fits.0, lane_fits v (4 * k + 2) fits.1, lane_fits v (4 * k + 3) fits.1) in
+      subst (λ m. m < 2 ^ 32) (sym at) (or_lt 32 (get_or raised k 0) (get_or last_pairs k 0) high low)
+
+-- ---- bytes of numbers
+
+-- the bytes of number k, its highest first
+module _ (ns : List ℕ) (small : Each1 (λ x. x < 2 ^ 32) ns) (k : ℕ) (within : k < 4) (below : get_or ns k 0 < 2 ^ 24) where
+  byte : (i : ℕ) → i < 4 → get_or (digits_l (2 ^ 8) 16 (number_l (2 ^ 32) ns)) (4 * k + i) 0 ≡ get_or ns k 0 / (2 ^ 8) ^ i % 2 ^ 8
+  byte i h = get_or_narrower (2 ^ 32) 4 (2 ^ 8) 16 ns k i refl small h (omega arith)
+
+  pub three_of : (x y z : ℕ) → x ≡ get_or (digits_l (2 ^ 8) 16 (number_l (2 ^ 32) ns)) (4 * k + 2) 0
+      → y ≡ get_or (digits_l (2 ^ 8) 16 (number_l (2 ^ 32) ns)) (4 * k + 1) 0
+      → z ≡ get_or (digits_l (2 ^ 8) 16 (number_l (2 ^ 32) ns)) (4 * k + 0) 0
+      → three_bytes (get_or ns k 0) ≡ x ∷ y ∷ z ∷ []
+  three_of x y z ex ey ez =
+      let n = get_or ns k 0 in
+      let hx : n / 2 ^ 16 ≡ x = sym (ex ∙ byte 2 (omega arith) ∙ (let e : n / (2 ^ 8) ^ 2 % 2 ^ 8 ≡ n / 2 ^ 16 = omega arith in e)) in
+      let hy : n / 2 ^ 8 % 2 ^ 8 ≡ y = sym (ey ∙ byte 1 (omega arith)) in
+      let hz : n % 2 ^ 8 ≡ z = sym (ez ∙ byte 0 (omega arith) ∙ (let e : n / (2 ^ 8) ^ 0 % 2 ^ 8 ≡ n % 2 ^ 8 = omega arith in e)) in
+      λ i. hx i ∷ hy i ∷ hz i ∷ []
+
+-- ---- groups
+
+-- four letters stand for the bytes of their number
+pub four_letters_read : (p q r s : ℕ) → p < 256 → q < 256 → r < 256 → s < 256 → is_letter p ≡ true → is_letter q ≡ true → is_letter r ≡ true → is_letter s ≡ true
+    → group_bytes p q r s ≡ Some (three_bytes (group_number (value_of p) (value_of q) (value_of r) (value_of s)))
+unfolding group_bytes
+four_letters_read p q r s hp hq hr hs ep eq er es =
+    let a = letter_read p hp ep in
+    let b = letter_read q hq eq in
+    let c = letter_read r hr er in
+    let d = letter_read s hs es in
+    rw (d.2, a.0, b.0, c.0, d.0) refl
+
+-- the three items at a place, and what follows them
+drop_three : (at : ℕ) (xs : List ℕ) → at + 3 ≤ length xs → drop at xs ≡ get_or xs at 0 ∷ get_or xs (at + 1) 0 ∷ get_or xs (at + 2) 0 ∷ drop (at + 3) xs
+drop_three at xs h =
+    let a : drop at xs ≡ get_or xs at 0 ∷ drop (at + 1) xs = drop_more xs at 0 (omega arith) in
+    let b : drop (at + 1) xs ≡ get_or xs (at + 1) 0 ∷ drop (at + 1 + 1) xs = drop_more xs (at + 1) 0 (omega arith) in
+    let c : drop (at + 1 + 1) xs ≡ get_or xs (at + 1 + 1) 0 ∷ drop (at + 1 + 1 + 1) xs = drop_more xs (at + 1 + 1) 0 (omega arith) in
+    let two : at + 1 + 1 ≡ at + 2 = omega arith in
+    let three : at + 1 + 1 + 1 ≡ at + 3 = omega arith in
+    rw (a, b, c, three, two) refl
+
+-- groups that stand for three bytes each
+pub groups_read : (v bytes : List ℕ) (m : ℕ) → 4 * m ≤ length v → 3 * m ≤ length bytes
+    → ((k : ℕ) → k < m → group_of v k ≡ Some (three_at bytes k))
+    → (n : ℕ) → groups_from n (take (4 * m) v) ≡ Ok (take (3 * m) bytes)
+unfolding groups_from
+groups_read v bytes zero long room each n = refl
+groups_read v bytes (suc m) long room each n =
+    let before = groups_read v bytes m (omega arith) (omega arith) (λ k h. each k (omega arith)) n in
+    let split : take (4 * suc m) v ≡ take (4 * m) v ++ take 4 (drop (4 * m) v) = ap (λ k. take k v) {x = 4 * suc m} {y = 4 * m + 4} (omega arith) ∙ take-add (4 * m) 4 v in
+    let four = ap (take 4) (drop_four (4 * m) v (omega arith)) in
+    let len : length (take (4 * m) v) ≡ 4 * m = length-take-le (4 * m) v (omega arith) in
+    let b3 : drop (3 * m) bytes ≡ get_or bytes (3 * m) 0 ∷ get_or bytes (3 * m + 1) 0 ∷ get_or bytes (3 * m + 2) 0 ∷ drop (3 * m + 3) bytes = drop_three (3 * m) bytes (omega arith) in
+    let bytes_split : take (3 * suc m) bytes ≡ take (3 * m) bytes ++ three_at bytes m = ap (λ k. take k bytes) {x = 3 * suc m} {y = 3 * m + 3} (omega arith) ∙ take-add (3 * m) 3 bytes ∙ ap (λ xs. take (3 * m) bytes ++ take 3 xs) b3 in
+    ap (groups_from n) split
+    ∙ groups_from-append n (take (4 * m) v) (take 4 (drop (4 * m) v)) (take (3 * m) bytes) (omega (arith, len)) before
+    ∙ ap (λ xs. prepend (take (3 * m) bytes) (groups_from (n + length (take (4 * m) v) / 4) xs)) four
+    ∙ ap (λ g. prepend (take (3 * m) bytes) (after_group (n + length (take (4 * m) v) / 4) g (Ok []))) (each m (omega arith))
+    ∙ ap Ok (sym bytes_split)
+
+-- each place in the table of what is added is one of sixteen
+pub roll_place_small : (b : ℕ) → b < 256 → roll_place b < 16
+roll_place_small b h = ltb-true _ _ (agree_below_at (λ x. nat_lt (roll_place x) 16) (λ _. true) 256 b refl h)
+
+-- the groups of a vector of letters, with their values, numbers and bytes
+module _ (v vs ns : List ℕ) (fits : IsLanes v) (vs_is : vs ≡ map value_of v) (ns_len : length ns ≡ 4) (ns_small : (k : ℕ) → k < 4 → get_or ns k 0 < 2 ^ 32)
+    (ns_is : (k : ℕ) → k < 4 → get_or vs (4 * k + 2) 0 < 64 → get_or vs (4 * k + 3) 0 < 64
+    → get_or ns k 0 ≡ group_number (get_or vs (4 * k) 0) (get_or vs (4 * k + 1) 0) (get_or vs (4 * k + 2) 0) (get_or vs (4 * k + 3) 0)) where
+  ns_fit : Each1 (λ x. x < 2 ^ 32) ns
+  ns_fit = Each1-from_get_or (λ x. x < 2 ^ 32) ns 0 (λ i h. ns_small i (omega (arith, ns_len)))
+
+  value_at : (i : ℕ) → i < 16 → get_or vs i 0 ≡ value_of (get_or v i 0)
+  value_at i h = ap (λ l. get_or l i 0) vs_is ∙ get_or-map value_of v i 0 0 (omega (arith, fits.0))
+
+  abbrev bytes : List ℕ
+  bytes = digits_l (2 ^ 8) 16 (number_l (2 ^ 32) ns)
+
+  group_read : (k : ℕ) → k < 4 → 4 * k + 4 ≤ prefix_len is_letter v → (x y z : ℕ) → x ≡ get_or bytes (4 * k + 2) 0 → y ≡ get_or bytes (4 * k + 1) 0 → z ≡ get_or bytes (4 * k + 0) 0
+      → group_of v k ≡ Some (x ∷ y ∷ z ∷ [])
+  group_read k h letters x y z ex ey ez =
+      let is = λ (i : ℕ) (l : i < prefix_len is_letter v). prefix_len_passes is_letter v i 0 l in
+      let l0 = is (4 * k) (omega arith) in
+      let l1 = is (4 * k + 1) (omega arith) in
+      let l2 = is (4 * k + 2) (omega arith) in
+      let l3 = is (4 * k + 3) (omega arith) in
+      let b0 = lane_fits v (4 * k) fits.1 in
+      let b1 = lane_fits v (4 * k + 1) fits.1 in
+      let b2 = lane_fits v (4 * k + 2) fits.1 in
+      let b3 = lane_fits v (4 * k + 3) fits.1 in
+      let v0 = value_at (4 * k) (omega arith) in
+      let v1 = value_at (4 * k + 1) (omega arith) in
+      let v2 = value_at (4 * k + 2) (omega arith) in
+      let v3 = value_at (4 * k + 3) (omega arith) in
+      let r0 = (letter_read (get_or v (4 * k) 0) b0 l0).1 in
+      let r1 = (letter_read (get_or v (4 * k + 1) 0) b1 l1).1 in
+      let r2 = (letter_read (get_or v (4 * k + 2) 0) b2 l2).1 in
+      let r3 = (letter_read (get_or v (4 * k + 3) 0) b3 l3).1 in
+      let n = ns_is k h (omega (arith, v2, r2)) (omega (arith, v3, r3)) in
+      let same : group_number (value_of (get_or v (4 * k) 0)) (value_of (get_or v (4 * k + 1) 0)) (value_of (get_or v (4 * k + 2) 0)) (value_of (get_or v (4 * k + 3) 0)) ≡ get_or ns k 0 =
+      (λ i. group_number (sym v0 i) (sym v1 i) (sym v2 i) (sym v3 i)) ∙ sym n in
+      four_letters_read (get_or v (4 * k) 0) (get_or v (4 * k + 1) 0) (get_or v (4 * k + 2) 0) (get_or v (4 * k + 3) 0) b0 b1 b2 b3 l0 l1 l2 l3
+      ∙ ap (λ m. Some (three_bytes m)) same
+      ∙ ap Some (three_of ns ns_fit k h (omega (arith, same, r0, r1, r2, r3)) x y z ex ey ez)
+
+  abbrev pub ordered : List ℕ
+  ordered = pick_l 0 (bytes ++ bytes) (2 ∷ 1 ∷ 0 ∷ 6 ∷ 5 ∷ 4 ∷ 10 ∷ 9 ∷ 8 ∷ 14 ∷ 13 ∷ 12 ∷ 3 ∷ 7 ∷ 11 ∷ 15 ∷ [])
+
+  pub ordered_groups : (k : ℕ) → 4 * k + 4 ≤ prefix_len is_letter v → group_of v k ≡ Some (three_at ordered k)
+  ordered_groups zero h = group_read 0 (omega arith) h _ _ _ refl refl refl
+  ordered_groups (suc zero) h = group_read 1 (omega arith) h _ _ _ refl refl refl
+  ordered_groups (suc (suc zero)) h = group_read 2 (omega arith) h _ _ _ refl refl refl
+  ordered_groups (suc (suc (suc zero))) h = group_read 3 (omega arith) h _ _ _ refl refl refl
+  ordered_groups (suc (suc (suc (suc k)))) h = absurd (omega (arith, h, prefix_len-le-length is_letter v, fits.0))
+
+-- ---- letters in a text
+
+some_of : (o : Option ℕ) → is_some o ≡ true → (v : ℕ) × (o ≡ Some v)
+some_of None h = absurd (cc h)
+some_of (Some v) h = (v, refl)
+
+-- what fails for each of the 64 letters
+pub letters_fail : (t : ℕ → Bool) → agree_below (λ v. t (letter v)) (λ _. false) 64 ≡ true → (b : ℕ) → is_letter b ≡ true → t b ≡ false
+letters_fail t all b h =
+    let s = some_of (letter_value b) h in
+    let p = letter-letter_value b s.0 s.1 in
+    subst (λ x. t x ≡ false) p.1 (agree_below_at (λ v. t (letter v)) (λ _. false) 64 s.0 all p.0)

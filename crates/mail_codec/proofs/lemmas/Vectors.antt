@@ -1,0 +1,146 @@
+-- Vectors of sixteen bytes, lane by lane.
+use Rattle.std.proofs.Common.{◌≡◌, ℕ, zero, suc, ◌+◌, ◌*◌, ◌/◌, ◌^◌, ◌%◌, ◌<◌, ◌≤◌, ◌-◌, Bool, true, false, not, cond, ◌==◌, ◌||◌, bit_or, List, [], ◌∷◌, map, length, take, drop, get_or, replicate, Fits, w8, refl, sym, ap, ◌∙◌, arith}
+use Rattle.std.proofs.lemmas.List.{get_or-map, length-map, ext_get_or}
+use Rattle.std.proofs.lemmas.Bool.{agree_below, agree_below_at}
+use Rattle.std.proofs.lemmas.Simd.{Each1-from_get_or, below_from_Fits, swz_l, SwzOk, SwzOk-from_below, length-swz_l, get_or-swz_l_below, map-map, bitmask_splat, mask_l-mod, zip2_splat, zip2_splat_left, zip2_of_maps, leading_from_mask_l, trailing_mask_l}
+use Rattle.std.specs.List.{prefix_len}
+use Rattle.std.specs.Prelude.{nat_lt, nat_le}
+use Rattle.mail_codec.specs.Places.{begins, first_place}
+use Rattle.mail_codec.proofs.lemmas.Places.{first_place-begins}
+use Rattle.std.specs.Int.{w64, trailing_zeros}
+use mir.Val.{bits, hbits}
+use lib.Lanes.{Each1, zip2, mask_l, top, sel_l, put_chunk}
+
+-- what a vector's lanes are
+abbrev pub IsLanes : List ℕ → Type 0
+IsLanes v = (length v ≡ 16) × Each1 (Fits w8) v
+
+pub lane_fits : (v : List ℕ) (i : ℕ) → Each1 (Fits w8) v → get_or v i 0 < 256
+lane_fits [] i h = omega arith
+lane_fits (x ∷ xs) zero h = h.0.fits
+lane_fits (x ∷ xs) (suc i) h = lane_fits xs i h.1
+
+-- ---- look-ups
+
+-- a table of sixteen, read at places that are computed lane by lane
+module _ (t : List ℕ) (g : ℕ → ℕ) (v js : List ℕ) (fits : IsLanes v) (e : js ≡ map g v) (small : (x : ℕ) → x < 256 → g x < 16) where
+  long : length js ≡ 16
+  long = ap length e ∙ length-map v g ∙ fits.0
+
+  at : (i : ℕ) → i < 16 → (get_or js i 0 ≡ g (get_or v i 0)) × (get_or js i 0 < 16)
+  at i h =
+      let is : get_or js i 0 ≡ g (get_or v i 0) = ap (λ l. get_or l i 0) e ∙ get_or-map g v i 0 0 (omega (arith, fits.0)) in
+      (is, omega (arith, is, small (get_or v i 0) (lane_fits v i fits.1)))
+
+  pub places_ok : SwzOk w8 16 16 0 js
+  places_ok = SwzOk-from_below w8 16 1 16 0 js refl (omega (arith, long)) (Each1-from_get_or (λ j. j < 16) js 0 (λ i h. (at i (omega (arith, long))).1))
+
+  pub looked_up : swz_l w8 16 t 0 js ≡ map (λ x. get_or t (g x) 0) v
+  looked_up =
+      ext_get_or 0 _ _ (length-swz_l w8 16 t 0 js ∙ long ∙ sym (length-map v (λ x. get_or t (g x) 0) ∙ fits.0)) (λ i h.
+      let lt : i < 16 = omega (arith, length-swz_l w8 16 t 0 js, long) in
+      let is = at i lt in
+      get_or-swz_l_below w8 16 t 0 js i (omega (arith, long)) is.1
+      ∙ ap (λ k. get_or t k 0) {x = 16 * ((0 + i) / 16) + get_or js i 0} {y = get_or js i 0} (omega arith)
+      ∙ ap (λ k. get_or t k 0) is.0 ∙ sym (get_or-map (λ x. get_or t (g x) 0) v i 0 0 (omega (arith, fits.0))))
+
+-- ---- how many lanes come before the first that passes
+
+-- two tests that agree on all bytes
+pub prefix_same : (p q : ℕ → Bool) → agree_below p q 256 ≡ true → (v : List ℕ) → Each1 (Fits w8) v → prefix_len p v ≡ prefix_len q v
+prefix_same p q all [] h = refl
+prefix_same p q all (x ∷ v) h = rw (agree_below_at p q 256 x all h.0.fits, prefix_same p q all v h.1) refl
+
+module _ (p q : ℕ → Bool) (v : List ℕ) (fits : IsLanes v) (mask : ℕ) (is : mask ≡ mask_l (map p v)) (agree : agree_below (λ x. not (p x)) q 256 ≡ true) where
+  pub none_marked : mask ≡ 0 → 16 ≡ prefix_len q v
+  none_marked e = sym fits.0 ∙ sym (leading_from_mask_l p v (sym is ∙ e)) ∙ prefix_same _ q agree v fits.1
+
+  pub first_marked : ((mask ≡ 0) → ⊥) → trailing_zeros w64 mask ≡ prefix_len q v
+  first_marked some =
+      ap (trailing_zeros w64) is
+      ∙ trailing_mask_l p 64 v (omega (arith, fits.0)) (omega (arith, is, some))
+      ∙ prefix_same _ q agree v fits.1
+
+-- the mask of a comparison of computed lanes with one number
+pub marks_of : (t : ℕ → ℕ → Bool) (f : ℕ → ℕ) (y : ℕ) (v fs : List ℕ) → length v ≡ 16 → fs ≡ map f v
+    → mask_l (map (top (hbits w8)) (zip2 (λ a b. cond (t a b) (2 ^ bits w8 - 1) 0) fs (replicate 16 y))) % 2 ^ 64 ≡ mask_l (map (λ x. t (f x) y) v)
+marks_of t f y v fs long is =
+    bitmask_splat w8 t fs 16 y (ap length is ∙ length-map v f ∙ long) (omega arith)
+    ∙ ap (λ l. mask_l (map (λ x. t x y) l)) is
+    ∙ ap mask_l (map-map (λ x. t x y) f v)
+
+pub itself : (v : List ℕ) → v ≡ map (λ x. x) v
+itself [] = refl
+itself (x ∷ xs) = ap (λ r. x ∷ r) (itself xs)
+
+-- one of two numbers in each lane
+pub chosen : (p : ℕ → Bool) (x y n : ℕ) (v : List ℕ) → length v ≡ n → sel_l (map p v) (replicate n x) (replicate n y) ≡ map (λ b. cond (p b) x y) v
+chosen p x y zero [] h = refl
+chosen p x y zero (b ∷ v) h = absurd (omega arith)
+chosen p x y (suc n) [] h = absurd (omega arith)
+chosen p x y (suc n) (b ∷ v) h = ap (λ r. cond (p b) x y ∷ r) (chosen p x y n v (omega arith))
+
+-- ---- a store
+
+pub stored_before : (i : ℕ) (xs ys : List ℕ) → take i (put_chunk i xs ys) ≡ take i xs
+stored_before zero xs ys = refl
+stored_before (suc i) [] ys = refl
+stored_before (suc i) (x ∷ xs) ys = ap (λ r. x ∷ r) (stored_before i xs ys)
+
+pub stored_at : (i m : ℕ) (xs ys : List ℕ) → i + length ys ≤ length xs → m ≤ length ys → take m (drop i (put_chunk i xs ys)) ≡ take m ys
+stored_at zero zero xs ys h g = refl
+stored_at zero (suc m) xs [] h g = absurd (omega arith)
+stored_at zero (suc m) [] (y ∷ ys) h g = absurd (omega arith)
+stored_at zero (suc m) (x ∷ xs) (y ∷ ys) h g = ap (λ r. y ∷ r) (stored_at zero m xs ys (omega arith) (omega arith))
+stored_at (suc i) m [] ys h g = absurd (omega arith)
+stored_at (suc i) m (x ∷ xs) ys h g = stored_at i m xs ys (omega arith) g
+
+-- ---- marks
+
+flag : (t : Bool) → top 7 (cond t 255 0) ≡ t
+flag true = refl
+flag false = refl
+
+flag_or : (s t : Bool) → top 7 (bit_or (cond s 255 0) (cond t 255 0)) ≡ s || t
+flag_or true true = refl
+flag_or true false = refl
+flag_or false true = refl
+flag_or false false = refl
+
+-- the mask of computed lanes
+lanes_marked : (f : ℕ → ℕ) (p : ℕ → Bool) (v z : List ℕ) → length v ≡ 16 → z ≡ map f v → ((x : ℕ) → top 7 (f x) ≡ p x)
+    → mask_l (map (top 7) z) % 2 ^ 64 ≡ mask_l (map p v)
+lanes_marked f p v z long is same =
+    ap (λ l. mask_l (map (top 7) l) % 2 ^ 64) is
+    ∙ ap (λ l. mask_l l % 2 ^ 64) (map-map (top 7) f v)
+    ∙ mask_l-mod (map (λ x. top 7 (f x)) v) 64 (omega (arith, length-map v (λ x. top 7 (f x)), long))
+    ∙ (λ i. mask_l (map (λ x. same x i) v))
+
+pub equal_marked : (a : ℕ) (v : List ℕ) → length v ≡ 16
+    → mask_l (map (top 7) (zip2 (λ x y. cond (x == y) 255 0) v (replicate 16 a))) % 2 ^ 64 ≡ mask_l (map (λ b. b == a) v)
+equal_marked a v long = lanes_marked (λ x. cond (x == a) 255 0) (λ b. b == a) v _ long (zip2_splat (λ x y. cond (x == y) 255 0) v 16 a long) (λ x. flag (x == a))
+
+pub either_marked : (a c : ℕ) (v : List ℕ) → length v ≡ 16
+    → mask_l (map (top 7) (zip2 bit_or (zip2 (λ x y. cond (x == y) 255 0) v (replicate 16 a)) (zip2 (λ x y. cond (x == y) 255 0) v (replicate 16 c)))) % 2 ^ 64
+    ≡ mask_l (map (λ b. b == a || b == c) v)
+either_marked a c v long =
+    lanes_marked (λ x. bit_or (cond (x == a) 255 0) (cond (x == c) 255 0)) (λ b. b == a || b == c) v _ long
+    (zip2_of_maps bit_or _ _ v (zip2_splat (λ x y. cond (x == y) 255 0) v 16 a long) (zip2_splat (λ x y. cond (x == y) 255 0) v 16 c long))
+    (λ x. flag_or (x == a) (x == c))
+
+pub below_marked : (a : ℕ) (v : List ℕ) → length v ≡ 16
+    → mask_l (map (top 7) (zip2 (λ x y. cond (nat_lt x y) 255 0) v (replicate 16 a))) % 2 ^ 64 ≡ mask_l (map (λ b. nat_lt b a) v)
+below_marked a v long = lanes_marked (λ x. cond (nat_lt x a) 255 0) (λ b. nat_lt b a) v _ long (zip2_splat (λ x y. cond (nat_lt x y) 255 0) v 16 a long) (λ x. flag (nat_lt x a))
+
+pub from_marked : (a : ℕ) (v : List ℕ) → length v ≡ 16
+    → mask_l (map (top 7) (zip2 (λ x y. cond (nat_le x y) 255 0) (replicate 16 a) v)) % 2 ^ 64 ≡ mask_l (map (λ b. nat_le a b) v)
+from_marked a v long = lanes_marked (λ x. cond (nat_le a x) 255 0) (λ b. nat_le a b) v _ long (zip2_splat_left (λ x y. cond (nat_le x y) 255 0) a 16 v long) (λ x. flag (nat_le a x))
+
+-- the first lane that passes, by a mask
+pub first_lane_none : (test : ℕ → Bool) (v : List ℕ) (mask : ℕ) → length v ≡ 16 → mask ≡ mask_l (map test v) → mask ≡ 0 → 16 ≡ first_place (begins test) v
+first_lane_none test v mask long is none = sym long ∙ sym (leading_from_mask_l test v (sym is ∙ none)) ∙ sym (first_place-begins test v)
+
+pub first_lane_some : (test : ℕ → Bool) (v : List ℕ) (mask : ℕ) → length v ≡ 16 → mask ≡ mask_l (map test v) → ((mask ≡ 0) → ⊥)
+    → trailing_zeros w64 mask ≡ first_place (begins test) v
+first_lane_some test v mask long is some =
+    ap (trailing_zeros w64) is ∙ trailing_mask_l test 64 v (omega (arith, long)) (omega (arith, is, some)) ∙ sym (first_place-begins test v)

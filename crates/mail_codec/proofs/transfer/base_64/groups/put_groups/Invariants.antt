@@ -1,0 +1,14 @@
+use Rattle.std.proofs.Common.{◌≡◌, ◌≤◌, ◌*◌, ◌-◌, length, take}
+use Rattle.mail_codec.proofs.lemmas.Base64Parts.{ReadTo}
+use Rattle.mail_codec.proofs.transfer.base_64.groups.put_groups.Given as goal
+
+-- the text reads as the bytes that were written, and then as what is left
+abbrev pub invariant-parts : goal.invariant-parts
+invariant-parts l = record {
+  within : l.at ≤ length l.text;
+  counted : 4 * l.count ≤ l.at;
+  read : ReadTo l.absent l.text (take (3 * l.count) l.output) l.count l.at;
+}
+
+abbrev pub decreases-parts : goal.decreases-parts
+decreases-parts l = length l.text - l.at

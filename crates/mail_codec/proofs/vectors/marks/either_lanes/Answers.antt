@@ -1,0 +1,5 @@
+use Rattle.mail_codec.proofs.lemmas.Vectors.{either_marked}
+use Rattle.mail_codec.proofs.vectors.marks.either_lanes.Goals as goal
+
+pub returns : goal.returns
+returns c = either_marked c.args.first c.args.second c.args.bytes c.fits-bytes.0

@@ -1,0 +1,41 @@
+-- What is told of vectors of sixteen bytes, each seen as the list of its lanes; this crate's own words.
+use Rattle.std.specs.Prelude.{ℕ, ◌+◌, ◌*◌, ◌/◌, ◌%◌, ◌==◌, Bool, map, List, [], ◌∷◌, Option, slice_index, bit_and, if◌then◌else◌}
+use Rattle.std.specs.Option.{is_some}
+use Rattle.std.specs.Simd.Lanes.{mask_l}
+use Rattle.mail_codec.specs.Base64.{letter_value, group_bytes}
+use Rattle.mail_codec.specs.declared.vectors.letters.TheConstants.{HIGH_FAULTS, LOW_FAULTS, ROLLS}
+
+-- A bit for each lane, which is 1 where the lane passes the test; the lowest is that of the first.
+abbrev pub lane_mask : (ℕ → Bool) → List ℕ → ℕ
+lane_mask test lanes = mask_l (map test lanes)
+
+-- The byte is a letter of Base64.
+abbrev pub is_letter : ℕ → Bool
+is_letter b = is_some (letter_value b)
+
+-- What is wrong with a byte by both of its halves; 0 for letters alone.
+abbrev pub fault_of : ℕ → ℕ
+fault_of b = bit_and (slice_index HIGH_FAULTS (b / 16)) (slice_index LOW_FAULTS (bit_and b 15))
+
+-- 255, which is one less than nothing, at `/`.
+abbrev pub slash_mark : ℕ → ℕ
+slash_mark b = if b == 47 then 255 else 0
+
+-- The place in the table of what is added to a letter.
+abbrev pub roll_place : ℕ → ℕ
+roll_place b = (b / 16 + slash_mark b) % 256
+
+abbrev pub roll_of : ℕ → ℕ
+roll_of b = slice_index ROLLS (roll_place b)
+
+-- The value of a letter.
+abbrev pub value_of : ℕ → ℕ
+value_of b = (b + roll_of b) % 256
+
+-- The bytes of group k of some letters, if it is a group.
+abbrev pub group_of : List ℕ → ℕ → Option (List ℕ)
+group_of letters k = group_bytes (slice_index letters (4 * k)) (slice_index letters (4 * k + 1)) (slice_index letters (4 * k + 2)) (slice_index letters (4 * k + 3))
+
+-- The three bytes from place 3k on.
+abbrev pub three_at : List ℕ → ℕ → List ℕ
+three_at bytes k = slice_index bytes (3 * k) ∷ slice_index bytes (3 * k + 1) ∷ slice_index bytes (3 * k + 2) ∷ []

@@ -1,0 +1,155 @@
+//! Base64 groups read where they lie: sixteen letters at a time, and four at a time where a line
+//! ends within a group.
+ghost use Rattle.std.specs.Prelude.{◌≡◌, ℕ, ◌+◌, ◌*◌, ◌/◌, ◌≤◌, ◌++◌, Ok, length, take, drop, OnSome, IfSome};
+ghost use Rattle.std.specs.List.{prefix_len};
+ghost use Rattle.mail_codec.specs.Base64.{groups_from, prepend};
+ghost use Rattle.mail_codec.specs.private.Base64.{KeepsLetters};
+ghost use Rattle.mail_codec.specs.private.Runs.{without_ends};
+ghost use Rattle.mail_codec.specs.private.Vectors.{is_letter};
+
+use crate::bytescan::runs::RunEnd;
+use crate::vectors::LANES;
+use crate::vectors::letters::{letters_len, packed};
+use std::simd::prelude::*;
+
+/// Writes the bytes of the groups at the front of the text to the front of `output`, up to the first
+/// that is not four letters. Returns how many groups these are, and where the text goes on after them. The
+/// bytes after theirs are written over.
+#[inline(always)]
+pub(crate) fn put_groups(output: &mut [u8], text: &[u8], absent: RunEnd) -> (usize, usize)
+    requires room { length text.now / 4 * 3 + 16 ≤ length output.old }
+    requires letters { KeepsLetters absent }
+    ensures within { result.1 ≤ length text.now }
+    ensures counted { 4 * result.0 ≤ result.1 }
+    ensures read { (n : ℕ) → groups_from n (without_ends absent text.now)
+        ≡ prepend (take (3 * result.0) output.new)
+            (groups_from (n + result.0) (without_ends absent (drop result.1 text.now))) }
+{
+    let mut count = 0;
+    let mut at = 0;
+    'parts: while at < text.len() {
+        let len = put_block(output, 3 * count, text, at);
+        if len == LANES {
+            count += LANES / 4;
+            at += LANES;
+            continue;
+        }
+        count += len / 4;
+        at += len / 4 * 4;
+        let next = after_absent(text, at, absent);
+        if next > at {
+            at = next;
+            continue;
+        }
+        let Some(next) = put_next_group(output, 3 * count, text, at, absent) else {
+            return (count, at);
+        };
+        count += 1;
+        at = next;
+    }
+    (count, at)
+}
+
+/// Writes the bytes of the groups of letters at the front of the next sixteen bytes to a place.
+/// Returns how many letters come before the first byte that is none, or 0 where fewer bytes are
+/// left.
+#[inline(always)]
+fn put_block(output: &mut [u8], place: usize, text: &[u8], at: usize) -> usize
+    requires room { place + 16 ≤ length output.old }
+    requires within { at ≤ length text.now }
+    ensures bounds { result ≤ 16 }
+    ensures within { at + result ≤ length text.now }
+    ensures letters { result ≤ prefix_len is_letter (drop at text.now) }
+    ensures kept { take place output.new ≡ take place output.old }
+    ensures read { (k n : ℕ) → 4 * k ≤ result → groups_from n (take (4 * k) (drop at text.now))
+        ≡ Ok (take (3 * k) (drop place output.new)) }
+{
+    if text.len() - at < LANES {
+        return 0;
+    }
+    put_letters(output, place, u8x16::from_slice(&text[at..]))
+}
+
+/// Writes the bytes of the groups at the front of the letters to a place. Returns how many letters
+/// come before the first byte that is none; what is written after the groups that they make means
+/// nothing.
+#[inline(always)]
+fn put_letters(output: &mut [u8], place: usize, letters: u8x16) -> usize
+    requires room { place + 16 ≤ length output.old }
+    ensures len { result ≡ prefix_len is_letter letters }
+    ensures bounds { result ≤ 16 }
+    ensures kept { take place output.new ≡ take place output.old }
+    ensures read { (k n : ℕ) → 4 * k ≤ result
+        → groups_from n (take (4 * k) letters) ≡ Ok (take (3 * k) (drop place output.new)) }
+{
+    packed(letters).copy_to_slice(&mut output[place..]);
+    letters_len(letters)
+}
+
+/// Writes the three bytes of the next four bytes that are not absent, and returns the place after
+/// them; or returns `None` where not all of them are letters.
+fn put_next_group(
+    output: &mut [u8],
+    place: usize,
+    text: &[u8],
+    at: usize,
+    absent: RunEnd,
+) -> Option<usize>
+    requires room { place + 16 ≤ length output.old }
+    requires within { at ≤ length text.now }
+    ensures kept { take place output.new ≡ take place output.old }
+    ensures bounds { IfSome result (λ next. next ≤ length text.now) }
+    ensures later { IfSome result (λ next. at + 4 ≤ next) }
+    ensures read { IfSome result (λ next. (n : ℕ) → groups_from n (without_ends absent (drop at text.now))
+        ≡ prepend (take 3 (drop place output.new))
+            (groups_from (n + 1) (without_ends absent (drop next text.now)))) }
+{
+    let (group, next) = next_four(text, at, absent)?;
+    let [p, q, r, s] = group;
+    let letters = u8x16::from_array([p, q, r, s, 0, 0, 0, 0, 0, 0, 0, 0, 0, 0, 0, 0]);
+    if put_letters(output, place, letters) < 4 {
+        return None;
+    }
+    Some(next)
+}
+
+/// The next four bytes that are not absent, and the place after them.
+fn next_four(text: &[u8], at: usize, absent: RunEnd) -> Option<([u8; 4], usize)>
+    requires within { at ≤ length text.now }
+    ensures bounds { IfSome result (λ found. found.1 ≤ length text.now) }
+    ensures later { IfSome result (λ found. at + 4 ≤ found.1) }
+    ensures len { IfSome result (λ found. length found.0 ≡ 4) }
+    ensures four { IfSome result (λ found. without_ends absent (drop at text.now)
+        ≡ found.0 ++ without_ends absent (drop found.1 text.now)) }
+{
+    let mut four = [0u8; 4];
+    let mut found = 0;
+    'bytes: for place in at..text.len() {
+        let byte = text[place];
+        if absent.is_met_by(byte) {
+            continue;
+        }
+        four[found] = byte;
+        found += 1;
+        if found == 4 {
+            return Some((four, place + 1));
+        }
+    }
+    None
+}
+
+/// The first place from `at` on whose byte is not absent, or the length where there is none.
+#[inline(always)]
+fn after_absent(text: &[u8], at: usize, absent: RunEnd) -> usize
+    requires within { at ≤ length text.now }
+    ensures after { at ≤ result }
+    ensures bounds { result ≤ length text.now }
+    ensures passed { without_ends absent (drop at text.now)
+        ≡ without_ends absent (drop result text.now) }
+{
+    let mut place = at;
+    'absent: while place < text.len() && absent.is_met_by(text[place]) {
+        place += 1;
+    }
+    place
+}

@@ -1,0 +1,123 @@
+//! Letters of Base64 in vectors: which bytes are letters, and the bytes that groups stand for.
+ghost use Rattle.std.specs.Prelude.{◌≡◌, ℕ, Some, ◌+◌, ◌*◌, ◌/◌, ◌^◌, ◌<◌, ◌≤◌, length, map, slice_index, bit_and};
+ghost use Rattle.std.specs.List.{prefix_len};
+ghost use Rattle.mail_codec.specs.Base64.{group_number};
+ghost use Rattle.mail_codec.specs.private.Vectors.{fault_of, group_of, is_letter, roll_of, roll_place, slash_mark, three_at, value_of};
+
+use super::LANES;
+use std::simd::prelude::*;
+
+/// What may be wrong with a byte, by its upper half. Where a bit stands here and in `LOW_FAULTS`,
+/// the byte is no letter.
+const HIGH_FAULTS: [u8; 16] = [
+    0x10, 0x10, 0x01, 0x02, 0x04, 0x08, 0x04, 0x08, 0x10, 0x10, 0x10, 0x10, 0x10, 0x10, 0x10, 0x10,
+];
+
+/// What may be wrong with a byte, by its lower half.
+const LOW_FAULTS: [u8; 16] = [
+    0x15, 0x11, 0x11, 0x11, 0x11, 0x11, 0x11, 0x11, 0x11, 0x11, 0x13, 0x1A, 0x1B, 0x1B, 0x1B, 0x1A,
+];
+
+/// What has to be added to a letter for its value, by the letter's upper half; of `/` by 1.
+const ROLLS: [u8; 16] = [0, 16, 19, 4, 191, 191, 185, 185, 0, 0, 0, 0, 0, 0, 0, 0];
+
+/// Weights that put the first two values of a group together.
+const FIRST_PAIR: [u8; 16] = [64, 1, 0, 0, 64, 1, 0, 0, 64, 1, 0, 0, 64, 1, 0, 0];
+
+/// Weights that put the last two values of a group together.
+const LAST_PAIR: [u8; 16] = [0, 0, 64, 1, 0, 0, 64, 1, 0, 0, 64, 1, 0, 0, 64, 1];
+
+/// How many bytes come before the first that is no letter.
+#[inline(always)]
+pub(crate) fn letters_len(bytes: u8x16) -> usize
+    ensures { result ≡ prefix_len is_letter bytes }
+{
+    let mask = faults(bytes).simd_ne(u8x16::splat(0)).to_bitmask();
+    if mask == 0 {
+        LANES
+    } else {
+        mask.trailing_zeros() as usize
+    }
+}
+
+/// The bytes that groups of letters stand for, three for each group, one after another; the last
+/// four bytes mean nothing.
+#[inline(always)]
+pub(crate) fn packed(letters: u8x16) -> u8x16
+    ensures len { length result ≡ 16 }
+    ensures groups { (k : ℕ) → 4 * k + 4 ≤ prefix_len is_letter letters
+        → group_of letters k ≡ Some (three_at result k) }
+{
+    numbers(values(letters))
+        .to_le_bytes()
+        .swizzle([2, 1, 0, 6, 5, 4, 10, 9, 8, 14, 13, 12, 3, 7, 11, 15])
+}
+
+/// 0 where the byte is a letter.
+#[inline(always)]
+fn faults(bytes: u8x16) -> u8x16
+    ensures { result ≡ map fault_of bytes }
+{
+    high_faults(bytes) & low_faults(bytes)
+}
+
+#[inline(always)]
+fn high_faults(bytes: u8x16) -> u8x16
+    ensures { result ≡ map (λ b. slice_index HIGH_FAULTS (b / 16)) bytes }
+{
+    u8x16::from_array(HIGH_FAULTS).swizzle_dyn(bytes >> u8x16::splat(4))
+}
+
+#[inline(always)]
+fn low_faults(bytes: u8x16) -> u8x16
+    ensures { result ≡ map (λ b. slice_index LOW_FAULTS (bit_and b 15)) bytes }
+{
+    u8x16::from_array(LOW_FAULTS).swizzle_dyn(bytes & u8x16::splat(15))
+}
+
+/// The value of each letter.
+#[inline(always)]
+fn values(letters: u8x16) -> u8x16
+    ensures { result ≡ map value_of letters }
+{
+    letters + rolls(letters)
+}
+
+#[inline(always)]
+fn rolls(letters: u8x16) -> u8x16
+    ensures { result ≡ map roll_of letters }
+{
+    u8x16::from_array(ROLLS).swizzle_dyn(roll_places(letters))
+}
+
+#[inline(always)]
+fn roll_places(letters: u8x16) -> u8x16
+    ensures { result ≡ map roll_place letters }
+{
+    (letters >> u8x16::splat(4)) + slash_marks(letters)
+}
+
+#[inline(always)]
+fn slash_marks(letters: u8x16) -> u8x16
+    ensures { result ≡ map slash_mark letters }
+{
+    letters
+        .simd_eq(u8x16::splat(b'/'))
+        .select(u8x16::splat(255), u8x16::splat(0))
+}
+
+/// The number of 24 bits that the values of each group make.
+#[inline(always)]
+fn numbers(values: u8x16) -> u32x4
+    ensures len { length result ≡ 4 }
+    ensures fits { (k : ℕ) → k < 4 → slice_index result k < 2 ^ 32 }
+    ensures lanes { (k : ℕ) → k < 4 → slice_index values (4 * k + 2) < 64
+        → slice_index values (4 * k + 3) < 64
+        → slice_index result k ≡ group_number (slice_index values (4 * k))
+            (slice_index values (4 * k + 1)) (slice_index values (4 * k + 2))
+            (slice_index values (4 * k + 3)) }
+{
+    let first = values.dot4(u8x16::from_array(FIRST_PAIR));
+    let last = values.dot4(u8x16::from_array(LAST_PAIR));
+    (first << u32x4::splat(12)) | last
+}

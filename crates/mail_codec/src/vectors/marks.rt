@@ -1,0 +1,53 @@
+//! Which bytes of a vector pass a test: a mask has a bit for each byte, the lowest for the first.
+ghost use Rattle.std.specs.Prelude.{◌≡◌, ℕ, Bool, List, length, ◌==◌, ◌||◌, nat_lt, nat_le};
+ghost use Rattle.mail_codec.specs.Places.{begins, first_place};
+ghost use Rattle.mail_codec.specs.private.Vectors.{lane_mask};
+
+use super::LANES;
+use std::simd::prelude::*;
+
+/// Marks the bytes that are `wanted`.
+#[inline(always)]
+pub(crate) fn equal_lanes(bytes: u8x16, wanted: u8) -> u64
+    ensures { result ≡ lane_mask (λ b. b == wanted) bytes }
+{
+    bytes.simd_eq(u8x16::splat(wanted)).to_bitmask()
+}
+
+/// Marks the bytes that are `first` or `second`.
+#[inline(always)]
+pub(crate) fn either_lanes(bytes: u8x16, first: u8, second: u8) -> u64
+    ensures { result ≡ lane_mask (λ b. b == first || b == second) bytes }
+{
+    let marks = bytes.simd_eq(u8x16::splat(first)) | bytes.simd_eq(u8x16::splat(second));
+    marks.to_bitmask()
+}
+
+/// Marks the bytes that are below `bound`.
+#[inline(always)]
+pub(crate) fn lanes_below(bytes: u8x16, bound: u8) -> u64
+    ensures { result ≡ lane_mask (λ b. nat_lt b bound) bytes }
+{
+    bytes.simd_lt(u8x16::splat(bound)).to_bitmask()
+}
+
+/// Marks the bytes that are `bound` or above.
+#[inline(always)]
+pub(crate) fn lanes_from(bytes: u8x16, bound: u8) -> u64
+    ensures { result ≡ lane_mask (λ b. nat_le bound b) bytes }
+{
+    bytes.simd_ge(u8x16::splat(bound)).to_bitmask()
+}
+
+/// The place of the first byte that a mask marks, or 16 where it marks none.
+#[inline(always)]
+pub(crate) fn first_lane(mask: u64) -> usize
+    ensures { (test : ℕ → Bool) (bytes : List ℕ) → length bytes ≡ 16
+        → mask ≡ lane_mask test bytes → result ≡ first_place (begins test) bytes }
+{
+    if mask == 0 {
+        LANES
+    } else {
+        mask.trailing_zeros() as usize
+    }
+}
