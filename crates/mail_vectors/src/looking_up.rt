@@ -329,7 +329,7 @@ fn a_key_of_all_bytes(rt: HostRuntime) -> Result<(), Fail> {
     raw.extend_from_slice(b": v")?;
     let name = text_of_all_key_bytes(rt.alloc())?;
     let (headers, _) = parse_headers(rt.alloc(), raw.as_slice())?;
-    assert_same(&rt, headers.len(), 1);
+    assert_eq!(rt; headers.len(), 1);
     let value = first_raw_value(&headers, name.as_str()).ok_or("no such header")?;
     assert_same(&rt, value, b"v".as_slice());
     Ok(assert_key_text(&rt, rt.alloc(), &headers[0], name.as_str(), false)?)

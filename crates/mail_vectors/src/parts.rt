@@ -216,7 +216,7 @@ pub const TWO_CODINGS: &[u8] = b"Subject: This is a test email\n\
 #[test]
 fn two_parts_in_different_codings(rt: HostRuntime) -> Result<(), Fail> {
     let mail = parse_mail(rt.alloc(), TWO_CODINGS)?;
-    assert_same(&rt, mail.subparts.len(), 2);
+    assert_eq!(rt; mail.subparts.len(), 2);
     assert_same(&rt, mail.get_body_raw(rt.alloc())?.len(), 0);
     let plain = mail.subparts[0].get_body(rt.alloc())?;
     assert_same(

@@ -57,10 +57,10 @@ fn the_example_reads_a_whole_mail(rt: HostRuntime) -> Result<(), Fail> {
     assert_same(&rt, found.subject.ok_or("no subject")?.as_str(), "café");
     assert_same(&rt, found.date.ok_or("no date")?, 1475417182);
     let ids = found.ids.ok_or("no id")?;
-    assert_same(&rt, ids.len(), 1);
+    assert_eq!(rt; ids.len(), 1);
     assert_same(&rt, ids[0].as_str(), "one@example.org");
     assert_same(&rt, found.text.ok_or("no text")?.as_str(), "€");
-    assert_same(&rt, found.attachments.len(), 1);
+    assert_eq!(rt; found.attachments.len(), 1);
     assert_same(&rt, found.attachments[0].as_str(), "€.txt");
     Ok(())
 }
