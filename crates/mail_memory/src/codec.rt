@@ -31,22 +31,16 @@ fn is_base64(
     wanted: Result<&[u8], usize>,
 ) -> Result<bool, MailParseError> {
     Ok(
-        is_outcome(decode_base64(alloc, text)?, wanted)
-            && is_outcome(decode_base64_body(alloc, text)?, wanted),
+        is_outcome(&decode_base64(alloc, text)?, wanted)
+            && is_outcome(&decode_base64_body(alloc, text)?, wanted),
     )
 }
 
 /// Whether these bytes, or this group, came out.
-fn is_outcome(found: Result<Vec<u8>, usize>, wanted: Result<&[u8], usize>) -> bool {
+fn is_outcome(found: &Result<Vec<u8>, usize>, wanted: Result<&[u8], usize>) -> bool {
     match found {
-        Ok(bytes) => match wanted {
-            Ok(wanted) => bytes.as_slice() == wanted,
-            Err(_) => false,
-        },
-        Err(group) => match wanted {
-            Ok(_) => false,
-            Err(wanted) => group == wanted,
-        },
+        Ok(bytes) => wanted == Ok(bytes.as_slice()),
+        Err(group) => wanted == Err(*group),
     }
 }
 

@@ -46,7 +46,7 @@ pub fn is_memory_refused(alloc: Global) -> bool {
 }
 
 /// Whether a call refuses by rule with a text that begins so.
-fn is_refused<T: Drop>(found: Result<T, MailParseError>, start: &str) -> bool {
+fn is_refused<T>(found: &Result<T, MailParseError>, start: &str) -> bool {
     match found {
         Err(MailParseError::Generic(text)) => text.starts_with(start),
         _ => false,
@@ -64,7 +64,7 @@ fn parse_blocks(alloc: Global) -> Result<bool, MailParseError> {
             && headers.is_empty()
             && end == 0
             && is_refused(
-                parse_headers(alloc, b" x"),
+                &parse_headers(alloc, b" x"),
                 "Header cannot start with a space",
             ),
     )
@@ -129,7 +129,7 @@ fn read_texts(alloc: Global) -> Result<bool, MailParseError> {
     Ok(
         dateparse("Sun, 02 Oct 2016 07:06:22 -0700 (PDT)")? == 1_475_417_182
             && ids.0.is_empty()
-            && is_refused(msgidparse(alloc, "a"), "Message IDs must start with <")
+            && is_refused(&msgidparse(alloc, "a"), "Message IDs must start with <")
             && found.params.is_empty()
             && copy == DispositionType::Inline,
     )
