@@ -38,19 +38,18 @@ decoded in_binary body = Ok body
 -- Under the charsets that are known.
 module _ (known : Charsets) where
   -- the text of bytes under the label of a charset: a byte order mark decides first; under an unknown label they are ASCII
-  abbrev pub text_under_in : List ℕ → List ℕ → List ℕ
+  unfoldable pub text_under_in : List ℕ → List ℕ → List ℕ
   text_under_in label bytes = option_map_or (λ reading. marked reading bytes) (known label) (ascii_text bytes)
 
   -- the text of a body under the label of a charset
-  abbrev pub decoded_text_in : BodyKind → List ℕ → List ℕ → Reads (List ℕ)
+  unfoldable pub decoded_text_in : BodyKind → List ℕ → List ℕ → Reads (List ℕ)
   decoded_text_in kind label body = do
     bytes ← decoded kind body
     Ok (text_under_in label bytes)
 
--- the text of bytes under the label of a charset
-unfoldable pub text_under : List ℕ → List ℕ → List ℕ
+-- the same under the four charsets
+abbrev pub text_under : List ℕ → List ℕ → List ℕ
 text_under label bytes = text_under_in four_charsets label bytes
 
--- the text of a body under the label of a charset
-unfoldable pub decoded_text : BodyKind → List ℕ → List ℕ → Reads (List ℕ)
+abbrev pub decoded_text : BodyKind → List ℕ → List ℕ → Reads (List ℕ)
 decoded_text kind label body = decoded_text_in four_charsets kind label body

@@ -9,12 +9,12 @@ use Rattle.mailparse.specs.Refusal.{◌>>=◌, recursion_limit, Reads}
 use Rattle.mailparse.specs.Header.{Header}
 use Rattle.mailparse.specs.Block.{HeaderList, read_headers}
 use Rattle.mailparse.specs.ContentType.{ContentType, default_type, content_type_in}
-use Rattle.mailparse.specs.Disposition.{Disposition, disposition_of, default_disposition}
+use Rattle.mailparse.specs.Disposition.{Disposition, disposition_in, default_disposition}
 use Rattle.mailparse.specs.Delimiters.{Cut, cut_parts}
-use Rattle.mailparse.specs.Body.{BodyKind, kind_named, decoded, decoded_text}
-use Rattle.mailparse.specs.Map.{first_with_key, first_value}
+use Rattle.mailparse.specs.Body.{BodyKind, kind_named, decoded, decoded_text_in}
+use Rattle.mailparse.specs.Map.{first_with_key, first_value, first_value_in}
 use Rattle.mailparse.specs.Ranges.{slice}
-use Rattle.mailparse.specs.Value.{lenient_value_with}
+use Rattle.mailparse.specs.Value.{lenient_value_in}
 
 -- a header block: its bytes, the blank line among them, and its headers
 pub record HeaderBlock : Type 0 where
@@ -41,13 +41,23 @@ body_kind node = kind_named (option_map str_to_ascii_lowercase (first_value (cod
 abbrev pub body_bytes : Node → Reads (List ℕ)
 body_bytes node = decoded (body_kind node) node.body
 
--- the text that the body of a message stands for, under the charset of its type
-abbrev pub body_text : Node → Reads (List ℕ)
-body_text node = decoded_text (body_kind node) node.ctype.charset node.body
+-- Under the charsets that are known.
+module _ (known : Charsets) where
+  -- the text that the body of a message stands for, under the charset of its type
+  abbrev pub body_text_in : Node → Reads (List ℕ)
+  body_text_in node = decoded_text_in known (body_kind node) node.ctype.charset node.body
 
--- how a message is to be shown: what its first `Content-Disposition` says, otherwise in place
+  -- how a message is to be shown: what its first `Content-Disposition` says, otherwise in place
+  abbrev pub shown_as_in : Node → Disposition
+  shown_as_in node =
+      option_map_or (disposition_in known) (first_value_in known (codes "Content-Disposition") node.headers) default_disposition
+
+-- the same under the four charsets
+abbrev pub body_text : Node → Reads (List ℕ)
+body_text node = body_text_in four_charsets node
+
 abbrev pub shown_as : Node → Disposition
-shown_as node = option_map_or disposition_of (first_value (codes "Content-Disposition") node.headers) default_disposition
+shown_as node = shown_as_in four_charsets node
 
 -- a message and its parts, in order, each with its own parts
 mutual
@@ -128,7 +138,7 @@ module _ (known : Charsets) where
   -- the type of a message with these headers: what its first `Content-Type` says, otherwise what a part has without one
   unfoldable pub node_type : Bool → List Header → ContentType
   node_type in_digest headers =
-      option_map_or (λ h. content_type_in known (lenient_value_with known h.value))
+      option_map_or (λ h. content_type_in known (lenient_value_in known h.value))
       (first_with_key (codes "Content-Type") headers) (part_type in_digest)
 
   -- the message of this type that has this block: its parts are read by a function that is told whether it is a digest

@@ -2,8 +2,9 @@
 use Rattle.std.specs.Prelude.{ℕ, Bool, List, Option, String, filter, find, map, option_map, string_bytes}
 use Rattle.std.specs.Global.{Global}
 use Rattle.std.specs.Str.{str_eq_ignore_ascii_case}
+use Rattle.mail_codec.specs.Charset.{Charsets, four_charsets}
 use Rattle.mailparse.specs.Header.{Header, key_text}
-use Rattle.mailparse.specs.Value.{lenient_value}
+use Rattle.mailparse.specs.Value.{lenient_value_in}
 
 -- a header has that name: the text of its key and the name are equal, ignoring ASCII case
 abbrev pub has_key : List ℕ → Header → Bool
@@ -17,13 +18,22 @@ all_with_key name headers = filter (has_key name) headers
 abbrev pub first_with_key : List ℕ → List Header → Option Header
 first_with_key name headers = find (has_key name) headers
 
--- the value of the first of them, if there is one
-abbrev pub first_value : List ℕ → List Header → Option (List ℕ)
-first_value name headers = option_map (λ h. lenient_value h.value) (first_with_key name headers)
+-- Under the charsets that are known.
+module _ (known : Charsets) where
+  -- the value of the first of them, if there is one
+  abbrev pub first_value_in : List ℕ → List Header → Option (List ℕ)
+  first_value_in name headers = option_map (λ h. lenient_value_in known h.value) (first_with_key name headers)
 
--- the values of all of them, in the order of the message
+  -- the values of all of them, in the order of the message
+  abbrev pub all_values_in : List ℕ → List Header → List (List ℕ)
+  all_values_in name headers = map (λ h. lenient_value_in known h.value) (all_with_key name headers)
+
+-- the same under the four charsets
+abbrev pub first_value : List ℕ → List Header → Option (List ℕ)
+first_value name headers = first_value_in four_charsets name headers
+
 abbrev pub all_values : List ℕ → List Header → List (List ℕ)
-all_values name headers = map (λ h. lenient_value h.value) (all_with_key name headers)
+all_values name headers = all_values_in four_charsets name headers
 
 -- the text that was found, if one was
 abbrev pub text_found : Option (String Global) → Option (List ℕ)

@@ -101,12 +101,12 @@ module _ (known : Charsets) where
   shown_value text = shown_tokens (value_tokens text)
 
   -- what a value shows, whatever its bytes are
-  abbrev pub lenient_value_with : List ℕ → List ℕ
-  lenient_value_with bytes = shown_value (value_text bytes)
+  unfoldable pub lenient_value_in : List ℕ → List ℕ
+  lenient_value_in bytes = shown_value (value_text bytes)
 
--- what a value shows, whatever its bytes are
-unfoldable pub lenient_value : List ℕ → List ℕ
-lenient_value bytes = lenient_value_with four_charsets bytes
+-- the same under the four charsets
+abbrev pub lenient_value : List ℕ → List ℕ
+lenient_value bytes = lenient_value_in four_charsets bytes
 
 -- what a value shows whose bytes are UTF-8, or the refusal of other bytes
 unfoldable pub strict_value : List ℕ → Result (List ℕ) Refusal

@@ -1,6 +1,7 @@
 //! The type of a message's content.
 ghost use Rattle.std.specs.Prelude.{◌≡◌, IfOk, Ok, string_bytes};
-ghost use Rattle.mailparse.specs.ContentType.{charset_named, content_type_of, default_type};
+ghost use Rattle.mail_codec.specs.Tables.{charsets_with};
+ghost use Rattle.mailparse.specs.ContentType.{charset_named, content_type_in, content_type_of, default_type};
 ghost use Rattle.mailparse.specs.Outcome.{AnswersOrMemory};
 ghost use Rattle.mailparse.specs.Pairs.{text_at};
 ghost use Rattle.mailparse.specs.Views.{content_type};
@@ -8,6 +9,7 @@ ghost use Rattle.mailparse.specs.Views.{content_type};
 use crate::ascii_case::lower_case;
 use crate::error::MailParseError;
 use crate::parameters::parameters;
+use mail_codec::charset::SingleByteTable;
 use std::alloc::{AllocError, Global};
 use std::collections::BTreeMap;
 
@@ -82,14 +84,49 @@ impl ParsedContentType {
 pub fn parse_content_type(alloc: Global, text: &str) -> Result<ParsedContentType, MailParseError>
     ensures { AnswersOrMemory content_type result (Ok (content_type_of text.now)) }
 {
-    Ok(read_content_type(alloc, text)?)
+    Ok(read_content_type(alloc, text, &[])?)
+}
+
+/// Reads the value of a `Content-Type` header as `parse_content_type` does, where extended
+/// parameters may also be in the charsets of some tables (RFC 2231, section 4).
+///
+/// A label that one of the four charsets has is not looked for in the tables; of the tables the
+/// first that has it is read. Takes memory for the texts and the parameters.
+///
+/// # Errors
+///
+/// `MailParseError::Memory` where it runs out of memory.
+///
+/// # Examples
+///
+/// ```rust
+/// use mailparse::{SingleByteTable, parse_content_type_with};
+///
+/// let tables = [SingleByteTable { labels: &["x-euro"], high: &['€'; 128] }];
+/// let ctype = parse_content_type_with(alloc, "text/plain; name*=x-euro''5%80", &tables)?;
+/// assert_eq!(rt; ctype.params.get("name").ok_or("no name")?.as_str(), "5€");
+/// ```
+pub fn parse_content_type_with(
+    alloc: Global,
+    text: &str,
+    tables: &[SingleByteTable<'_>],
+) -> Result<ParsedContentType, MailParseError>
+    ensures { AnswersOrMemory content_type result
+        (Ok (content_type_in (charsets_with tables.now) text.now)) }
+{
+    Ok(read_content_type(alloc, text, tables)?)
 }
 
 /// The type that the value of a `Content-Type` header names.
-pub(crate) fn read_content_type(alloc: Global, text: &str) -> Result<ParsedContentType, AllocError>
-    ensures { IfOk result (λ ctype. content_type ctype ≡ content_type_of text.now) }
+pub(crate) fn read_content_type(
+    alloc: Global,
+    text: &str,
+    tables: &[SingleByteTable<'_>],
+) -> Result<ParsedContentType, AllocError>
+    ensures { IfOk result (λ ctype.
+        content_type ctype ≡ content_type_in (charsets_with tables.now) text.now) }
 {
-    let (value, params) = parameters(alloc, text)?;
+    let (value, params) = parameters(alloc, text, tables)?;
     let mimetype = lower_case(alloc, value)?;
     let charset = charset_of(alloc, &params)?;
     Ok(ParsedContentType {

@@ -1,13 +1,15 @@
 //! How a part of a message is to be shown.
 ghost use Rattle.std.specs.Prelude.{◌≡◌, IfOk, IsOk, Ok};
 ghost use Rattle.std.specs.Str.{str_to_ascii_lowercase};
-ghost use Rattle.mailparse.specs.Disposition.{IsNamed, default_disposition, disposition_named, disposition_of};
+ghost use Rattle.mail_codec.specs.Tables.{charsets_with};
+ghost use Rattle.mailparse.specs.Disposition.{IsNamed, default_disposition, disposition_in, disposition_named, disposition_of};
 ghost use Rattle.mailparse.specs.Outcome.{AnswersOrMemory};
 ghost use Rattle.mailparse.specs.Views.{disposition, kind};
 
 use crate::ascii_case::lower_case;
 use crate::error::MailParseError;
 use crate::parameters::parameters;
+use mail_codec::charset::SingleByteTable;
 use std::alloc::{AllocError, Global};
 use std::collections::BTreeMap;
 
@@ -131,7 +133,38 @@ pub fn parse_content_disposition(
 ) -> Result<ParsedContentDisposition, MailParseError>
     ensures { AnswersOrMemory disposition result (Ok (disposition_of text.now)) }
 {
-    let (value, params) = parameters(alloc, text)?;
+    parse_content_disposition_with(alloc, text, &[])
+}
+
+/// Reads the value of a `Content-Disposition` header as `parse_content_disposition` does, where
+/// extended parameters may also be in the charsets of some tables (RFC 2231, section 4).
+///
+/// A label that one of the four charsets has is not looked for in the tables; of the tables the
+/// first that has it is read. Takes memory for the text and the parameters.
+///
+/// # Errors
+///
+/// `MailParseError::Memory` where it runs out of memory.
+///
+/// # Examples
+///
+/// ```rust
+/// use mailparse::{SingleByteTable, parse_content_disposition_with};
+///
+/// let tables = [SingleByteTable { labels: &["x-euro"], high: &['€'; 128] }];
+/// let value = "attachment; filename*=x-euro''5%80.txt";
+/// let shown = parse_content_disposition_with(alloc, value, &tables)?;
+/// assert_eq!(rt; shown.params.get("filename").ok_or("no name")?.as_str(), "5€.txt");
+/// ```
+pub fn parse_content_disposition_with(
+    alloc: Global,
+    text: &str,
+    tables: &[SingleByteTable<'_>],
+) -> Result<ParsedContentDisposition, MailParseError>
+    ensures { AnswersOrMemory disposition result
+        (Ok (disposition_in (charsets_with tables.now) text.now)) }
+{
+    let (value, params) = parameters(alloc, text, tables)?;
     Ok(ParsedContentDisposition {
         disposition: kind_named(alloc, value)?,
         params,

@@ -1,9 +1,10 @@
 //! One header of a message: its key and its value, as bytes and as text.
 ghost use Rattle.std.specs.Prelude.{◌≡◌, ◌↔◌, Ok, IfOk, IsOk, IsErr, IsAscii, string_bytes};
 ghost use Rattle.std.specs.Cow.{cow_str_bytes, IsBorrowedStr};
+ghost use Rattle.mail_codec.specs.Tables.{charsets_with};
 ghost use Rattle.mailparse.specs.Header.{Header, key_text};
 ghost use Rattle.mailparse.specs.Outcome.{Answers, AnswersOrMemory, GivesText, ReadsText};
-ghost use Rattle.mailparse.specs.Value.{lenient_value, strict_value};
+ghost use Rattle.mailparse.specs.Value.{lenient_value, lenient_value_in, strict_value};
 
 mod encoded_word;
 pub(crate) mod parse;
@@ -13,7 +14,7 @@ mod value;
 
 use crate::error::MailParseError;
 use crate::lossy_text::LossyText;
-use mail_codec::charset::decode_latin1;
+use mail_codec::charset::{SingleByteTable, decode_latin1};
 use std::alloc::{AllocError, Global};
 use std::borrow::CowStr;
 use std::marker::Model;
@@ -105,24 +106,66 @@ impl<'a> MailHeader<'a> {
     /// let (header, _) = parse_header(b"Subject: caf\xE9")?;
     /// assert_eq!(rt; header.get_value(alloc)?.as_str(), "café");
     /// ```
-    #[tactic(auto, unfolding(crate::specs::Value::lenient_value))]
     pub fn get_value(&self, alloc: Global) -> Result<String, MailParseError>
         ensures { GivesText result (lenient_value self.now.value) }
     {
         Ok(self.get_value_ref(alloc)?.into_owned(alloc)?)
     }
 
+    /// Returns the text of the value as `get_value` does, where encoded words may also be in the
+    /// charsets of some tables (RFC 2047, section 2).
+    ///
+    /// A label that one of the four charsets has is not looked for in the tables; of the tables the
+    /// first that has it is read. Takes memory for the text.
+    ///
+    /// # Errors
+    ///
+    /// `MailParseError::Memory` where it runs out of memory.
+    ///
+    /// # Examples
+    ///
+    /// ```rust
+    /// use mailparse::{SingleByteTable, parse_header};
+    ///
+    /// let tables = [SingleByteTable { labels: &["x-euro"], high: &['€'; 128] }];
+    /// let (header, _) = parse_header(b"Subject: =?X-Euro?Q?5_=80?=")?;
+    /// assert_eq!(rt; header.get_value_with(alloc, &tables)?.as_str(), "5 €");
+    /// assert_eq!(rt; header.get_value(alloc)?.as_str(), "=?X-Euro?Q?5_=80?=");
+    /// ```
+    pub fn get_value_with(
+        &self,
+        alloc: Global,
+        tables: &[SingleByteTable<'_>],
+    ) -> Result<String, MailParseError>
+        ensures { GivesText result
+            (lenient_value_in (charsets_with tables.now) self.now.value) }
+    {
+        Ok(self.get_value_ref_with(alloc, tables)?.into_owned(alloc)?)
+    }
+
     /// The text of the value as `get_value` reads it; where it is a part of the value's bytes they
     /// are borrowed.
-    #[tactic(auto, unfolding(crate::specs::Value::lenient_value))]
     pub(crate) fn get_value_ref(&self, alloc: Global) -> Result<CowStr<'_>, AllocError>
         ensures { IfOk result (λ text. cow_str_bytes text ≡ lenient_value self.now.value) }
     {
+        self.get_value_ref_with(alloc, &[])
+    }
+
+    /// The text of the value as `get_value_with` reads it; where it is a part of the value's bytes
+    /// they are borrowed.
+    pub(crate) fn get_value_ref_with(
+        &self,
+        alloc: Global,
+        tables: &[SingleByteTable<'_>],
+    ) -> Result<CowStr<'_>, AllocError>
+        ensures { IfOk result (λ text.
+            cow_str_bytes text ≡ lenient_value_in (charsets_with tables.now) self.now.value) }
+    {
         match str::from_utf8(self.get_value_raw()) {
-            Ok(text) => value_ref(alloc, text),
+            Ok(text) => value_ref(alloc, text, tables),
             Err(_) => {
                 let text = decode_latin1(alloc, self.get_value_raw())?;
-                let value = value_ref(alloc, text.as_str())?.into_owned(alloc)?;
+                let value = value_ref(alloc, text.as_str(), tables)?.into_owned(alloc)?;
                 Ok(CowStr::Owned(value))
             }
         }
@@ -158,7 +201,7 @@ impl<'a> MailHeader<'a> {
                 "Invalid UTF-8 in header value",
             )));
         };
-        Ok(value_ref(alloc, text)?.into_owned(alloc)?)
+        Ok(value_ref(alloc, text, &[])?.into_owned(alloc)?)
     }
 
     /// Returns the bytes of the key, as they stand in the message, spaces before the colon among

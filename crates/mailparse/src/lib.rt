@@ -53,18 +53,25 @@ mod disposition;
 mod error;
 mod header;
 pub mod headers;
+mod known_charset;
 mod lossy_text;
 mod mail;
 mod message_ids;
 mod parameters;
 
-pub use content_type::{ParsedContentType, parse_content_type};
+pub use content_type::{ParsedContentType, parse_content_type, parse_content_type_with};
 pub use date::dateparse;
-pub use disposition::{DispositionType, ParsedContentDisposition, parse_content_disposition};
+pub use disposition::{
+    DispositionType, ParsedContentDisposition, parse_content_disposition,
+    parse_content_disposition_with,
+};
 pub use error::{Base64Fault, MailParseError, QuotedPrintableFault, Wrapped};
 pub use header::MailHeader;
 pub use header::parse::parse_header;
 pub use headers::block::parse_headers;
 pub use headers::map::MailHeaderMap;
-pub use mail::{MAX_LEVELS, ParsedMail, PartsIterator, parse_mail, parse_mail_limited};
+pub use mail::{
+    MAX_LEVELS, ParsedMail, PartsIterator, parse_mail, parse_mail_limited, parse_mail_with,
+};
+pub use mail_codec::charset::{SingleByteTable, table_for_label};
 pub use message_ids::{MessageIdList, msgidparse};

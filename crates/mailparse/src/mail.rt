@@ -1,10 +1,11 @@
 //! A message: its header block, its type, its body and its parts.
 ghost use Rattle.std.specs.Prelude.{◌≡◌, ◌<◌, ◌≤◌, ◌^◌, length, IfErr, IfOk, IsErr, Ok};
 ghost use Rattle.mail_codec.specs.Charset.{four_charsets};
+ghost use Rattle.mail_codec.specs.Tables.{charsets_with};
 ghost use Rattle.mailparse.specs.Block.{header_count, read_headers};
 ghost use Rattle.mailparse.specs.BodyViews.{IsBody, content_of};
 ghost use Rattle.mailparse.specs.Bound.{IsBounded};
-ghost use Rattle.mailparse.specs.Mail.{block_of, body_bytes, body_kind, body_text, root, shown_as, trees_within, read_levels, read_mail, read_mail_in};
+ghost use Rattle.mailparse.specs.Mail.{block_of, body_bytes, body_kind, body_text, body_text_in, root, shown_as, shown_as_in, trees_within, read_levels, read_mail, read_mail_in};
 ghost use Rattle.mailparse.specs.Outcome.{Answers, AnswersOrMemory, IsMemory, ReadsText, ReadsBytes};
 ghost use Rattle.mailparse.specs.Views.{disposition, tree_of, trees_left};
 
@@ -14,13 +15,14 @@ mod types;
 
 use crate::body::Body;
 use crate::content_type::ParsedContentType;
-use crate::disposition::{ParsedContentDisposition, parse_content_disposition};
+use crate::disposition::{ParsedContentDisposition, parse_content_disposition_with};
 use crate::error::MailParseError;
 use crate::header::MailHeader;
 use crate::headers::Headers;
 use crate::headers::block::parse_headers;
 use crate::headers::map::MailHeaderMap;
 use delimiters::{cut_part, cut_preamble};
+use mail_codec::charset::SingleByteTable;
 pub use parts::PartsIterator;
 use parts::push_parts;
 use std::alloc::Global;
@@ -141,16 +143,49 @@ impl<'a> ParsedMail<'a> {
     /// let mail = parse_mail(alloc, b"Subject: Hi\n\nHello, you")?;
     /// assert_eq!(rt; mail.get_body(alloc)?.as_str(), "Hello, you");
     /// ```
-    #[tactic(auto, unfolding(crate::specs::Body::decoded_text, crate::specs::Body::text_under, crate::specs::Body::decoded))]
     pub fn get_body(&self, alloc: Global) -> Result<String, MailParseError>
         ensures { ReadsText result (body_text (root (tree_of self.now))) }
     {
+        self.get_body_with(alloc, &[])
+    }
+
+    /// Returns the text that the body stands for as `get_body` does, where its charset may also be
+    /// that of a table.
+    ///
+    /// A label that one of the four charsets has is not looked for in the tables; of the tables the
+    /// first that has it is read. Takes memory for the bytes and for the text.
+    ///
+    /// # Errors
+    ///
+    /// `MailParseError::Base64DecodeError` where a body in Base64 is not Base64, with the index,
+    /// counted from 0, of the first invalid group of four; and `MailParseError::Memory` where it
+    /// runs out of memory.
+    ///
+    /// # Examples
+    ///
+    /// ```rust
+    /// use mailparse::{SingleByteTable, parse_mail};
+    ///
+    /// let tables = [SingleByteTable { labels: &["x-euro"], high: &['€'; 128] }];
+    /// let mail = parse_mail(alloc, b"Content-Type: text/plain; charset=x-euro\n\n5 \x80")?;
+    /// assert_eq!(rt; mail.get_body_with(alloc, &tables)?.as_str(), "5 €");
+    /// assert_eq!(rt; mail.get_body(alloc)?.as_str(), "5 \u{FFFD}");
+    /// ```
+    #[tactic(auto, unfolding(crate::specs::Body::decoded_text_in, crate::specs::Body::decoded))]
+    pub fn get_body_with(
+        &self,
+        alloc: Global,
+        tables: &[SingleByteTable<'_>],
+    ) -> Result<String, MailParseError>
+        ensures { ReadsText result
+            (body_text_in (charsets_with tables.now) (root (tree_of self.now))) }
+    {
         match self.get_body_encoded(alloc)? {
-            Body::Base64(body) => body.get_decoded_as_string(alloc),
-            Body::QuotedPrintable(body) => body.get_decoded_as_string(alloc),
-            Body::SevenBit(body) => body.get_as_string(alloc),
-            Body::EightBit(body) => body.get_as_string(alloc),
-            Body::Binary(body) => body.get_as_string(alloc),
+            Body::Base64(body) => body.get_decoded_as_string_with(alloc, tables),
+            Body::QuotedPrintable(body) => body.get_decoded_as_string_with(alloc, tables),
+            Body::SevenBit(body) => body.get_as_string_with(alloc, tables),
+            Body::EightBit(body) => body.get_as_string_with(alloc, tables),
+            Body::Binary(body) => body.get_as_string_with(alloc, tables),
         }
     }
 
@@ -212,8 +247,43 @@ impl<'a> ParsedMail<'a> {
     ) -> Result<ParsedContentDisposition, MailParseError>
         ensures { AnswersOrMemory disposition result (Ok (shown_as (root (tree_of self.now)))) }
     {
-        match self.headers.get_first_value(alloc, "Content-Disposition")? {
-            Some(value) => parse_content_disposition(alloc, value.as_str()),
+        self.get_content_disposition_with(alloc, &[])
+    }
+
+    /// Returns how the message is to be shown as `get_content_disposition` does, where encoded words
+    /// and extended parameters may also be in the charsets of some tables.
+    ///
+    /// A label that one of the four charsets has is not looked for in the tables; of the tables the
+    /// first that has it is read. Takes memory for the text and the parameters.
+    ///
+    /// # Errors
+    ///
+    /// `MailParseError::Memory` where it runs out of memory.
+    ///
+    /// # Examples
+    ///
+    /// ```rust
+    /// use mailparse::{SingleByteTable, parse_mail};
+    ///
+    /// let tables = [SingleByteTable { labels: &["x-euro"], high: &['€'; 128] }];
+    /// let raw = b"Content-Disposition: attachment; filename*=x-euro''5%80.txt\n\n";
+    /// let mail = parse_mail(alloc, raw)?;
+    /// let shown = mail.get_content_disposition_with(alloc, &tables)?;
+    /// assert_eq!(rt; shown.params.get("filename").ok_or("no name")?.as_str(), "5€.txt");
+    /// ```
+    pub fn get_content_disposition_with(
+        &self,
+        alloc: Global,
+        tables: &[SingleByteTable<'_>],
+    ) -> Result<ParsedContentDisposition, MailParseError>
+        ensures { AnswersOrMemory disposition result
+            (Ok (shown_as_in (charsets_with tables.now) (root (tree_of self.now)))) }
+    {
+        match self.headers.get_first_header("Content-Disposition") {
+            Some(header) => {
+                let value = header.get_value_ref_with(alloc, tables)?;
+                parse_content_disposition_with(alloc, value.as_str(), tables)
+            }
             None => Ok(ParsedContentDisposition::default(alloc)),
         }
     }
@@ -310,6 +380,45 @@ pub fn parse_mail(alloc: Global, raw: &[u8]) -> Result<ParsedMail<'_>, MailParse
     parse_mail_limited(alloc, raw, MAX_LEVELS)
 }
 
+/// Reads a message as `parse_mail` does, where the encoded words and the extended parameters of each
+/// `Content-Type` may also be in the charsets of some tables.
+///
+/// A label that one of the four charsets has is not looked for in the tables; of the tables the
+/// first that has it is read. What is returned does not keep the tables: the calls that end in
+/// `_with` take them again.
+///
+/// Takes memory as `parse_mail` does.
+///
+/// # Errors
+///
+/// Those of `parse_mail`.
+///
+/// # Examples
+///
+/// ```rust
+/// use mailparse::{SingleByteTable, parse_mail, parse_mail_with};
+///
+/// let tables = [SingleByteTable { labels: &["x-euro"], high: &['€'; 128] }];
+/// let raw = "Content-Type: multipart/mixed; boundary*=x-euro''%80\n\n--€\n\none\n--€--\n";
+/// let mail = parse_mail_with(alloc, raw.as_bytes(), &tables)?;
+/// assert_eq!(rt; mail.subparts.len(), 1);
+/// assert_eq!(rt; parse_mail(alloc, raw.as_bytes())?.subparts.len(), 0);
+/// ```
+#[tactic(auto, unfolding(crate::specs::Mail::read_mail_in))]
+pub fn parse_mail_with<'a>(
+    alloc: Global,
+    raw: &'a [u8],
+    tables: &[SingleByteTable<'_>],
+) -> Result<ParsedMail<'a>, MailParseError>
+    ensures read { AnswersOrMemory tree_of result
+        (read_mail_in (charsets_with tables.now) 100 raw.now) }
+    ensures bounded { IfOk result (λ mail. IsBounded (tree_of mail) (length raw.now)) }
+    ensures no_alloc { header_count raw.now ≡ 0 → IsErr (read_headers raw.now) →
+        Answers tree_of result (read_mail_in (charsets_with tables.now) 100 raw.now) }
+{
+    parse_mail_recursive(alloc, raw, false, MAX_LEVELS + 1, tables)
+}
+
 /// Reads a message as `parse_mail` does, but with parts at most `levels` levels below it.
 ///
 /// The message itself stands at level 0, its parts at level 1, and so on: under 0 every part is
@@ -355,26 +464,27 @@ pub fn parse_mail_limited(
     ensures no_alloc { header_count raw.now ≡ 0 → IsErr (read_headers raw.now) →
         Answers tree_of result (read_mail_in four_charsets levels raw.now) }
 {
-    parse_mail_recursive(alloc, raw, false, levels + 1)
+    parse_mail_recursive(alloc, raw, false, levels + 1, &[])
 }
 
 /// Reads a message where so many levels may stand, its own among them.
-fn parse_mail_recursive(
+fn parse_mail_recursive<'a>(
     alloc: Global,
-    raw: &[u8],
+    raw: &'a [u8],
     in_digest: bool,
     levels: u8,
-) -> Result<ParsedMail<'_>, MailParseError>
+    tables: &[SingleByteTable<'_>],
+) -> Result<ParsedMail<'a>, MailParseError>
     ensures read { AnswersOrMemory tree_of result
-        (read_levels four_charsets levels in_digest raw.now) }
+        (read_levels (charsets_with tables.now) levels in_digest raw.now) }
     ensures no_alloc { 0 < levels → header_count raw.now ≡ 0 → IsErr (read_headers raw.now) →
-        Answers tree_of result (read_levels four_charsets levels in_digest raw.now) }
+        Answers tree_of result (read_levels (charsets_with tables.now) levels in_digest raw.now) }
 {
     if levels == 0 {
         return Err(MailParseError::Generic("Recursion limit reached"));
     }
     let (headers, index) = parse_headers(alloc, raw)?;
-    let ctype = node_type(alloc, &headers, in_digest)?;
+    let ctype = node_type(alloc, &headers, in_digest, tables)?;
     let Some(delimiter) = delimiter_of(alloc, &ctype)? else {
         return Ok(ParsedMail {
             raw_bytes: raw,
@@ -392,7 +502,7 @@ fn parse_mail_recursive(
     while let Some(start) = next {
         let (part_end, after) = cut_part(raw, start, delimiter.as_slice());
         let part = &raw[start..part_end];
-        subparts.push(parse_mail_recursive(alloc, part, is_digest, levels - 1)?)?;
+        subparts.push(parse_mail_recursive(alloc, part, is_digest, levels - 1, tables)?)?;
         next = after;
     }
     Ok(ParsedMail {

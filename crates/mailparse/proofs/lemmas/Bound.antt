@@ -3,7 +3,7 @@ use Rattle.std.proofs.Common.{◌≡◌, ℕ, zero, suc, ◌+◌, ◌-◌, ◌*�
 use Rattle.std.specs.List.{sum_by}
 use Rattle.std.proofs.lemmas.List.{map-append}
 use Rattle.std.proofs.lemmas.List.Sums.{sum_by-cons, sum_by-append}
-use Rattle.mail_codec.specs.Charset.{Charsets, four_charsets}
+use Rattle.mail_codec.specs.Charset.{Charsets}
 use Rattle.mailparse.specs.Refusal.{◌>>=◌, Reads}
 use Rattle.mailparse.specs.Outcome.{AnswersOrMemory}
 use Rattle.mailparse.specs.Block.{HeaderList, read_headers}
@@ -149,7 +149,7 @@ module _ (known : Charsets) where
   read_mail_in-bounded greatest bytes t e = IsBounded-by_weight (length bytes) t (read_levels-fits (suc greatest) false bytes t e)
 
 -- and so what a call returned that reads a message
-pub answer-bounded : (result : Result ParsedMail MailParseError) (levels : ℕ) (in_digest : Bool) (bytes : List ℕ)
-    → AnswersOrMemory tree_of result (read_levels four_charsets levels in_digest bytes) → IfOk result (λ mail. IsBounded (tree_of mail) (length bytes))
-answer-bounded (Err e) levels in_digest bytes h = tt
-answer-bounded (Ok mail) levels in_digest bytes h = IsBounded-by_weight (length bytes) (tree_of mail) (read_levels-fits four_charsets levels in_digest bytes (tree_of mail) h)
+pub answer-bounded : (known : Charsets) (result : Result ParsedMail MailParseError) (levels : ℕ) (in_digest : Bool) (bytes : List ℕ)
+    → AnswersOrMemory tree_of result (read_levels known levels in_digest bytes) → IfOk result (λ mail. IsBounded (tree_of mail) (length bytes))
+answer-bounded known (Err e) levels in_digest bytes h = tt
+answer-bounded known (Ok mail) levels in_digest bytes h = IsBounded-by_weight (length bytes) (tree_of mail) (read_levels-fits known levels in_digest bytes (tree_of mail) h)

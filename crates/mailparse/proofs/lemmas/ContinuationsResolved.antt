@@ -8,10 +8,10 @@ use Rattle.std.specs.List.{list_any}
 use Rattle.std.specs.Map.{update, update_all}
 use Rattle.std.specs.Option.{option_map_or, option_or}
 use Rattle.std.specs.Str.{bytes_eq}
-use Rattle.mail_codec.specs.Charset.{Charsets, four_charsets}
+use Rattle.mail_codec.specs.Charset.{Charsets}
 use Rattle.mailparse.specs.Continuations as joined
 use Rattle.mailparse.specs.Sections as words
-use Rattle.mailparse.specs.Continuations.{is_base, is_first_of, joined_at, names_of, parameters_of}
+use Rattle.mailparse.specs.Continuations.{is_base, is_first_of, joined_at, names_of, parameters_in}
 use Rattle.mailparse.specs.ExtendedValues.{section_at, is_extended, name_under, starred}
 use Rattle.mailparse.specs.Sections.{is_text}
 use Rattle.mailparse.specs.private.Continuations.{names_in, names_of_sections}
@@ -164,12 +164,12 @@ named_sections sections q h =
     first p None h = absurd (cc)
     first p (Some x) h = refl
 
-pub resolved : (keys : Texts) (at : List ℕ → Option words.Section) (names : List (List ℕ)) (given : Option (List ℕ)) (q : List ℕ) → ((z : List ℕ) → at z ≡ section_at four_charsets keys z)
+pub resolved : (known : Charsets) (keys : Texts) (at : List ℕ → Option words.Section) (names : List (List ℕ)) (given : Option (List ℕ)) (q : List ℕ) → ((z : List ℕ) → at z ≡ section_at known keys z)
     → ((z : List ℕ) → is_some (at z) ≡ true → holds_name names z ≡ true) → given ≡ joined_at at names q
-    → (pairs : List (List ℕ × List ℕ)) → ((z : List ℕ) → keys z ≡ last_of pairs z) → given ≡ parameters_of pairs q
-resolved keys at names given q read have made pairs holds =
-    let known : keys ≡ last_of pairs = λ i z. holds z i in
-    let same : at ≡ section_at four_charsets (last_of pairs) = λ i z. (read z ∙ ap (λ k. section_at four_charsets k z) known) i in
+    → (pairs : List (List ℕ × List ℕ)) → ((z : List ℕ) → keys z ≡ last_of pairs z) → given ≡ parameters_in known pairs q
+resolved known keys at names given q read have made pairs holds =
+    let same_keys : keys ≡ last_of pairs = λ i z. holds z i in
+    let same : at ≡ section_at known (last_of pairs) = λ i z. (read z ∙ ap (λ k. section_at known k z) same_keys) i in
     made
-    ∙ joined_same at names (names_of (map (λ p. p.0) pairs)) have (λ z h. section_named four_charsets pairs z (sym (ap (λ a. is_some (a z)) same) ∙ h)) q
+    ∙ joined_same at names (names_of (map (λ p. p.0) pairs)) have (λ z h. section_named known pairs z (sym (ap (λ a. is_some (a z)) same) ∙ h)) q
     ∙ ap (λ a. joined_at a (names_of (map (λ p. p.0) pairs)) q) same

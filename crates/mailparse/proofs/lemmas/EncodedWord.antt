@@ -4,9 +4,8 @@ use Rattle.std.specs.List.{join_with_byte, slice_split, onto_first, list_any, po
 use Rattle.std.proofs.lemmas.Bool.{cond-true, cond-false, lt-ltb, le-ltb, ltb-false, eqb-true, eqb-false, cases_lt}
 use Rattle.std.proofs.lemmas.List.{drop_all, map_push, length-map}
 use Rattle.std.specs.Borrow.{Bor}
-use Rattle.std.specs.Option.{MatchOption, option_and_then, option_map}
-use Rattle.mail_codec.specs.Charset.{Charsets, charset_of_label, four_charsets, text_of}
-use Rattle.mail_codec.specs.declared.charset.Charset.{Charset}
+use Rattle.std.specs.Option.{MatchOption, option_and_then}
+use Rattle.mail_codec.specs.Charset.{Charsets}
 use Rattle.mailparse.specs.EncodedWord.{spaced, encoded_bytes, is_question_mark, has_question_mark, IsCutAtMark, text_of_word, word_text}
 
 -- ---- a space for each `_`
@@ -140,13 +139,6 @@ module _ (known : Charsets) where
       ∙ ap (option_and_then (λ text. option_and_then (λ bytes. Some (text bytes)) (encoded_bytes encoding encoded))) some
       ∙ ap (option_and_then (λ bytes. Some (decode bytes))) stands
       ∙ ap Some (sym reads))
-
--- a label among the four charsets, or not
-pub four_none : (label : List ℕ) → charset_of_label label ≡ None → four_charsets label ≡ None
-four_none label e = ap (option_map text_of) e
-
-pub four_some : (label : List ℕ) (charset : Charset) → charset_of_label label ≡ Some charset → four_charsets label ≡ Some (text_of charset)
-four_some label charset e = ap (option_map text_of) e
 
 -- ---- the pieces between the `_`, as a loop joins them
 

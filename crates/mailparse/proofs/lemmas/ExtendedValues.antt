@@ -8,10 +8,11 @@ use Rattle.std.specs.Option.{MatchOption}
 use Rattle.std.specs.Str.{bytes_eq}
 use Rattle.std.specs.Str.Pattern.{FindsCharSuffix, StripsSuffix}
 use Rattle.std.specs.Global.{Global}
-use Rattle.mail_codec.specs.Charset.{charset_of_label}
+use Rattle.mail_codec.specs.Charset.{Charsets}
 use Rattle.mailparse.specs.Pairs.{Texts}
 use Rattle.mailparse.specs.ExtendedValues.{is_starred, label_in, name_under, starred}
 use Rattle.mailparse.specs.private.ExtendedValues.{Found, found_at, shown_view, star_taken, extended_entries, extended_view}
+use Rattle.mailparse.specs.private.KnownCharset.{known_text}
 use Rattle.mailparse.specs.private.Pairs.{pair_view}
 use Rattle.mailparse.specs.declared.parameters.extended_values.names.ExtendedName.{ExtendedName}
 
@@ -67,43 +68,45 @@ taken_none key h = go (is_starred key) refl
 
 -- ---- the extended names, as a walk over the entries finds them
 
-pub found_unstarred : (keys : Texts) (e : List ℕ × List ℕ) → star_taken e.0 ≡ None → found_at keys e ≡ []
-found_unstarred keys e h = cond-false _ _ _ (and_left _ _ (taken_none e.0 h))
+-- Under the charsets that are known.
+module _ (known : Charsets) where
+  pub found_unstarred : (keys : Texts) (e : List ℕ × List ℕ) → star_taken e.0 ≡ None → found_at known keys e ≡ []
+  found_unstarred keys e h = cond-false _ _ _ (and_left _ _ (taken_none e.0 h))
 
-pub found_key : (keys : Texts) (e : List ℕ × List ℕ) (name : List ℕ) → star_taken e.0 ≡ Some name → is_some (keys name) ≡ true → found_at keys e ≡ []
-found_key keys e name h is =
-    let taken = taken_some e.0 name h in
-    cond-false _ _ _ (and_right _ _ (ap not (ap (λ n. is_some (keys n)) taken.1 ∙ is)))
+  pub found_key : (keys : Texts) (e : List ℕ × List ℕ) (name : List ℕ) → star_taken e.0 ≡ Some name → is_some (keys name) ≡ true → found_at known keys e ≡ []
+  found_key keys e name h is =
+      let taken = taken_some e.0 name h in
+      cond-false _ _ _ (and_right _ _ (ap not (ap (λ n. is_some (keys n)) taken.1 ∙ is)))
 
-pub found_name : (keys : Texts) (e : List ℕ × List ℕ) (name : List ℕ) → star_taken e.0 ≡ Some name → is_some (keys name) ≡ false
-    → found_at keys e ≡ (name, e.1, charset_of_label (label_in e.1)) ∷ []
-found_name keys e name h is =
-    let taken = taken_some e.0 name h in
-    cond-true _ _ _ (and_from _ _ taken.0 (ap not (ap (λ n. is_some (keys n)) taken.1 ∙ is)))
-    ∙ ap (λ n. (n, e.1, charset_of_label (label_in e.1)) ∷ []) taken.1
+  pub found_name : (keys : Texts) (e : List ℕ × List ℕ) (name : List ℕ) → star_taken e.0 ≡ Some name → is_some (keys name) ≡ false
+      → found_at known keys e ≡ (name, e.1, known (label_in e.1)) ∷ []
+  found_name keys e name h is =
+      let taken = taken_some e.0 name h in
+      cond-true _ _ _ (and_from _ _ taken.0 (ap not (ap (λ n. is_some (keys n)) taken.1 ∙ is)))
+      ∙ ap (λ n. (n, e.1, known (label_in e.1)) ∷ []) taken.1
 
-pub found_more : (keys : Texts) (shown : List (Bor (String Global) × Bor (String Global))) (e : Bor (String Global) × Bor (String Global)) (old new : List Found)
-    → old ≡ extended_entries keys (map shown_view shown) → new ≡ old ++ found_at keys (shown_view e) → new ≡ extended_entries keys (map shown_view (shown ++ e ∷ []))
-found_more keys shown e old new before more =
-    more ∙ ap (λ found. found ++ found_at keys (shown_view e)) before
-    ∙ flat_map_more (found_at keys) [] (map shown_view shown) (shown_view e)
-    ∙ ap (extended_entries keys) (sym (map_push shown_view shown e))
+  pub found_more : (keys : Texts) (shown : List (Bor (String Global) × Bor (String Global))) (e : Bor (String Global) × Bor (String Global)) (old new : List Found)
+      → old ≡ extended_entries known keys (map shown_view shown) → new ≡ old ++ found_at known keys (shown_view e) → new ≡ extended_entries known keys (map shown_view (shown ++ e ∷ []))
+  found_more keys shown e old new before more =
+      more ∙ ap (λ found. found ++ found_at known keys (shown_view e)) before
+      ∙ flat_map_more (found_at known keys) [] (map shown_view shown) (shown_view e)
+      ∙ ap (extended_entries known keys) (sym (map_push shown_view shown e))
 
-pub found_same : (keys : Texts) (shown : List (Bor (String Global) × Bor (String Global))) (e : Bor (String Global) × Bor (String Global)) (old : List Found)
-    → old ≡ extended_entries keys (map shown_view shown) → found_at keys (shown_view e) ≡ [] → old ≡ extended_entries keys (map shown_view (shown ++ e ∷ []))
-found_same keys shown e old before none =
-    found_more keys shown e old old before (sym (ap (λ r. old ++ r) none ∙ append-nil old))
+  pub found_same : (keys : Texts) (shown : List (Bor (String Global) × Bor (String Global))) (e : Bor (String Global) × Bor (String Global)) (old : List Found)
+      → old ≡ extended_entries known keys (map shown_view shown) → found_at known keys (shown_view e) ≡ [] → old ≡ extended_entries known keys (map shown_view (shown ++ e ∷ []))
+  found_same keys shown e old before none =
+      found_more keys shown e old old before (sym (ap (λ r. old ++ r) none ∙ append-nil old))
 
-found_view : (w : ExtendedName) (value label : List ℕ) → w.value.now ≡ value → label ≡ value → w.charset ≡ charset_of_label (label_in label)
-    → extended_view w ≡ (w.name.now, value, charset_of_label (label_in value))
-found_view w value label v l charset =
-    ap (λ x. (w.name.now, x, w.charset)) v ∙ ap (λ x. (w.name.now, value, x)) (charset ∙ ap (λ x. charset_of_label (label_in x)) l)
+  found_view : (w : ExtendedName) (value label : List ℕ) → w.value.now ≡ value → label ≡ value → option_map known_text w.charset ≡ known (label_in label)
+      → extended_view w ≡ (w.name.now, value, known (label_in value))
+  found_view w value label v l charset =
+      ap (λ x. (w.name.now, x, option_map known_text w.charset)) v ∙ ap (λ x. (w.name.now, value, x)) (charset ∙ ap (λ x. known (label_in x)) l)
 
-pub found_push : (items new : List ExtendedName) (w : ExtendedName) (value label : List ℕ) → new ≡ items ++ w ∷ [] → w.value.now ≡ value → label ≡ value
-    → w.charset ≡ charset_of_label (label_in label)
-    → map extended_view new ≡ map extended_view items ++ (w.name.now, value, charset_of_label (label_in value)) ∷ []
-found_push items new w value label pushed v l charset =
-    ap (map extended_view) pushed ∙ map_push extended_view items w ∙ ap (λ x. map extended_view items ++ x ∷ []) (found_view w value label v l charset)
+  pub found_push : (items new : List ExtendedName) (w : ExtendedName) (value label : List ℕ) → new ≡ items ++ w ∷ [] → w.value.now ≡ value → label ≡ value
+      → option_map known_text w.charset ≡ known (label_in label)
+      → map extended_view new ≡ map extended_view items ++ (w.name.now, value, known (label_in value)) ∷ []
+  found_push items new w value label pushed v l charset =
+      ap (map extended_view) pushed ∙ map_push extended_view items w ∙ ap (λ x. map extended_view items ++ x ∷ []) (found_view w value label v l charset)
 
 -- all entries were shown
 pub shown_all : (shown : List (Bor (String Global) × Bor (String Global))) (entries : List (String Global × String Global))

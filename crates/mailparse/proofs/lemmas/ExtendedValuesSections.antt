@@ -8,8 +8,7 @@ use Rattle.std.specs.List.{All}
 use Rattle.std.specs.Option.{unwrap_or}
 use Rattle.std.specs.String.{string_bytes}
 use Rattle.std.specs.Str.{bytes_eq}
-use Rattle.mail_codec.specs.Charset.{Charsets, four_charsets, text_of}
-use Rattle.mail_codec.specs.declared.charset.Charset.{Charset}
+use Rattle.mail_codec.specs.Charset.{Charsets}
 use Rattle.mailparse.specs.Sections as words
 use Rattle.mailparse.specs.ExtendedValues.{extended_at, charset_source, extended_value, starred, is_extended, label_in, octets_of, reading_of, text_in}
 use Rattle.mailparse.specs.private.ExtendedValues.{Found, IsReading, Read, extended_section, found_by_place, names_of, names_read, read_section, reading_by, reading_view, extended_entries, extended_view}
@@ -32,23 +31,25 @@ option_twice : {A B C : Type 0} (f : B → C) (g : A → B) (o : Option A) → o
 option_twice f g None = refl
 option_twice f g (Some x) = refl
 
--- the names that were found
-pub names_found : (keys : Texts) (entries : List (List ℕ × List ℕ)) (extended : List ExtendedName) → map extended_view extended ≡ extended_entries keys entries
-    → names_of extended ≡ map (λ (w : Found). w.0) (extended_entries keys entries)
-names_found keys entries extended found = sym (map_twice (λ (w : Found). w.0) extended_view extended) ∙ ap (map (λ (w : Found). w.0)) found
+-- Under the charsets that are known.
+module _ (known : Charsets) where
+  -- the names that were found
+  pub names_found : (keys : Texts) (entries : List (List ℕ × List ℕ)) (extended : List ExtendedName) → map extended_view extended ≡ extended_entries known keys entries
+      → names_of extended ≡ map (λ (w : Found). w.0) (extended_entries known keys entries)
+  names_found keys entries extended found = sym (map_twice (λ (w : Found). w.0) extended_view extended) ∙ ap (map (λ (w : Found). w.0)) found
 
-pub extended_found : (keys : Texts) (entries : List (List ℕ × List ℕ)) (extended : List ExtendedName) → IsMapOf keys entries → map extended_view extended ≡ extended_entries keys entries
-    → AreExtended keys (names_of extended)
-extended_found keys entries extended map_of found = subst (AreExtended keys) (sym (names_found keys entries extended found)) (are_extended keys entries map_of)
+  pub extended_found : (keys : Texts) (entries : List (List ℕ × List ℕ)) (extended : List ExtendedName) → IsMapOf keys entries → map extended_view extended ≡ extended_entries known keys entries
+      → AreExtended keys (names_of extended)
+  extended_found keys entries extended map_of found = subst (AreExtended keys) (sym (names_found keys entries extended found)) (are_extended known keys entries map_of)
 
--- one by its place
-found_at_place : (keys : Texts) (entries : List (List ℕ × List ℕ)) (extended : List ExtendedName) → map extended_view extended ≡ extended_entries keys entries
-    → (place : ℕ) → place < length extended → IsFound keys entries (found_by_place (map extended_view extended) place)
-found_at_place keys entries extended found place below =
-    let long = ap length found in
-    let same = length-map extended extended_view in
-    subst (IsFound keys entries) (sym (ap (λ ws. get_or ws place ([], [], None)) found))
-    (in_found keys entries _ (at_in ([], [], None) (extended_entries keys entries) place (omega arith)))
+  -- one by its place
+  found_at_place : (keys : Texts) (entries : List (List ℕ × List ℕ)) (extended : List ExtendedName) → map extended_view extended ≡ extended_entries known keys entries
+      → (place : ℕ) → place < length extended → IsFound known keys entries (found_by_place (map extended_view extended) place)
+  found_at_place keys entries extended found place below =
+      let long = ap length found in
+      let same = length-map extended extended_view in
+      subst (IsFound known keys entries) (sym (ap (λ ws. get_or ws place ([], [], None)) found))
+      (in_found known keys entries _ (at_in ([], [], None) (extended_entries known keys entries) place (omega arith)))
 
 name_by_place : (extended : List ExtendedName) (place : ℕ) → (found_by_place (map extended_view extended) place).0 ≡ name_at (names_of extended) place
 name_by_place extended place =
@@ -70,122 +71,123 @@ apart names order i j below within =
     go false is h = is
     go true is h = absurd (h is)
 
--- the charset and the bytes of a name, by what was found of it and of its charset source
-reading_found : (keys : Texts) (entries : List (List ℕ × List ℕ)) (w z : Found) → IsMapOf keys entries → IsFound keys entries w → IsFound keys entries z → z.0 ≡ charset_source keys w.0
-    → reading_of four_charsets keys w.0 ≡ option_map text_of z.2
-unfolding reading_of
-reading_found keys entries w z map_of fw fz is_own_source =
-    cond-true _ _ _ (and_from _ _ (ap is_some (map_of.holds _ fw.entry)) (ap not fw.none))
-    ∙ ap (λ n. four_charsets (label_in (extended_value keys n))) (sym is_own_source)
-    ∙ ap (λ o. four_charsets (label_in (unwrap_or o []))) (map_of.holds _ fz.entry)
-    ∙ ap (option_map text_of) (sym fz.charset)
+-- Under the charsets that are known.
+module _ (known : Charsets) where
+  -- the charset and the bytes of a name, by what was found of it and of its charset source
+  reading_found : (keys : Texts) (entries : List (List ℕ × List ℕ)) (w z : Found) → IsMapOf keys entries → IsFound known keys entries w → IsFound known keys entries z → z.0 ≡ charset_source keys w.0
+      → reading_of known keys w.0 ≡ z.2
+  unfolding reading_of
+  reading_found keys entries w z map_of fw fz is_own_source =
+      cond-true _ _ _ (and_from _ _ (ap is_some (map_of.holds _ fw.entry)) (ap not fw.none))
+      ∙ ap (λ n. known (label_in (extended_value keys n))) (sym is_own_source)
+      ∙ ap (λ o. known (label_in (unwrap_or o []))) (map_of.holds _ fz.entry)
+      ∙ sym fz.charset
 
-octets_found : (keys : Texts) (entries : List (List ℕ × List ℕ)) (w : Found) (last : List ℕ) (is_own_source : Bool) → IsMapOf keys entries → IsFound keys entries w → last ≡ charset_source keys w.0
-    → bytes_eq last w.0 ≡ is_own_source → percent_decode (cond is_own_source (text_in w.1) w.1) ≡ octets_of keys w.0
-octets_found keys entries w last is_own_source map_of fw is same =
-    sym (ap (λ v. percent_decode (cond (bytes_eq (charset_source keys w.0) w.0) (text_in v) v)) (ap (λ o. unwrap_or o []) (map_of.holds _ fw.entry))
-    ∙ ap (λ n. percent_decode (cond (bytes_eq n w.0) (text_in w.1) w.1)) (sym is)
-    ∙ ap (λ b. percent_decode (cond b (text_in w.1) w.1)) same)
+  octets_found : (keys : Texts) (entries : List (List ℕ × List ℕ)) (w : Found) (last : List ℕ) (is_own_source : Bool) → IsMapOf keys entries → IsFound known keys entries w → last ≡ charset_source keys w.0
+      → bytes_eq last w.0 ≡ is_own_source → percent_decode (cond is_own_source (text_in w.1) w.1) ≡ octets_of keys w.0
+  octets_found keys entries w last is_own_source map_of fw is same =
+      sym (ap (λ v. percent_decode (cond (bytes_eq (charset_source keys w.0) w.0) (text_in v) v)) (ap (λ o. unwrap_or o []) (map_of.holds _ fw.entry))
+      ∙ ap (λ n. percent_decode (cond (bytes_eq n w.0) (text_in w.1) w.1)) (sym is)
+      ∙ ap (λ b. percent_decode (cond b (text_in w.1) w.1)) same)
 
--- what stands at the name at a place, where the one at another is its charset source
-abbrev extended_by : List Found → ℕ → ℕ → Option words.Section
-extended_by found place last =
-    let one = found_by_place found place in
-    option_map (λ charset. extended_section one.0 (text_of charset) (percent_decode (cond (eqb last place) (text_in one.1) one.1))) (found_by_place found last).2
+  -- what stands at the name at a place, where the one at another is its charset source
+  abbrev extended_by : List Found → ℕ → ℕ → Option words.Section
+  extended_by found place last =
+      let one = found_by_place found place in
+      option_map (λ reading. extended_section one.0 reading (percent_decode (cond (eqb last place) (text_in one.1) one.1))) (found_by_place found last).2
 
-extended_is : (keys : Texts) (entries : List (List ℕ × List ℕ)) (extended : List ExtendedName) (place last : ℕ) → IsMapOf keys entries → map extended_view extended ≡ extended_entries keys entries
-    → place < length extended → last ≡ source_place (names_of extended) (length extended) place
-    → extended_by (map extended_view extended) place last ≡ extended_at four_charsets keys (name_at (names_of extended) place)
-extended_is keys entries extended place last map_of found below is =
-    ap (λ bytes. option_map (λ charset. extended_section w.0 (text_of charset) bytes) z.2) octets
-    ∙ sym (option_twice (λ reading. extended_section w.0 reading (octets_of keys w.0)) text_of z.2)
-    ∙ ap (option_map (λ reading. extended_section w.0 reading (octets_of keys w.0))) (sym reading)
-    ∙ ap (extended_at four_charsets keys) (name_by_place extended place)
-  where
-    names : List (List ℕ)
-    names = names_of extended
+  extended_is : (keys : Texts) (entries : List (List ℕ × List ℕ)) (extended : List ExtendedName) (place last : ℕ) → IsMapOf keys entries → map extended_view extended ≡ extended_entries known keys entries
+      → place < length extended → last ≡ source_place (names_of extended) (length extended) place
+      → extended_by (map extended_view extended) place last ≡ extended_at known keys (name_at (names_of extended) place)
+  extended_is keys entries extended place last map_of found below is =
+      ap (λ bytes. option_map (λ reading. extended_section w.0 reading bytes) z.2) octets
+      ∙ ap (option_map (λ reading. extended_section w.0 reading (octets_of keys w.0))) (sym reading)
+      ∙ ap (extended_at known keys) (name_by_place extended place)
+    where
+      names : List (List ℕ)
+      names = names_of extended
 
-    long : length names ≡ length extended
-    long = length-map extended (λ (v : ExtendedName). v.name.now)
+      long : length names ≡ length extended
+      long = length-map extended (λ (v : ExtendedName). v.name.now)
 
-    all : AreExtended keys names
-    all = extended_found keys entries extended map_of found
+      all : AreExtended keys names
+      all = extended_found known keys entries extended map_of found
 
-    w : Found
-    w = found_by_place (map extended_view extended) place
+      w : Found
+      w = found_by_place (map extended_view extended) place
 
-    z : Found
-    z = found_by_place (map extended_view extended) last
+      z : Found
+      z = found_by_place (map extended_view extended) last
 
-    same : last ≡ source_place names (length names) place
-    same = is ∙ ap (λ n. source_place names n place) (sym long)
+      same : last ≡ source_place names (length names) place
+      same = is ∙ ap (λ n. source_place names n place) (sym long)
 
-    within : last < length extended
-    within = let d = source_place_within names place (omega (arith, long)) in omega (arith, long, same)
+      within : last < length extended
+      within = let d = source_place_within names place (omega (arith, long)) in omega (arith, long, same)
 
-    is_own_source : z.0 ≡ charset_source keys w.0
-    is_own_source =
-        name_by_place extended last ∙ ap (name_at names) same
-        ∙ charset_source_at keys names all.order all.sound all.complete place (omega (arith, long))
-        ∙ ap (charset_source keys) (sym (name_by_place extended place))
+      is_own_source : z.0 ≡ charset_source keys w.0
+      is_own_source =
+          name_by_place extended last ∙ ap (name_at names) same
+          ∙ charset_source_at keys names all.order all.sound all.complete place (omega (arith, long))
+          ∙ ap (charset_source keys) (sym (name_by_place extended place))
 
-    fw : IsFound keys entries w
-    fw = found_at_place keys entries extended found place below
+      fw : IsFound known keys entries w
+      fw = found_at_place known keys entries extended found place below
 
-    fz : IsFound keys entries z
-    fz = found_at_place keys entries extended found last within
+      fz : IsFound known keys entries z
+      fz = found_at_place known keys entries extended found last within
 
-    own : bytes_eq z.0 w.0 ≡ eqb last place
-    own =
-        ap (λ n. bytes_eq n w.0) (name_by_place extended last) ∙ ap (bytes_eq (name_at names last)) (name_by_place extended place)
-        ∙ apart names all.order last place (omega (arith, long, within)) (omega (arith, long))
+      own : bytes_eq z.0 w.0 ≡ eqb last place
+      own =
+          ap (λ n. bytes_eq n w.0) (name_by_place extended last) ∙ ap (bytes_eq (name_at names last)) (name_by_place extended place)
+          ∙ apart names all.order last place (omega (arith, long, within)) (omega (arith, long))
 
-    octets : percent_decode (cond (eqb last place) (text_in w.1) w.1) ≡ octets_of keys w.0
-    octets = octets_found keys entries w z.0 (eqb last place) map_of fw is_own_source own
+      octets : percent_decode (cond (eqb last place) (text_in w.1) w.1) ≡ octets_of keys w.0
+      octets = octets_found keys entries w z.0 (eqb last place) map_of fw is_own_source own
 
-    reading : reading_of four_charsets keys w.0 ≡ option_map text_of z.2
-    reading = reading_found keys entries w z map_of fw fz is_own_source
+      reading : reading_of known keys w.0 ≡ z.2
+      reading = reading_found keys entries w z map_of fw fz is_own_source
 
--- how the name at a place is read
-pub reading_known : (keys : Texts) (entries : List (List ℕ × List ℕ)) (extended : List ExtendedName) (place last : ℕ) → IsMapOf keys entries → map extended_view extended ≡ extended_entries keys entries
-    → place < length extended → last ≡ source_place (names_of extended) (length extended) place
-    → is_some (reading_of four_charsets keys (name_at (names_of extended) place)) ≡ is_some (reading_by (map extended_view extended) place last)
-reading_known keys entries extended place last map_of found below is =
-    sym (is_some_map _ (reading_of four_charsets keys (name_at (names_of extended) place)))
-    ∙ ap is_some (sym (extended_is keys entries extended place last map_of found below is))
-    ∙ is_some_map _ (found_by_place (map extended_view extended) last).2
-    ∙ sym (is_some_map _ (found_by_place (map extended_view extended) last).2)
+  -- how the name at a place is read
+  pub reading_known : (keys : Texts) (entries : List (List ℕ × List ℕ)) (extended : List ExtendedName) (place last : ℕ) → IsMapOf keys entries → map extended_view extended ≡ extended_entries known keys entries
+      → place < length extended → last ≡ source_place (names_of extended) (length extended) place
+      → is_some (reading_of known keys (name_at (names_of extended) place)) ≡ is_some (reading_by (map extended_view extended) place last)
+  reading_known keys entries extended place last map_of found below is =
+      sym (is_some_map _ (reading_of known keys (name_at (names_of extended) place)))
+      ∙ ap is_some (sym (extended_is keys entries extended place last map_of found below is))
+      ∙ is_some_map _ (found_by_place (map extended_view extended) last).2
+      ∙ sym (is_some_map _ (found_by_place (map extended_view extended) last).2)
 
-pub reading_made : (keys : Texts) (entries : List (List ℕ × List ℕ)) (extended : List ExtendedName) (place last : ℕ) (r : Read) → IsMapOf keys entries
-    → map extended_view extended ≡ extended_entries keys entries → place < length extended → last ≡ source_place (names_of extended) (length extended) place
-    → Some r ≡ reading_by (map extended_view extended) place last → IsReading keys r × (r.0 ≡ name_at (names_of extended) place)
-reading_made keys entries extended place last r map_of found below is made = go z.2 refl
-  where
-    w : Found
-    w = found_by_place (map extended_view extended) place
+  pub reading_made : (keys : Texts) (entries : List (List ℕ × List ℕ)) (extended : List ExtendedName) (place last : ℕ) (r : Read) → IsMapOf keys entries
+      → map extended_view extended ≡ extended_entries known keys entries → place < length extended → last ≡ source_place (names_of extended) (length extended) place
+      → Some r ≡ reading_by (map extended_view extended) place last → IsReading known keys r × (r.0 ≡ name_at (names_of extended) place)
+  reading_made keys entries extended place last r map_of found below is made = go z.2 refl
+    where
+      w : Found
+      w = found_by_place (map extended_view extended) place
 
-    z : Found
-    z = found_by_place (map extended_view extended) last
+      z : Found
+      z = found_by_place (map extended_view extended) last
 
-    fw : IsFound keys entries w
-    fw = found_at_place keys entries extended found place below
+      fw : IsFound known keys entries w
+      fw = found_at_place known keys entries extended found place below
 
-    there : keys (starred w.0) ≡ Some w.1
-    there = map_of.holds _ fw.entry
+      there : keys (starred w.0) ≡ Some w.1
+      there = map_of.holds _ fw.entry
 
-    gives : (charset : Charset) → z.2 ≡ Some charset → extended_at four_charsets keys w.0 ≡ Some (read_section (w.0, charset, eqb last place) (extended_value keys w.0))
-    gives charset e =
-        ap (extended_at four_charsets keys) (name_by_place extended place)
-        ∙ sym (extended_is keys entries extended place last map_of found below is)
-        ∙ ap (option_map (λ c. extended_section w.0 (text_of c) (percent_decode (cond (eqb last place) (text_in w.1) w.1)))) e
-        ∙ ap (λ v. Some (read_section (w.0, charset, eqb last place) v)) (sym (ap (λ o. unwrap_or o []) there))
+      gives : (charset : List ℕ → List ℕ) → z.2 ≡ Some charset → extended_at known keys w.0 ≡ Some (read_section (w.0, charset, eqb last place) (extended_value keys w.0))
+      gives charset e =
+          ap (extended_at known keys) (name_by_place extended place)
+          ∙ sym (extended_is keys entries extended place last map_of found below is)
+          ∙ ap (option_map (λ c. extended_section w.0 c (percent_decode (cond (eqb last place) (text_in w.1) w.1)))) e
+          ∙ ap (λ v. Some (read_section (w.0, charset, eqb last place) v)) (sym (ap (λ o. unwrap_or o []) there))
 
-    go : (o : Option Charset) → z.2 ≡ o → IsReading keys r × (r.0 ≡ name_at (names_of extended) place)
-    go None e = let clash : Some r ≡ None = made ∙ ap (option_map (λ charset. (w.0, charset, eqb last place))) e in absurd (cc)
-    go (Some charset) e =
-        let whole : Some r ≡ Some (w.0, charset, eqb last place) = made ∙ ap (option_map (λ c. (w.0, c, eqb last place))) e in
-        let same : r ≡ (w.0, charset, eqb last place) = ap (λ o. unwrap_or o r) whole in
-        (subst (IsReading keys) (sym same) (record { valued = ap is_some there; gives = gives charset e }), ap (λ (x : Read). x.0) same ∙ name_by_place extended place)
+      go : (o : Option (List ℕ → List ℕ)) → z.2 ≡ o → IsReading known keys r × (r.0 ≡ name_at (names_of extended) place)
+      go None e = let clash : Some r ≡ None = made ∙ ap (option_map (λ charset. (w.0, charset, eqb last place))) e in absurd (cc)
+      go (Some charset) e =
+          let whole : Some r ≡ Some (w.0, charset, eqb last place) = made ∙ ap (option_map (λ c. (w.0, c, eqb last place))) e in
+          let same : r ≡ (w.0, charset, eqb last place) = ap (λ o. unwrap_or o r) whole in
+          (subst (IsReading known keys) (sym same) (record { valued = ap is_some there; gives = gives charset e }), ap (λ (x : Read). x.0) same ∙ name_by_place extended place)
 
 -- ---- a walk over the places
 
@@ -246,28 +248,32 @@ pub extended_none : (known : Charsets) (keys : Texts) (q : List ℕ) → is_exte
 unfolding reading_of
 extended_none known keys q h = ap (option_map (λ reading. extended_section q reading (octets_of keys q))) (cond-false _ _ _ h)
 
--- all extended names were passed
-pub names_all : (keys : Texts) (names : List (List ℕ)) (place : ℕ) → AreExtended keys names → length names ≤ place → (q : List ℕ) (found : List (List ℕ))
-    → holds_name found q ≡ (holds_name (take place names) q && is_some (reading_of four_charsets keys q)) → holds_name found q ≡ is_some (reading_of four_charsets keys q)
-unfolding reading_of
-names_all keys names place all full q found before = before ∙ ap (λ ns. holds_name ns q && is_some (reading_of four_charsets keys q)) (take_all place names full) ∙ go (is_extended keys q) refl
-  where
-    go : (b : Bool) → is_extended keys q ≡ b → (holds_name names q && is_some (reading_of four_charsets keys q)) ≡ is_some (reading_of four_charsets keys q)
-    go false is =
-        let none = ap is_some (cond-false (is_extended keys q) (four_charsets (label_in (extended_value keys (charset_source keys q)))) None is) in
-        and_right _ _ none ∙ sym none
-    go true is =
-        let at = all.complete q is in
-        let some = list_any_at (λ n. bytes_eq n q) names at.0 [] at.1 (same_bytes _ _ at.2) in
-        ap (λ b. b && is_some (reading_of four_charsets keys q)) some
+-- Under the charsets that are known.
+module _ (known : Charsets) where
+  -- all extended names were passed
+  pub names_all : (keys : Texts) (names : List (List ℕ)) (place : ℕ) → AreExtended keys names → length names ≤ place → (q : List ℕ) (found : List (List ℕ))
+      → holds_name found q ≡ (holds_name (take place names) q && is_some (reading_of known keys q)) → holds_name found q ≡ is_some (reading_of known keys q)
+  unfolding reading_of
+  names_all keys names place all full q found before = before ∙ ap (λ ns. holds_name ns q && is_some (reading_of known keys q)) (take_all place names full) ∙ go (is_extended keys q) refl
+    where
+      go : (b : Bool) → is_extended keys q ≡ b → (holds_name names q && is_some (reading_of known keys q)) ≡ is_some (reading_of known keys q)
+      go false is =
+          let none = ap is_some (cond-false (is_extended keys q) (known (label_in (extended_value keys (charset_source keys q)))) None is) in
+          and_right _ _ none ∙ sym none
+      go true is =
+          let at = all.complete q is in
+          let some = list_any_at (λ n. bytes_eq n q) names at.0 [] at.1 (same_bytes _ _ at.2) in
+          ap (λ b. b && is_some (reading_of known keys q)) some
 
 -- ---- a walk over the readings
 
-pub reading_turn : (keys : Texts) (items : List Reading) (k : ℕ) (r : Reading) → All (IsReading keys) (map reading_view items) → k < length items → r ≡ get_or items k r
-    → IsReading keys (reading_view r)
-reading_turn keys items k r all below is =
-    let long = length-map items reading_view in
-    subst (IsReading keys) (get_or-map reading_view items k r ∙ ap reading_view (sym is)) (all k (reading_view r) (omega (arith, below, long)))
+-- Under the charsets that are known.
+module _ (known : Charsets) where
+  pub reading_turn : (keys : Texts) (items : List Reading) (k : ℕ) (r : Reading) → All (IsReading known keys) (map reading_view items) → k < length items → r ≡ get_or items k r
+      → IsReading known keys (reading_view r)
+  reading_turn keys items k r all below is =
+      let long = length-map items reading_view in
+      subst (IsReading known keys) (get_or-map reading_view items k r ∙ ap reading_view (sym is)) (all k (reading_view r) (omega (arith, below, long)))
 
 pub names_of_all : (taken items : List Reading) → map (λ r. r) taken ≡ items → names_read taken ≡ names_read items
 names_of_all [] items h = ap names_read h

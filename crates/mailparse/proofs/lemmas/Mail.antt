@@ -1,7 +1,7 @@
 -- Lemmas on messages: their types, their trees, and how they are read.
 use Rattle.std.proofs.Common.{◌≡◌, ℕ, zero, suc, ◌-◌, ◌<◌, ◌≤◌, Bool, true, false, List, [], ◌∷◌, ◌++◌, length, map, take, drop, slice_range, Option, Some, None, option_map, Ok, Err, refl, sym, ap, ◌∙◌, subst, arith, Result}
 use Rattle.std.specs.Prelude.{codes, if◌then◌else◌}
-use Rattle.mail_codec.specs.Charset.{four_charsets}
+use Rattle.mail_codec.specs.Charset.{Charsets}
 use Rattle.mail_codec.specs.Places.{stands}
 use Rattle.mailparse.specs.Refusal.{◌>>=◌, Refusal, Reads, recursion_limit}
 use Rattle.mailparse.specs.Header.{Header}
@@ -14,7 +14,7 @@ use Rattle.mailparse.specs.private.Delimiters.{IsDelimiter}
 use Rattle.mailparse.proofs.lemmas.Refusal.{read_map}
 use Rattle.std.specs.Option.{option_map_or}
 use Rattle.mailparse.specs.Map.{first_with_key}
-use Rattle.mailparse.specs.Value.{lenient_value}
+use Rattle.mailparse.specs.Value.{lenient_value_in}
 use Rattle.mailparse.specs.Views.{tree_step, tree_of}
 use Rattle.mailparse.specs.declared.mail.ParsedMail.{ParsedMail}
 use Rattle.mailparse.specs.declared.mail.ParsedMail.TheViews.{out-ParsedMail}
@@ -26,20 +26,22 @@ use Rattle.mailparse.proofs.lemmas.Delimiters.{part_ranges-none, part_ranges-som
 unwrapped : (a b : List ℕ) → ◌≡◌ {A = Result (List ℕ) Refusal} (Ok a) (Ok b) → a ≡ b
 unwrapped a b e = cc
 
--- the type of a message whose first `Content-Type` has that text
-pub node_type-some : (in_digest : Bool) (headers : List Header) (h : Header) (text : List ℕ) → Some h ≡ first_with_key (codes "Content-Type") headers
-    → ◌≡◌ {A = Result (List ℕ) Refusal} (Ok (lenient_value h.value)) (Ok text) → content_type_in four_charsets text ≡ node_type four_charsets in_digest headers
-unfolding node_type lenient_value
-node_type-some in_digest headers h text first e =
-    ap (content_type_in four_charsets) (sym (unwrapped _ _ e))
-    ∙ ap (λ o. option_map_or (λ (x : Header). content_type_in four_charsets (lenient_value x.value)) o (part_type in_digest)) first
+-- Under the charsets that are known.
+module _ (known : Charsets) where
+  -- the type of a message whose first `Content-Type` has that text
+  pub node_type-some : (in_digest : Bool) (headers : List Header) (h : Header) (text : List ℕ) → Some h ≡ first_with_key (codes "Content-Type") headers
+      → ◌≡◌ {A = Result (List ℕ) Refusal} (Ok (lenient_value_in known h.value)) (Ok text) → content_type_in known text ≡ node_type known in_digest headers
+  unfolding node_type
+  node_type-some in_digest headers h text first e =
+      ap (content_type_in known) (sym (unwrapped _ _ e))
+      ∙ ap (λ o. option_map_or (λ (x : Header). content_type_in known (lenient_value_in known x.value)) o (part_type in_digest)) first
 
--- the type of a message that has none
-pub node_type-none : (in_digest : Bool) (headers : List Header) → None ≡ first_with_key (codes "Content-Type") headers
-    → part_type in_digest ≡ node_type four_charsets in_digest headers
-unfolding node_type lenient_value
-node_type-none in_digest headers none =
-    ap (λ o. option_map_or (λ (x : Header). content_type_in four_charsets (lenient_value x.value)) o (part_type in_digest)) none
+  -- the type of a message that has none
+  pub node_type-none : (in_digest : Bool) (headers : List Header) → None ≡ first_with_key (codes "Content-Type") headers
+      → part_type in_digest ≡ node_type known in_digest headers
+  unfolding node_type
+  node_type-none in_digest headers none =
+      ap (λ o. option_map_or (λ (x : Header). content_type_in known (lenient_value_in known x.value)) o (part_type in_digest)) none
 
 -- ---- trees
 
@@ -72,105 +74,109 @@ with_trees-push : (front : List Tree) (t : Tree) (rest : Reads Forest) → with_
 with_trees-push front t (Ok rest) = ap Ok (forest_and-push front t rest)
 with_trees-push front t (Err e) = refl
 
--- what is read of the parts from one on
-abbrev pub parts_from : ℕ → Bool → List ℕ → List ℕ → Option ℕ → Reads Forest
-parts_from levels in_digest dash_boundary raw next = read_each (read_levels four_charsets levels in_digest) (map (slice raw) (part_ranges dash_boundary raw next))
+-- Under the charsets that are known.
+module _ (known : Charsets) where
+  -- what is read of the parts from one on
+  abbrev pub parts_from : ℕ → Bool → List ℕ → List ℕ → Option ℕ → Reads Forest
+  parts_from levels in_digest dash_boundary raw next = read_each (read_levels known levels in_digest) (map (slice raw) (part_ranges dash_boundary raw next))
 
-module _ (levels : ℕ) (in_digest : Bool) (dash_boundary raw : List ℕ) where
-  part_bytes : ℕ → List ℕ
-  part_bytes s = slice_range raw s (end_from dash_boundary raw s (length raw))
+  module _ (levels : ℕ) (in_digest : Bool) (dash_boundary raw : List ℕ) where
+    part_bytes : ℕ → List ℕ
+    part_bytes s = slice_range raw s (end_from dash_boundary raw s (length raw))
 
-  abbrev rest_from : ℕ → Tree → Reads Forest
-  rest_from s t = read_map (part_and t) (parts_from levels in_digest dash_boundary raw (next_part dash_boundary raw s))
+    abbrev rest_from : ℕ → Tree → Reads Forest
+    rest_from s t = read_map (part_and t) (parts_from levels in_digest dash_boundary raw (next_part dash_boundary raw s))
 
-  parts_from-some : (s : ℕ) → parts_from levels in_digest dash_boundary raw (Some s)
-      ≡ ◌>>=◌ (read_levels four_charsets levels in_digest (part_bytes s)) (rest_from s)
-  unfolding part_bytes
-  parts_from-some s = ap (λ (rs : List Range). read_each (read_levels four_charsets levels in_digest) (map (slice raw) rs)) (part_ranges-some dash_boundary raw s)
+    parts_from-some : (s : ℕ) → parts_from levels in_digest dash_boundary raw (Some s)
+        ≡ ◌>>=◌ (read_levels known levels in_digest (part_bytes s)) (rest_from s)
+    unfolding part_bytes
+    parts_from-some s = ap (λ (rs : List Range). read_each (read_levels known levels in_digest) (map (slice raw) rs)) (part_ranges-some dash_boundary raw s)
 
-  -- a part more
-  pub parts_step : (front : List Tree) (all : Reads Forest) (s part_end : ℕ) (after : Option ℕ) (t : Tree) → part_end ≡ end_from dash_boundary raw s (length raw)
-      → after ≡ next_part dash_boundary raw s → read_levels four_charsets levels in_digest (slice_range raw s part_end) ≡ Ok t
-      → with_trees front (parts_from levels in_digest dash_boundary raw (Some s)) ≡ all
-      → with_trees (front ++ t ∷ []) (parts_from levels in_digest dash_boundary raw after) ≡ all
-  unfolding part_bytes
-  parts_step front all s part_end after t ends next read before =
-      let here : read_levels four_charsets levels in_digest (part_bytes s) ≡ Ok t =
-      ap (λ e. read_levels four_charsets levels in_digest (slice_range raw s e)) (sym ends) ∙ read in
-      ap (λ (o : Option ℕ). with_trees (front ++ t ∷ []) (parts_from levels in_digest dash_boundary raw o)) next
-      ∙ sym (with_trees-push front t (parts_from levels in_digest dash_boundary raw (next_part dash_boundary raw s)))
-      ∙ ap (λ (r : Reads Tree). with_trees front (◌>>=◌ r (rest_from s))) (sym here)
-      ∙ ap (with_trees front) (sym (parts_from-some s)) ∙ before
+    -- a part more
+    pub parts_step : (front : List Tree) (all : Reads Forest) (s part_end : ℕ) (after : Option ℕ) (t : Tree) → part_end ≡ end_from dash_boundary raw s (length raw)
+        → after ≡ next_part dash_boundary raw s → read_levels known levels in_digest (slice_range raw s part_end) ≡ Ok t
+        → with_trees front (parts_from levels in_digest dash_boundary raw (Some s)) ≡ all
+        → with_trees (front ++ t ∷ []) (parts_from levels in_digest dash_boundary raw after) ≡ all
+    unfolding part_bytes
+    parts_step front all s part_end after t ends next read before =
+        let here : read_levels known levels in_digest (part_bytes s) ≡ Ok t =
+        ap (λ e. read_levels known levels in_digest (slice_range raw s e)) (sym ends) ∙ read in
+        ap (λ (o : Option ℕ). with_trees (front ++ t ∷ []) (parts_from levels in_digest dash_boundary raw o)) next
+        ∙ sym (with_trees-push front t (parts_from levels in_digest dash_boundary raw (next_part dash_boundary raw s)))
+        ∙ ap (λ (r : Reads Tree). with_trees front (◌>>=◌ r (rest_from s))) (sym here)
+        ∙ ap (with_trees front) (sym (parts_from-some s)) ∙ before
 
-  -- a part that is refused
-  pub parts_refused : (front : List Tree) (all : Reads Forest) (s part_end : ℕ) (e : Refusal) → part_end ≡ end_from dash_boundary raw s (length raw)
-      → read_levels four_charsets levels in_digest (slice_range raw s part_end) ≡ Err e
-      → with_trees front (parts_from levels in_digest dash_boundary raw (Some s)) ≡ all → all ≡ Err e
-  unfolding part_bytes
-  parts_refused front all s part_end e ends read before =
-      let here : read_levels four_charsets levels in_digest (part_bytes s) ≡ Err e =
-      ap (λ n. read_levels four_charsets levels in_digest (slice_range raw s n)) (sym ends) ∙ read in
-      sym before ∙ ap (with_trees front) (parts_from-some s) ∙ ap (λ (r : Reads Tree). with_trees front (◌>>=◌ r (rest_from s))) here
+    -- a part that is refused
+    pub parts_refused : (front : List Tree) (all : Reads Forest) (s part_end : ℕ) (e : Refusal) → part_end ≡ end_from dash_boundary raw s (length raw)
+        → read_levels known levels in_digest (slice_range raw s part_end) ≡ Err e
+        → with_trees front (parts_from levels in_digest dash_boundary raw (Some s)) ≡ all → all ≡ Err e
+    unfolding part_bytes
+    parts_refused front all s part_end e ends read before =
+        let here : read_levels known levels in_digest (part_bytes s) ≡ Err e =
+        ap (λ n. read_levels known levels in_digest (slice_range raw s n)) (sym ends) ∙ read in
+        sym before ∙ ap (with_trees front) (parts_from-some s) ∙ ap (λ (r : Reads Tree). with_trees front (◌>>=◌ r (rest_from s))) here
 
-  -- all parts
-  pub parts_end : (front : List Tree) (all : Reads Forest) → with_trees front (parts_from levels in_digest dash_boundary raw None) ≡ all → all ≡ Ok (forest front)
-  parts_end front all before =
-      sym before ∙ ap (λ (rs : List Range). with_trees front (read_each (read_levels four_charsets levels in_digest) (map (slice raw) rs))) (part_ranges-none dash_boundary raw)
-      ∙ ap Ok (forest_and-none front)
+    -- all parts
+    pub parts_end : (front : List Tree) (all : Reads Forest) → with_trees front (parts_from levels in_digest dash_boundary raw None) ≡ all → all ≡ Ok (forest front)
+    parts_end front all before =
+        sym before ∙ ap (λ (rs : List Range). with_trees front (read_each (read_levels known levels in_digest) (map (slice raw) rs))) (part_ranges-none dash_boundary raw)
+        ∙ ap Ok (forest_and-none front)
 
 -- ---- the reading of a message
 
-pub read_levels-none : (levels : ℕ) (in_digest : Bool) (raw : List ℕ) → levels ≡ 0 → read_levels four_charsets levels in_digest raw ≡ Err recursion_limit
-unfolding read_levels
-read_levels-none zero in_digest raw e = refl
-read_levels-none (suc levels) in_digest raw e = absurd (omega arith)
+-- Under the charsets that are known.
+module _ (known : Charsets) where
+  pub read_levels-none : (levels : ℕ) (in_digest : Bool) (raw : List ℕ) → levels ≡ 0 → read_levels known levels in_digest raw ≡ Err recursion_limit
+  unfolding read_levels
+  read_levels-none zero in_digest raw e = refl
+  read_levels-none (suc levels) in_digest raw e = absurd (omega arith)
 
-read_levels-step : (levels : ℕ) (in_digest : Bool) (raw : List ℕ) → 0 < levels → read_levels four_charsets levels in_digest raw
-    ≡ ◌>>=◌ (read_headers raw) (λ block. read_parts four_charsets (read_levels four_charsets (levels - 1)) raw block (node_type four_charsets in_digest block.headers))
-unfolding read_levels
-read_levels-step zero in_digest raw some = absurd (omega arith)
-read_levels-step (suc levels) in_digest raw some =
-    let less : levels ≡ suc levels - 1 = omega arith in
-    ap (λ (n : ℕ). ◌>>=◌ (read_headers raw) (λ block. read_parts four_charsets (read_levels four_charsets n) raw block (node_type four_charsets in_digest block.headers))) less
+  read_levels-step : (levels : ℕ) (in_digest : Bool) (raw : List ℕ) → 0 < levels → read_levels known levels in_digest raw
+      ≡ ◌>>=◌ (read_headers raw) (λ block. read_parts known (read_levels known (levels - 1)) raw block (node_type known in_digest block.headers))
+  unfolding read_levels
+  read_levels-step zero in_digest raw some = absurd (omega arith)
+  read_levels-step (suc levels) in_digest raw some =
+      let less : levels ≡ suc levels - 1 = omega arith in
+      ap (λ (n : ℕ). ◌>>=◌ (read_headers raw) (λ block. read_parts known (read_levels known n) raw block (node_type known in_digest block.headers))) less
 
--- refused by its own headers
-pub read_levels-refused : (levels : ℕ) (in_digest : Bool) (raw : List ℕ) (e : Refusal) → 0 < levels → read_headers raw ≡ Err e → read_levels four_charsets levels in_digest raw ≡ Err e
-read_levels-refused levels in_digest raw e some refused = read_levels-step levels in_digest raw some ∙ (rw refused refl)
+  -- refused by its own headers
+  pub read_levels-refused : (levels : ℕ) (in_digest : Bool) (raw : List ℕ) (e : Refusal) → 0 < levels → read_headers raw ≡ Err e → read_levels known levels in_digest raw ≡ Err e
+  read_levels-refused levels in_digest raw e some refused = read_levels-step levels in_digest raw some ∙ (rw refused refl)
 
--- a message with this block and this type
-module _ (levels : ℕ) (in_digest : Bool) (raw : List ℕ) (headers : List Header) (index : ℕ) (ctype : ContentType) where
-  typed : 0 < levels → read_headers raw ≡ Ok (record { headers = headers; index = index }) → node_type four_charsets in_digest headers ≡ ctype
-      → read_levels four_charsets levels in_digest raw
-      ≡ read_parts four_charsets (read_levels four_charsets (levels - 1)) raw (record { headers = headers; index = index }) ctype
-  typed some read type =
-      read_levels-step levels in_digest raw some
-      ∙ ap (λ (r : Reads HeaderList). ◌>>=◌ r (λ block. read_parts four_charsets (read_levels four_charsets (levels - 1)) raw block (node_type four_charsets in_digest block.headers))) read
-      ∙ ap (λ (t : ContentType). read_parts four_charsets (read_levels four_charsets (levels - 1)) raw (record { headers = headers; index = index }) t) type
+  -- a message with this block and this type
+  module _ (levels : ℕ) (in_digest : Bool) (raw : List ℕ) (headers : List Header) (index : ℕ) (ctype : ContentType) where
+    typed : 0 < levels → read_headers raw ≡ Ok (record { headers = headers; index = index }) → node_type known in_digest headers ≡ ctype
+        → read_levels known levels in_digest raw
+        ≡ read_parts known (read_levels known (levels - 1)) raw (record { headers = headers; index = index }) ctype
+    typed some read type =
+        read_levels-step levels in_digest raw some
+        ∙ ap (λ (r : Reads HeaderList). ◌>>=◌ r (λ block. read_parts known (read_levels known (levels - 1)) raw block (node_type known in_digest block.headers))) read
+        ∙ ap (λ (t : ContentType). read_parts known (read_levels known (levels - 1)) raw (record { headers = headers; index = index }) t) type
 
-  -- one that has no parts
-  pub read_levels-leaf : 0 < levels → read_headers raw ≡ Ok (record { headers = headers; index = index }) → node_type four_charsets in_digest headers ≡ ctype
-      → dash_boundary_of ctype ≡ None
-      → read_levels four_charsets levels in_digest raw
-      ≡ Ok (tree (record { bytes = raw; block = take index raw; headers = headers; ctype = ctype; body = slice_range raw index (length raw) }) no_parts)
-  read_levels-leaf some read type none = typed some read type ∙ (rw none refl)
+    -- one that has no parts
+    pub read_levels-leaf : 0 < levels → read_headers raw ≡ Ok (record { headers = headers; index = index }) → node_type known in_digest headers ≡ ctype
+        → dash_boundary_of ctype ≡ None
+        → read_levels known levels in_digest raw
+        ≡ Ok (tree (record { bytes = raw; block = take index raw; headers = headers; ctype = ctype; body = slice_range raw index (length raw) }) no_parts)
+    read_levels-leaf some read type none = typed some read type ∙ (rw none refl)
 
-  cut_at : (dash_boundary : List ℕ) → dash_boundary_of ctype ≡ Some dash_boundary → cut_of ctype raw index ≡ cut_parts dash_boundary raw index
-  cut_at dash_boundary e = rw e refl
+    cut_at : (dash_boundary : List ℕ) → dash_boundary_of ctype ≡ Some dash_boundary → cut_of ctype raw index ≡ cut_parts dash_boundary raw index
+    cut_at dash_boundary e = rw e refl
 
-  node : List ℕ → Node
-  node dash_boundary = record { bytes = raw; block = take index raw; headers = headers; ctype = ctype; body = slice_range raw index (end_from dash_boundary raw index index) }
+    node : List ℕ → Node
+    node dash_boundary = record { bytes = raw; block = take index raw; headers = headers; ctype = ctype; body = slice_range raw index (end_from dash_boundary raw index index) }
 
-  -- one that may have parts
-  pub read_levels-parts : (dash_boundary : List ℕ) → 0 < levels → read_headers raw ≡ Ok (record { headers = headers; index = index })
-      → node_type four_charsets in_digest headers ≡ ctype → dash_boundary_of ctype ≡ Some dash_boundary
-      → read_levels four_charsets levels in_digest raw
-      ≡ read_map (tree (record { bytes = raw; block = take index raw; headers = headers; ctype = ctype; body = slice_range raw index (end_from dash_boundary raw index index) }))
-      (parts_from (levels - 1) (is_digest ctype) dash_boundary raw (first_part dash_boundary raw index))
-  unfolding cut_parts
-  read_levels-parts dash_boundary some read type delimiter =
-      typed some read type
-      ∙ ap (λ (cut : Cut). read_map (tree (node_with raw (record { headers = headers; index = index }) ctype cut))
-      (read_each (read_levels four_charsets (levels - 1) (is_digest ctype)) (map (slice raw) cut.parts))) (cut_at dash_boundary delimiter)
+    -- one that may have parts
+    pub read_levels-parts : (dash_boundary : List ℕ) → 0 < levels → read_headers raw ≡ Ok (record { headers = headers; index = index })
+        → node_type known in_digest headers ≡ ctype → dash_boundary_of ctype ≡ Some dash_boundary
+        → read_levels known levels in_digest raw
+        ≡ read_map (tree (record { bytes = raw; block = take index raw; headers = headers; ctype = ctype; body = slice_range raw index (end_from dash_boundary raw index index) }))
+        (parts_from known (levels - 1) (is_digest ctype) dash_boundary raw (first_part dash_boundary raw index))
+    unfolding cut_parts
+    read_levels-parts dash_boundary some read type delimiter =
+        typed some read type
+        ∙ ap (λ (cut : Cut). read_map (tree (node_with raw (record { headers = headers; index = index }) ctype cut))
+        (read_each (read_levels known (levels - 1) (is_digest ctype)) (map (slice raw) cut.parts))) (cut_at dash_boundary delimiter)
 
 -- ---- the delimiter of a type, and the LF before it
 
@@ -214,17 +220,19 @@ IsDelimiter-of delimiter ctype e =
     let long = dash_boundary_of-length ctype (drop 1 delimiter) parts.0 in
     record { feed = parts.1; some = omega arith }
 
--- the reading of a message that may have parts, by what the code has of it
-pub read_levels-whole : (levels : ℕ) (in_digest : Bool) (raw : List ℕ) (headers : List Header) (index : ℕ) (ctype : ContentType) (delimiter : List ℕ) (digest : Bool) (end : ℕ)
-    → 0 < levels → read_headers raw ≡ Ok (record { headers = headers; index = index }) → node_type four_charsets in_digest headers ≡ ctype
-    → Some delimiter ≡ option_map (λ dash_boundary. 10 ∷ dash_boundary) (dash_boundary_of ctype) → digest ≡ is_digest ctype → end ≡ end_from (drop 1 delimiter) raw index index
-    → read_levels four_charsets levels in_digest raw
-    ≡ read_map (tree (record { bytes = raw; block = take index raw; headers = headers; ctype = ctype; body = slice_range raw index end }))
-    (parts_from (levels - 1) digest (drop 1 delimiter) raw (first_part (drop 1 delimiter) raw index))
-read_levels-whole levels in_digest raw headers index ctype delimiter digest end some read type made is ends =
-    let dash_boundary = drop 1 delimiter in
-    read_levels-parts levels in_digest raw headers index ctype dash_boundary some read type (delimiter_some delimiter (dash_boundary_of ctype) made).0
-    ∙ ap (λ (b : Bool). read_map (tree (record { bytes = raw; block = take index raw; headers = headers; ctype = ctype; body = slice_range raw index (end_from dash_boundary raw index index) }))
-    (parts_from (levels - 1) b dash_boundary raw (first_part dash_boundary raw index))) (sym is)
-    ∙ ap (λ (n : ℕ). read_map (tree (record { bytes = raw; block = take index raw; headers = headers; ctype = ctype; body = slice_range raw index n }))
-    (parts_from (levels - 1) digest dash_boundary raw (first_part dash_boundary raw index))) (sym ends)
+-- Under the charsets that are known.
+module _ (known : Charsets) where
+  -- the reading of a message that may have parts, by what the code has of it
+  pub read_levels-whole : (levels : ℕ) (in_digest : Bool) (raw : List ℕ) (headers : List Header) (index : ℕ) (ctype : ContentType) (delimiter : List ℕ) (digest : Bool) (end : ℕ)
+      → 0 < levels → read_headers raw ≡ Ok (record { headers = headers; index = index }) → node_type known in_digest headers ≡ ctype
+      → Some delimiter ≡ option_map (λ dash_boundary. 10 ∷ dash_boundary) (dash_boundary_of ctype) → digest ≡ is_digest ctype → end ≡ end_from (drop 1 delimiter) raw index index
+      → read_levels known levels in_digest raw
+      ≡ read_map (tree (record { bytes = raw; block = take index raw; headers = headers; ctype = ctype; body = slice_range raw index end }))
+      (parts_from known (levels - 1) digest (drop 1 delimiter) raw (first_part (drop 1 delimiter) raw index))
+  read_levels-whole levels in_digest raw headers index ctype delimiter digest end some read type made is ends =
+      let dash_boundary = drop 1 delimiter in
+      read_levels-parts known levels in_digest raw headers index ctype dash_boundary some read type (delimiter_some delimiter (dash_boundary_of ctype) made).0
+      ∙ ap (λ (b : Bool). read_map (tree (record { bytes = raw; block = take index raw; headers = headers; ctype = ctype; body = slice_range raw index (end_from dash_boundary raw index index) }))
+      (parts_from known (levels - 1) b dash_boundary raw (first_part dash_boundary raw index))) (sym is)
+      ∙ ap (λ (n : ℕ). read_map (tree (record { bytes = raw; block = take index raw; headers = headers; ctype = ctype; body = slice_range raw index n }))
+      (parts_from known (levels - 1) digest dash_boundary raw (first_part dash_boundary raw index))) (sym ends)

@@ -10,7 +10,7 @@ use Rattle.std.specs.Map.{lookup}
 use Rattle.std.specs.Option.{option_or, unwrap_or}
 use Rattle.std.specs.Ordering.{is_eq, nat_cmp}
 use Rattle.std.specs.Str.{bytes_eq}
-use Rattle.mail_codec.specs.Charset.{Charsets, four_charsets}
+use Rattle.mail_codec.specs.Charset.{Charsets}
 use Rattle.mailparse.specs.Sections as words
 use Rattle.mailparse.specs.ExtendedValues.{extended_at, has_left, section_at, extended_value, is_starred, name_under, reading_of, starred}
 use Rattle.mailparse.specs.private.ExtendedValues.{without_starred}
@@ -89,27 +89,29 @@ value_gone keys names name some is = go (holds_name names name) refl (is ∙ sta
     go true e h = e
     go false e h = let clash : true ≡ false = sym some ∙ ap is_some (sym (h ∙ cond-false _ _ _ e)) in absurd (cc)
 
--- all values were read
-pub sections_read : (keys : Texts) (names : List (List ℕ)) (q : List ℕ) (extended : Option words.Section) (texts : Option (List ℕ))
-    → ((z : List ℕ) → holds_name names z ≡ is_some (reading_of four_charsets keys z))
-    → extended ≡ filled (extended_at four_charsets keys) (λ _. None) names q → texts ≡ without_starred keys names q
-    → option_or extended (option_map words.text texts) ≡ section_at four_charsets keys q
-unfolding section_at
-sections_read keys names q extended texts all e t =
-    ap (λ o. option_or o (option_map words.text texts)) (filled_all (extended_at four_charsets keys) (λ _. None) names q extended e (λ none. unread (sym (all q) ∙ none)))
-    ∙ ap (option_or (extended_at four_charsets keys q))
-    (ap (option_map words.text) (t ∙ ap (λ b. cond (is_starred q && b) None (keys q)) (all (name_under q))) ∙ inner (has_left four_charsets keys q))
-  where
-    inner : (b : Bool) → option_map words.text (cond b None (keys q)) ≡ cond b None (option_map words.text (keys q))
-    inner true = refl
-    inner false = refl
+-- Under the charsets that are known.
+module _ (known : Charsets) where
+  -- all values were read
+  pub sections_read : (keys : Texts) (names : List (List ℕ)) (q : List ℕ) (extended : Option words.Section) (texts : Option (List ℕ))
+      → ((z : List ℕ) → holds_name names z ≡ is_some (reading_of known keys z))
+      → extended ≡ filled (extended_at known keys) (λ _. None) names q → texts ≡ without_starred keys names q
+      → option_or extended (option_map words.text texts) ≡ section_at known keys q
+  unfolding section_at
+  sections_read keys names q extended texts all e t =
+      ap (λ o. option_or o (option_map words.text texts)) (filled_all (extended_at known keys) (λ _. None) names q extended e (λ none. unread (sym (all q) ∙ none)))
+      ∙ ap (option_or (extended_at known keys q))
+      (ap (option_map words.text) (t ∙ ap (λ b. cond (is_starred q && b) None (keys q)) (all (name_under q))) ∙ inner (has_left known keys q))
+    where
+      inner : (b : Bool) → option_map words.text (cond b None (keys q)) ≡ cond b None (option_map words.text (keys q))
+      inner true = refl
+      inner false = refl
 
-    unread : is_some (reading_of four_charsets keys q) ≡ false → extended_at four_charsets keys q ≡ None
-    unread none = by_none _ (is_some_map _ (reading_of four_charsets keys q) ∙ none)
-      where
-        by_none : (o : Option words.Section) → is_some o ≡ false → o ≡ None
-        by_none None h = refl
-        by_none (Some x) h = absurd (cc)
+      unread : is_some (reading_of known keys q) ≡ false → extended_at known keys q ≡ None
+      unread none = by_none _ (is_some_map _ (reading_of known keys q) ∙ none)
+        where
+          by_none : (o : Option words.Section) → is_some o ≡ false → o ≡ None
+          by_none None h = refl
+          by_none (Some x) h = absurd (cc)
 
 -- ---- the names of a map
 

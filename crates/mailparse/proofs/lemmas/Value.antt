@@ -2,10 +2,10 @@
 use Rattle.std.proofs.Common.{◌≡◌, ℕ, Bool, true, false, List, Result, Ok, Err, IsErr, refl, subst}
 use Rattle.std.specs.Str.{IsUtf8, is_utf8}
 use Rattle.std.proofs.lemmas.Str.{IsUtf8-from_is_utf8, is_utf8-from_IsUtf8}
-use Rattle.mail_codec.specs.Charset.{four_charsets}
+use Rattle.mail_codec.specs.Charset.{Charsets, four_charsets}
 use Rattle.mail_codec.specs.Latin1.{latin1_text}
 use Rattle.mailparse.specs.Refusal.{Refusal, value_not_utf8}
-use Rattle.mailparse.specs.Value.{shown_value, lenient_value, strict_value}
+use Rattle.mailparse.specs.Value.{shown_value, lenient_value_in, strict_value}
 
 is_utf8-false : (bytes : List ℕ) → (IsUtf8 bytes → ⊥) → is_utf8 bytes ≡ false
 is_utf8-false bytes none = by_test (is_utf8 bytes) refl
@@ -15,18 +15,18 @@ is_utf8-false bytes none = by_test (is_utf8 bytes) refl
     by_test false e = e
 
 -- bytes that are UTF-8 are read as they are
-pub lenient-utf8 : (bytes : List ℕ) → IsUtf8 bytes → lenient_value bytes ≡ shown_value four_charsets bytes
-unfolding lenient_value
-lenient-utf8 bytes some = rw (is_utf8-from_IsUtf8 bytes some) refl
+pub lenient-utf8 : (known : Charsets) (bytes : List ℕ) → IsUtf8 bytes → lenient_value_in known bytes ≡ shown_value known bytes
+unfolding lenient_value_in
+lenient-utf8 known bytes some = rw (is_utf8-from_IsUtf8 bytes some) refl
 
 pub strict-utf8 : (bytes : List ℕ) → IsUtf8 bytes → strict_value bytes ≡ Ok (shown_value four_charsets bytes)
 unfolding strict_value
 strict-utf8 bytes some = rw (is_utf8-from_IsUtf8 bytes some) refl
 
 -- other bytes are read as Latin-1, or refused
-pub lenient-latin1 : (bytes : List ℕ) → (IsUtf8 bytes → ⊥) → lenient_value bytes ≡ shown_value four_charsets (latin1_text bytes)
-unfolding lenient_value
-lenient-latin1 bytes none = rw (is_utf8-false bytes none) refl
+pub lenient-latin1 : (known : Charsets) (bytes : List ℕ) → (IsUtf8 bytes → ⊥) → lenient_value_in known bytes ≡ shown_value known (latin1_text bytes)
+unfolding lenient_value_in
+lenient-latin1 known bytes none = rw (is_utf8-false bytes none) refl
 
 pub strict-refused : (bytes : List ℕ) → (IsUtf8 bytes → ⊥) → strict_value bytes ≡ Err value_not_utf8
 unfolding strict_value

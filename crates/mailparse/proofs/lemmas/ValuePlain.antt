@@ -17,7 +17,7 @@ use Rattle.mailparse.specs.Tokens.{whitespace, plain_text, begins_opening, is_al
 use Rattle.mailparse.specs.Refusal.{value_not_utf8}
 use Rattle.mailparse.proofs.lemmas.Value.{lenient-utf8}
 use Rattle.std.proofs.lemmas.Str.{IsUtf8-from_ascii}
-use Rattle.mailparse.specs.Value.{IsPlain, token_of, outside_token, line_tokens, tokens_of_lines, value_tokens, shown_tokens, shown_after, shown_value, lenient_value, strict_value}
+use Rattle.mailparse.specs.Value.{IsPlain, token_of, outside_token, line_tokens, tokens_of_lines, value_tokens, shown_tokens, shown_after, shown_value, lenient_value, lenient_value_in, strict_value}
 use Rattle.mail_codec.proofs.lemmas.Places.{first_place-≤, first_place-passes, first_place-before, begins-at}
 use Rattle.mail_codec.proofs.lemmas.WordSearches.{place_none}
 use Rattle.mailparse.proofs.lemmas.Shown.{token_of-outside}
@@ -121,13 +121,13 @@ module _ (known : Charsets) where
 -- ---- the strict reading
 
 pub strict_agrees : (bytes : List ℕ) → IsUtf8 bytes → strict_value bytes ≡ Ok (lenient_value bytes)
-unfolding strict_value lenient_value
+unfolding strict_value lenient_value_in
 strict_agrees bytes utf8 =
     let test = is_utf8-from_IsUtf8 bytes utf8 in
     cond-true _ _ _ test ∙ ap (λ t. Ok (shown_value four_charsets t)) (sym (cond-true _ _ (latin1_text bytes) test))
 
 pub strict_succeeds : (bytes value : List ℕ) → strict_value bytes ≡ Ok value → lenient_value bytes ≡ value
-unfolding strict_value lenient_value
+unfolding strict_value lenient_value_in
 strict_succeeds bytes value h = go (is_utf8 bytes) h
   where
     go : (t : Bool) → cond t (Ok (shown_value four_charsets bytes)) (Err value_not_utf8) ≡ Ok value
@@ -137,4 +137,4 @@ strict_succeeds bytes value h = go (is_utf8 bytes) h
 
 -- so the value reads as itself too
 pub lenient_value-plain : (value : List ℕ) → IsPlain value → lenient_value value ≡ value
-lenient_value-plain value plain = lenient-utf8 value (IsUtf8-from_ascii value (printable_ascii value plain.printable)) ∙ shown_value-plain four_charsets value plain
+lenient_value-plain value plain = lenient-utf8 four_charsets value (IsUtf8-from_ascii value (printable_ascii value plain.printable)) ∙ shown_value-plain four_charsets value plain

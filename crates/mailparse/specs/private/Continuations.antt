@@ -3,10 +3,10 @@ use Rattle.std.specs.Prelude.{ℕ, zero, suc, Bool, false, not, ◌&&◌, ◌==�
 use Rattle.std.specs.BTreeMap.{BTreeMap}
 use Rattle.std.specs.Option.{option_map_or}
 use Rattle.std.specs.Str.{bytes_eq}
-use Rattle.mail_codec.specs.Charset.{text_of}
 use Rattle.mailparse.specs.Continuations.{is_section, joined, sections_of, walked_after}
 use Rattle.mailparse.specs.Sections.{Section, is_text, numbered, section_name}
 use Rattle.mailparse.specs.private.Filled.{holds_name}
+use Rattle.mailparse.specs.private.KnownCharset.{known_text}
 use Rattle.mailparse.specs.declared.parameters.continuations.joining.Joining.{Joining}
 use Rattle.mailparse.specs.declared.parameters.sections.Sections.{Sections}
 
@@ -22,7 +22,7 @@ sections_from at base (suc most) number = as_far (at (section_name base number))
 
 -- the text that is made when these sections follow
 abbrev pub joined_with : Joining → List Section → List ℕ
-joined_with joining sections = string_bytes joining.text ++ walked_after (option_map text_of joining.charset) joining.run.items sections
+joined_with joining sections = string_bytes joining.text ++ walked_after (option_map known_text joining.charset) joining.run.items sections
 
 -- the names of a map, in its order
 abbrev pub names_in : {Y X : Type 0} → BTreeMap (String Y) X → List (List ℕ)

@@ -4,12 +4,12 @@ use Rattle.std.specs.Borrow.{Bor}
 use Rattle.std.specs.Global.{Global}
 use Rattle.std.specs.List.{flat_map}
 use Rattle.std.specs.Option.{is_some}
-use Rattle.mail_codec.specs.Charset.{charset_of_label, four_charsets, text_of}
-use Rattle.mail_codec.specs.declared.charset.Charset.{Charset}
+use Rattle.mail_codec.specs.Charset.{Charsets}
 use Rattle.mailparse.specs.ExtendedValues.{extended_at, extended_value, is_starred, label_in, name_under, starred, text_in}
 use Rattle.mailparse.specs.Pairs.{Texts}
 use Rattle.mailparse.specs.Sections.{Section, text, octets, numbered}
 use Rattle.mailparse.specs.private.Filled.{holds_name}
+use Rattle.mailparse.specs.private.KnownCharset.{known_text}
 use Rattle.mailparse.specs.declared.parameters.extended_values.Reading.{Reading}
 use Rattle.mailparse.specs.declared.parameters.extended_values.names.ExtendedName.{ExtendedName}
 use Rattle.percent_encoding.specs.Percent.{percent_decode}
@@ -22,28 +22,30 @@ extended_section name reading bytes = if is_some (numbered name) then octets rea
 abbrev pub shown_view : Bor (String Global) × Bor (String Global) → List ℕ × List ℕ
 shown_view e = (string_bytes e.0.now, string_bytes e.1.now)
 
--- an extended name, by its bytes: the name, its extended value and the charset that this names
+-- an extended name, by its bytes: the name, its extended value and how the charset that this names is read
 abbrev pub Found : Type 0
-Found = List ℕ × List ℕ × Option Charset
+Found = List ℕ × List ℕ × Option (List ℕ → List ℕ)
 
 -- an extended name of the code, by its bytes
 abbrev pub extended_view : ExtendedName → Found
-extended_view n = (n.name.now, n.value.now, n.charset)
+extended_view n = (n.name.now, n.value.now, option_map known_text n.charset)
 
 -- a key less the star that it ends in
 abbrev pub star_taken : List ℕ → Option (List ℕ)
 star_taken key = if is_starred key then Some (name_under key) else None
 
--- the name of an entry, if its key ends in a star and the name is not a key
-abbrev pub found_at : Texts → List ℕ × List ℕ → List Found
-found_at keys e =
-    if is_starred e.0 && not (is_some (keys (name_under e.0)))
-    then (name_under e.0, e.1, charset_of_label (label_in e.1)) ∷ []
-    else []
+-- Under the charsets that are known.
+module _ (known : Charsets) where
+  -- the name of an entry, if its key ends in a star and the name is not a key
+  abbrev pub found_at : Texts → List ℕ × List ℕ → List Found
+  found_at keys e =
+      if is_starred e.0 && not (is_some (keys (name_under e.0)))
+      then (name_under e.0, e.1, known (label_in e.1)) ∷ []
+      else []
 
--- the extended names, in the order of the entries
-abbrev pub extended_entries : Texts → List (List ℕ × List ℕ) → List Found
-extended_entries keys entries = flat_map (found_at keys) entries
+  -- the extended names, in the order of the entries
+  abbrev pub extended_entries : Texts → List (List ℕ × List ℕ) → List Found
+  extended_entries keys entries = flat_map (found_at keys) entries
 
 -- the names alone
 abbrev pub names_of : List ExtendedName → List (List ℕ)
@@ -53,13 +55,13 @@ names_of extended = map (λ n. n.name.now) extended
 abbrev pub found_by_place : List Found → ℕ → Found
 found_by_place found place = slice_index_or found place ([], [], None)
 
--- how the extended value of a name is read: the name, the charset, and whether the name is its own charset source
+-- how the extended value of a name is read: the name, the reading of its charset, and whether the name is its own charset source
 abbrev pub Read : Type 0
-Read = List ℕ × Charset × Bool
+Read = List ℕ × (List ℕ → List ℕ) × Bool
 
 -- a reading of the code, by its bytes
 abbrev pub reading_view : Reading → Read
-reading_view r = (string_bytes r.name, r.charset, r.is_own_source)
+reading_view r = (string_bytes r.name, known_text r.charset, r.is_own_source)
 
 -- the names whose values are read
 abbrev pub names_read : List Reading → List (List ℕ)
@@ -67,16 +69,16 @@ names_read readings = map (λ r. string_bytes r.name) readings
 
 -- what a value gives that is read so
 abbrev pub read_section : Read → List ℕ → Section
-read_section r value = extended_section r.0 (text_of r.1) (percent_decode (if r.2 then text_in value else value))
+read_section r value = extended_section r.0 r.1 (percent_decode (if r.2 then text_in value else value))
 
 -- how the value of the name at a place is read, where the one at another is its charset source
 abbrev pub reading_by : List Found → ℕ → ℕ → Option Read
-reading_by found place source = option_map (λ charset. ((found_by_place found place).0, charset, source == place)) (found_by_place found source).2
+reading_by found place source = option_map (λ reading. ((found_by_place found place).0, reading, source == place)) (found_by_place found source).2
 
 -- the name has an extended value, and what stands at it is what this gives, read so
-pub record IsReading (keys : Texts) (r : Read) : Type 0 where
+pub record IsReading (known : Charsets) (keys : Texts) (r : Read) : Type 0 where
   pub valued : is_some (keys (starred r.0)) ≡ true
-  pub gives : extended_at four_charsets keys r.0 ≡ Some (read_section r (extended_value keys r.0))
+  pub gives : extended_at known keys r.0 ≡ Some (read_section r (extended_value keys r.0))
 
 -- the texts of keys, less the starred keys of some names
 abbrev pub without_starred : Texts → List (List ℕ) → Texts

@@ -1,6 +1,7 @@
 //! A body of bytes that stand as they are.
 ghost use Rattle.std.specs.Prelude.{◌≡◌};
-ghost use Rattle.mailparse.specs.Body.{text_under};
+ghost use Rattle.mail_codec.specs.Tables.{charsets_with};
+ghost use Rattle.mailparse.specs.Body.{text_under, text_under_in};
 ghost use Rattle.mailparse.specs.BodyViews.{binary_content};
 ghost use Rattle.mailparse.specs.Outcome.{GivesText};
 ghost use Rattle.mailparse.specs.Views.{content_type};
@@ -8,6 +9,7 @@ ghost use Rattle.mailparse.specs.Views.{content_type};
 use super::content::BodyContent;
 use crate::content_type::ParsedContentType;
 use crate::error::MailParseError;
+use mail_codec::charset::SingleByteTable;
 use std::alloc::Global;
 
 /// A body of bytes that stand as they are (RFC 2045, section 2.9).
@@ -86,6 +88,42 @@ impl<'a> BinaryBody<'a> {
         ensures { GivesText result
             (text_under (binary_content self.now).ctype.charset (binary_content self.now).raw) }
     {
-        Ok(self.content.text_of(alloc, self.get_raw())?)
+        self.get_as_string_with(alloc, &[])
+    }
+
+    /// Returns the text of the body as `get_as_string` does, where its charset may also be that of a
+    /// table.
+    ///
+    /// A label that one of the four charsets has is not looked for in the tables; of the tables the
+    /// first that has it is read. Takes memory for the text.
+    ///
+    /// # Errors
+    ///
+    /// `MailParseError::Memory` where it runs out of memory.
+    ///
+    /// # Examples
+    ///
+    /// ```rust
+    /// use mailparse::body::Body;
+    /// use mailparse::{SingleByteTable, parse_mail};
+    ///
+    /// let tables = [SingleByteTable { labels: &["x-euro"], high: &['€'; 128] }];
+    /// let raw = b"Content-Type: text/plain; charset=x-euro\n\
+    ///     Content-Transfer-Encoding: binary\n\n5 \x80";
+    /// let mail = parse_mail(alloc, raw)?;
+    /// let Body::Binary(body) = mail.get_body_encoded(alloc)? else {
+    ///     return Err("another coding".into());
+    /// };
+    /// assert_eq!(rt; body.get_as_string_with(alloc, &tables)?.as_str(), "5 €");
+    /// ```
+    pub fn get_as_string_with(
+        &self,
+        alloc: Global,
+        tables: &[SingleByteTable<'_>],
+    ) -> Result<String, MailParseError>
+        ensures { GivesText result (text_under_in (charsets_with tables.now)
+            (binary_content self.now).ctype.charset (binary_content self.now).raw) }
+    {
+        Ok(self.content.text_of(alloc, self.get_raw(), tables)?)
     }
 }

@@ -1,10 +1,12 @@
 //! What every body is made of.
 ghost use Rattle.std.specs.Prelude.{◌≡◌, string_bytes, IfOk};
-ghost use Rattle.mailparse.specs.Body.{text_under};
+ghost use Rattle.mail_codec.specs.Tables.{charsets_with};
+ghost use Rattle.mailparse.specs.Body.{text_under_in};
 ghost use Rattle.mailparse.specs.BodyViews.{content};
 
 use crate::content_type::ParsedContentType;
-use mail_codec::charset::{Charset, decode_ascii};
+use crate::known_charset::KnownCharset;
+use mail_codec::charset::{SingleByteTable, decode_ascii};
 use std::alloc::{AllocError, Global};
 
 /// The bytes of a body as they stand in the message, and the type of its content.
@@ -16,12 +18,17 @@ pub(super) struct BodyContent<'a> {
 
 impl<'a> BodyContent<'a> {
     /// The text of these bytes under the charset of the type.
-    #[tactic(auto, unfolding(crate::specs::Body::text_under, mail_codec::specs::Charset::marked_text_of))]
-    pub(super) fn text_of(&self, alloc: Global, bytes: &[u8]) -> Result<String, AllocError>
-        ensures { IfOk result (λ text.
-            string_bytes text ≡ text_under (content self.now).ctype.charset bytes.now) }
+    #[tactic(auto, unfolding(crate::specs::Body::text_under_in))]
+    pub(super) fn text_of(
+        &self,
+        alloc: Global,
+        bytes: &[u8],
+        tables: &[SingleByteTable<'_>],
+    ) -> Result<String, AllocError>
+        ensures { IfOk result (λ text. string_bytes text ≡ text_under_in
+            (charsets_with tables.now) (content self.now).ctype.charset bytes.now) }
     {
-        match Charset::for_label(self.ctype.charset.as_bytes()) {
+        match KnownCharset::for_label(self.ctype.charset.as_bytes(), tables) {
             Some(charset) => charset.decode(alloc, bytes),
             None => decode_ascii(alloc, bytes)?.into_owned(alloc),
         }

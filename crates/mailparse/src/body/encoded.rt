@@ -1,6 +1,7 @@
 //! A body that is encoded (RFC 2045, sections 6.7 and 6.8).
 ghost use Rattle.std.specs.Prelude.{◌≡◌};
-ghost use Rattle.mailparse.specs.Body.{in_base64, decoded, decoded_text};
+ghost use Rattle.mail_codec.specs.Tables.{charsets_with};
+ghost use Rattle.mailparse.specs.Body.{in_base64, decoded, decoded_text, decoded_text_in};
 ghost use Rattle.mailparse.specs.BodyViews.{encoded_content, encoded_kind};
 ghost use Rattle.mailparse.specs.Outcome.{ReadsBytes, ReadsText};
 ghost use Rattle.mailparse.specs.Views.{content_type};
@@ -8,6 +9,7 @@ ghost use Rattle.mailparse.specs.Views.{content_type};
 use super::content::BodyContent;
 use crate::content_type::ParsedContentType;
 use crate::error::{Base64Fault, MailParseError};
+use mail_codec::charset::SingleByteTable;
 use mail_codec::transfer::{decode_base64_body, decode_quoted_printable};
 use std::alloc::Global;
 
@@ -128,13 +130,52 @@ impl<'a> EncodedBody<'a> {
     /// };
     /// assert_eq!(rt; body.get_decoded_as_string(alloc)?.as_str(), "café");
     /// ```
-    #[tactic(auto, unfolding(crate::specs::Body::decoded_text, crate::specs::Body::text_under))]
     pub fn get_decoded_as_string(&self, alloc: Global) -> Result<String, MailParseError>
         ensures { ReadsText result (decoded_text (encoded_kind self.now)
             (encoded_content self.now).ctype.charset (encoded_content self.now).raw) }
     {
+        self.get_decoded_as_string_with(alloc, &[])
+    }
+
+    /// Returns the text that the body stands for as `get_decoded_as_string` does, where its charset
+    /// may also be that of a table.
+    ///
+    /// A label that one of the four charsets has is not looked for in the tables; of the tables the
+    /// first that has it is read. Takes memory for the bytes and for the text.
+    ///
+    /// # Errors
+    ///
+    /// `MailParseError::Base64DecodeError` where a body in Base64 is not Base64, with the index,
+    /// counted from 0, of the first invalid group of four; and `MailParseError::Memory` where it
+    /// runs out of memory.
+    ///
+    /// # Examples
+    ///
+    /// ```rust
+    /// use mailparse::body::Body;
+    /// use mailparse::{SingleByteTable, parse_mail};
+    ///
+    /// let tables = [SingleByteTable { labels: &["x-euro"], high: &['€'; 128] }];
+    /// let raw = b"Content-Type: text/plain; charset=x-euro\n\
+    ///     Content-Transfer-Encoding: quoted-printable\n\n5 =80";
+    /// let mail = parse_mail(alloc, raw)?;
+    /// let Body::QuotedPrintable(body) = mail.get_body_encoded(alloc)? else {
+    ///     return Err("another coding".into());
+    /// };
+    /// assert_eq!(rt; body.get_decoded_as_string_with(alloc, &tables)?.as_str(), "5 €");
+    /// ```
+    #[tactic(auto, unfolding(crate::specs::Body::decoded_text_in))]
+    pub fn get_decoded_as_string_with(
+        &self,
+        alloc: Global,
+        tables: &[SingleByteTable<'_>],
+    ) -> Result<String, MailParseError>
+        ensures { ReadsText result (decoded_text_in (charsets_with tables.now)
+            (encoded_kind self.now) (encoded_content self.now).ctype.charset
+            (encoded_content self.now).raw) }
+    {
         let bytes = self.get_decoded(alloc)?;
-        Ok(self.content.text_of(alloc, bytes.as_slice())?)
+        Ok(self.content.text_of(alloc, bytes.as_slice(), tables)?)
     }
 }
 

@@ -2,10 +2,11 @@
 ghost use Rattle.std.specs.Prelude.{◌≡◌, false, IfOk, MatchOption};
 ghost use Rattle.std.specs.Option.{option_map};
 ghost use Rattle.std.specs.String.{string_bytes};
-ghost use Rattle.mail_codec.specs.Charset.{four_charsets};
+ghost use Rattle.mail_codec.specs.Tables.{charsets_with};
 ghost use Rattle.mailparse.specs.EncodedWord.{IsCutAtMark, bytes_of_q, encoded_bytes, has_question_mark, spaced, word_text};
 
-use mail_codec::charset::Charset;
+use crate::known_charset::KnownCharset;
+use mail_codec::charset::SingleByteTable;
 use mail_codec::transfer::{decode_base64, decode_quoted_printable};
 use std::alloc::{AllocError, Global};
 
@@ -65,9 +66,13 @@ fn decode_encoded(
 
 /// The text of an encoded word, by what stands between its `=?` and its `?=`, if it decodes. A byte
 /// order mark is not looked for.
-pub(crate) fn decode_word(alloc: Global, inside: &str) -> Result<Option<String>, AllocError>
+pub(crate) fn decode_word(
+    alloc: Global,
+    inside: &str,
+    tables: &[SingleByteTable<'_>],
+) -> Result<Option<String>, AllocError>
     ensures { IfOk result (λ text.
-        option_map string_bytes text ≡ word_text four_charsets inside.now) }
+        option_map string_bytes text ≡ word_text (charsets_with tables.now) inside.now) }
 {
     let Some((label, rest)) = cut_at_question_mark(inside) else {
         return Ok(None);
@@ -75,7 +80,7 @@ pub(crate) fn decode_word(alloc: Global, inside: &str) -> Result<Option<String>,
     let Some((encoding, encoded)) = cut_at_question_mark(rest) else {
         return Ok(None);
     };
-    let Some(charset) = Charset::for_label(label.as_bytes()) else {
+    let Some(charset) = KnownCharset::for_label(label.as_bytes(), tables) else {
         return Ok(None);
     };
     let Some(bytes) = decode_encoded(alloc, encoding, encoded)? else {

@@ -1,8 +1,8 @@
 //! The tokens of one line of a header's value (RFC 2047, sections 2 and 4).
 ghost use Rattle.std.specs.Prelude.{◌≡◌, ◌≢◌, ◌≤◌, [], ◌∷◌, length, reverse, MatchOption, OnOk};
 ghost use Rattle.std.specs.Str.{chars};
-ghost use Rattle.mail_codec.specs.Charset.{four_charsets};
 ghost use Rattle.mail_codec.specs.Places.{stands, place_from};
+ghost use Rattle.mail_codec.specs.Tables.{charsets_with};
 ghost use Rattle.mailparse.specs.Tokens.{begins_with_boundary, closing, is_boundary, opening};
 ghost use Rattle.mailparse.specs.Value.{line_tokens, outside_token};
 ghost use Rattle.mailparse.specs.private.Cuts.{IsCut, IsOpening, KeepsClosing};
@@ -11,6 +11,7 @@ ghost use Rattle.mailparse.specs.private.Shown.{Shows, token_view};
 use super::encoded_word::decode_word;
 use super::shown::{HeaderToken, ShownValue};
 use mail_codec::bytescan::find;
+use mail_codec::charset::SingleByteTable;
 use std::alloc::{AllocError, Global};
 
 /// Whether a character may stand directly beside an encoded word.
@@ -115,9 +116,11 @@ fn find_closing_or_keep(line: &str, from: usize, kept: usize) -> usize
 pub(crate) fn push_line<'a>(
     alloc: Global,
     line: &'a str,
+    tables: &[SingleByteTable<'_>],
     shown: &mut ShownValue<'a>,
 ) -> Result<(), AllocError>
-    ensures { OnOk result (Shows shown.old (line_tokens four_charsets line.now) shown.new) }
+    ensures { OnOk result
+        (Shows shown.old (line_tokens (charsets_with tables.now) line.now) shown.new) }
 {
     let mut start = 0;
     let mut close = 0;
@@ -135,7 +138,7 @@ pub(crate) fn push_line<'a>(
             start = inside;
             continue;
         }
-        match decode_word(alloc, &line[inside..close])? {
+        match decode_word(alloc, &line[inside..close], tables)? {
             Some(decoded) => shown.push(HeaderToken::DecodedWord(decoded))?,
             None => shown.push(HeaderToken::Text(&line[open..close + 2]))?,
         }

@@ -3,18 +3,22 @@
 ghost use Rattle.std.specs.Prelude.{◌≡◌, IfOk, IfSome};
 ghost use Rattle.std.specs.Cow.{cow_str_bytes};
 ghost use Rattle.std.specs.String.{string_bytes};
-ghost use Rattle.mail_codec.specs.Charset.{four_charsets};
+ghost use Rattle.mail_codec.specs.Tables.{charsets_with};
+ghost use Rattle.mail_codec.specs.Charset.{Charsets};
 ghost use Rattle.mailparse.specs.Value.{shown_value};
 
 use super::shown::{HeaderToken, ShownValue};
 use super::tokens::push_line;
 use mail_codec::bytescan::{find, find_byte};
+use mail_codec::charset::SingleByteTable;
 use std::alloc::{AllocError, Global};
 use std::borrow::CowStr;
 
-/// What a value shows that is one line without `=?`: the line without its leading whitespace.
+/// What a value shows that is one line without `=?`, whatever charsets are known: the line without
+/// its leading whitespace.
 fn plain_line(text: &str) -> Option<&str>
-    ensures { IfSome result (λ line. line.now ≡ shown_value four_charsets text.now) }
+    ensures { IfSome result (λ line. (known : Charsets) →
+        line.now ≡ shown_value known text.now) }
 {
     if find_byte(text.as_bytes(), b'\n').is_some() {
         return None;
@@ -27,18 +31,28 @@ fn plain_line(text: &str) -> Option<&str>
 }
 
 /// What a value with this text shows, borrowed where it is a part of the text.
-pub(crate) fn value_ref(alloc: Global, text: &str) -> Result<CowStr<'_>, AllocError>
-    ensures { IfOk result (λ value. cow_str_bytes value ≡ shown_value four_charsets text.now) }
+pub(crate) fn value_ref<'v>(
+    alloc: Global,
+    text: &'v str,
+    tables: &[SingleByteTable<'_>],
+) -> Result<CowStr<'v>, AllocError>
+    ensures { IfOk result (λ value.
+        cow_str_bytes value ≡ shown_value (charsets_with tables.now) text.now) }
 {
     match plain_line(text) {
         Some(line) => Ok(CowStr::Borrowed(line)),
-        None => Ok(CowStr::Owned(unfolded_value(alloc, text)?)),
+        None => Ok(CowStr::Owned(unfolded_value(alloc, text, tables)?)),
     }
 }
 
 /// What a value with this text shows, read token by token.
-fn unfolded_value(alloc: Global, text: &str) -> Result<String, AllocError>
-    ensures { IfOk result (λ value. string_bytes value ≡ shown_value four_charsets text.now) }
+fn unfolded_value(
+    alloc: Global,
+    text: &str,
+    tables: &[SingleByteTable<'_>],
+) -> Result<String, AllocError>
+    ensures { IfOk result (λ value.
+        string_bytes value ≡ shown_value (charsets_with tables.now) text.now) }
 {
     let mut shown = ShownValue::with_capacity(alloc, text.len())?;
     let mut is_first = true;
@@ -48,7 +62,7 @@ fn unfolded_value(alloc: Global, text: &str) -> Result<String, AllocError>
         } else {
             shown.push(HeaderToken::Newline)?;
         }
-        push_line(alloc, line.trim_start(), &mut shown)?;
+        push_line(alloc, line.trim_start(), tables, &mut shown)?;
     }
     Ok(shown.into_text())
 }

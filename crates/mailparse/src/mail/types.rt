@@ -1,13 +1,14 @@
 //! The type of a message, and what it says of its parts.
 ghost use Rattle.std.specs.Prelude.{◌≡◌, ◌∷◌, option_map, IfOk};
 ghost use Rattle.mail_codec.specs.Ascii.{line_feed};
-ghost use Rattle.mail_codec.specs.Charset.{four_charsets};
+ghost use Rattle.mail_codec.specs.Tables.{charsets_with};
 ghost use Rattle.mailparse.specs.Mail.{dash_boundary_of, is_digest, node_type, part_type};
 ghost use Rattle.mailparse.specs.Views.{content_type};
 
 use crate::content_type::{ParsedContentType, read_content_type};
 use crate::header::MailHeader;
 use crate::headers::map::MailHeaderMap;
+use mail_codec::charset::SingleByteTable;
 use std::alloc::{AllocError, Global};
 use std::collections::BTreeMap;
 
@@ -17,12 +18,16 @@ pub(super) fn node_type(
     alloc: Global,
     headers: &Vec<MailHeader<'_>>,
     in_digest: bool,
+    tables: &[SingleByteTable<'_>],
 ) -> Result<ParsedContentType, AllocError>
     ensures { IfOk result (λ ctype. content_type ctype
-        ≡ node_type four_charsets in_digest headers.now.items) }
+        ≡ node_type (charsets_with tables.now) in_digest headers.now.items) }
 {
     match headers.get_first_header("Content-Type") {
-        Some(header) => read_content_type(alloc, header.get_value_ref(alloc)?.as_str()),
+        Some(header) => {
+            let value = header.get_value_ref_with(alloc, tables)?;
+            read_content_type(alloc, value.as_str(), tables)
+        }
         None => part_type(alloc, in_digest),
     }
 }

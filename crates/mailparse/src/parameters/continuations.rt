@@ -1,7 +1,8 @@
 //! Values that are joined from their sections (RFC 2231, section 3).
 ghost use Rattle.std.specs.Prelude.{◌≡◌, ◌++◌, ℕ, List, length, map, option_map, IfOk, OnOk, string_bytes};
 ghost use Rattle.std.specs.Option.{option_or};
-ghost use Rattle.mailparse.specs.Continuations.{joined, joined_at, parameters_of, sections_of};
+ghost use Rattle.mail_codec.specs.Tables.{charsets_with};
+ghost use Rattle.mailparse.specs.Continuations.{joined, joined_at, parameters_in, sections_of};
 ghost use Rattle.mailparse.specs.Pairs.{last_of, text_at};
 ghost use Rattle.mailparse.specs.Sections.{alone};
 ghost use Rattle.mailparse.specs.private.Continuations.{first_base_of, first_bases, joined_text, left_by, names_in, names_of_sections, without_sections};
@@ -12,11 +13,12 @@ mod joining;
 use self::joining::Joining;
 use super::extended_values::read_sections;
 use super::sections::{Section, Sections, numbered};
+use mail_codec::charset::SingleByteTable;
 use std::alloc::{AllocError, Global};
 use std::collections::BTreeMap;
 
 /// Takes the sections of a base, and joins them.
-fn join(alloc: Global, sections: &mut Sections, base: &str) -> Result<String, AllocError>
+fn join(alloc: Global, sections: &mut Sections<'_>, base: &str) -> Result<String, AllocError>
     ensures text { IfOk result (λ text. string_bytes text
         ≡ joined (sections_of (stands_at sections.old) base.now)) }
     ensures left { OnOk result ((q : List ℕ) → stands_at sections.new q
@@ -37,7 +39,7 @@ fn join(alloc: Global, sections: &mut Sections, base: &str) -> Result<String, Al
 }
 
 /// The base of a name with the number 0, if no text stands there.
-fn first_base<'n>(sections: &Sections, name: &'n str) -> Option<&'n str>
+fn first_base<'n>(sections: &Sections<'_>, name: &'n str) -> Option<&'n str>
     ensures { option_map (λ base. base.now) result
         ≡ first_base_of (stands_at sections.now) name.now }
 {
@@ -54,7 +56,7 @@ fn first_base<'n>(sections: &Sections, name: &'n str) -> Option<&'n str>
 /// Adds the bases of the names of a map.
 fn add_bases<X>(
     alloc: Global,
-    sections: &Sections,
+    sections: &Sections<'_>,
     named: &BTreeMap<String, X>,
     bases: &mut Vec<String>,
 ) -> Result<(), AllocError>
@@ -70,7 +72,7 @@ fn add_bases<X>(
 }
 
 /// The bases, some more than once.
-fn bases_of(alloc: Global, sections: &Sections) -> Result<Vec<String>, AllocError>
+fn bases_of(alloc: Global, sections: &Sections<'_>) -> Result<Vec<String>, AllocError>
     ensures { IfOk result (λ bases. map string_bytes bases.items
         ≡ first_bases (stands_at sections.now) (names_of_sections sections.now)) }
 {
@@ -83,7 +85,7 @@ fn bases_of(alloc: Global, sections: &Sections) -> Result<Vec<String>, AllocErro
 /// Takes the sections of each base, and joins them.
 fn joined_bases(
     alloc: Global,
-    sections: &mut Sections,
+    sections: &mut Sections<'_>,
     bases: Vec<String>,
 ) -> Result<BTreeMap<String, String>, AllocError>
     ensures texts { IfOk result (λ found. (q : List ℕ) → text_at found q
@@ -102,8 +104,8 @@ fn joined_bases(
 }
 
 /// The text of a section alone.
-fn text_alone(alloc: Global, section: Section) -> Result<String, AllocError>
-    ensures { IfOk result (λ text. string_bytes text ≡ alone (section_view section)) }
+fn text_alone(alloc: Global, section: Section<'_>) -> Result<String, AllocError>
+    ensures { IfOk result (λ text. string_bytes text ≡ alone (section_view section.entry)) }
 {
     match section {
         Section::Text(text) => Ok(text),
@@ -133,10 +135,10 @@ fn put_joined(
 fn put_extended(
     alloc: Global,
     texts: &mut BTreeMap<String, String>,
-    extended: BTreeMap<String, Section>,
+    extended: BTreeMap<String, Section<'_>>,
 ) -> Result<(), AllocError>
     ensures { OnOk result ((q : List ℕ) → text_at texts.new q
-        ≡ option_or (option_map alone (sections_at extended q)) (text_at texts.old q)) }
+        ≡ option_or (option_map alone (sections_at extended.entry q)) (text_at texts.old q)) }
 {
     for (name, section) in extended {
         texts.insert(name, text_alone(alloc, section)?)?;
@@ -147,10 +149,10 @@ fn put_extended(
 /// The texts of the bases, and those of the sections that were not joined.
 fn left_and_joined(
     alloc: Global,
-    sections: Sections,
+    sections: Sections<'_>,
 ) -> Result<BTreeMap<String, String>, AllocError>
     ensures { IfOk result (λ texts. (q : List ℕ) → text_at texts q
-        ≡ joined_at (stands_at sections) (names_of_sections sections) q) }
+        ≡ joined_at (stands_at sections.entry) (names_of_sections sections.entry) q) }
 {
     let bases = bases_of(alloc, &sections)?;
     let mut sections = sections;
@@ -169,11 +171,12 @@ fn left_and_joined(
 pub(super) fn resolve(
     alloc: Global,
     pairs: BTreeMap<String, String>,
+    tables: &[SingleByteTable<'_>],
 ) -> Result<BTreeMap<String, String>, AllocError>
     ensures { IfOk result (λ texts. (ps : List (List ℕ × List ℕ)) → ((q : List ℕ) →
         text_at pairs q ≡ last_of ps q) → (q : List ℕ) → text_at texts q
-        ≡ parameters_of ps q) }
+        ≡ parameters_in (charsets_with tables.now) ps q) }
 {
-    let sections = read_sections(alloc, pairs)?;
+    let sections = read_sections(alloc, pairs, tables)?;
     left_and_joined(alloc, sections)
 }

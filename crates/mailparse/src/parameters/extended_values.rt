@@ -3,11 +3,12 @@
 ghost use Rattle.std.specs.Prelude.{◌≡◌, ◌<◌, ℕ, List, length, map, option_map, IfOk, if◌then◌else◌};
 ghost use Rattle.std.specs.List.{All};
 ghost use Rattle.std.specs.Option.{is_some};
-ghost use Rattle.mail_codec.specs.Charset.{four_charsets, text_of};
+ghost use Rattle.mail_codec.specs.Tables.{charsets_with};
 ghost use Rattle.mailparse.specs.ExtendedValues.{reading_of, section_at, text_in};
 ghost use Rattle.mailparse.specs.Pairs.{text_at};
 ghost use Rattle.mailparse.specs.private.ExtendedValues.{IsReading, extended_section, extended_view, names_read, read_section, reading_by, reading_view};
 ghost use Rattle.mailparse.specs.private.Filled.{holds_name};
+ghost use Rattle.mailparse.specs.private.KnownCharset.{known_text};
 ghost use Rattle.mailparse.specs.private.Sections.{section_view, stands_at};
 ghost use Rattle.percent_encoding.specs.Percent.{percent_decode};
 
@@ -17,7 +18,8 @@ mod names;
 use self::charset_sources::charset_sources;
 use self::names::{ExtendedName, extended_names};
 use super::sections::{Section, Sections, numbered};
-use mail_codec::charset::Charset;
+use crate::known_charset::KnownCharset;
+use mail_codec::charset::SingleByteTable;
 use percent_encoding::percent_decode;
 use std::alloc::{AllocError, Global};
 use std::collections::BTreeMap;
@@ -45,14 +47,14 @@ fn octets_of(alloc: Global, encoded: &str) -> Result<Vec<u8>, AllocError>
 }
 
 /// What stands at a name whose extended value has these bytes in this charset.
-fn extended_section(
+fn extended_section<'t>(
     alloc: Global,
     name: &str,
-    charset: Charset,
+    charset: KnownCharset<'t>,
     bytes: Vec<u8>,
-) -> Result<Section, AllocError>
+) -> Result<Section<'t>, AllocError>
     ensures { IfOk result (λ section. section_view section
-        ≡ extended_section name.now (text_of charset) bytes.items) }
+        ≡ extended_section name.now (known_text charset.entry) bytes.items) }
 {
     if numbered(name).is_some() {
         return Ok(Section::Octets(charset, bytes));
@@ -71,22 +73,22 @@ fn encoded_in(value: &str, is_own_source: bool) -> &str
 
 /// How the extended value of a name is read.
 #[derive(Drop)]
-struct Reading {
+struct Reading<'t> {
     /// The name, without the star.
     name: String,
     /// The charset that the value of its charset source names.
-    charset: Charset,
+    charset: KnownCharset<'t>,
     /// Whether the name is its own charset source.
     is_own_source: bool,
 }
 
 /// How the value of the name at a place is read, if the label of its charset source is known.
-fn reading_at(
+fn reading_at<'t>(
     alloc: Global,
-    extended: &[ExtendedName<'_>],
+    extended: &[ExtendedName<'_, 't>],
     place: usize,
     source: usize,
-) -> Result<Option<Reading>, AllocError>
+) -> Result<Option<Reading<'t>>, AllocError>
     requires place { place < length extended.now }
     requires source { source < length extended.now }
     ensures { IfOk result (λ reading. option_map reading_view reading
@@ -103,14 +105,18 @@ fn reading_at(
 }
 
 /// How the values of the extended names are read, as far as their labels are known.
-fn readings(alloc: Global, pairs: &BTreeMap<String, String>) -> Result<Vec<Reading>, AllocError>
-    ensures each { IfOk result (λ found. All (IsReading (text_at pairs.now))
+fn readings<'t>(
+    alloc: Global,
+    pairs: &BTreeMap<String, String>,
+    tables: &'t [SingleByteTable<'t>],
+) -> Result<Vec<Reading<'t>>, AllocError>
+    ensures each { IfOk result (λ found. All (IsReading (charsets_with tables.now) (text_at pairs.now))
         (map reading_view found.items)) }
     ensures names { IfOk result (λ found. (q : List ℕ) →
         holds_name (names_read found.items) q
-        ≡ is_some (reading_of four_charsets (text_at pairs.now) q)) }
+        ≡ is_some (reading_of (charsets_with tables.now) (text_at pairs.now) q)) }
 {
-    let extended = extended_names(alloc, pairs)?;
+    let extended = extended_names(alloc, pairs, tables)?;
     let sources = charset_sources(alloc, extended.as_slice())?;
     let mut found = Vec::new(alloc);
     let mut place = 0;
@@ -124,15 +130,15 @@ fn readings(alloc: Global, pairs: &BTreeMap<String, String>) -> Result<Vec<Readi
 }
 
 /// What an extended value gives at a name.
-fn read(
+fn read<'t>(
     alloc: Global,
     name: &str,
     value: &str,
-    charset: Charset,
+    charset: KnownCharset<'t>,
     is_own_source: bool,
-) -> Result<Section, AllocError>
+) -> Result<Section<'t>, AllocError>
     ensures { IfOk result (λ section. section_view section
-        ≡ read_section (name.now, charset, is_own_source) value.now) }
+        ≡ read_section (name.now, known_text charset.entry, is_own_source) value.now) }
 {
     let bytes = octets_of(alloc, encoded_in(value, is_own_source))?;
     extended_section(alloc, name, charset, bytes)
@@ -140,14 +146,15 @@ fn read(
 
 /// What stands at each name once the extended values are read. A key that is read leaves the map
 /// before what it gives is written, so that no value is held twice.
-pub(super) fn read_sections(
+pub(super) fn read_sections<'t>(
     alloc: Global,
     pairs: BTreeMap<String, String>,
-) -> Result<Sections, AllocError>
+    tables: &'t [SingleByteTable<'t>],
+) -> Result<Sections<'t>, AllocError>
     ensures { IfOk result (λ sections. (q : List ℕ) → stands_at sections q
-        ≡ section_at four_charsets (text_at pairs) q) }
+        ≡ section_at (charsets_with tables.now) (text_at pairs) q) }
 {
-    let readings = readings(alloc, &pairs)?;
+    let readings = readings(alloc, &pairs, tables)?;
     let mut texts = pairs;
     let mut extended = BTreeMap::new(alloc);
     for reading in readings {

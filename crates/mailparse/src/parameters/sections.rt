@@ -5,28 +5,28 @@ ghost use Rattle.std.specs.Str.{bytes_eq};
 ghost use Rattle.mailparse.specs.Sections.{is_text, numbered};
 ghost use Rattle.mailparse.specs.private.Sections.{section_view, stands_at};
 
-use mail_codec::charset::Charset;
+use crate::known_charset::KnownCharset;
 use std::collections::BTreeMap;
 
 /// What stands at a name once the extended values are read.
 #[derive(Drop)]
-pub(super) enum Section {
+pub(super) enum Section<'t> {
     /// A text.
     Text(String),
     /// The bytes of an extended section, and the charset that reads them.
-    Octets(Charset, Vec<u8>),
+    Octets(KnownCharset<'t>, Vec<u8>),
 }
 
 /// What stands at each name: what its extended value gives, otherwise its text.
 #[derive(Drop)]
-pub(super) struct Sections {
+pub(super) struct Sections<'t> {
     /// The texts that were written as they are, by key.
     pub(super) texts: BTreeMap<String, String>,
     /// What extended values give, by name.
-    pub(super) extended: BTreeMap<String, Section>,
+    pub(super) extended: BTreeMap<String, Section<'t>>,
 }
 
-impl Sections {
+impl<'t> Sections<'t> {
     /// Whether a text stands at a name.
     pub(super) fn has_text(&self, name: &str) -> bool
         ensures { result ≡ is_text (stands_at self.now name.now) }
@@ -39,7 +39,7 @@ impl Sections {
     }
 
     /// Takes what stands at a name.
-    pub(super) fn take(&mut self, name: &str) -> Option<Section>
+    pub(super) fn take(&mut self, name: &str) -> Option<Section<'t>>
         ensures taken { option_map section_view result ≡ stands_at self.old name.now }
         ensures left { (q : List ℕ) → stands_at self.new q ≡
             (if bytes_eq name.now q then None else stands_at self.old q) }

@@ -1,9 +1,11 @@
-use Rattle.mailparse.specs.Pairs.{text_at}
-use Rattle.mailparse.specs.Views.{kind}
-use Rattle.mailparse.proofs.lemmas.ContentType.{disposition_is}
+use Rattle.std.proofs.Common.{Ok, subst}
+use Rattle.mail_codec.proofs.lemmas.Tables.{charsets-four}
+use Rattle.mailparse.specs.Disposition.{disposition_in}
+use Rattle.mailparse.specs.Outcome.{AnswersOrMemory}
+use Rattle.mailparse.specs.Views.{disposition}
 use Rattle.mailparse.proofs.disposition.parse_content_disposition.Goals as goal
 
 pub returns : goal.returns
 returns c =
-    disposition_is c.args.text.now c.in_ok-value.value.now (kind c.in_ok-kind_named.field-0) (text_at c.in_ok-value.params)
-    c.in_ok-value.ensures.value c.in_ok-kind_named.ensures c.in_ok-value.ensures.params
+    subst (λ known. AnswersOrMemory disposition c.parse_content_disposition_with.result (Ok (disposition_in known c.args.text.now))) charsets-four
+    c.parse_content_disposition_with.ensures

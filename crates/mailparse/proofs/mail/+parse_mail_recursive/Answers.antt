@@ -3,12 +3,10 @@ use Rattle.std.specs.Global.{Vec}
 use Rattle.std.proofs.lemmas.List.{map-append}
 use Rattle.std.proofs.lemmas.Option.{IfSome_then}
 use Rattle.std.proofs.lemmas.Result.{err_from_is_err_and}
-use Rattle.mail_codec.specs.Charset.{four_charsets}
-use Rattle.mailparse.specs.Refusal.{Reads}
+use Rattle.mail_codec.specs.Tables.{charsets_with}
 use Rattle.mailparse.specs.Block.{read_headers}
-use Rattle.mailparse.specs.ContentType.{ContentType}
 use Rattle.mailparse.specs.Delimiters.{end_from, first_part, next_part}
-use Rattle.mailparse.specs.Mail.{Tree, tree, Forest, no_parts, forest, dash_boundary_of, node_type, read_levels}
+use Rattle.mailparse.specs.Mail.{Tree, tree, Forest, no_parts, forest, dash_boundary_of, read_levels}
 use Rattle.mailparse.specs.Views.{content_type, tree_step, tree_of}
 use Rattle.mailparse.specs.declared.mail.ParsedMail.{ParsedMail}
 use Rattle.mailparse.specs.declared.mail.ParsedMail.TheFolds.{fold-roll-ParsedMail}
@@ -22,22 +20,22 @@ made : (o : Option (Vec ℕ)) (delimiter : Vec ℕ) (r : Option (List ℕ)) → 
 made o delimiter r e h = sym (ap (option_map (λ (l : Vec ℕ). l.items)) e) ∙ h
 
 pub returns-then-levels-eq0-clause-read : goal.returns-then-levels-eq0-clause-read
-returns-then-levels-eq0-clause-read t c = read_levels-none c.args.levels c.args.in_digest c.args.raw.now c.if-levels-eq0.true
+returns-then-levels-eq0-clause-read t c = read_levels-none (charsets_with c.args.tables.now) c.args.levels c.args.in_digest c.args.raw.now c.if-levels-eq0.true
 
 pub returns-in_err-headers-clause-read : goal.returns-in_err-headers-clause-read
 returns-in_err-headers-clause-read t c =
     let p = err_from_is_err_and c.from_residual.result c.from_residual.ensures.1 in
     let raw = c.args.raw.now in
     let some : 0 < c.args.levels = omega (arith, c.if-levels-eq0.false) in
-    rw (p.1, p.2) (IsRefusalOrMemory-along c.in_err-headers.field-0.0 (read_headers raw) (read_levels four_charsets c.args.levels c.args.in_digest raw)
-    (λ r e. read_levels-refused c.args.levels c.args.in_digest raw r some e) c.in_err-headers.ensures.read)
+    rw (p.1, p.2) (IsRefusalOrMemory-along c.in_err-headers.field-0.0 (read_headers raw) (read_levels (charsets_with c.args.tables.now) c.args.levels c.args.in_digest raw)
+    (λ r e. read_levels-refused (charsets_with c.args.tables.now) c.args.levels c.args.in_digest raw r some e) c.in_err-headers.ensures.read)
 
 pub returns-in_err-headers-clause-no_alloc : goal.returns-in_err-headers-clause-no_alloc
 returns-in_err-headers-clause-no_alloc t c = λ some none refused.
     let p = err_from_is_err_and c.from_residual.result c.from_residual.ensures.1 in
     let raw = c.args.raw.now in
-    rw (p.1, p.2) (IsRefusal-along c.in_err-headers.field-0.0 (read_headers raw) (read_levels four_charsets c.args.levels c.args.in_digest raw)
-    (λ r e. read_levels-refused c.args.levels c.args.in_digest raw r some e) (c.in_err-headers.ensures.no_alloc none))
+    rw (p.1, p.2) (IsRefusal-along c.in_err-headers.field-0.0 (read_headers raw) (read_levels (charsets_with c.args.tables.now) c.args.levels c.args.in_digest raw)
+    (λ r e. read_levels-refused (charsets_with c.args.tables.now) c.args.levels c.args.in_digest raw r some e) (c.in_err-headers.ensures.no_alloc none))
 
 pub returns-in_default-clause-read : goal.returns-in_default-clause-read
 returns-in_default-clause-read t c =
@@ -49,7 +47,7 @@ returns-in_default-clause-read t c =
     let type = sym c.in_ok-ctype.ensures in
     let nothing : None ≡ option_map (λ dash_boundary. 10 ∷ dash_boundary) (dash_boundary_of ctype) = sym (ap (option_map (λ (l : Vec ℕ). l.items)) c.in_default.is) ∙ c.in_ok-delimiter.ensures in
     let parts : forest (map tree_of c.new.result.items) ≡ no_parts = ap (λ (ms : List ParsedMail). forest (map tree_of ms)) c.new.ensures.items in
-    read_levels-leaf c.args.levels c.args.in_digest raw headers index ctype some c.in_ok-headers.ensures.read type (delimiter_none (dash_boundary_of ctype) nothing)
+    read_levels-leaf (charsets_with c.args.tables.now) c.args.levels c.args.in_digest raw headers index ctype some c.in_ok-headers.ensures.read type (delimiter_none (dash_boundary_of ctype) nothing)
     ∙ ap (λ (f : Forest). Ok (tree (record { bytes = raw; block = take index raw; headers = headers; ctype = ctype; body = slice_range raw index (length raw) }) f)) (sym parts)
     ∙ ap Ok (sym (fold-roll-ParsedMail Tree tree_step _))
 
@@ -73,17 +71,17 @@ returns-in_err-parse_mail_recursive-clause-read t c =
     let levels = c.args.levels - 1 in
     let some : 0 < c.args.levels = omega (arith, c.if-levels-eq0.false) in
     let type = sym c.in_ok-ctype.ensures in
-    let whole = read_levels-whole c.args.levels c.args.in_digest raw headers index ctype delimiter digest (end_from (drop 1 delimiter) raw index index) some c.in_ok-headers.ensures.read type
+    let whole = read_levels-whole (charsets_with c.args.tables.now) c.args.levels c.args.in_digest raw headers index ctype delimiter digest (end_from (drop 1 delimiter) raw index index) some c.in_ok-headers.ensures.read type
     (made c.in_ok-delimiter.field-0 c.in-Some.delimiter _ c.in-Some.is c.in_ok-delimiter.ensures) c.is_digest-is_digest.ensures refl in
     let start = c.in-Some-next.start in
     let part_end = c.cut_part-part_end.result.0 in
     let ends : part_end ≡ end_from (drop 1 delimiter) raw start (length raw) = c.cut_part-part_end.ensures.end ∙ ap (λ (l : List ℕ). end_from (drop 1 l) raw start (length raw)) c.as_slice-in-Some-next.ensures.value in
-    let all = parts_from levels digest (drop 1 delimiter) raw (first_part (drop 1 delimiter) raw index) in
-    let before = subst (λ (o : Option ℕ). with_trees (map tree_of c.loop-next.subparts.items) (parts_from levels digest (drop 1 delimiter) raw o) ≡ all) c.in-Some-next.is c.loop-next.invariant.all in
-    rw (p.1, p.2) (IsRefusalOrMemory-along c.in_err-parse_mail_recursive.field-0.0 (read_levels four_charsets levels digest (slice_range raw start part_end))
-    (read_levels four_charsets c.args.levels c.args.in_digest raw)
+    let all = parts_from (charsets_with c.args.tables.now) levels digest (drop 1 delimiter) raw (first_part (drop 1 delimiter) raw index) in
+    let before = subst (λ (o : Option ℕ). with_trees (map tree_of c.loop-next.subparts.items) (parts_from (charsets_with c.args.tables.now) levels digest (drop 1 delimiter) raw o) ≡ all) c.in-Some-next.is c.loop-next.invariant.all in
+    rw (p.1, p.2) (IsRefusalOrMemory-along c.in_err-parse_mail_recursive.field-0.0 (read_levels (charsets_with c.args.tables.now) levels digest (slice_range raw start part_end))
+    (read_levels (charsets_with c.args.tables.now) c.args.levels c.args.in_digest raw)
     (λ r e. whole ∙ ap (read_map (tree (record { bytes = raw; block = take index raw; headers = headers; ctype = ctype; body = slice_range raw index (end_from (drop 1 delimiter) raw index index) })))
-    (parts_refused levels digest (drop 1 delimiter) raw (map tree_of c.loop-next.subparts.items) all start part_end r ends e before))
+    (parts_refused (charsets_with c.args.tables.now) levels digest (drop 1 delimiter) raw (map tree_of c.loop-next.subparts.items) all start part_end r ends e before))
     c.in_err-parse_mail_recursive.ensures.read)
 
 pub loop-next-preserved : goal.loop-next-preserved
@@ -98,15 +96,15 @@ loop-next-preserved t c =
     let after = c.cut_part-part_end.result.1 in
     let ends : part_end ≡ end_from (drop 1 delimiter) raw start (length raw) = c.cut_part-part_end.ensures.end ∙ ap (λ (l : List ℕ). end_from (drop 1 l) raw start (length raw)) c.as_slice-in-Some-next.ensures.value in
     let next : after ≡ next_part (drop 1 delimiter) raw start = c.cut_part-part_end.ensures.next ∙ ap (λ (l : List ℕ). next_part (drop 1 l) raw start) c.as_slice-in-Some-next.ensures.value in
-    let all = parts_from levels digest (drop 1 delimiter) raw (first_part (drop 1 delimiter) raw index) in
-    let before = subst (λ (o : Option ℕ). with_trees (map tree_of c.loop-next.subparts.items) (parts_from levels digest (drop 1 delimiter) raw o) ≡ all) c.in-Some-next.is c.loop-next.invariant.all in
+    let all = parts_from (charsets_with c.args.tables.now) levels digest (drop 1 delimiter) raw (first_part (drop 1 delimiter) raw index) in
+    let before = subst (λ (o : Option ℕ). with_trees (map tree_of c.loop-next.subparts.items) (parts_from (charsets_with c.args.tables.now) levels digest (drop 1 delimiter) raw o) ≡ all) c.in-Some-next.is c.loop-next.invariant.all in
     let part = c.in_ok-parse_mail_recursive.field-0 in
     let pushed : map tree_of c.push.new.self.items ≡ map tree_of c.loop-next.subparts.items ++ tree_of part ∷ [] =
     ap (map tree_of) c.in_ok-push.ensures.items ∙ map-append tree_of c.loop-next.subparts.items (part ∷ []) in
     record {
       within = IfSome_then after c.cut_part-part_end.ensures.bounds.2 (λ x bounds. bounds.1);
-      all = ap (λ (ts : List Tree). with_trees ts (parts_from levels digest (drop 1 delimiter) raw after)) pushed
-          ∙ parts_step levels digest (drop 1 delimiter) raw (map tree_of c.loop-next.subparts.items) all start part_end after (tree_of part) ends next
+      all = ap (λ (ts : List Tree). with_trees ts (parts_from (charsets_with c.args.tables.now) levels digest (drop 1 delimiter) raw after)) pushed
+          ∙ parts_step (charsets_with c.args.tables.now) levels digest (drop 1 delimiter) raw (map tree_of c.loop-next.subparts.items) all start part_end after (tree_of part) ends next
           c.in_ok-parse_mail_recursive.ensures.read before;
     }
 
@@ -123,10 +121,10 @@ returns-clause-read t c =
     let type = sym c.in_ok-ctype.ensures in
     let end = c.cut_preamble-end.result.0 in
     let ends : end ≡ end_from (drop 1 delimiter) raw index index = c.cut_preamble-end.ensures.end ∙ ap (λ (l : List ℕ). end_from (drop 1 l) raw index index) c.as_slice.ensures.value in
-    let whole = read_levels-whole c.args.levels c.args.in_digest raw headers index ctype delimiter digest end some c.in_ok-headers.ensures.read type
+    let whole = read_levels-whole (charsets_with c.args.tables.now) c.args.levels c.args.in_digest raw headers index ctype delimiter digest end some c.in_ok-headers.ensures.read type
     (made c.in_ok-delimiter.field-0 c.in-Some.delimiter _ c.in-Some.is c.in_ok-delimiter.ensures) c.is_digest-is_digest.ensures ends in
-    let all = parts_from levels digest (drop 1 delimiter) raw (first_part (drop 1 delimiter) raw index) in
-    let done = subst (λ (o : Option ℕ). with_trees (map tree_of c.loop-next.subparts.items) (parts_from levels digest (drop 1 delimiter) raw o) ≡ all) c.in_default-next.is c.loop-next.invariant.all in
+    let all = parts_from (charsets_with c.args.tables.now) levels digest (drop 1 delimiter) raw (first_part (drop 1 delimiter) raw index) in
+    let done = subst (λ (o : Option ℕ). with_trees (map tree_of c.loop-next.subparts.items) (parts_from (charsets_with c.args.tables.now) levels digest (drop 1 delimiter) raw o) ≡ all) c.in_default-next.is c.loop-next.invariant.all in
     whole ∙ ap (read_map (tree (record { bytes = raw; block = take index raw; headers = headers; ctype = ctype; body = slice_range raw index end })))
-    (parts_end levels digest (drop 1 delimiter) raw (map tree_of c.loop-next.subparts.items) all done)
+    (parts_end (charsets_with c.args.tables.now) levels digest (drop 1 delimiter) raw (map tree_of c.loop-next.subparts.items) all done)
     ∙ ap Ok (sym (fold-roll-ParsedMail Tree tree_step _))

@@ -1,26 +1,26 @@
 //! The text that sections make, joined in turn.
 ghost use Rattle.std.specs.Prelude.{◌≡◌, ◌∷◌, ◌++◌, [], List, None, option_map, IfOk, OnOk, string_bytes};
-ghost use Rattle.mail_codec.specs.Charset.{text_of};
 ghost use Rattle.mailparse.specs.Continuations.{joined, run_text};
 ghost use Rattle.mailparse.specs.Sections as words;
 ghost use Rattle.mailparse.specs.private.Continuations.{joined_with};
+ghost use Rattle.mailparse.specs.private.KnownCharset.{known_text};
 ghost use Rattle.mailparse.specs.private.Sections.{section_view};
 
+use crate::known_charset::KnownCharset;
 use crate::parameters::sections::Section;
-use mail_codec::charset::Charset;
 use std::alloc::{AllocError, Global};
 
 /// The text so far, and the run of bytes that is still to be read.
 #[derive(Drop)]
-pub(super) struct Joining {
+pub(super) struct Joining<'t> {
     text: String,
     run: Vec<u8>,
-    charset: Option<Charset>,
+    charset: Option<KnownCharset<'t>>,
 }
 
-impl Joining {
+impl<'t> Joining<'t> {
     /// No sections yet.
-    pub(super) fn new(alloc: Global) -> Joining
+    pub(super) fn new(alloc: Global) -> Joining<'t>
         ensures { (sections : List words.Section) → joined_with result sections ≡ joined sections }
     {
         Joining {
@@ -33,7 +33,7 @@ impl Joining {
     /// The text of the run.
     fn run_text(&self, alloc: Global) -> Result<String, AllocError>
         ensures { IfOk result (λ text. string_bytes text
-            ≡ run_text (option_map text_of self.now.charset) self.now.run.items) }
+            ≡ run_text (option_map known_text self.now.charset) self.now.run.items) }
     {
         match self.charset {
             Some(charset) => charset.decode_without_bom_handling(alloc, self.run.as_slice()),
@@ -44,7 +44,7 @@ impl Joining {
     /// Ends the run, and joins its text.
     fn close(&mut self, alloc: Global) -> Result<(), AllocError>
         ensures text { OnOk result (string_bytes self.new.text ≡ string_bytes self.old.text
-            ++ run_text (option_map text_of self.old.charset) self.old.run.items) }
+            ++ run_text (option_map known_text self.old.charset) self.old.run.items) }
         ensures run { OnOk result (self.new.run.items ≡ []) }
         ensures charset { OnOk result (self.new.charset ≡ None) }
     {
@@ -56,7 +56,7 @@ impl Joining {
     }
 
     /// Joins one more section.
-    pub(super) fn push(&mut self, alloc: Global, section: &Section) -> Result<(), AllocError>
+    pub(super) fn push(&mut self, alloc: Global, section: &Section<'t>) -> Result<(), AllocError>
         ensures { OnOk result ((rest : List words.Section) →
             joined_with self.old (section_view section.now ∷ rest) ≡ joined_with self.new rest) }
     {
@@ -75,7 +75,7 @@ impl Joining {
 
     /// The text of all sections.
     pub(super) fn finish(mut self, alloc: Global) -> Result<String, AllocError>
-        ensures { IfOk result (λ text. string_bytes text ≡ joined_with self []) }
+        ensures { IfOk result (λ text. string_bytes text ≡ joined_with self.entry []) }
     {
         self.close(alloc)?;
         Ok(self.text)

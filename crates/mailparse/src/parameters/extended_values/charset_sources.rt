@@ -18,7 +18,7 @@ fn shared_len(left: &[u8], right: &[u8]) -> usize
 
 /// How many bytes each name shares with the next, so that long names that begin alike are compared
 /// once and not for each candidate.
-fn shared_lens(alloc: Global, extended: &[ExtendedName<'_>]) -> Result<Vec<usize>, AllocError>
+fn shared_lens(alloc: Global, extended: &[ExtendedName<'_, '_>]) -> Result<Vec<usize>, AllocError>
     ensures { IfOk result (λ shared. shared.items ≡ shared_lens extended.now) }
 {
     let mut shared = Vec::with_capacity(alloc, extended.len())?;
@@ -90,7 +90,7 @@ fn write_range(places: &mut Vec<usize>, first: usize, end: usize, place: usize)
 
 /// Where the name at a place is that of an initial section, offers it as the charset source of
 /// those that begin with it, less its last byte.
-fn offer(extended: &[ExtendedName<'_>], shared: &[usize], place: usize, places: &mut Vec<usize>)
+fn offer(extended: &[ExtendedName<'_, '_>], shared: &[usize], place: usize, places: &mut Vec<usize>)
     requires within { place < length extended.now }
     requires shared { shared.now ≡ shared_lens extended.now }
     requires long { length places.old.items ≡ length extended.now }
@@ -114,7 +114,7 @@ fn offer(extended: &[ExtendedName<'_>], shared: &[usize], place: usize, places: 
 /// The place of the charset source of each name: of its last candidate, otherwise its own.
 pub(super) fn charset_sources(
     alloc: Global,
-    extended: &[ExtendedName<'_>],
+    extended: &[ExtendedName<'_, '_>],
 ) -> Result<Vec<usize>, AllocError>
     ensures long { IfOk result (λ places. length places.items ≡ length extended.now) }
     ensures sources { AreInOrder (names_of extended.now) → IfOk result (λ places. (k : ℕ) →

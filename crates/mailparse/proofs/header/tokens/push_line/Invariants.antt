@@ -1,7 +1,7 @@
 -- The line shows what was shown so far, and after it the tokens of any ranges that fit the line from `start` on.
 use Rattle.std.proofs.Common.{◌≤◌, ◌-◌, ◌+◌, length}
 use Rattle.std.specs.Str.{IsCharBoundary}
-use Rattle.mail_codec.specs.Charset.{four_charsets}
+use Rattle.mail_codec.specs.Tables.{charsets_with}
 use Rattle.mailparse.specs.private.Cuts.{KeepsClosing}
 use Rattle.mailparse.proofs.lemmas.Shown.{Completes}
 use Rattle.mailparse.proofs.header.tokens.push_line.Given as goal
@@ -10,7 +10,7 @@ abbrev pub invariant-loop-open : goal.invariant-loop-open
 invariant-loop-open l = record {
   in_line : l.start ≤ length l.line;
   boundary : IsCharBoundary l.line l.start;
-  completes : Completes four_charsets l.line l.start l.fn.shown l.shown;
+  completes : Completes (charsets_with l.tables) l.line l.start l.fn.shown l.shown;
   keeps : KeepsClosing l.line (l.start + 2) l.close;
 }
 

@@ -1,6 +1,6 @@
 -- The value so far is what the lines so far show.
 use Rattle.std.proofs.Common.{◌≡◌, eqb, length}
-use Rattle.mail_codec.specs.Charset.{four_charsets}
+use Rattle.mail_codec.specs.Tables.{charsets_with}
 use Rattle.mailparse.specs.Value.{tokens_of_lines}
 use Rattle.mailparse.specs.private.Shown.{Shows}
 use Rattle.mailparse.proofs.lemmas.ValueLines.{trimmed}
@@ -9,5 +9,5 @@ use Rattle.mailparse.proofs.header.value.unfolded_value.Given as goal
 abbrev pub invariant-loop-line : goal.invariant-loop-line
 invariant-loop-line l = record {
   first : l.is_first ≡ eqb (length l.yielded) 0;
-  shown : Shows l.initial.shown (tokens_of_lines four_charsets (trimmed l.yielded)) l.shown;
+  shown : Shows l.initial.shown (tokens_of_lines (charsets_with l.tables) (trimmed l.yielded)) l.shown;
 }

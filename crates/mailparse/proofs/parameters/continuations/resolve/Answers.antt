@@ -1,4 +1,5 @@
 use Rattle.std.proofs.lemmas.Result.{IfOk-weaker}
+use Rattle.mail_codec.specs.Tables.{charsets_with}
 use Rattle.mailparse.specs.Pairs.{text_at}
 use Rattle.mailparse.specs.private.Continuations.{names_of_sections}
 use Rattle.mailparse.specs.private.Sections.{stands_at}
@@ -10,6 +11,6 @@ returns c =
     let sections = c.in_ok-sections.sections in
     IfOk-weaker c.left_and_joined.result _ _
     (λ texts is ps holds q.
-    resolved (text_at c.args.pairs) (stands_at sections) (names_of_sections sections) (text_at texts q) q c.in_ok-sections.ensures
+    resolved (charsets_with c.args.tables.now) (text_at c.args.pairs) (stands_at sections) (names_of_sections sections) (text_at texts q) q c.in_ok-sections.ensures
     (sections_named sections) (is q) ps holds)
     c.left_and_joined.ensures

@@ -3,7 +3,7 @@ use Rattle.std.proofs.lemmas.List.{map_push}
 use Rattle.std.proofs.lemmas.List.Elements.{All-push}
 use Rattle.std.specs.List.{All}
 use Rattle.std.specs.String.{string_bytes}
-use Rattle.mail_codec.specs.Charset.{four_charsets}
+use Rattle.mail_codec.specs.Tables.{charsets_with}
 use Rattle.mailparse.specs.Pairs.{text_at}
 use Rattle.mailparse.specs.ExtendedValues.{reading_of}
 use Rattle.mailparse.specs.private.ExtendedValues.{IsReading, names_of, names_read, reading_by, reading_view, extended_view}
@@ -20,7 +20,7 @@ pub reading_at-requires-clause-source : goal.reading_at-requires-clause-source
 reading_at-requires-clause-source c =
     let extended = c.in_ok-extended.extended.items in
     let map_of = map_of_texts c.args.pairs.now c.in_ok-extended.ensures.ordered in
-    let all = extended_found _ _ extended map_of c.in_ok-extended.ensures.read in
+    let all = extended_found (charsets_with c.args.tables.now) _ _ extended map_of c.in_ok-extended.ensures.read in
     let below = c.loop-place-test.true in
     let at = place_read extended c.as_slice.result.now c.in_ok-sources.sources.items c.loop-place.place c.index.result.now c.as_slice.ensures.value all.order
     c.in_ok-sources.ensures.long c.in_ok-sources.ensures.sources (omega (arith, below, c.len.ensures)) c.index.ensures in
@@ -34,11 +34,11 @@ loop-place-preserved c =
     let place = c.loop-place.place in
     let last = c.index.result.now in
     let keys = text_at c.args.pairs.now in
-    let known : List ℕ → Bool = λ q. is_some (reading_of four_charsets keys q) in
+    let known : List ℕ → Bool = λ q. is_some (reading_of (charsets_with c.args.tables.now) keys q) in
     let entries = map pair_view c.args.pairs.now.entries in
     let map_of = map_of_texts c.args.pairs.now c.in_ok-extended.ensures.ordered in
     let found = c.in_ok-extended.ensures.read in
-    let all = extended_found keys entries extended map_of found in
+    let all = extended_found (charsets_with c.args.tables.now) keys entries extended map_of found in
     let below : place < length extended = omega (arith, c.loop-place-test.true, c.len.ensures) in
     let long = long_names extended in
     let within : place < length names = omega (arith, below, long) in
@@ -51,24 +51,24 @@ loop-place-preserved c =
       each = elim c.match-branch-4.branch [
         | in-Some+in_ok-push w ↦
             let r = w.in-Some.reading in
-            let made = reading_made keys entries extended place last (reading_view r) map_of found below at (sym (ap (option_map reading_view) w.in-Some.is) ∙ given) in
-            subst (All (IsReading keys)) (sym (ap (λ (v : List Reading). map reading_view v) (ap (λ v. v.items) w.found-is ∙ w.in_ok-push.ensures.items) ∙ map_push reading_view c.loop-place.found.items r))
-            (All-push (IsReading keys) (map reading_view c.loop-place.found.items) (reading_view r) c.loop-place.invariant.each made.0)
-        | in_default w ↦ subst (λ v. All (IsReading keys) (map reading_view v.items)) (sym w.found-is) c.loop-place.invariant.each
+            let made = reading_made (charsets_with c.args.tables.now) keys entries extended place last (reading_view r) map_of found below at (sym (ap (option_map reading_view) w.in-Some.is) ∙ given) in
+            subst (All (IsReading (charsets_with c.args.tables.now) keys)) (sym (ap (λ (v : List Reading). map reading_view v) (ap (λ v. v.items) w.found-is ∙ w.in_ok-push.ensures.items) ∙ map_push reading_view c.loop-place.found.items r))
+            (All-push (IsReading (charsets_with c.args.tables.now) keys) (map reading_view c.loop-place.found.items) (reading_view r) c.loop-place.invariant.each made.0)
+        | in_default w ↦ subst (λ v. All (IsReading (charsets_with c.args.tables.now) keys) (map reading_view v.items)) (sym w.found-is) c.loop-place.invariant.each
       ];
       names = elim c.match-branch-4.branch [
         | in-Some+in_ok-push w ↦ λ q.
             let r = w.in-Some.reading in
             let some = sym (ap (option_map reading_view) w.in-Some.is) ∙ given in
-            let made = reading_made keys entries extended place last (reading_view r) map_of found below at some in
+            let made = reading_made (charsets_with c.args.tables.now) keys entries extended place last (reading_view r) map_of found below at some in
             ap (λ (v : List Reading). holds_name (names_read v) q) (ap (λ v. v.items) w.found-is ∙ w.in_ok-push.ensures.items)
             ∙ ap (λ ns. holds_name ns q) (map_push (λ (x : Reading). string_bytes x.name) c.loop-place.found.items r)
             ∙ names_more names known place (names_read c.loop-place.found.items) (string_bytes r.name) q within made.1
-            (reading_known keys entries extended place last map_of found below at ∙ ap is_some (sym some)) (c.loop-place.invariant.names q)
+            (reading_known (charsets_with c.args.tables.now) keys entries extended place last map_of found below at ∙ ap is_some (sym some)) (c.loop-place.invariant.names q)
         | in_default w ↦ λ q.
             ap (λ v. holds_name (names_read v.items) q) w.found-is
             ∙ names_passed names known place (names_read c.loop-place.found.items) q within
-            (reading_known keys entries extended place last map_of found below at ∙ ap is_some (sym given ∙ ap (option_map reading_view) w.in_default.is)) (c.loop-place.invariant.names q)
+            (reading_known (charsets_with c.args.tables.now) keys entries extended place last map_of found below at ∙ ap is_some (sym given ∙ ap (option_map reading_view) w.in_default.is)) (c.loop-place.invariant.names q)
       ];
     }
 
@@ -77,6 +77,6 @@ returns-clause-names c = λ q.
     let extended = c.in_ok-extended.extended.items in
     let keys = text_at c.args.pairs.now in
     let map_of = map_of_texts c.args.pairs.now c.in_ok-extended.ensures.ordered in
-    let all = extended_found keys (map pair_view c.args.pairs.now.entries) extended map_of c.in_ok-extended.ensures.read in
+    let all = extended_found (charsets_with c.args.tables.now) keys (map pair_view c.args.pairs.now.entries) extended map_of c.in_ok-extended.ensures.read in
     let long = long_names extended in
-    names_all keys (names_of extended) c.loop-place.place all (omega (arith, long, c.loop-place-test.false, c.len.ensures)) q (names_read c.loop-place.found.items) (c.loop-place.invariant.names q)
+    names_all (charsets_with c.args.tables.now) keys (names_of extended) c.loop-place.place all (omega (arith, long, c.loop-place-test.false, c.len.ensures)) q (names_read c.loop-place.found.items) (c.loop-place.invariant.names q)

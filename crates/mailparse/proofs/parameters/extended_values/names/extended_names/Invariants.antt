@@ -1,8 +1,9 @@
 -- What was found is what the entries so far hold.
 use Rattle.std.proofs.Common.{◌≡◌, map}
+use Rattle.mail_codec.specs.Tables.{charsets_with}
 use Rattle.mailparse.specs.Pairs.{text_at}
 use Rattle.mailparse.specs.private.ExtendedValues.{shown_view, extended_entries, extended_view}
 use Rattle.mailparse.proofs.parameters.extended_values.names.extended_names.Given as goal
 
 abbrev pub invariant-loop-key : goal.invariant-loop-key
-invariant-loop-key l = map extended_view l.found.items ≡ extended_entries (text_at l.pairs) (map shown_view l.yielded)
+invariant-loop-key l = map extended_view l.found.items ≡ extended_entries (charsets_with l.tables) (text_at l.pairs) (map shown_view l.yielded)

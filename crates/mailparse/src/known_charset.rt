@@ -1,0 +1,60 @@
+//! A charset that is known: one of the four, or a table of the caller.
+ghost use Rattle.std.specs.Prelude.{◌≡◌, option_map, IfOk, string_bytes};
+ghost use Rattle.mail_codec.specs.Charset.{marked};
+ghost use Rattle.mail_codec.specs.Tables.{charsets_with};
+ghost use Rattle.mailparse.specs.private.KnownCharset.{known_text};
+
+use mail_codec::charset::{Charset, SingleByteTable, table_for_label};
+use std::alloc::{AllocError, Global};
+
+/// A charset that is known under some tables.
+#[derive(Clone, Copy)]
+pub(crate) enum KnownCharset<'t> {
+    /// One of the four.
+    Kept(Charset),
+    /// That of a table.
+    Table(&'t SingleByteTable<'t>),
+}
+
+impl<'t> KnownCharset<'t> {
+    /// The charset that has the label: one of the four, and otherwise the first table that has it.
+    pub(crate) fn for_label(
+        label: &[u8],
+        tables: &'t [SingleByteTable<'t>],
+    ) -> Option<KnownCharset<'t>>
+        ensures { option_map known_text result ≡ charsets_with tables.now label.now }
+    {
+        if let Some(charset) = Charset::for_label(label) {
+            return Some(KnownCharset::Kept(charset));
+        }
+        match table_for_label(label, tables) {
+            Some(number) => Some(KnownCharset::Table(&tables[number])),
+            None => None,
+        }
+    }
+
+    /// The text of the bytes in this charset, or in the one whose byte order mark they begin with.
+    #[tactic(auto, unfolding(mail_codec::specs::Charset::marked_text_of))]
+    pub(crate) fn decode(self, alloc: Global, bytes: &[u8]) -> Result<String, AllocError>
+        ensures { IfOk result (λ t. string_bytes t ≡ marked (known_text self.entry) bytes.now) }
+    {
+        match self {
+            KnownCharset::Kept(charset) => charset.decode(alloc, bytes),
+            KnownCharset::Table(table) => table.decode(alloc, bytes),
+        }
+    }
+
+    /// The text of the bytes in this charset, a byte order mark read as any other bytes are.
+    pub(crate) fn decode_without_bom_handling(
+        self,
+        alloc: Global,
+        bytes: &[u8],
+    ) -> Result<String, AllocError>
+        ensures { IfOk result (λ t. string_bytes t ≡ known_text self.entry bytes.now) }
+    {
+        match self {
+            KnownCharset::Kept(charset) => charset.decode_without_bom_handling(alloc, bytes),
+            KnownCharset::Table(table) => table.decode_without_bom_handling(alloc, bytes),
+        }
+    }
+}
