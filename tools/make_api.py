@@ -83,6 +83,16 @@ def block_at(lines, at):
     return lines[at + 1 : end]
 
 
+def field_at(lines, at):
+    """The field or the variant at a line; a variant with the fields that it names."""
+    text = re.sub(r"^pub ", "", lines[at].strip()).rstrip(",")
+    if not text.endswith("{"):
+        return text
+    end = next(i for i in range(at, len(lines)) if lines[i].startswith("    }"))
+    fields = [line.strip().rstrip(",") for line in lines[at + 1 : end] if not re.match(r"\s*(///|#\[)", line)]
+    return f"{text} {', '.join(fields)} }}"
+
+
 def members(lines, kind):
     """The public members of a type, an implementation or a trait, by the lines inside its braces."""
     word = {"struct": r"pub (\w+):", "enum": r"(\w+)", "impl": r"pub fn (\w+)", "trait": r"fn (\w+)"}[kind]
@@ -94,7 +104,7 @@ def members(lines, kind):
             doc.append(comment.group(1))
         elif match and not line.startswith("    ghost"):
             is_call = kind in ("impl", "trait")
-            text = signature_at(lines, at) if is_call else re.sub(r"^pub ", "", line.strip()).rstrip(",")
+            text = signature_at(lines, at) if is_call else field_at(lines, at)
             found.append(Item("fn" if is_call else "field", match.group(1), text, doc))
             doc = []
         elif line.strip() == "" or not re.match(r"    #\[", line):

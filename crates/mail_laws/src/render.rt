@@ -64,7 +64,8 @@ pub enum OutlineKind {
     },
 }
 
-/// Returns the bytes that an outline is written as (RFC 5322, section 2.1; RFC 2046, section 5.1.1).
+/// Returns the bytes that an outline is written as (RFC 5322, section 2.1; RFC 2046, section
+/// 5.1.1).
 ///
 /// For each header they are its key, `: `, its value and CR LF; then CR LF; and then the body, or
 /// for each part `--`, the boundary, CR LF, the part and CR LF, and at the end `--`, the boundary,
@@ -157,8 +158,8 @@ fn push_delimiter(boundary: &[u8], rest: &[u8], bytes: &mut Vec<u8>) -> Result<(
 /// 1. Each key is one or more printable bytes of ASCII, without a space and a colon.
 /// 2. Each value is printable bytes of ASCII and spaces, does not begin with a space and does not
 ///    hold `=?`.
-/// 3. Where there are parts, a header has the key `Content-Type`, ignoring ASCII case, and the value
-///    of the first such header is exactly `multipart/mixed; boundary=` and the boundary.
+/// 3. Where there are parts, a header has the key `Content-Type`, ignoring ASCII case, and the
+///    value of the first such header is exactly `multipart/mixed; boundary=` and the boundary.
 /// 4. A boundary is one or more letters and digits of ASCII.
 /// 5. Where there is a body, the mimetype of the first `Content-Type`, if there is one, does not
 ///    begin with `multipart`.

@@ -19,6 +19,8 @@ enum Trouble {
     Never,
     /// The call of this number fails, counted from 1.
     FailsAt(usize),
+    /// The call of this number fails since it would have to wait.
+    BlocksAt(usize),
     /// A write of this number takes no byte.
     TakesNoneAt(usize),
     /// Each call but every third is interrupted.
@@ -30,6 +32,9 @@ impl Trouble {
     fn error_at(self, call: usize) -> io::Result<()> {
         match self {
             Trouble::FailsAt(place) if place == call => Err(io::Error::from(ErrorKind::TimedOut)),
+            Trouble::BlocksAt(place) if place == call => {
+                Err(io::Error::from(ErrorKind::WouldBlock))
+            }
             Trouble::Interrupts if call % 3 != 0 => Err(io::Error::from(ErrorKind::Interrupted)),
             _ => Ok(()),
         }
@@ -343,6 +348,18 @@ fn each_read_failing(rt: HostRuntime) -> Result<(), Fail> {
         assert_each_read_failing(&rt, rt.alloc(), row);
     }
     Ok(())
+}
+
+#[test]
+fn a_read_that_would_have_to_wait_fails(rt: HostRuntime) {
+    for place in 1..=3 {
+        let mut reader = TestReader::new(INPUT, 1, Trouble::BlocksAt(place));
+        let mut writer = TestWriter::new(rt.alloc(), 1, Trouble::Never);
+        let outcome = run(rt.alloc(), &mut reader, &mut writer);
+        assert!(rt; matches!(outcome, Err(ShowFault::Input)), "{place}");
+        assert_eq!(rt; reader.calls, place);
+        assert_eq!(rt; (writer.calls, writer.flushes), (0, 0));
+    }
 }
 
 #[test]

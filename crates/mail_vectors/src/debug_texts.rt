@@ -1,7 +1,8 @@
-//! The Debug texts of headers.
+//! The Debug texts of headers and of messages.
 //!
 //! The expected texts were printed by a Rust program (rustc 1.95) that shows a key and a value as
-//! `format!("{:?}", String::from_utf8_lossy(bytes))` in a `debug_struct` of these names.
+//! `format!("{:?}", String::from_utf8_lossy(bytes))` in a `debug_struct` of these names, and a message
+//! by a derived `Debug`.
 use crate::texts::{
     Case, TextCase, all_key_bytes, assert_same, assert_texts, cases, text_or_error,
 };
@@ -86,4 +87,27 @@ fn block_text(alloc: Global, raw: &[u8]) -> Result<String, AllocError> {
 #[test]
 fn debug_texts_of_blocks(rt: HostRuntime) -> Result<(), Fail> {
     Ok(assert_texts(&rt, rt.alloc(), &BLOCKS, block_text)?)
+}
+
+/// A message, and its Debug text.
+static MESSAGES: [TextCase; 3] = cases! {
+    b"" => r#"ParsedMail { raw_bytes: [], header_bytes: [], headers: [], ctype: ParsedContentType { mimetype: "text/plain", charset: "us-ascii", params: {} }, body_bytes: [], subparts: [] }"#,
+    b"A: 1\n\n\xFF" => r#"ParsedMail { raw_bytes: [65, 58, 32, 49, 10, 10, 255], header_bytes: [65, 58, 32, 49, 10, 10], headers: [MailHeader { key: "A", value: "1" }], ctype: ParsedContentType { mimetype: "text/plain", charset: "us-ascii", params: {} }, body_bytes: [255], subparts: [] }"#,
+    b"Content-Type: multipart/x; boundary=b\n\n--b\n\nx" => r#"ParsedMail { raw_bytes: [67, 111, 110, 116, 101, 110, 116, 45, 84, 121, 112, 101, 58, 32, 109, 117, 108, 116, 105, 112, 97, 114, 116, 47, 120, 59, 32, 98, 111, 117, 110, 100, 97, 114, 121, 61, 98, 10, 10, 45, 45, 98, 10, 10, 120], header_bytes: [67, 111, 110, 116, 101, 110, 116, 45, 84, 121, 112, 101, 58, 32, 109, 117, 108, 116, 105, 112, 97, 114, 116, 47, 120, 59, 32, 98, 111, 117, 110, 100, 97, 114, 121, 61, 98, 10, 10], headers: [MailHeader { key: "Content-Type", value: "multipart/x; boundary=b" }], ctype: ParsedContentType { mimetype: "multipart/x", charset: "us-ascii", params: {"boundary": "b"} }, body_bytes: [], subparts: [ParsedMail { raw_bytes: [10, 120], header_bytes: [10], headers: [], ctype: ParsedContentType { mimetype: "text/plain", charset: "us-ascii", params: {} }, body_bytes: [120], subparts: [] }] }"#,
+};
+
+/// The Debug text of a message.
+fn shown_message(alloc: Global, raw: &[u8]) -> Result<String, MailParseError> {
+    let mail = parse_mail(alloc, raw)?;
+    Ok(format!(in alloc; "{mail:?}")?)
+}
+
+/// The same, or the text of the error.
+fn message_text(alloc: Global, raw: &[u8]) -> Result<String, AllocError> {
+    text_or_error(alloc, shown_message(alloc, raw))
+}
+
+#[test]
+fn debug_texts_of_messages(rt: HostRuntime) -> Result<(), Fail> {
+    Ok(assert_texts(&rt, rt.alloc(), &MESSAGES, message_text)?)
 }
