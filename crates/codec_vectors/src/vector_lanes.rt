@@ -12,7 +12,9 @@ use std::test::Fail;
 fn three_bytes(group: &[u8]) -> Option<[u8; 3]> {
     let mut number = 0u32;
     for letter in group {
-        number = number.wrapping_mul(64).wrapping_add(u32::from(value_of(*letter)?));
+        number = number
+            .wrapping_mul(64)
+            .wrapping_add(u32::from(value_of(*letter)?));
     }
     Some([
         (number / 65536 % 256) as u8,
@@ -57,12 +59,23 @@ fn letters(alloc: Global, length: usize) -> Result<Vec<u8>, AllocError> {
 fn first_lane_misread(alloc: Global, call: Call, byte: u8) -> Result<Option<usize>, AllocError> {
     let whole = letters(alloc, 36)?;
     for lane in 0..whole.len() {
-        let text = joined(alloc, &[&whole.as_slice()[..lane], &[byte], &whole.as_slice()[lane..]])?;
+        let text = joined(
+            alloc,
+            &[
+                &whole.as_slice()[..lane],
+                &[byte],
+                &whole.as_slice()[lane..],
+            ],
+        )?;
         let absent = match call {
             Call::Text => byte == b'\r' || byte == b'\n',
             Call::Body => byte.is_ascii_whitespace(),
         };
-        let kept = if absent { whole.as_slice() } else { text.as_slice() };
+        let kept = if absent {
+            whole.as_slice()
+        } else {
+            text.as_slice()
+        };
         if !is_plain(alloc, call, text.as_slice(), kept)? {
             return Ok(Some(lane));
         }
@@ -76,8 +89,16 @@ fn each_byte_among_letters_in_each_lane(rt: HostRuntime) -> Result<(), Fail> {
         if byte == b'=' {
             continue;
         }
-        assert_eq!(rt; first_lane_misread(rt.alloc(), Call::Text, byte)?, None, "{byte}");
-        assert_eq!(rt; first_lane_misread(rt.alloc(), Call::Body, byte)?, None, "{byte}");
+        assert_eq!(rt;
+            first_lane_misread(rt.alloc(), Call::Text, byte)?,
+            None,
+            "{byte}"
+        );
+        assert_eq!(rt;
+            first_lane_misread(rt.alloc(), Call::Body, byte)?,
+            None,
+            "{byte}"
+        );
     }
     Ok(())
 }
@@ -134,8 +155,14 @@ fn first_length_misread(alloc: Global, line: usize) -> Result<Option<usize>, All
 
 #[test]
 fn letters_of_each_length_in_lines(rt: HostRuntime) -> Result<(), Fail> {
-    for line in [1usize, 2, 3, 5, 7, 15, 16, 17, 19, 64, 73, 74, 75, 76, 77, 200] {
-        assert_eq!(rt; first_length_misread(rt.alloc(), line)?, None, "lines of {line}");
+    for line in [
+        1usize, 2, 3, 5, 7, 15, 16, 17, 19, 64, 73, 74, 75, 76, 77, 200,
+    ] {
+        assert_eq!(rt;
+            first_length_misread(rt.alloc(), line)?,
+            None,
+            "lines of {line}"
+        );
     }
     Ok(())
 }
@@ -186,7 +213,11 @@ fn whitespace_goes_at_each_length(rt: HostRuntime) -> Result<(), Fail> {
         let bytes = all.as_slice().get(..length).unwrap_or(b"");
         let stripped = strip_ascii_whitespace(rt.alloc(), bytes)?;
         let expected = plain_stripped(rt.alloc(), bytes)?;
-        assert_eq!(rt; Bytes(stripped.as_slice()), Bytes(expected.as_slice()), "{length}");
+        assert_eq!(rt;
+            Bytes(stripped.as_slice()),
+            Bytes(expected.as_slice()),
+            "{length}"
+        );
     }
     Ok(())
 }
@@ -219,7 +250,11 @@ fn escapes_at_each_length(rt: HostRuntime) -> Result<(), Fail> {
             let text = joined(rt.alloc(), &[front, b"."])?;
             let coded = escaped(rt.alloc(), text.as_slice(), rest)?;
             let decoded = decode_quoted_printable(rt.alloc(), coded.as_slice())?;
-            assert_eq!(rt; Bytes(decoded.as_slice()), Bytes(text.as_slice()), "{length}");
+            assert_eq!(rt;
+                Bytes(decoded.as_slice()),
+                Bytes(text.as_slice()),
+                "{length}"
+            );
         }
     }
     Ok(())
