@@ -9,10 +9,10 @@ use std::process::Abort;
 use std::test::Fail;
 
 /// The letters by their values (RFC 4648, table 1).
-const ALPHABET: &[u8; 64] = b"ABCDEFGHIJKLMNOPQRSTUVWXYZabcdefghijklmnopqrstuvwxyz0123456789+/";
+pub const ALPHABET: &[u8; 64] = b"ABCDEFGHIJKLMNOPQRSTUVWXYZabcdefghijklmnopqrstuvwxyz0123456789+/";
 
 /// The value of a letter.
-fn value_of(letter: u8) -> Option<u8> {
+pub fn value_of(letter: u8) -> Option<u8> {
     for (value, known) in (0u8..64).zip(ALPHABET) {
         if *known == letter {
             return Some(value);

@@ -49,12 +49,20 @@ gathered_one absent text four found place b room within is kept =
     ∙ sym (append_assoc (take found four) (b ∷ []) rest)
     ∙ ap (λ xs. xs ++ rest) (sym (take_more_set four found b room))
 
--- nothing is left
-pub read_whole : (absent : RunEnd) (text out : List ℕ) (count at : ℕ)
-    → ((n : ℕ) → groups_from n (without_ends absent text) ≡ prepend (take (3 * count) out) (groups_from (n + count) (without_ends absent (drop at text))))
-    → at ≡ length text → groups_from 0 (without_ends absent text) ≡ Ok (take (3 * count) out)
-read_whole absent text out count at read e =
-    read 0 ∙ groups_end absent text (take (3 * count) out) [] at (0 + count) (omega arith) refl
+-- at the end nothing is left
+pub read_whole : (absent : RunEnd) (text bytes : List ℕ) (count at : ℕ)
+    → groups_from 0 (without_ends absent text) ≡ prepend bytes (groups_from count (without_ends absent (drop at text)))
+    → length text ≤ at → Ok bytes ≡ groups_from 0 (without_ends absent text)
+read_whole absent text bytes count at read e =
+    sym (read ∙ groups_end absent text bytes [] at count e refl)
+
+-- bytes that were decoded before, and then those of a buffer
+pub buffer_read : (whole old new bytes : List ℕ) (first count : ℕ) (here later : List ℕ) → groups_from 0 whole ≡ prepend old (groups_from first here)
+    → ((n : ℕ) → groups_from n here ≡ prepend bytes (groups_from (n + count) later)) → new ≡ old ++ bytes
+    → groups_from 0 whole ≡ prepend new (groups_from (first + count) later)
+buffer_read whole old new bytes first count here later so_far read is =
+    so_far ∙ ap (prepend old) (read first) ∙ prepend-prepend old bytes (groups_from (first + count) later)
+    ∙ ap (λ xs. prepend xs (groups_from (first + count) later)) (sym is)
 
 -- four items
 pub four_items : (xs : List ℕ) → length xs ≡ 4 → xs ≡ get_or xs 0 0 ∷ get_or xs 1 0 ∷ get_or xs 2 0 ∷ get_or xs 3 0 ∷ []
@@ -67,10 +75,10 @@ four_items (a ∷ b ∷ c ∷ d ∷ e ∷ xs) h = absurd (omega arith)
 
 -- ---- steps
 
-module _ (absent : RunEnd) (text : List ℕ) where
-  -- the text reads as these bytes, and then as what is left from a place on, whose first group has this number
+module _ (absent : RunEnd) (text whole : List ℕ) where
+  -- the whole reads as these bytes, and then as what is left of the text from a place on, whose first group has this number
   abbrev pub ReadTo : List ℕ → ℕ → ℕ → Type 0
-  ReadTo bytes count at = (n : ℕ) → groups_from n (without_ends absent text) ≡ prepend bytes (groups_from (n + count) (without_ends absent (drop at text)))
+  ReadTo bytes count at = (n : ℕ) → groups_from n whole ≡ prepend bytes (groups_from (n + count) (without_ends absent (drop at text)))
 
   -- more groups
   pub read_more : (xs old new : List ℕ) (count at k next : ℕ) → ReadTo old count at

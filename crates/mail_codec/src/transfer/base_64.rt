@@ -12,12 +12,14 @@ mod padded;
 use self::groups::put_groups;
 use self::padded::{decode_padded_groups, filled_pair, group_len};
 use crate::bytescan::runs::{RunEnd, push_runs};
-use crate::vectors::LANES;
 use base64::DecodeAllocError;
 use base64::engine::general_purpose::STANDARD;
 use std::alloc::{AllocError, Global};
 
-/// How many bytes of a Base64 text are read at a time.
+/// How many bytes are decoded before they are appended, where all groups are letters.
+const BUFFER: usize = 1024;
+
+/// How many bytes of a Base64 text are read at a time, from the first other group on.
 const WINDOW: usize = 4096;
 
 /// Returns the bytes that a Base64 text stands for (RFC 4648, section 4).
@@ -73,7 +75,7 @@ pub fn decode_base64_body(alloc: Global, body: &[u8]) -> Result<Result<Vec<u8>, 
     decode_base64_without(alloc, body, RunEnd::Whitespace)
 }
 
-/// The bytes of the groups of a text without what counts as absent: those of letters where they lie,
+/// The bytes of the groups of a text without what counts as absent: letters are read where they lie,
 /// and from the first other group on a window of the text at a time.
 #[inline(always)]
 fn decode_base64_without(
@@ -85,13 +87,20 @@ fn decode_base64_without(
     ensures { IfOk result
         (λ decoded. items_or_fault decoded ≡ groups_from 0 (without_ends absent text.now)) }
 {
-    let mut bytes = vec![in alloc; 0u8; text.len() / 4 * 3 + LANES]?;
-    let (groups, at) = put_groups(bytes.as_mut_slice(), text, absent);
-    bytes.truncate(3 * groups);
-    if at == text.len() {
-        return Ok(Ok(bytes));
+    let mut bytes = Vec::with_capacity(alloc, text.len() / 4 * 3)?;
+    let mut buffer = [0u8; BUFFER];
+    let mut groups = 0;
+    let mut at = 0;
+    'buffers: while at < text.len() {
+        let (count, next) = put_groups(&mut buffer, text, at, absent);
+        if next == at {
+            return decode_windows(alloc, bytes, groups, text, at, absent);
+        }
+        bytes.extend_from_slice(&buffer[..3 * count])?;
+        groups += count;
+        at = next;
     }
-    decode_windows(alloc, bytes, groups, text, at, absent)
+    Ok(Ok(bytes))
 }
 
 /// The bytes, and after them those of the groups of a text from a place on, of which the first has

@@ -12,22 +12,28 @@ use crate::vectors::LANES;
 use crate::vectors::letters::{letters_len, packed};
 use std::simd::prelude::*;
 
-/// Writes the bytes of the groups at the front of the text to the front of `output`, up to the first
-/// that is not four letters. Returns how many groups these are, and where the text goes on after them. The
-/// bytes after theirs are written over.
+/// Writes the bytes of the groups from a place of the text on to the front of `output`, up to the
+/// first that is not four letters, or as far as there is room. Returns how many groups these are, and
+/// where the text goes on after them. The bytes after theirs may be written over.
 #[inline(always)]
-pub(crate) fn put_groups(output: &mut [u8], text: &[u8], absent: RunEnd) -> (usize, usize)
-    requires room { length text.now / 4 * 3 + 16 ≤ length output.old }
+pub(crate) fn put_groups(
+    output: &mut [u8],
+    text: &[u8],
+    from: usize,
+    absent: RunEnd,
+) -> (usize, usize)
+    requires within { from ≤ length text.now }
     requires letters { KeepsLetters absent }
     ensures within { result.1 ≤ length text.now }
-    ensures counted { 4 * result.0 ≤ result.1 }
-    ensures read { (n : ℕ) → groups_from n (without_ends absent text.now)
+    ensures counted { from + 4 * result.0 ≤ result.1 }
+    ensures written { 3 * result.0 ≤ length output.old }
+    ensures read { (n : ℕ) → groups_from n (without_ends absent (drop from text.now))
         ≡ prepend (take (3 * result.0) output.new)
             (groups_from (n + result.0) (without_ends absent (drop result.1 text.now))) }
 {
     let mut count = 0;
-    let mut at = 0;
-    'parts: while at < text.len() {
+    let mut at = from;
+    'parts: while at < text.len() && output.len() - 3 * count >= 2 * LANES {
         let len = put_block(output, 3 * count, text, at);
         if len == LANES {
             count += LANES / 4;

@@ -1,12 +1,26 @@
-use Rattle.std.proofs.Common.{◌≡◌, ◌*◌, Ok, length, take, ap, sym, ◌∙◌, arith}
-use Rattle.std.proofs.lemmas.List.{take_at}
-use Rattle.mail_codec.proofs.lemmas.Base64Parts.{read_whole}
+use Rattle.std.proofs.Common.{sym, ap, rules, arith}
+use Rattle.mail_codec.proofs.lemmas.Base64Groups.{prepend-nil}
+use Rattle.mail_codec.proofs.lemmas.Base64Parts.{read_whole, buffer_read}
 use Rattle.mail_codec.proofs.transfer.base_64.decode_base64_without.Goals as goal
 
-pub returns-then-at-text : goal.returns-then-at-text
-returns-then-at-text c =
-    let written = c.put_groups-groups.new.output in
-    let groups = c.put_groups-groups.result.0 in
-    let whole = read_whole c.args.absent c.args.text.now _ _ _ c.put_groups-groups.ensures.read c.if-at-text.true in
-    let len : length written ≡ c.in_ok-bytes.bytes.len = omega (arith, c.as_mut_slice.ensures.len, c.put_groups-groups.auto.output) in
-    ap Ok (c.truncate.ensures.items ∙ ap (take (3 * groups)) (take_at written _ c.in_ok-bytes.bytes.len len)) ∙ sym whole
+pub buffers-init : goal.buffers-init
+buffers-init c = record {
+  within = omega arith;
+  counted = omega arith;
+  so_far = rw c.in_ok-bytes.ensures.items (sym (prepend-nil _));
+}
+
+pub returns-then-next-at : goal.returns-then-next-at
+returns-then-next-at c = rw c.buffers.invariant.so_far c.decode_windows.ensures
+
+pub buffers-preserved : goal.buffers-preserved
+buffers-preserved c =
+    let e = c.put_groups-count.ensures in
+    record {
+      within = e.within;
+      counted = omega (arith, c.buffers.invariant.counted, e.counted);
+      so_far = buffer_read _ c.buffers.bytes.items _ _ c.buffers.groups c.put_groups-count.result.0 _ _ c.buffers.invariant.so_far e.read c.in_ok-extend_from_slice.ensures.items;
+    }
+
+pub returns : goal.returns
+returns c = read_whole c.args.absent c.args.text.now c.buffers.bytes.items c.buffers.groups c.buffers.at c.buffers.invariant.so_far (omega arith)

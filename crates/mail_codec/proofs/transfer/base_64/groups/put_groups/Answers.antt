@@ -11,7 +11,8 @@ parts-preserved-then-len-eq-LANES c =
     record {
       within = omega (arith, e.within, full);
       counted = omega (arith, c.parts.invariant.counted);
-      read = block_read c.args.absent c.args.text.now c.requires.letters c.parts.output c.put_block-len.new.output c.parts.count c.parts.at 4 c.parts.invariant.read
+      room = omega (arith, c.parts.invariant.room, c.put_block-len.auto.output);
+      read = block_read c.args.absent c.args.text.now (without_ends c.args.absent (drop c.args.from c.args.text.now)) c.requires.letters c.parts.output c.put_block-len.new.output c.parts.count c.parts.at 4 c.parts.invariant.read
           (omega (arith, e.within, full)) (omega (arith, e.letters, full)) e.kept (λ n. e.read 4 n (omega (arith, full))) _ _ refl refl;
     }
 
@@ -21,13 +22,14 @@ parts-preserved-then-next-at c =
     let len = c.put_block-len.result in
     let k = len / 4 in
     let at : len / 4 * 4 ≡ 4 * k = omega arith in
-    let block : ReadTo c.args.absent c.args.text.now (take (3 * (c.parts.count + k)) c.put_block-len.new.output) (c.parts.count + k) (c.parts.at + len / 4 * 4) =
-    block_read c.args.absent c.args.text.now c.requires.letters c.parts.output c.put_block-len.new.output c.parts.count c.parts.at k c.parts.invariant.read
+    let block : ReadTo c.args.absent c.args.text.now (without_ends c.args.absent (drop c.args.from c.args.text.now)) (take (3 * (c.parts.count + k)) c.put_block-len.new.output) (c.parts.count + k) (c.parts.at + len / 4 * 4) =
+    block_read c.args.absent c.args.text.now (without_ends c.args.absent (drop c.args.from c.args.text.now)) c.requires.letters c.parts.output c.put_block-len.new.output c.parts.count c.parts.at k c.parts.invariant.read
     (omega (arith, e.within)) (omega (arith, e.letters)) e.kept (λ n. e.read k n (omega arith)) _ _ refl (omega arith) in
     record {
       within = c.after_absent-next.ensures.bounds;
       counted = omega (arith, c.parts.invariant.counted, c.after_absent-next.ensures.after);
-      read = absent_passed c.args.absent c.args.text.now _ _ _ _ block c.after_absent-next.ensures.passed;
+      room = omega (arith, c.parts.invariant.room, c.put_block-len.auto.output, c.put_block-len.ensures.bounds);
+      read = absent_passed c.args.absent c.args.text.now _ _ _ _ _ block c.after_absent-next.ensures.passed;
     }
 
 pub returns-in_default-clause-read : goal.returns-in_default-clause-read
@@ -35,8 +37,8 @@ returns-in_default-clause-read c n =
     let e = c.put_block-len.ensures in
     let len = c.put_block-len.result in
     let k = len / 4 in
-    let block : ReadTo c.args.absent c.args.text.now (take (3 * (c.parts.count + k)) c.put_block-len.new.output) (c.parts.count + k) (c.parts.at + len / 4 * 4) =
-    block_read c.args.absent c.args.text.now c.requires.letters c.parts.output c.put_block-len.new.output c.parts.count c.parts.at k c.parts.invariant.read
+    let block : ReadTo c.args.absent c.args.text.now (without_ends c.args.absent (drop c.args.from c.args.text.now)) (take (3 * (c.parts.count + k)) c.put_block-len.new.output) (c.parts.count + k) (c.parts.at + len / 4 * 4) =
+    block_read c.args.absent c.args.text.now (without_ends c.args.absent (drop c.args.from c.args.text.now)) c.requires.letters c.parts.output c.put_block-len.new.output c.parts.count c.parts.at k c.parts.invariant.read
     (omega (arith, e.within)) (omega (arith, e.letters)) e.kept (λ m. e.read k m (omega arith)) _ _ refl (omega arith) in
     block n
     ∙ ap (λ bs. prepend bs (groups_from (n + (c.parts.count + k)) (without_ends c.args.absent (drop (c.parts.at + len / 4 * 4) c.args.text.now)))) (sym c.put_next_group.ensures.kept)
@@ -46,11 +48,12 @@ parts-preserved c =
     let e = c.put_block-len.ensures in
     let len = c.put_block-len.result in
     let k = len / 4 in
-    let block : ReadTo c.args.absent c.args.text.now (take (3 * (c.parts.count + k)) c.put_block-len.new.output) (c.parts.count + k) (c.parts.at + len / 4 * 4) =
-    block_read c.args.absent c.args.text.now c.requires.letters c.parts.output c.put_block-len.new.output c.parts.count c.parts.at k c.parts.invariant.read
+    let block : ReadTo c.args.absent c.args.text.now (without_ends c.args.absent (drop c.args.from c.args.text.now)) (take (3 * (c.parts.count + k)) c.put_block-len.new.output) (c.parts.count + k) (c.parts.at + len / 4 * 4) =
+    block_read c.args.absent c.args.text.now (without_ends c.args.absent (drop c.args.from c.args.text.now)) c.requires.letters c.parts.output c.put_block-len.new.output c.parts.count c.parts.at k c.parts.invariant.read
     (omega (arith, e.within)) (omega (arith, e.letters)) e.kept (λ m. e.read k m (omega arith)) _ _ refl (omega arith) in
     record {
       within = c.in-Some.ensures.bounds;
       counted = omega (arith, c.parts.invariant.counted, c.in-Some.ensures.later);
-      read = group_more c.args.absent c.args.text.now c.put_block-len.new.output c.put_next_group.new.output (c.parts.count + k) (c.parts.at + len / 4 * 4) _ block c.put_next_group.ensures.kept c.in-Some.ensures.read;
+      room = omega (arith, c.parts.invariant.room, c.put_block-len.auto.output, c.put_next_group.auto.output, c.put_block-len.ensures.bounds);
+      read = group_more c.args.absent c.args.text.now _ c.put_block-len.new.output c.put_next_group.new.output (c.parts.count + k) (c.parts.at + len / 4 * 4) _ block c.put_next_group.ensures.kept c.in-Some.ensures.read;
     }

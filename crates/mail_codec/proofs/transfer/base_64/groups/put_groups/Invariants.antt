@@ -1,4 +1,5 @@
-use Rattle.std.proofs.Common.{◌≡◌, ◌≤◌, ◌*◌, ◌-◌, length, take}
+use Rattle.std.proofs.Common.{◌≡◌, ◌≤◌, ◌+◌, ◌*◌, ◌-◌, length, take, drop}
+use Rattle.mail_codec.specs.private.Runs.{without_ends}
 use Rattle.mail_codec.proofs.lemmas.Base64Parts.{ReadTo}
 use Rattle.mail_codec.proofs.transfer.base_64.groups.put_groups.Given as goal
 
@@ -6,8 +7,9 @@ use Rattle.mail_codec.proofs.transfer.base_64.groups.put_groups.Given as goal
 abbrev pub invariant-parts : goal.invariant-parts
 invariant-parts l = record {
   within : l.at ≤ length l.text;
-  counted : 4 * l.count ≤ l.at;
-  read : ReadTo l.absent l.text (take (3 * l.count) l.output) l.count l.at;
+  counted : l.from + 4 * l.count ≤ l.at;
+  room : 3 * l.count ≤ length l.output;
+  read : ReadTo l.absent l.text (without_ends l.absent (drop l.from l.text)) (take (3 * l.count) l.output) l.count l.at;
 }
 
 abbrev pub decreases-parts : goal.decreases-parts
