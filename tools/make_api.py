@@ -176,6 +176,8 @@ def public_items(path, module):
     """The public items of a source file: its own, and what it takes from other files."""
     items = [with_impls(item, module) for item in module.items]
     for used, names in module.uses:
+        if os.path.isdir(os.path.join(TOP, "crates", used.split("::")[0])):
+            continue  # of another crate: it stands there
         other = in_file(folder_of(path), used)
         items += [item for item in public_items(other, parse(other)) if item.name in names]
     return items
