@@ -1,7 +1,7 @@
 #!/usr/bin/env python3
 """Runs the examples of the doc comments and compares the README's program with the crate page's.
 
-Each fence ```rust in a doc comment of mail_codec, mailparse and mail_laws becomes a test of its own: the lines as
+Each fence ```rust in a doc comment of mail_codec, mailparse, mail_laws and mail_data becomes a test of its own: the lines as
 they stand, in a function that has the runtime `rt` and its allocator `alloc`, and in which `?` passes
 every error on. `rt try --test` builds and runs them, without a proof, in a folder that is deleted
 afterwards. A fence with `fn main` is a program: it has to be the README's, which tools/try_outside.sh
@@ -22,7 +22,7 @@ import tempfile
 from make_api import crate_modules
 
 TOP = os.path.dirname(os.path.dirname(os.path.abspath(__file__)))
-CRATES = ("mail_codec", "mailparse", "mail_laws")
+CRATES = ("mail_codec", "mailparse", "mail_laws", "mail_data")
 DOC = re.compile(r"^\s*//[/!] ?(.*)$")
 
 
@@ -131,11 +131,11 @@ def check_programs(programs, counts):
 
 
 def write_crates(folder, examples):
-    """Writes a repository with these crates and a crate of the examples."""
+    """Writes a repository with the crates and a crate of the examples."""
     with open(os.path.join(TOP, "crates.txt"), encoding="utf-8") as file:
         kept = [line for line in file if line.split(":")[0] in CRATES]
     with open(os.path.join(folder, "crates.txt"), "w", encoding="utf-8") as file:
-        file.writelines([*kept, "examples: mail_laws mailparse mail_codec\n"])
+        file.writelines([*kept, f"examples: {' '.join(CRATES)}\n"])
     for crate in CRATES:
         for part in ("src", "specs", "proofs"):
             name = os.path.join("crates", crate, part)

@@ -29,8 +29,8 @@ pub struct Attachment<'m, 'a> {
 /// Returns the name of the file that a part is: the parameter `filename` of its disposition (RFC
 /// 2183, section 2.3), otherwise the parameter `name` of its type, or `None` where it has neither.
 ///
-/// The name is as the sender wrote it: `safe_file_name` makes it fit to be used. Takes memory for the
-/// disposition and the name.
+/// The name is as the sender wrote it: `safe_file_name` makes it fit to be used. Takes memory for
+/// the disposition and the name.
 ///
 /// # Errors
 ///
@@ -73,8 +73,8 @@ fn named_file<'n>(
     }
 }
 
-/// Returns whether a part is a file: it has no parts of its own, and its disposition is `attachment`
-/// or it has a file name.
+/// Returns whether a part is a file: it has no parts of its own, and its disposition is
+/// `attachment` or it has a file name.
 ///
 /// So an image that is shown in the text counts if it has a name, and a forwarded message
 /// (`message/rfc822`), which is not read into, counts as any other part. Takes memory for the

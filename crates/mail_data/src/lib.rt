@@ -1,5 +1,16 @@
-//! What applications ask of mail, above the port of `mailparse`.
+//! What applications ask of mail, above the port of `mailparse`: which parts are files and how they
+//! are named (`files`), the mails of a mailbox (`mailbox`), the text to be read (`texts`),
+//! forwarded mails (`forwarding`), and readings that take what can be taken where the strict calls
+//! refuse (`lenient`).
+//!
+//! The rules of this layer are its own; those of `mailparse` stay as they are. What takes memory
+//! has the argument `alloc` and returns a `Result`; no call panics.
+//!
+//! The examples stand in a function that has the runtime `rt` and its allocator `alloc`.
 #![tactic(auto)]
 
 pub mod files;
+pub mod forwarding;
+pub mod lenient;
 pub mod mailbox;
+pub mod texts;

@@ -1,9 +1,10 @@
 //! Mailboxes: the mails of an mbox file (RFC 4155, appendix A).
-ghost use Rattle.std.specs.Prelude.{◌≡◌, ◌++◌, ◌≤◌, true, length, drop, take};
+ghost use Rattle.std.specs.Prelude.{◌≡◌, ◌++◌, ◌≤◌, length, drop, take};
 ghost use Rattle.std.specs.List.{flat_map};
-ghost use Rattle.mail_data.specs.Mailbox.{Entry, ends_mail, empty_line, entries, entry_at, entry_bytes, front_length, line_length, mail_length, mark, next_entry};
+ghost use Rattle.mail_data.specs.Mailbox.{Entry, ends_mail, empty_line, entries, entry_at};
+ghost use Rattle.mail_data.specs.Mailbox.{entry_bytes, front_length, line_length, mail_length};
+ghost use Rattle.mail_data.specs.Mailbox.{next_entry};
 ghost use Rattle.mail_data.specs.MailboxViews.{entries_left};
-ghost use Rattle.mail_codec.specs.Places.{stands};
 
 use mail_codec::bytescan::find_byte;
 use std::marker::Model;
@@ -20,13 +21,24 @@ pub struct MailboxEntry<'a> {
 impl<'a> Model for MailboxEntry<'a> {
     ghost Value = { Entry };
 
-    ghost view = { λ e. record { separator = e.separator.now; mail = e.mail.now; ending = e.ending.now } };
+    ghost view = { λ e.
+        record { separator = e.separator.now; mail = e.mail.now; ending = e.ending.now } };
 }
 
 impl<'a> MailboxEntry<'a> {
     /// Returns the line before the mail, which begins with `From `, its line end among them.
     ///
     /// Takes no memory.
+    ///
+    /// # Examples
+    ///
+    /// ```rust
+    /// use mail_data::mailbox::read_mailbox;
+    ///
+    /// for entry in read_mailbox(b"From a\nSubject: 1\n\none\n\n") {
+    ///     assert_eq!(rt; entry.separator(), b"From a\n".as_slice());
+    /// }
+    /// ```
     pub fn separator(&self) -> &'a [u8]
         ensures { result.now ≡ self.now.separator }
     {
@@ -37,6 +49,16 @@ impl<'a> MailboxEntry<'a> {
     ///
     /// They are as they stand in the mailbox: a line that a writer began with `>From ` stays so.
     /// Takes no memory.
+    ///
+    /// # Examples
+    ///
+    /// ```rust
+    /// use mail_data::mailbox::read_mailbox;
+    ///
+    /// for entry in read_mailbox(b"From a\nSubject: 1\n\none\n\n") {
+    ///     assert_eq!(rt; entry.mail(), b"Subject: 1\n\none\n".as_slice());
+    /// }
+    /// ```
     pub fn mail(&self) -> &'a [u8]
         ensures { result.now ≡ self.now.mail }
     {
@@ -46,6 +68,16 @@ impl<'a> MailboxEntry<'a> {
     /// Returns the empty line that ends the mail, if there is one.
     ///
     /// Takes no memory.
+    ///
+    /// # Examples
+    ///
+    /// ```rust
+    /// use mail_data::mailbox::read_mailbox;
+    ///
+    /// for entry in read_mailbox(b"From a\nSubject: 1\n\none\n\n") {
+    ///     assert_eq!(rt; entry.ending(), b"\n".as_slice());
+    /// }
+    /// ```
     pub fn ending(&self) -> &'a [u8]
         ensures { result.now ≡ self.now.ending }
     {
@@ -66,6 +98,14 @@ impl<'a> Mailbox<'a> {
     /// Returns the bytes before the first separator: none in a mailbox that begins with one.
     ///
     /// Takes no memory.
+    ///
+    /// # Examples
+    ///
+    /// ```rust
+    /// use mail_data::mailbox::read_mailbox;
+    ///
+    /// assert_eq!(rt; read_mailbox(b"junk\n\nFrom a\n").front(), b"junk\n\n".as_slice());
+    /// ```
     pub fn front(&self) -> &'a [u8]
         ensures { result.now ≡ self.now.front.now }
     {
@@ -98,16 +138,16 @@ impl<'a> Iterator for Mailbox<'a> {
 /// format of RFC 4155, appendix A).
 ///
 /// Such a line separates mails where it is the first one or follows an empty line; elsewhere it
-/// belongs to the mail. Lines end with LF or CR LF. The empty line before a separator, and one at the
-/// end of the mailbox, belongs to no mail. What stands before the first separator is in no mail.
-/// Any bytes are read, and nothing is changed: `>From ` stays as it is. Takes no memory.
+/// belongs to the mail. Lines end with LF or CR LF. The empty line before a separator, and one at
+/// the end of the mailbox, belongs to no mail. What stands before the first separator is in no
+/// mail. Any bytes are read, and nothing is changed: `>From ` stays as it is. Takes no memory.
 ///
 /// # Examples
 ///
 /// ```rust
 /// use mail_data::mailbox::read_mailbox;
 ///
-/// let bytes = b"From a@b Thu Jan  1 00:00:00 1970\nSubject: 1\n\none\n\nFrom c\nSubject: 2\n\ntwo\n";
+/// let bytes = b"From a\nSubject: 1\n\none\n\nFrom c\nSubject: 2\n\ntwo\n";
 /// let mut mails = Vec::new(alloc);
 /// for entry in read_mailbox(bytes) {
 ///     mails.push(entry.mail())?;

@@ -146,8 +146,7 @@ front_name-short name = front_within-short 255 (map made_safe (chars name))
 not_reserved : (name : List ℕ) → is_reserved name ≡ false → (name ≢ []) × (name ≢ codes ".") × (name ≢ codes "..")
 not_reserved name h =
     let parts = or_parts (is_empty name || bytes_eq name (codes ".")) (bytes_eq name (codes "..")) h in
-    let more = or_parts (is_empty name) (bytes_eq name (codes ".")) parts.0 in
-    (
+    let more = or_parts (is_empty name) (bytes_eq name (codes ".")) parts.0 in (
       (λ e. false≢true (sym more.0 ∙ ap is_empty e)),
       (λ e. false≢true (sym more.1 ∙ ap (λ (n : List ℕ). bytes_eq n (codes ".")) e)),
       (λ e. false≢true (sym parts.1 ∙ ap (λ (n : List ℕ). bytes_eq n (codes "..")) e)),
@@ -158,12 +157,12 @@ unfolding safe_name
 safe_name-safe name utf8 = elim (cases_Bool (is_reserved (front_name name))) [
   | inl r ↦ subst IsSafeName (sym (cond-true (is_reserved (front_name name)) (codes "_") (front_name name) r)) single
   | inr n ↦ subst IsSafeName (sym (cond-false (is_reserved (front_name name)) (codes "_") (front_name name) n)) (record {
-      some = (not_reserved (front_name name) n).0;
-      not_here = (not_reserved (front_name name) n).1;
-      not_above = (not_reserved (front_name name) n).2;
-      short = front_name-short name;
-      characters = front_name-safe name utf8;
-    })
+    some = (not_reserved (front_name name) n).0;
+    not_here = (not_reserved (front_name name) n).1;
+    not_above = (not_reserved (front_name name) n).2;
+    short = front_name-short name;
+    characters = front_name-safe name utf8;
+  })
 ]
 
 front_name-same : (name : List ℕ) → IsUtf8 name → IsSafeName name → front_name name ≡ name
@@ -185,12 +184,12 @@ safe_not_reserved : (name : List ℕ) → IsSafeName name → is_reserved name �
 safe_not_reserved name h = elim (cases_Bool (is_reserved name)) [
   | inr n ↦ n
   | inl r ↦ absurd (elim (or_cases (is_empty name || bytes_eq name (codes ".")) (bytes_eq name (codes "..")) r) [
-      | inr above ↦ h.not_above (bytes_eq-true name (codes "..") above)
-      | inl more ↦ elim (or_cases (is_empty name) (bytes_eq name (codes ".")) more) [
-        | inl none ↦ h.some (empty_nil name none)
-        | inr here ↦ h.not_here (bytes_eq-true name (codes ".") here)
-      ]
-    ])
+    | inr above ↦ h.not_above (bytes_eq-true name (codes "..") above)
+    | inl more ↦ elim (or_cases (is_empty name) (bytes_eq name (codes ".")) more) [
+      | inl none ↦ h.some (empty_nil name none)
+      | inr here ↦ h.not_here (bytes_eq-true name (codes ".") here)
+    ]
+  ])
 ]
 
 pub safe_name-same : (name : List ℕ) → IsUtf8 name → IsSafeName name → safe_name name ≡ name

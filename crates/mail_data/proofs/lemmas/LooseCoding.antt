@@ -1,0 +1,46 @@
+-- Lemmas on the names of transfer codings.
+use Rattle.std.proofs.Common.{◌≡◌, ℕ, Bool, true, false, List, Option, Some, None, refl, sym, ap, ◌∙◌, inl, inr}
+use Rattle.std.specs.Prelude.{codes, option_map}
+use Rattle.std.specs.Str.{bytes_eq, str_to_ascii_lowercase}
+use Rattle.std.proofs.lemmas.Bool.{cond-false, cases_Bool}
+use Rattle.std.proofs.lemmas.Slice.Eq.{bytes_eq-Decides}
+use Rattle.mailparse.specs.Body.{BodyKind, in_7bit, kind_named}
+use Rattle.mailparse.specs.Map.{first_value}
+use Rattle.mailparse.specs.Mail.{Node, body_kind}
+use Rattle.mail_data.specs.LooseCoding.{name_at, loose_kind, loose_body_kind}
+
+-- a text that is one of the names is that name
+stays : (l w : List ℕ) → bytes_eq l w ≡ true → name_at w ≡ w → kind_named (Some (name_at l)) ≡ kind_named (Some l)
+stays l w is h = let e = (bytes_eq-Decides l w).0 is in ap (λ (x : List ℕ). kind_named (Some x)) (ap name_at e ∙ h ∙ sym e)
+
+-- any other text is not looked at
+other : (l : List ℕ) → bytes_eq l (codes "base64") ≡ false → bytes_eq l (codes "quoted-printable") ≡ false → bytes_eq l (codes "8bit") ≡ false
+    → bytes_eq l (codes "binary") ≡ false → kind_named (Some l) ≡ in_7bit
+unfolding kind_named
+other l a b c d = cond-false _ _ _ a ∙ cond-false _ _ _ b ∙ cond-false _ _ _ c ∙ cond-false _ _ _ d
+
+word-same : (l : List ℕ) → (kind_named (Some l) ≡ in_7bit → ⊥) → kind_named (Some (name_at l)) ≡ kind_named (Some l)
+unfolding name_at
+word-same l h = elim (cases_Bool (bytes_eq l (codes "base64"))) [
+  | inl is ↦ stays l (codes "base64") is refl
+  | inr a ↦ elim (cases_Bool (bytes_eq l (codes "quoted-printable"))) [
+    | inl is ↦ stays l (codes "quoted-printable") is refl
+    | inr b ↦ elim (cases_Bool (bytes_eq l (codes "8bit"))) [
+      | inl is ↦ stays l (codes "8bit") is refl
+      | inr c ↦ elim (cases_Bool (bytes_eq l (codes "binary"))) [
+        | inl is ↦ stays l (codes "binary") is refl
+        | inr d ↦ absurd (h (other l a b c d))
+      ]
+    ]
+  ]
+]
+
+value-same : (value : Option (List ℕ)) → (kind_named (option_map str_to_ascii_lowercase value) ≡ in_7bit → ⊥)
+    → loose_kind value ≡ kind_named (option_map str_to_ascii_lowercase value)
+unfolding kind_named loose_kind
+value-same None h = absurd (h refl)
+value-same (Some text) h = word-same (str_to_ascii_lowercase text) h
+
+-- a coding that the strict reading finds is found
+pub loose-same : (node : Node) → (body_kind node ≡ in_7bit → ⊥) → loose_body_kind node ≡ body_kind node
+loose-same node h = value-same (first_value (codes "Content-Transfer-Encoding") node.headers) h

@@ -1,0 +1,7 @@
+-- What a contract sees of the front of a Base64 body.
+use Rattle.mail_data.specs.Base64Front.{Front}
+use Rattle.mail_data.specs.declared.lenient.base64.Base64Front.{Base64Front}
+
+-- what was read, and the number of the first invalid group
+abbrev pub front_of : Base64Front → Front
+front_of front = record { bytes = front.bytes.items; fault = front.fault }

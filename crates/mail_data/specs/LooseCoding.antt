@@ -1,0 +1,29 @@
+-- The transfer coding of a body where more stands beside its name: whitespace, a comment or a parameter (RFC 2045, section
+-- 6.1; RFC 5322, section 3.2.2).
+use Rattle.std.specs.Prelude.{ℕ, Bool, not, ◌||◌, ◌==◌, List, take, Option, option_map, codes}
+use Rattle.std.specs.Char.{is_ascii_whitespace}
+use Rattle.std.specs.List.{prefix_len}
+use Rattle.std.specs.Str.{str_to_ascii_lowercase}
+use Rattle.mail_codec.specs.Ascii.{opening_parenthesis, semicolon}
+use Rattle.mail_codec.specs.Places.{trimmed_at_start}
+use Rattle.mailparse.specs.Body.{BodyKind, kind_named}
+use Rattle.mailparse.specs.Mail.{Node}
+use Rattle.mailparse.specs.Map.{first_value}
+
+-- a byte that ends the name of a coding: whitespace, `(` or `;`
+abbrev pub ends_name : ℕ → Bool
+ends_name b = is_ascii_whitespace b || (b == opening_parenthesis || b == semicolon)
+
+-- the name at the front of a text, after whitespace
+unfoldable pub name_at : List ℕ → List ℕ
+name_at text =
+    let rest = trimmed_at_start is_ascii_whitespace text in
+    take (prefix_len (λ b. not (ends_name b)) rest) rest
+
+-- the coding that a text names so, in any case
+unfoldable pub loose_kind : Option (List ℕ) → BodyKind
+loose_kind value = kind_named (option_map (λ text. name_at (str_to_ascii_lowercase text)) value)
+
+-- the transfer coding of a message's body, by its first `Content-Transfer-Encoding`
+abbrev pub loose_body_kind : Node → BodyKind
+loose_body_kind node = loose_kind (first_value (codes "Content-Transfer-Encoding") node.headers)

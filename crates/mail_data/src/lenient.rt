@@ -1,0 +1,8 @@
+//! Readings that take what can be taken, where the strict calls of `mailparse` refuse.
+mod base64;
+mod coding;
+mod ids;
+
+pub use base64::{Base64Front, base64_front};
+pub use coding::loose_body;
+pub use ids::ids_in;

@@ -1,0 +1,141 @@
+//! Transfer codings with more beside their name.
+ghost use Rattle.std.specs.Prelude.{◌≡◌, ◌≢◌, ◌≤◌, codes, length, not, Some, IfErr, IfOk};
+ghost use Rattle.std.specs.Char.{is_ascii_whitespace};
+ghost use Rattle.std.specs.List.{prefix_len};
+ghost use Rattle.mailparse.specs.Body.{in_7bit, kind_named};
+ghost use Rattle.mailparse.specs.BodyViews.{IsBody, content_of, name_of};
+ghost use Rattle.mailparse.specs.Mail.{body_kind, root};
+ghost use Rattle.mailparse.specs.Map.{text_found};
+ghost use Rattle.mailparse.specs.Outcome.{IsMemory};
+ghost use Rattle.mailparse.specs.Views.{tree_of};
+ghost use Rattle.mail_data.specs.LooseCoding.{ends_name, loose_body_kind, loose_kind, name_at};
+
+use crate::forwarding::raw_body;
+use mailparse::body::Body;
+use mailparse::{MailHeaderMap, MailParseError, ParsedMail};
+use std::alloc::{AllocError, Global};
+
+/// Returns the body of a part in its transfer coding, as `ParsedMail::get_body_encoded` does, but
+/// the name of the coding ends at whitespace, `(` or `;` (RFC 2045, section 6.1).
+///
+/// So `base64 (a comment)` and a name with a space behind it are Base64, and not `7bit`. Where
+/// `get_body_encoded` finds another coding than `7bit`, this is the same one. Takes memory for the
+/// name of the coding.
+///
+/// # Errors
+///
+/// `MailParseError::Memory` where it runs out of memory.
+///
+/// # Examples
+///
+/// ```rust
+/// use mail_data::lenient::loose_body;
+/// use mailparse::body::Body;
+/// use mailparse::parse_mail;
+///
+/// let mail = parse_mail(alloc, b"Content-Transfer-Encoding: base64 (x)\n\naGk=")?;
+/// let Body::Base64(body) = loose_body(alloc, &mail)? else {
+///     return Err("another coding".into());
+/// };
+/// assert_eq!(rt; body.get_decoded(alloc)?.as_slice(), b"hi".as_slice());
+/// ```
+pub fn loose_body<'m>(alloc: Global, part: &'m ParsedMail<'_>) -> Result<Body<'m>, MailParseError>
+    ensures read { let node = root (tree_of part.now) in
+        IfOk result (IsBody (loose_body_kind node) (content_of node)) }
+    ensures same { let node = root (tree_of part.now) in body_kind node ≢ in_7bit →
+        IfOk result (IsBody (body_kind node) (content_of node)) }
+    ensures only_memory { IfErr result IsMemory }
+{
+    let body = body_named(alloc, part)?;
+    Ok(body)
+}
+
+/// The body of a part in that coding.
+fn body_named<'m>(alloc: Global, part: &'m ParsedMail<'_>) -> Result<Body<'m>, MailParseError>
+    ensures read { let node = root (tree_of part.now) in
+        IfOk result (IsBody (loose_body_kind node) (content_of node)) }
+    ensures only_memory { IfErr result IsMemory }
+{
+    let raw = raw_body(alloc, part)?;
+    let value = part
+        .headers
+        .get_first_value(alloc, "Content-Transfer-Encoding")?;
+    let name = loose_name(alloc, value)?;
+    Ok(Body::new(raw, &part.ctype, &name))
+}
+
+/// A name of the coding that a text names.
+#[tactic(auto, unfolding(crate::specs::LooseCoding::loose_kind))]
+fn loose_name(alloc: Global, value: Option<String>) -> Result<Option<String>, AllocError>
+    ensures { IfOk result (λ name. kind_named (name_of name) ≡ loose_kind (text_found value)) }
+{
+    let Some(mut text) = value else {
+        return Ok(None);
+    };
+    text.make_ascii_lowercase();
+    let name = String::from_str(alloc, known_name(name_at(text.as_bytes())))?;
+    Ok(Some(name))
+}
+
+/// The name of the same coding.
+#[tactic(auto, unfolding(mailparse::specs::Body::kind_named))]
+fn known_name(name: &[u8]) -> &'static str
+    ensures { kind_named (Some result.now) ≡ kind_named (Some name.now) }
+{
+    if name == b"base64".as_slice() {
+        return "base64";
+    }
+    if name == b"quoted-printable".as_slice() {
+        return "quoted-printable";
+    }
+    if name == b"8bit".as_slice() {
+        return "8bit";
+    }
+    if name == b"binary".as_slice() {
+        return "binary";
+    }
+    "7bit"
+}
+
+/// The name at the front of a text, after whitespace.
+#[tactic(auto, unfolding(crate::specs::LooseCoding::name_at))]
+fn name_at(text: &[u8]) -> &[u8]
+    ensures { result.now ≡ name_at text.now }
+{
+    let (_, rest) = text.split_at(whitespace_len(text));
+    let (name, _) = rest.split_at(name_len(rest));
+    name
+}
+
+/// How many bytes of whitespace stand at the front.
+fn whitespace_len(text: &[u8]) -> usize
+    ensures value { result ≡ prefix_len is_ascii_whitespace text.now }
+    ensures bounds { result ≤ length text.now }
+{
+    for (place, byte) in text.iter().enumerate() {
+        if !byte.is_ascii_whitespace() {
+            return place;
+        }
+    }
+    text.len()
+}
+
+/// How many bytes stand before the first that ends a name.
+fn name_len(text: &[u8]) -> usize
+    ensures value { result ≡ prefix_len (λ b. not (ends_name b)) text.now }
+    ensures bounds { result ≤ length text.now }
+{
+    for (place, byte) in text.iter().enumerate() {
+        if ends_name(*byte) {
+            return place;
+        }
+    }
+    text.len()
+}
+
+/// Whether a byte ends the name of a coding.
+fn ends_name(byte: u8) -> bool
+    ensures { result ≡ ends_name byte }
+{
+    byte.is_ascii_whitespace() || byte == b'(' || byte == b';'
+}

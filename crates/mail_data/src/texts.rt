@@ -1,0 +1,79 @@
+//! The text of a mail.
+ghost use Rattle.std.specs.Prelude.{◌≡◌, Ok};
+ghost use Rattle.mailparse.specs.Outcome.{AnswersOrMemory};
+ghost use Rattle.mailparse.specs.Views.{tree_of};
+ghost use Rattle.mail_data.specs.Texts.{first_shown, is_shown, text_part};
+ghost use Rattle.mail_data.specs.TextViews.{tree_found};
+
+use crate::files::is_attachment;
+use mailparse::{MailParseError, ParsedMail};
+use std::alloc::Global;
+
+/// Returns the part of a mail that is to be read as its text, or `None` where there is none: the
+/// first `text/plain` that is no file, otherwise the first `text/html` (RFC 2046, sections 4.1 and
+/// 5.1.4).
+///
+/// The mail itself is looked at first, and then its parts, each before its own parts. So of a
+/// `multipart/alternative` it is the plain text, where there is one, and of a `multipart/related`
+/// the text that shows the rest. A text that has a file name is a file, as `files::is_attachment`
+/// says. `ParsedMail::get_body` returns the text of the part. Takes memory for the list of parts
+/// and the dispositions.
+///
+/// # Errors
+///
+/// `MailParseError::Memory` where it runs out of memory.
+///
+/// # Examples
+///
+/// ```rust
+/// use mail_data::texts::text_part;
+/// use mailparse::parse_mail;
+///
+/// let raw = b"Content-Type: multipart/alternative; boundary=b\n\n\
+///     --b\nContent-Type: text/html\n\n<b>Hi</b>\n--b\n\nHi\n--b--\n";
+/// let mail = parse_mail(alloc, raw)?;
+/// let part = text_part(alloc, &mail)?.ok_or("no text")?;
+/// assert_eq!(rt; part.get_body(alloc)?.as_str(), "Hi");
+/// ```
+#[tactic(auto, unfolding(crate::specs::Texts::text_part))]
+pub fn text_part<'m, 'a>(
+    alloc: Global,
+    mail: &'m ParsedMail<'a>,
+) -> Result<Option<&'m ParsedMail<'a>>, MailParseError>
+    ensures { AnswersOrMemory tree_found result (Ok (text_part (tree_of mail.now))) }
+{
+    if let Some(part) = first_shown(alloc, mail, "text/plain")? {
+        return Ok(Some(part));
+    }
+    let part = first_shown(alloc, mail, "text/html")?;
+    Ok(part)
+}
+
+/// The first part that has this type and is no file.
+#[tactic(auto, unfolding(crate::specs::Texts::first_shown))]
+fn first_shown<'m, 'a>(
+    alloc: Global,
+    mail: &'m ParsedMail<'a>,
+    mimetype: &str,
+) -> Result<Option<&'m ParsedMail<'a>>, MailParseError>
+    ensures { AnswersOrMemory tree_found result
+        (Ok (first_shown mimetype.now (tree_of mail.now))) }
+{
+    for part in mail.parts(alloc)? {
+        if is_shown(alloc, part, mimetype)? {
+            return Ok(Some(part));
+        }
+    }
+    Ok(None)
+}
+
+/// Whether a part has this type and is no file.
+#[tactic(auto, unfolding(crate::specs::Texts::is_shown))]
+fn is_shown(alloc: Global, part: &ParsedMail<'_>, mimetype: &str) -> Result<bool, MailParseError>
+    ensures { AnswersOrMemory (λ is. is) result (Ok (is_shown mimetype.now (tree_of part.now))) }
+{
+    if part.ctype.mimetype.as_str() != mimetype {
+        return Ok(false);
+    }
+    Ok(!is_attachment(alloc, part)?)
+}
