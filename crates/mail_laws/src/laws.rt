@@ -29,7 +29,7 @@ ghost use Rattle.mailparse.specs.Views.{kind};
 ghost use Rattle.mail_laws.specs.Boundaries.{IsAlphanumeric, boundary_type, one_text};
 ghost use Rattle.mail_laws.specs.Outlines.{IsWellFormed, OutlineTree, depth, is_well_formed_within, rendered, stands_for};
 ghost use Rattle.mail_laws.specs.StarFree.{AreStarFree};
-ghost use Rattle.mailparse.specs.Value.{IsPlain, Token, lenient_value, newline, shown_tokens, strict_value, lenient_value_with};
+ghost use Rattle.mailparse.specs.Value.{IsPlain, Token, lenient_value, newline, shown_tokens, strict_value, lenient_value_in};
 ghost use Rattle.mail_codec.specs.Places.{begins, least, values_below};
 ghost use Rattle.mail_laws.specs.Least.{IsLeast};
 ghost use Rattle.mail_laws.specs.WordTokens.{whitespace_token, word};
@@ -327,7 +327,7 @@ pub fn outline_reads_back()
         read_mail (rendered outline) ≡ Ok (stands_for four_charsets outline) }
     ensures shown { (known : Charsets) (outline : OutlineTree) →
         is_well_formed_within outline ≡ true →
-        All (λ (n : Node). map (λ h. lenient_value_with known h.value) n.headers
+        All (λ (n : Node). map (λ h. lenient_value_in known h.value) n.headers
         ≡ map (λ h. h.value) n.headers) (nodes (stands_for known outline)) }
     ensures only { (one two : OutlineTree) → is_well_formed_within one ≡ true →
         is_well_formed_within two ≡ true → rendered one ≡ rendered two → one ≡ two }

@@ -17,7 +17,7 @@ use Rattle.mailparse.specs.ContentType.{ContentType}
 use Rattle.mailparse.specs.Ranges.{slice}
 use Rattle.mailparse.specs.Delimiters.{Cut, cut_parts}
 use Rattle.mailparse.specs.Mail.{Node, Tree, tree, Forest, no_parts, part_and, root, parts_of, nodes, trees_in, trees_within, is_digest, cut_of, node_with, read_each, read_parts, node_type, read_levels, read_mail_in, read_mail}
-use Rattle.mailparse.specs.Value.{lenient_value_with}
+use Rattle.mailparse.specs.Value.{lenient_value_in}
 use Rattle.mail_laws.specs.Boundaries.{boundary_type}
 use Rattle.mail_laws.specs.Outlines.{OutlineTree, OutlineForest, leaf, branch, no_outlines, outline_and, header_block, dash_boundary, rendered, rendered_parts, is_key, is_plain, has_keys, has_plain_values, type_header, names_its_boundary, has_plain_boundary, is_not_multipart, has_some_part, holds_delimiter, hold_no_delimiter, has_clear_parts, depth, depth_of_parts, is_well_formed_here, is_well_formed_within, are_well_formed_within, type_of, node_of, stands_for, stand_for, is_within_levels, IsWellFormed}
 use Rattle.mail_laws.proofs.lemmas.OutlineHeaders.{from_not, list_all-weaker, read_headers-written}
@@ -314,14 +314,14 @@ outline_is_mail outline formed =
 
 -- the values of a message's headers show as they are
 abbrev Shows : Charsets → Node → Type 0
-Shows known node = map (λ h. lenient_value_with known h.value) node.headers ≡ map (λ h. h.value) node.headers
+Shows known node = map (λ h. lenient_value_in known h.value) node.headers ≡ map (λ h. h.value) node.headers
 
 module _ (known : Charsets) where
-  values-plain : (headers : List Header) → list_all (λ h. is_plain h.value) headers ≡ true → map (λ h. lenient_value_with known h.value) headers ≡ map (λ h. h.value) headers
+  values-plain : (headers : List Header) → list_all (λ h. is_plain h.value) headers ≡ true → map (λ h. lenient_value_in known h.value) headers ≡ map (λ h. h.value) headers
   values-plain [] plain = refl
   values-plain (h ∷ headers) plain =
       let both = and_parts (is_plain h.value) (list_all (λ x. is_plain x.value) headers) plain in
-      ap (λ (v : List ℕ). v ∷ map (λ x. lenient_value_with known x.value) headers) (lenient_value-plain_with known h.value both.0)
+      ap (λ (v : List ℕ). v ∷ map (λ x. lenient_value_in known x.value) headers) (lenient_value-plain_with known h.value both.0)
       ∙ ap (λ (vs : List (List ℕ)). h.value ∷ vs) (values-plain headers both.1)
 
   mutual

@@ -12,7 +12,7 @@ use Rattle.mail_codec.specs.Latin1.{latin1_text}
 use Rattle.mail_codec.specs.Places.{place, stands}
 use Rattle.mailparse.specs.Header.{Header}
 use Rattle.mailparse.specs.Map.{has_key}
-use Rattle.mailparse.specs.Value.{IsPlain, lenient_value_with, shown_value}
+use Rattle.mailparse.specs.Value.{IsPlain, lenient_value_in, shown_value}
 use Rattle.mailparse.specs.ContentType.{ContentType, content_type_in, default_type}
 use Rattle.mailparse.specs.Mail.{node_type, dash_boundary_of, is_digest}
 use Rattle.mailparse.proofs.lemmas.ValuePlain.{shown_value-plain}
@@ -58,7 +58,7 @@ IsPlain-from value plain =
 -- Under the charsets that are known.
 module _ (known : Charsets) where
   -- a plain value shows itself
-  pub lenient_value-plain_with : (value : List ℕ) → is_plain value ≡ true → lenient_value_with known value ≡ value
+  pub lenient_value-plain_with : (value : List ℕ) → is_plain value ≡ true → lenient_value_in known value ≡ value
   lenient_value-plain_with value plain =
       ap (shown_value known) (cond-true _ _ (latin1_text value) (is_utf8-from_IsUtf8 value (IsUtf8-from_ascii value (value_ascii value plain))))
       ∙ shown_value-plain known value (IsPlain-from value plain)
@@ -69,19 +69,19 @@ module _ (known : Charsets) where
   same_key h named = ap (λ (k : List ℕ). str_eq_ignore_ascii_case k (codes "Content-Type")) (encodes-IsAscii h.key (key_ascii h.key named))
 
   found_type : (none : ContentType) (headers : List Header) → list_all (λ h. is_key h.key) headers ≡ true → list_all (λ h. is_plain h.value) headers ≡ true
-      → option_map_or (λ h. content_type_in known (lenient_value_with known h.value)) (find (has_key (codes "Content-Type")) headers) none
+      → option_map_or (λ h. content_type_in known (lenient_value_in known h.value)) (find (has_key (codes "Content-Type")) headers) none
       ≡ option_map_or (λ h. content_type_in known h.value) (find has_type_key headers) none
   found_type none [] keys values = refl
   found_type none (h ∷ headers) keys values =
       let key = and_parts (is_key h.key) (list_all (λ x. is_key x.key) headers) keys in
       let value = and_parts (is_plain h.value) (list_all (λ x. is_plain x.value) headers) values in
-      ap (λ t. option_map_or (λ (x : Header). content_type_in known (lenient_value_with known x.value)) (cond t (Some h) (find (has_key (codes "Content-Type")) headers)) none) (same_key h key.0)
+      ap (λ t. option_map_or (λ (x : Header). content_type_in known (lenient_value_in known x.value)) (cond t (Some h) (find (has_key (codes "Content-Type")) headers)) none) (same_key h key.0)
       ∙ go (has_type_key h) (ap (content_type_in known) (lenient_value-plain_with h.value value.0)) (found_type none headers key.1 value.1)
     where
-      go : (t : Bool) → content_type_in known (lenient_value_with known h.value) ≡ content_type_in known h.value
-          → option_map_or (λ x. content_type_in known (lenient_value_with known x.value)) (find (has_key (codes "Content-Type")) headers) none
+      go : (t : Bool) → content_type_in known (lenient_value_in known h.value) ≡ content_type_in known h.value
+          → option_map_or (λ x. content_type_in known (lenient_value_in known x.value)) (find (has_key (codes "Content-Type")) headers) none
           ≡ option_map_or (λ x. content_type_in known x.value) (find has_type_key headers) none
-          → option_map_or (λ x. content_type_in known (lenient_value_with known x.value)) (cond t (Some h) (find (has_key (codes "Content-Type")) headers)) none
+          → option_map_or (λ x. content_type_in known (lenient_value_in known x.value)) (cond t (Some h) (find (has_key (codes "Content-Type")) headers)) none
           ≡ option_map_or (λ x. content_type_in known x.value) (cond t (Some h) (find has_type_key headers)) none
       go true here later = here
       go false here later = later
