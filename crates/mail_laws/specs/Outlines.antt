@@ -1,6 +1,6 @@
--- Outlines of messages: the bytes that they are written as, when they are well formed, and the messages that they stand for. The form is that of RFC 5322, section 2.1
--- (headers, a blank line, a body) and of RFC 2046, section 5.1.1 (a delimiter before each part, and the close-delimiter); which outlines are well formed is the project's own
--- rule. Places are counted from the first of the bytes.
+-- Outlines of messages: the bytes that they are written as, when they are well formed, and the messages that they stand for. The form
+-- is that of RFC 5322, section 2.1 (headers, a blank line, a body), and of RFC 2046, section 5.1.1 (a delimiter before each part, and the
+-- close-delimiter); which outlines are well formed is the project's own rule.
 use Rattle.std.specs.Prelude.{◌≡◌, ℕ, suc, max, Bool, true, false, ◌&&◌, ◌||◌, not, ◌==◌, nat_le, List, [], ◌∷◌, ◌++◌, Option, is_some, is_none, codes, find, flat_map}
 use Rattle.std.specs.Char.{is_ascii_alphanumeric, is_ascii_graphic}
 use Rattle.std.specs.List.{list_all}

@@ -64,17 +64,11 @@ fn is_header(
     header: &MailHeader<'_>,
 ) -> Result<bool, MailParseError> {
     let text = header.get_value(alloc)?;
-    Ok(header.get_key_raw() == key
-        && header.get_value_raw() == value
-        && text.as_bytes() == value)
+    Ok(header.get_key_raw() == key && header.get_value_raw() == value && text.as_bytes() == value)
 }
 
 /// Whether the body of a message stands as these bytes.
-fn has_body(
-    alloc: Global,
-    mail: &ParsedMail<'_>,
-    wanted: &[u8],
-) -> Result<bool, MailParseError> {
+fn has_body(alloc: Global, mail: &ParsedMail<'_>, wanted: &[u8]) -> Result<bool, MailParseError> {
     let body = mail.get_body_encoded(alloc)?;
     Ok(raw_of(&body) == wanted)
 }

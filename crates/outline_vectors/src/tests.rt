@@ -254,13 +254,21 @@ fn assert_reads_back(
 ) -> Result<(), MailParseError> {
     assert_judged(rt, alloc, outline, true)?;
     let bytes = render(alloc, outline)?;
-    assert!(*rt; reads_back(alloc, outline, bytes.as_slice(), depth)?, "{outline:?}");
+    assert!(*rt;
+        reads_back(alloc, outline, bytes.as_slice(), depth)?,
+        "{outline:?}"
+    );
     Ok(())
 }
 
 #[test]
 fn three_outlines_read_back(rt: HostRuntime) -> Result<(), Fail> {
-    let text = leaf(rt.alloc(), b"Subject", b"Hi", b"any bytes: \0\xFF\r\n\r\n--")?;
+    let text = leaf(
+        rt.alloc(),
+        b"Subject",
+        b"Hi",
+        b"any bytes: \0\xFF\r\n\r\n--",
+    )?;
     assert_reads_back(&rt, rt.alloc(), &text, 0)?;
     assert_reads_back(&rt, rt.alloc(), &branch_of(rt.alloc(), b"0", b"")?, 1)?;
     Ok(assert_reads_back(&rt, rt.alloc(), &letter(rt.alloc())?, 2)?)

@@ -65,6 +65,7 @@ plain_found (h ∷ headers) value all found =
   where
     same : ◌≡◌ {A = Option (List ℕ)} (Some h.value) (Some value) → h.value ≡ value
     same e = cc
+
     by_key : (v : Bool) → has_type_key h ≡ v → is_plain h.value ≡ true
         → (option_map (λ h. h.value) (type_header headers) ≡ Some value → is_plain value ≡ true) → is_plain value ≡ true
     by_key true e now later =
@@ -193,7 +194,7 @@ pub part_unclear : (boundary : List ℕ) (part : OutlineTree) (parts : List Outl
     → parts_well boundary (part ∷ parts) levels ≡ false
 part_unclear boundary part parts levels h =
     ap (λ v. ((v && hold_no_delimiter boundary (forest_of parts)) && are_well_formed_within (forest_of (part ∷ parts)))
-        && nat_le (depth_of_parts (forest_of (part ∷ parts))) levels) h
+    && nat_le (depth_of_parts (forest_of (part ∷ parts))) levels) h
 
 le_max : (a b n : ℕ) (v u : Bool) → nat_le a n ≡ v → nat_le b n ≡ u → nat_le (max a b) n ≡ v && u
 le_max a b n true true e f = le-leb (max a b) n (omega (arith, leb-true a n e, leb-true b n f))
@@ -211,9 +212,9 @@ part_and_others : (boundary : List ℕ) (part : OutlineTree) (parts : List Outli
 part_and_others boundary part parts levels v h clear e =
     let rest = nat_le (depth_of_parts (forest_of parts)) levels in
     ap (λ c. ((c && hold_no_delimiter boundary (forest_of parts)) && are_well_formed_within (forest_of (part ∷ parts)))
-        && nat_le (depth_of_parts (forest_of (part ∷ parts))) levels) clear
+    && nat_le (depth_of_parts (forest_of (part ∷ parts))) levels) clear
     ∙ ap (λ d. (hold_no_delimiter boundary (forest_of parts) && are_well_formed_within (forest_of (part ∷ parts))) && d)
-        (le_max (suc (depth part)) (depth_of_parts (forest_of parts)) levels (nat_le (depth part) (levels - 1)) rest (le_below (depth part) levels _ h refl) refl)
+    (le_max (suc (depth part)) (depth_of_parts (forest_of parts)) levels (nat_le (depth part) (levels - 1)) rest (le_below (depth part) levels _ h refl) refl)
     ∙ by_tests (hold_no_delimiter boundary (forest_of parts)) (is_well_formed_within part) (are_well_formed_within (forest_of parts)) (nat_le (depth part) (levels - 1)) rest
     ∙ ap (λ w. w && parts_well boundary parts levels) e
   where

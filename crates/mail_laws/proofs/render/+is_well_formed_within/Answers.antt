@@ -41,12 +41,12 @@ returns-then-not-branch-2 t c =
     let part = outline_tree c.part-item.result in
     let items = c.deref-part-items.result.now in
     let cut : drop c.loop-part.part-index items ≡ c.part-item.result ∷ drop (c.loop-part.part-index + 1) items =
-        drop_more items c.loop-part.part-index c.part-item.result c.loop-part-test.true
-        ∙ ap (λ (o : Outline). o ∷ drop (c.loop-part.part-index + 1) items) (sym c.part-item.is) in
+    drop_more items c.loop-part.part-index c.part-item.result c.loop-part-test.true
+    ∙ ap (λ (o : Outline). o ∷ drop (c.loop-part.part-index + 1) items) (sym c.part-item.is) in
     let clear =
-        ap (λ bs. not (holds_delimiter bs (rendered part))) (sym c.as_slice-in-loop-part.ensures.value)
-        ∙ ok_bool _ _ c.in_ok-is_clear-in-Branch.ensures ∙ c.if-not-branch.false in
+    ap (λ bs. not (holds_delimiter bs (rendered part))) (sym c.as_slice-in-loop-part.ensures.value)
+    ∙ ok_bool _ _ c.in_ok-is_clear-in-Branch.ensures ∙ c.if-not-branch.false in
     let fails = ok_bool _ _ c.in_ok-is_well_formed_within-in-Branch.ensures ∙ c.if-not-branch-2.true in
     ap (λ b. Ok b)
-        (c.loop-part.invariant ∙ ap (λ (os : List Outline). parts_well boundary (map outline_tree os) c.args.levels) cut
-        ∙ part_fails boundary part (map outline_tree (drop (c.loop-part.part-index + 1) items)) c.args.levels (omega (arith, c.if-levels-eq0.false)) clear fails)
+    (c.loop-part.invariant ∙ ap (λ (os : List Outline). parts_well boundary (map outline_tree os) c.args.levels) cut
+    ∙ part_fails boundary part (map outline_tree (drop (c.loop-part.part-index + 1) items)) c.args.levels (omega (arith, c.if-levels-eq0.false)) clear fails)

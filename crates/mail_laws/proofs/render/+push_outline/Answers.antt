@@ -14,7 +14,9 @@ returns-after-loop-part t c =
     let parts = c.in-Branch.parts.items in
     let all = take_all c.loop-part.part-index c.deref-part-items.result.now (omega (arith, c.loop-part-test.false)) ∙ c.deref-part-items.ensures.value in
     let before = c.loop-part.invariant ∙ ap (λ (os : List Outline). old ++ (header_block (headers_seen outline.headers) ++ flat_map (λ o. part_text boundary (outline_tree o)) os)) all in
-    record { written = on_ok_then c.push_delimiter-in-Branch.result c.push_delimiter-in-Branch.ensures.written (λ n.
-        parts_written old _ _ (header_block (headers_seen outline.headers)) boundary parts before
-            (n ∙ ap (λ (b : List ℕ). c.loop-part.bytes.items ++ (dash_boundary b ++ (codes "--" ++ crlf))) c.as_slice-in-Branch.ensures.value)
-        ∙ ap (λ t. old ++ rendered t) (sym (tree_branch outline c.in-Branch.boundary c.in-Branch.parts c.in-Branch.is))) }
+    record {
+      written = on_ok_then c.push_delimiter-in-Branch.result c.push_delimiter-in-Branch.ensures.written (λ n.
+          parts_written old _ _ (header_block (headers_seen outline.headers)) boundary parts before
+          (n ∙ ap (λ (b : List ℕ). c.loop-part.bytes.items ++ (dash_boundary b ++ (codes "--" ++ crlf))) c.as_slice-in-Branch.ensures.value)
+          ∙ ap (λ t. old ++ rendered t) (sym (tree_branch outline c.in-Branch.boundary c.in-Branch.parts c.in-Branch.is)));
+    }

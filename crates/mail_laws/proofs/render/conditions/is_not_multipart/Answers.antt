@@ -21,5 +21,5 @@ returns c =
     let mimetype = sym (mimetype_named c.in-Ok.text.now) ∙ mimetype_read _ _ c.in_ok-ctype.ensures in
     let starts : stands (codes "multipart") (string_bytes c.in_ok-ctype.ctype.mimetype) ≡ c.starts_with.result = search rules in
     ap (λ b. Ok b)
-        (by_value test true (type_header (headers_seen c.args.headers.now)) ∙ ap (λ o. option_map_or test o true) found ∙ ap test (sym text)
-        ∙ ap (λ m. not (stands (codes "multipart") m)) mimetype ∙ ap not starts)
+    (by_value test true (type_header (headers_seen c.args.headers.now)) ∙ ap (λ o. option_map_or test o true) found ∙ ap test (sym text)
+    ∙ ap (λ m. not (stands (codes "multipart") m)) mimetype ∙ ap not starts)
