@@ -5,7 +5,7 @@ use Rattle.std.specs.List.{flat_map, slice_split, onto_first, position_or_len, b
 use lib.Pointwise.{pointwise}
 use Rattle.std.proofs.Math.Bool.{and-true}
 use Rattle.std.proofs.lemmas.Bool.{cases_Bool}
-use Rattle.std.proofs.lemmas.List.{append-nil, append_assoc, drop-drop, take_all, length-drop}
+use Rattle.std.proofs.lemmas.List.{append-nil, append_assoc, drop-drop, drop_all, take_all, length-drop}
 use Rattle.std.proofs.lemmas.List.Splits.{slice_split_none, slice_split_first}
 use Rattle.std.proofs.lemmas.List.Sums.{fails_before_first}
 use Rattle.mail_codec.specs.Ascii.{is_blank}
@@ -82,6 +82,13 @@ split_some (x ∷ text) = elim (cases_Bool (is_lf x)) [
 pub quoted_printable-nil : quoted_printable [] ≡ []
 unfolding quoted_printable lines_of line_bytes unescaped
 quoted_printable-nil = refl
+
+-- at the end of a text nothing is left
+pub nothing_left : (text bytes : List ℕ) (at : ℕ) → length text ≤ at → bytes ++ quoted_printable (drop at text) ≡ bytes
+nothing_left text bytes at h =
+    ap (λ (x : List ℕ). bytes ++ quoted_printable x) (drop_all at text h)
+    ∙ ap (λ (x : List ℕ). bytes ++ x) quoted_printable-nil
+    ∙ append-nil bytes
 
 -- a text without LF is one line
 pub quoted_printable-last : (text : List ℕ) → position_or_len is_lf text ≡ length text

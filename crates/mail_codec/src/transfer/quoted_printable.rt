@@ -1,5 +1,5 @@
 //! Quoted-printable, over bytes (RFC 2045, section 6.7).
-ghost use Rattle.std.specs.Prelude.{◌≡◌, ◌==◌, ◌+◌, ◌<◌, ◌≤◌, ◌-◌, length, take, drop, slice_index, IfOk, OnSome, IfSome};
+ghost use Rattle.std.specs.Prelude.{◌≡◌, ◌==◌, ◌+◌, ◌<◌, ◌≤◌, ◌-◌, ◌++◌, length, take, drop, slice_index, IfOk, OnOk, OnSome, IfSome};
 ghost use Rattle.std.specs.List.{suffix_len};
 ghost use Rattle.mail_codec.specs.Ascii.{equals_sign, is_blank};
 ghost use Rattle.mail_codec.specs.Places.{begins, first_place};
@@ -11,6 +11,9 @@ use crate::vectors::LANES;
 use crate::vectors::marks::{equal_lanes, first_lane};
 use std::alloc::{AllocError, Global};
 use std::simd::prelude::*;
+
+/// How many bytes are read before they are appended; more than a line has by the rules of mail.
+const BUFFER: usize = 1024;
 
 /// What stands in the table for a byte that is no digit.
 const NO_DIGIT: u8 = 0xFF;
@@ -40,7 +43,7 @@ static DIGIT_VALUES: [u8; 256] = [
 /// Of each line the spaces and tabs at its end go, then a final `=` together with the line end,
 /// which is LF or CR LF; then each `=` with two hexadecimal digits of either case, from the left, is
 /// one byte. Every other byte stays, so no text is refused. Takes memory for the bytes, which is
-/// reserved at once.
+/// reserved at once; where a line is longer than a kilobyte, as much again on the way.
 ///
 /// # Errors
 ///
@@ -57,29 +60,79 @@ static DIGIT_VALUES: [u8; 256] = [
 pub fn decode_quoted_printable(alloc: Global, text: &[u8]) -> Result<Vec<u8>, AllocError>
     ensures { IfOk result (λ bytes. bytes.items ≡ quoted_printable text.now) }
 {
-    let mut bytes = vec![in alloc; 0u8; text.len()]?;
-    let len = put_lines(bytes.as_mut_slice(), text);
+    if text.len() <= BUFFER {
+        decode_at_once(alloc, text)
+    } else {
+        decode_by_buffers(alloc, text)
+    }
+}
+
+/// The same, by a list that is as long as the text at first.
+fn decode_at_once(alloc: Global, text: &[u8]) -> Result<Vec<u8>, AllocError>
+    ensures { IfOk result (λ bytes. bytes.items ≡ quoted_printable text.now) }
+{
+    let mut bytes = vec![in alloc; 0u8; text.len() + 1]?;
+    let (len, _end) = put_lines(bytes.as_mut_slice(), text, 0);
     bytes.truncate(len);
     Ok(bytes)
 }
 
-/// Writes the bytes that a text stands for at the front of `output`, and returns how many they are.
-/// Here and below, the bytes after them may be overwritten: no more are written than are read.
-fn put_lines(output: &mut [u8], text: &[u8]) -> usize
-    requires room { length text.now ≤ length output.old }
-    ensures { take result output.new ≡ quoted_printable text.now }
+/// The same, by as many lines at a time as a buffer has room for. From a line on for which it has
+/// none, the rest is read at once.
+fn decode_by_buffers(alloc: Global, text: &[u8]) -> Result<Vec<u8>, AllocError>
+    ensures { IfOk result (λ bytes. bytes.items ≡ quoted_printable text.now) }
+{
+    let mut bytes = Vec::with_capacity(alloc, text.len())?;
+    let mut buffer = [0u8; BUFFER];
+    let mut at = 0;
+    'buffers: while at < text.len() {
+        let (len, next) = put_lines(&mut buffer, text, at);
+        if next == at {
+            push_at_once(alloc, &mut bytes, &text[at..])?;
+            return Ok(bytes);
+        }
+        bytes.extend_from_slice(&buffer[..len])?;
+        at = next;
+    }
+    Ok(bytes)
+}
+
+/// Appends the bytes that a text stands for.
+fn push_at_once(alloc: Global, bytes: &mut Vec<u8>, text: &[u8]) -> Result<(), AllocError>
+    ensures { OnOk result (bytes.new.items ≡ bytes.old.items ++ quoted_printable text.now) }
+{
+    let rest = decode_at_once(alloc, text)?;
+    bytes.extend_from_slice(rest.as_slice())?;
+    Ok(())
+}
+
+/// Writes the bytes that the lines of a text from a place on stand for at the front of `output`, as
+/// far as there is room for a line and its end. Returns how many bytes they are, and where the text
+/// goes on. Here and below, the bytes after them may be overwritten: no more are written than are read.
+fn put_lines(output: &mut [u8], text: &[u8], from: usize) -> (usize, usize)
+    requires within { from ≤ length text.now }
+    ensures within { result.1 ≤ length text.now }
+    ensures after { from ≤ result.1 }
+    ensures written { result.0 ≤ length output.old }
+    ensures whole { length text.now - from < length output.old → result.1 ≡ length text.now }
+    ensures read { take result.0 output.new ++ quoted_printable (drop result.1 text.now)
+        ≡ quoted_printable (drop from text.now) }
 {
     let mut len = 0;
-    let mut at = 0;
+    let mut at = from;
     'lines: while at < text.len() {
         let line = at + run_len(&text[at..], RunEnd::Byte(b'\n'));
+        if line - at >= output.len() - len {
+            return (len, at);
+        }
         if line == text.len() {
-            return len + put_line(&mut output[len..], &text[at..line], b"");
+            len += put_line(&mut output[len..], &text[at..line], b"");
+            return (len, line);
         }
         len += put_ended_line(&mut output[len..], &text[at..line]);
         at = line + 1;
     }
-    len
+    (len, at)
 }
 
 /// Writes the bytes of a line whose LF follows the piece: a CR at its end is part of the line end.
