@@ -158,12 +158,13 @@ def sources_of(sources):
     made += ["    %s," % name for name in names]
     made += ["];", "", "\n\n".join(constants), ""]
     listed = ["//! What other sources give, made by `tools/make_tables.py`; do not edit it.", ""]
-    listed += ["/// The bytes 80 to FF in each encoding, as Python's codecs read them. Where these have none or"]
-    listed += ["/// another character than the standard, which the script names, it is that of the standard."]
-    listed += ["pub(crate) static TEXTS: [&str; %d] = [" % len(tests)]
-    for codes in tests:
+    listed += ["/// Each table's number, and the bytes 80 to FF as Python's codecs read them. Where these have none"]
+    listed += ["/// or another character than the standard, which the script names, it is that of the standard."]
+    listed += ["pub(crate) static TEXTS: [(usize, &str); %d] = [" % len(tests)]
+    for number, codes in enumerate(tests):
         rows = ["".join("\\u{%04X}" % code for code in codes[at:at + 8]) for at in range(0, 128, 8)]
-        listed += ['    "' + "\\\n     ".join(rows) + '",']
+        text = "\\\n         ".join(rows)
+        listed += ["    (", "        %d," % number, '        "%s",' % text, "    ),"]
     listed += ["];", ""]
     rows = tested_labels(sources)
     listed += ["/// Each label with the number of its table, as the tests of encoding_rs list them."]
