@@ -1,10 +1,10 @@
 -- Lemmas on the names of transfer codings.
-use Rattle.std.proofs.Common.{◌≡◌, ℕ, Bool, true, false, List, Option, Some, None, refl, sym, ap, ◌∙◌, inl, inr}
+use Rattle.std.proofs.Common.{◌≡◌, ℕ, true, false, List, Option, Some, None, refl, sym, ap, ◌∙◌, inl, inr}
 use Rattle.std.specs.Prelude.{codes, option_map}
 use Rattle.std.specs.Str.{bytes_eq, str_to_ascii_lowercase}
 use Rattle.std.proofs.lemmas.Bool.{cond-false, cases_Bool}
 use Rattle.std.proofs.lemmas.Slice.Eq.{bytes_eq-Decides}
-use Rattle.mailparse.specs.Body.{BodyKind, in_7bit, kind_named}
+use Rattle.mailparse.specs.Body.{in_7bit, kind_named}
 use Rattle.mailparse.specs.Map.{first_value}
 use Rattle.mailparse.specs.Mail.{Node, body_kind}
 use Rattle.mail_data.specs.LooseCoding.{name_at, loose_kind, loose_body_kind}
