@@ -3,7 +3,6 @@ use Rattle.std.specs.Prelude.{ℕ, ◌+◌, ◌*◌, ◌/◌, ◌%◌, ◌==◌,
 use Rattle.std.specs.Option.{is_some}
 use Rattle.std.specs.Simd.Lanes.{mask_l}
 use Rattle.mail_codec.specs.Base64.{letter_value, group_bytes}
-use Rattle.mail_codec.specs.declared.vectors.letters.TheConstants.{HIGH_FAULTS, LOW_FAULTS, ROLLS}
 
 -- A bit for each lane, which is 1 where the lane passes the test; the lowest is that of the first.
 abbrev pub lane_mask : (ℕ → Bool) → List ℕ → ℕ
@@ -13,9 +12,16 @@ lane_mask test lanes = mask_l (map test lanes)
 abbrev pub is_letter : ℕ → Bool
 is_letter b = is_some (letter_value b)
 
+-- What may be wrong with a byte, by its upper half and by its lower half.
+abbrev pub upper_faults : List ℕ
+upper_faults = 16 ∷ 16 ∷ 1 ∷ 2 ∷ 4 ∷ 8 ∷ 4 ∷ 8 ∷ 16 ∷ 16 ∷ 16 ∷ 16 ∷ 16 ∷ 16 ∷ 16 ∷ 16 ∷ []
+
+abbrev pub lower_faults : List ℕ
+lower_faults = 21 ∷ 17 ∷ 17 ∷ 17 ∷ 17 ∷ 17 ∷ 17 ∷ 17 ∷ 17 ∷ 17 ∷ 19 ∷ 26 ∷ 27 ∷ 27 ∷ 27 ∷ 26 ∷ []
+
 -- What is wrong with a byte by both of its halves; 0 for letters alone.
 abbrev pub fault_of : ℕ → ℕ
-fault_of b = bit_and (slice_index HIGH_FAULTS (b / 16)) (slice_index LOW_FAULTS (bit_and b 15))
+fault_of b = bit_and (slice_index upper_faults (b / 16)) (slice_index lower_faults (bit_and b 15))
 
 -- 255, which is one less than nothing, at `/`.
 abbrev pub slash_mark : ℕ → ℕ
@@ -25,8 +31,12 @@ slash_mark b = if b == 47 then 255 else 0
 abbrev pub roll_place : ℕ → ℕ
 roll_place b = (b / 16 + slash_mark b) % 256
 
+-- What is added to a letter, by its place.
+abbrev pub additions : List ℕ
+additions = 0 ∷ 16 ∷ 19 ∷ 4 ∷ 191 ∷ 191 ∷ 185 ∷ 185 ∷ 0 ∷ 0 ∷ 0 ∷ 0 ∷ 0 ∷ 0 ∷ 0 ∷ 0 ∷ []
+
 abbrev pub roll_of : ℕ → ℕ
-roll_of b = slice_index ROLLS (roll_place b)
+roll_of b = slice_index additions (roll_place b)
 
 -- The value of a letter.
 abbrev pub value_of : ℕ → ℕ

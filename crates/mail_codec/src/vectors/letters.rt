@@ -2,7 +2,7 @@
 ghost use Rattle.std.specs.Prelude.{◌≡◌, ℕ, Some, ◌+◌, ◌*◌, ◌/◌, ◌^◌, ◌<◌, ◌≤◌, length, map, slice_index, bit_and};
 ghost use Rattle.std.specs.List.{prefix_len};
 ghost use Rattle.mail_codec.specs.Base64.{group_number};
-ghost use Rattle.mail_codec.specs.private.Vectors.{fault_of, group_of, is_letter, roll_of, roll_place, slash_mark, three_at, value_of};
+ghost use Rattle.mail_codec.specs.private.Vectors.{fault_of, group_of, is_letter, lower_faults, roll_of, roll_place, slash_mark, three_at, upper_faults, value_of};
 
 use super::LANES;
 use std::simd::prelude::*;
@@ -63,14 +63,14 @@ fn faults(bytes: u8x16) -> u8x16
 
 #[inline(always)]
 fn high_faults(bytes: u8x16) -> u8x16
-    ensures { result ≡ map (λ b. slice_index HIGH_FAULTS (b / 16)) bytes }
+    ensures { result ≡ map (λ b. slice_index upper_faults (b / 16)) bytes }
 {
     u8x16::from_array(HIGH_FAULTS).swizzle_dyn(bytes >> u8x16::splat(4))
 }
 
 #[inline(always)]
 fn low_faults(bytes: u8x16) -> u8x16
-    ensures { result ≡ map (λ b. slice_index LOW_FAULTS (bit_and b 15)) bytes }
+    ensures { result ≡ map (λ b. slice_index lower_faults (bit_and b 15)) bytes }
 {
     u8x16::from_array(LOW_FAULTS).swizzle_dyn(bytes & u8x16::splat(15))
 }
