@@ -114,8 +114,8 @@ fn numbers(values: u8x16) -> u32x4
     ensures lanes { (k : ℕ) → k < 4 → slice_index values (4 * k + 2) < 64
         → slice_index values (4 * k + 3) < 64
         → slice_index result k ≡ group_number (slice_index values (4 * k))
-            (slice_index values (4 * k + 1)) (slice_index values (4 * k + 2))
-            (slice_index values (4 * k + 3)) }
+        (slice_index values (4 * k + 1)) (slice_index values (4 * k + 2))
+        (slice_index values (4 * k + 3)) }
 {
     let first = values.dot4(u8x16::from_array(FIRST_PAIR));
     let last = values.dot4(u8x16::from_array(LAST_PAIR));

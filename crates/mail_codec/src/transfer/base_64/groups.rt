@@ -29,7 +29,7 @@ pub(crate) fn put_groups(
     ensures written { 3 * result.0 ≤ length output.old }
     ensures read { (n : ℕ) → groups_from n (without_ends absent (drop from text.now))
         ≡ prepend (take (3 * result.0) output.new)
-            (groups_from (n + result.0) (without_ends absent (drop result.1 text.now))) }
+        (groups_from (n + result.0) (without_ends absent (drop result.1 text.now))) }
 {
     let mut count = 0;
     let mut at = from;
@@ -108,7 +108,7 @@ fn put_next_group(
     ensures later { IfSome result (λ next. at + 4 ≤ next) }
     ensures read { IfSome result (λ next. (n : ℕ) → groups_from n (without_ends absent (drop at text.now))
         ≡ prepend (take 3 (drop place output.new))
-            (groups_from (n + 1) (without_ends absent (drop next text.now)))) }
+        (groups_from (n + 1) (without_ends absent (drop next text.now)))) }
 {
     let (group, next) = next_four(text, at, absent)?;
     let [p, q, r, s] = group;
