@@ -59,6 +59,7 @@ IsPlain-from value plain =
 module _ (known : Charsets) where
   -- a plain value shows itself
   pub lenient_value-plain_with : (value : List ℕ) → is_plain value ≡ true → lenient_value_in known value ≡ value
+  unfolding lenient_value_in shown_value
   lenient_value-plain_with value plain =
       ap (shown_value known) (cond-true _ _ (latin1_text value) (is_utf8-from_IsUtf8 value (IsUtf8-from_ascii value (value_ascii value plain))))
       ∙ shown_value-plain known value (IsPlain-from value plain)
