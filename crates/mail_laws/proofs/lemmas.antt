@@ -10,3 +10,7 @@ pub mod IdGrammar
 pub mod CharsetSources
 pub mod Escapes
 pub mod Levels
+pub mod EncodedValues
+pub mod EncodedValuesCut
+pub mod EncodedValuesWord
+pub mod EncodedValuesRead
