@@ -152,15 +152,15 @@ module _ (text old written rest next : List ℕ) (start end c len : ℕ) (now : 
 -- ---- the end
 
 pub cutting_ends : (text old written rest new : List ℕ) (start end : ℕ) → Cutting text old written start end rest → rest ≡ []
-    → new ≡ written ++ (codes "=?utf-8?B?" ++ (letters (take (length text - start) (drop start text)) ++ codes "?="))
+    → new ≡ written ++ (codes "=?utf-8?B?" ++ (letters (drop start text) ++ codes "?="))
     → new ≡ old ++ word_lines (words_of (chars text))
 cutting_ends text old written rest new start end now none n =
     let a = length-drop end text in
     let b : length (drop end text) ≡ 0 = ap length (now.rest_is ∙ none) in
     let w = now.within in
-    let all : end ≡ length text = omega arith in
-    n ∙ ap (λ k. written ++ (codes "=?utf-8?B?" ++ (letters (take (k - start) (drop start text)) ++ codes "?="))) (sym all)
-    ∙ ap (λ b. written ++ (codes "=?utf-8?B?" ++ (letters b ++ codes "?="))) (sym now.word_is)
+    let len = length-drop start text in
+    let all : encode_utf8_all now.word ≡ drop start text = now.word_is ∙ take_all (end - start) (drop start text) (omega arith) in
+    n ∙ ap (λ b. written ++ (codes "=?utf-8?B?" ++ (letters b ++ codes "?="))) (sym all)
     ∙ ap (λ cs. written ++ word_lines (words_after now.word cs)) (sym (ap chars none ∙ chars-nil))
     ∙ now.lines
 

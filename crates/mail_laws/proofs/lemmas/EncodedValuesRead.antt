@@ -150,6 +150,10 @@ first_of_more : (x : List ℕ) (ps : List (List ℕ)) → ps ≢ [] → lines_of
 first_of_more x [] some = absurd (some refl)
 first_of_more x (p ∷ ps) some = refl
 
+-- an encoded word without its first byte
+abbrev tail_of : List ℕ → List ℕ
+tail_of w = codes "?utf-8?B?" ++ (letters (encode_utf8_all w) ++ codes "?=")
+
 -- the line of a word, and those after it, which begin with a space
 abbrev folded : List (List ℕ) → List (List ℕ)
 folded ws = map (λ w. 32 ∷ encoded_word w) ws
@@ -158,7 +162,7 @@ lines_are : (front w : List ℕ) (ws : List (List ℕ)) → NoFeed front → Are
     → lines (front ++ word_lines (w ∷ ws)) ≡ (front ++ encoded_word w) ∷ folded ws
 lines_are front w [] clear h =
     let some = length-append front (encoded_word w) in
-    ap lines_of_parts (split_none (front ++ encoded_word w) (NoFeed-append front (encoded_word w) clear (visible_no_feed _ (word_visible w h.0))))
+    ap lines_of_parts (split_none (front ++ encoded_word w) (NoFeed-append front (encoded_word w) clear (visible_no_feed (encoded_word w) (word_visible w h.0))))
     ∙ cond-false _ _ _ (ne_eqb (length (front ++ encoded_word w)) 0 (λ (e : length (front ++ encoded_word w) ≡ 0). absurd (omega arith)))
 lines_are front w (v ∷ ws) clear h =
     let line : List ℕ = front ++ encoded_word w in
@@ -166,7 +170,7 @@ lines_are front w (v ∷ ws) clear h =
     let whole : front ++ word_lines (w ∷ v ∷ ws) ≡ (line ++ 13 ∷ []) ++ 10 ∷ rest =
         sym (append_assoc line (13 ∷ []) (10 ∷ rest) ∙ append_assoc front (encoded_word w) (13 ∷ 10 ∷ rest)) in
     let here : NoFeed (line ++ 13 ∷ []) =
-        NoFeed-append line (13 ∷ []) (NoFeed-append front (encoded_word w) clear (visible_no_feed _ (word_visible w h.0)))
+        NoFeed-append line (13 ∷ []) (NoFeed-append front (encoded_word w) clear (visible_no_feed (encoded_word w) (word_visible w h.0)))
         ((λ (e : ◌≡◌ {A = ℕ} 13 10). absurd (omega arith)), tt) in
     ap lines whole
     ∙ ap lines_of_parts (split_at (line ++ 13 ∷ []) rest here)
@@ -192,13 +196,13 @@ trim_space xs h =
 trimmed_folded : (ws : List (List ℕ)) → AreTexts ws → map trim_start (folded ws) ≡ map encoded_word ws
 trimmed_folded [] h = refl
 trimmed_folded (w ∷ ws) h =
-    ap (λ l. l ∷ map trim_start (folded ws)) (trim_space _ (visible_ascii (encoded_word w) (word_visible w h.0)))
+    ap (λ l. l ∷ map trim_start (folded ws)) (trim_space (tail_of w) (visible_ascii (encoded_word w) (word_visible w h.0)))
     ∙ ap (λ ls. encoded_word w ∷ ls) (trimmed_folded ws h.1)
 
 trimmed_lines : (w : List ℕ) (ws : List (List ℕ)) → AreTexts (w ∷ ws) → map trim_start (lines (word_lines (w ∷ ws))) ≡ map encoded_word (w ∷ ws)
 trimmed_lines w ws h =
     ap (map trim_start) (lines_are [] w ws tt h)
-    ∙ ap (λ l. l ∷ map trim_start (folded ws)) (trim_none _ (visible_ascii (encoded_word w) (word_visible w h.0)))
+    ∙ ap (λ l. l ∷ map trim_start (folded ws)) (trim_none (tail_of w) (visible_ascii (encoded_word w) (word_visible w h.0)))
     ∙ ap (λ ls. encoded_word w ∷ ls) (trimmed_folded ws h.1)
 
 -- ---- the tokens, and what they show
