@@ -1,5 +1,5 @@
 -- A text that is cut into words character by character, and written as it is cut.
-use Rattle.std.proofs.Common.{◌≡◌, ◌≢◌, ℕ, ◌+◌, ◌-◌, ◌<◌, ◌≤◌, Bool, true, false, cond, List, [], ◌∷◌, ◌++◌, length, take, drop, Result, Ok, Err, OnOk, refl, sym, ap, subst, ◌∙◌, arith, append_assoc, length-append, length-drop, take-add}
+use Rattle.std.proofs.Common.{◌≡◌, ℕ, ◌+◌, ◌-◌, ◌<◌, ◌≤◌, Bool, true, false, cond, List, [], ◌∷◌, ◌++◌, length, take, drop, Result, Ok, Err, OnOk, refl, sym, ap, subst, ◌∙◌, arith, append_assoc, length-append, length-drop, take-add}
 use Rattle.std.specs.Prelude.{nat_le, encode_utf8_all, codes}
 use Rattle.std.specs.Char.{encode_utf8, len_utf8}
 use Rattle.std.specs.Str.{chars, IsUtf8, IsCharBoundary}
@@ -138,15 +138,15 @@ module _ (text old written rest next : List ℕ) (start end c len : ℕ) (now : 
     word = c ∷ [];
     word_is = let none : 0 ≡ end - end = omega arith in word_next end (omega arith) [] (ap (λ k. take k (drop end text)) none);
     lines =
-      let here : middle ≡ written ++ encoded_word now.word = m ∙ ap (λ b. written ++ (codes "=?utf-8?B?" ++ (letters b ++ codes "?="))) (sym now.word_is) in
-      let more : List ℕ = word_lines (words_after (c ∷ []) (chars next)) in
-      ap (λ w. w ++ more) (n ∙ ap (λ w. w ++ 13 ∷ 10 ∷ 32 ∷ []) here)
-      ∙ append_assoc (written ++ encoded_word now.word) (13 ∷ 10 ∷ 32 ∷ []) more
-      ∙ append_assoc written (encoded_word now.word) (13 ∷ 10 ∷ 32 ∷ more)
-      ∙ ap (λ r. written ++ r) (sym (lines_more now.word (c ∷ []) (chars next)))
-      ∙ ap (λ ws. written ++ word_lines ws)
-          (sym (ap (words_after now.word) chars_here ∙ cond-false _ _ _ (lt-leb (size (now.word ++ c ∷ [])) most (let s = size_next in omega arith))))
-      ∙ now.lines;
+        let here : middle ≡ written ++ encoded_word now.word = m ∙ ap (λ b. written ++ (codes "=?utf-8?B?" ++ (letters b ++ codes "?="))) (sym now.word_is) in
+        let more : List ℕ = word_lines (words_after (c ∷ []) (chars next)) in
+        ap (λ w. w ++ more) (n ∙ ap (λ w. w ++ 13 ∷ 10 ∷ 32 ∷ []) here)
+        ∙ append_assoc (written ++ encoded_word now.word) (13 ∷ 10 ∷ 32 ∷ []) more
+        ∙ append_assoc written (encoded_word now.word) (13 ∷ 10 ∷ 32 ∷ more)
+        ∙ ap (λ r. written ++ r) (sym (lines_more now.word (c ∷ []) (chars next)))
+        ∙ ap (λ ws. written ++ word_lines ws)
+        (sym (ap (words_after now.word) chars_here ∙ cond-false _ _ _ (lt-leb (size (now.word ++ c ∷ [])) most (let s = size_next in omega arith))))
+        ∙ now.lines;
   }
 
 -- ---- the end

@@ -1,22 +1,22 @@
 -- A written value reads back: its lines are its encoded words, and what shows are their characters.
-use Rattle.std.proofs.Common.{◌≡◌, ◌≢◌, ◌⊎◌, inl, inr, ℕ, zero, suc, ◌+◌, ◌-◌, ◌*◌, ◌/◌, ◌%◌, ◌<◌, ◌≤◌, Bool, true, false, not, cond, eqb, ◌&&◌, ◌||◌, List, [], ◌∷◌, ◌++◌, length, map, take, drop, get_or, Option, Some, None, refl, sym, ap, subst, ◌∙◌, ⊎_elim, arith, append_assoc, length-append}
+use Rattle.std.proofs.Common.{◌≡◌, ◌≢◌, ◌⊎◌, inl, inr, ℕ, zero, suc, ◌-◌, ◌<◌, ◌≤◌, Bool, true, false, cond, eqb, ◌&&◌, List, [], ◌∷◌, ◌++◌, length, map, take, get_or, Some, None, refl, sym, ap, subst, ◌∙◌, ⊎_elim, arith, append_assoc, length-append}
 use Rattle.std.specs.Prelude.{codes, nat_lt, encode_utf8_all, flat_map, is_none}
-use Rattle.std.specs.Char.{encode_utf8, is_whitespace}
+use Rattle.std.specs.Char.{encode_utf8}
 use Rattle.std.specs.List.{list_all, slice_split, onto_first}
 use Rattle.std.specs.Str.{chars, trim_start, skip_leading_whitespace, IsAscii, IsUtf8}
 use Rattle.std.specs.Str.Lines.{lines, lines_of_parts, strip_carriage_return}
 use Rattle.std.proofs.lemmas.Bool.{cond-true, cond-false, and_parts, cases_lt, false≢true, ltb-true, ltb-false, ne_eqb, eq-eqb, not-true}
 use Rattle.std.proofs.lemmas.Bool.Decides.{nat_tests}
 use Rattle.std.proofs.lemmas.List.{take_all, take-append-le, drop_all}
-use Rattle.std.proofs.lemmas.List.Splits.{slice_split-cons_yes, slice_split-cons_no}
-use Rattle.std.proofs.lemmas.Str.{chars-IsAscii, encodes-IsAscii, encodes-append, encodes-chars, scalars-chars, IsAscii-append, IsUtf8-from_ascii, encode_ascii}
+use Rattle.std.proofs.lemmas.List.Splits.{slice_split-cons_no}
+use Rattle.std.proofs.lemmas.Str.{chars-IsAscii, encodes-IsAscii, encodes-chars, scalars-chars, IsAscii-append, IsUtf8-from_ascii, encode_ascii}
 use Rattle.std.proofs.lemmas.Str.Ascii.{IsAscii-nil, IsAscii-cons}
 use Rattle.base64.specs.GeneralPurpose.{IsBytes}
 use Rattle.mail_codec.specs.Charset.{four_charsets}
-use Rattle.mail_codec.specs.Places.{first_place, stands, text_place}
+use Rattle.mail_codec.specs.Places.{first_place, stands}
 use Rattle.mail_codec.proofs.lemmas.CharsetUtf8.{encode_two, encode_three, encode_four}
-use Rattle.mail_codec.proofs.lemmas.Places.{first_place-≤, first_place-before}
-use Rattle.mailparse.specs.Tokens.{TokenKind, line_end, whitespace, decoded_word, is_all_whitespace}
+use Rattle.mail_codec.proofs.lemmas.Places.{first_place-before}
+use Rattle.mailparse.specs.Tokens.{whitespace, decoded_word}
 use Rattle.mailparse.specs.Value.{IsPlain, Token, is_released, kinds, lenient_value, line_tokens, newline, shown_after, shown_tokens, shown_value, tokens_of_lines, value_tokens}
 use Rattle.mailparse.proofs.lemmas.EncodedWord.{split_some}
 use Rattle.mailparse.proofs.lemmas.Value.{lenient-utf8}
@@ -24,7 +24,7 @@ use Rattle.mailparse.proofs.lemmas.ValuePlain.{lenient_value-plain}
 use Rattle.mail_laws.specs.EncodedValues.{AreWords, no_word, next_word, encoded_word, is_plain_byte, is_plain_value, letters, word_lines, words_of, written_value}
 use Rattle.mail_laws.specs.WordTokens.{word, whitespace_token}
 use Rattle.mail_laws.proofs.lemmas.EncodedValues.{words_fit, words_join}
-use Rattle.mail_laws.proofs.lemmas.EncodedValuesWord.{AreLetters, IsLetter, around, encoded_word-tokens, letters_are}
+use Rattle.mail_laws.proofs.lemmas.EncodedValuesWord.{AreLetters, around, encoded_word-tokens, letters_are}
 use lib.Utf8.{scalar, scalars, scalar_cases}
 
 -- ---- the bytes of characters
@@ -106,9 +106,37 @@ visible b h =
     (omega arith, omega arith)
 
 word_visible : (w : List ℕ) → scalars w ≡ true → AreVisible (encoded_word w)
-word_visible w h =
-    (visible 61 refl, (visible 63 refl, (visible 117 refl, (visible 116 refl, (visible 102 refl, (visible 45 refl, (visible 56 refl, (visible 63 refl, (visible 66 refl, (visible 63 refl, 
-     letters_visible (letters (encode_utf8_all w)) (codes "?=") (letters_are (encode_utf8_all w) (word_bytes_are w h)) (visible 63 refl, (visible 61 refl, tt))))))))))))
+word_visible w h = (
+  visible 61 refl,
+  (
+    visible 63 refl,
+    (
+      visible 117 refl,
+      (
+        visible 116 refl,
+        (
+          visible 102 refl,
+          (
+            visible 45 refl,
+            (
+              visible 56 refl,
+              (
+                visible 63 refl,
+                (
+                  visible 66 refl,
+                  (
+                    visible 63 refl,
+                    letters_visible (letters (encode_utf8_all w)) (codes "?=") (letters_are (encode_utf8_all w) (word_bytes_are w h)) (visible 63 refl, (visible 61 refl, tt)),
+                  ),
+                ),
+              ),
+            ),
+          ),
+        ),
+      ),
+    ),
+  ),
+)
 
 -- ---- the lines of a value
 
@@ -168,10 +196,10 @@ lines_are front w (v ∷ ws) clear h =
     let line : List ℕ = front ++ encoded_word w in
     let rest : List ℕ = 32 ∷ word_lines (v ∷ ws) in
     let whole : front ++ word_lines (w ∷ v ∷ ws) ≡ (line ++ 13 ∷ []) ++ 10 ∷ rest =
-        sym (append_assoc line (13 ∷ []) (10 ∷ rest) ∙ append_assoc front (encoded_word w) (13 ∷ 10 ∷ rest)) in
+    sym (append_assoc line (13 ∷ []) (10 ∷ rest) ∙ append_assoc front (encoded_word w) (13 ∷ 10 ∷ rest)) in
     let here : NoFeed (line ++ 13 ∷ []) =
-        NoFeed-append line (13 ∷ []) (NoFeed-append front (encoded_word w) clear (visible_no_feed (encoded_word w) (word_visible w h.0)))
-        ((λ (e : ◌≡◌ {A = ℕ} 13 10). absurd (omega arith)), tt) in
+    NoFeed-append line (13 ∷ []) (NoFeed-append front (encoded_word w) clear (visible_no_feed (encoded_word w) (word_visible w h.0)))
+    ((λ (e : ◌≡◌ {A = ℕ} 13 10). absurd (omega arith)), tt) in
     ap lines whole
     ∙ ap lines_of_parts (split_at (line ++ 13 ∷ []) rest here)
     ∙ first_of_more (line ++ 13 ∷ []) (pieces rest) (split_some (λ b. eqb b 10) rest)

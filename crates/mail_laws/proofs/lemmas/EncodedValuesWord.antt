@@ -1,7 +1,6 @@
 -- An encoded word alone on its line is one decoded word, of its characters.
-use Rattle.std.proofs.Common.{◌≡◌, ◌≢◌, ℕ, zero, suc, ◌+◌, ◌-◌, ◌*◌, ◌/◌, ◌%◌, ◌<◌, ◌≤◌, Bool, true, false, not, cond, eqb, ◌&&◌, List, [], ◌∷◌, ◌++◌, length, map, take, drop, get_or, Option, Some, None, is_some, Ok, refl, sym, ap, subst, ◌∙◌, arith, length-append}
-use Rattle.std.specs.Prelude.{codes, nat_lt, encode_utf8_all, slice_range, unwrap_or}
-use Rattle.std.specs.Char.{encode_utf8}
+use Rattle.std.proofs.Common.{◌≡◌, ◌≢◌, ℕ, suc, ◌+◌, ◌-◌, ◌*◌, ◌/◌, ◌%◌, ◌<◌, ◌≤◌, Bool, true, not, cond, eqb, ◌&&◌, List, [], ◌∷◌, ◌++◌, length, map, take, drop, Some, is_some, refl, sym, ap, subst, ◌∙◌, arith, length-append}
+use Rattle.std.specs.Prelude.{codes, nat_lt, unwrap_or}
 use Rattle.std.specs.Str.{chars, IsUtf8}
 use Rattle.std.specs.Result.{result_ok}
 use Rattle.std.proofs.lemmas.Bool.{and_left, and_parts, ltb-true, not-true, eqb-false, ne_eqb, or_from}
@@ -15,12 +14,12 @@ use Rattle.base64.proofs.EngineFacts.{encode-append}
 use Rattle.mail_codec.specs.Base64.{alphabet, letter, padding, base64, groups_from, without_line_ends}
 use Rattle.mail_codec.specs.Charset.{Charsets, charset_of_label, four_charsets, is_among_labels, text_of}
 use Rattle.mail_codec.specs.declared.charset.Charset.TheVariants.{Utf8}
-use Rattle.mail_codec.specs.Places.{first_place, stands}
+use Rattle.mail_codec.specs.Places.{first_place}
 use Rattle.mail_codec.proofs.lemmas.Base64Engine.{groups_from-encode}
 use Rattle.mail_codec.proofs.lemmas.Base64Letters.{letter_no_padding}
 use Rattle.mail_codec.proofs.lemmas.Places.{first_place-past}
 use Rattle.mailparse.specs.EncodedWord.{encoded_bytes, word_text}
-use Rattle.mailparse.specs.Tokens.{begins_opening, begins_closing, boundary_before, closing, decodes, inside, last_group, next_group, no_opening, opening, outside_range, token_ranges, word_range, AreTokens}
+use Rattle.mailparse.specs.Tokens.{begins_opening, begins_closing, boundary_before, closing, decodes, inside, last_group, next_group, no_opening, opening, outside_range, word_range, AreTokens}
 use Rattle.mailparse.specs.Value.{Token, line_tokens, outside_token, token_of}
 use Rattle.mailparse.proofs.lemmas.EncodedWord.{four_some, word_whole}
 use Rattle.mailparse.proofs.lemmas.Shown.{token_of-outside}
@@ -82,9 +81,19 @@ letters_are (a ∷ b ∷ c ∷ rest) h =
     let ha : a < 256 = h 0 in
     let hb : b < 256 = h 1 in
     let hc : c < 256 = h 2 in
-    subst AreLetters (sym (letters_three a b c rest))
-    (letter_is (a / 4) (omega arith), (letter_is (a % 4 * 16 + b / 16) (omega arith), (letter_is (b % 16 * 4 + c / 64) (omega arith), (letter_is (c % 64) (omega arith),
-     letters_are rest (λ i. h (suc (suc (suc i))))))))
+    subst AreLetters (sym (letters_three a b c rest)) (
+      letter_is (a / 4) (omega arith),
+      (
+        letter_is (a % 4 * 16 + b / 16) (omega arith),
+        (
+          letter_is (b % 16 * 4 + c / 64) (omega arith),
+          (
+            letter_is (c % 64) (omega arith),
+            letters_are rest (λ i. h (suc (suc (suc i)))),
+          ),
+        ),
+      ),
+    )
 
 pub letters_begin : (bytes : List ℕ) → IsBytes bytes → BeginsUnpadded (letters bytes)
 unfolding encode_symbols
@@ -149,7 +158,7 @@ closing_at : (ls : List ℕ) → AreLetters ls → BeginsUnpadded ls → closing
 closing_at ls h u =
     let m = closing_at_mark ls h u in
     let seven : first_place begins_closing (codes "utf-8?B?" ++ (ls ++ codes "?=")) ≡ suc (suc (suc (suc (suc (suc (suc (first_place begins_closing (63 ∷ ls ++ codes "?="))))))))
-        = refl in
+    = refl in
     omega (arith, m, seven)
 
 opening_at : (ls : List ℕ) → opening (line_of ls) 0 ≡ 0

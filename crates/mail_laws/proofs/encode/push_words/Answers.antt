@@ -25,7 +25,7 @@ loop-c-preserved c =
 pub returns : goal.returns
 returns c = record {
   written = on_ok c.push_word-2.result
-    (λ n. cutting_ends c.args.text.now (string_bytes c.args.written.now) (string_bytes c.loop-c.written) c.loop-c.c-iterator.rest.now (string_bytes c.push_word-2.new.written)
+      (λ n. cutting_ends c.args.text.now (string_bytes c.args.written.now) (string_bytes c.loop-c.written) c.loop-c.c-iterator.rest.now (string_bytes c.push_word-2.new.written)
       c.loop-c.start c.loop-c.end c.loop-c.invariant (nil_from_length _ c.in-None.ensures.steps.0.0) (word_at _ _ _ _ c.range_from.ensures.value n))
-    c.push_word-2.ensures.written;
+      c.push_word-2.ensures.written;
 }
