@@ -19,3 +19,7 @@ pub mod OutlineHeaders
 pub mod OutlineParts
 pub mod OutlineTypes
 pub mod OutlineReadings
+pub mod EncodedValues
+pub mod EncodedValuesCut
+pub mod EncodedValuesWord
+pub mod EncodedValuesRead

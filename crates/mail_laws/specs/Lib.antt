@@ -23,6 +23,7 @@ pub use Rattle.mailparse.specs.Disposition
 pub mod Ids
 pub mod CharsetSources
 pub mod Escapes
+pub mod EncodedValues
 pub mod IdGrammar
 pub use Rattle.mailparse.specs.Delimiters
 pub use Rattle.mailparse.specs.Mail

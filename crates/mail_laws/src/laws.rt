@@ -32,6 +32,7 @@ ghost use Rattle.mail_laws.specs.StarFree.{AreStarFree};
 ghost use Rattle.mailparse.specs.Value.{IsPlain, Token, lenient_value, newline, shown_tokens, strict_value, lenient_value_in};
 ghost use Rattle.mail_codec.specs.Places.{begins, least, values_below};
 ghost use Rattle.mail_laws.specs.Least.{IsLeast};
+ghost use Rattle.mail_laws.specs.EncodedValues.{AreWords, words_of, written_value};
 ghost use Rattle.mail_laws.specs.WordTokens.{whitespace_token, word};
 ghost use Rattle.mail_laws.specs.Spans.{StandBefore, blank_span, header_at, header_spans, key_range, value_range};
 ghost use Rattle.mailparse.specs.Date.{day_number, days_of_years, month_lengths};
@@ -190,6 +191,19 @@ pub fn utf8_value_agrees()
         strict_value bytes ≡ Ok (lenient_value bytes) }
     ensures succeeds { (bytes value : List ℕ) → strict_value bytes ≡ Ok value →
         lenient_value bytes ≡ value }
+{}
+
+/// Exactly one list of words fits the characters of a text, the one that is computed: each word is not
+/// empty, has at most 45 bytes, and would have more with the next character.
+pub fn one_list_of_words_fits()
+    ensures fits { (characters : List ℕ) → AreWords characters (words_of characters) }
+    ensures only { (characters : List ℕ) (words : List (List ℕ)) → AreWords characters words →
+        words ≡ words_of characters }
+{}
+
+/// What any text is written as, as a value, shows the text.
+pub fn written_values_read_back()
+    ensures { (text : List ℕ) → IsUtf8 text → lenient_value (written_value text) ≡ text }
 {}
 
 /// Exactly one list of segments fits a text, the one that is computed.

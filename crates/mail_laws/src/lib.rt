@@ -2,5 +2,6 @@
 //! contracts cite.
 #![tactic(auto)]
 
+pub mod encode;
 pub mod laws;
 pub mod render;

@@ -1,0 +1,326 @@
+-- A written value reads back: its lines are its encoded words, and what shows are their characters.
+use Rattle.std.proofs.Common.{◌≡◌, ◌≢◌, ◌⊎◌, inl, inr, ℕ, zero, suc, ◌-◌, ◌<◌, ◌≤◌, Bool, true, false, cond, eqb, ◌&&◌, List, [], ◌∷◌, ◌++◌, length, map, take, get_or, Some, None, refl, sym, ap, subst, ◌∙◌, ⊎_elim, arith, append_assoc, length-append}
+use Rattle.std.specs.Prelude.{codes, nat_lt, encode_utf8_all, flat_map, is_none}
+use Rattle.std.specs.Char.{encode_utf8}
+use Rattle.std.specs.List.{list_all, slice_split, onto_first}
+use Rattle.std.specs.Str.{chars, trim_start, skip_leading_whitespace, IsAscii, IsUtf8}
+use Rattle.std.specs.Str.Lines.{lines, lines_of_parts, strip_carriage_return}
+use Rattle.std.proofs.lemmas.Bool.{cond-true, cond-false, and_parts, cases_lt, false≢true, ltb-true, ltb-false, ne_eqb, eq-eqb, not-true}
+use Rattle.std.proofs.lemmas.Bool.Decides.{nat_tests}
+use Rattle.std.proofs.lemmas.List.{take_all, take-append-le, drop_all}
+use Rattle.std.proofs.lemmas.List.Splits.{slice_split-cons_no}
+use Rattle.std.proofs.lemmas.Str.{chars-IsAscii, encodes-IsAscii, encodes-chars, scalars-chars, IsAscii-append, IsUtf8-from_ascii, encode_ascii}
+use Rattle.std.proofs.lemmas.Str.Ascii.{IsAscii-nil, IsAscii-cons}
+use Rattle.base64.specs.GeneralPurpose.{IsBytes}
+use Rattle.mail_codec.specs.Charset.{four_charsets}
+use Rattle.mail_codec.specs.Places.{first_place, stands}
+use Rattle.mail_codec.proofs.lemmas.CharsetUtf8.{encode_two, encode_three, encode_four}
+use Rattle.mail_codec.proofs.lemmas.Places.{first_place-before}
+use Rattle.mailparse.specs.Tokens.{whitespace, decoded_word}
+use Rattle.mailparse.specs.Value.{IsPlain, Token, is_released, kinds, lenient_value, line_tokens, newline, shown_after, shown_tokens, shown_value, tokens_of_lines, value_tokens}
+use Rattle.mailparse.proofs.lemmas.EncodedWord.{split_some}
+use Rattle.mailparse.proofs.lemmas.Value.{lenient-utf8}
+use Rattle.mailparse.proofs.lemmas.ValuePlain.{lenient_value-plain}
+use Rattle.mail_laws.specs.EncodedValues.{AreWords, no_word, next_word, encoded_word, is_plain_byte, is_plain_value, letters, word_lines, words_of, written_value}
+use Rattle.mail_laws.specs.WordTokens.{word, whitespace_token}
+use Rattle.mail_laws.proofs.lemmas.EncodedValues.{words_fit, words_join}
+use Rattle.mail_laws.proofs.lemmas.EncodedValuesWord.{AreLetters, around, encoded_word-tokens, letters_are}
+use lib.Utf8.{scalar, scalars, scalar_cases}
+
+-- ---- the bytes of characters
+
+abbrev AreBytes : List ℕ → Type 0
+AreBytes [] = Unit {0}
+AreBytes (b ∷ bs) = (b < 256) × AreBytes bs
+
+AreBytes-append : (xs ys : List ℕ) → AreBytes xs → AreBytes ys → AreBytes (xs ++ ys)
+AreBytes-append [] ys a b = b
+AreBytes-append (x ∷ xs) ys a b = (a.0, AreBytes-append xs ys a.1 b)
+
+bytes_from : (bs : List ℕ) → AreBytes bs → IsBytes bs
+bytes_from [] h i = omega arith
+bytes_from (b ∷ bs) h zero = h.0
+bytes_from (b ∷ bs) h (suc i) = bytes_from bs h.1 i
+
+character_bytes : (c : ℕ) → scalar c ≡ true → AreBytes (encode_utf8 c)
+character_bytes c h = by (cases_lt c 128) (cases_lt c 2048) (cases_lt c 65536)
+  where
+    below : (c < 55296) ⊎ ((57344 ≤ c) × (c < 1114112)) → c < 1114112
+    below (inl l) = omega arith
+    below (inr l) = l.1
+
+    by : (c < 128) ⊎ (128 ≤ c) → (c < 2048) ⊎ (2048 ≤ c) → (c < 65536) ⊎ (65536 ≤ c) → AreBytes (encode_utf8 c)
+    by (inl a) _ _ = subst AreBytes (sym (encode_ascii c a)) (omega arith, tt)
+    by (inr a) (inl b) _ = subst AreBytes (sym (encode_two c a b)) (omega arith, (omega arith, tt))
+    by (inr a) (inr b) (inl d) = subst AreBytes (sym (encode_three c b d)) (omega arith, (omega arith, (omega arith, tt)))
+    by (inr a) (inr b) (inr d) =
+        let top = below (scalar_cases c h) in
+        subst AreBytes (sym (encode_four c d)) (omega arith, (omega arith, (omega arith, (omega arith, tt))))
+
+characters_bytes : (cs : List ℕ) → scalars cs ≡ true → AreBytes (encode_utf8_all cs)
+characters_bytes [] h = tt
+characters_bytes (c ∷ cs) h =
+    let parts = and_parts (scalar c) (scalars cs) h in
+    AreBytes-append (encode_utf8 c) (encode_utf8_all cs) (character_bytes c parts.0) (characters_bytes cs parts.1)
+
+scalars_split : (xs ys : List ℕ) → scalars (xs ++ ys) ≡ true → (scalars xs ≡ true) × (scalars ys ≡ true)
+scalars_split [] ys h = (refl, h)
+scalars_split (x ∷ xs) ys h =
+    let parts = and_parts (scalar x) (scalars (xs ++ ys)) h in
+    let more = scalars_split xs ys parts.1 in
+    (ap (λ t. t && scalars xs) parts.0 ∙ more.0, more.1)
+
+-- ---- the words, each of characters
+
+abbrev AreTexts : List (List ℕ) → Type 0
+AreTexts [] = Unit {0}
+AreTexts (w ∷ ws) = (scalars w ≡ true) × AreTexts ws
+
+words_texts : {cs : List ℕ} {ws : List (List ℕ)} → AreWords cs ws → scalars cs ≡ true → AreTexts ws
+words_texts no_word h = tt
+words_texts (next_word {word = w} {rest = rest} some fits full more e) h =
+    let parts = scalars_split w rest (ap scalars (sym e) ∙ h) in
+    (parts.0, words_texts more parts.1)
+
+word_bytes_are : (w : List ℕ) → scalars w ≡ true → IsBytes (encode_utf8_all w)
+word_bytes_are w h = bytes_from (encode_utf8_all w) (characters_bytes w h)
+
+word_tokens : (w : List ℕ) → scalars w ≡ true → line_tokens four_charsets (encoded_word w) ≡ around (encode_utf8_all w)
+word_tokens w h = encoded_word-tokens (encode_utf8_all w) (w, (h, refl)) (word_bytes_are w h)
+
+-- ---- the bytes of an encoded word
+
+abbrev AreVisible : List ℕ → Type 0
+AreVisible [] = Unit {0}
+AreVisible (b ∷ bs) = ((33 ≤ b) × (b ≤ 126)) × AreVisible bs
+
+letters_visible : (ls rest : List ℕ) → AreLetters ls → AreVisible rest → AreVisible (ls ++ rest)
+letters_visible [] rest a b = b
+letters_visible (x ∷ xs) rest a b = ((a.0.0, a.0.1), letters_visible xs rest a.1 b)
+
+visible : (b : ℕ) → nat_lt 32 b && nat_lt b 127 ≡ true → (33 ≤ b) × (b ≤ 126)
+visible b h =
+    let parts = and_parts (nat_lt 32 b) (nat_lt b 127) h in
+    let low = ltb-true 32 b parts.0 in
+    let high = ltb-true b 127 parts.1 in
+    (omega arith, omega arith)
+
+word_visible : (w : List ℕ) → scalars w ≡ true → AreVisible (encoded_word w)
+word_visible w h = (
+  visible 61 refl,
+  (
+    visible 63 refl,
+    (
+      visible 117 refl,
+      (
+        visible 116 refl,
+        (
+          visible 102 refl,
+          (
+            visible 45 refl,
+            (
+              visible 56 refl,
+              (
+                visible 63 refl,
+                (
+                  visible 66 refl,
+                  (
+                    visible 63 refl,
+                    letters_visible (letters (encode_utf8_all w)) (codes "?=") (letters_are (encode_utf8_all w) (word_bytes_are w h)) (visible 63 refl, (visible 61 refl, tt)),
+                  ),
+                ),
+              ),
+            ),
+          ),
+        ),
+      ),
+    ),
+  ),
+)
+
+-- ---- the lines of a value
+
+abbrev NoFeed : List ℕ → Type 0
+NoFeed [] = Unit {0}
+NoFeed (b ∷ bs) = (b ≢ 10) × NoFeed bs
+
+NoFeed-append : (xs ys : List ℕ) → NoFeed xs → NoFeed ys → NoFeed (xs ++ ys)
+NoFeed-append [] ys a b = b
+NoFeed-append (x ∷ xs) ys a b = (a.0, NoFeed-append xs ys a.1 b)
+
+visible_no_feed : (xs : List ℕ) → AreVisible xs → NoFeed xs
+visible_no_feed [] h = tt
+visible_no_feed (x ∷ xs) h = let low = h.0.0 in ((λ e. absurd (omega arith)), visible_no_feed xs h.1)
+
+abbrev pieces : List ℕ → List (List ℕ)
+pieces text = slice_split (λ b. eqb b 10) text
+
+split_at : (xs ys : List ℕ) → NoFeed xs → pieces (xs ++ 10 ∷ ys) ≡ xs ∷ pieces ys
+split_at [] ys h = refl
+split_at (x ∷ xs) ys h = slice_split-cons_no (λ b. eqb b 10) x (xs ++ 10 ∷ ys) (ne_eqb x 10 h.0) ∙ ap (onto_first x) (split_at xs ys h.1)
+
+split_none : (xs : List ℕ) → NoFeed xs → pieces xs ≡ xs ∷ []
+split_none [] h = refl
+split_none (x ∷ xs) h = slice_split-cons_no (λ b. eqb b 10) x xs (ne_eqb x 10 h.0) ∙ ap (onto_first x) (split_none xs h.1)
+
+get_last : (xs : List ℕ) (y : ℕ) → get_or (xs ++ y ∷ []) (length xs) 0 ≡ y
+get_last [] y = refl
+get_last (x ∷ xs) y = get_last xs y
+
+stripped : (xs : List ℕ) → strip_carriage_return (xs ++ 13 ∷ []) ≡ xs
+stripped xs =
+    let len = length-append xs (13 ∷ []) in
+    let at : length (xs ++ 13 ∷ []) - 1 ≡ length xs = omega arith in
+    cond-true _ _ _ (eq-eqb _ _ (ap (λ n. get_or (xs ++ 13 ∷ []) n 0) at ∙ get_last xs 13))
+    ∙ ap (λ n. take n (xs ++ 13 ∷ [])) at ∙ take-append-le (length xs) xs (13 ∷ []) (omega arith) ∙ take_all (length xs) xs (omega arith)
+
+first_of_more : (x : List ℕ) (ps : List (List ℕ)) → ps ≢ [] → lines_of_parts (x ∷ ps) ≡ strip_carriage_return x ∷ lines_of_parts ps
+first_of_more x [] some = absurd (some refl)
+first_of_more x (p ∷ ps) some = refl
+
+-- an encoded word without its first byte
+abbrev tail_of : List ℕ → List ℕ
+tail_of w = codes "?utf-8?B?" ++ (letters (encode_utf8_all w) ++ codes "?=")
+
+-- the line of a word, and those after it, which begin with a space
+abbrev folded : List (List ℕ) → List (List ℕ)
+folded ws = map (λ w. 32 ∷ encoded_word w) ws
+
+lines_are : (front w : List ℕ) (ws : List (List ℕ)) → NoFeed front → AreTexts (w ∷ ws)
+    → lines (front ++ word_lines (w ∷ ws)) ≡ (front ++ encoded_word w) ∷ folded ws
+lines_are front w [] clear h =
+    let some = length-append front (encoded_word w) in
+    ap lines_of_parts (split_none (front ++ encoded_word w) (NoFeed-append front (encoded_word w) clear (visible_no_feed (encoded_word w) (word_visible w h.0))))
+    ∙ cond-false _ _ _ (ne_eqb (length (front ++ encoded_word w)) 0 (λ (e : length (front ++ encoded_word w) ≡ 0). absurd (omega arith)))
+lines_are front w (v ∷ ws) clear h =
+    let line : List ℕ = front ++ encoded_word w in
+    let rest : List ℕ = 32 ∷ word_lines (v ∷ ws) in
+    let whole : front ++ word_lines (w ∷ v ∷ ws) ≡ (line ++ 13 ∷ []) ++ 10 ∷ rest =
+    sym (append_assoc line (13 ∷ []) (10 ∷ rest) ∙ append_assoc front (encoded_word w) (13 ∷ 10 ∷ rest)) in
+    let here : NoFeed (line ++ 13 ∷ []) =
+    NoFeed-append line (13 ∷ []) (NoFeed-append front (encoded_word w) clear (visible_no_feed (encoded_word w) (word_visible w h.0)))
+    ((λ (e : ◌≡◌ {A = ℕ} 13 10). absurd (omega arith)), tt) in
+    ap lines whole
+    ∙ ap lines_of_parts (split_at (line ++ 13 ∷ []) rest here)
+    ∙ first_of_more (line ++ 13 ∷ []) (pieces rest) (split_some (λ b. eqb b 10) rest)
+    ∙ ap (λ x. x ∷ lines rest) (stripped line)
+    ∙ ap (λ ls. line ∷ ls) (lines_are (32 ∷ []) v ws ((λ (e : ◌≡◌ {A = ℕ} 32 10). absurd (omega arith)), tt) h.1)
+
+-- ---- without the space before them
+
+visible_ascii : (xs : List ℕ) → AreVisible xs → IsAscii xs
+visible_ascii [] h = IsAscii-nil
+visible_ascii (x ∷ xs) h = let high = h.0.1 in IsAscii-cons x xs (omega arith) (visible_ascii xs h.1)
+
+trim_none : (xs : List ℕ) → IsAscii (61 ∷ xs) → trim_start (61 ∷ xs) ≡ 61 ∷ xs
+unfolding trim_start
+trim_none xs h = ap (λ cs. encode_utf8_all (skip_leading_whitespace cs)) (chars-IsAscii (61 ∷ xs) h) ∙ encodes-IsAscii (61 ∷ xs) h
+
+trim_space : (xs : List ℕ) → IsAscii (61 ∷ xs) → trim_start (32 ∷ 61 ∷ xs) ≡ 61 ∷ xs
+unfolding trim_start
+trim_space xs h =
+    ap (λ cs. encode_utf8_all (skip_leading_whitespace cs)) (chars-IsAscii (32 ∷ 61 ∷ xs) (IsAscii-cons 32 (61 ∷ xs) (omega arith) h)) ∙ encodes-IsAscii (61 ∷ xs) h
+
+trimmed_folded : (ws : List (List ℕ)) → AreTexts ws → map trim_start (folded ws) ≡ map encoded_word ws
+trimmed_folded [] h = refl
+trimmed_folded (w ∷ ws) h =
+    ap (λ l. l ∷ map trim_start (folded ws)) (trim_space (tail_of w) (visible_ascii (encoded_word w) (word_visible w h.0)))
+    ∙ ap (λ ls. encoded_word w ∷ ls) (trimmed_folded ws h.1)
+
+trimmed_lines : (w : List ℕ) (ws : List (List ℕ)) → AreTexts (w ∷ ws) → map trim_start (lines (word_lines (w ∷ ws))) ≡ map encoded_word (w ∷ ws)
+trimmed_lines w ws h =
+    ap (map trim_start) (lines_are [] w ws tt h)
+    ∙ ap (λ l. l ∷ map trim_start (folded ws)) (trim_none (tail_of w) (visible_ascii (encoded_word w) (word_visible w h.0)))
+    ∙ ap (λ ls. encoded_word w ∷ ls) (trimmed_folded ws h.1)
+
+-- ---- the tokens, and what they show
+
+abbrev next_tokens : List (List ℕ) → List Token
+next_tokens [] = []
+next_tokens (w ∷ ws) = newline ∷ whitespace_token [] ∷ word (encode_utf8_all w) ∷ whitespace_token [] ∷ next_tokens ws
+
+tokens_are : (w : List ℕ) (ws : List (List ℕ)) → AreTexts (w ∷ ws)
+    → tokens_of_lines four_charsets (map encoded_word (w ∷ ws)) ≡ around (encode_utf8_all w) ++ next_tokens ws
+tokens_are w [] h = word_tokens w h.0
+tokens_are w (v ∷ ws) h =
+    ap (λ ts. ts ++ (newline ∷ tokens_of_lines four_charsets (map encoded_word (v ∷ ws)))) (word_tokens w h.0)
+    ∙ ap (λ ts. around (encode_utf8_all w) ++ (newline ∷ ts)) (tokens_are v ws h.1)
+
+not_released : (ws : List (List ℕ)) → is_released whitespace (kinds (next_tokens ws)) ≡ false
+not_released [] = refl
+not_released (w ∷ ws) = refl
+
+shown_next : (ws : List (List ℕ)) → shown_after (Some decoded_word) (Some whitespace) (next_tokens ws) ≡ flat_map encode_utf8_all ws
+shown_next [] = refl
+shown_next (w ∷ ws) =
+    ap (λ t. encode_utf8_all w ++ (cond t [] [] ++ shown_after (Some decoded_word) (Some whitespace) (next_tokens ws))) (not_released ws)
+    ∙ ap (λ r. encode_utf8_all w ++ r) (shown_next ws)
+
+shown_all : (w : List ℕ) (ws : List (List ℕ)) → shown_tokens (around (encode_utf8_all w) ++ next_tokens ws) ≡ flat_map encode_utf8_all (w ∷ ws)
+shown_all w ws =
+    ap (λ t. encode_utf8_all w ++ (cond t [] [] ++ shown_after (Some decoded_word) (Some whitespace) (next_tokens ws))) (not_released ws)
+    ∙ ap (λ r. encode_utf8_all w ++ r) (shown_next ws)
+
+words_show : (w : List ℕ) (ws : List (List ℕ)) → AreTexts (w ∷ ws) → shown_value four_charsets (word_lines (w ∷ ws)) ≡ flat_map encode_utf8_all (w ∷ ws)
+unfolding shown_value value_tokens
+words_show w ws h =
+    ap (λ ls. shown_tokens (tokens_of_lines four_charsets ls)) (trimmed_lines w ws h)
+    ∙ ap shown_tokens (tokens_are w ws h)
+    ∙ shown_all w ws
+
+-- ---- the whole value
+
+lines_ascii : (w : List ℕ) (ws : List (List ℕ)) → AreTexts (w ∷ ws) → IsAscii (word_lines (w ∷ ws))
+lines_ascii w [] h = visible_ascii (encoded_word w) (word_visible w h.0)
+lines_ascii w (v ∷ ws) h =
+    IsAscii-append (encoded_word w) (13 ∷ 10 ∷ 32 ∷ word_lines (v ∷ ws)) (visible_ascii (encoded_word w) (word_visible w h.0))
+    (IsAscii-cons 13 (10 ∷ 32 ∷ word_lines (v ∷ ws)) (omega arith) (IsAscii-cons 10 (32 ∷ word_lines (v ∷ ws)) (omega arith) (IsAscii-cons 32 (word_lines (v ∷ ws)) (omega arith) (lines_ascii v ws h.1))))
+
+nothing_shows : shown_value four_charsets [] ≡ []
+unfolding shown_value value_tokens
+nothing_shows = refl
+
+words_read : (ws : List (List ℕ)) → AreTexts ws → lenient_value (word_lines ws) ≡ flat_map encode_utf8_all ws
+words_read [] h = lenient-utf8 [] (IsUtf8-from_ascii [] IsAscii-nil) ∙ nothing_shows
+words_read (w ∷ ws) h = lenient-utf8 (word_lines (w ∷ ws)) (IsUtf8-from_ascii (word_lines (w ∷ ws)) (lines_ascii w ws h)) ∙ words_show w ws h
+
+encoded_reads_back : (text : List ℕ) → IsUtf8 text → lenient_value (word_lines (words_of (chars text))) ≡ text
+encoded_reads_back text utf8 =
+    let fit = words_fit (chars text) in
+    words_read (words_of (chars text)) (words_texts fit (scalars-chars text utf8)) ∙ words_join fit ∙ encodes-chars text utf8
+
+-- ---- plain values
+
+plain_byte : (b : ℕ) → is_plain_byte b ≡ true → (32 ≤ b) × (b ≤ 126)
+plain_byte b h = (grind (arith, nat_tests), grind (arith, nat_tests))
+
+plain_bytes : (value : List ℕ) → list_all is_plain_byte value ≡ true → (k d : ℕ) → k < length value → (32 ≤ get_or value k d) × (get_or value k d ≤ 126)
+plain_bytes [] h k d lt = absurd (omega arith)
+plain_bytes (b ∷ value) h zero d lt = plain_byte b (and_parts _ _ h).0
+plain_bytes (b ∷ value) h (suc k) d lt = plain_bytes value (and_parts _ _ h).1 k d (omega arith)
+
+none_found : (p n : ℕ) → is_none (cond (nat_lt p n) (Some p) None) ≡ true → n ≤ p
+none_found p n h = go (nat_lt p n) refl h
+  where
+    go : (t : Bool) → nat_lt p n ≡ t → is_none (cond t (Some p) None) ≡ true → n ≤ p
+    go true e none = absurd (false≢true none)
+    go false e none = ltb-false p n e
+
+plain_is : (value : List ℕ) → is_plain_value value ≡ true → IsPlain value
+plain_is value h =
+    let first = and_parts _ _ h in
+    let second = and_parts _ _ first.1 in
+    let none = none_found (first_place (stands (codes "=?")) value) (length value) second.1 in
+    record {
+      printable = plain_bytes value first.0;
+      no_space = not-true _ second.0;
+      no_opening = λ k. ⊎_elim (λ lt. first_place-before (stands (codes "=?")) value k (omega arith)) (λ past. ap (stands (codes "=?")) (drop_all k value past)) (cases_lt k (length value));
+    }
+
+pub written_reads_back : (text : List ℕ) → IsUtf8 text → lenient_value (written_value text) ≡ text
+unfolding written_value
+written_reads_back text utf8 = go (is_plain_value text) refl
+  where
+    go : (t : Bool) → is_plain_value text ≡ t → lenient_value (cond t text (word_lines (words_of (chars text)))) ≡ text
+    go true e = lenient_value-plain text (plain_is text e)
+    go false e = encoded_reads_back text utf8
