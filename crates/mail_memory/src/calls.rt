@@ -1,7 +1,7 @@
 //! The calls that take memory, in groups, and whether they return what is right.
 
 use crate::inputs::{ATTACHED, HEADER, Inputs, TWO_CODINGS};
-use crate::{codec, headers, mails, texts};
+use crate::{codec, headers, mails, outlines, tables, texts};
 use mailparse::MailParseError;
 use std::alloc::Global;
 
@@ -15,7 +15,7 @@ pub struct Fault {
 }
 
 /// Each group, by the name of one of its calls.
-static GROUPS: [&str; 19] = [
+static GROUPS: [&str; 24] = [
     "decode_base64",
     "decode_quoted_printable",
     "decode",
@@ -35,6 +35,11 @@ static GROUPS: [&str; 19] = [
     "get_content_disposition",
     "get_body",
     "get_decoded",
+    "SingleByteTable::decode",
+    "parse_content_type_with",
+    "parse_mail_with",
+    "get_as_string_with",
+    "render",
 ];
 
 /// Makes the calls of each group, again so many times at most where memory ran out, always on the
@@ -116,6 +121,11 @@ fn is_right(alloc: Global, inputs: &Inputs<'_>, group: &str) -> Result<bool, Mai
         "get_content_disposition" => mails::get_disposition(alloc, &inputs.attached),
         "get_body" => mails::get_bodies(alloc, inputs),
         "get_decoded" => mails::decode_bodies(alloc, inputs),
+        "SingleByteTable::decode" => tables::decode(alloc),
+        "parse_content_type_with" => tables::read_types(alloc),
+        "parse_mail_with" => tables::read_mail(alloc),
+        "get_as_string_with" => tables::read_bodies(alloc),
+        "render" => outlines::write(alloc),
         _ => Ok(false),
     }
 }

@@ -13,6 +13,8 @@ mod free;
 mod headers;
 mod inputs;
 mod mails;
+mod outlines;
+mod tables;
 mod texts;
 
 use calls::Fault;
