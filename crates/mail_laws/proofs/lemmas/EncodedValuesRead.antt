@@ -281,8 +281,8 @@ unfolding shown_value value_tokens
 nothing_shows = refl
 
 words_read : (ws : List (List ℕ)) → AreTexts ws → lenient_value (word_lines ws) ≡ flat_map encode_utf8_all ws
-words_read [] h = lenient-utf8 [] (IsUtf8-from_ascii [] IsAscii-nil) ∙ nothing_shows
-words_read (w ∷ ws) h = lenient-utf8 (word_lines (w ∷ ws)) (IsUtf8-from_ascii (word_lines (w ∷ ws)) (lines_ascii w ws h)) ∙ words_show w ws h
+words_read [] h = lenient-utf8 four_charsets [] (IsUtf8-from_ascii [] IsAscii-nil) ∙ nothing_shows
+words_read (w ∷ ws) h = lenient-utf8 four_charsets (word_lines (w ∷ ws)) (IsUtf8-from_ascii (word_lines (w ∷ ws)) (lines_ascii w ws h)) ∙ words_show w ws h
 
 encoded_reads_back : (text : List ℕ) → IsUtf8 text → lenient_value (word_lines (words_of (chars text))) ≡ text
 encoded_reads_back text utf8 =

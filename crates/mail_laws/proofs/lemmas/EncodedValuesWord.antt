@@ -2,6 +2,7 @@
 use Rattle.std.proofs.Common.{◌≡◌, ◌≢◌, ℕ, suc, ◌+◌, ◌-◌, ◌*◌, ◌/◌, ◌%◌, ◌<◌, ◌≤◌, Bool, true, not, cond, eqb, ◌&&◌, List, [], ◌∷◌, ◌++◌, length, map, take, drop, Some, is_some, refl, sym, ap, subst, ◌∙◌, arith, length-append}
 use Rattle.std.specs.Prelude.{codes, nat_lt, unwrap_or}
 use Rattle.std.specs.Str.{chars, IsUtf8}
+use Rattle.std.specs.Option.{option_map}
 use Rattle.std.specs.Result.{result_ok}
 use Rattle.std.proofs.lemmas.Bool.{and_left, and_parts, ltb-true, not-true, eqb-false, ne_eqb, or_from}
 use Rattle.std.proofs.lemmas.List.{take_all, take-append-le, drop_all}
@@ -21,7 +22,7 @@ use Rattle.mail_codec.proofs.lemmas.Places.{first_place-past}
 use Rattle.mailparse.specs.EncodedWord.{encoded_bytes, word_text}
 use Rattle.mailparse.specs.Tokens.{begins_opening, begins_closing, boundary_before, closing, decodes, inside, last_group, next_group, no_opening, opening, outside_range, word_range, AreTokens}
 use Rattle.mailparse.specs.Value.{Token, line_tokens, outside_token, token_of}
-use Rattle.mailparse.proofs.lemmas.EncodedWord.{four_some, word_whole}
+use Rattle.mailparse.proofs.lemmas.EncodedWord.{word_whole}
 use Rattle.mailparse.proofs.lemmas.Shown.{token_of-outside}
 use Rattle.mailparse.proofs.lemmas.Tokens.{token_ranges_only}
 use Rattle.mail_laws.specs.EncodedValues.{letters}
@@ -129,7 +130,7 @@ inside_decodes : (bytes : List ℕ) → IsUtf8 bytes → IsBytes bytes → word_
 inside_decodes bytes utf8 h =
     sym (word_whole four_charsets (codes "utf-8?B?" ++ letters bytes) (codes "utf-8") (codes "B?" ++ letters bytes) (codes "B") (letters bytes) bytes bytes (text_of Utf8)
     (record { marked = refl; before = refl; after = refl }) (record { marked = refl; before = refl; after = refl })
-    (four_some (codes "utf-8") Utf8 utf_8_known) (reads_back bytes h) (same_text bytes utf8))
+    (ap (option_map text_of) utf_8_known) (reads_back bytes h) (same_text bytes utf8))
 
 -- ---- where the word's ends stand
 
