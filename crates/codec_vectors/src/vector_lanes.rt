@@ -283,6 +283,13 @@ fn each_byte_stays_in_each_lane(rt: HostRuntime) -> Result<(), Fail> {
     Ok(())
 }
 
+/// Whether bytes are read so in windows-1252 and in Latin-1.
+fn are_read(alloc: Global, bytes: &[u8], expected: &[u8]) -> Result<bool, AllocError> {
+    let text = Charset::Windows1252.decode_without_bom_handling(alloc, bytes)?;
+    let latin1 = decode_latin1(alloc, bytes)?;
+    Ok(text.as_bytes() == expected && latin1.as_bytes() == expected)
+}
+
 /// The first number of ASCII bytes before which and after which a high byte is not read as U+00E9,
 /// in windows-1252 or in Latin-1.
 fn first_e_misread(alloc: Global, length: usize) -> Result<Option<usize>, AllocError> {
@@ -291,9 +298,7 @@ fn first_e_misread(alloc: Global, length: usize) -> Result<Option<usize>, AllocE
         let (front, back) = (&bytes.as_slice()[..place], &bytes.as_slice()[place + 1..]);
         let expected = joined(alloc, &[front, b"\xC3\xA9", back])?;
         bytes[place] = 0xE9;
-        let text = Charset::Windows1252.decode_without_bom_handling(alloc, bytes.as_slice())?;
-        let latin1 = decode_latin1(alloc, bytes.as_slice())?;
-        if text.as_bytes() != expected.as_slice() || latin1.as_bytes() != expected.as_slice() {
+        if !are_read(alloc, bytes.as_slice(), expected.as_slice())? {
             return Ok(Some(place));
         }
         bytes[place] = b'e';
