@@ -1,5 +1,5 @@
-//! The files of mails: their paths, their names and their sizes. Python's `get_filename` gives the
-//! same names.
+//! The files of mails: their paths, their names and their sizes, by hand from the rules. Of one mail
+//! Python's `get_filename` was asked, and gives the same names.
 use crate::texts::{Case, assert_texts, cases};
 use mail_data::files::{attachments, file_name, is_attachment, safe_file_name};
 use mailparse::{MailParseError, parse_mail};

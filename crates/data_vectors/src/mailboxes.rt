@@ -1,4 +1,5 @@
-//! Mailboxes. Python's `mailbox.mbox` gives the same mails of those whose lines end in LF.
+//! Mailboxes, by hand from the rules. Of seven of them whose lines end in LF Python's `mailbox.mbox`
+//! was asked, and gives the same mails.
 use crate::texts::{Case, assert_texts, cases};
 use mail_data::mailbox::read_mailbox;
 use std::alloc::{AllocError, Global};

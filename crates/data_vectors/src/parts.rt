@@ -1,5 +1,6 @@
-//! The part that is read as the text of a mail, and the mails inside mails. Python's `get_body`
-//! with the preferences `plain` and `html` chooses the same parts of these mails.
+//! The part that is read as the text of a mail, and the mails inside mails, by hand from the rules.
+//! Of three of these mails Python's `get_body`, with the preferences `plain` and `html`, was asked,
+//! and chooses the same parts.
 use crate::texts::{Case, assert_texts, cases};
 use mail_data::forwarding::forwarded;
 use mail_data::texts::text_part;
