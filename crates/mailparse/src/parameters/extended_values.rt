@@ -110,7 +110,8 @@ fn readings<'t>(
     pairs: &BTreeMap<String, String>,
     tables: &'t [SingleByteTable<'t>],
 ) -> Result<Vec<Reading<'t>>, AllocError>
-    ensures each { IfOk result (λ found. All (IsReading (charsets_with tables.now) (text_at pairs.now))
+    ensures each { IfOk result (λ found. All
+        (IsReading (charsets_with tables.now) (text_at pairs.now))
         (map reading_view found.items)) }
     ensures names { IfOk result (λ found. (q : List ℕ) →
         holds_name (names_read found.items) q

@@ -13,8 +13,8 @@ use crate::vectors::letters::{letters_len, packed};
 use std::simd::prelude::*;
 
 /// Writes the bytes of the groups from a place of the text on to the front of `output`, up to the
-/// first that is not four letters, or as far as there is room. Returns how many groups these are, and
-/// where the text goes on after them. The bytes after theirs may be written over.
+/// first that is not four letters, or as far as there is room. Returns how many groups these are,
+/// and where the text goes on after them. The bytes after theirs may be written over.
 #[inline(always)]
 pub(crate) fn put_groups(
     output: &mut [u8],
@@ -106,7 +106,8 @@ fn put_next_group(
     ensures kept { take place output.new ≡ take place output.old }
     ensures bounds { IfSome result (λ next. next ≤ length text.now) }
     ensures later { IfSome result (λ next. at + 4 ≤ next) }
-    ensures read { IfSome result (λ next. (n : ℕ) → groups_from n (without_ends absent (drop at text.now))
+    ensures read { IfSome result (λ next. (n : ℕ)
+        → groups_from n (without_ends absent (drop at text.now))
         ≡ prepend (take 3 (drop place output.new))
         (groups_from (n + 1) (without_ends absent (drop next text.now)))) }
 {
