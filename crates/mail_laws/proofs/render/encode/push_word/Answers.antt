@@ -1,5 +1,5 @@
 use Rattle.mail_laws.proofs.lemmas.EncodedValuesCut.{word_pushed}
-use Rattle.mail_laws.proofs.encode.push_word.Goals as goal
+use Rattle.mail_laws.proofs.render.encode.push_word.Goals as goal
 
 pub returns : goal.returns
 returns c = record {

@@ -1,21 +1,23 @@
 //! Values of any text, written so that `MailHeader::get_value` gives the text back.
-ghost use Rattle.std.specs.Prelude.{◌≡◌, ◌<◌, ◌++◌, OnOk, codes, length};
+ghost use Rattle.std.specs.Prelude.{◌≡◌, ◌<◌, ◌++◌, IfOk, OnOk, codes, length};
 ghost use Rattle.std.specs.Str.{chars};
 ghost use Rattle.std.specs.String.{string_bytes};
 ghost use Rattle.mailparse.specs.Outcome.{GivesText};
 ghost use Rattle.mail_laws.specs.EncodedValues.{is_plain_value, letters, word_lines, words_of, written_value};
+ghost use Rattle.mail_laws.specs.Outlines.{written_bytes};
 
 use base64::engine::general_purpose::STANDARD;
 use mail_codec::bytescan::find;
 use mailparse::MailParseError;
 use std::alloc::{AllocError, Global};
+use std::str::from_utf8;
 
 /// The most bytes of text that one encoded word carries; they are 60 letters, and the word has 72
 /// bytes of the 75 that it may have (RFC 2047, section 2).
 const WORD_BYTES: usize = 45;
 
-/// Returns what a header's value is written as, so that it shows this text (RFC 2047, sections 2, 4.1
-/// and 5).
+/// Returns what a header's value is written as, so that it shows this text (RFC 2047, sections 2,
+/// 4.1 and 5).
 ///
 /// A text of printable ASCII that does not begin with a space and holds no `=?` is written as it is;
 /// so is the empty text. Any other is written as encoded words `=?utf-8?B?..?=`, which are joined by
@@ -29,14 +31,21 @@ const WORD_BYTES: usize = 45;
 /// # Examples
 ///
 /// ```rust
-/// use mail_laws::encode::encode_value;
+/// use mail_laws::render::encode_value;
 ///
 /// assert_eq!(rt; encode_value(alloc, "a b")?.as_str(), "a b");
 /// assert_eq!(rt; encode_value(alloc, "é")?.as_str(), "=?utf-8?B?w6k=?=");
 /// ```
-#[tactic(auto, unfolding(crate::specs::EncodedValues::written_value))]
 pub fn encode_value(alloc: Global, text: &str) -> Result<String, MailParseError>
     ensures { GivesText result (written_value text.now) }
+{
+    Ok(encoded(alloc, text)?)
+}
+
+/// What a text is written as.
+#[tactic(auto, unfolding(crate::specs::EncodedValues::written_value))]
+fn encoded(alloc: Global, text: &str) -> Result<String, AllocError>
+    ensures { IfOk result (λ written. string_bytes written ≡ written_value text.now) }
 {
     if is_plain(text.as_bytes()) {
         return Ok(String::from_str(alloc, text)?);
@@ -44,6 +53,18 @@ pub fn encode_value(alloc: Global, text: &str) -> Result<String, MailParseError>
     let mut written = String::new(alloc);
     push_words(text, &mut written)?;
     Ok(written)
+}
+
+/// Adds a header's value as it is written: bytes that are not UTF-8 as they are.
+pub(super) fn push_value(alloc: Global, value: &[u8], bytes: &mut Vec<u8>) -> Result<(), AllocError>
+    ensures written { OnOk result (bytes.new.items
+        ≡ bytes.old.items ++ written_bytes value.now) }
+{
+    let Ok(text) = from_utf8(value) else {
+        return bytes.extend_from_slice(value);
+    };
+    let written = encoded(alloc, text)?;
+    bytes.extend_from_slice(written.as_bytes())
 }
 
 /// Whether a value is printable ASCII, does not begin with a space and does not hold `=?`.
