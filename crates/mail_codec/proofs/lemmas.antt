@@ -24,4 +24,5 @@ pub mod Written
 pub mod QuotedPrintableDigits
 pub mod QuotedPrintableEscapes
 pub mod QuotedPrintableLines
+pub mod QuotedPrintableMarks
 pub mod QuotedPrintableLaw
