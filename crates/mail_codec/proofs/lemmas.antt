@@ -25,4 +25,5 @@ pub mod Written
 pub mod QuotedPrintableDigits
 pub mod QuotedPrintableEscapes
 pub mod QuotedPrintableLines
+pub mod QuotedPrintableMarks
 pub mod QuotedPrintableLaw
