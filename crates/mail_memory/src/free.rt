@@ -1,5 +1,6 @@
 //! The calls that take no memory, and whether they return what is right.
 
+use crate::data;
 use crate::found::is_cow;
 use mail_codec::bytescan::{find, find_byte, find_pair};
 use mail_codec::charset::{Charset, decode_ascii, decode_latin1};
@@ -30,6 +31,7 @@ pub fn are_right(
         && is_true(read_texts(alloc))
         && is_true(decode_ascii_bytes(alloc))
         && are_places()
+        && data::is_one_mail()
 }
 
 /// Whether there is a result, and it is right.
