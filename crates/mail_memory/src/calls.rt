@@ -15,7 +15,7 @@ pub struct Fault {
 }
 
 /// Each group, by the name of one of its calls.
-static GROUPS: [&str; 24] = [
+static GROUPS: [&str; 25] = [
     "decode_base64",
     "decode_quoted_printable",
     "decode",
@@ -40,6 +40,7 @@ static GROUPS: [&str; 24] = [
     "parse_mail_with",
     "get_as_string_with",
     "render",
+    "encode_value",
 ];
 
 /// Makes the calls of each group, again so many times at most where memory ran out, always on the
@@ -126,6 +127,7 @@ fn is_right(alloc: Global, inputs: &Inputs<'_>, group: &str) -> Result<bool, Mai
         "parse_mail_with" => tables::read_mail(alloc),
         "get_as_string_with" => tables::read_bodies(alloc),
         "render" => outlines::write(alloc),
+        "encode_value" => outlines::write_values(alloc),
         _ => Ok(false),
     }
 }
