@@ -8,7 +8,7 @@ asks Python, and not the oracle.
 
 The list of the repository was made with the code of the Rust crate mailparse 0.18.0, changed where
 docs/DIFFERENCES.md says that this port differs, its Base64 errors replaced by the number of the
-first group of four that is not one.
+first group of four that is not one. The kind `email_header` asks no oracle: Python writes the values.
 """
 import argparse
 import importlib
@@ -16,7 +16,7 @@ import sys
 
 from questions.oracle import Unusable, oracle_named
 
-KINDS = ["value", "body", "date", "msgid", "ctype", "dispo", "mail", "tables"]
+KINDS = ["value", "body", "date", "msgid", "ctype", "dispo", "mail", "tables", "email_header"]
 
 
 def main():

@@ -8,7 +8,8 @@
 //!
 //! tools/make_answers.py made the list in the file `stdin`, with the code of the Rust crate
 //! mailparse 0.18.0 changed where docs/DIFFERENCES.md says that this port differs; quoted-printable
-//! came from a stand-in. What is wanted in the lines `tables` is what Python reads.
+//! came from a stand-in. What is wanted in the lines `tables` is what Python reads, and the last
+//! values are those that Python wrote of texts.
 #![tactic(auto)]
 
 mod body;

@@ -15,7 +15,7 @@ pub struct Fault {
 }
 
 /// Each group, by the name of one of its calls.
-static GROUPS: [&str; 29] = [
+static GROUPS: [&str; 30] = [
     "decode_base64",
     "decode_quoted_printable",
     "decode",
@@ -40,6 +40,7 @@ static GROUPS: [&str; 29] = [
     "parse_mail_with",
     "get_as_string_with",
     "render",
+    "encode_value",
     "file_name",
     "base64_front",
     "text_part",
@@ -131,6 +132,7 @@ fn is_right(alloc: Global, inputs: &Inputs<'_>, group: &str) -> Result<bool, Mai
         "parse_mail_with" => tables::read_mail(alloc),
         "get_as_string_with" => tables::read_bodies(alloc),
         "render" => outlines::write(alloc),
+        "encode_value" => outlines::write_values(alloc),
         "file_name" => data::find_files(alloc),
         "base64_front" => data::read_leniently(alloc),
         "text_part" => data::find_parts(alloc),
