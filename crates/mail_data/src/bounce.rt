@@ -15,8 +15,8 @@ use mail_codec::bytescan::find_byte;
 use mailparse::{MailHeader, MailHeaderMap, MailParseError, ParsedMail, parse_headers};
 use std::alloc::{AllocError, Global};
 
-/// What a report on delivery says of one recipient, as `recipients` returns it: texts as they were
-/// written, and `None` where there is no such field (RFC 3464, section 2.3).
+/// What a report on delivery says of one recipient, as `recipients` returns it: the texts of its
+/// fields, and `None` where there is no such field (RFC 3464, section 2.3).
 #[derive(Drop)]
 pub struct Recipient {
     /// The address that the report is on, without its type: `Final-Recipient`.

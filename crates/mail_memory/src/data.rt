@@ -30,11 +30,13 @@ pub fn find_files(alloc: Global) -> Result<bool, MailParseError> {
     let [file] = files.as_slice() else {
         return Ok(false);
     };
-    Ok(file.path.as_str() == "2"
-        && is_some_text(file_name(alloc, file.part)?, "a.png")
-        && is_attachment(alloc, file.part)?
-        && !is_attachment(alloc, &mail)?
-        && is_text(safe_file_name(alloc, "../a")?, ".._a"))
+    Ok(
+        file.path.as_str() == "2"
+            && is_some_text(file_name(alloc, file.part)?, "a.png")
+            && is_attachment(alloc, file.part)?
+            && !is_attachment(alloc, &mail)?
+            && is_text(safe_file_name(alloc, "../a")?, ".._a"),
+    )
 }
 
 /// `base64_front`, `loose_body` and `ids_in`.
@@ -43,10 +45,12 @@ pub fn read_leniently(alloc: Global) -> Result<bool, MailParseError> {
     let [_, file] = mail.subparts.as_slice() else {
         return Ok(false);
     };
-    Ok(is_front(alloc, b"aGVsbG8", b"hello", None)?
-        && is_front(alloc, b"aGVs*G8=", b"hel", Some(1))?
-        && is_base64(alloc, file)?
-        && is_only_text(ids_in(alloc, "x <a@x> <b")?, "a@x"))
+    Ok(
+        is_front(alloc, b"aGVsbG8", b"hello", None)?
+            && is_front(alloc, b"aGVs*G8=", b"hel", Some(1))?
+            && is_base64(alloc, file)?
+            && is_only_text(ids_in(alloc, "x <a@x> <b")?, "a@x"),
+    )
 }
 
 /// Whether this can be read of a Base64 body, up to an invalid group.
@@ -90,10 +94,12 @@ pub fn read_report(alloc: Global) -> Result<bool, MailParseError> {
     let [refused, recipient] = found.as_slice() else {
         return Ok(false);
     };
-    Ok(refused.action.is_none()
-        && is_field(&recipient.final_recipient, "a@x")
-        && is_field(&recipient.original_recipient, "b@x")
-        && is_failure(recipient))
+    Ok(
+        refused.action.is_none()
+            && is_field(&recipient.final_recipient, "a@x")
+            && is_field(&recipient.original_recipient, "b@x")
+            && is_failure(recipient),
+    )
 }
 
 /// Whether a delivery to a recipient failed, for the reason in `REPORT`.
@@ -119,9 +125,11 @@ pub fn read_thread(alloc: Global) -> Result<bool, MailParseError> {
     let [first, second] = found.as_slice() else {
         return Ok(false);
     };
-    Ok(first.as_str() == "a@x"
-        && second.as_str() == "b@x"
-        && is_some_text(message_id(alloc, &mail)?, "c@x"))
+    Ok(
+        first.as_str() == "a@x"
+            && second.as_str() == "b@x"
+            && is_some_text(message_id(alloc, &mail)?, "c@x"),
+    )
 }
 
 /// `read_mailbox`, which takes no memory.
