@@ -77,8 +77,8 @@ fn decode_at_once(alloc: Global, text: &[u8]) -> Result<Vec<u8>, AllocError>
     Ok(bytes)
 }
 
-/// The same, by as much at a time as a buffer has room for. Where it has none for what stands before
-/// a line end or an escape, the rest is read at once.
+/// The same, by as much at a time as a buffer has room for. Where it has none for what stands
+/// before a line end or an escape, the rest is read at once.
 fn decode_by_buffers(alloc: Global, text: &[u8]) -> Result<Vec<u8>, AllocError>
     ensures { IfOk result (λ bytes. bytes.items ≡ quoted_printable text.now) }
 {
@@ -106,9 +106,9 @@ fn push_at_once(alloc: Global, bytes: &mut Vec<u8>, text: &[u8]) -> Result<(), A
     Ok(())
 }
 
-/// Writes the bytes that a text from a place on stands for at the front of `output`, as far as there
-/// is room. Returns how many bytes they are, and where the text goes on. Here and below, the bytes
-/// after them may be overwritten.
+/// Writes the bytes that a text from a place on stands for at the front of `output`, as far as
+/// there is room. Returns how many bytes they are, and where the text goes on. Here and below, the
+/// bytes after them may be overwritten.
 ///
 /// What has been copied since the last line end or escape, from `plain` on, is taken back where a
 /// line end shows that it does not stay, or where there is no room to find out.
@@ -239,8 +239,8 @@ fn is_blank(byte: u8) -> bool
     byte == b' ' || byte == b'\t'
 }
 
-/// Writes the bytes before the first `=` or LF, or all where there is none. A vector is written whole
-/// before it is looked at, so that a copy of a few bytes has a length that is known.
+/// Writes the bytes before the first `=` or LF, or all where there is none. A vector is written
+/// whole before it is looked at, so that a copy of a few bytes has a length that is known.
 #[inline(always)]
 fn put_run(output: &mut [u8], bytes: &[u8]) -> usize
     requires room { length bytes.now ≤ length output.old }
