@@ -69,9 +69,11 @@ fn is_header(
     };
     let written = encode_value(alloc, text)?;
     let shown = header.get_value(alloc)?;
-    Ok(header.get_key_raw() == key
-        && header.get_value_raw() == written.as_bytes()
-        && shown.as_str() == text)
+    Ok(
+        header.get_key_raw() == key
+            && header.get_value_raw() == written.as_bytes()
+            && shown.as_str() == text,
+    )
 }
 
 /// Whether the body of a message stands as these bytes.
