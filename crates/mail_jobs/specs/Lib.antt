@@ -1,0 +1,5 @@
+pub mod Outcomes
+pub mod Indexer
+pub mod IndexerViews
+pub mod Attachments
+pub mod AttachmentViews
