@@ -40,7 +40,8 @@ names_kit() {
 # copy_sources: what a fresh clone has of the library and of the samples
 copy_sources() {
     mkdir -p "$work/rocktray" "$work/mine/crates"
-    tar -C "$top" --exclude=out -cf - crates/mail_codec crates/mailparse samples | tar -C "$work/rocktray" -xf -
+    tar -C "$top" --exclude=out -cf - crates.txt crates/{mail_codec,mailparse,mail_data,mail_tables} samples \
+        | tar -C "$work/rocktray" -xf -
 }
 
 # in_folder FOLDER COMMANDS: runs the README's commands there

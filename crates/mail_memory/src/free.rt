@@ -1,7 +1,7 @@
 //! The calls that take no memory, and whether they return what is right.
 
 use crate::found::is_cow;
-use mail_codec::bytescan::{find, find_byte};
+use mail_codec::bytescan::{find, find_byte, find_pair};
 use mail_codec::charset::{Charset, decode_ascii, decode_latin1};
 use mailparse::body::Body;
 use mailparse::{
@@ -140,9 +140,10 @@ fn decode_ascii_bytes(alloc: Global) -> Result<bool, MailParseError> {
     Ok(is_cow(decode_latin1(alloc, b"A")?, "A") && is_cow(decode_ascii(alloc, b"A")?, "A"))
 }
 
-/// `find_byte`, `find` and `Charset::for_label`.
+/// `find_byte`, `find`, `find_pair` and `Charset::for_label`.
 fn are_places() -> bool {
     find_byte(b"abc", b'c') == Some(2)
         && find(b"abcd", b"cd") == Some(2)
+        && find_pair(b"a-b\n-c\n-d, 18 bytes", b'\n', b'-') == Some(3)
         && Charset::for_label(b" Latin1 ") == Some(Charset::Windows1252)
 }

@@ -11,30 +11,32 @@
 //!
 //! # Examples
 //!
-//! A program that prints the subject of a mail, its plain text, and the names of its attachments:
+//! A program that prints the subject of a mail, its text, and the names of its attachments, with
+//! the finding of files of the crate `mail_data` and the charsets of `mail_tables`:
 //!
 //! ```rust
 //! #![tactic(auto)]
 //!
-//! use mailparse::{DispositionType, MailHeaderMap, parse_mail};
+//! use mail_data::files::{attachments, file_name};
+//! use mail_data::texts::text_part;
+//! use mail_tables::TABLES;
+//! use mailparse::{MailHeaderMap, parse_mail_with};
 //! use std::io::Read;
 //!
 //! fn main(rt: HostRuntime) -> anyhow::Result<()> {
 //!     let alloc = rt.alloc();
 //!     let mut raw = Vec::new(alloc);
 //!     rt.reader().read_to_end(&mut raw)?;
-//!     let mail = parse_mail(alloc, raw.as_slice())?;
-//!     if let Some(subject) = mail.headers.get_first_value(alloc, "Subject")? {
-//!         println!(rt; "Subject: {subject}")?;
+//!     let mail = parse_mail_with(alloc, raw.as_slice(), &TABLES)?;
+//!     if let Some(subject) = mail.headers.get_first_header("Subject") {
+//!         println!(rt; "Subject: {}", subject.get_value_with(alloc, &TABLES)?)?;
 //!     }
-//!     for part in mail.parts(alloc)? {
-//!         let shown = part.get_content_disposition(alloc)?;
-//!         if shown.disposition == DispositionType::Attachment {
-//!             if let Some(name) = shown.params.get("filename") {
-//!                 println!(rt; "Attachment: {name}")?;
-//!             }
-//!         } else if part.ctype.mimetype.as_str() == "text/plain" {
-//!             println!(rt; "{}", part.get_body(alloc)?)?;
+//!     if let Some(part) = text_part(alloc, &mail)? {
+//!         println!(rt; "{}", part.get_body_with(alloc, &TABLES)?)?;
+//!     }
+//!     for file in attachments(alloc, &mail)? {
+//!         if let Some(name) = file_name(alloc, file.part)? {
+//!             println!(rt; "Attachment {}: {name}", file.path)?;
 //!         }
 //!     }
 //!     Ok(())
