@@ -379,14 +379,16 @@ copied_more len n run xs ys front more fits here is =
     sym (take-take len (len + n + run) ys (omega arith))
     ∙ ap (take len) is
     ∙ take-append-le len (take (len + n) xs) more (omega (arith, length-take-le (len + n) xs fits))
-    ∙ take-take len (len + n) xs (omega arith) in
-    (low, append_cancel_left (take len xs) _ _ (
-        ap (λ (r : List ℕ). r ++ take (n + run) (drop len ys)) (sym low)
-        ∙ sym (take-add len (n + run) ys)
-        ∙ ap (λ (k : ℕ). take k ys) {x = len + (n + run)} {y = len + n + run} (omega arith)
-        ∙ is
-        ∙ ap (λ (r : List ℕ). r ++ more) (take-add len n xs ∙ ap (λ (r : List ℕ). take len xs ++ r) here)
-        ∙ append_assoc (take len xs) front more))
+    ∙ take-take len (len + n) xs (omega arith) in (
+      low,
+      append_cancel_left (take len xs) _ _ (
+          ap (λ (r : List ℕ). r ++ take (n + run) (drop len ys)) (sym low)
+          ∙ sym (take-add len (n + run) ys)
+          ∙ ap (λ (k : ℕ). take k ys) {x = len + (n + run)} {y = len + n + run} (omega arith)
+          ∙ is
+          ∙ ap (λ (r : List ℕ). r ++ more) (take-add len n xs ∙ ap (λ (r : List ℕ). take len xs ++ r) here)
+          ∙ append_assoc (take len xs) front more),
+    )
 
 -- what goes before an escape, whatever it stands for
 before : (text : List ℕ) (from to : ℕ) (low : from ≤ to) (high : to ≤ length text) (plain : IsPlain text from to) → (first_escape (drop to text) ≡ None → ⊥)
@@ -419,14 +421,15 @@ pub length-with_part : (place : ℕ) (output part : List ℕ) → place ≤ leng
 length-with_part place output part fits same =
     let k = length output - place in
     omega (
-        arith,
-        length-append (take place output) (part ++ drop k (drop place output)),
-        length-append part (drop k (drop place output)),
-        length-take-le place output fits,
-        length-drop k (drop place output),
-        same,
-        length-take k (drop place output),
-        length-drop place output)
+      arith,
+      length-append (take place output) (part ++ drop k (drop place output)),
+      length-append part (drop k (drop place output)),
+      length-take-le place output fits,
+      length-drop k (drop place output),
+      same,
+      length-take k (drop place output),
+      length-drop place output,
+    )
 
 module _ (text : List ℕ) (from : ℕ) (output : List ℕ) (len plain at : ℕ) (h : Reading text from output len plain at) where
   abbrev place : ℕ
