@@ -89,7 +89,7 @@ fn plain_place(bytes: &[u8], first: u8, second: u8) -> Option<usize> {
         .position(|pair| pair[0] == first && pair[1] == second)
 }
 
-/// The first place of so many bytes where LF and `-` are not found, among LF and `-` that stand alone.
+/// The first place of so many bytes where LF and `-` are not found, among others that are `-`.
 fn first_missed(alloc: Global, length: usize) -> Result<Option<usize>, AllocError> {
     for place in 1..length {
         let mut bytes = repeated(alloc, b"-", length)?;
@@ -109,7 +109,7 @@ fn a_pair_at_each_place(rt: HostRuntime) -> Result<(), Fail> {
     Ok(())
 }
 
-/// Whether LF and `-` are nowhere in so many `-`, in so many LF, and in so many `-` with LF at the end.
+/// Whether LF and `-` are nowhere in so many `-`, in so many LF, and in so many `-` before a LF.
 fn is_nowhere(alloc: Global, length: usize) -> Result<bool, AllocError> {
     let dashes = repeated(alloc, b"-", length)?;
     let feeds = repeated(alloc, b"\n", length)?;
@@ -130,8 +130,8 @@ fn each_byte_of_a_pair_alone(rt: HostRuntime) -> Result<(), Fail> {
     Ok(())
 }
 
-/// The first length up to 200 for which two equal bytes are not found where the plain rule finds them:
-/// candidates overlap.
+/// The first length up to 200 for which two equal bytes are not found where the plain rule finds
+/// them: candidates overlap.
 fn first_twice_missed(alloc: Global) -> Result<Option<usize>, AllocError> {
     for length in 0..=200usize {
         let mut bytes = repeated(alloc, b"x", length)?;

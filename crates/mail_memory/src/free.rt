@@ -146,6 +146,6 @@ fn decode_ascii_bytes(alloc: Global) -> Result<bool, MailParseError> {
 fn are_places() -> bool {
     find_byte(b"abc", b'c') == Some(2)
         && find(b"abcd", b"cd") == Some(2)
-        && find_pair(b"a-b\n-c\n-d, 18 bytes", b'\n', b'-') == Some(3)
+        && find_pair(b"a-b\n-c\n-d, 19 bytes", b'\n', b'-') == Some(3)
         && Charset::for_label(b" Latin1 ") == Some(Charset::Windows1252)
 }

@@ -110,8 +110,8 @@ fn find_from_u8_line_prefix(raw: &[u8], start: usize, key: &[u8]) -> Option<usiz
 /// The first place after `start` where a line starts with that byte.
 fn find_from_u8(raw: &[u8], start: usize, byte: u8) -> Option<usize>
     requires within { start ≤ length raw.now }
-    ensures least { result
-        ≡ option_map (λ k. suc (start + k)) (text_place (drop start raw.now) (line_feed ∷ byte ∷ [])) }
+    ensures least { result ≡ option_map (λ k. suc (start + k))
+        (text_place (drop start raw.now) (line_feed ∷ byte ∷ [])) }
     ensures bounds { IfSome result (λ at. (start < at) × (at < length raw.now)) }
 {
     let place = find_pair(&raw[start..], b'\n', byte)?;
