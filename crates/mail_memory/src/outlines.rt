@@ -17,8 +17,10 @@ pub fn write(alloc: Global) -> Result<bool, MailParseError> {
 pub fn write_values(alloc: Global) -> Result<bool, MailParseError> {
     let wanted = "=?utf-8?B?4oKs4oKs4oKs4oKs4oKs4oKs4oKs4oKs4oKs4oKs4oKs4oKs4oKs4oKs4oKs?=\r\n \
         =?utf-8?B?4oKs?=";
-    Ok(is_text(encode_value(alloc, "a b")?, "a b")
-        && is_text(encode_value(alloc, "€€€€€€€€€€€€€€€€")?, wanted))
+    Ok(
+        is_text(encode_value(alloc, "a b")?, "a b")
+            && is_text(encode_value(alloc, "€€€€€€€€€€€€€€€€")?, wanted),
+    )
 }
 
 fn with_one_part(alloc: Global) -> Result<Outline, AllocError> {
