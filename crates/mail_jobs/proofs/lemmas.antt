@@ -1,2 +1,1 @@
 pub mod Attachments
-pub mod Bounces
