@@ -1,8 +1,8 @@
 #!/usr/bin/env python3
 """Runs the examples of the doc comments and compares the README's program with the crate page's.
 
-Each fence ```rust in a doc comment of mail_codec, mailparse, mail_laws and mail_data becomes a test of its own: the lines as
-they stand, in a function that has the runtime `rt` and its allocator `alloc`, and in which `?` passes
+Each fence ```rust in a doc comment of mail_codec, mail_tables, mailparse, mail_laws and mail_data becomes a test of its
+own: the lines as they stand, in a function that has the runtime `rt` and its allocator `alloc`, and in which `?` passes
 every error on. `rt try --test` builds and runs them, without a proof, in a folder that is deleted
 afterwards. A fence with `fn main` is a program: it has to be the README's, which tools/try_outside.sh
 builds and runs. Each public call has to have an example, and the heading `# Errors` exactly where it
@@ -22,7 +22,7 @@ import tempfile
 from make_api import crate_modules
 
 TOP = os.path.dirname(os.path.dirname(os.path.abspath(__file__)))
-CRATES = ("mail_codec", "mailparse", "mail_laws", "mail_data")
+CRATES = ("mail_codec", "mail_tables", "mailparse", "mail_laws", "mail_data")
 DOC = re.compile(r"^\s*//[/!] ?(.*)$")
 
 
@@ -139,7 +139,8 @@ def write_crates(folder, examples):
     for crate in CRATES:
         for part in ("src", "specs", "proofs"):
             name = os.path.join("crates", crate, part)
-            shutil.copytree(os.path.join(TOP, name), os.path.join(folder, name))
+            if os.path.isdir(os.path.join(TOP, name)):
+                shutil.copytree(os.path.join(TOP, name), os.path.join(folder, name))
     source = os.path.join(folder, "crates", "examples", "src")
     os.makedirs(source)
     with open(os.path.join(source, "lib.rt"), "w", encoding="utf-8") as file:

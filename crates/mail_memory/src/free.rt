@@ -2,8 +2,9 @@
 
 use crate::data;
 use crate::found::is_cow;
+use crate::tables::TABLES;
 use mail_codec::bytescan::{find, find_byte, find_pair};
-use mail_codec::charset::{Charset, decode_ascii, decode_latin1};
+use mail_codec::charset::{Charset, decode_ascii, decode_latin1, table_for_label};
 use mailparse::body::Body;
 use mailparse::{
     DispositionType, MailHeader, MailHeaderMap, MailParseError, ParsedContentDisposition,
@@ -142,10 +143,11 @@ fn decode_ascii_bytes(alloc: Global) -> Result<bool, MailParseError> {
     Ok(is_cow(decode_latin1(alloc, b"A")?, "A") && is_cow(decode_ascii(alloc, b"A")?, "A"))
 }
 
-/// `find_byte`, `find`, `find_pair` and `Charset::for_label`.
+/// `find_byte`, `find`, `find_pair`, `Charset::for_label` and `table_for_label`.
 fn are_places() -> bool {
     find_byte(b"abc", b'c') == Some(2)
         && find(b"abcd", b"cd") == Some(2)
         && find_pair(b"a-b\n-c\n-d, 19 bytes", b'\n', b'-') == Some(3)
         && Charset::for_label(b" Latin1 ") == Some(Charset::Windows1252)
+        && table_for_label(b" X-One ", &TABLES) == Some(0)
 }

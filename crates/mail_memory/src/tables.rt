@@ -12,7 +12,7 @@ use std::alloc::Global;
 const HIGH: [char; 128] = ['\u{400}'; 128];
 
 /// A table with one label.
-const TABLES: [SingleByteTable<'static>; 1] = [SingleByteTable {
+pub const TABLES: [SingleByteTable<'static>; 1] = [SingleByteTable {
     labels: &["x-one"],
     high: &HIGH,
 }];
