@@ -2,7 +2,8 @@
 # time_mails.sh [ORACLE]: prints the nanoseconds that reading large mails takes for each byte, the
 # least of the rounds, of which there are 15, or ROUNDS: `parse` reads the mail, `full` also decodes
 # the value of each header and the whole body of each part. The mails are a large attachment, many
-# small mails in one, headers alone, and quoted-printable: a text, and escapes alone.
+# small mails in one, headers alone, and quoted-printable: a text, and escapes alone. Before that comes
+# what one copy of the same bytes takes in memory, which no reader can beat.
 #
 # With ORACLE, a program whose command `bench N` reads a mail from standard input and prints lines
 # `parse ..` and `all ..` of the same works, its times stand beside ours, and how many times theirs
@@ -32,9 +33,24 @@ row() {
     }'
 }
 
+# copied: the time of one copy of the mail, the least of 40, for each byte
+copied() {
+    python3 -c '
+import sys, time
+with open(sys.argv[1], "rb") as file:
+    data = file.read()
+target = memoryview(bytearray(len(data)))
+times = []
+for _ in range(40):
+    start = time.perf_counter_ns()
+    target[:] = data
+    times.append(time.perf_counter_ns() - start)
+print(f"{min(times) / len(data):.3f}")' "$work/input"
+}
+
 for mail in attachment small headers quoted-text quoted-escapes; do
     make_mail "$mail"
-    echo "$mail: $(wc -c < "$work/input") bytes"
+    echo "$mail: $(wc -c < "$work/input") bytes, a copy $(copied) ns a byte"
     : > "$work/ours"
     : > "$work/theirs"
     for _turn in $(seq "$turns"); do
