@@ -89,14 +89,21 @@ fn plain_place(bytes: &[u8], first: u8, second: u8) -> Option<usize> {
         .position(|pair| pair[0] == first && pair[1] == second)
 }
 
-/// The first place of so many bytes where LF and `-` are not found, among others that are `-`.
+/// The first place of a LF among so many bytes, the others being `-`, where the pair is not found, or
+/// is found though the LF is the last byte.
 fn first_missed(alloc: Global, length: usize) -> Result<Option<usize>, AllocError> {
-    for place in 1..length {
-        let mut bytes = repeated(alloc, b"-", length)?;
-        bytes[place - 1] = b'\n';
-        if find_pair(bytes.as_slice(), b'\n', b'-') != Some(place - 1) {
+    let mut bytes = repeated(alloc, b"-", length)?;
+    for place in 0..bytes.len() {
+        bytes[place] = b'\n';
+        let expected = if place + 1 < bytes.len() {
+            Some(place)
+        } else {
+            None
+        };
+        if find_pair(bytes.as_slice(), b'\n', b'-') != expected {
             return Ok(Some(place));
         }
+        bytes[place] = b'-';
     }
     Ok(None)
 }
