@@ -3,3 +3,5 @@ pub mod Indexer
 pub mod IndexerViews
 pub mod Attachments
 pub mod AttachmentViews
+pub mod Bounces
+pub mod ThreadViews

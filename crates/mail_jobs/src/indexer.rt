@@ -5,11 +5,11 @@ ghost use Rattle.mailparse.specs.Mail.{root};
 ghost use Rattle.mailparse.specs.Map.{first_value_in, text_found};
 ghost use Rattle.mailparse.specs.Outcome.{AnswersOrMemory, IsMemory};
 ghost use Rattle.mailparse.specs.Views.{tree_of};
-ghost use Rattle.mail_jobs.specs.Indexer.{date, message_id, text};
+ghost use Rattle.mail_jobs.specs.Indexer.{date, text};
 ghost use Rattle.mail_jobs.specs.IndexerViews.{IsEntry};
 ghost use Rattle.mail_jobs.specs.Outcomes.{AnswersIf};
 
-use mail_data::lenient::ids_in;
+use mail_data::archive::message_id;
 use mail_data::texts::text_part;
 use mailparse::{MailHeaderMap, MailParseError, ParsedMail, SingleByteTable, dateparse};
 use std::alloc::Global;
@@ -40,7 +40,7 @@ pub fn index_entry(
         subject: value_of(alloc, mail, "Subject", tables)?,
         from: value_of(alloc, mail, "From", tables)?,
         date: date_of(alloc, mail)?,
-        message_id: id_of(alloc, mail)?,
+        message_id: message_id(alloc, mail)?,
         text: text_of(alloc, mail, tables)?,
     })
 }
@@ -72,16 +72,6 @@ fn date_of(
 {
     match mail.headers.get_first_value(alloc, "Date")? {
         Some(date) => Ok(Some(dateparse(date.as_str()))),
-        None => Ok(None),
-    }
-}
-
-/// The first id of `Message-ID`, whatever else stands there.
-fn id_of(alloc: Global, mail: &ParsedMail<'_>) -> Result<Option<String>, MailParseError>
-    ensures { AnswersOrMemory text_found result (Ok (message_id (root (tree_of mail.now)))) }
-{
-    match mail.headers.get_first_value(alloc, "Message-ID")? {
-        Some(text) => Ok(ids_in(alloc, text.as_str())?.into_iter().next()),
         None => Ok(None),
     }
 }

@@ -2,7 +2,9 @@
 //! characters escaped, so that no mail can forge a line or move the cursor.
 
 use crate::attachments::{StoredFile, stored_files};
+use crate::bounces::failed_recipients;
 use crate::indexer::{IndexEntry, index_entry};
+use crate::threads::thread_place;
 use mail_tables::TABLES;
 use mailparse::{MailParseError, parse_mail_with};
 use std::alloc::{AllocError, Global};
@@ -16,13 +18,19 @@ pub fn report(alloc: Global, mail: &[u8]) -> Result<String, AllocError> {
     }
 }
 
-/// The lines of a mail: its index, then its files, then an empty one.
+/// The lines of a mail: its index, its files, who was not reached, its parents, and an empty one.
 fn lines_of(alloc: Global, mail: &[u8]) -> Result<String, MailParseError> {
     let mail = parse_mail_with(alloc, mail, &TABLES)?;
     let mut lines = String::new(alloc);
     push_entry(&mut lines, &index_entry(alloc, &mail, &TABLES)?)?;
     for file in stored_files(alloc, &mail)?.as_slice() {
         push_file(&mut lines, file)?;
+    }
+    for recipient in failed_recipients(alloc, &mail)?.as_slice() {
+        push_text(&mut lines, "not reached", &recipient.final_recipient)?;
+    }
+    for parent in thread_place(alloc, &mail)?.parents.as_slice() {
+        write!(lines, "parent: {:?}\n", parent.as_str())?;
     }
     lines.push('\n')?;
     Ok(lines)
