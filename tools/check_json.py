@@ -285,6 +285,10 @@ def check_calls():
     with tempfile.TemporaryDirectory() as folder:
         ended = run([folder])
         judge(ended.returncode == 1 and ended.stderr and not ended.stdout, "a folder")
+        link = os.path.join(folder, "link")
+        os.symlink(os.path.join(TOP, "mail_json"), link)
+        ended = subprocess.run([link, *names], capture_output=True, cwd=folder, timeout=60)
+        same(ended.stdout, both, "through a symbolic link")
 
 
 def main():

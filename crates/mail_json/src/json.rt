@@ -36,16 +36,22 @@ pub fn write_optional<W: Write>(
 
 /// Writes a list of strings.
 pub fn write_texts<W: Write>(alloc: Global, out: &mut W, texts: &[String]) -> Result<(), Fault> {
-    let mut before = "[";
+    write_word(out, "[")?;
+    let mut is_first = true;
     for text in texts {
-        write_word(out, before)?;
+        write_comma(out, is_first)?;
         write_text(alloc, out, text.as_str())?;
-        before = ",";
-    }
-    if texts.is_empty() {
-        return write_word(out, "[]");
+        is_first = false;
     }
     write_word(out, "]")
+}
+
+/// Writes the comma before an item or a member that is not the first.
+pub fn write_comma<W: Write>(out: &mut W, is_first: bool) -> Result<(), Fault> {
+    if is_first {
+        return Ok(());
+    }
+    write_word(out, ",")
 }
 
 /// Writes text as it stands.

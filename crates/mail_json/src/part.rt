@@ -3,7 +3,7 @@
 use crate::body::{coding_name, decoded_length, raw_length, text_of};
 use crate::fault::Fault;
 use crate::fields::{disposition_name, disposition_of, file_name, is_kept_apart};
-use crate::json::{write_owned, write_text, write_word};
+use crate::json::{write_comma, write_owned, write_text, write_word};
 use mail_codec::bytescan::find_byte;
 use mail_data::lenient::loose_body;
 use mail_tables::TABLES;
@@ -125,13 +125,13 @@ fn write_type<W: Write>(alloc: Global, out: &mut W, ctype: &ParsedContentType) -
     write_word(out, ",\"charset\":")?;
     write_text(alloc, out, ctype.charset.as_str())?;
     write_word(out, ",\"params\":{")?;
-    let mut before = "";
+    let mut is_first = true;
     for (name, value) in &ctype.params {
-        write_word(out, before)?;
+        write_comma(out, is_first)?;
         write_text(alloc, out, name.as_str())?;
         write_word(out, ":")?;
         write_text(alloc, out, value.as_str())?;
-        before = ",";
+        is_first = false;
     }
     write_word(out, "}")
 }
@@ -181,22 +181,31 @@ fn write_body_text<W: Write>(alloc: Global, out: &mut W, body: &Body<'_>) -> Res
     }
 }
 
-/// Writes the headers, each as a pair of its name and its value.
+/// Writes the list of the headers.
 fn write_headers<W: Write>(
     alloc: Global,
     out: &mut W,
     headers: &[MailHeader<'_>],
 ) -> Result<(), Fault> {
-    let mut before = ",\"headers\":[[";
+    write_word(out, ",\"headers\":[")?;
+    let mut is_first = true;
     for header in headers {
-        write_word(out, before)?;
-        write_owned(alloc, out, header.get_key(alloc)?)?;
-        write_word(out, ",")?;
-        write_owned(alloc, out, header.get_value_with(alloc, &TABLES)?)?;
-        before = "],[";
+        write_comma(out, is_first)?;
+        write_header(alloc, out, header)?;
+        is_first = false;
     }
-    if headers.is_empty() {
-        return write_word(out, ",\"headers\":[]");
-    }
-    write_word(out, "]]")
+    write_word(out, "]")
+}
+
+/// Writes a header as a pair of its name and its value.
+fn write_header<W: Write>(
+    alloc: Global,
+    out: &mut W,
+    header: &MailHeader<'_>,
+) -> Result<(), Fault> {
+    write_word(out, "[")?;
+    write_owned(alloc, out, header.get_key(alloc)?)?;
+    write_word(out, ",")?;
+    write_owned(alloc, out, header.get_value_with(alloc, &TABLES)?)?;
+    write_word(out, "]")
 }
