@@ -8,6 +8,7 @@ reads each line, which has to be ASCII control free, its members in their order.
 The last line is `N passed, N failed`; the status is 1 where a comparison failed.
 """
 import argparse
+import base64
 import email
 import email.header
 import email.utils
@@ -30,7 +31,6 @@ PART_MEMBERS = [
 ]
 OPTIONAL = {"date_error", "error"}
 HIDDEN = re.compile("[\x00-\x1f\x7f-\x9f\u2028\u2029]")
-ALTERNATIVE = b'Content-Type: multipart/mixed; boundary="%s"\n\n'
 
 passed = 0
 failed = 0
@@ -168,7 +168,7 @@ def check_samples():
 def check_characters():
     """Characters that move a terminal, and bytes that are no text."""
     forged = 'a\x00\x1b[31m\x7f\x85\u009b2J\u2028\u2029"\\\n{"subject":"forged"}'
-    word = email.header.Header(forged, "utf-8").encode(maxlinelen=0)
+    word = "=?utf-8?B?" + base64.b64encode(forged.encode()).decode() + "?="
     body = "é\r\n\t\x7f\x1b\x9b\u2029".encode() + b"\xed\xa0\x80|\xff|\xf0\x90\x80"
     data = b"Subject: " + word.encode() + b"\nContent-Type: text/plain; charset=utf-8\n\n" + body
     found = objects([], data, 0, "characters")
@@ -197,7 +197,8 @@ def check_faults():
 
 def nested(levels):
     """A mail with parts so many levels below it."""
-    return b"".join(ALTERNATIVE % b"%d" % level + b"--%d\n" % level for level in range(levels)) + b"\nend"
+    start = b"Content-Type: multipart/mixed; boundary=b%03d\n\n--b%03d\n"
+    return b"".join(start % (level, level) for level in range(levels)) + b"\nend"
 
 
 def check_levels():
@@ -226,6 +227,19 @@ def made(random_, end, path, levels):
         raw += part + end
     raw += b"--" + boundary + b"--" + random_.choice([b"", end, end + b"epilogue"])
     return raw, [(path, raw, 0)] + places
+
+
+def check_edges():
+    """Where parts begin and end that are empty, after a boundary that is folded, and without an end."""
+    start = b"Content-Type: multipart/mixed; boundary=b\n\n"
+    for data, wanted in (
+        (start + b"--b\n--b\n\n--b--\n", [(0, 58), (47, 47), (51, 51)]),
+        (start + b"--b\n\none", [(0, 51), (47, 51)]),
+        (start + b"--b", [(0, 46)]),
+        (b'Content-Type: multipart/mixed; boundary="b\n c"\n\n--b c\n\none', [(0, 58), (54, 58)]),
+    ):
+        found = objects([], data, 0, repr(data))[0]["parts"]
+        same([(part["start"], part["end"]) for part in found], wanted, repr(data))
 
 
 def check_places():
@@ -302,7 +316,7 @@ def main():
         return 1
     PROGRAM = built.stdout.decode().strip()
     for check in (
-        check_samples, check_characters, check_faults, check_levels, check_places, check_mailboxes, check_calls,
+        check_samples, check_characters, check_faults, check_levels, check_edges, check_places, check_mailboxes, check_calls,
     ):
         check()
     print(f"{passed} passed, {failed} failed")
