@@ -70,8 +70,8 @@ fn has_hidden(text: &str) -> bool {
     false
 }
 
-/// Whether a character, which JSON lets stand, moves a terminal or ends a line for some readers: DEL,
-/// the controls from U+0080 to U+009F, and the separators U+2028 and U+2029.
+/// Whether a character, which JSON lets stand, moves a terminal or ends a line for some readers:
+/// DEL, the controls from U+0080 to U+009F, and the separators U+2028 and U+2029.
 fn is_hidden(c: char) -> bool {
     matches!(c, '\u{7F}'..='\u{9F}' | '\u{2028}' | '\u{2029}')
 }

@@ -65,8 +65,8 @@ fn preamble_end(alloc: Global, part: &ParsedMail<'_>) -> Result<usize, MailParse
     Ok(headers.saturating_add(raw_length(&body)))
 }
 
-/// Where the part begins that follows a part or the preamble that ends here: a line end comes first,
-/// unless what ends here is empty, and then the line of the delimiter.
+/// Where the part begins that follows a part or the preamble that ends here: a line end comes
+/// first, unless what ends here is empty, and then the line of the delimiter.
 fn part_start(raw: &[u8], end: usize, delimiter: usize) -> usize {
     let after = end.saturating_add(line_end_length(raw.get(end..).unwrap_or(b"")));
     let after = after.saturating_add(delimiter);
@@ -119,7 +119,11 @@ fn write_part<W: Write>(
 }
 
 /// Writes the type, its charset and its parameters.
-fn write_type<W: Write>(alloc: Global, out: &mut W, ctype: &ParsedContentType) -> Result<(), Fault> {
+fn write_type<W: Write>(
+    alloc: Global,
+    out: &mut W,
+    ctype: &ParsedContentType,
+) -> Result<(), Fault> {
     write_word(out, ",\"type\":")?;
     write_text(alloc, out, ctype.mimetype.as_str())?;
     write_word(out, ",\"charset\":")?;

@@ -12,10 +12,14 @@ use std::fs;
 use std::io::{self, BufWriter, Read, Write};
 use std::rt::Files;
 
-/// Writes the mails of the files that the arguments name, or of standard input where they name none;
-/// says on standard error what could not be read or written. Returns whether all was written and no
-/// mail refused.
-pub fn run(rt: &(impl Files + Input + Print + Eprint + AllocGlobal), words: &[String], is_mailbox: bool) -> bool {
+/// Writes the mails of the files that the arguments name, or of standard input where they name
+/// none; says on standard error what could not be read or written. Returns whether all was written
+/// and no mail refused.
+pub fn run(
+    rt: &(impl Files + Input + Print + Eprint + AllocGlobal),
+    words: &[String],
+    is_mailbox: bool,
+) -> bool {
     match run_all(rt, words, is_mailbox) {
         Ok(is_whole) => is_whole,
         Err(fault) => {
@@ -93,8 +97,8 @@ pub fn write_input<W: Write>(
     }
 }
 
-/// Writes each mail of a mailbox, and an error for what stands before the first one. Returns whether
-/// there was no error.
+/// Writes each mail of a mailbox, and an error for what stands before the first one. Returns
+/// whether there was no error.
 fn write_mailbox<W: Write>(alloc: Global, mails: Mailbox<'_>, out: &mut W) -> Result<bool, Fault> {
     let mut at = mails.front().len();
     let mut is_whole = mails.front().trim_ascii().is_empty();
@@ -112,7 +116,12 @@ fn write_mailbox<W: Write>(alloc: Global, mails: Mailbox<'_>, out: &mut W) -> Re
 
 /// Writes the line of a mail that begins at this offset of the input. Returns whether it is not
 /// refused.
-fn write_line<W: Write>(alloc: Global, raw: &[u8], start: usize, out: &mut W) -> Result<bool, Fault> {
+fn write_line<W: Write>(
+    alloc: Global,
+    raw: &[u8],
+    start: usize,
+    out: &mut W,
+) -> Result<bool, Fault> {
     match parse_mail_with(alloc, raw, &TABLES) {
         Ok(mail) => {
             write_mail(alloc, out, &mail, start)?;
