@@ -3,11 +3,12 @@
 
 The questions of a KIND, and how the oracle's answers become lines, stand in the file of that name in
 tools/questions; `all` is all kinds, one after the other, as crates/answers/stdin holds them. The same
-seed gives the same list; without one each kind takes its own, as in the repository.
+seed gives the same list; without one each kind takes its own, as in the repository. The kind `tables`
+asks Python, and not the oracle.
 
 The list of the repository was made with the code of the Rust crate mailparse 0.18.0, changed where
 docs/DIFFERENCES.md says that this port differs, its Base64 errors replaced by the number of the
-first group of four that is not one.
+first group of four that is not one. The kind `email_header` asks no oracle: Python writes the values.
 """
 import argparse
 import importlib
@@ -15,7 +16,7 @@ import sys
 
 from questions.oracle import Unusable, oracle_named
 
-KINDS = ["value", "body", "date", "msgid", "ctype", "dispo", "mail"]
+KINDS = ["value", "body", "date", "msgid", "ctype", "dispo", "mail", "tables", "email_header"]
 
 
 def main():

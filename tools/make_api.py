@@ -14,7 +14,7 @@ import textwrap
 
 TOP = os.path.dirname(os.path.dirname(os.path.abspath(__file__)))
 PAGE = os.path.join(TOP, "docs", "API.md")
-CRATES = ["mailparse", "mail_codec", "mail_data", "mail_laws"]
+CRATES = ["mailparse", "mail_codec", "mail_tables", "mail_data", "mail_laws"]
 INTRODUCTION = """\
 # Public types and calls
 
@@ -118,6 +118,8 @@ def add_item(module, lines, at, doc, derives):
     if match := re.match(r"pub (const|fn|struct|enum|trait) (\w+)", line):
         kind, name = match.groups()
         text = signature_at(lines, at) if kind == "fn" else re.sub(r"^pub |\s*(\{|;)$", "", line.strip())
+        if kind == "const" and not line.endswith(";"):
+            text = text.partition(" =")[0]  # its value goes over more lines
         item = Item(kind, name, text, doc, derives)
         if kind not in ENTRIES:
             item.members = members(block_at(lines, at), kind)

@@ -5,16 +5,24 @@ Each line is an outline, step by step, the bytes that it is written as, and the 
 an outline stands in it, or a dash where it is not well formed; crates/outline_vectors/src/steps.rt and
 replay.rt say the form. The keys, values, boundaries and bodies are of bytes that are likely to go
 wrong. This script writes and judges each outline by itself, and has no code in common with the library.
-The same seed gives the same list; crates/outline_vectors/stdin is that of seed 1.
+Of each value that it writes as encoded words it asks `email.header.decode_header` whether they are read as
+the text. With --texts most values are texts of any characters, and there are twice as many outlines. The
+same seed gives the same list; crates/outline_vectors/stdin is that of seed 1, and then that with --texts.
 """
 import argparse
+import base64
+import email.header
+import functools
 import random
+import re
+import sys
 
 COUNT = 300
 KEYS = [b"A", b"Subject", b"X--b", b"--b", b"!~", b"content-type", b"Content-Typ", b"content-transfer-encoding"]
 BAD_KEYS = [b"", b"A:", b":", b"A b", b" A", b"A\t", b"A\r", b"\n", b"A\r\n", b"\x7f", b"\xc3\xa9", b"\0"]
 VALUES = [b"", b"x", b"x ", b"a: b", b"--b", b"--b--", b"=", b"?=", b"= ?", b"a?=b", b"\"", b";", b"base64", b"~", b"a  b", b"8bit"]
-BAD_VALUES = [b" x", b" ", b"=?", b"a=?b", b"=?utf-8?Q?a?=", b"\t", b"a\tb", b"a\r\n b", b"\n", b"a\r", b"\x7f", b"\xc3\xa9", b"a\0"]
+BAD_VALUES = [b" x", b" ", b"=?", b"a=?b", b"=?utf-8?Q?a?=", b"\t", b"a\tb", b"a\r\n b", b"\n", b"a\r", b"\x7f", b"\xc3\xa9", b"a\0",
+              b"\xff", b"a\xc3"]
 TYPES = [b"text/plain", b"text/html; charset=utf-8", b"multi", b"multipar", b"x-multipart/mixed", b"", b"\"multipart/x\"",
          b";multipart/x", b"multipart", b"Multipart/x", b"MULTIPART/MIXED; boundary=b", b"multipart;", b"multiparty/x"]
 TYPE_KEYS = [b"Content-Type", b"content-type", b"CONTENT-TYPE", b"cONTENT-tYPE"]
@@ -22,6 +30,49 @@ BOUNDARIES = [b"b", b"b1", b"b10", b"B", b"0", b"bb", b"Zz09"]
 BAD_BOUNDARIES = [b"", b"a-b", b"b ", b" b", b"b\"", b"b\n", b"b:", b"\xc3\xa9", b"--"]
 PIECES = [b"-", b"--", b"--b", b"--b1", b"--b10", b"--B", b"--0", b"--b--", b"b", b"1", b"\r", b"\n", b"\r\n", b"\n\r", b"\r\n\r\n",
           b":", b": ", b" ", b"A: 1\r\n", b"\0", b"\xff", b"=?", b"x", b"\t", b"--bb", b"\n--", b"\r--b"]
+
+# What the texts of --texts are made of: characters of one to four bytes, what has a meaning in a header, whitespace, marks.
+PARTS = ["a", "Z9", "~", "\u00e9", "\u07ff", "\u20ac", "\ufffd", "\U0001f600", "\U0010ffff", " ", "  ", "=?", "?=", "=", "?", "=?utf-8?B?w6k=?=",
+         "=?utf-8?Q?a?= ", "\r", "\n", "\r\n", "\r\n ", "\t", "\0", "\x1f", "\x7f", "\x80", "\x85", "\xa0", "\u2028", "\u3000", "\ufeff", ": ",
+         "--b", "\n--b", "--b1"]
+BAD_TEXTS = [b"\xff", b"\xc3", b"a\x80", b"\xed\xa0\x80", b"\xf4\x90\x80\x80", b"\xc0\xaf", b"\xc3\xa9\xe9"]
+TEXT_TYPES = ["\u00e9/x", "text/plain\n", " text/plain", "text/\u00e9; charset=\u20ac", "=?utf-8?Q?multipart/x?=", "\x1fmultipart/x", "\ufeffmultipart/x",
+              "mult\u0131part/x"]
+BAD_TEXT_TYPES = [" multipart/mixed", "\u00a0multipart/x", "multipart/\u00e9", "\r\nMultiPart/x", "\u3000MULTIPART", "multipart\n"]
+WHITE = "\t\n\x0b\x0c\r \x85\xa0\u1680\u2000\u2001\u2002\u2003\u2004\u2005\u2006\u2007\u2008\u2009\u200a\u2028\u2029\u202f\u205f\u3000"
+
+
+def text_of(value):
+    """The text of a value, or None where it is not UTF-8."""
+    try:
+        return value.decode("utf-8")
+    except UnicodeDecodeError:
+        return None
+
+
+def words(text):
+    """The text in pieces of whole characters, each of 45 bytes in UTF-8 at most, and as long as that."""
+    pieces = []
+    piece = b""
+    for character in text:
+        more = character.encode("utf-8")
+        if len(piece + more) > 45:
+            pieces.append(piece)
+            piece = b""
+        piece += more
+    return pieces + [piece]
+
+
+@functools.cache
+def written(value):
+    """What a value is written as."""
+    text = text_of(value)
+    if text is None or (re.fullmatch(rb"[ -~]*", value) and not value.startswith(b" ") and b"=?" not in value):
+        return value
+    out = b"\r\n ".join(b"=?utf-8?B?" + base64.b64encode(word) + b"?=" for word in words(text))
+    if "".join(word.decode(charset) for word, charset in email.header.decode_header(out.decode("ascii"))) != text:
+        sys.exit(f"make_outlines.py: {out!r} is not read as {value!r}")
+    return out
 
 
 class Outline:
@@ -35,7 +86,7 @@ class Outline:
 
     def rendered(self):
         """The bytes that it is written as."""
-        out = b"".join(key + b": " + value + b"\r\n" for key, value in self.headers) + b"\r\n"
+        out = b"".join(key + b": " + written(value) + b"\r\n" for key, value in self.headers) + b"\r\n"
         if self.parts is None:
             return out + self.body
         for part in self.parts:
@@ -58,7 +109,7 @@ class Outline:
         """Whether its keys and values are as they have to be."""
         return all(
             key and all(0x21 <= b <= 0x7E and b != 0x3A for b in key)
-            and all(0x20 <= b <= 0x7E for b in value) and not value.startswith(b" ") and b"=?" not in value
+            and text_of(value) is not None
             for key, value in self.headers
         )
 
@@ -69,7 +120,7 @@ class Outline:
             return False
         if self.parts is None:
             # What stands before a semicolon or a quote in front of the word is no `multipart`.
-            return not types or not types[0].strip().lower().startswith(b"multipart")
+            return not types or not text_of(types[0]).strip(WHITE).encode("utf-8").lower().startswith(b"multipart")
         start = b"--" + self.boundary
         return (
             bool(types) and types[0] == b"multipart/mixed; boundary=" + self.boundary
@@ -87,8 +138,9 @@ class Outline:
 class Maker:
     """Makes outlines, of which about one in three goes wrong at one place or another."""
 
-    def __init__(self, seed):
+    def __init__(self, seed, texts):
         self.random = random.Random(seed)
+        self.texts = texts
 
     def pick(self, good, bad, odds):
         """One of the good ones, or once in so many one of the bad ones."""
@@ -97,13 +149,24 @@ class Maker:
     def headers(self, odds):
         """Up to three headers."""
         count = self.random.choice([0, 0, 1, 1, 2, 3])
-        return [(self.pick(KEYS, BAD_KEYS, odds), self.pick(VALUES, BAD_VALUES, odds)) for _ in range(count)]
+        return [(self.pick(KEYS, BAD_KEYS, odds), self.value(odds)) for _ in range(count)]
+
+    def value(self, odds):
+        """A value; with texts one of any characters, which is plain once in eight times."""
+        if not self.texts or self.random.randrange(8) == 0:
+            return self.pick(VALUES, BAD_VALUES, odds)
+        count = self.random.choice([1, 1, 2, 3, 5, 8, 13, 30])
+        parts = self.random.choice([PARTS, PARTS, self.random.sample(PARTS, 2)])
+        text = "".join(self.random.choice(parts) for _ in range(count))
+        return self.pick([text.encode("utf-8")], BAD_TEXTS, odds)
 
     def leaf(self, odds):
         """An outline with a body."""
         headers = self.headers(odds)
         if self.random.randrange(3) == 0:
             kind = self.pick(TYPES[:8], TYPES[8:], odds)
+            if self.texts and self.random.randrange(2) == 0:
+                kind = self.pick(TEXT_TYPES, BAD_TEXT_TYPES, odds).encode("utf-8")
             headers.insert(self.random.randint(0, len(headers)), (self.random.choice(TYPE_KEYS), kind))
         body = b"".join(self.random.choice(PIECES) for _ in range(self.random.choice([0, 1, 2, 3, 5, 8])))
         return Outline(headers, body=body)
@@ -127,15 +190,16 @@ class Maker:
         return self.branch(levels, odds)
 
 
-def outlines(seed):
+def outlines(seed, texts):
     """The outlines of the list: half of them well formed, and of every depth from 0 to 4."""
-    maker = Maker(seed)
+    maker = Maker(seed, texts)
+    most = 2 * COUNT if texts else COUNT
     kept = {True: [], False: []}
     depths = {level: 0 for level in range(5)}
-    while len(kept[True]) < COUNT // 2 or len(kept[False]) < COUNT // 2:
+    while len(kept[True]) < most // 2 or len(kept[False]) < most // 2:
         outline = maker.outline(4, maker.random.choice([12, 40, 200]))
         good = outline.is_good()
-        if len(kept[good]) == COUNT // 2 or (good and depths[outline.depth()] == COUNT // 10):
+        if len(kept[good]) == most // 2 or (good and depths[outline.depth()] == most // 10):
             continue
         kept[good].append(outline)
         depths[outline.depth()] += good
@@ -146,7 +210,9 @@ def main():
     """Writes the list."""
     parser = argparse.ArgumentParser(description=__doc__, formatter_class=argparse.RawDescriptionHelpFormatter)
     parser.add_argument("seed", metavar="SEED", type=int, nargs="?", default=1, help="a number to make the outlines from")
-    for outline in outlines(parser.parse_args().seed):
+    parser.add_argument("--texts", action="store_true", help="values of any text")
+    asked = parser.parse_args()
+    for outline in outlines(asked.seed, asked.texts):
         print(outline.line())
 
 

@@ -7,21 +7,27 @@
 #   the most memory that a run on the largest held
 #
 # Reading takes work linear in the size (times a logarithm for parameters), so twice the size takes
-# about twice the instructions. valgrind counts them, the same in each run. With ORACLE, a program
+# about twice the instructions. valgrind's callgrind counts them, the same in each run; where there
+# is no valgrind, the least time of 15 runs stands for them. With ORACLE, a program
 # whose command `show` reads a mail from standard input, its time on the smallest stands beside; it
 # gets at most a minute.
 #
-# It needs valgrind and GNU time (/usr/bin/time).
+# It needs GNU time (/usr/bin/time).
 arguments='[ORACLE]'
 . "$(dirname "$0")/prelude.sh"
 take_oracle "$@"
 show=$("$here/program.sh" mail_show)
 make_work
 
-# instructions: how many mail_show runs on the file `input`
-instructions() {
-    valgrind --tool=cachegrind --cache-sim=no --cachegrind-out-file=/dev/null "$show" \
-        < "$work/input" 2>&1 > /dev/null | sed -n 's/,//g; s/^.*I *refs: *//p'
+# work_of_run: how many instructions mail_show runs on the file `input`, or its least time in
+# tenths of a millisecond
+work_of_run() {
+    if command -v valgrind > /dev/null; then
+        valgrind --tool=callgrind --callgrind-out-file=/dev/null "$show" < "$work/input" 2>&1 \
+            > /dev/null | sed -n 's/^.*Collected *: *//p'
+    else
+        seconds 15 60 "$show" | awk '{ printf "%d\n", 10000 * $1 }'
+    fi
 }
 
 for kind in openings broken-words semicolons quotes escaped-quotes keys starred-keys continuations \
@@ -31,11 +37,12 @@ for kind in openings broken-words semicolons quotes escaped-quotes keys starred-
     line=$(printf '%-22s %s' "$kind" "$(seconds 5 60 "$show")")
     crate=
     [ -z "$oracle" ] || crate=" (oracle: $(seconds 1 60 "$oracle" show))"
-    before=$(instructions)
+    before=$(work_of_run)
     for scale in 2 4; do
         make_mail "$kind" "$scale"
-        now=$(instructions)
-        times=$(awk -v now="$now" -v before="$before" 'BEGIN { printf "%.2f", now / before }')
+        now=$(work_of_run)
+        times=$(awk -v now="$now" -v before="$before" \
+            'BEGIN { if (before > 0) printf "%.2f", now / before; else printf "unknown" }')
         line="$line, $times times"
         before=$now
     done

@@ -8,13 +8,15 @@
 //!
 //! tools/make_answers.py made the list in the file `stdin`, with the code of the Rust crate
 //! mailparse 0.18.0 changed where docs/DIFFERENCES.md says that this port differs; quoted-printable
-//! came from a stand-in.
+//! came from a stand-in. What is wanted in the lines `tables` is what Python reads, and the last
+//! values are those that Python wrote of texts.
 #![tactic(auto)]
 
 mod body;
 mod field;
 mod mail;
 mod replay;
+mod tables;
 mod text;
 
 use replay::replay;

@@ -1,7 +1,7 @@
 //! A replay of a list.
 
 use crate::field::FORM;
-use crate::{body, mail, text};
+use crate::{body, mail, tables, text};
 use mailparse::MailParseError;
 use std::alloc::{AllocError, Global};
 
@@ -73,6 +73,7 @@ fn difference(alloc: Global, line: &str) -> Result<Option<String>, MailParseErro
     let found = match call {
         "body" => body::answer(alloc, asked, wanted)?,
         "mail" => mail::answer(alloc, asked)?,
+        "tables" => tables::answer(alloc, asked)?,
         _ => text::answer(alloc, call, asked)?,
     };
     if found.as_str() == wanted {

@@ -2,8 +2,8 @@
 
 use crate::field::{FORM, bytes_of, push_bytes, push_digits, push_refusal, push_text};
 use mailparse::{
-    DispositionType, MailParseError, MessageIdList, dateparse, msgidparse,
-    parse_content_disposition, parse_content_type, parse_header,
+    DispositionType, MailParseError, MessageIdList, ParsedContentDisposition, dateparse,
+    msgidparse, parse_content_disposition, parse_content_type, parse_header,
 };
 use std::alloc::{AllocError, Global};
 use std::collections::BTreeMap;
@@ -73,7 +73,16 @@ fn push_type(alloc: Global, line: &mut String, text: &str) -> Result<(), MailPar
 /// `dispo TEXT KIND PARAMS`: KIND is `inline`, `attachment`, `form-data`, or `x` and the name of
 /// another kind.
 fn push_disposition(alloc: Global, line: &mut String, text: &str) -> Result<(), MailParseError> {
-    let found = parse_content_disposition(alloc, text)?;
+    push_shown(alloc, line, parse_content_disposition(alloc, text)?)?;
+    Ok(())
+}
+
+/// Writes KIND and PARAMS.
+pub fn push_shown(
+    alloc: Global,
+    line: &mut String,
+    found: ParsedContentDisposition,
+) -> Result<(), AllocError> {
     match &found.disposition {
         DispositionType::Inline => line.push_str("inline")?,
         DispositionType::Attachment => line.push_str("attachment")?,
@@ -83,13 +92,12 @@ fn push_disposition(alloc: Global, line: &mut String, text: &str) -> Result<(), 
             push_digits(alloc, line, name.as_bytes())?;
         }
     }
-    push_params(alloc, line, &found.params)?;
-    Ok(())
+    push_params(alloc, line, &found.params)
 }
 
 /// PARAMS: `d`, and then for each name in the order of their bytes the name, `=`, its value and a
 /// comma.
-fn push_params(
+pub fn push_params(
     alloc: Global,
     line: &mut String,
     params: &BTreeMap<String, String>,

@@ -12,6 +12,8 @@ mod labels;
 #[cfg(test)]
 mod long_base64;
 #[cfg(test)]
+mod pairs;
+#[cfg(test)]
 mod quoted_printable;
 #[cfg(test)]
 mod searches;

@@ -5,7 +5,7 @@ use std::alloc::{AllocError, Global};
 use std::process::Abort;
 use std::test::Fail;
 
-static TEXTS: [ByteCase; 33] = cases! {
+static TEXTS: [ByteCase; 38] = cases! {
     b"" => b"",
     b"a =\r\nb=C3=A9=zz \nc=" => b"a b\xC3\xA9=zz\nc",
     b"a= \r\nb" => b"ab",
@@ -37,6 +37,12 @@ static TEXTS: [ByteCase; 33] = cases! {
     b"a=20\nb" => b"a \nb",
     b"a=09 \nb" => b"a\t\nb",
     b"=g0=0G=G0" => b"=g0=0G=G0",
+    // At the edges of vectors of sixteen bytes.
+    b"fifteen letters=41 \t\r\nsoft =\r\n and hard \n" => b"fifteen lettersA\r\nsoft  and hard\n",
+    b"sixteen letters.=\n=41=42=4" => b"sixteen letters.AB=4",
+    b"sixteen letters.\n\t \r\n=20 \r\n" => b"sixteen letters.\n\r\n \r\n",
+    b"fourteen bytes\r\r\n \r" => b"fourteen bytes\r\r\n \r",
+    b"sixteen letters.\r=\r\r\n=\r" => b"sixteen letters.\r=\r\r\n=\r",
     // CR is no whitespace at the end of a line.
     b"a \r" => b"a \r",
     b"a\t\r\r\n" => b"a\t\r\r\n",
@@ -320,13 +326,22 @@ fn each_line_end_at_each_place(rt: HostRuntime) -> Result<(), Fail> {
 }
 
 /// A piece, and what it is decoded to.
-static PIECES: [ByteCase; 6] = cases! {
+static PIECES: [ByteCase; 15] = cases! {
     b"abcdefgh=\r\n" => b"abcdefgh",
     b"=41=42=43" => b"ABC",
     b"seventeen bytes..  \t\r\n" => b"seventeen bytes..\r\n",
     b"=\n" => b"",
     b"no line end, and not an escape =" => b"no line end, and not an escape =",
     b"\r" => b"\r",
+    b"=3D" => b"=",
+    b"==41" => b"=A",
+    b"x=3" => b"x=3",
+    b"a \t\r\n" => b"a\r\n",
+    b"=20 \t=\n" => b"  \t",
+    b"caf=C3=A9 \n" => b"caf\xC3\xA9\n",
+    b"x\r" => b"x\r",
+    b" \t" => b" \t",
+    b"seventeen letters=20\t\n" => b"seventeen letters \n",
 };
 
 /// The piece 3000 times, and a full stop.

@@ -3,6 +3,10 @@
 #![tactic(auto)]
 
 #[cfg(test)]
+mod archive;
+#[cfg(test)]
+mod bounces;
+#[cfg(test)]
 mod files;
 #[cfg(test)]
 mod lenient;

@@ -1,4 +1,4 @@
-//! Tests of `mail_laws::encode` on its public call. The expected values come from outside: worked
+//! Tests of `mail_laws::render::encode_value`. The expected values come from outside: worked
 //! examples, and the text itself, which a written value has to give back.
 #![tactic(auto)]
 

@@ -1,5 +1,5 @@
 //! What several tests need: tables of cases, one place that compares, texts that are repeated.
-use mail_laws::encode::encode_value;
+use mail_laws::render::encode_value;
 use mailparse::{MailParseError, parse_header};
 use std::alloc::{AllocError, Global};
 use std::process::Abort;

@@ -6,6 +6,7 @@ pub mod WordBytes
 pub mod WordSearches
 pub mod RunMarks
 pub mod Vectors
+pub mod Pairs
 pub mod VectorLetters
 pub mod CharsetUtf8
 pub mod CharsetLabels
@@ -24,4 +25,5 @@ pub mod Written
 pub mod QuotedPrintableDigits
 pub mod QuotedPrintableEscapes
 pub mod QuotedPrintableLines
+pub mod QuotedPrintableMarks
 pub mod QuotedPrintableLaw

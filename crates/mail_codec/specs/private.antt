@@ -6,4 +6,5 @@ pub mod Padded
 pub mod Utf16
 pub mod Marks
 pub mod Base64
+pub mod QuotedPrintable
 pub mod SingleByte

@@ -1,10 +1,13 @@
 //! Searches in bytes. Places are byte numbers counted from 0.
-ghost use Rattle.std.specs.Prelude.{◌≡◌, IfOk};
+ghost use Rattle.std.specs.Prelude.{◌≡◌, ◌∷◌, [], IfOk};
 ghost use Rattle.mail_codec.specs.Places.{byte_place, text_place, without_ascii_whitespace};
 
+mod pairs;
 pub(crate) mod runs;
 pub(crate) mod words;
 
+use crate::vectors::LANES;
+use pairs::pair_len;
 use runs::{RunEnd, may_end_len, push_runs};
 use std::alloc::{AllocError, Global};
 
@@ -57,6 +60,32 @@ pub fn find(haystack: &[u8], needle: &[u8]) -> Option<usize>
         at = place + 1;
     }
     None
+}
+
+/// Returns the first place where `first` stands in `haystack` with `second` right after it, or
+/// `None` where they stand so nowhere.
+///
+/// Takes no memory. The time does not grow with how frequent either byte is.
+///
+/// # Examples
+///
+/// ```rust
+/// use mail_codec::bytescan::find_pair;
+///
+/// assert_eq!(rt; find_pair(b"a-b\n-c\n--d", b'\n', b'-'), Some(3));
+/// assert_eq!(rt; find_pair(b"a-b\n", b'\n', b'-'), None);
+/// ```
+pub fn find_pair(haystack: &[u8], first: u8, second: u8) -> Option<usize>
+    ensures { result ≡ text_place haystack.now (first ∷ second ∷ []) }
+{
+    if haystack.len() <= LANES {
+        return find(haystack, &[first, second]);
+    }
+    let place = pair_len(haystack, first, second);
+    if place == haystack.len() {
+        return None;
+    }
+    Some(place)
 }
 
 /// Returns the bytes without those that are ASCII whitespace: space, tab, LF, FF and CR.

@@ -1,7 +1,10 @@
+pub mod Archive
 pub mod Base64Front
+pub mod Bounce
 pub mod FileNames
 pub mod Files
 pub mod Forwarding
+pub mod Lines
 pub mod LooseCoding
 pub mod LooseIds
 pub mod Mailbox

@@ -1,6 +1,7 @@
 pub mod FileNames
 pub mod Files
 pub mod FileViews
+pub mod Lines
 pub mod Mailbox
 pub mod MailboxViews
 pub mod Base64Front
@@ -10,14 +11,19 @@ pub mod LooseCoding
 pub mod Texts
 pub mod TextViews
 pub mod Forwarding
+pub mod Bounce
+pub mod BounceViews
+pub mod Archive
 pub use Rattle.mail_codec.specs.Ascii
 pub use Rattle.mail_codec.specs.Places
 pub use Rattle.mail_codec.specs.Base64
 pub use Rattle.mail_codec.specs.Charset
+pub use Rattle.mailparse.specs.Block
 pub use Rattle.mailparse.specs.Body
 pub use Rattle.mailparse.specs.BodyViews
 pub use Rattle.mailparse.specs.ContentType
 pub use Rattle.mailparse.specs.Disposition
+pub use Rattle.mailparse.specs.Header
 pub use Rattle.mailparse.specs.Mail
 pub use Rattle.mailparse.specs.Map
 pub use Rattle.mailparse.specs.Outcome

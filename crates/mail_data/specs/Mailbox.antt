@@ -1,30 +1,23 @@
 -- Mailboxes of mails one after another: the mbox format (RFC 4155, appendix A), where a line that begins with `From `
 -- separates mails if it is the first line or follows an empty line.
-use Rattle.std.specs.Prelude.{ℕ, zero, suc, ◌+◌, ◌-◌, Bool, ◌&&◌, ◌||◌, ◌==◌, min, nat_lt, List, [], ◌∷◌, ◌++◌, length, take, drop, codes, if◌then◌else◌}
-use Rattle.mail_codec.specs.Ascii.{line_feed, carriage_return}
-use Rattle.mail_codec.specs.Places.{begins, first_place, is_empty, least, stands}
+use Rattle.std.specs.Prelude.{ℕ, zero, suc, ◌+◌, Bool, ◌&&◌, ◌||◌, ◌==◌, min, List, [], ◌∷◌, ◌++◌, length, take, drop, codes, if◌then◌else◌}
+use Rattle.mail_codec.specs.Ascii.{line_feed}
+use Rattle.mail_codec.specs.Places.{begins, first_place, is_empty, stands}
+use Rattle.mail_data.specs.Lines.{empty_line, is_empty_line, after_empty_line, line_place}
 
 -- what a separator begins with
 abbrev pub mark : List ℕ
 mark = codes "From "
 
--- the bytes of the empty line that stands here: LF or CR LF, or none
-unfoldable pub empty_line : List ℕ → ℕ
-empty_line bytes = if stands (line_feed ∷ []) bytes then 1 else (if stands (carriage_return ∷ line_feed ∷ []) bytes then 2 else 0)
-
 -- a mail ends at this line: it is empty, and a separator or nothing follows it
 unfoldable pub ends_mail : List ℕ → Bool
 ends_mail bytes =
-    let after = drop (empty_line bytes) bytes in
-    nat_lt 0 (empty_line bytes) && (is_empty after || stands mark after)
-
--- a line starts at p: it is the first one, or a LF stands before it
-abbrev pub starts_line : List ℕ → ℕ → Bool
-starts_line bytes p = p == 0 || begins (λ b. b == line_feed) (drop (p - 1) bytes)
+    let after = after_empty_line bytes in
+    is_empty_line bytes && (is_empty after || stands mark after)
 
 -- the mail goes up to the first line at which a mail ends, or to the end of the bytes
 unfoldable pub mail_length : List ℕ → ℕ
-mail_length bytes = least (λ p. starts_line bytes p && ends_mail (drop p bytes)) (length bytes)
+mail_length bytes = line_place ends_mail bytes
 
 -- the bytes of the first line, its LF among them
 unfoldable pub line_length : List ℕ → ℕ
@@ -48,10 +41,6 @@ after_line bytes = drop (line_length bytes) bytes
 abbrev pub after_mail : List ℕ → List ℕ
 after_mail bytes = drop (mail_length bytes) bytes
 
--- what follows the empty line that stands here, if one does
-abbrev pub after_ending : List ℕ → List ℕ
-after_ending bytes = drop (empty_line bytes) bytes
-
 -- the mail whose separator stands at the front
 abbrev pub entry_at : List ℕ → Entry
 entry_at bytes = record {
@@ -62,7 +51,7 @@ entry_at bytes = record {
 
 -- what follows that mail
 abbrev pub next_entry : List ℕ → List ℕ
-next_entry bytes = after_ending (after_mail (after_line bytes))
+next_entry bytes = after_empty_line (after_mail (after_line bytes))
 
 -- the mails of bytes that begin with a separator, or of none: no more than so many
 abbrev pub entries_within : ℕ → List ℕ → List Entry

@@ -1,11 +1,12 @@
 //! Mailboxes: the mails of an mbox file (RFC 4155, appendix A).
 ghost use Rattle.std.specs.Prelude.{◌≡◌, ◌++◌, ◌≤◌, length, drop, take};
 ghost use Rattle.std.specs.List.{flat_map};
-ghost use Rattle.mail_data.specs.Mailbox.{Entry, ends_mail, empty_line, entries, entry_at};
+ghost use Rattle.mail_data.specs.Mailbox.{Entry, ends_mail, entries, entry_at};
 ghost use Rattle.mail_data.specs.Mailbox.{entry_bytes, front_length, line_length, mail_length};
 ghost use Rattle.mail_data.specs.Mailbox.{next_entry};
 ghost use Rattle.mail_data.specs.MailboxViews.{entries_left};
 
+use crate::lines::empty_line;
 use mail_codec::bytescan::find_byte;
 use std::marker::Model;
 
@@ -230,19 +231,4 @@ fn ends_mail(bytes: &[u8]) -> bool
     }
     let after = &bytes[length..];
     after.is_empty() || after.starts_with(b"From ")
-}
-
-/// How many bytes the empty line at the front has, or 0 where none is.
-#[tactic(auto, unfolding(crate::specs::Mailbox::empty_line))]
-fn empty_line(bytes: &[u8]) -> usize
-    ensures value { result ≡ empty_line bytes.now }
-    ensures bounds { result ≤ length bytes.now }
-{
-    if bytes.starts_with(b"\n") {
-        1
-    } else if bytes.starts_with(b"\r\n") {
-        2
-    } else {
-        0
-    }
 }

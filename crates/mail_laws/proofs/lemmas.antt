@@ -16,6 +16,7 @@ pub mod RangeTree
 pub mod OutlineViews
 pub mod OutlineConditions
 pub mod OutlineHeaders
+pub mod OutlineValues
 pub mod OutlineParts
 pub mod OutlineTypes
 pub mod OutlineReadings

@@ -1,5 +1,5 @@
--- Values of any text, written so that they read back: as they are, or as encoded words (RFC 2047, sections 2, 4.1 and 5) whose letters are Base64 (RFC 4648, section 4). Which
--- values are written as they are, and where a text is cut into words, is the project's own rule.
+-- Values of any text, written so that they read back: as they are, or as encoded words (RFC 2047, sections 2, 4.1 and 5) whose letters are
+-- Base64 (RFC 4648, section 4). Which values are written as they are, and where a text is cut into words, is the project's own rule.
 use Rattle.std.specs.Prelude.{◌≡◌, ◌≢◌, ◌≤◌, ◌<◌, ℕ, Bool, true, ◌&&◌, ◌||◌, not, ◌==◌, nat_le, List, [], ◌∷◌, ◌++◌, length, is_none, codes, encode_utf8_all, if◌then◌else◌}
 use Rattle.std.specs.Char.{is_ascii_graphic}
 use Rattle.std.specs.List.{list_all}
@@ -7,6 +7,7 @@ use Rattle.std.specs.Str.{chars}
 use Rattle.base64.specs.Rfc4648.{encode}
 use Rattle.mail_codec.specs.Ascii.{carriage_return, line_feed, space}
 use Rattle.mail_codec.specs.Base64.{alphabet, padding}
+use Rattle.mail_codec.specs.Charset.{Charsets, four_charsets}
 use Rattle.mail_codec.specs.Places.{stands, text_place}
 
 -- a printable byte of ASCII or a space
@@ -70,3 +71,7 @@ word_lines (word ∷ next ∷ more) = encoded_word word ++ (carriage_return ∷ 
 -- what a text is written as: a plain one as it is, any other as its encoded words
 unfoldable pub written_value : List ℕ → List ℕ
 written_value text = if is_plain_value text then text else word_lines (words_of (chars text))
+
+-- the charsets read the label that the words carry, `utf-8`, as the four charsets do
+abbrev pub KnowUtf8 : Charsets → Type 0
+KnowUtf8 known = known (codes "utf-8") ≡ four_charsets (codes "utf-8")

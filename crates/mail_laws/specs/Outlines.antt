@@ -1,21 +1,24 @@
 -- Outlines of messages: the bytes that they are written as, when they are well formed, and the messages that they stand for. The form
 -- is that of RFC 5322, section 2.1 (headers, a blank line, a body), and of RFC 2046, section 5.1.1 (a delimiter before each part, and the
 -- close-delimiter); which outlines are well formed is the project's own rule.
-use Rattle.std.specs.Prelude.{◌≡◌, ℕ, suc, max, Bool, true, false, ◌&&◌, ◌||◌, not, ◌==◌, nat_le, List, [], ◌∷◌, ◌++◌, Option, is_some, is_none, codes, find, flat_map}
+use Rattle.std.specs.Prelude.{◌≡◌, ◌⊎◌, ℕ, suc, max, Bool, true, false, ◌&&◌, not, ◌||◌, ◌==◌, nat_le, List, [], ◌∷◌, ◌++◌, map, Option, is_some, codes, find, flat_map, if◌then◌else◌}
 use Rattle.std.specs.Char.{is_ascii_alphanumeric, is_ascii_graphic}
 use Rattle.std.specs.List.{list_all}
 use Rattle.std.specs.Option.{option_map_or}
-use Rattle.std.specs.Str.{bytes_eq, str_eq_ignore_ascii_case, str_to_ascii_lowercase}
-use Rattle.mail_codec.specs.Ascii.{carriage_return, line_feed, space, colon}
+use Rattle.std.specs.Str.{bytes_eq, is_utf8, str_eq_ignore_ascii_case, str_to_ascii_lowercase}
+use Rattle.mail_codec.specs.Ascii.{carriage_return, line_feed, colon}
 use Rattle.mail_codec.specs.Charset.{Charsets}
 use Rattle.mail_codec.specs.Places.{is_empty, stands, text_place}
 use Rattle.mailparse.specs.Header.{Header}
 use Rattle.mailparse.specs.ContentType.{ContentType, content_type_in, default_type}
 use Rattle.mailparse.specs.Mail.{Node, Tree, tree, Forest, no_parts, part_and}
 use Rattle.mailparse.specs.Pairs.{value_of}
+use Rattle.mailparse.specs.Value.{lenient_value_in}
 use Rattle.mail_laws.specs.Boundaries.{boundary_type}
+use Rattle.mail_laws.specs.EncodedValues.{KnowUtf8, is_plain_value, written_value}
 
--- an outline of a message: its headers and its body, or its headers, the boundary of its parts, and the parts, each an outline of its own
+-- an outline of a message: its headers, each a key and the text of a value, and its body; or its headers, the boundary of its parts, and the
+-- parts, each an outline of its own
 mutual
   pub data OutlineTree : Type 0 where
     leaf : List Header → List ℕ → OutlineTree
@@ -41,11 +44,23 @@ headers_of (branch headers boundary parts) = headers
 abbrev pub crlf : List ℕ
 crlf = carriage_return ∷ line_feed ∷ []
 
--- a header: its key, `: `, its value and CR LF
+-- a value: a text as `written_value` says, and bytes that are not UTF-8 as they are
+abbrev pub written_bytes : List ℕ → List ℕ
+written_bytes value = if is_utf8 value then written_value value else value
+
+-- a header with its value as it is written
+abbrev pub written_header : Header → Header
+written_header h = record { key = h.key; value = written_bytes h.value }
+
+-- headers with their values as they are written, in order
+abbrev pub written_headers : List Header → List Header
+written_headers headers = map written_header headers
+
+-- a header whose value is written: its key, `: `, its value and CR LF
 abbrev pub header_line : Header → List ℕ
 header_line h = h.key ++ (codes ": " ++ (h.value ++ crlf))
 
--- the header block: each header in order, and then the blank line
+-- the header block of such headers: each in order, and then the blank line
 abbrev pub header_block : List Header → List ℕ
 header_block headers = flat_map header_line headers ++ crlf
 
@@ -56,8 +71,8 @@ dash_boundary boundary = codes "--" ++ boundary
 -- an outline: its header block, and then its body or its parts
 abbrev mutual
   pub rendered : OutlineTree → List ℕ
-  rendered (leaf headers body) = header_block headers ++ body
-  rendered (branch headers boundary parts) = header_block headers ++ rendered_parts boundary parts
+  rendered (leaf headers body) = header_block (written_headers headers) ++ body
+  rendered (branch headers boundary parts) = header_block (written_headers headers) ++ rendered_parts boundary parts
 
   -- for each part the dash-boundary, CR LF, the part and CR LF; at the end the dash-boundary, `--` and CR LF
   pub rendered_parts : List ℕ → OutlineForest → List ℕ
@@ -79,17 +94,9 @@ is_key key = list_all is_key_byte key && not (is_empty key)
 abbrev pub has_keys : OutlineTree → Bool
 has_keys outline = list_all (λ h. is_key h.key) (headers_of outline)
 
--- a printable byte of ASCII or a space
-abbrev pub is_value_byte : ℕ → Bool
-is_value_byte b = is_ascii_graphic b || b == space
-
--- a text of such bytes that does not begin with a space and does not hold `=?`
-abbrev pub is_plain : List ℕ → Bool
-is_plain value = list_all is_value_byte value && (not (stands (codes " ") value) && is_none (text_place value (codes "=?")))
-
--- 2. each value is that
-abbrev pub has_plain_values : OutlineTree → Bool
-has_plain_values outline = list_all (λ h. is_plain h.value) (headers_of outline)
+-- 2. each value is UTF-8
+abbrev pub has_texts : OutlineTree → Bool
+has_texts outline = list_all (λ h. is_utf8 h.value) (headers_of outline)
 
 -- the key is `Content-Type`, ignoring ASCII case
 abbrev pub has_type_key : Header → Bool
@@ -160,7 +167,7 @@ is_within_levels outline = nat_le (depth outline) 100
 -- the first seven, of an outline by itself
 abbrev pub is_well_formed_here : OutlineTree → Bool
 is_well_formed_here outline =
-    has_keys outline && (has_plain_values outline && (names_its_boundary outline && (has_plain_boundary outline
+    has_keys outline && (has_texts outline && (names_its_boundary outline && (has_plain_boundary outline
     && (is_not_multipart outline && (has_some_part outline && has_clear_parts outline)))))
 
 -- the same, of an outline and of every outline inside it
@@ -188,12 +195,12 @@ IsWellFormed outline = well_formed outline ≡ true
 abbrev pub type_of : Charsets → List Header → ContentType
 type_of known headers = option_map_or (λ h. content_type_in known h.value) (type_header headers) default_type
 
--- a message of these bytes, with these headers and this body
+-- a message of these bytes, with these headers, each with its value as it is written, and this body
 abbrev pub node_of : Charsets → List ℕ → List Header → List ℕ → Node
 node_of known bytes headers body = record {
   bytes = bytes;
-  block = header_block headers;
-  headers = headers;
+  block = header_block (written_headers headers);
+  headers = written_headers headers;
   ctype = type_of known headers;
   body = body;
 }
@@ -209,3 +216,39 @@ abbrev mutual
   pub stand_for : Charsets → OutlineForest → Forest
   stand_for known no_outlines = no_parts
   stand_for known (outline_and part parts) = part_and (stands_for known part) (stand_for known parts)
+
+-- ---- the texts of its headers
+
+-- no value of the outline itself is written as encoded words
+abbrev pub has_plain_values : OutlineTree → Bool
+has_plain_values outline = list_all (λ h. is_plain_value h.value) (headers_of outline)
+
+-- the same of the outline and of every outline inside it
+abbrev mutual
+  pub is_plain_within : OutlineTree → Bool
+  is_plain_within (leaf headers body) = has_plain_values (leaf headers body)
+  is_plain_within (branch headers boundary parts) = has_plain_values (branch headers boundary parts) && are_plain_within parts
+
+  -- the same of each part
+  pub are_plain_within : OutlineForest → Bool
+  are_plain_within no_outlines = true
+  are_plain_within (outline_and part parts) = is_plain_within part && are_plain_within parts
+
+-- the charsets show the values of an outline: they know UTF-8 by its label, or no value is written as encoded words
+abbrev pub Show : Charsets → OutlineTree → Type 0
+Show known outline = KnowUtf8 known ⊎ (is_plain_within outline ≡ true)
+
+-- a header with the text that its value shows
+abbrev pub shown_header : Charsets → Header → Header
+shown_header known h = record { key = h.key; value = lenient_value_in known h.value }
+
+-- the headers of an outline and of every outline inside it, each outline before its parts
+abbrev mutual
+  pub headers_within : OutlineTree → List (List Header)
+  headers_within (leaf headers body) = headers ∷ []
+  headers_within (branch headers boundary parts) = headers ∷ headers_in parts
+
+  -- the headers of each part
+  pub headers_in : OutlineForest → List (List Header)
+  headers_in no_outlines = []
+  headers_in (outline_and part parts) = headers_within part ++ headers_in parts

@@ -14,6 +14,8 @@ ghost use Rattle.mailparse.specs.Delimiters.{Cut, cut_parts};
 ghost use Rattle.mail_laws.specs.DelimiterPlaces.{IsCutAt, delimiters};
 ghost use Rattle.mail_laws.specs.RangeTree.{AreNested, Holds, RangeTree, blocks_and_bodies, range_root, ranges_in, read_there};
 ghost use Rattle.mail_codec.specs.Charset.{Charsets, four_charsets};
+ghost use Rattle.mail_codec.specs.Tables.{charsets_with};
+ghost use Rattle.mail_codec.specs.declared.charset.tables.SingleByteTable.{SingleByteTable};
 ghost use Rattle.mailparse.specs.Continuations.{joined, names_of, parameters_in, walked_after};
 ghost use Rattle.mailparse.specs.ExtendedValues.{candidates, charset_source, section_at, starred};
 ghost use Rattle.mailparse.specs.Sections.{Section};
@@ -27,12 +29,12 @@ ghost use Rattle.mailparse.specs.contracts.disposition.DispositionTypePartialEq.
 ghost use Rattle.mailparse.specs.declared.disposition.DispositionType.{DispositionType};
 ghost use Rattle.mailparse.specs.Views.{kind};
 ghost use Rattle.mail_laws.specs.Boundaries.{IsAlphanumeric, boundary_type, one_text};
-ghost use Rattle.mail_laws.specs.Outlines.{IsWellFormed, OutlineTree, depth, is_well_formed_within, rendered, stands_for};
+ghost use Rattle.mail_laws.specs.Outlines.{IsWellFormed, OutlineTree, Show, depth, headers_within, is_well_formed_within, rendered, shown_header, stands_for};
 ghost use Rattle.mail_laws.specs.StarFree.{AreStarFree};
 ghost use Rattle.mailparse.specs.Value.{IsPlain, Token, lenient_value, newline, shown_tokens, strict_value, lenient_value_in};
 ghost use Rattle.mail_codec.specs.Places.{begins, least, values_below};
 ghost use Rattle.mail_laws.specs.Least.{IsLeast};
-ghost use Rattle.mail_laws.specs.EncodedValues.{AreWords, words_of, written_value};
+ghost use Rattle.mail_laws.specs.EncodedValues.{AreWords, KnowUtf8, words_of, written_value};
 ghost use Rattle.mail_laws.specs.WordTokens.{whitespace_token, word};
 ghost use Rattle.mail_laws.specs.Spans.{StandBefore, blank_span, header_at, header_spans, key_range, value_range};
 ghost use Rattle.mailparse.specs.Date.{day_number, days_of_years, month_lengths};
@@ -201,9 +203,11 @@ pub fn one_list_of_words_fits()
         words ≡ words_of characters }
 {}
 
-/// What any text is written as, as a value, shows the text.
+/// What any text is written as, as a value, shows the text, whatever tables a caller has.
 pub fn written_values_read_back()
-    ensures { (text : List ℕ) → IsUtf8 text → lenient_value (written_value text) ≡ text }
+    ensures shown { (text : List ℕ) → IsUtf8 text → lenient_value (written_value text) ≡ text }
+    ensures tables { (tables : List SingleByteTable) (text : List ℕ) → IsUtf8 text →
+        lenient_value_in (charsets_with tables) (written_value text) ≡ text }
 {}
 
 /// Exactly one list of segments fits a text, the one that is computed.
@@ -328,21 +332,24 @@ pub fn percent_free()
 
 /// What is written of an outline that is well formed, but for its depth, is read as the message that it
 /// stands for under every limit on levels that is no less than its depth, and is refused for the limit
-/// under every lower one, whatever charsets are known; so a well-formed outline is read back. The values
-/// of all headers show as they are. Two such outlines that are written as the same bytes are one.
+/// under every lower one; so a well-formed outline is read back. Its headers show the keys and the texts
+/// of the outline. Where no value is written as encoded words, all this holds whatever charsets are
+/// known; otherwise of charsets that know UTF-8 by its label, which those with the tables of a caller
+/// do. Two such outlines that are written as the same bytes are one.
 pub fn outline_reads_back()
-    ensures read { (known : Charsets) (greatest : ℕ) (outline : OutlineTree) →
+    ensures read { (known : Charsets) (greatest : ℕ) (outline : OutlineTree) → Show known outline →
         is_well_formed_within outline ≡ true → depth outline ≤ greatest →
         read_mail_in known greatest (rendered outline) ≡ Ok (stands_for known outline) }
-    ensures refused { (known : Charsets) (greatest : ℕ) (outline : OutlineTree) →
+    ensures refused { (known : Charsets) (greatest : ℕ) (outline : OutlineTree) → Show known outline →
         is_well_formed_within outline ≡ true → greatest < depth outline →
         read_mail_in known greatest (rendered outline) ≡ Err recursion_limit }
     ensures mail { (outline : OutlineTree) → IsWellFormed outline →
         read_mail (rendered outline) ≡ Ok (stands_for four_charsets outline) }
-    ensures shown { (known : Charsets) (outline : OutlineTree) →
+    ensures shown { (known : Charsets) (outline : OutlineTree) → Show known outline →
         is_well_formed_within outline ≡ true →
-        All (λ (n : Node). map (λ h. lenient_value_in known h.value) n.headers
-        ≡ map (λ h. h.value) n.headers) (nodes (stands_for known outline)) }
+        map (λ (n : Node). map (shown_header known) n.headers) (nodes (stands_for known outline))
+        ≡ headers_within outline }
+    ensures tables { (tables : List SingleByteTable) → KnowUtf8 (charsets_with tables) }
     ensures only { (one two : OutlineTree) → is_well_formed_within one ≡ true →
         is_well_formed_within two ≡ true → rendered one ≡ rendered two → one ≡ two }
 {}

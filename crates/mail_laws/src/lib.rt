@@ -2,6 +2,5 @@
 //! contracts cite.
 #![tactic(auto)]
 
-pub mod encode;
 pub mod laws;
 pub mod render;

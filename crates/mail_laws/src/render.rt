@@ -2,15 +2,19 @@
 //!
 //! An outline is the headers of a message and its body, or its parts, each an outline of its own.
 //! Whoever sends mail writes a well-formed one by `render`; `mailparse::parse_mail` reads exactly
-//! those headers, bodies and parts of it.
+//! those headers, bodies and parts of it, and `MailHeader::get_value` the values, which may be any
+//! text. `encode_value` writes a value alone.
 ghost use Rattle.std.specs.Prelude.{◌≡◌, ◌++◌, ◌&&◌, OnOk, Ok, nat_le, not};
 ghost use Rattle.mailparse.specs.Outcome.{AnswersOrMemory, ReadsBytes};
-ghost use Rattle.mail_laws.specs.Outlines.{dash_boundary, depth, header_block, header_line, holds_delimiter, is_well_formed_within, rendered, well_formed};
+ghost use Rattle.mail_laws.specs.Outlines.{dash_boundary, depth, header_block, header_line, holds_delimiter, is_well_formed_within, rendered, well_formed, written_bytes, written_headers};
 ghost use Rattle.mail_laws.specs.OutlineViews.{headers_seen, outline_tree};
 
 mod conditions;
+mod encode;
 
-use conditions::{has_boundary, has_plain_headers, holds_delimiter, is_not_multipart};
+use conditions::{has_boundary, has_good_headers, holds_delimiter, is_not_multipart};
+pub use encode::encode_value;
+use encode::push_value;
 use mailparse::{MAX_LEVELS, MailParseError};
 use std::alloc::{AllocError, Global};
 
@@ -23,18 +27,18 @@ use std::alloc::{AllocError, Global};
 /// use mailparse::parse_mail;
 ///
 /// let mut headers = Vec::new(alloc);
-/// headers.push((b"Subject".to_vec(alloc)?, b"Hi".to_vec(alloc)?))?;
+/// headers.push((b"Subject".to_vec(alloc)?, "Grüße".as_bytes().to_vec(alloc)?))?;
 /// let outline = Outline { headers, kind: OutlineKind::Leaf(b"body".to_vec(alloc)?) };
 /// assert!(rt; is_well_formed(alloc, &outline)?);
 /// let bytes = render(alloc, &outline)?;
 /// let mail = parse_mail(alloc, bytes.as_slice())?;
-/// assert_eq!(rt; mail.headers[0].get_value(alloc)?.as_str(), "Hi");
+/// assert_eq!(rt; mail.headers[0].get_value(alloc)?.as_str(), "Grüße");
 /// assert_eq!(rt; mail.get_body(alloc)?.as_str(), "body");
 /// ```
 #[cycle(outline)]
 #[derive(Debug, Drop)]
 pub struct Outline {
-    /// The headers in order, each its key and its value.
+    /// The headers in order, each its key and the text of its value, in UTF-8.
     pub headers: Vec<(Vec<u8>, Vec<u8>)>,
     /// What follows the headers.
     pub kind: OutlineKind,
@@ -69,7 +73,9 @@ pub enum OutlineKind {
 ///
 /// For each header they are its key, `: `, its value and CR LF; then CR LF; and then the body, or
 /// for each part `--`, the boundary, CR LF, the part and CR LF, and at the end `--`, the boundary,
-/// `--` and CR LF. Every outline is written so, well formed or not. Takes memory for the bytes.
+/// `--` and CR LF. A value is written as `encode_value` says; one whose bytes are not UTF-8 is
+/// written as it is. Every outline is written so, well formed or not. Takes memory for the bytes
+/// and for one value at a time.
 ///
 /// # Errors
 ///
@@ -93,22 +99,22 @@ pub fn render(alloc: Global, outline: &Outline) -> Result<Vec<u8>, MailParseErro
     ensures { ReadsBytes result (Ok (rendered (outline_tree outline.now))) }
 {
     let mut bytes = Vec::new(alloc);
-    push_outline(outline, &mut bytes)?;
+    push_outline(alloc, outline, &mut bytes)?;
     Ok(bytes)
 }
 
 /// Adds an outline: its header block, and then its body or its parts.
-fn push_outline(outline: &Outline, bytes: &mut Vec<u8>) -> Result<(), AllocError>
+fn push_outline(alloc: Global, outline: &Outline, bytes: &mut Vec<u8>) -> Result<(), AllocError>
     ensures written { OnOk result (bytes.new.items
         ≡ bytes.old.items ++ rendered (outline_tree outline.now)) }
 {
-    push_header_block(&outline.headers, bytes)?;
+    push_header_block(alloc, &outline.headers, bytes)?;
     match &outline.kind {
         OutlineKind::Leaf(body) => bytes.extend_from_slice(body.as_slice()),
         OutlineKind::Branch { boundary, parts } => {
             for part in parts {
                 push_delimiter(boundary.as_slice(), b"\r\n", bytes)?;
-                push_outline(part, bytes)?;
+                push_outline(alloc, part, bytes)?;
                 bytes.extend_from_slice(b"\r\n")?;
             }
             push_delimiter(boundary.as_slice(), b"--\r\n", bytes)
@@ -118,26 +124,32 @@ fn push_outline(outline: &Outline, bytes: &mut Vec<u8>) -> Result<(), AllocError
 
 /// Adds a header block: each header in order, and the blank line.
 fn push_header_block(
+    alloc: Global,
     headers: &Vec<(Vec<u8>, Vec<u8>)>,
     bytes: &mut Vec<u8>,
 ) -> Result<(), AllocError>
     ensures written { OnOk result (bytes.new.items
-        ≡ bytes.old.items ++ header_block (headers_seen headers.now)) }
+        ≡ bytes.old.items ++ header_block (written_headers (headers_seen headers.now))) }
 {
     for header in headers {
-        push_header(header.0.as_slice(), header.1.as_slice(), bytes)?;
+        push_header(alloc, header.0.as_slice(), header.1.as_slice(), bytes)?;
     }
     bytes.extend_from_slice(b"\r\n")
 }
 
-/// Adds a header: its key, `: `, its value and CR LF.
-fn push_header(key: &[u8], value: &[u8], bytes: &mut Vec<u8>) -> Result<(), AllocError>
-    ensures written { OnOk result (bytes.new.items
-        ≡ bytes.old.items ++ header_line (record { key = key.now; value = value.now })) }
+/// Adds a header: its key, `: `, its value as it is written and CR LF.
+fn push_header(
+    alloc: Global,
+    key: &[u8],
+    value: &[u8],
+    bytes: &mut Vec<u8>,
+) -> Result<(), AllocError>
+    ensures written { OnOk result (bytes.new.items ≡ bytes.old.items
+        ++ header_line (record { key = key.now; value = written_bytes value.now })) }
 {
     bytes.extend_from_slice(key)?;
     bytes.extend_from_slice(b": ")?;
-    bytes.extend_from_slice(value)?;
+    push_value(alloc, value, bytes)?;
     bytes.extend_from_slice(b"\r\n")
 }
 
@@ -156,13 +168,12 @@ fn push_delimiter(boundary: &[u8], rest: &[u8], bytes: &mut Vec<u8>) -> Result<(
 /// All of these have to hold, for the outline and for every outline inside it:
 ///
 /// 1. Each key is one or more printable bytes of ASCII, without a space and a colon.
-/// 2. Each value is printable bytes of ASCII and spaces, does not begin with a space and does not
-///    hold `=?`.
+/// 2. Each value is UTF-8.
 /// 3. Where there are parts, a header has the key `Content-Type`, ignoring ASCII case, and the
 ///    value of the first such header is exactly `multipart/mixed; boundary=` and the boundary.
 /// 4. A boundary is one or more letters and digits of ASCII.
-/// 5. Where there is a body, the mimetype of the first `Content-Type`, if there is one, does not
-///    begin with `multipart`.
+/// 5. Where there is a body, the mimetype that the text of the first `Content-Type` names, if there
+///    is one, does not begin with `multipart`.
 /// 6. Where there are parts, there is at least one.
 /// 7. No part, as it is written, has `--` and the boundary at its start or after a LF.
 /// 8. No outline stands more than 100 levels below the whole.
@@ -179,10 +190,10 @@ fn push_delimiter(boundary: &[u8], rest: &[u8], bytes: &mut Vec<u8>) -> Result<(
 /// use mail_laws::render::{Outline, OutlineKind, is_well_formed};
 ///
 /// let mut headers = Vec::new(alloc);
-/// headers.push((b"Subject".to_vec(alloc)?, b"Hi ".to_vec(alloc)?))?;
+/// headers.push((b"Subject".to_vec(alloc)?, b" Hi\n".to_vec(alloc)?))?;
 /// let mut outline = Outline { headers, kind: OutlineKind::Leaf(b"\0\xFF".to_vec(alloc)?) };
 /// assert!(rt; is_well_formed(alloc, &outline)?);
-/// outline.headers.push((b"To".to_vec(alloc)?, b" you".to_vec(alloc)?))?;
+/// outline.headers.push((b"To".to_vec(alloc)?, b"\xFF".to_vec(alloc)?))?;
 /// assert!(rt; !is_well_formed(alloc, &outline)?);
 /// ```
 pub fn is_well_formed(alloc: Global, outline: &Outline) -> Result<bool, MailParseError>
@@ -202,7 +213,7 @@ fn is_well_formed_within(
         AnswersOrMemory (λ answer. answer) result
         (Ok (is_well_formed_within tree && nat_le (depth tree) levels)) }
 {
-    if !has_plain_headers(&outline.headers) {
+    if !has_good_headers(&outline.headers) {
         return Ok(false);
     }
     match &outline.kind {

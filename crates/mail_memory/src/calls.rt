@@ -1,7 +1,7 @@
 //! The calls that take memory, in groups, and whether they return what is right.
 
 use crate::inputs::{ATTACHED, HEADER, Inputs, TWO_CODINGS};
-use crate::{codec, headers, mails, outlines, tables, texts};
+use crate::{codec, data, headers, mails, outlines, tables, texts};
 use mailparse::MailParseError;
 use std::alloc::Global;
 
@@ -15,7 +15,7 @@ pub struct Fault {
 }
 
 /// Each group, by the name of one of its calls.
-static GROUPS: [&str; 24] = [
+static GROUPS: [&str; 30] = [
     "decode_base64",
     "decode_quoted_printable",
     "decode",
@@ -40,6 +40,12 @@ static GROUPS: [&str; 24] = [
     "parse_mail_with",
     "get_as_string_with",
     "render",
+    "encode_value",
+    "file_name",
+    "base64_front",
+    "text_part",
+    "recipients",
+    "parents",
 ];
 
 /// Makes the calls of each group, again so many times at most where memory ran out, always on the
@@ -126,6 +132,12 @@ fn is_right(alloc: Global, inputs: &Inputs<'_>, group: &str) -> Result<bool, Mai
         "parse_mail_with" => tables::read_mail(alloc),
         "get_as_string_with" => tables::read_bodies(alloc),
         "render" => outlines::write(alloc),
+        "encode_value" => outlines::write_values(alloc),
+        "file_name" => data::find_files(alloc),
+        "base64_front" => data::read_leniently(alloc),
+        "text_part" => data::find_parts(alloc),
+        "recipients" => data::read_report(alloc),
+        "parents" => data::read_thread(alloc),
         _ => Ok(false),
     }
 }

@@ -1,7 +1,8 @@
 //! The calls that take no memory, and whether they return what is right.
 
+use crate::data;
 use crate::found::is_cow;
-use mail_codec::bytescan::{find, find_byte};
+use mail_codec::bytescan::{find, find_byte, find_pair};
 use mail_codec::charset::{Charset, decode_ascii, decode_latin1};
 use mailparse::body::Body;
 use mailparse::{
@@ -30,6 +31,7 @@ pub fn are_right(
         && is_true(read_texts(alloc))
         && is_true(decode_ascii_bytes(alloc))
         && are_places()
+        && data::is_one_mail()
 }
 
 /// Whether there is a result, and it is right.
@@ -140,9 +142,10 @@ fn decode_ascii_bytes(alloc: Global) -> Result<bool, MailParseError> {
     Ok(is_cow(decode_latin1(alloc, b"A")?, "A") && is_cow(decode_ascii(alloc, b"A")?, "A"))
 }
 
-/// `find_byte`, `find` and `Charset::for_label`.
+/// `find_byte`, `find`, `find_pair` and `Charset::for_label`.
 fn are_places() -> bool {
     find_byte(b"abc", b'c') == Some(2)
         && find(b"abcd", b"cd") == Some(2)
+        && find_pair(b"a-b\n-c\n-d, 19 bytes", b'\n', b'-') == Some(3)
         && Charset::for_label(b" Latin1 ") == Some(Charset::Windows1252)
 }

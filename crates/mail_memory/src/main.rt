@@ -8,6 +8,7 @@
 
 mod calls;
 mod codec;
+mod data;
 mod found;
 mod free;
 mod headers;

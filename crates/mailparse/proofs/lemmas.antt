@@ -33,3 +33,4 @@ pub mod Sections
 pub mod ContinuationsTaken
 pub mod ContinuationsBases
 pub mod ContinuationsResolved
+pub mod StarFree

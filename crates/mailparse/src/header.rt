@@ -92,6 +92,9 @@ impl<'a> MailHeader<'a> {
     /// Bytes that are not UTF-8 are read as Latin-1, one character for each byte; `get_value_utf8`
     /// refuses them. Takes memory for the text.
     ///
+    /// Control characters stay in the text, also those of encoded words, such as ESC and LF. On a
+    /// terminal they may move the cursor, and in a log forge a line: escape them first.
+    ///
     /// # Errors
     ///
     /// `MailParseError::Memory` where it runs out of memory.
@@ -117,6 +120,9 @@ impl<'a> MailHeader<'a> {
     ///
     /// A label that one of the four charsets has is not looked for in the tables; of the tables the
     /// first that has it is read. Takes memory for the text.
+    ///
+    /// Control characters stay in the text, as `get_value` says: escape them before it is shown on a
+    /// terminal or written to a log.
     ///
     /// # Errors
     ///

@@ -129,6 +129,9 @@ impl<'a> ParsedMail<'a> {
     /// ASCII is U+FFFD. Takes memory for the bytes and for the text. Of a message with parts it is
     /// the text before the first part.
     ///
+    /// Control characters stay in the text, ESC and NUL among them. On a terminal they may move the
+    /// cursor or change what it shows, and in a log line ends forge lines: escape them first.
+    ///
     /// # Errors
     ///
     /// `MailParseError::Base64DecodeError` where a body in Base64 is not Base64, with the index,
@@ -154,6 +157,9 @@ impl<'a> ParsedMail<'a> {
     ///
     /// A label that one of the four charsets has is not looked for in the tables; of the tables the
     /// first that has it is read. Takes memory for the bytes and for the text.
+    ///
+    /// Control characters stay in the text, as `get_body` says: escape them before it is shown on a
+    /// terminal or written to a log.
     ///
     /// # Errors
     ///

@@ -1,9 +1,10 @@
 //! A message that was read, beside an outline.
 
-use mail_laws::render::{Outline, OutlineKind, render};
+use mail_laws::render::{Outline, OutlineKind, encode_value, render};
 use mailparse::body::Body;
 use mailparse::{MailHeader, MailParseError, ParsedMail};
 use std::alloc::Global;
+use std::str::from_utf8;
 
 /// Whether a message is the one that an outline stands for: its bytes, its headers in order, its
 /// body as it stands, and its parts in order.
@@ -56,15 +57,23 @@ fn are_headers_of(
     Ok(read.next().is_none())
 }
 
-/// Whether a header has this key and this value, which reads as itself.
+/// Whether a header has this key, and the value that this text is written as, which shows it.
 fn is_header(
     alloc: Global,
     key: &[u8],
     value: &[u8],
     header: &MailHeader<'_>,
 ) -> Result<bool, MailParseError> {
-    let text = header.get_value(alloc)?;
-    Ok(header.get_key_raw() == key && header.get_value_raw() == value && text.as_bytes() == value)
+    let Ok(text) = from_utf8(value) else {
+        return Ok(false);
+    };
+    let written = encode_value(alloc, text)?;
+    let shown = header.get_value(alloc)?;
+    Ok(
+        header.get_key_raw() == key
+            && header.get_value_raw() == written.as_bytes()
+            && shown.as_str() == text,
+    )
 }
 
 /// Whether the body of a message stands as these bytes.

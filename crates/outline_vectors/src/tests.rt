@@ -78,7 +78,7 @@ struct HeaderRow {
     is_well_formed: bool,
 }
 
-static HEADERS: [HeaderRow; 9] = [
+static HEADERS: [HeaderRow; 12] = [
     HeaderRow {
         key: b"A",
         value: b"",
@@ -102,12 +102,12 @@ static HEADERS: [HeaderRow; 9] = [
     HeaderRow {
         key: b"A",
         value: b" x",
-        is_well_formed: false,
+        is_well_formed: true,
     },
     HeaderRow {
         key: b"A",
         value: b"a=?b",
-        is_well_formed: false,
+        is_well_formed: true,
     },
     HeaderRow {
         key: b"A",
@@ -122,6 +122,21 @@ static HEADERS: [HeaderRow; 9] = [
     HeaderRow {
         key: b"Content-Type",
         value: b"text/html; charset=utf-8",
+        is_well_formed: true,
+    },
+    HeaderRow {
+        key: b"A",
+        value: b"\xFF",
+        is_well_formed: false,
+    },
+    HeaderRow {
+        key: b"Content-Type",
+        value: b" multipart/mixed",
+        is_well_formed: false,
+    },
+    HeaderRow {
+        key: b"Content-Type",
+        value: b" text/plain\n",
         is_well_formed: true,
     },
 ];
@@ -144,6 +159,73 @@ fn assert_judged(
 ) -> Result<(), MailParseError> {
     assert_eq!(*rt; is_well_formed(alloc, outline)?, wanted, "{outline:?}");
     Ok(())
+}
+
+/// The text of a header's value, and what it is written as.
+struct ValueRow {
+    text: &'static str,
+    written: &'static str,
+}
+
+static VALUES: [ValueRow; 8] = [
+    ValueRow {
+        text: "é",
+        written: "=?utf-8?B?w6k=?=",
+    },
+    ValueRow {
+        text: " x",
+        written: "=?utf-8?B?IHg=?=",
+    },
+    ValueRow {
+        text: "=?",
+        written: "=?utf-8?B?PT8=?=",
+    },
+    ValueRow {
+        text: "a\nb",
+        written: "=?utf-8?B?YQpi?=",
+    },
+    ValueRow {
+        text: "\u{FEFF}",
+        written: "=?utf-8?B?77u/?=",
+    },
+    ValueRow {
+        text: "€€€€€€€€€€€€€€€€",
+        written: "=?utf-8?B?4oKs4oKs4oKs4oKs4oKs4oKs4oKs4oKs4oKs4oKs4oKs4oKs4oKs4oKs4oKs?=\r\n \
+            =?utf-8?B?4oKs?=",
+    },
+    ValueRow {
+        text: "ééééééééééééééééééééééé",
+        written: "=?utf-8?B?w6nDqcOpw6nDqcOpw6nDqcOpw6nDqcOpw6nDqcOpw6nDqcOpw6nDqcOpw6k=?=\r\n \
+            =?utf-8?B?w6k=?=",
+    },
+    ValueRow {
+        text: "",
+        written: "",
+    },
+];
+
+#[test]
+fn written_values(rt: HostRuntime) -> Result<(), Fail> {
+    for row in &VALUES {
+        assert_value(&rt, rt.alloc(), row.text.as_bytes(), row.written.as_bytes())?;
+        let outline = leaf(rt.alloc(), b"A", row.text.as_bytes(), b"")?;
+        assert_reads_back(&rt, rt.alloc(), &outline, 0)?;
+    }
+    Ok(assert_value(&rt, rt.alloc(), b"\xFF", b"\xFF")?)
+}
+
+/// Asserts what the value of a header is written as.
+fn assert_value(
+    rt: &impl Abort,
+    alloc: Global,
+    value: &[u8],
+    written: &[u8],
+) -> Result<(), MailParseError> {
+    let mut bytes = b"A: ".to_vec(alloc)?;
+    bytes.extend_from_slice(written)?;
+    bytes.extend_from_slice(b"\r\n\r\n")?;
+    let outline = leaf(alloc, b"A", value, b"")?;
+    assert_rendered(rt, alloc, &outline, bytes.as_slice())
 }
 
 /// An outline with one part without headers: its boundary, the body of the part, and whether it is

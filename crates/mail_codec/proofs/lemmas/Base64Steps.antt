@@ -11,7 +11,7 @@ use Rattle.mail_codec.specs.Base64.{letter_value, padding, bytes_of_values, grou
 use Rattle.mail_codec.specs.private.Runs.{without_ends}
 use Rattle.mail_codec.specs.declared.bytescan.runs.RunEnd.{RunEnd}
 use Rattle.mail_codec.proofs.lemmas.Base64Engine.{slice_letters, slice_no_letters, groups_from-decode_of}
-use Rattle.mail_codec.proofs.lemmas.Base64Groups.{prepend-prepend, prepend-nil, groups_from-drop, groups_from-nil, groups_from-short}
+use Rattle.mail_codec.proofs.lemmas.Base64Groups.{prepend-prepend, groups_from-drop, groups_from-nil, groups_from-short}
 
 -- ---- four letters
 

@@ -1,7 +1,7 @@
 -- Letters of Base64 in a vector, and the bytes of their groups.
-use Rattle.std.proofs.Common.{◌≡◌, ℕ, zero, suc, ◌+◌, ◌-◌, ◌*◌, ◌/◌, ◌%◌, ◌^◌, ◌<◌, ◌≤◌, ◌≢◌, Bool, true, false, not, cond, ◌&&◌, ◌||◌, ◌==◌, nat_lt, bit_or, List, [], ◌∷◌, ◌++◌, map, length, take, drop, get_or, slice_index, replicate, Fits, w8, Option, Some, None, Result, Ok, Err, refl, sym, ap, subst, ◌∙◌, inl, inr, arith}
+use Rattle.std.proofs.Common.{◌≡◌, ℕ, zero, suc, ◌+◌, ◌*◌, ◌/◌, ◌%◌, ◌^◌, ◌<◌, ◌≤◌, Bool, true, false, not, ◌&&◌, ◌||◌, ◌==◌, nat_lt, bit_or, List, [], ◌∷◌, ◌++◌, map, length, take, drop, get_or, replicate, Option, Some, None, Ok, refl, sym, ap, subst, ◌∙◌, arith}
 use Rattle.std.proofs.lemmas.Bool.{agree_below, agree_below_at, and_parts, not-true, ltb-true}
-use Rattle.std.proofs.lemmas.List.{get_or-map, length-map, length-take-le, drop_more}
+use Rattle.std.proofs.lemmas.List.{get_or-map, length-take-le, drop_more}
 use Rattle.std.proofs.lemmas.List.Sums.{prefix_len_passes, prefix_len-le-length}
 use Rattle.std.proofs.lemmas.Nat.{or_shifted, or_lt}
 use Rattle.std.proofs.lemmas.Simd.{Each1-from_get_or, get_or_narrower, get_or-zip2, get_or-replicate, length-zip2, sum_dots}
@@ -9,7 +9,7 @@ use Rattle.std.proofs.Math.Seq.{take-add}
 use Rattle.std.specs.List.{prefix_len}
 use Rattle.std.specs.Option.{is_some}
 use lib.Lanes.{Each1, zip2, dots, digits_l, number_l, pick_l}
-use Rattle.mail_codec.specs.Base64.{letter, letter_value, padding, bytes_of_values, group_bytes, group_number, groups_from, after_group, prepend, three_bytes}
+use Rattle.mail_codec.specs.Base64.{letter, letter_value, padding, group_bytes, group_number, groups_from, after_group, prepend, three_bytes}
 use Rattle.mail_codec.specs.private.Vectors.{fault_of, group_of, is_letter, roll_place, three_at, value_of}
 use Rattle.mail_codec.proofs.lemmas.Vectors.{IsLanes, lane_fits}
 use Rattle.mail_codec.proofs.lemmas.Base64Letters.{is_value, is_value_true, letter-letter_value}

@@ -1,12 +1,21 @@
 -- What is told of vectors of sixteen bytes, each seen as the list of its lanes; this crate's own words.
-use Rattle.std.specs.Prelude.{ℕ, ◌+◌, ◌*◌, ◌/◌, ◌%◌, ◌==◌, Bool, map, List, [], ◌∷◌, Option, slice_index, bit_and, if◌then◌else◌}
+use Rattle.std.specs.Prelude.{ℕ, ◌+◌, ◌*◌, ◌/◌, ◌%◌, ◌==◌, ◌&&◌, Bool, map, List, [], ◌∷◌, Option, slice_index, bit_and, if◌then◌else◌}
 use Rattle.std.specs.Option.{is_some}
-use Rattle.std.specs.Simd.Lanes.{mask_l}
+use Rattle.std.specs.Simd.Lanes.{mask_l, zip2}
 use Rattle.mail_codec.specs.Base64.{letter_value, group_bytes}
 
 -- A bit for each lane, which is 1 where the lane passes the test; the lowest is that of the first.
 abbrev pub lane_mask : (ℕ → Bool) → List ℕ → ℕ
 lane_mask test lanes = mask_l (map test lanes)
+
+-- Lane by lane of two vectors, 1 where a byte stands in the one and a second byte in the other, or 0.
+abbrev pub pair_flags : ℕ → ℕ → List ℕ → List ℕ → List ℕ
+pair_flags first second lanes next =
+    zip2 (λ b c. if b == first && c == second then 1 else 0) lanes next
+
+-- Such a flag is set.
+abbrev pub is_set : ℕ → Bool
+is_set flag = flag == 1
 
 -- The byte is a letter of Base64.
 abbrev pub is_letter : ℕ → Bool

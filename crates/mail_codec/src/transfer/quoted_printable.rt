@@ -1,19 +1,19 @@
 //! Quoted-printable, over bytes (RFC 2045, section 6.7).
-ghost use Rattle.std.specs.Prelude.{◌≡◌, ◌==◌, ◌+◌, ◌<◌, ◌≤◌, ◌-◌, ◌++◌, length, take, drop, slice_index, IfOk, OnOk, OnSome, IfSome};
+ghost use Rattle.std.specs.Prelude.{◌≡◌, ◌↔◌, ◌+◌, ◌*◌, ◌<◌, ◌≤◌, ◌-◌, ◌++◌, length, take, drop, slice_index, None, IfOk, OnOk, OnSome, IfSome};
 ghost use Rattle.std.specs.List.{suffix_len};
 ghost use Rattle.mail_codec.specs.Ascii.{equals_sign, is_blank};
 ghost use Rattle.mail_codec.specs.Places.{begins, first_place};
-ghost use Rattle.mail_codec.specs.QuotedPrintable.{digit_value, ended_line, first_escape, line_bytes, quoted_printable, unescaped};
+ghost use Rattle.mail_codec.specs.QuotedPrintable.{digit_value, ended_line, first_escape, line_bytes, quoted_printable};
+ghost use Rattle.mail_codec.specs.private.QuotedPrintable.{is_mark, HasNoEscape};
 
-use crate::bytescan::runs::{RunEnd, run_len};
-use crate::bytescan::words::{equal_mask, first_marked};
+use crate::bytescan::words::{either_mask, first_marked};
 use crate::vectors::LANES;
-use crate::vectors::marks::{equal_lanes, first_lane};
+use crate::vectors::marks::{either_lanes, first_lane};
 use std::alloc::{AllocError, Global};
 use std::simd::prelude::*;
 
 /// How many bytes are read before they are appended; more than a line has by the rules of mail.
-const BUFFER: usize = 1024;
+const BUFFER: usize = 4096;
 
 /// What stands in the table for a byte that is no digit.
 const NO_DIGIT: u8 = 0xFF;
@@ -43,7 +43,7 @@ static DIGIT_VALUES: [u8; 256] = [
 /// Of each line the spaces and tabs at its end go, then a final `=` together with the line end,
 /// which is LF or CR LF; then each `=` with two hexadecimal digits of either case, from the left, is
 /// one byte. Every other byte stays, so no text is refused. Takes memory for the bytes, which is
-/// reserved at once; where a line is longer than a kilobyte, as much again on the way.
+/// reserved at once; where a line is longer than four kilobytes, as much again on the way.
 ///
 /// # Errors
 ///
@@ -77,8 +77,8 @@ fn decode_at_once(alloc: Global, text: &[u8]) -> Result<Vec<u8>, AllocError>
     Ok(bytes)
 }
 
-/// The same, by as many lines at a time as a buffer has room for. From a line on for which it has
-/// none, the rest is read at once.
+/// The same, by as much at a time as a buffer has room for. Where it has none for what stands
+/// before a line end or an escape, the rest is read at once.
 fn decode_by_buffers(alloc: Global, text: &[u8]) -> Result<Vec<u8>, AllocError>
     ensures { IfOk result (λ bytes. bytes.items ≡ quoted_printable text.now) }
 {
@@ -106,9 +106,12 @@ fn push_at_once(alloc: Global, bytes: &mut Vec<u8>, text: &[u8]) -> Result<(), A
     Ok(())
 }
 
-/// Writes the bytes that the lines of a text from a place on stand for at the front of `output`, as
-/// far as there is room for a line and its end. Returns how many bytes they are, and where the text
-/// goes on. Here and below, the bytes after them may be overwritten: no more are written than are read.
+/// Writes the bytes that a text from a place on stands for at the front of `output`, as far as
+/// there is room. Returns how many bytes they are, and where the text goes on. Here and below, the
+/// bytes after them may be overwritten.
+///
+/// What has been copied since the last line end or escape, from `plain` on, is taken back where a
+/// line end shows that it does not stay, or where there is no room to find out.
 fn put_lines(output: &mut [u8], text: &[u8], from: usize) -> (usize, usize)
     requires within { from ≤ length text.now }
     ensures within { result.1 ≤ length text.now }
@@ -119,25 +122,75 @@ fn put_lines(output: &mut [u8], text: &[u8], from: usize) -> (usize, usize)
         ≡ quoted_printable (drop from text.now) }
 {
     let mut len = 0;
+    let mut plain = from;
     let mut at = from;
-    'lines: while at < text.len() {
-        let line = at + run_len(&text[at..], RunEnd::Byte(b'\n'));
-        if line - at >= output.len() - len {
-            return (len, at);
+    'marks: while at < text.len() {
+        let place = len + (at - plain);
+        let end = at + (text.len() - at).min(output.len() - place);
+        let mark = at + put_run(&mut output[place..], &text[at..end]);
+        if mark == end && end < text.len() {
+            return (len, plain);
         }
-        if line == text.len() {
-            len += put_line(&mut output[len..], &text[at..line], b"");
-            return (len, line);
+        at = mark;
+        if at == text.len() {
+            continue;
         }
-        len += put_ended_line(&mut output[len..], &text[at..line]);
-        at = line + 1;
+        if text[at] == b'\n' {
+            len += put_ended_line(&mut output[len..], &text[plain..at]);
+            at += 1;
+            plain = at;
+            continue;
+        }
+        let sign = len + (at - plain);
+        let count = put_escapes(&mut output[sign..], text, at);
+        if count == 0 {
+            output[sign] = b'=';
+            at += 1;
+            continue;
+        }
+        len = sign + count;
+        at += 3 * count;
+        plain = at;
     }
+    len += put_line(&mut output[len..], &text[plain..at], b"");
     (len, at)
 }
 
-/// Writes the bytes of a line whose LF follows the piece: a CR at its end is part of the line end.
+/// Writes the bytes of the escapes that follow one another from a `=` on, as far as there is room.
+/// Returns how many they are.
+#[inline(always)]
+fn put_escapes(output: &mut [u8], text: &[u8], from: usize) -> usize
+    requires room { 0 < length output.old }
+    requires within { from < length text.now }
+    requires sign { slice_index text.now from ≡ equals_sign }
+    ensures bounds { from + 3 * result ≤ length text.now }
+    ensures written { result ≤ length output.old }
+    ensures first { (result ≡ 0) ↔ (first_escape (drop from text.now) ≡ None) }
+    ensures read { take result output.new ++ quoted_printable (drop (from + 3 * result) text.now)
+        ≡ quoted_printable (drop from text.now) }
+{
+    let mut count = 0;
+    'escapes: while count < output.len() {
+        let at = from + 3 * count;
+        if at >= text.len() || text[at] != b'=' {
+            return count;
+        }
+        let Some(byte) = escape_at(text, at) else {
+            return count;
+        };
+        output[count] = byte;
+        count += 1;
+    }
+    count
+}
+
+/// Makes of the bytes of a piece, which have been copied, those of its line, whose LF follows the
+/// piece: a CR at its end is part of the line end.
+#[inline(always)]
 fn put_ended_line(output: &mut [u8], piece: &[u8]) -> usize
     requires room { length piece.now < length output.old }
+    requires copied { take (length piece.now) output.old ≡ piece.now }
+    requires plain { HasNoEscape piece.now }
     ensures written { take result output.new ≡ line_bytes (ended_line piece.now) }
     ensures bounds { result ≤ length piece.now + 1 }
 {
@@ -147,19 +200,21 @@ fn put_ended_line(output: &mut [u8], piece: &[u8]) -> usize
     put_line(output, piece, b"\n")
 }
 
-/// Writes the bytes of a line.
+/// Makes of the bytes of a content, which have been copied, those of its line.
 #[inline(always)]
 fn put_line(output: &mut [u8], content: &[u8], ending: &[u8]) -> usize
     requires room { length content.now + length ending.now ≤ length output.old }
+    requires copied { take (length content.now) output.old ≡ content.now }
+    requires plain { HasNoEscape content.now }
     ensures written { take result output.new
         ≡ line_bytes (record { content = content.now; ending = ending.now }) }
     ensures bounds { result ≤ length content.now + length ending.now }
 {
     let kept = &content[..trimmed_len(content)];
     match kept.strip_suffix(b"=") {
-        Some(joined) => put_unescaped(output, joined),
+        Some(joined) => joined.len(),
         None => {
-            let len = put_unescaped(output, kept);
+            let len = kept.len();
             output[len..len + ending.len()].copy_from_slice(ending);
             len + ending.len()
         }
@@ -184,46 +239,20 @@ fn is_blank(byte: u8) -> bool
     byte == b' ' || byte == b'\t'
 }
 
-/// Writes the bytes with each escape read.
-fn put_unescaped(output: &mut [u8], kept: &[u8]) -> usize
-    requires room { length kept.now ≤ length output.old }
-    ensures written { take result output.new ≡ unescaped kept.now }
-    ensures bounds { result ≤ length kept.now }
-{
-    let mut len = 0;
-    let mut at = 0;
-    'runs: while at < kept.len() {
-        if kept[at] != b'=' {
-            let run = put_run(&mut output[len..], &kept[at..]);
-            len += run;
-            at += run;
-        } else if let Some(byte) = escape_at(kept, at) {
-            output[len] = byte;
-            len += 1;
-            at += 3;
-        } else {
-            output[len] = b'=';
-            len += 1;
-            at += 1;
-        }
-    }
-    len
-}
-
-/// Writes the bytes before the first `=`, or all where there is none. A vector is written whole
-/// before it is looked at, so that a copy of a few bytes has a length that is known.
+/// Writes the bytes before the first `=` or LF, or all where there is none. A vector is written
+/// whole before it is looked at, so that a copy of a few bytes has a length that is known.
 #[inline(always)]
 fn put_run(output: &mut [u8], bytes: &[u8]) -> usize
     requires room { length bytes.now ≤ length output.old }
     ensures written { take result output.new ≡ take result bytes.now }
-    ensures least { result ≡ first_place (begins (λ b. b == equals_sign)) bytes.now }
+    ensures least { result ≡ first_place (begins is_mark) bytes.now }
     ensures bounds { result ≤ length bytes.now }
 {
     let mut at = 0;
     'vectors: while bytes.len() - at >= LANES {
         let vector = u8x16::from_slice(&bytes[at..]);
         vector.copy_to_slice(&mut output[at..]);
-        let place = first_lane(equal_lanes(vector, b'='));
+        let place = first_lane(either_lanes(vector, b'=', b'\n'));
         if place != LANES {
             return at + place;
         }
@@ -237,14 +266,14 @@ fn put_run(output: &mut [u8], bytes: &[u8]) -> usize
 fn put_words(output: &mut [u8], bytes: &[u8]) -> usize
     requires room { length bytes.now ≤ length output.old }
     ensures written { take result output.new ≡ take result bytes.now }
-    ensures least { result ≡ first_place (begins (λ b. b == equals_sign)) bytes.now }
+    ensures least { result ≡ first_place (begins is_mark) bytes.now }
     ensures bounds { result ≤ length bytes.now }
 {
     let (words, tail) = bytes.as_chunks::<8>();
     let mut at = 0;
     for word in words {
         output[at..at + 8].copy_from_slice(word);
-        let mask = equal_mask(word, b'=');
+        let mask = either_mask(word, b'=', b'\n');
         if mask != 0 {
             return at + first_marked(mask);
         }
@@ -258,11 +287,11 @@ fn put_words(output: &mut [u8], bytes: &[u8]) -> usize
 fn put_tail(output: &mut [u8], tail: &[u8]) -> usize
     requires room { length tail.now ≤ length output.old }
     ensures written { take result output.new ≡ take result tail.now }
-    ensures least { result ≡ first_place (begins (λ b. b == equals_sign)) tail.now }
+    ensures least { result ≡ first_place (begins is_mark) tail.now }
     ensures bounds { result ≤ length tail.now }
 {
     for (place, byte) in tail.iter().enumerate() {
-        if *byte == b'=' {
+        if *byte == b'=' || *byte == b'\n' {
             return place;
         }
         output[place] = *byte;

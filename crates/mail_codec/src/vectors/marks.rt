@@ -1,7 +1,7 @@
 //! Which bytes of a vector pass a test: a mask has a bit for each byte, the lowest for the first.
 ghost use Rattle.std.specs.Prelude.{◌≡◌, ℕ, Bool, List, length, ◌==◌, ◌||◌, nat_lt, nat_le};
 ghost use Rattle.mail_codec.specs.Places.{begins, first_place};
-ghost use Rattle.mail_codec.specs.private.Vectors.{lane_mask};
+ghost use Rattle.mail_codec.specs.private.Vectors.{is_set, lane_mask, pair_flags};
 
 use super::LANES;
 use std::simd::prelude::*;
@@ -20,6 +20,15 @@ pub(crate) fn either_lanes(bytes: u8x16, first: u8, second: u8) -> u64
     ensures { result ≡ lane_mask (λ b. b == first || b == second) bytes }
 {
     let marks = bytes.simd_eq(u8x16::splat(first)) | bytes.simd_eq(u8x16::splat(second));
+    marks.to_bitmask()
+}
+
+/// Marks the lanes where `first` stands in one vector and `second` in the other.
+#[inline(always)]
+pub(crate) fn pair_lanes(bytes: u8x16, next: u8x16, first: u8, second: u8) -> u64
+    ensures { result ≡ lane_mask is_set (pair_flags first second bytes next) }
+{
+    let marks = bytes.simd_eq(u8x16::splat(first)) & next.simd_eq(u8x16::splat(second));
     marks.to_bitmask()
 }
 

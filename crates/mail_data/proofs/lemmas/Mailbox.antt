@@ -1,13 +1,14 @@
 -- Lemmas on mailboxes: where a mail ends, and that the mails make up the mailbox.
-use Rattle.std.proofs.Common.{◌≡◌, ℕ, zero, suc, ◌+◌, ◌-◌, ◌<◌, ◌≤◌, Bool, true, false, cond, eqb, List, [], ◌∷◌, ◌&&◌, ◌||◌, length, take, drop, Some, None, refl, sym, ap, ◌∙◌, arith, length-drop, ◌++◌, ◌⊎◌, inl, inr}
+use Rattle.std.proofs.Common.{◌≡◌, ℕ, zero, suc, ◌+◌, ◌-◌, ◌<◌, ◌≤◌, Bool, true, false, List, [], ◌∷◌, ◌&&◌, ◌||◌, length, take, drop, Some, None, refl, sym, ap, ◌∙◌, arith, length-drop, ◌++◌, inl, inr}
 use Rattle.std.specs.Prelude.{nat_lt, nat_eq, ◌==◌}
 use Rattle.std.specs.List.{flat_map}
-use Rattle.std.proofs.lemmas.Bool.{cond-true, cond-false, cases_Bool, lt-ltb, ltb-true, ne_eqb, and_parts, and_from, and_left, and_right, or_right, false≢true}
+use Rattle.std.proofs.lemmas.Bool.{cond-true, cond-false, cases_Bool, lt-ltb, ltb-true, ne_eqb, and_parts, and_left, or_right, false≢true}
 use Rattle.std.proofs.lemmas.List.{append_assoc, drop-drop, drop_all, take_rest, take-append-drop}
-use Rattle.mail_codec.specs.Places.{stands, begins, first_place, least, byte_place, is_empty}
-use Rattle.mail_codec.proofs.lemmas.Places.{least-is, least-passes, first_place-before, first_place-passes}
+use Rattle.mail_codec.specs.Places.{stands, begins, byte_place, is_empty}
 use Rattle.mail_codec.proofs.lemmas.WordSearches.{place_none, place_some}
-use Rattle.mail_data.specs.Mailbox.{mark, empty_line, ends_mail, starts_line, mail_length, line_length, entry_bytes, after_line, after_mail, after_ending, entry_at, next_entry, entries_within, entries_from, front_length, entries}
+use Rattle.mail_data.specs.Lines.{empty_line, after_empty_line, starts_line}
+use Rattle.mail_data.specs.Mailbox.{mark, ends_mail, mail_length, line_length, entry_bytes, after_line, after_mail, entry_at, next_entry, entries_within, entries_from, front_length, entries}
+use Rattle.mail_data.proofs.lemmas.Lines.{NoLine, line_place-found, line_place-all, line_place-≤, line_place-passes}
 
 -- ---- where a mail ends
 
@@ -57,119 +58,44 @@ line_length-none bytes none = let all = place_none (begins (λ b. b == 10)) byte
 
 -- ---- the end of a mail
 
--- a mail ends at the line that starts at p
-abbrev pub is_end : List ℕ → ℕ → Bool
-is_end bytes p = starts_line bytes p && ends_mail (drop p bytes)
-
--- no mail ends before a place
-abbrev pub NoEnd : List ℕ → ℕ → Type 0
-NoEnd bytes to = (k : ℕ) → k < to → is_end bytes k ≡ false
-
--- no line starts where no LF stands before
-no_start : (bytes : List ℕ) (at k : ℕ) → at < k → k ≤ at + first_place (begins (λ b. b == 10)) (drop at bytes) → starts_line bytes k ≡ false
-no_start bytes at k low high =
-    let before : begins (λ b. b == 10) (drop (k - 1 - at) (drop at bytes)) ≡ false =
-    first_place-before (begins (λ b. b == 10)) (drop at bytes) (k - 1 - at) (omega arith) in
-    let same : at + (k - 1 - at) ≡ k - 1 = omega arith in
-    ap (λ t. t || begins (λ b. b == 10) (drop (k - 1) bytes)) (ne_eqb k 0 (λ e. absurd (omega arith)))
-    ∙ ap (λ n. begins (λ b. b == 10) (drop n bytes)) (sym same)
-    ∙ ap (begins (λ b. b == 10)) (sym (drop-drop (k - 1 - at) at bytes)) ∙ before
-
--- no mail ends up to the next line
-no_end_to : (bytes : List ℕ) (at to : ℕ) → NoEnd bytes at → ends_mail (drop at bytes) ≡ false
-    → to ≤ suc (at + first_place (begins (λ b. b == 10)) (drop at bytes)) → NoEnd bytes to
-no_end_to bytes at to none not_here within k low = pick (compare_to k at)
-  where
-    compare_to : (k at : ℕ) → (k < at) ⊎ ((k ≡ at) ⊎ (at < k))
-    compare_to k at = elim (cases_Bool (nat_lt k at)) [
-      | inl l ↦ inl (ltb-true k at l)
-      | inr g ↦ elim (cases_Bool (nat_lt at k)) [
-        | inl m ↦ inr (inr (ltb-true at k m))
-        | inr h ↦ inr (inl (let a = ltb_false k at g in let b = ltb_false at k h in omega arith))
-      ]
-    ]
-      where
-        ltb_false : (a b : ℕ) → nat_lt a b ≡ false → b ≤ a
-        ltb_false a b e = grind (arith, e)
-
-    pick : (k < at) ⊎ ((k ≡ at) ⊎ (at < k)) → is_end bytes k ≡ false
-    pick (inl l) = none k l
-    pick (inr (inl e)) = ap (is_end bytes) e ∙ and_right (starts_line bytes at) (ends_mail (drop at bytes)) not_here
-    pick (inr (inr g)) = and_left (starts_line bytes k) (ends_mail (drop k bytes)) (no_start bytes at k g (omega arith))
-
-pub no_end_next : (bytes : List ℕ) (at p : ℕ) → NoEnd bytes at → ends_mail (drop at bytes) ≡ false → Some p ≡ byte_place (drop at bytes) 10
-    → NoEnd bytes (at + (p + 1))
-no_end_next bytes at p none not_here found =
-    let place = place_some (begins (λ b. b == 10)) (drop at bytes) p found in
-    let same = place.0 in
-    no_end_to bytes at (at + (p + 1)) none not_here (omega arith)
-
-pub next_within : (bytes : List ℕ) (at p : ℕ) → at ≤ length bytes → Some p ≡ byte_place (drop at bytes) 10 → at + (p + 1) ≤ length bytes
-next_within bytes at p within found =
-    let place = place_some (begins (λ b. b == 10)) (drop at bytes) p found in
-    let same = place.0 in
-    let low = place.1 in
-    let len = length-drop at bytes in
-    omega arith
-
-pub starts_next : (bytes : List ℕ) (at p : ℕ) → Some p ≡ byte_place (drop at bytes) 10 → starts_line bytes (at + (p + 1)) ≡ true
-starts_next bytes at p found =
-    let place = place_some (begins (λ b. b == 10)) (drop at bytes) p found in
-    let is = first_place-passes (begins (λ b. b == 10)) (drop at bytes) place.1 in
-    let same : at + (p + 1) - 1 ≡ at + p = omega arith in
-    or_right (eqb (at + (p + 1)) 0) (begins (λ b. b == 10) (drop (at + (p + 1) - 1) bytes))
-    (ap (λ n. begins (λ b. b == 10) (drop n bytes)) same ∙ ap (begins (λ b. b == 10)) (sym (drop-drop p at bytes))
-    ∙ ap (λ n. begins (λ b. b == 10) (drop n (drop at bytes))) place.0 ∙ is)
-
-pub mail_length-found : (bytes : List ℕ) (at : ℕ) → at ≤ length bytes → NoEnd bytes at → starts_line bytes at ≡ true → ends_mail (drop at bytes) ≡ true
+pub mail_length-found : (bytes : List ℕ) (at : ℕ) → at ≤ length bytes → NoLine ends_mail bytes at → starts_line bytes at ≡ true → ends_mail (drop at bytes) ≡ true
     → at ≡ mail_length bytes
 unfolding mail_length
-mail_length-found bytes at within none starts ends =
-    sym (least-is (is_end bytes) (length bytes) at within none (λ low. and_from (starts_line bytes at) (ends_mail (drop at bytes)) starts ends))
+mail_length-found bytes at within none starts ends = line_place-found ends_mail bytes at within none starts ends
 
-pub mail_length-all : (bytes : List ℕ) (at : ℕ) → at ≤ length bytes → NoEnd bytes at → ends_mail (drop at bytes) ≡ false → None ≡ byte_place (drop at bytes) 10
+pub mail_length-all : (bytes : List ℕ) (at : ℕ) → at ≤ length bytes → NoLine ends_mail bytes at → ends_mail (drop at bytes) ≡ false → None ≡ byte_place (drop at bytes) 10
     → length bytes ≡ mail_length bytes
 unfolding mail_length
-mail_length-all bytes at within none not_here nowhere =
-    let all = place_none (begins (λ b. b == 10)) (drop at bytes) nowhere in
-    let len = length-drop at bytes in
-    sym (least-is (is_end bytes) (length bytes) (length bytes) (omega arith) (no_end_to bytes at (length bytes) none not_here (omega arith)) (λ low. absurd (omega arith)))
+mail_length-all bytes at within none not_here nowhere = line_place-all ends_mail bytes at within none not_here nowhere
 
 -- ---- the mails
 
 mail_length-≤ : (bytes : List ℕ) → mail_length bytes ≤ length bytes
 unfolding mail_length
-mail_length-≤ bytes = least_le (is_end bytes) (length bytes)
-  where
-    least_le : (test : ℕ → Bool) (bound : ℕ) → least test bound ≤ bound
-    least_le test zero = omega arith
-    least_le test (suc bound) = elim (test 0) as (λ t. cond t 0 (suc (least (λ n. test (suc n)) bound)) ≤ suc bound) [
-      | true ↦ omega arith
-      | false ↦ let h = least_le (λ n. test (suc n)) bound in omega arith
-    ]
+mail_length-≤ bytes = line_place-≤ ends_mail bytes
 
 -- the bytes are at their end or begin with a separator
 abbrev opens : List ℕ → Bool
 opens bytes = is_empty bytes || stands mark bytes
 
-ends_mail-opens : (bytes : List ℕ) → ends_mail bytes ≡ true → opens (after_ending bytes) ≡ true
+ends_mail-opens : (bytes : List ℕ) → ends_mail bytes ≡ true → opens (after_empty_line bytes) ≡ true
 unfolding ends_mail
-ends_mail-opens bytes h = (and_parts (nat_lt 0 (empty_line bytes)) (opens (after_ending bytes)) h).1
+ends_mail-opens bytes h = (and_parts (nat_lt 0 (empty_line bytes)) (opens (after_empty_line bytes)) h).1
 
 mail_ended : (bytes : List ℕ) → mail_length bytes < length bytes → ends_mail (after_mail bytes) ≡ true
 unfolding mail_length
-mail_ended bytes l = (and_parts (starts_line bytes (mail_length bytes)) (ends_mail (after_mail bytes)) (least-passes (is_end bytes) (length bytes) l)).1
+mail_ended bytes l = line_place-passes ends_mail bytes l
 
-after_ending-nil : after_ending [] ≡ []
+after_empty_line-nil : after_empty_line [] ≡ []
 unfolding empty_line
-after_ending-nil = refl
+after_empty_line-nil = refl
 
 -- after a mail and its empty line stands a separator or nothing
-after_opens : (bytes : List ℕ) → opens (after_ending (after_mail bytes)) ≡ true
+after_opens : (bytes : List ℕ) → opens (after_empty_line (after_mail bytes)) ≡ true
 after_opens bytes = elim (cases_Bool (nat_lt (mail_length bytes) (length bytes))) [
   | inl l ↦ ends_mail-opens (after_mail bytes) (mail_ended bytes (ltb-true (mail_length bytes) (length bytes) l))
   | inr g ↦ let none : after_mail bytes ≡ [] = drop_all (mail_length bytes) bytes (grind (arith, g)) in
-      ap (λ (r : List ℕ). opens (after_ending r)) none ∙ ap opens after_ending-nil
+      ap (λ (r : List ℕ). opens (after_empty_line r)) none ∙ ap opens after_empty_line-nil
 ]
 
 line_length-some_bytes : (bytes : List ℕ) → 0 < length bytes → 0 < line_length bytes

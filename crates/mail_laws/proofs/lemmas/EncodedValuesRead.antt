@@ -1,8 +1,9 @@
 -- A written value reads back: its lines are its encoded words, and what shows are their characters.
-use Rattle.std.proofs.Common.{◌≡◌, ◌≢◌, ◌⊎◌, inl, inr, ℕ, zero, suc, ◌-◌, ◌<◌, ◌≤◌, Bool, true, false, cond, eqb, ◌&&◌, List, [], ◌∷◌, ◌++◌, length, map, take, get_or, Some, None, refl, sym, ap, subst, ◌∙◌, ⊎_elim, arith, append_assoc, length-append}
-use Rattle.std.specs.Prelude.{codes, nat_lt, encode_utf8_all, flat_map, is_none}
+use Rattle.std.proofs.Common.{◌≡◌, ◌≢◌, ◌⊎◌, inl, inr, ℕ, zero, suc, ◌-◌, ◌<◌, ◌≤◌, Bool, true, false, cond, eqb, ◌&&◌, List, [], ◌∷◌, ◌++◌, length, map, take, get_or, find, Option, Some, None, refl, sym, ap, subst, ◌∙◌, ⊎_elim, arith, append_assoc, length-append}
+use Rattle.std.specs.Prelude.{codes, nat_lt, encode_utf8_all, flat_map, is_none, option_map}
 use Rattle.std.specs.Char.{encode_utf8}
 use Rattle.std.specs.List.{list_all, slice_split, onto_first}
+use Rattle.std.specs.Option.{option_or}
 use Rattle.std.specs.Str.{chars, trim_start, skip_leading_whitespace, IsAscii, IsUtf8}
 use Rattle.std.specs.Str.Lines.{lines, lines_of_parts, strip_carriage_return}
 use Rattle.std.proofs.lemmas.Bool.{cond-true, cond-false, and_parts, cases_lt, false≢true, ltb-true, ltb-false, ne_eqb, eq-eqb, not-true}
@@ -12,19 +13,22 @@ use Rattle.std.proofs.lemmas.List.Splits.{slice_split-cons_no}
 use Rattle.std.proofs.lemmas.Str.{chars-IsAscii, encodes-IsAscii, encodes-chars, scalars-chars, IsAscii-append, IsUtf8-from_ascii, encode_ascii}
 use Rattle.std.proofs.lemmas.Str.Ascii.{IsAscii-nil, IsAscii-cons}
 use Rattle.base64.specs.GeneralPurpose.{IsBytes}
-use Rattle.mail_codec.specs.Charset.{four_charsets}
+use Rattle.mail_codec.specs.Charset.{Charsets, four_charsets, text_of}
+use Rattle.mail_codec.specs.Tables.{charsets_with, has_label, table_text}
+use Rattle.mail_codec.specs.declared.charset.Charset.TheVariants.{Utf8}
+use Rattle.mail_codec.specs.declared.charset.tables.SingleByteTable.{SingleByteTable}
 use Rattle.mail_codec.specs.Places.{first_place, stands}
 use Rattle.mail_codec.proofs.lemmas.CharsetUtf8.{encode_two, encode_three, encode_four}
 use Rattle.mail_codec.proofs.lemmas.Places.{first_place-before}
 use Rattle.mailparse.specs.Tokens.{whitespace, decoded_word}
-use Rattle.mailparse.specs.Value.{IsPlain, Token, is_released, kinds, lenient_value, line_tokens, newline, shown_after, shown_tokens, shown_value, tokens_of_lines, value_tokens}
+use Rattle.mailparse.specs.Value.{IsPlain, Token, is_released, kinds, lenient_value, lenient_value_in, line_tokens, newline, shown_after, shown_tokens, shown_value, tokens_of_lines, value_tokens}
 use Rattle.mailparse.proofs.lemmas.EncodedWord.{split_some}
 use Rattle.mailparse.proofs.lemmas.Value.{lenient-utf8}
-use Rattle.mailparse.proofs.lemmas.ValuePlain.{lenient_value-plain}
-use Rattle.mail_laws.specs.EncodedValues.{AreWords, no_word, next_word, encoded_word, is_plain_byte, is_plain_value, letters, word_lines, words_of, written_value}
+use Rattle.mailparse.proofs.lemmas.ValuePlain.{shown_value-plain}
+use Rattle.mail_laws.specs.EncodedValues.{KnowUtf8, AreWords, no_word, next_word, encoded_word, is_plain_byte, is_plain_value, letters, word_lines, words_of, written_value}
 use Rattle.mail_laws.specs.WordTokens.{word, whitespace_token}
 use Rattle.mail_laws.proofs.lemmas.EncodedValues.{words_fit, words_join}
-use Rattle.mail_laws.proofs.lemmas.EncodedValuesWord.{AreLetters, around, encoded_word-tokens, letters_are}
+use Rattle.mail_laws.proofs.lemmas.EncodedValuesWord.{AreLetters, around, encoded_word-tokens, letters_are, utf_8_known}
 use lib.Utf8.{scalar, scalars, scalar_cases}
 
 -- ---- the bytes of characters
@@ -72,11 +76,11 @@ scalars_split (x ∷ xs) ys h =
 
 -- ---- the words, each of characters
 
-abbrev AreTexts : List (List ℕ) → Type 0
+abbrev pub AreTexts : List (List ℕ) → Type 0
 AreTexts [] = Unit {0}
 AreTexts (w ∷ ws) = (scalars w ≡ true) × AreTexts ws
 
-words_texts : {cs : List ℕ} {ws : List (List ℕ)} → AreWords cs ws → scalars cs ≡ true → AreTexts ws
+pub words_texts : {cs : List ℕ} {ws : List (List ℕ)} → AreWords cs ws → scalars cs ≡ true → AreTexts ws
 words_texts no_word h = tt
 words_texts (next_word {word = w} {rest = rest} some fits full more e) h =
     let parts = scalars_split w rest (ap scalars (sym e) ∙ h) in
@@ -85,12 +89,12 @@ words_texts (next_word {word = w} {rest = rest} some fits full more e) h =
 word_bytes_are : (w : List ℕ) → scalars w ≡ true → IsBytes (encode_utf8_all w)
 word_bytes_are w h = bytes_from (encode_utf8_all w) (characters_bytes w h)
 
-word_tokens : (w : List ℕ) → scalars w ≡ true → line_tokens four_charsets (encoded_word w) ≡ around (encode_utf8_all w)
-word_tokens w h = encoded_word-tokens (encode_utf8_all w) (w, (h, refl)) (word_bytes_are w h)
+word_tokens : (known : Charsets) → KnowUtf8 known → (w : List ℕ) → scalars w ≡ true → line_tokens known (encoded_word w) ≡ around (encode_utf8_all w)
+word_tokens known knows w h = encoded_word-tokens known knows (encode_utf8_all w) (w, (h, refl)) (word_bytes_are w h)
 
 -- ---- the bytes of an encoded word
 
-abbrev AreVisible : List ℕ → Type 0
+abbrev pub AreVisible : List ℕ → Type 0
 AreVisible [] = Unit {0}
 AreVisible (b ∷ bs) = ((33 ≤ b) × (b ≤ 126)) × AreVisible bs
 
@@ -105,7 +109,7 @@ visible b h =
     let high = ltb-true b 127 parts.1 in
     (omega arith, omega arith)
 
-word_visible : (w : List ℕ) → scalars w ≡ true → AreVisible (encoded_word w)
+pub word_visible : (w : List ℕ) → scalars w ≡ true → AreVisible (encoded_word w)
 word_visible w h = (
   visible 61 refl,
   (
@@ -239,12 +243,12 @@ abbrev next_tokens : List (List ℕ) → List Token
 next_tokens [] = []
 next_tokens (w ∷ ws) = newline ∷ whitespace_token [] ∷ word (encode_utf8_all w) ∷ whitespace_token [] ∷ next_tokens ws
 
-tokens_are : (w : List ℕ) (ws : List (List ℕ)) → AreTexts (w ∷ ws)
-    → tokens_of_lines four_charsets (map encoded_word (w ∷ ws)) ≡ around (encode_utf8_all w) ++ next_tokens ws
-tokens_are w [] h = word_tokens w h.0
-tokens_are w (v ∷ ws) h =
-    ap (λ ts. ts ++ (newline ∷ tokens_of_lines four_charsets (map encoded_word (v ∷ ws)))) (word_tokens w h.0)
-    ∙ ap (λ ts. around (encode_utf8_all w) ++ (newline ∷ ts)) (tokens_are v ws h.1)
+tokens_are : (known : Charsets) → KnowUtf8 known → (w : List ℕ) (ws : List (List ℕ)) → AreTexts (w ∷ ws)
+    → tokens_of_lines known (map encoded_word (w ∷ ws)) ≡ around (encode_utf8_all w) ++ next_tokens ws
+tokens_are known knows w [] h = word_tokens known knows w h.0
+tokens_are known knows w (v ∷ ws) h =
+    ap (λ ts. ts ++ (newline ∷ tokens_of_lines known (map encoded_word (v ∷ ws)))) (word_tokens known knows w h.0)
+    ∙ ap (λ ts. around (encode_utf8_all w) ++ (newline ∷ ts)) (tokens_are known knows v ws h.1)
 
 not_released : (ws : List (List ℕ)) → is_released whitespace (kinds (next_tokens ws)) ≡ false
 not_released [] = refl
@@ -261,11 +265,12 @@ shown_all w ws =
     ap (λ t. encode_utf8_all w ++ (cond t [] [] ++ shown_after (Some decoded_word) (Some whitespace) (next_tokens ws))) (not_released ws)
     ∙ ap (λ r. encode_utf8_all w ++ r) (shown_next ws)
 
-words_show : (w : List ℕ) (ws : List (List ℕ)) → AreTexts (w ∷ ws) → shown_value four_charsets (word_lines (w ∷ ws)) ≡ flat_map encode_utf8_all (w ∷ ws)
+words_show : (known : Charsets) → KnowUtf8 known → (w : List ℕ) (ws : List (List ℕ)) → AreTexts (w ∷ ws)
+    → shown_value known (word_lines (w ∷ ws)) ≡ flat_map encode_utf8_all (w ∷ ws)
 unfolding shown_value value_tokens
-words_show w ws h =
-    ap (λ ls. shown_tokens (tokens_of_lines four_charsets ls)) (trimmed_lines w ws h)
-    ∙ ap shown_tokens (tokens_are w ws h)
+words_show known knows w ws h =
+    ap (λ ls. shown_tokens (tokens_of_lines known ls)) (trimmed_lines w ws h)
+    ∙ ap shown_tokens (tokens_are known knows w ws h)
     ∙ shown_all w ws
 
 -- ---- the whole value
@@ -276,22 +281,26 @@ lines_ascii w (v ∷ ws) h =
     IsAscii-append (encoded_word w) (13 ∷ 10 ∷ 32 ∷ word_lines (v ∷ ws)) (visible_ascii (encoded_word w) (word_visible w h.0))
     (IsAscii-cons 13 (10 ∷ 32 ∷ word_lines (v ∷ ws)) (omega arith) (IsAscii-cons 10 (32 ∷ word_lines (v ∷ ws)) (omega arith) (IsAscii-cons 32 (word_lines (v ∷ ws)) (omega arith) (lines_ascii v ws h.1))))
 
-nothing_shows : shown_value four_charsets [] ≡ []
+nothing_shows : (known : Charsets) → shown_value known [] ≡ []
 unfolding shown_value value_tokens
-nothing_shows = refl
+nothing_shows known = refl
 
-words_read : (ws : List (List ℕ)) → AreTexts ws → lenient_value (word_lines ws) ≡ flat_map encode_utf8_all ws
-words_read [] h = lenient-utf8 four_charsets [] (IsUtf8-from_ascii [] IsAscii-nil) ∙ nothing_shows
-words_read (w ∷ ws) h = lenient-utf8 four_charsets (word_lines (w ∷ ws)) (IsUtf8-from_ascii (word_lines (w ∷ ws)) (lines_ascii w ws h)) ∙ words_show w ws h
+words_read : (known : Charsets) → KnowUtf8 known → (ws : List (List ℕ)) → AreTexts ws → lenient_value_in known (word_lines ws) ≡ flat_map encode_utf8_all ws
+words_read known knows [] h = lenient-utf8 known [] (IsUtf8-from_ascii [] IsAscii-nil) ∙ nothing_shows known
+words_read known knows (w ∷ ws) h =
+    lenient-utf8 known (word_lines (w ∷ ws)) (IsUtf8-from_ascii (word_lines (w ∷ ws)) (lines_ascii w ws h)) ∙ words_show known knows w ws h
 
-encoded_reads_back : (text : List ℕ) → IsUtf8 text → lenient_value (word_lines (words_of (chars text))) ≡ text
-encoded_reads_back text utf8 =
-    let fit = words_fit (chars text) in
-    words_read (words_of (chars text)) (words_texts fit (scalars-chars text utf8)) ∙ words_join fit ∙ encodes-chars text utf8
+-- the words of a text are of characters
+pub text_words : (text : List ℕ) → IsUtf8 text → AreTexts (words_of (chars text))
+text_words text utf8 = words_texts (words_fit (chars text)) (scalars-chars text utf8)
+
+encoded_reads_back : (known : Charsets) → KnowUtf8 known → (text : List ℕ) → IsUtf8 text → lenient_value_in known (word_lines (words_of (chars text))) ≡ text
+encoded_reads_back known knows text utf8 =
+    words_read known knows (words_of (chars text)) (text_words text utf8) ∙ words_join (words_fit (chars text)) ∙ encodes-chars text utf8
 
 -- ---- plain values
 
-plain_byte : (b : ℕ) → is_plain_byte b ≡ true → (32 ≤ b) × (b ≤ 126)
+pub plain_byte : (b : ℕ) → is_plain_byte b ≡ true → (32 ≤ b) × (b ≤ 126)
 plain_byte b h = (grind (arith, nat_tests), grind (arith, nat_tests))
 
 plain_bytes : (value : List ℕ) → list_all is_plain_byte value ≡ true → (k d : ℕ) → k < length value → (32 ≤ get_or value k d) × (get_or value k d ≤ 126)
@@ -306,7 +315,7 @@ none_found p n h = go (nat_lt p n) refl h
     go true e none = absurd (false≢true none)
     go false e none = ltb-false p n e
 
-plain_is : (value : List ℕ) → is_plain_value value ≡ true → IsPlain value
+pub plain_is : (value : List ℕ) → is_plain_value value ≡ true → IsPlain value
 plain_is value h =
     let first = and_parts _ _ h in
     let second = and_parts _ _ first.1 in
@@ -317,10 +326,49 @@ plain_is value h =
       no_opening = λ k. ⊎_elim (λ lt. first_place-before (stands (codes "=?")) value k (omega arith)) (λ past. ap (stands (codes "=?")) (drop_all k value past)) (cases_lt k (length value));
     }
 
-pub written_reads_back : (text : List ℕ) → IsUtf8 text → lenient_value (written_value text) ≡ text
+pub plain_ascii : (value : List ℕ) → list_all is_plain_byte value ≡ true → IsAscii value
+plain_ascii [] h = IsAscii-nil
+plain_ascii (b ∷ value) h =
+    let parts = and_parts (is_plain_byte b) (list_all is_plain_byte value) h in
+    let high = (plain_byte b parts.0).1 in
+    IsAscii-cons b value (omega arith) (plain_ascii value parts.1)
+
+-- whatever charsets are known, a plain value shows itself
+pub plain_reads : (known : Charsets) (value : List ℕ) → is_plain_value value ≡ true → lenient_value_in known value ≡ value
+plain_reads known value h =
+    lenient-utf8 known value (IsUtf8-from_ascii value (plain_ascii value (and_parts (list_all is_plain_byte value) _ h).0))
+    ∙ shown_value-plain known value (plain_is value h)
+
+-- ---- any value
+
+-- what a text is written as shows the text
+pub written_reads : (known : Charsets) (text : List ℕ) → KnowUtf8 known ⊎ (is_plain_value text ≡ true) → IsUtf8 text
+    → lenient_value_in known (written_value text) ≡ text
 unfolding written_value
-written_reads_back text utf8 = go (is_plain_value text) refl
+written_reads known text able utf8 = go (is_plain_value text) refl able
   where
-    go : (t : Bool) → is_plain_value text ≡ t → lenient_value (cond t text (word_lines (words_of (chars text)))) ≡ text
-    go true e = lenient_value-plain text (plain_is text e)
-    go false e = encoded_reads_back text utf8
+    go : (t : Bool) → is_plain_value text ≡ t → KnowUtf8 known ⊎ (is_plain_value text ≡ true)
+        → lenient_value_in known (cond t text (word_lines (words_of (chars text)))) ≡ text
+    go true e able = plain_reads known text e
+    go false e (inl knows) = encoded_reads_back known knows text utf8
+    go false e (inr plain) = absurd (false≢true (sym e ∙ plain))
+
+pub written_reads_back : (text : List ℕ) → IsUtf8 text → lenient_value (written_value text) ≡ text
+written_reads_back text utf8 = written_reads four_charsets text (inl refl) utf8
+
+-- the charsets of a caller know UTF-8 by its label
+pub caller_knows : (tables : List SingleByteTable) → KnowUtf8 (charsets_with tables)
+unfolding charsets_with
+caller_knows tables = go (four_charsets (codes "utf-8")) (ap (option_map text_of) utf_8_known)
+  where
+    go : (o : Option (List ℕ → List ℕ)) → o ≡ Some (text_of Utf8)
+        → option_or o (option_map table_text (find (has_label (codes "utf-8")) tables)) ≡ o
+    go (Some reading) e = refl
+    go None e = absurd (no_none e)
+      where
+        no_none : ◌≡◌ {A = Option (List ℕ → List ℕ)} None (Some (text_of Utf8)) → ⊥
+        no_none e = cc
+
+-- and so give the texts of values
+pub caller_reads : (tables : List SingleByteTable) (text : List ℕ) → IsUtf8 text → lenient_value_in (charsets_with tables) (written_value text) ≡ text
+caller_reads tables text utf8 = written_reads (charsets_with tables) text (inl (caller_knows tables)) utf8

@@ -13,7 +13,7 @@ use Rattle.base64.specs.Tables.{all_below}
 use Rattle.base64.proofs.Tables.{all_below_at}
 use Rattle.base64.proofs.EngineFacts.{encode-append}
 use Rattle.mail_codec.specs.Base64.{alphabet, letter, padding, base64, groups_from, without_line_ends}
-use Rattle.mail_codec.specs.Charset.{Charsets, charset_of_label, four_charsets, is_among_labels, text_of}
+use Rattle.mail_codec.specs.Charset.{Charsets, charset_of_label, is_among_labels, text_of}
 use Rattle.mail_codec.specs.declared.charset.Charset.TheVariants.{Utf8}
 use Rattle.mail_codec.specs.Places.{first_place}
 use Rattle.mail_codec.proofs.lemmas.Base64Engine.{groups_from-encode}
@@ -25,7 +25,7 @@ use Rattle.mailparse.specs.Value.{Token, line_tokens, outside_token, token_of}
 use Rattle.mailparse.proofs.lemmas.EncodedWord.{word_whole}
 use Rattle.mailparse.proofs.lemmas.Shown.{token_of-outside}
 use Rattle.mailparse.proofs.lemmas.Tokens.{token_ranges_only}
-use Rattle.mail_laws.specs.EncodedValues.{letters}
+use Rattle.mail_laws.specs.EncodedValues.{KnowUtf8, letters}
 use Rattle.mail_laws.specs.WordTokens.{word, whitespace_token}
 
 -- ---- the letters
@@ -114,7 +114,7 @@ letters_kept (x ∷ xs) h =
 
 -- ---- what stands inside the word
 
-utf_8_known : charset_of_label (codes "utf-8") ≡ Some Utf8
+pub utf_8_known : charset_of_label (codes "utf-8") ≡ Some Utf8
 unfolding charset_of_label is_among_labels
 utf_8_known = refl
 
@@ -126,11 +126,12 @@ same_text : (bytes : List ℕ) → IsUtf8 bytes → bytes ≡ text_of Utf8 bytes
 unfolding text_of
 same_text bytes utf8 = sym (utf8_lossy-IsUtf8 bytes utf8)
 
-inside_decodes : (bytes : List ℕ) → IsUtf8 bytes → IsBytes bytes → word_text four_charsets (codes "utf-8?B?" ++ letters bytes) ≡ Some bytes
-inside_decodes bytes utf8 h =
-    sym (word_whole four_charsets (codes "utf-8?B?" ++ letters bytes) (codes "utf-8") (codes "B?" ++ letters bytes) (codes "B") (letters bytes) bytes bytes (text_of Utf8)
+inside_decodes : (known : Charsets) → KnowUtf8 known → (bytes : List ℕ) → IsUtf8 bytes → IsBytes bytes
+    → word_text known (codes "utf-8?B?" ++ letters bytes) ≡ Some bytes
+inside_decodes known knows bytes utf8 h =
+    sym (word_whole known (codes "utf-8?B?" ++ letters bytes) (codes "utf-8") (codes "B?" ++ letters bytes) (codes "B") (letters bytes) bytes bytes (text_of Utf8)
     (record { marked = refl; before = refl; after = refl }) (record { marked = refl; before = refl; after = refl })
-    (ap (option_map text_of) utf_8_known) (reads_back bytes h) (same_text bytes utf8))
+    (knows ∙ ap (option_map text_of) utf_8_known) (reads_back bytes h) (same_text bytes utf8))
 
 -- ---- where the word's ends stand
 
@@ -232,6 +233,7 @@ module _ (known : Charsets) (ls text : List ℕ) (good : AreLetters ls) (unpadde
       ∙ ap (λ t. whitespace_token [] ∷ t ∷ token_of known line (outside_range line (e + 2) (length line)) ∷ []) word_is
       ∙ ap (λ t. whitespace_token [] ∷ word text ∷ t ∷ []) last_is
 
-pub encoded_word-tokens : (bytes : List ℕ) → IsUtf8 bytes → IsBytes bytes → line_tokens four_charsets (line_of (letters bytes)) ≡ around bytes
-encoded_word-tokens bytes utf8 h =
-    word_line four_charsets (letters bytes) bytes (letters_are bytes h) (letters_begin bytes h) (inside_decodes bytes utf8 h)
+pub encoded_word-tokens : (known : Charsets) → KnowUtf8 known → (bytes : List ℕ) → IsUtf8 bytes → IsBytes bytes
+    → line_tokens known (line_of (letters bytes)) ≡ around bytes
+encoded_word-tokens known knows bytes utf8 h =
+    word_line known (letters bytes) bytes (letters_are bytes h) (letters_begin bytes h) (inside_decodes known knows bytes utf8 h)

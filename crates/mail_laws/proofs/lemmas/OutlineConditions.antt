@@ -1,19 +1,18 @@
 -- Lemmas on the conditions of a well-formed outline, and on how they are looked at one after another.
-use Rattle.std.proofs.Common.{◌≡◌, ℕ, zero, suc, ◌-◌, ◌<◌, max, Bool, true, false, not, cond, ◌&&◌, List, [], ◌∷◌, ◌++◌, length, take, drop, get_or, Option, Some, None, Result, Ok, refl, sym, ap, subst, ◌∙◌, arith}
-use Rattle.std.specs.Prelude.{nat_eq, nat_le, option_map}
+use Rattle.std.proofs.Common.{◌≡◌, ℕ, suc, ◌-◌, ◌<◌, max, Bool, true, false, not, cond, ◌&&◌, List, [], ◌∷◌, ◌++◌, length, take, drop, Option, Some, None, Result, Ok, Err, is_ok, refl, sym, ap, subst, ◌∙◌, arith}
+use Rattle.std.specs.Prelude.{MatchResult, nat_eq, nat_le, option_map}
 use Rattle.std.specs.Char.{is_ascii_alphanumeric}
 use Rattle.std.specs.List.{list_all}
 use Rattle.std.specs.Option.{option_map_or}
-use Rattle.std.specs.Str.{IsUtf8, bytes_eq}
-use Rattle.std.proofs.lemmas.Bool.{leb-true, leb-false, le-leb, lt-leb, false≢true}
-use Rattle.std.proofs.lemmas.Bool.Decides.{nat_tests}
-use Rattle.std.proofs.lemmas.Str.{IsUtf8-from_ascii}
+use Rattle.std.specs.Str.{IsUtf8, bytes_eq, is_utf8}
+use Rattle.std.proofs.lemmas.Bool.{false_from_ne_true, leb-true, leb-false, le-leb, lt-leb, false≢true}
+use Rattle.std.proofs.lemmas.Str.{IsUtf8-from_is_utf8, is_utf8-from_IsUtf8}
 use Rattle.mail_codec.specs.Places.{is_empty}
 use Rattle.mailparse.specs.Header.{Header}
 use Rattle.mailparse.specs.ContentType.{ContentType, content_type_in, content_type_of}
 use Rattle.mailparse.specs.Refusal.{Refusal}
 use Rattle.mail_laws.specs.Boundaries.{boundary_type}
-use Rattle.mail_laws.specs.Outlines.{OutlineTree, leaf, branch, OutlineForest, no_outlines, outline_and, forest_of, headers_of, rendered, is_key, is_plain, is_value_byte, has_keys, has_plain_values, has_type_key, type_header, names_its_boundary, has_plain_boundary, mimetype_of, is_not_multipart, holds_delimiter, hold_no_delimiter, depth, depth_of_parts, is_well_formed_within, are_well_formed_within}
+use Rattle.mail_laws.specs.Outlines.{OutlineTree, leaf, branch, OutlineForest, no_outlines, outline_and, forest_of, headers_of, rendered, is_key, has_keys, has_texts, has_type_key, type_header, names_its_boundary, has_plain_boundary, mimetype_of, is_not_multipart, holds_delimiter, hold_no_delimiter, depth, depth_of_parts, is_well_formed_within, are_well_formed_within}
 use lib.Pointwise.{pointwise}
 
 -- ---- the first `Content-Type`
@@ -52,38 +51,37 @@ both : (a b : Bool) → a && b ≡ true → (a ≡ true) × (b ≡ true)
 both true b h = (refl, h)
 both false b h = absurd (false≢true h)
 
--- where the values are plain, so is that of the first `Content-Type`
-pub plain_found : (headers : List Header) (value : List ℕ) → list_all (λ h. is_plain h.value) headers ≡ true
-    → option_map (λ h. h.value) (type_header headers) ≡ Some value → is_plain value ≡ true
-plain_found [] value all found = absurd (no_none found)
+-- what a call says of UTF-8 by whether it succeeds
+pub utf8_told : {T E : Type 0} (P : T → Type 0) (Q : E → Type 0) (result : Result T E) (bytes : List ℕ)
+    → MatchResult result (λ x. P x × IsUtf8 bytes) (λ e. (IsUtf8 bytes → ⊥) × Q e) → is_ok result ≡ is_utf8 bytes
+utf8_told P Q (Ok x) bytes cases = sym (is_utf8-from_IsUtf8 bytes cases.1)
+utf8_told P Q (Err e) bytes cases = sym (false_from_ne_true (is_utf8 bytes) (λ same. cases.0 (IsUtf8-from_is_utf8 bytes same)))
+
+-- where the values are UTF-8, so is that of the first `Content-Type`
+text_found : (headers : List Header) (value : List ℕ) → list_all (λ h. is_utf8 h.value) headers ≡ true
+    → option_map (λ h. h.value) (type_header headers) ≡ Some value → is_utf8 value ≡ true
+text_found [] value all found = absurd (no_none found)
   where
     no_none : ◌≡◌ {A = Option (List ℕ)} None (Some value) → ⊥
     no_none e = cc
-plain_found (h ∷ headers) value all found =
-    let each = both (is_plain h.value) (list_all (λ h. is_plain h.value) headers) all in
-    by_key (has_type_key h) refl each.0 (plain_found headers value each.1)
+text_found (h ∷ headers) value all found =
+    let each = both (is_utf8 h.value) (list_all (λ h. is_utf8 h.value) headers) all in
+    by_key (has_type_key h) refl each.0 (text_found headers value each.1)
   where
     same : ◌≡◌ {A = Option (List ℕ)} (Some h.value) (Some value) → h.value ≡ value
     same e = cc
 
-    by_key : (v : Bool) → has_type_key h ≡ v → is_plain h.value ≡ true
-        → (option_map (λ h. h.value) (type_header headers) ≡ Some value → is_plain value ≡ true) → is_plain value ≡ true
+    by_key : (v : Bool) → has_type_key h ≡ v → is_utf8 h.value ≡ true
+        → (option_map (λ h. h.value) (type_header headers) ≡ Some value → is_utf8 value ≡ true) → is_utf8 value ≡ true
     by_key true e now later =
-        subst (λ v. is_plain v ≡ true) (same (sym (ap (λ v. option_map (λ (h : Header). h.value) (cond v (Some h) (type_header headers))) e) ∙ found)) now
+        subst (λ v. is_utf8 v ≡ true) (same (sym (ap (λ v. option_map (λ (h : Header). h.value) (cond v (Some h) (type_header headers))) e) ∙ found)) now
     by_key false e now later =
         later (sym (ap (λ v. option_map (λ (h : Header). h.value) (cond v (Some h) (type_header headers))) e) ∙ found)
 
-ascii_value : (value : List ℕ) → list_all is_value_byte value ≡ true → (i : ℕ) → get_or value i 0 < 128
-ascii_value [] h i = omega arith
-ascii_value (b ∷ value) h zero = by_byte b (both (is_value_byte b) (list_all is_value_byte value) h).0
-  where
-    by_byte : (b : ℕ) → is_value_byte b ≡ true → b < 128
-    by_byte b e = grind (arith, nat_tests)
-ascii_value (b ∷ value) h (suc i) = ascii_value value (both (is_value_byte b) (list_all is_value_byte value) h).1 i
-
--- a plain value is UTF-8
-pub plain_utf8 : (value : List ℕ) → is_plain value ≡ true → IsUtf8 value
-plain_utf8 value h = IsUtf8-from_ascii value (ascii_value value (both (list_all is_value_byte value) _ h).0)
+-- and so it is a text
+pub found_text : (headers : List Header) (value : List ℕ) → list_all (λ h. is_utf8 h.value) headers ≡ true
+    → option_map (λ h. h.value) (type_header headers) ≡ Some value → IsUtf8 value
+found_text headers value all found = IsUtf8-from_is_utf8 value (text_found headers value all found)
 
 -- the mimetype of a type that was read
 pub mimetype_read : (a b : ContentType) → ◌≡◌ {A = Result ContentType Refusal} (Ok a) (Ok b) → a.mimetype ≡ b.mimetype
@@ -111,22 +109,22 @@ second_of false b rest h = refl
 
 -- its headers are not
 pub headers_fail : (t : OutlineTree) (headers : List Header) (levels : ℕ) → headers_of t ≡ headers
-    → list_all (λ h. is_key h.key) headers && list_all (λ h. is_plain h.value) headers ≡ false → well_within t levels ≡ false
-headers_fail t headers levels e h = own t (ap (λ hs. list_all (λ h. is_key h.key) hs && list_all (λ h. is_plain h.value) hs) e ∙ h)
+    → list_all (λ h. is_key h.key) headers && list_all (λ h. is_utf8 h.value) headers ≡ false → well_within t levels ≡ false
+headers_fail t headers levels e h = own t (ap (λ hs. list_all (λ h. is_key h.key) hs && list_all (λ h. is_utf8 h.value) hs) e ∙ h)
   where
-    own : (t : OutlineTree) → has_keys t && has_plain_values t ≡ false → well_within t levels ≡ false
+    own : (t : OutlineTree) → has_keys t && has_texts t ≡ false → well_within t levels ≡ false
     own (leaf headers body) h =
-        ap (λ v. v && nat_le (depth (leaf headers body)) levels) (second_of (has_keys (leaf headers body)) (has_plain_values (leaf headers body)) _ h)
+        ap (λ v. v && nat_le (depth (leaf headers body)) levels) (second_of (has_keys (leaf headers body)) (has_texts (leaf headers body)) _ h)
     own (branch headers boundary parts) h =
         ap (λ v. (v && are_well_formed_within parts) && nat_le (depth (branch headers boundary parts)) levels)
-        (second_of (has_keys (branch headers boundary parts)) (has_plain_values (branch headers boundary parts)) _ h)
+        (second_of (has_keys (branch headers boundary parts)) (has_texts (branch headers boundary parts)) _ h)
 
 -- of an outline with a body the mimetype is left
 pub leaf_left : (headers : List Header) (body : List ℕ) (levels : ℕ)
-    → has_keys (leaf headers body) && has_plain_values (leaf headers body) ≡ true
+    → has_keys (leaf headers body) && has_texts (leaf headers body) ≡ true
     → well_within (leaf headers body) levels ≡ is_not_multipart (leaf headers body)
 leaf_left headers body levels h =
-    by_tests (has_keys (leaf headers body)) (has_plain_values (leaf headers body)) (is_not_multipart (leaf headers body)) (nat_le 0 levels) h (le-leb 0 levels (omega arith))
+    by_tests (has_keys (leaf headers body)) (has_texts (leaf headers body)) (is_not_multipart (leaf headers body)) (nat_le 0 levels) h (le-leb 0 levels (omega arith))
   where
     by_tests : (a b m l : Bool) → a && b ≡ true → l ≡ true → (a && (b && (true && (true && (m && (true && true)))))) && l ≡ m
     by_tests true true true l h e = e
@@ -138,7 +136,7 @@ leaf_left headers body levels h =
 pub no_part_fails : (headers : List Header) (boundary : List ℕ) (levels : ℕ) → well_within (branch headers boundary no_outlines) levels ≡ false
 no_part_fails headers boundary levels =
     let t = branch headers boundary no_outlines in
-    by_tests (has_keys t) (has_plain_values t) (names_its_boundary t) (has_plain_boundary t)
+    by_tests (has_keys t) (has_texts t) (names_its_boundary t) (has_plain_boundary t)
   where
     by_tests : (a b n p : Bool) → ((a && (b && (n && (p && (true && (false && true)))))) && true) && nat_le 0 levels ≡ false
     by_tests true true true true = refl
@@ -164,7 +162,7 @@ pub boundary_fails : (headers : List Header) (boundary : List ℕ) (parts : Outl
     → well_within (branch headers boundary parts) levels ≡ false
 boundary_fails headers boundary parts levels h =
     let t = branch headers boundary parts in
-    by_tests (has_keys t) (has_plain_values t) (names_its_boundary t) (has_plain_boundary t) _ h
+    by_tests (has_keys t) (has_texts t) (names_its_boundary t) (has_plain_boundary t) _ h
   where
     by_tests : (a b n p r : Bool) → n && p ≡ false → ((a && (b && (n && (p && r)))) && are_well_formed_within parts) && nat_le (depth_of_parts parts) levels ≡ false
     by_tests true true n p r h = ap (λ v. (v && are_well_formed_within parts) && nat_le (depth_of_parts parts) levels) (second_of n p r h)
@@ -173,12 +171,12 @@ boundary_fails headers boundary parts levels h =
 
 -- with good headers and a good boundary its parts are left
 pub parts_left : (headers : List Header) (boundary : List ℕ) (part : OutlineTree) (parts : List OutlineTree) (levels : ℕ)
-    → has_keys (branch headers boundary (forest_of (part ∷ parts))) && has_plain_values (branch headers boundary (forest_of (part ∷ parts))) ≡ true
+    → has_keys (branch headers boundary (forest_of (part ∷ parts))) && has_texts (branch headers boundary (forest_of (part ∷ parts))) ≡ true
     → names_its_boundary (branch headers boundary (forest_of (part ∷ parts))) && has_plain_boundary (branch headers boundary (forest_of (part ∷ parts))) ≡ true
     → well_within (branch headers boundary (forest_of (part ∷ parts))) levels ≡ parts_well boundary (part ∷ parts) levels
 parts_left headers boundary part parts levels h k =
     let t = branch headers boundary (forest_of (part ∷ parts)) in
-    by_tests (has_keys t) (has_plain_values t) (names_its_boundary t) (has_plain_boundary t) (hold_no_delimiter boundary (forest_of (part ∷ parts)))
+    by_tests (has_keys t) (has_texts t) (names_its_boundary t) (has_plain_boundary t) (hold_no_delimiter boundary (forest_of (part ∷ parts)))
     (are_well_formed_within (forest_of (part ∷ parts))) (nat_le (depth_of_parts (forest_of (part ∷ parts))) levels) h k
   where
     by_tests : (a b n p c w d : Bool) → a && b ≡ true → n && p ≡ true
@@ -253,9 +251,9 @@ parts_done boundary levels = le-leb 0 levels (omega arith)
 pub ok_bool : (a b : Bool) → ◌≡◌ {A = Result Bool Refusal} (Ok a) (Ok b) → a ≡ b
 ok_bool a b e = cc
 
--- the headers are well formed
-abbrev pub plain_headers : List Header → Bool
-plain_headers headers = list_all (λ h. is_key h.key) headers && list_all (λ h. is_plain h.value) headers
+-- the keys and the values are those of a well-formed outline
+abbrev pub good_headers : List Header → Bool
+good_headers headers = list_all (λ h. is_key h.key) headers && list_all (λ h. is_utf8 h.value) headers
 
 -- the boundary is, and is named
 abbrev pub good_boundary : List Header → List ℕ → Bool
@@ -274,7 +272,7 @@ levels_fail t headers boundary parts levels e z =
 
 -- before the first part
 pub parts_start : (t : OutlineTree) (headers : List Header) (boundary : List ℕ) (parts : List OutlineTree) (levels : ℕ)
-    → t ≡ branch headers boundary (forest_of parts) → 0 < length parts → plain_headers headers ≡ true → good_boundary headers boundary ≡ true
+    → t ≡ branch headers boundary (forest_of parts) → 0 < length parts → good_headers headers ≡ true → good_boundary headers boundary ≡ true
     → well_within t levels ≡ parts_well boundary parts levels
 parts_start t headers boundary parts levels e some h k = ap (λ u. well_within u levels) e ∙ by_parts parts some
   where

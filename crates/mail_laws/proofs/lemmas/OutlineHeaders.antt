@@ -11,7 +11,8 @@ use Rattle.mailparse.specs.Header.{Header, ends_key, ends_header, is_line_end, k
 use Rattle.mailparse.specs.Block.{blank_line, headers_end, has_header, read_headers}
 use Rattle.mailparse.proofs.lemmas.Header.{header_of-value, is_line_end-false}
 use Rattle.mailparse.proofs.lemmas.Block.{with_front, read_headers-more, read_headers-none}
-use Rattle.mail_laws.specs.Outlines.{crlf, header_line, header_block, is_key_byte, is_key, is_value_byte, is_plain}
+use Rattle.mail_laws.specs.EncodedValues.{is_plain_byte, is_plain_value}
+use Rattle.mail_laws.specs.Outlines.{crlf, header_line, header_block, is_key_byte, is_key}
 
 -- ---- lists of bytes that pass a test
 
@@ -48,7 +49,7 @@ key_byte b h =
     let range = and_parts _ _ parts.0 in
     (leb-true 33 b range.0, leb-true b 126 range.1, from_not (eqb b 58) parts.1)
 
-pub value_byte : (b : ℕ) → is_value_byte b ≡ true → (32 ≤ b) × (b ≤ 126)
+pub value_byte : (b : ℕ) → is_plain_byte b ≡ true → (32 ≤ b) × (b ≤ 126)
 value_byte b h =
     ⊎_elim (λ e. let range = and_parts (leb 33 b) (leb b 126) e in let low = leb-true 33 b range.0 in (omega (arith, low), leb-true b 126 range.1))
     (λ e. let same = eqb-true b 32 e in (omega (arith, same), omega (arith, same)))
@@ -66,10 +67,10 @@ key_passed b bs h =
 no_feed_passed : (b : ℕ) (bs : List ℕ) → not (eqb b 10) ≡ true → ends_header (b ∷ bs) ≡ false
 no_feed_passed b bs h = and_left (eqb b 10) _ (from_not (eqb b 10) h)
 
-value_no_feed : (b : ℕ) → is_value_byte b ≡ true → not (eqb b 10) ≡ true
+value_no_feed : (b : ℕ) → is_plain_byte b ≡ true → not (eqb b 10) ≡ true
 value_no_feed b h = let low = (value_byte b h).0 in not_at b 10 (λ e. absurd (omega (arith, low)))
 
-value_passed : (b : ℕ) (bs : List ℕ) → is_value_byte b ≡ true → list_all is_line_end (b ∷ bs) ≡ false
+value_passed : (b : ℕ) (bs : List ℕ) → is_plain_byte b ≡ true → list_all is_line_end (b ∷ bs) ≡ false
 value_passed b bs h =
     let low = (value_byte b h).0 in
     and_left (is_line_end b) _ (is_line_end-false b (λ e. absurd (omega (arith, low))) (λ e. absurd (omega (arith, low))))
@@ -107,11 +108,35 @@ length-line key value rest =
     omega arith
 
 -- the LF ends the header where no blank follows
-last_feed : (rest : List ℕ) → begins is_blank rest ≡ false → first_place ends_header (13 ∷ 10 ∷ rest) ≡ 1
+pub last_feed : (rest : List ℕ) → begins is_blank rest ≡ false → first_place ends_header (13 ∷ 10 ∷ rest) ≡ 1
 last_feed rest no_blank = ap suc (first_place-here ends_header (10 ∷ rest) (ap not no_blank))
 
-module _ (key value rest : List ℕ) (keys : list_all is_key_byte key ≡ true) (values : list_all is_value_byte value ≡ true)
-    (no_space : stands (codes " ") value ≡ false) (no_blank : begins is_blank rest ≡ false) where
+-- a value that a header can carry: no space begins it, it ends before the CR LF after it, and all of it is the header's value
+pub record IsValue (value : List ℕ) : Type 0 where
+  pub no_space : stands (codes " ") value ≡ false
+  pub ends : (rest : List ℕ) → begins is_blank rest ≡ false → first_place ends_header (value ++ 13 ∷ 10 ∷ rest) ≡ length value + 1
+  pub whole : first_place (list_all is_line_end) (value ++ 13 ∷ []) ≡ length value
+
+-- the values of headers are that
+abbrev pub AreValues : List Header → Type 0
+AreValues [] = Unit {0}
+AreValues (h ∷ headers) = IsValue h.value × AreValues headers
+
+-- a plain one is
+pub plain_is_value : (value : List ℕ) → is_plain_value value ≡ true → IsValue value
+plain_is_value value plain =
+    let parts = and_parts (list_all is_plain_byte value) _ plain in
+    let free : list_all (λ b. not (eqb b 10)) value ≡ true = list_all-weaker is_plain_byte (λ b. not (eqb b 10)) value_no_feed value parts.0 in
+    let trimmed : first_place (list_all is_line_end) (value ++ 13 ∷ []) ≡ length value + 0 =
+    first_place-over (list_all is_line_end) is_plain_byte value_passed value (13 ∷ []) parts.0 in
+    record {
+      no_space = from_not (stands (codes " ") value) (and_parts (not (stands (codes " ") value)) _ parts.1).0;
+      ends = λ rest no_blank. first_place-over ends_header (λ b. not (eqb b 10)) no_feed_passed value (13 ∷ 10 ∷ rest) free
+          ∙ ap (λ n. length value + n) (last_feed rest no_blank);
+      whole = trimmed ∙ omega arith;
+    }
+
+module _ (key value rest : List ℕ) (keys : list_all is_key_byte key ≡ true) (valued : IsValue value) (no_blank : begins is_blank rest ≡ false) where
   key_end-written : key_end (line key value rest) ≡ length key
   unfolding key_end
   key_end-written =
@@ -129,10 +154,8 @@ module _ (key value rest : List ℕ) (keys : list_all is_key_byte key ≡ true) 
 
   end_behind : first_place ends_header (behind value rest) ≡ length value + 2
   end_behind =
-      let free : list_all (λ b. not (eqb b 10)) value ≡ true = list_all-weaker is_value_byte (λ b. not (eqb b 10)) value_no_feed value values in
-      let passed : first_place ends_header (behind value rest) ≡ suc (length value) + first_place ends_header (13 ∷ 10 ∷ rest) =
-      first_place-over ends_header (λ b. not (eqb b 10)) no_feed_passed (32 ∷ value) (13 ∷ 10 ∷ rest) free in
-      passed ∙ ap (λ n. suc (length value) + n) (last_feed rest no_blank) ∙ omega arith
+      first_place-past ends_header 32 (value ++ 13 ∷ 10 ∷ rest) (no_feed_passed 32 (value ++ 13 ∷ 10 ∷ rest) refl)
+      ∙ ap suc (valued.ends rest no_blank) ∙ omega arith
 
   header_end-written : header_end (line key value rest) ≡ length key + length value + 3
   unfolding header_end
@@ -160,15 +183,11 @@ module _ (key value rest : List ℕ) (keys : list_all is_key_byte key ≡ true) 
 
   is_spaceless : value ++ 13 ∷ [] ≡ drop (first_place (begins (λ b. not (eqb b 32))) (between value)) (between value)
   is_spaceless =
-      let one : first_place (begins (λ b. not (eqb b 32))) (between value) ≡ 1 = ap suc (value_begins value [] no_space) in
+      let one : first_place (begins (λ b. not (eqb b 32))) (between value) ≡ 1 = ap suc (value_begins value [] valued.no_space) in
       sym (ap (λ n. drop n (between value)) one)
 
   is_trimmed : value ≡ take (first_place (list_all is_line_end) (value ++ 13 ∷ [])) (value ++ 13 ∷ [])
-  is_trimmed =
-      let e : first_place (list_all is_line_end) (value ++ 13 ∷ []) ≡ length value + 0 =
-      first_place-over (list_all is_line_end) is_value_byte value_passed value (13 ∷ []) values in
-      let at : first_place (list_all is_line_end) (value ++ 13 ∷ []) ≡ length value = e ∙ omega arith in
-      sym (ap (λ n. take n (value ++ 13 ∷ [])) at ∙ take_at value (13 ∷ []) (length value) refl)
+  is_trimmed = sym (ap (λ n. take n (value ++ 13 ∷ [])) valued.whole ∙ take_at value (13 ∷ []) (length value) refl)
 
   pub header_of-written : header_of (line key value rest) ≡ record { key = key; value = value }
   header_of-written =
@@ -231,18 +250,16 @@ no_blank-block (h ∷ headers) body keys =
     ∙ no_blank-key h.key (58 ∷ behind h.value (header_block headers ++ body)) (and_parts (is_key h.key) _ keys).0
 
 -- a header as it is written, and then a block
-one_more : (h : Header) (rest : List ℕ) (n m : ℕ) (headers : List Header) (raw : List ℕ) → is_key h.key ≡ true → is_plain h.value ≡ true → begins is_blank rest ≡ false
+one_more : (h : Header) (rest : List ℕ) (n m : ℕ) (headers : List Header) (raw : List ℕ) → is_key h.key ≡ true → IsValue h.value → begins is_blank rest ≡ false
     → raw ≡ header_line h ++ rest → read_headers rest ≡ Ok (record { headers = headers; index = n }) → m ≡ length (header_line h) + n
     → read_headers raw ≡ Ok (record { headers = h ∷ headers; index = m })
 one_more h rest n m headers raw is_named is_valued no_blank whole read size =
     let named = and_parts (list_all is_key_byte h.key) (not (is_empty h.key)) is_named in
-    let valued = and_parts (list_all is_value_byte h.value) _ is_valued in
-    let no_space : stands (codes " ") h.value ≡ false = from_not (stands (codes " ") h.value) (and_parts (not (stands (codes " ") h.value)) _ valued.1).0 in
     let text : raw ≡ line h.key h.value rest = whole ∙ header_line-rest h rest in
     let first : has_header raw ≡ true = ap has_header text ∙ has_header-key h.key (58 ∷ behind h.value rest) is_named in
-    let header : header_of raw ≡ h = ap header_of text ∙ header_of-written h.key h.value rest named.0 valued.0 no_space no_blank in
+    let header : header_of raw ≡ h = ap header_of text ∙ header_of-written h.key h.value rest named.0 is_valued no_blank in
     let taken : header_length raw ≡ length (header_line h) =
-    ap header_length text ∙ header_length-written h.key h.value rest named.0 valued.0 no_space no_blank ∙ sym (length-header_line h) in
+    ap header_length text ∙ header_length-written h.key h.value rest named.0 is_valued no_blank ∙ sym (length-header_line h) in
     let left : drop (length (header_line h)) raw ≡ rest = ap (drop (length (header_line h))) whole ∙ drop_at (header_line h) rest (length (header_line h)) refl in
     read_headers-more raw first
     ∙ ap (λ (x : Header). with_front (x ∷ []) (header_length raw) (read_headers (drop (header_length raw) raw))) header
@@ -251,14 +268,13 @@ one_more h rest n m headers raw is_named is_valued no_blank whole read size =
     ∙ ap (with_front (h ∷ []) (length (header_line h))) read
     ∙ ap (λ k. Ok (record { headers = h ∷ headers; index = k })) (sym size)
 
--- the block of an outline reads as its headers, whatever follows it
-pub read_headers-written : (headers : List Header) (body : List ℕ) → list_all (λ h. is_key h.key) headers ≡ true → list_all (λ h. is_plain h.value) headers ≡ true
+-- the block of headers reads as these headers, whatever follows it
+pub read_headers-written : (headers : List Header) (body : List ℕ) → list_all (λ h. is_key h.key) headers ≡ true → AreValues headers
     → read_headers (header_block headers ++ body) ≡ Ok (record { headers = headers; index = length (header_block headers) })
 unfolding has_header headers_end blank_line
 read_headers-written [] body keys values = read_headers-none (13 ∷ 10 ∷ body) refl
 read_headers-written (h ∷ headers) body keys values =
     let key = and_parts (is_key h.key) (list_all (λ x. is_key x.key) headers) keys in
-    let value = and_parts (is_plain h.value) (list_all (λ x. is_plain x.value) headers) values in
-    one_more h (header_block headers ++ body) (length (header_block headers)) (length (header_block (h ∷ headers))) headers (header_block (h ∷ headers) ++ body) key.0 value.0
+    one_more h (header_block headers ++ body) (length (header_block headers)) (length (header_block (h ∷ headers))) headers (header_block (h ∷ headers) ++ body) key.0 values.0
     (no_blank-block headers body key.1) (header_block-more h headers body)
-    (read_headers-written headers body key.1 value.1) (length-header_block h headers)
+    (read_headers-written headers body key.1 values.1) (length-header_block h headers)

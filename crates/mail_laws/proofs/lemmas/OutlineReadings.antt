@@ -1,12 +1,11 @@
 -- What is written of an outline reads as the message that it stands for.
-use Rattle.std.proofs.Common.{◌≡◌, ℕ, zero, suc, ◌+◌, ◌-◌, ◌<◌, ◌≤◌, ⊎_elim, Bool, true, false, eqb, not, List, [], ◌∷◌, ◌++◌, length, map, take, drop, Option, Some, None, is_some, Ok, Err, codes, refl, sym, ap, ◌∙◌, subst, arith, length-append}
+use Rattle.std.proofs.Common.{◌≡◌, ◌⊎◌, inl, inr, ℕ, zero, suc, ◌+◌, ◌-◌, ◌<◌, ◌≤◌, ⊎_elim, Bool, true, false, eqb, not, List, [], ◌∷◌, ◌++◌, length, map, take, drop, Option, Some, None, is_some, Ok, Err, codes, refl, sym, ap, ◌∙◌, subst, arith, length-append}
 use Rattle.std.specs.Char.{is_ascii_alphanumeric}
-use Rattle.std.specs.List.{All, list_all}
+use Rattle.std.specs.List.{list_all}
 use Rattle.std.specs.Option.{option_map_or}
-use Rattle.std.specs.Str.{bytes_eq}
+use Rattle.std.specs.Str.{bytes_eq, is_utf8}
 use Rattle.std.proofs.lemmas.Bool.{cond-false, cases_lt, ne_eqb, eqb-true, leb-true, and_parts, or_parts, false≢true}
 use Rattle.std.proofs.lemmas.List.{append_cancel_left, drop_at, map-append, take_at, take_all}
-use Rattle.std.proofs.lemmas.List.Elements.{All-append, All-cons, All-nil}
 use lib.Pointwise.{bytes_decides}
 use Rattle.mail_codec.specs.Charset.{Charsets, four_charsets}
 use Rattle.mail_codec.specs.Places.{is_empty, place, stands, text_place}
@@ -17,12 +16,13 @@ use Rattle.mailparse.specs.ContentType.{ContentType}
 use Rattle.mailparse.specs.Ranges.{slice}
 use Rattle.mailparse.specs.Delimiters.{Cut, cut_parts}
 use Rattle.mailparse.specs.Mail.{Node, Tree, tree, Forest, no_parts, part_and, root, parts_of, nodes, trees_in, trees_within, is_digest, cut_of, node_with, read_each, read_parts, node_type, read_levels, read_mail_in, read_mail}
-use Rattle.mailparse.specs.Value.{lenient_value_in}
 use Rattle.mail_laws.specs.Boundaries.{boundary_type}
-use Rattle.mail_laws.specs.Outlines.{OutlineTree, OutlineForest, leaf, branch, no_outlines, outline_and, header_block, dash_boundary, rendered, rendered_parts, is_key, is_plain, has_keys, has_plain_values, type_header, names_its_boundary, has_plain_boundary, is_not_multipart, has_some_part, holds_delimiter, hold_no_delimiter, has_clear_parts, depth, depth_of_parts, is_well_formed_here, is_well_formed_within, are_well_formed_within, type_of, node_of, stands_for, stand_for, is_within_levels, IsWellFormed}
+use Rattle.mail_laws.specs.EncodedValues.{KnowUtf8}
+use Rattle.mail_laws.specs.Outlines.{OutlineTree, OutlineForest, leaf, branch, no_outlines, outline_and, header_block, dash_boundary, rendered, rendered_parts, is_key, has_keys, has_texts, type_header, names_its_boundary, has_plain_boundary, is_not_multipart, has_some_part, holds_delimiter, hold_no_delimiter, has_clear_parts, depth, depth_of_parts, is_well_formed_here, is_well_formed_within, are_well_formed_within, type_of, node_of, stands_for, stand_for, is_within_levels, IsWellFormed, written_headers, has_plain_values, is_plain_within, are_plain_within, Show, shown_header, headers_within, headers_in}
 use Rattle.mail_laws.proofs.lemmas.OutlineHeaders.{from_not, list_all-weaker, read_headers-written}
+use Rattle.mail_laws.proofs.lemmas.OutlineValues.{AreShown, headers_again, same_headers, written_are_shown, written_are_values, written_keys}
 use Rattle.mail_laws.proofs.lemmas.OutlineParts.{no_return, stands-nowhere, written, IsClear, AreClear, body-written, parts-written}
-use Rattle.mail_laws.proofs.lemmas.OutlineTypes.{lenient_value-plain_with, node_type-written, no_parts-leaf, type-branch}
+use Rattle.mail_laws.proofs.lemmas.OutlineTypes.{node_type-written, no_parts-leaf, type-branch}
 
 -- ---- the parts of an outline, as they are written
 
@@ -64,7 +64,7 @@ dash_boundary-free boundary all = list_all-weaker is_ascii_alphanumeric no_retur
 
 record IsFormed (outline : OutlineTree) : Type 0 where
   keys : has_keys outline ≡ true
-  values : has_plain_values outline ≡ true
+  values : has_texts outline ≡ true
   names : names_its_boundary outline ≡ true
   plain : has_plain_boundary outline ≡ true
   other : is_not_multipart outline ≡ true
@@ -74,7 +74,7 @@ record IsFormed (outline : OutlineTree) : Type 0 where
 IsFormed-from : (outline : OutlineTree) → is_well_formed_here outline ≡ true → IsFormed outline
 IsFormed-from outline h =
     let one = and_parts (has_keys outline) _ h in
-    let two = and_parts (has_plain_values outline) _ one.1 in
+    let two = and_parts (has_texts outline) _ one.1 in
     let three = and_parts (names_its_boundary outline) _ two.1 in
     let four = and_parts (has_plain_boundary outline) _ three.1 in
     let five = and_parts (is_not_multipart outline) _ four.1 in
@@ -120,17 +120,17 @@ module _ (known : Charsets) where
 
   -- a message of an outline's headers, by its block and its body
   abbrev made : List ℕ → List Header → List ℕ → List ℕ → Node
-  made bytes headers block body = record { bytes = bytes; block = block; headers = headers; ctype = type_of known headers; body = body }
+  made bytes headers block body = record { bytes = bytes; block = block; headers = written_headers headers; ctype = type_of known headers; body = body }
 
-  made-same : (bytes : List ℕ) (headers : List Header) (block body : List ℕ) → block ≡ header_block headers → (whole : List ℕ) → body ≡ whole
+  made-same : (bytes : List ℕ) (headers : List Header) (block body : List ℕ) → block ≡ header_block (written_headers headers) → (whole : List ℕ) → body ≡ whole
       → made bytes headers block body ≡ node_of known bytes headers whole
   made-same bytes headers block body is whole e =
-      ap (λ (x : List ℕ). made bytes headers x body) is ∙ ap (made bytes headers (header_block headers)) e
+      ap (λ (x : List ℕ). made bytes headers x body) is ∙ ap (made bytes headers (header_block (written_headers headers))) e
 
-  leaf-written : (levels : ℕ) (headers : List Header) (body : List ℕ) → IsFormed (leaf headers body)
+  leaf-written : (levels : ℕ) (headers : List Header) (body : List ℕ) → IsFormed (leaf headers body) → AreShown known headers
       → read_levels known (suc levels) false (rendered (leaf headers body)) ≡ Ok (stands_for known (leaf headers body))
-  leaf-written levels headers body formed =
-      let block = header_block headers in
+  leaf-written levels headers body formed shown =
+      let block = header_block (written_headers headers) in
       let bytes = block ++ body in
       let index = length block in
       let cut : Cut = record { body = record { start = index; end = length bytes }; parts = [] } in
@@ -138,21 +138,21 @@ module _ (known : Charsets) where
       let size : length bytes - index ≡ length body = let e = length-append block body in omega arith in
       let rest : slice bytes (record { start = index; end = length bytes }) ≡ body =
       ap (λ n. take n (drop index bytes)) size ∙ ap (take (length body)) (drop_at block body index refl) ∙ take_all (length body) body (omega arith) in
-      read_levels-cut levels bytes (record { headers = headers; index = index }) (type_of known headers) cut
-      (read_headers-written headers body formed.keys formed.values) (node_type-written known headers formed.keys formed.values)
+      read_levels-cut levels bytes (record { headers = written_headers headers; index = index }) (type_of known headers) cut
+      (read_headers-written (written_headers headers) body (written_keys headers formed.keys) (written_are_values headers formed.values)) (node_type-written known headers formed.keys shown)
       (ap (λ (o : Option (List ℕ)). option_map_or (λ d. cut_parts d bytes index) o cut) none)
       ∙ ap (λ (n : Node). Ok (tree n no_parts)) (made-same bytes headers (take index bytes) (slice bytes (record { start = index; end = length bytes })) (take_at block body index refl) body rest)
 
   -- what is read of an outline with parts, by what is read of the parts
   branch-by_parts : (levels : ℕ) (headers : List Header) (boundary part : List ℕ) (parts : List (List ℕ)) (whole : List ℕ)
-      → list_all (λ h. is_key h.key) headers ≡ true → list_all (λ h. is_plain h.value) headers ≡ true
+      → list_all (λ h. is_key h.key) headers ≡ true → list_all (λ h. is_utf8 h.value) headers ≡ true → AreShown known headers
       → option_map_or (λ h. bytes_eq h.value (boundary_type boundary)) (type_header headers) false ≡ true
       → list_all is_ascii_alphanumeric boundary ≡ true → AreClear (dash_boundary boundary) (part ∷ parts)
       → whole ≡ written (dash_boundary boundary) (part ∷ parts)
-      → read_levels known (suc levels) false (header_block headers ++ whole)
-      ≡ ◌>>=◌ (read_each (read_levels known levels false) (part ∷ parts)) (λ found. Ok (tree (node_of known (header_block headers ++ whole) headers []) found))
-  branch-by_parts levels headers boundary part parts whole keys values names plain clear is =
-      let block = header_block headers in
+      → read_levels known (suc levels) false (header_block (written_headers headers) ++ whole)
+      ≡ ◌>>=◌ (read_each (read_levels known levels false) (part ∷ parts)) (λ found. Ok (tree (node_of known (header_block (written_headers headers) ++ whole) headers []) found))
+  branch-by_parts levels headers boundary part parts whole keys values shown names plain clear is =
+      let block = header_block (written_headers headers) in
       let bytes = block ++ whole in
       let index = length block in
       let d = dash_boundary boundary in
@@ -161,79 +161,109 @@ module _ (known : Charsets) where
       let there : drop index bytes ≡ written d (part ∷ parts) = drop_at block whole index refl ∙ is in
       let body : slice bytes (cut_parts d bytes index).body ≡ [] = body-written 45 (45 ∷ boundary) free bytes index part parts clear there in
       let found : map (slice bytes) (cut_parts d bytes index).parts ≡ part ∷ parts = parts-written 45 (45 ∷ boundary) free bytes index part parts clear there in
-      read_levels-cut levels bytes (record { headers = headers; index = index }) (type_of known headers) (cut_parts d bytes index)
-      (read_headers-written headers whole keys values) (node_type-written known headers keys values)
+      read_levels-cut levels bytes (record { headers = written_headers headers; index = index }) (type_of known headers) (cut_parts d bytes index)
+      (read_headers-written (written_headers headers) whole (written_keys headers keys) (written_are_values headers values)) (node_type-written known headers keys shown)
       (ap (λ (o : Option (List ℕ)). option_map_or (λ x. cut_parts x bytes index) o (record { body = record { start = index; end = length bytes }; parts = [] })) type.0)
       ∙ ap (λ t. ◌>>=◌ (read_each (read_levels known levels t) (map (slice bytes) (cut_parts d bytes index).parts))
-      (λ xs. Ok (tree (node_with bytes (record { headers = headers; index = index }) (type_of known headers) (cut_parts d bytes index)) xs))) type.1
+      (λ xs. Ok (tree (node_with bytes (record { headers = written_headers headers; index = index }) (type_of known headers) (cut_parts d bytes index)) xs))) type.1
       ∙ ap (λ (ps : List (List ℕ)). ◌>>=◌ (read_each (read_levels known levels false) ps)
-      (λ xs. Ok (tree (node_with bytes (record { headers = headers; index = index }) (type_of known headers) (cut_parts d bytes index)) xs))) found
+      (λ xs. Ok (tree (node_with bytes (record { headers = written_headers headers; index = index }) (type_of known headers) (cut_parts d bytes index)) xs))) found
       ∙ ap (λ (n : Node). ◌>>=◌ (read_each (read_levels known levels false) (part ∷ parts)) (λ xs. Ok (tree n xs)))
       (made-same bytes headers (take index bytes) (slice bytes (cut_parts d bytes index).body) (take_at block whole index refl) [] body)
 
-  branch-written : (levels : ℕ) (headers : List Header) (boundary : List ℕ) (parts : OutlineForest) → IsFormed (branch headers boundary parts)
+  branch-written : (levels : ℕ) (headers : List Header) (boundary : List ℕ) (parts : OutlineForest) → IsFormed (branch headers boundary parts) → AreShown known headers
       → read_levels known (suc levels) false (rendered (branch headers boundary parts))
       ≡ ◌>>=◌ (read_each (read_levels known levels false) (renderings parts)) (λ found. Ok (tree (node_of known (rendered (branch headers boundary parts)) headers []) found))
-  branch-written levels headers boundary no_outlines formed = absurd (false≢true formed.some)
-  branch-written levels headers boundary (outline_and part parts) formed =
+  branch-written levels headers boundary no_outlines formed shown = absurd (false≢true formed.some)
+  branch-written levels headers boundary (outline_and part parts) formed shown =
       branch-by_parts levels headers boundary (rendered part) (renderings parts) (rendered_parts boundary (outline_and part parts))
-      formed.keys formed.values formed.names (and_parts (list_all is_ascii_alphanumeric boundary) (not (is_empty boundary)) formed.plain).0
+      formed.keys formed.values shown formed.names (and_parts (list_all is_ascii_alphanumeric boundary) (not (is_empty boundary)) formed.plain).0
       (AreClear-from boundary (outline_and part parts) formed.clear) (rendered_parts-written boundary (outline_and part parts))
+
+  -- ---- the charsets show the values of outlines with their parts
+
+  abbrev ShowParts : OutlineForest → Type 0
+  ShowParts parts = KnowUtf8 known ⊎ (are_plain_within parts ≡ true)
+
+  shown-leaf : (headers : List Header) (body : List ℕ) → Show known (leaf headers body) → IsFormed (leaf headers body) → AreShown known headers
+  shown-leaf headers body able formed = written_are_shown known headers able formed.values
+
+  shown-branch : (headers : List Header) (boundary : List ℕ) (parts : OutlineForest) → Show known (branch headers boundary parts)
+      → IsFormed (branch headers boundary parts) → AreShown known headers
+  shown-branch headers boundary parts (inl knows) formed = written_are_shown known headers (inl knows) formed.values
+  shown-branch headers boundary parts (inr plain) formed =
+      written_are_shown known headers (inr (and_parts (has_plain_values (branch headers boundary parts)) (are_plain_within parts) plain).0) formed.values
+
+  shown-parts : (headers : List Header) (boundary : List ℕ) (parts : OutlineForest) → Show known (branch headers boundary parts) → ShowParts parts
+  shown-parts headers boundary parts (inl knows) = inl knows
+  shown-parts headers boundary parts (inr plain) = inr (and_parts (has_plain_values (branch headers boundary parts)) (are_plain_within parts) plain).1
+
+  shown-first : (part : OutlineTree) (parts : OutlineForest) → ShowParts (outline_and part parts) → Show known part
+  shown-first part parts (inl knows) = inl knows
+  shown-first part parts (inr plain) = inr (and_parts (is_plain_within part) (are_plain_within parts) plain).0
+
+  shown-others : (part : OutlineTree) (parts : OutlineForest) → ShowParts (outline_and part parts) → ShowParts parts
+  shown-others part parts (inl knows) = inl knows
+  shown-others part parts (inr plain) = inr (and_parts (is_plain_within part) (are_plain_within parts) plain).1
 
   -- ---- outlines with their parts
 
   mutual
-    reads : (outline : OutlineTree) (n : ℕ) → is_well_formed_within outline ≡ true → depth outline ≤ n
+    reads : (outline : OutlineTree) (n : ℕ) → Show known outline → is_well_formed_within outline ≡ true → depth outline ≤ n
         → read_levels known (suc n) false (rendered outline) ≡ Ok (stands_for known outline)
-    reads (leaf headers body) n formed within = leaf-written n headers body (IsFormed-from (leaf headers body) formed)
-    reads (branch headers boundary parts) n formed within =
+    reads (leaf headers body) n able formed within =
+        let is = IsFormed-from (leaf headers body) formed in
+        leaf-written n headers body is (shown-leaf headers body able is)
+    reads (branch headers boundary parts) n able formed within =
         let both = and_parts (is_well_formed_here (branch headers boundary parts)) (are_well_formed_within parts) formed in
-        branch-written n headers boundary parts (IsFormed-from (branch headers boundary parts) both.0)
+        let is = IsFormed-from (branch headers boundary parts) both.0 in
+        branch-written n headers boundary parts is (shown-branch headers boundary parts able is)
         ∙ ap (λ (r : Reads Forest). ◌>>=◌ r (λ found. Ok (tree (node_of known (rendered (branch headers boundary parts)) headers []) found)))
-        (reads_parts parts n both.1 within)
+        (reads_parts parts n (shown-parts headers boundary parts able) both.1 within)
 
-    reads_parts : (parts : OutlineForest) (n : ℕ) → are_well_formed_within parts ≡ true → depth_of_parts parts ≤ n
+    reads_parts : (parts : OutlineForest) (n : ℕ) → ShowParts parts → are_well_formed_within parts ≡ true → depth_of_parts parts ≤ n
         → read_each (read_levels known n false) (renderings parts) ≡ Ok (stand_for known parts)
-    reads_parts no_outlines n formed within = refl
-    reads_parts (outline_and part parts) zero formed within = absurd (omega (arith, within))
-    reads_parts (outline_and part parts) (suc n) formed within =
+    reads_parts no_outlines n able formed within = refl
+    reads_parts (outline_and part parts) zero able formed within = absurd (omega (arith, within))
+    reads_parts (outline_and part parts) (suc n) able formed within =
         let both = and_parts (is_well_formed_within part) (are_well_formed_within parts) formed in
         each_read (read_levels known (suc n) false) (rendered part) (renderings parts) (stands_for known part) (stand_for known parts)
-        (reads part n both.0 (omega (arith, within))) (reads_parts parts (suc n) both.1 (omega (arith, within)))
+        (reads part n (shown-first part parts able) both.0 (omega (arith, within))) (reads_parts parts (suc n) (shown-others part parts able) both.1 (omega (arith, within)))
 
   mutual
-    refuses : (outline : OutlineTree) (n : ℕ) → is_well_formed_within outline ≡ true → n < depth outline
+    refuses : (outline : OutlineTree) (n : ℕ) → Show known outline → is_well_formed_within outline ≡ true → n < depth outline
         → read_levels known (suc n) false (rendered outline) ≡ Err recursion_limit
-    refuses (leaf headers body) n formed deep = absurd (omega (arith, deep))
-    refuses (branch headers boundary parts) n formed deep =
+    refuses (leaf headers body) n able formed deep = absurd (omega (arith, deep))
+    refuses (branch headers boundary parts) n able formed deep =
         let both = and_parts (is_well_formed_here (branch headers boundary parts)) (are_well_formed_within parts) formed in
-        branch-written n headers boundary parts (IsFormed-from (branch headers boundary parts) both.0)
+        let is = IsFormed-from (branch headers boundary parts) both.0 in
+        branch-written n headers boundary parts is (shown-branch headers boundary parts able is)
         ∙ ap (λ (r : Reads Forest). ◌>>=◌ r (λ found. Ok (tree (node_of known (rendered (branch headers boundary parts)) headers []) found)))
-        (refuses_parts parts n both.1 deep)
+        (refuses_parts parts n (shown-parts headers boundary parts able) both.1 deep)
 
-    refuses_parts : (parts : OutlineForest) (n : ℕ) → are_well_formed_within parts ≡ true → n < depth_of_parts parts
+    refuses_parts : (parts : OutlineForest) (n : ℕ) → ShowParts parts → are_well_formed_within parts ≡ true → n < depth_of_parts parts
         → read_each (read_levels known n false) (renderings parts) ≡ Err recursion_limit
-    refuses_parts no_outlines n formed deep = absurd (omega (arith, deep))
-    refuses_parts (outline_and part parts) zero formed deep =
+    refuses_parts no_outlines n able formed deep = absurd (omega (arith, deep))
+    refuses_parts (outline_and part parts) zero able formed deep =
         first_refused (read_levels known zero false) (rendered part) (renderings parts) (read_levels-none (rendered part))
-    refuses_parts (outline_and part parts) (suc n) formed deep =
+    refuses_parts (outline_and part parts) (suc n) able formed deep =
         let both = and_parts (is_well_formed_within part) (are_well_formed_within parts) formed in
-        ⊎_elim (λ below. first_refused (read_levels known (suc n) false) (rendered part) (renderings parts) (refuses part n both.0 below))
-        (λ within. later_refused (read_levels known (suc n) false) (rendered part) (renderings parts) (stands_for known part) (reads part n both.0 within)
-        (refuses_parts parts (suc n) both.1 (omega (arith, deep, within))))
+        ⊎_elim (λ below. first_refused (read_levels known (suc n) false) (rendered part) (renderings parts) (refuses part n (shown-first part parts able) both.0 below))
+        (λ within. later_refused (read_levels known (suc n) false) (rendered part) (renderings parts) (stands_for known part) (reads part n (shown-first part parts able) both.0 within)
+        (refuses_parts parts (suc n) (shown-others part parts able) both.1 (omega (arith, deep, within))))
         (cases_lt n (depth part))
 
   -- an outline no deeper than the limit is read
-  pub outline_is_read : (greatest : ℕ) (outline : OutlineTree) → is_well_formed_within outline ≡ true → depth outline ≤ greatest
+  pub outline_is_read : (greatest : ℕ) (outline : OutlineTree) → Show known outline → is_well_formed_within outline ≡ true → depth outline ≤ greatest
       → read_mail_in known greatest (rendered outline) ≡ Ok (stands_for known outline)
   unfolding read_mail_in
-  outline_is_read greatest outline formed within = reads outline greatest formed within
+  outline_is_read greatest outline able formed within = reads outline greatest able formed within
 
   -- and a deeper one is refused for the limit
-  pub outline_is_refused : (greatest : ℕ) (outline : OutlineTree) → is_well_formed_within outline ≡ true → greatest < depth outline
+  pub outline_is_refused : (greatest : ℕ) (outline : OutlineTree) → Show known outline → is_well_formed_within outline ≡ true → greatest < depth outline
       → read_mail_in known greatest (rendered outline) ≡ Err recursion_limit
   unfolding read_mail_in
-  outline_is_refused greatest outline formed deep = refuses outline greatest formed deep
+  outline_is_refused greatest outline able formed deep = refuses outline greatest able formed deep
 
   -- ---- the message that an outline stands for tells the outline
 
@@ -266,7 +296,9 @@ module _ (known : Charsets) where
   mutual
     tells : (one two : OutlineTree) → is_well_formed_within one ≡ true → is_well_formed_within two ≡ true → stands_for known one ≡ stands_for known two → one ≡ two
     tells (leaf headers body) (leaf others rest) formed also e =
-        ap (λ (x : List Header). leaf x body) (ap (λ (t : Tree). (root t).headers) e) ∙ ap (leaf others) (ap (λ (t : Tree). (root t).body) e)
+        let same : headers ≡ others =
+        same_headers headers others (IsFormed-from (leaf headers body) formed).values (IsFormed-from (leaf others rest) also).values (ap (λ (t : Tree). (root t).headers) e) in
+        ap (λ (x : List Header). leaf x body) same ∙ ap (leaf others) (ap (λ (t : Tree). (root t).body) e)
     tells (leaf headers body) (branch others boundary parts) formed also e =
         absurd (some_parts others boundary parts (IsFormed-from (branch others boundary parts) (and_parts (is_well_formed_here (branch others boundary parts)) (are_well_formed_within parts) also).0).some (ap parts_of e))
     tells (branch headers boundary parts) (leaf others rest) formed also e =
@@ -274,7 +306,9 @@ module _ (known : Charsets) where
     tells (branch headers boundary parts) (branch others limit rest) formed also e =
         let one = and_parts (is_well_formed_here (branch headers boundary parts)) (are_well_formed_within parts) formed in
         let two = and_parts (is_well_formed_here (branch others limit rest)) (are_well_formed_within rest) also in
-        let same : headers ≡ others = ap (λ (t : Tree). (root t).headers) e in
+        let same : headers ≡ others =
+        same_headers headers others (IsFormed-from (branch headers boundary parts) one.0).values (IsFormed-from (branch others limit rest) two.0).values
+        (ap (λ (t : Tree). (root t).headers) e) in
         let named : option_map_or (λ h. bytes_eq h.value (boundary_type boundary)) (type_header others) false ≡ true =
         subst (λ (hs : List Header). option_map_or (λ h. bytes_eq h.value (boundary_type boundary)) (type_header hs) false ≡ true) same
         (IsFormed-from (branch headers boundary parts) one.0).names in
@@ -298,7 +332,8 @@ outlines_are_one one two formed also same =
     let n = depth one + depth two in
     tells four_charsets one two formed also
     (unwrap (stands_for four_charsets one) (stands_for four_charsets two)
-    (sym (outline_is_read four_charsets n one formed (omega arith)) ∙ ap (read_mail_in four_charsets n) same ∙ outline_is_read four_charsets n two also (omega arith)))
+    (sym (outline_is_read four_charsets n one (inl refl) formed (omega arith)) ∙ ap (read_mail_in four_charsets n) same
+    ∙ outline_is_read four_charsets n two (inl refl) also (omega arith)))
   where
     unwrap : (t u : Tree) → ◌≡◌ {A = Reads Tree} (Ok t) (Ok u) → t ≡ u
     unwrap t u e = cc
@@ -308,37 +343,34 @@ pub outline_is_mail : (outline : OutlineTree) → IsWellFormed outline → read_
 unfolding read_mail
 outline_is_mail outline formed =
     let both = and_parts (is_well_formed_within outline) (is_within_levels outline) formed in
-    outline_is_read four_charsets 100 outline both.0 (leb-true (depth outline) 100 both.1)
+    outline_is_read four_charsets 100 outline (inl refl) both.0 (leb-true (depth outline) 100 both.1)
 
 -- ---- what its headers show
 
--- the values of a message's headers show as they are
-abbrev Shows : Charsets → Node → Type 0
-Shows known node = map (λ h. lenient_value_in known h.value) node.headers ≡ map (λ h. h.value) node.headers
+-- the headers of a message, each with the text that its value shows
+abbrev pub shown_headers : Charsets → Node → List Header
+shown_headers known node = map (shown_header known) node.headers
 
 module _ (known : Charsets) where
-  values-plain : (headers : List Header) → list_all (λ h. is_plain h.value) headers ≡ true → map (λ h. lenient_value_in known h.value) headers ≡ map (λ h. h.value) headers
-  values-plain [] plain = refl
-  values-plain (h ∷ headers) plain =
-      let both = and_parts (is_plain h.value) (list_all (λ x. is_plain x.value) headers) plain in
-      ap (λ (v : List ℕ). v ∷ map (λ x. lenient_value_in known x.value) headers) (lenient_value-plain_with known h.value both.0)
-      ∙ ap (λ (vs : List (List ℕ)). h.value ∷ vs) (values-plain headers both.1)
-
   mutual
-    pub values_show : (outline : OutlineTree) → is_well_formed_within outline ≡ true → All (Shows known) (nodes (stands_for known outline))
-    values_show (leaf headers body) formed =
-        All-cons (Shows known) (root (stands_for known (leaf headers body))) [] (values-plain headers (IsFormed-from (leaf headers body) formed).values)
-        (All-nil (Shows known))
-    values_show (branch headers boundary parts) formed =
+    pub headers_show : (outline : OutlineTree) → Show known outline → is_well_formed_within outline ≡ true
+        → map (shown_headers known) (nodes (stands_for known outline)) ≡ headers_within outline
+    headers_show (leaf headers body) able formed =
+        ap (λ (hs : List Header). hs ∷ []) (headers_again known headers (shown-leaf known headers body able (IsFormed-from (leaf headers body) formed)))
+    headers_show (branch headers boundary parts) able formed =
         let both = and_parts (is_well_formed_here (branch headers boundary parts)) (are_well_formed_within parts) formed in
-        All-cons (Shows known) (root (stands_for known (branch headers boundary parts))) (map root (trees_in (stand_for known parts)))
-        (values-plain headers (IsFormed-from (branch headers boundary parts) both.0).values) (values_of_parts_show parts both.1)
+        ap (λ (hs : List Header). hs ∷ map (shown_headers known) (map root (trees_in (stand_for known parts))))
+        (headers_again known headers (shown-branch known headers boundary parts able (IsFormed-from (branch headers boundary parts) both.0)))
+        ∙ ap (λ (rest : List (List Header)). headers ∷ rest) (headers_of_parts_show parts (shown-parts known headers boundary parts able) both.1)
 
-    values_of_parts_show : (parts : OutlineForest) → are_well_formed_within parts ≡ true → All (Shows known) (map root (trees_in (stand_for known parts)))
-    values_of_parts_show no_outlines formed = All-nil (Shows known)
-    values_of_parts_show (outline_and part parts) formed =
+    headers_of_parts_show : (parts : OutlineForest) → ShowParts known parts → are_well_formed_within parts ≡ true
+        → map (shown_headers known) (map root (trees_in (stand_for known parts))) ≡ headers_in parts
+    headers_of_parts_show no_outlines able formed = refl
+    headers_of_parts_show (outline_and part parts) able formed =
         let both = and_parts (is_well_formed_within part) (are_well_formed_within parts) formed in
         let first = trees_within (stands_for known part) in
         let others = trees_in (stand_for known parts) in
-        subst (All (Shows known)) (sym (map-append root first others))
-        (All-append (Shows known) (map root first) (map root others) (values_show part both.0) (values_of_parts_show parts both.1))
+        ap (map (shown_headers known)) (map-append root first others)
+        ∙ map-append (shown_headers known) (map root first) (map root others)
+        ∙ ap (λ hs. hs ++ map (shown_headers known) (map root others)) (headers_show part (shown-first known part parts able) both.0)
+        ∙ ap (λ hs. headers_within part ++ hs) (headers_of_parts_show parts (shown-others known part parts able) both.1)

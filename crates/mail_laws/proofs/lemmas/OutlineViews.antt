@@ -3,7 +3,7 @@ use Rattle.std.proofs.Common.{◌≡◌, ℕ, List, [], ◌∷◌, ◌++◌, map
 use Rattle.std.specs.Global.{Vec}
 use Rattle.std.specs.Prelude.{codes, flat_map, if◌then◌else◌}
 use Rattle.mailparse.specs.Header.{Header}
-use Rattle.mail_laws.specs.Outlines.{OutlineTree, leaf, branch, forest_of, headers_of, crlf, header_line, header_block, dash_boundary, rendered, rendered_parts}
+use Rattle.mail_laws.specs.Outlines.{OutlineTree, leaf, branch, forest_of, headers_of, crlf, header_line, header_block, dash_boundary, rendered, rendered_parts, written_header, written_headers}
 use Rattle.mail_laws.specs.OutlineViews.{header_seen, headers_seen, kind_step, outline_step, outline_tree}
 use Rattle.mail_laws.specs.declared.render.Outline.{Outline}
 use Rattle.mail_laws.specs.declared.render.OutlineKind.{OutlineKind}
@@ -54,9 +54,10 @@ tree_branch o boundary parts e =
 -- ---- what it is written as
 
 -- the lines of headers, one after another
-pub lines_seen : (pairs : List (Vec ℕ × Vec ℕ)) → flat_map header_line (map header_seen pairs) ≡ flat_map (λ p. header_line (header_seen p)) pairs
+pub lines_seen : (pairs : List (Vec ℕ × Vec ℕ))
+    → flat_map header_line (written_headers (map header_seen pairs)) ≡ flat_map (λ p. header_line (written_header (header_seen p))) pairs
 lines_seen [] = refl
-lines_seen (p ∷ pairs) = ap (λ rest. header_line (header_seen p) ++ rest) (lines_seen pairs)
+lines_seen (p ∷ pairs) = ap (λ rest. header_line (written_header (header_seen p)) ++ rest) (lines_seen pairs)
 
 -- a part with its delimiter and its line end
 abbrev pub part_text : List ℕ → OutlineTree → List ℕ
@@ -85,10 +86,10 @@ on_ok_then (Ok x) p done = done p
 on_ok_then (Err x) p done = _
 
 -- all headers and the blank line
-pub block_written : (old before new : List ℕ) (pairs : List (Vec ℕ × Vec ℕ)) → before ≡ old ++ flat_map (λ p. header_line (header_seen p)) pairs → new ≡ before ++ crlf
-    → new ≡ old ++ header_block (map header_seen pairs)
+pub block_written : (old before new : List ℕ) (pairs : List (Vec ℕ × Vec ℕ)) → before ≡ old ++ flat_map (λ p. header_line (written_header (header_seen p))) pairs → new ≡ before ++ crlf
+    → new ≡ old ++ header_block (written_headers (map header_seen pairs))
 block_written old before new pairs b n =
-    n ∙ ap (λ x. x ++ crlf) (b ∙ ap (λ x. old ++ x) (sym (lines_seen pairs))) ∙ append_assoc old (flat_map header_line (map header_seen pairs)) crlf
+    n ∙ ap (λ x. x ++ crlf) (b ∙ ap (λ x. old ++ x) (sym (lines_seen pairs))) ∙ append_assoc old (flat_map header_line (written_headers (map header_seen pairs))) crlf
 
 -- all parts and the close-delimiter
 pub parts_written : (old before new headers boundary : List ℕ) (parts : List Outline)

@@ -3,12 +3,12 @@ ghost use Rattle.std.specs.Prelude.{◌≡◌, ◌∷◌, ◌&&◌, ◌||◌, If
 ghost use Rattle.std.specs.Char.{is_ascii_alphanumeric};
 ghost use Rattle.std.specs.List.{list_all};
 ghost use Rattle.std.specs.Option.{option_map_or};
-ghost use Rattle.std.specs.Str.{bytes_eq, str_eq_ignore_ascii_case};
+ghost use Rattle.std.specs.Str.{bytes_eq, is_utf8, str_eq_ignore_ascii_case};
 ghost use Rattle.mail_codec.specs.Ascii.{line_feed};
 ghost use Rattle.mail_codec.specs.Places.{is_empty, stands, text_place};
 ghost use Rattle.mailparse.specs.Outcome.{AnswersOrMemory};
 ghost use Rattle.mail_laws.specs.Boundaries.{boundary_type};
-ghost use Rattle.mail_laws.specs.Outlines.{dash_boundary, holds_delimiter, is_key, is_plain, mimetype_of, type_header};
+ghost use Rattle.mail_laws.specs.Outlines.{dash_boundary, holds_delimiter, is_key, mimetype_of, type_header};
 ghost use Rattle.mail_laws.specs.OutlineViews.{headers_seen};
 
 use mail_codec::bytescan::find;
@@ -16,12 +16,12 @@ use mailparse::{MailParseError, parse_content_type};
 use std::alloc::{AllocError, Global};
 use std::str::from_utf8;
 
-/// Whether each key is one, and each value is plain.
-pub(super) fn has_plain_headers(headers: &Vec<(Vec<u8>, Vec<u8>)>) -> bool
+/// Whether each key is one, and each value is UTF-8.
+pub(super) fn has_good_headers(headers: &Vec<(Vec<u8>, Vec<u8>)>) -> bool
     ensures { result ≡ (list_all (λ h. is_key h.key) (headers_seen headers.now)
-        && list_all (λ h. is_plain h.value) (headers_seen headers.now)) }
+        && list_all (λ h. is_utf8 h.value) (headers_seen headers.now)) }
 {
-    has_keys(headers) && has_plain_values(headers)
+    has_keys(headers) && has_texts(headers)
 }
 
 /// Whether each key is one or more printable bytes of ASCII, without a space and a colon.
@@ -48,29 +48,23 @@ fn is_key(key: &[u8]) -> bool
     !key.is_empty()
 }
 
-/// Whether each value is plain.
-fn has_plain_values(headers: &Vec<(Vec<u8>, Vec<u8>)>) -> bool
-    ensures { result ≡ list_all (λ h. is_plain h.value) (headers_seen headers.now) }
+/// Whether each value is UTF-8.
+fn has_texts(headers: &Vec<(Vec<u8>, Vec<u8>)>) -> bool
+    ensures { result ≡ list_all (λ h. is_utf8 h.value) (headers_seen headers.now) }
 {
     for header in headers {
-        if !is_plain(header.1.as_slice()) {
+        if !is_text(header.1.as_slice()) {
             return false;
         }
     }
     true
 }
 
-/// Whether a value is printable bytes of ASCII and spaces, does not begin with a space and does not
-/// hold `=?`.
-fn is_plain(value: &[u8]) -> bool
-    ensures { result ≡ is_plain value.now }
+/// Whether bytes are UTF-8.
+fn is_text(bytes: &[u8]) -> bool
+    ensures { result ≡ is_utf8 bytes.now }
 {
-    for byte in value {
-        if !byte.is_ascii_graphic() && *byte != b' ' {
-            return false;
-        }
-    }
-    !value.starts_with(b" ") && find(value, b"=?").is_none()
+    from_utf8(bytes).is_ok()
 }
 
 /// The value of the first header whose key is `Content-Type`, ignoring ASCII case.
@@ -130,12 +124,12 @@ fn is_plain_boundary(boundary: &[u8]) -> bool
 }
 
 /// Whether the mimetype of the first `Content-Type`, if there is one, does not begin with
-/// `multipart`. The values are plain.
+/// `multipart`. The values are UTF-8.
 pub(super) fn is_not_multipart(
     alloc: Global,
     headers: &Vec<(Vec<u8>, Vec<u8>)>,
 ) -> Result<bool, MailParseError>
-    requires plain { list_all (λ h. is_plain h.value) (headers_seen headers.now) ≡ true }
+    requires texts { list_all (λ h. is_utf8 h.value) (headers_seen headers.now) ≡ true }
     ensures { AnswersOrMemory (λ answer. answer) result (Ok (option_map_or
         (λ h. not (stands (codes "multipart") (mimetype_of h.value)))
         (type_header (headers_seen headers.now)) true)) }

@@ -4,8 +4,8 @@ use Rattle.std.specs.Prelude.{nat_lt, ◌==◌, filter_map, option_and_then, cod
 use Rattle.std.proofs.lemmas.Bool.{cond-true, cond-false, cases_lt, cases_eq, lt-ltb, le-ltb, eq-eqb, eqb-true, ne_eqb, and_parts, and_from, and_left, and_right, false≢true}
 use Rattle.std.proofs.lemmas.List.{drop-drop}
 use Rattle.bstr.specs.Find.{OccursAt, FindsNeedle}
-use Rattle.mail_codec.specs.Places.{stands, begins, first_place, least, byte_place, values_below}
-use Rattle.mail_codec.proofs.lemmas.Places.{least-is, least-before, least-passes, first_place-before}
+use Rattle.mail_codec.specs.Places.{stands, begins, first_place, least, byte_place, text_place, values_below}
+use Rattle.mail_codec.proofs.lemmas.Places.{least-is, least-before, least-passes, first_place-before, first_place-passes}
 use Rattle.mailparse.specs.Header.{is_line_feed}
 use Rattle.mailparse.specs.Delimiters.{least_from, starts_line, is_delimiter, delimiter_from, line_after, part_after, is_close_delimiter, next_part, part_start, part_starts, part_range}
 use Rattle.mailparse.specs.private.Delimiters.{NoDelimiter}
@@ -136,66 +136,6 @@ somewhere f at (Some k) e = (k, refl, unwrap (f k) e)
     unwrap : (b : ℕ) → Some at ≡ Some b → at ≡ b
     unwrap b h = cc
 
--- ---- a search from one first byte to the next
-
-no_delimiter_before : (key bytes : List ℕ) (start from j : ℕ) → 0 < length key → NoDelimiter key bytes start from
-    → first_place (begins (λ b. b == get_or key 0 0)) (drop from bytes) ≡ j → NoDelimiter key bytes start (from + j)
-no_delimiter_before key bytes start from j some none first k low high =
-    ⊎_elim (λ below. none k low below)
-    (λ above.
-    let first_byte = begins (λ b. b == get_or key 0 0) in
-    let there : drop (k - from) (drop from bytes) ≡ drop k bytes = drop-drop (k - from) from bytes ∙ ap (λ n. drop n bytes) (omega arith) in
-    let fails : first_byte (drop (k - from) (drop from bytes)) ≡ false = first_place-before first_byte (drop from bytes) (k - from) (omega (arith, first)) in
-    and_right (starts_line bytes start k) _ (stands_first key (drop k bytes) some (ap first_byte (sym there) ∙ fails)))
-    (cases_lt k from)
-
--- no first byte of the key is left
-pub no_delimiter_left : (key bytes : List ℕ) (start from : ℕ) → 0 < length key → from ≤ length bytes → NoDelimiter key bytes start from
-    → None ≡ option_map (λ k. from + k) (byte_place (drop from bytes) (get_or key 0 0)) → NoDelimiter key bytes start (length bytes)
-no_delimiter_left key bytes start from some within none e = λ k low high.
-    let len = length-drop from bytes in
-    no_delimiter_before key bytes start from (length (drop from bytes)) some none
-    (place_none (begins (λ b. b == get_or key 0 0)) (drop from bytes) (nowhere (λ k. from + k) (byte_place (drop from bytes) (get_or key 0 0)) e)) k low (omega arith)
-
--- the next first byte of the key
-pub no_delimiter_to : (key bytes : List ℕ) (start from at : ℕ) → 0 < length key → NoDelimiter key bytes start from
-    → Some at ≡ option_map (λ k. from + k) (byte_place (drop from bytes) (get_or key 0 0)) → NoDelimiter key bytes start at
-no_delimiter_to key bytes start from at some none e =
-    let here = somewhere (λ k. from + k) at (byte_place (drop from bytes) (get_or key 0 0)) e in
-    subst (NoDelimiter key bytes start) (sym here.2)
-    (no_delimiter_before key bytes start from here.0 some none
-    (sym (place_some (begins (λ b. b == get_or key 0 0)) (drop from bytes) here.0 here.1).0))
-
--- past its start no line starts on a line
-no_delimiter_on_line : (key bytes : List ℕ) (start at j : ℕ) → start ≤ at → NoDelimiter key bytes start at → is_delimiter key bytes start at ≡ false
-    → first_place (begins is_line_feed) (drop at bytes) ≡ j → NoDelimiter key bytes start (suc (at + j))
-no_delimiter_on_line key bytes start at j after none here feed k low high =
-    ⊎_elim (λ below. none k low below)
-    (λ above. ⊎_elim (λ same. subst (λ p. is_delimiter key bytes start p ≡ false) (sym same) here)
-    (λ other.
-    let i = k - 1 - at in
-    let there : drop i (drop at bytes) ≡ drop (k - 1) bytes = drop-drop i at bytes ∙ ap (λ n. drop n bytes) (omega arith) in
-    let fails : begins is_line_feed (drop i (drop at bytes)) ≡ false = first_place-before (begins is_line_feed) (drop at bytes) i (omega (arith, feed, other)) in
-    and_left (starts_line bytes start k) _ (or_false (eqb k start) _ (ne_eqb k start (λ e. other (omega arith))) (ap (begins is_line_feed) (sym there) ∙ fails)))
-    (cases_eq k at))
-    (cases_lt k at)
-
--- no line starts after this one
-pub no_delimiter_on_last_line : (key bytes : List ℕ) (start at : ℕ) → start ≤ at → at ≤ length bytes → NoDelimiter key bytes start at → is_delimiter key bytes start at ≡ false
-    → None ≡ line_after bytes at → NoDelimiter key bytes start (length bytes)
-no_delimiter_on_last_line key bytes start at after within none here e k low high =
-    let len = length-drop at bytes in
-    no_delimiter_on_line key bytes start at (length (drop at bytes)) after none here
-    (place_none (begins is_line_feed) (drop at bytes) (nowhere (λ k. suc (at + k)) (byte_place (drop at bytes) 10) e)) k low (omega arith)
-
--- the next line
-pub no_delimiter_to_line : (key bytes : List ℕ) (start at next : ℕ) → start ≤ at → NoDelimiter key bytes start at → is_delimiter key bytes start at ≡ false
-    → Some next ≡ line_after bytes at → NoDelimiter key bytes start next
-no_delimiter_to_line key bytes start at next after none here e =
-    let there = somewhere (λ k. suc (at + k)) next (byte_place (drop at bytes) 10) e in
-    subst (NoDelimiter key bytes start) (sym there.2)
-    (no_delimiter_on_line key bytes start at there.0 after none here (sym (place_some (begins is_line_feed) (drop at bytes) there.0 there.1).0))
-
 -- ---- a search for the LF and the delimiter after it
 
 feed_and : (dash_boundary rest : List ℕ) → stands (10 ∷ dash_boundary) rest ≡ (begins is_line_feed rest && stands dash_boundary (drop 1 rest))
@@ -242,6 +182,70 @@ none_to dash_boundary bytes start to within fits first none k low high =
     by_test : (i : ℕ) → i < to → (t : Bool) → stands (10 ∷ dash_boundary) (drop i (drop start bytes)) ≡ t → t ≡ false
     by_test i low true e = absurd (none i (omega arith) low (stands_occurs (10 ∷ dash_boundary) (drop start bytes) i (omega arith) e))
     by_test i low false e = refl
+
+-- ---- a search from one line that begins with the key's first byte to the next
+
+both_and : (s t u : Bool) → s && (t && true) ≡ false → s && (t && u) ≡ false
+both_and true true u h = absurd (false≢true (sym h))
+both_and true false u h = refl
+both_and false t u h = refl
+
+no_and : (s : Bool) → s && false ≡ false
+no_and true = refl
+no_and false = refl
+
+-- a LF and the key stand only where the LF and the key's first byte do
+pub stands_pair : (key rest : List ℕ) → 0 < length key → stands (10 ∷ get_or key 0 0 ∷ []) rest ≡ false → stands (10 ∷ key) rest ≡ false
+stands_pair [] rest some h = absurd (omega arith)
+stands_pair (x ∷ key) [] some h = refl
+stands_pair (x ∷ key) (b ∷ []) some h = no_and (eqb 10 b)
+stands_pair (x ∷ key) (b ∷ c ∷ rest) some h = both_and (eqb 10 b) (eqb x c) (stands key rest) h
+
+-- where the two bytes are found, both stand within the bytes
+pub pair_within : (a b p : ℕ) (bytes : List ℕ) → Some p ≡ text_place bytes (a ∷ b ∷ []) → p + 2 ≤ length bytes
+pair_within a b p bytes e =
+    let found = place_some (stands (a ∷ b ∷ [])) bytes p e in
+    let reads = stands_reads (a ∷ b ∷ []) (drop p bytes)
+    (subst (λ n. stands (a ∷ b ∷ []) (drop n bytes) ≡ true) (sym found.0) (first_place-passes (stands (a ∷ b ∷ [])) bytes found.1)) in
+    let len = length-drop p bytes in
+    omega (arith, reads.0)
+
+-- none stands at a place, nor up to the next LF with the key's first byte
+no_delimiter_past : (key bytes : List ℕ) (start at j : ℕ) → 0 < length key → start ≤ at → NoDelimiter key bytes start at → is_delimiter key bytes start at ≡ false
+    → first_place (stands (10 ∷ get_or key 0 0 ∷ [])) (drop at bytes) ≡ j → NoDelimiter key bytes start (suc (at + j))
+no_delimiter_past key bytes start at j some after none here first k low high =
+    ⊎_elim (λ below. none k low below)
+    (λ above. ⊎_elim (λ same. subst (λ p. is_delimiter key bytes start p ≡ false) (sym same) here)
+    (λ other.
+    let pair = stands (10 ∷ get_or key 0 0 ∷ []) in
+    let i = k - 1 - at in
+    let there : drop i (drop at bytes) ≡ drop (k - 1) bytes = drop-drop i at bytes ∙ ap (λ n. drop n bytes) (omega (arith, other)) in
+    let fails : pair (drop i (drop at bytes)) ≡ false = first_place-before pair (drop at bytes) i (omega (arith, first, other)) in
+    is_delimiter-line key bytes start k (omega (arith, other)) ∙ stands_pair key (drop (k - 1) bytes) some (ap pair (sym there) ∙ fails))
+    (cases_eq k at))
+    (cases_lt k at)
+
+-- no such line is left
+pub no_delimiter_left : (key bytes : List ℕ) (start at : ℕ) → 0 < length key → start ≤ at → at ≤ length bytes → NoDelimiter key bytes start at
+    → is_delimiter key bytes start at ≡ false → None ≡ option_map (λ k. suc (at + k)) (text_place (drop at bytes) (10 ∷ get_or key 0 0 ∷ []))
+    → NoDelimiter key bytes start (length bytes)
+no_delimiter_left key bytes start at some after within none here e k low high =
+    let pair = 10 ∷ get_or key 0 0 ∷ [] in
+    let len = length-drop at bytes in
+    no_delimiter_past key bytes start at (length (drop at bytes)) some after none here
+    (place_none (stands pair) (drop at bytes) (nowhere (λ k. suc (at + k)) (text_place (drop at bytes) pair) e)) k low (omega arith)
+
+-- the next such line
+pub no_delimiter_to_line : (key bytes : List ℕ) (start at next : ℕ) → 0 < length key → start ≤ at → NoDelimiter key bytes start at
+    → is_delimiter key bytes start at ≡ false → Some next ≡ option_map (λ k. suc (at + k)) (text_place (drop at bytes) (10 ∷ get_or key 0 0 ∷ []))
+    → NoDelimiter key bytes start next
+no_delimiter_to_line key bytes start at next some after none here e =
+    let pair = 10 ∷ get_or key 0 0 ∷ [] in
+    let there = somewhere (λ k. suc (at + k)) next (text_place (drop at bytes) pair) e in
+    subst (NoDelimiter key bytes start) (sym there.2)
+    (no_delimiter_past key bytes start at there.0 some after none here (sym (place_some (stands pair) (drop at bytes) there.0 there.1).0))
+
+-- ---- a search for the LF and the delimiter after it, by the kit's search
 
 -- where the search found nothing
 pub found_nowhere : (dash_boundary bytes : List ℕ) (start : ℕ) → start ≤ length bytes → stands dash_boundary (drop start bytes) ≡ false → FindsNeedle (drop start bytes) (10 ∷ dash_boundary) 0 None
@@ -391,8 +395,8 @@ part_starts-some dash_boundary bytes s =
 pub part_ranges-some : (dash_boundary bytes : List ℕ) (s : ℕ) → part_ranges dash_boundary bytes (Some s) ≡ part_range dash_boundary bytes s ∷ part_ranges dash_boundary bytes (next_part dash_boundary bytes s)
 part_ranges-some dash_boundary bytes s = ap (map (part_range dash_boundary bytes)) (part_starts-some dash_boundary bytes s)
 
--- ---- searches with keys that no delimiter has: by their contracts, what `find_from_u8` and
--- `find_from_u8_line_prefix` return on short texts
+-- ---- searches with keys that no delimiter has: by their contracts, what the searches for a byte, for
+-- a line with that first byte and for a line that begins with a key return on short texts
 
 -- the first `o` in `hello world` from 5 on, and from 8 on
 pub byte_after_a_place : option_map (λ k. 5 + k) (byte_place (drop 5 (codes "hello world")) 111) ≡ Some 7
@@ -400,6 +404,13 @@ byte_after_a_place = refl
 
 pub no_byte_after_a_place : option_map (λ k. 8 + k) (byte_place (drop 8 (codes "hello world")) 111) ≡ None
 no_byte_after_a_place = refl
+
+-- the first line that begins with `h` after 0, and after 6
+pub line_after_a_place : option_map (λ k. suc (0 + k)) (text_place (drop 0 (codes "hello" ++ line_feed ∷ codes "hello")) (line_feed ∷ 104 ∷ [])) ≡ Some 6
+line_after_a_place = refl
+
+pub no_line_after_a_place : option_map (λ k. suc (6 + k)) (text_place (drop 6 (codes "hello" ++ line_feed ∷ codes "hello")) (line_feed ∷ 104 ∷ [])) ≡ None
+no_line_after_a_place = refl
 
 -- the first line from a place on that begins with a key
 pub key_on_the_next_line : delimiter_from (codes "he") (codes "hello" ++ line_feed ∷ codes "hello") 1 ≡ Some 6

@@ -1,10 +1,11 @@
 -- What those that join sections hold; private to them.
 use Rattle.std.specs.Prelude.{ℕ, zero, suc, Bool, false, not, ◌&&◌, ◌==◌, nat_lt, List, [], ◌∷◌, ◌++◌, map, flat_map, Option, Some, None, option_and_then, option_map, option_to_list, String, string_bytes, if◌then◌else◌}
 use Rattle.std.specs.BTreeMap.{BTreeMap}
+use Rattle.std.specs.List.{list_any}
 use Rattle.std.specs.Option.{option_map_or}
 use Rattle.std.specs.Str.{bytes_eq}
 use Rattle.mailparse.specs.Continuations.{is_section, joined, sections_of, walked_after}
-use Rattle.mailparse.specs.Sections.{Section, is_text, numbered, section_name}
+use Rattle.mailparse.specs.Sections.{Section, is_star, is_text, numbered, section_name}
 use Rattle.mailparse.specs.private.Filled.{holds_name}
 use Rattle.mailparse.specs.private.KnownCharset.{known_text}
 use Rattle.mailparse.specs.declared.parameters.continuations.joining.Joining.{Joining}
@@ -27,6 +28,10 @@ joined_with joining sections = string_bytes joining.text ++ walked_after (option
 -- the names of a map, in its order
 abbrev pub names_in : {Y X : Type 0} → BTreeMap (String Y) X → List (List ℕ)
 names_in m = map (λ e. string_bytes e.0) m.entries
+
+-- a name holds a star
+abbrev pub has_star : List ℕ → Bool
+has_star name = list_any is_star name
 
 -- the base of a name with the number 0, where no text stands
 abbrev pub first_base_of : (List ℕ → Option Section) → List ℕ → Option (List ℕ)

@@ -10,7 +10,7 @@ ghost use Rattle.mailparse.specs.private.Shown.{Shows, token_view};
 
 use super::encoded_word::decode_word;
 use super::shown::{HeaderToken, ShownValue};
-use mail_codec::bytescan::find;
+use mail_codec::bytescan;
 use mail_codec::charset::SingleByteTable;
 use std::alloc::{AllocError, Global};
 
@@ -57,7 +57,7 @@ fn find_pair(bytes: &[u8], from: usize, first: u8, second: u8) -> usize
     requires { from ≤ length bytes.now }
     ensures { result ≡ place_from (stands (first ∷ second ∷ [])) bytes.now from }
 {
-    match find(&bytes[from..], &[first, second]) {
+    match bytescan::find_pair(&bytes[from..], first, second) {
         Some(place) => from + place,
         None => bytes.len(),
     }

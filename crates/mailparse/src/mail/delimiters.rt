@@ -1,14 +1,15 @@
 //! The delimiters that cut a body into parts, and where the parts stand (RFC 2046, section 5.1.1).
 //!
 //! A delimiter is handed in as a LF and the dash-boundary, which is `--` and the boundary.
-ghost use Rattle.std.specs.Prelude.{◌≡◌, ℕ, ◌+◌, ◌<◌, ◌≤◌, List, length, drop, option_map, IfSome};
-ghost use Rattle.mail_codec.specs.Places.{byte_place};
+ghost use Rattle.std.specs.Prelude.{◌≡◌, ℕ, suc, ◌+◌, ◌<◌, ◌≤◌, List, [], ◌∷◌, length, drop, option_map, IfSome};
+ghost use Rattle.mail_codec.specs.Ascii.{line_feed};
+ghost use Rattle.mail_codec.specs.Places.{text_place};
 ghost use Rattle.mailparse.specs.Delimiters.{starts_line, is_delimiter, delimiter_from, line_after, is_close_delimiter};
 ghost use Rattle.mailparse.specs.Delimiters.{before_byte, before_line_end, end_from, first_part, next_part};
 ghost use Rattle.mailparse.specs.private.Delimiters.{IsDelimiter};
 
 use bstr::ByteSlice;
-use mail_codec::bytescan::find_byte;
+use mail_codec::bytescan::{find_byte, find_pair};
 
 /// Where the preamble ends that starts at `start`, and where the first part starts, if there is one.
 pub(super) fn cut_preamble(raw: &[u8], start: usize, delimiter: &[u8]) -> (usize, Option<usize>)
@@ -87,8 +88,8 @@ fn find_delimiter(raw: &[u8], start: usize, delimiter: &[u8]) -> Option<usize>
 /// The first place at or after `start` where a line begins with `key`, where `start` counts as the
 /// start of a line.
 ///
-/// It goes from one first byte of `key` to the next, and past the end of each line that it has seen
-/// one in: lines without that byte are passed over.
+/// It goes from one line that begins with the first byte of `key` to the next: all others are passed
+/// over.
 fn find_from_u8_line_prefix(raw: &[u8], start: usize, key: &[u8]) -> Option<usize>
     requires some { 0 < length key.now }
     requires within { start ≤ length raw.now }
@@ -96,27 +97,25 @@ fn find_from_u8_line_prefix(raw: &[u8], start: usize, key: &[u8]) -> Option<usiz
     ensures bounds { IfSome result (λ at.
         (start ≤ at) × (at + length key.now ≤ length raw.now)) }
 {
-    let mut from = start;
-    while let Some(at) = find_from_u8(raw, from, key[0]) {
-        if is_line_prefix(raw, start, at, key) {
-            return Some(at);
-        }
-        let Some(next) = line_after(raw, at) else {
+    let mut at = start;
+    'lines: while !is_line_prefix(raw, start, at, key) {
+        let Some(next) = find_from_u8(raw, at, key[0]) else {
             return None;
         };
-        from = next;
+        at = next;
     }
-    None
+    Some(at)
 }
 
-/// The first place at or after `start` where a byte stands.
+/// The first place after `start` where a line starts with that byte.
 fn find_from_u8(raw: &[u8], start: usize, byte: u8) -> Option<usize>
     requires within { start ≤ length raw.now }
-    ensures least { result ≡ option_map (λ k. start + k) (byte_place (drop start raw.now) byte) }
-    ensures bounds { IfSome result (λ at. (start ≤ at) × (at < length raw.now)) }
+    ensures least { result ≡ option_map (λ k. suc (start + k))
+        (text_place (drop start raw.now) (line_feed ∷ byte ∷ [])) }
+    ensures bounds { IfSome result (λ at. (start < at) × (at < length raw.now)) }
 {
-    let place = find_byte(&raw[start..], byte)?;
-    Some(start + place)
+    let place = find_pair(&raw[start..], b'\n', byte)?;
+    Some(start + place + 1)
 }
 
 /// Whether a line starts at `at` and begins with `key`, where `start` counts as the start of a line.

@@ -1,11 +1,12 @@
 //! Values that are joined from their sections (RFC 2231, section 3).
-ghost use Rattle.std.specs.Prelude.{◌≡◌, ◌++◌, ℕ, List, length, map, option_map, IfOk, OnOk, string_bytes};
+ghost use Rattle.std.specs.Prelude.{◌≡◌, ◌++◌, ℕ, List, not, length, map, option_map, IfOk, OnOk, string_bytes};
+ghost use Rattle.std.specs.List.{list_any};
 ghost use Rattle.std.specs.Option.{option_or};
 ghost use Rattle.mail_codec.specs.Tables.{charsets_with};
 ghost use Rattle.mailparse.specs.Continuations.{joined, joined_at, parameters_in, sections_of};
 ghost use Rattle.mailparse.specs.Pairs.{last_of, text_at};
 ghost use Rattle.mailparse.specs.Sections.{alone};
-ghost use Rattle.mailparse.specs.private.Continuations.{first_base_of, first_bases, joined_text, left_by, names_in, names_of_sections, without_sections};
+ghost use Rattle.mailparse.specs.private.Continuations.{first_base_of, first_bases, has_star, joined_text, left_by, names_in, names_of_sections, without_sections};
 ghost use Rattle.mailparse.specs.private.Sections.{section_view, sections_at, stands_at};
 
 mod joining;
@@ -13,6 +14,7 @@ mod joining;
 use self::joining::Joining;
 use super::extended_values::read_sections;
 use super::sections::{Section, Sections, numbered};
+use mail_codec::bytescan::find_byte;
 use mail_codec::charset::SingleByteTable;
 use std::alloc::{AllocError, Global};
 use std::collections::BTreeMap;
@@ -166,8 +168,26 @@ fn left_and_joined(
     Ok(texts)
 }
 
+/// Whether a name holds a star.
+fn has_star(name: &str) -> bool
+    ensures { result ≡ has_star name.now }
+{
+    find_byte(name.as_bytes(), b'*').is_some()
+}
+
+/// Whether no name of a map holds a star: then none is extended, and none has a number.
+fn is_star_free(pairs: &BTreeMap<String, String>) -> bool
+    ensures { result ≡ not (list_any has_star (names_in pairs.now)) }
+{
+    let mut starred = false;
+    for (name, _) in pairs {
+        starred |= has_star(name.as_str());
+    }
+    !starred
+}
+
 /// The parameters that pairs of a key and a value give: extended values are read, and sections are
-/// joined.
+/// joined. Where no key holds a star, they are the pairs.
 pub(super) fn resolve(
     alloc: Global,
     pairs: BTreeMap<String, String>,
@@ -177,6 +197,9 @@ pub(super) fn resolve(
         text_at pairs q ≡ last_of ps q) → (q : List ℕ) → text_at texts q
         ≡ parameters_in (charsets_with tables.now) ps q) }
 {
+    if is_star_free(&pairs) {
+        return Ok(pairs);
+    }
     let sections = read_sections(alloc, pairs, tables)?;
     left_and_joined(alloc, sections)
 }

@@ -2,7 +2,8 @@ use Rattle.std.proofs.Common.{◌≡◌, ℕ, ◌-◌, Bool, true, false, List, 
 use Rattle.std.proofs.lemmas.List.{take_rest}
 use Rattle.mail_codec.specs.Places.{byte_place}
 use Rattle.mail_data.specs.Mailbox.{ends_mail}
-use Rattle.mail_data.proofs.lemmas.Mailbox.{no_end_next, starts_next, next_within, mail_length-found, mail_length-all}
+use Rattle.mail_data.proofs.lemmas.Lines.{no_line_next, starts_next, next_within}
+use Rattle.mail_data.proofs.lemmas.Mailbox.{mail_length-found, mail_length-all}
 use Rattle.mail_data.proofs.mailbox.mail_length.Goals as goal
 
 -- what the two calls say of the bytes from there on
@@ -22,7 +23,7 @@ lines-preserved c =
     let found = feed bytes at c.find_byte.result (Some c.in-Some.place) c.find_byte.ensures c.in-Some.is in
     record {
       within = next_within bytes at c.in-Some.place c.lines.invariant.within found;
-      none = no_end_next bytes at c.in-Some.place c.lines.invariant.none (ends bytes at c.ends_mail.result false c.ends_mail.ensures c.lines-test.true) found;
+      none = no_line_next ends_mail bytes at c.in-Some.place c.lines.invariant.none (ends bytes at c.ends_mail.result false c.ends_mail.ensures c.lines-test.true) found;
       starts = starts_next bytes at c.in-Some.place found;
     }
 

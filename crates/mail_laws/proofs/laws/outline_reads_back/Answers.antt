@@ -1,4 +1,5 @@
-use Rattle.mail_laws.proofs.lemmas.OutlineReadings.{outline_is_read, outline_is_refused, outline_is_mail, values_show, outlines_are_one}
+use Rattle.mail_laws.proofs.lemmas.EncodedValuesRead.{caller_knows}
+use Rattle.mail_laws.proofs.lemmas.OutlineReadings.{outline_is_read, outline_is_refused, outline_is_mail, headers_show, outlines_are_one}
 use Rattle.mail_laws.proofs.laws.outline_reads_back.Goals as goal
 
 pub returns-clause-read : goal.returns-clause-read
@@ -11,7 +12,10 @@ pub returns-clause-mail : goal.returns-clause-mail
 returns-clause-mail c = outline_is_mail
 
 pub returns-clause-shown : goal.returns-clause-shown
-returns-clause-shown c = values_show
+returns-clause-shown c = headers_show
+
+pub returns-clause-tables : goal.returns-clause-tables
+returns-clause-tables c = caller_knows
 
 pub returns-clause-only : goal.returns-clause-only
 returns-clause-only c = outlines_are_one

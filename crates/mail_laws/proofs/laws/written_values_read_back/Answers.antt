@@ -1,5 +1,8 @@
-use Rattle.mail_laws.proofs.lemmas.EncodedValuesRead.{written_reads_back}
+use Rattle.mail_laws.proofs.lemmas.EncodedValuesRead.{caller_reads, written_reads_back}
 use Rattle.mail_laws.proofs.laws.written_values_read_back.Goals as goal
 
-pub returns : goal.returns
-returns c = written_reads_back
+pub returns-clause-shown : goal.returns-clause-shown
+returns-clause-shown c = written_reads_back
+
+pub returns-clause-tables : goal.returns-clause-tables
+returns-clause-tables c = caller_reads

@@ -30,7 +30,7 @@ loop-part-init t c =
     let none : vec_len c.in-Branch.parts ≡ 0 → ⊥ = eqb-false (vec_len c.in-Branch.parts) 0 (sym c.if-is_empty.ensures) in
     let len : vec_len c.in-Branch.parts ≡ length c.in-Branch.parts.items = c.in-Branch.parts.ok.0 in
     let some : 0 < length (map outline_tree c.in-Branch.parts.items) = omega (arith, none, len, length-map c.in-Branch.parts.items outline_tree) in
-    let plain = sym c.has_plain_headers.ensures ∙ c.if-not-has_plain_headers.false in
+    let plain = sym c.has_good_headers.ensures ∙ c.if-not-has_good_headers.false in
     let good = ap (good_boundary headers) (sym c.as_slice.ensures.value) ∙ sym c.has_boundary.ensures ∙ c.if-not-has_boundary.false in
     parts_start _ headers boundary (map outline_tree c.in-Branch.parts.items) c.args.levels tree some plain good
     ∙ ap (λ (os : List Outline). parts_well boundary (map outline_tree os) c.args.levels) (sym c.deref-part-items.ensures.value)

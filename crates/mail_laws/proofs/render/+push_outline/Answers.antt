@@ -1,6 +1,6 @@
 use Rattle.std.proofs.Common.{ℕ, ◌++◌, List, ap, sym, ◌∙◌, arith, take_all}
 use Rattle.std.specs.Prelude.{codes, flat_map}
-use Rattle.mail_laws.specs.Outlines.{crlf, dash_boundary, header_block, rendered}
+use Rattle.mail_laws.specs.Outlines.{crlf, dash_boundary, header_block, rendered, written_headers}
 use Rattle.mail_laws.specs.OutlineViews.{headers_seen, outline_tree}
 use Rattle.mail_laws.specs.declared.render.Outline.{Outline}
 use Rattle.mail_laws.proofs.lemmas.OutlineViews.{on_ok_then, part_text, parts_written, tree_branch}
@@ -13,10 +13,10 @@ returns-after-loop-part t c =
     let boundary = c.in-Branch.boundary.items in
     let parts = c.in-Branch.parts.items in
     let all = take_all c.loop-part.part-index c.deref-part-items.result.now (omega (arith, c.loop-part-test.false)) ∙ c.deref-part-items.ensures.value in
-    let before = c.loop-part.invariant ∙ ap (λ (os : List Outline). old ++ (header_block (headers_seen outline.headers) ++ flat_map (λ o. part_text boundary (outline_tree o)) os)) all in
+    let before = c.loop-part.invariant ∙ ap (λ (os : List Outline). old ++ (header_block (written_headers (headers_seen outline.headers)) ++ flat_map (λ o. part_text boundary (outline_tree o)) os)) all in
     record {
       written = on_ok_then c.push_delimiter-in-Branch.result c.push_delimiter-in-Branch.ensures.written (λ n.
-          parts_written old _ _ (header_block (headers_seen outline.headers)) boundary parts before
+          parts_written old _ _ (header_block (written_headers (headers_seen outline.headers))) boundary parts before
           (n ∙ ap (λ (b : List ℕ). c.loop-part.bytes.items ++ (dash_boundary b ++ (codes "--" ++ crlf))) c.as_slice-in-Branch.ensures.value)
           ∙ ap (λ t. old ++ rendered t) (sym (tree_branch outline c.in-Branch.boundary c.in-Branch.parts c.in-Branch.is)));
     }

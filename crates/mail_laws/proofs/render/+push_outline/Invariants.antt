@@ -1,7 +1,7 @@
 -- The header block, and the parts so far.
 use Rattle.std.proofs.Common.{◌≡◌, ◌++◌, take}
 use Rattle.std.specs.Prelude.{flat_map}
-use Rattle.mail_laws.specs.Outlines.{header_block}
+use Rattle.mail_laws.specs.Outlines.{header_block, written_headers}
 use Rattle.mail_laws.specs.OutlineViews.{headers_seen, outline_tree}
 use Rattle.mail_laws.proofs.lemmas.OutlineViews.{part_text}
 use Rattle.mail_laws.proofs.render.+push_outline.Given as goal
@@ -9,4 +9,4 @@ use Rattle.mail_laws.proofs.render.+push_outline.Given as goal
 abbrev pub invariant-loop-part : goal.invariant-loop-part
 invariant-loop-part l =
     l.bytes.items ≡ l.fn.bytes.items
-    ++ (header_block (headers_seen l.outline.headers) ++ flat_map (λ o. part_text l.boundary.items (outline_tree o)) (take l.part-index l.part-items))
+    ++ (header_block (written_headers (headers_seen l.outline.headers)) ++ flat_map (λ o. part_text l.boundary.items (outline_tree o)) (take l.part-index l.part-items))

@@ -1,4 +1,4 @@
-use Rattle.std.proofs.Common.{◌≡◌, ◌≤◌, ◌+◌, ◌-◌, ◌*◌, ◌++◌, ℕ, length, take, drop, IsAscii, IsUtf8, subst, sym, ◌∙◌, ap, encode_utf8, arith}
+use Rattle.std.proofs.Common.{◌≤◌, ◌+◌, ◌-◌, ◌++◌, length, take, drop, IsAscii, IsUtf8, subst, sym, ◌∙◌, ap, encode_utf8, arith}
 use Rattle.std.proofs.lemmas.List.{take_rest, take_all, length-drop}
 use Rattle.std.proofs.lemmas.Str.{IsUtf8-append, IsUtf8-encode, IsUtf8-from_ascii}
 use Rattle.mail_codec.proofs.lemmas.CharsetSingleByte.{spelled, spelled_more, spelled_run}

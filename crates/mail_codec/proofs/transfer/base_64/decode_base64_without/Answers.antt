@@ -1,4 +1,4 @@
-use Rattle.std.proofs.Common.{sym, ap, rules, arith}
+use Rattle.std.proofs.Common.{sym, arith}
 use Rattle.mail_codec.proofs.lemmas.Base64Groups.{prepend-nil}
 use Rattle.mail_codec.proofs.lemmas.Base64Parts.{read_whole, buffer_read}
 use Rattle.mail_codec.proofs.transfer.base_64.decode_base64_without.Goals as goal

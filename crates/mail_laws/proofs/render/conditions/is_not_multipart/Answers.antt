@@ -4,14 +4,13 @@ use Rattle.std.specs.Option.{option_map_or}
 use Rattle.mail_codec.specs.Places.{stands}
 use Rattle.mail_laws.specs.Outlines.{mimetype_of, type_header}
 use Rattle.mail_laws.specs.OutlineViews.{headers_seen}
-use Rattle.mail_laws.proofs.lemmas.OutlineConditions.{by_value, mimetype_named, mimetype_read, plain_found, plain_utf8}
+use Rattle.mail_laws.proofs.lemmas.OutlineConditions.{by_value, found_text, mimetype_named, mimetype_read}
 use Rattle.mail_laws.proofs.render.conditions.is_not_multipart.Goals as goal
 
 pub returns-in_default-from_utf8 : goal.returns-in_default-from_utf8
 returns-in_default-from_utf8 c =
     let found = sym c.type_value.ensures ∙ ap (option_map (λ (v : Bor (List ℕ)). v.now)) c.in-Some.is in
-    let plain = plain_found (headers_seen c.args.headers.now) c.in-Some.value.now c.requires.plain found in
-    absurd (c.in_default-from_utf8.ensures.cases.0 (plain_utf8 c.in-Some.value.now plain))
+    absurd (c.in_default-from_utf8.ensures.cases.0 (found_text (headers_seen c.args.headers.now) c.in-Some.value.now c.requires.texts found))
 
 pub returns : goal.returns
 returns c =

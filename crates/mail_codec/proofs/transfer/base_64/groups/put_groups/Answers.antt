@@ -1,4 +1,4 @@
-use Rattle.std.proofs.Common.{◌≡◌, ◌+◌, ◌*◌, ◌/◌, ◌≤◌, take, drop, length, ap, sym, refl, ◌∙◌, arith}
+use Rattle.std.proofs.Common.{◌≡◌, ◌+◌, ◌*◌, ◌/◌, take, drop, ap, sym, refl, ◌∙◌, arith}
 use Rattle.mail_codec.specs.Base64.{groups_from, prepend}
 use Rattle.mail_codec.specs.private.Runs.{without_ends}
 use Rattle.mail_codec.proofs.lemmas.Base64Parts.{ReadTo, block_read, group_more, absent_passed}

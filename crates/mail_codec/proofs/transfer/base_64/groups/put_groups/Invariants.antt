@@ -1,4 +1,4 @@
-use Rattle.std.proofs.Common.{◌≡◌, ◌≤◌, ◌+◌, ◌*◌, ◌-◌, length, take, drop}
+use Rattle.std.proofs.Common.{◌≤◌, ◌+◌, ◌*◌, ◌-◌, length, take, drop}
 use Rattle.mail_codec.specs.private.Runs.{without_ends}
 use Rattle.mail_codec.proofs.lemmas.Base64Parts.{ReadTo}
 use Rattle.mail_codec.proofs.transfer.base_64.groups.put_groups.Given as goal

@@ -1,0 +1,27 @@
+//! The README's first program, word for word.
+#![tactic(auto)]
+
+use mail_data::files::{attachments, file_name};
+use mail_data::texts::text_part;
+use mail_tables::TABLES;
+use mailparse::{MailHeaderMap, parse_mail_with};
+use std::io::Read;
+
+fn main(rt: HostRuntime) -> anyhow::Result<()> {
+    let alloc = rt.alloc();
+    let mut raw = Vec::new(alloc);
+    rt.reader().read_to_end(&mut raw)?;
+    let mail = parse_mail_with(alloc, raw.as_slice(), &TABLES)?;
+    if let Some(subject) = mail.headers.get_first_header("Subject") {
+        println!(rt; "Subject: {}", subject.get_value_with(alloc, &TABLES)?)?;
+    }
+    if let Some(part) = text_part(alloc, &mail)? {
+        println!(rt; "{}", part.get_body_with(alloc, &TABLES)?)?;
+    }
+    for file in attachments(alloc, &mail)? {
+        if let Some(name) = file_name(alloc, file.part)? {
+            println!(rt; "Attachment {}: {name}", file.path)?;
+        }
+    }
+    Ok(())
+}

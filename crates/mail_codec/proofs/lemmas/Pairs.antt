@@ -1,0 +1,163 @@
+-- Two bytes, one right after the other, in vectors.
+use Rattle.std.proofs.Common.{◌≡◌, ℕ, zero, suc, ◌+◌, ◌<◌, ◌≤◌, ◌^◌, ◌%◌, Bool, true, false, cond, ◌==◌, ◌&&◌, bit_and, List, [], ◌∷◌, map, length, take, drop, replicate, inl, inr, refl, sym, ap, ◌∙◌, arith}
+use Rattle.std.proofs.lemmas.Bool.{cases_eq, ne_eqb}
+use Rattle.std.proofs.lemmas.List.{drop-drop, length-drop, length-map, length-take-le}
+use Rattle.std.proofs.lemmas.Simd.{mask_l-mod, zip2_splat}
+use Rattle.mail_codec.specs.Places.{first_place, begins, stands}
+use Rattle.mail_codec.specs.private.Vectors.{is_set, lane_mask, pair_flags}
+use Rattle.mail_codec.proofs.lemmas.Places.{PassedTo, first_place-drop}
+use lib.Lanes.{zip2, mask_l, top}
+
+-- ---- the mask of the flags
+
+both : (s t : Bool) → top 7 (bit_and (cond s 255 0) (cond t 255 0)) ≡ is_set (cond (s && t) 1 0)
+both true true = refl
+both true false = refl
+both false true = refl
+both false false = refl
+
+flags_marked : (a c : ℕ) (v w : List ℕ)
+    → map (top 7) (zip2 bit_and (map (λ x. cond (x == a) 255 0) v) (map (λ y. cond (y == c) 255 0) w)) ≡ map is_set (pair_flags a c v w)
+flags_marked a c [] w = refl
+flags_marked a c (x ∷ v) [] = refl
+flags_marked a c (x ∷ v) (y ∷ w) = (λ i. both (x == a) (y == c) i ∷ flags_marked a c v w i)
+
+flags_long : (a c : ℕ) (v w : List ℕ) → length (pair_flags a c v w) ≤ length v
+flags_long a c [] w = omega arith
+flags_long a c (x ∷ v) [] = omega arith
+flags_long a c (x ∷ v) (y ∷ w) = let h = flags_long a c v w in omega arith
+
+pub pair_marked : (a c : ℕ) (v w : List ℕ) → length v ≡ 16 → length w ≡ 16
+    → mask_l (map (top 7) (zip2 bit_and (zip2 (λ x y. cond (x == y) 255 0) v (replicate 16 a)) (zip2 (λ x y. cond (x == y) 255 0) w (replicate 16 c)))) % 2 ^ 64
+    ≡ lane_mask is_set (pair_flags a c v w)
+pair_marked a c v w long wide =
+    (λ i. mask_l (map (top 7) (zip2 bit_and (zip2_splat (λ x y. cond (x == y) 255 0) v 16 a long i) (zip2_splat (λ x y. cond (x == y) 255 0) w 16 c wide i))) % 2 ^ 64)
+    ∙ ap (λ l. mask_l l % 2 ^ 64) (flags_marked a c v w)
+    ∙ mask_l-mod (map is_set (pair_flags a c v w)) 64 (omega (arith, length-map (pair_flags a c v w) is_set, flags_long a c v w, long))
+
+-- ---- the flags of n bytes and of those one byte later
+
+swapped : (a b : ℕ) → (a == b) ≡ (b == a)
+swapped a b = elim (cases_eq a b) [
+  | inl e ↦ ap (λ x. x == b) e ∙ ap (λ x. b == x) (sym e)
+  | inr n ↦ ne_eqb a b n ∙ sym (ne_eqb b a (λ e. n (sym e)))
+]
+
+last_and : (s t : Bool) → s && (t && true) ≡ s && t
+last_and true true = refl
+last_and true false = refl
+last_and false t = refl
+
+-- the pair stands at the front of two bytes
+stands_pair : (a c x y : ℕ) (rest : List ℕ) → stands (a ∷ c ∷ []) (x ∷ y ∷ rest) ≡ (x == a && y == c)
+stands_pair a c x y rest = last_and (a == x) (c == y) ∙ (λ i. swapped a x i && swapped c y i)
+
+-- the flags at the front of bytes
+abbrev pub flags : ℕ → ℕ → ℕ → List ℕ → List ℕ
+flags a c n bytes = pair_flags a c (take n bytes) (take n (drop 1 bytes))
+
+set_cond : (t : Bool) → is_set (cond t 1 0) ≡ t
+set_cond true = refl
+set_cond false = refl
+
+-- where none of them is set, the search goes on after them
+free_flags : (a c n : ℕ) (bytes : List ℕ) → n + 1 ≤ length bytes → first_place (begins is_set) (flags a c n bytes) ≡ n
+    → first_place (stands (a ∷ c ∷ [])) bytes ≡ n + first_place (stands (a ∷ c ∷ [])) (drop n bytes)
+free_flags a c zero bytes h e = omega arith
+free_flags a c (suc n) [] h e = absurd (omega arith)
+free_flags a c (suc n) (x ∷ []) h e = absurd (omega arith)
+free_flags a c (suc n) (x ∷ y ∷ rest) h e = go (x == a && y == c) (stands_pair a c x y rest) (sym (ap (λ t. cond t 0 (suc (first_place (begins is_set) (flags a c n (y ∷ rest))))) (set_cond (x == a && y == c))) ∙ e) (free_flags a c n (y ∷ rest) (omega arith))
+  where
+    go : (v : Bool) → stands (a ∷ c ∷ []) (x ∷ y ∷ rest) ≡ v → cond v 0 (suc (first_place (begins is_set) (flags a c n (y ∷ rest)))) ≡ suc n
+        → (first_place (begins is_set) (flags a c n (y ∷ rest)) ≡ n → first_place (stands (a ∷ c ∷ [])) (y ∷ rest) ≡ n + first_place (stands (a ∷ c ∷ [])) (drop n (y ∷ rest)))
+        → first_place (stands (a ∷ c ∷ [])) (x ∷ y ∷ rest) ≡ suc n + first_place (stands (a ∷ c ∷ [])) (drop n (y ∷ rest))
+    go true t e more = absurd (omega arith)
+    go false t e more = rw t (let r = more (omega arith) in omega arith)
+
+-- where one is set, the first tells the place
+found_flags : (a c n : ℕ) (bytes : List ℕ) → n + 1 ≤ length bytes → first_place (begins is_set) (flags a c n bytes) < n
+    → first_place (stands (a ∷ c ∷ [])) bytes ≡ first_place (begins is_set) (flags a c n bytes)
+found_flags a c zero bytes h e = absurd (omega arith)
+found_flags a c (suc n) [] h e = absurd (omega arith)
+found_flags a c (suc n) (x ∷ []) h e = absurd (omega arith)
+found_flags a c (suc n) (x ∷ y ∷ rest) h e =
+    let same : first_place (begins is_set) (flags a c (suc n) (x ∷ y ∷ rest)) ≡ cond (x == a && y == c) 0 (suc (first_place (begins is_set) (flags a c n (y ∷ rest))))
+    = ap (λ t. cond t 0 (suc (first_place (begins is_set) (flags a c n (y ∷ rest))))) (set_cond (x == a && y == c)) in
+    go (x == a && y == c) (stands_pair a c x y rest) (omega arith) (found_flags a c n (y ∷ rest) (omega arith)) ∙ sym same
+  where
+    go : (v : Bool) → stands (a ∷ c ∷ []) (x ∷ y ∷ rest) ≡ v → cond v 0 (suc (first_place (begins is_set) (flags a c n (y ∷ rest)))) < suc n
+        → (first_place (begins is_set) (flags a c n (y ∷ rest)) < n → first_place (stands (a ∷ c ∷ [])) (y ∷ rest) ≡ first_place (begins is_set) (flags a c n (y ∷ rest)))
+        → first_place (stands (a ∷ c ∷ [])) (x ∷ y ∷ rest) ≡ cond v 0 (suc (first_place (begins is_set) (flags a c n (y ∷ rest))))
+    go true t e more = rw t refl
+    go false t e more = rw t (ap suc (more (omega arith)))
+
+-- ---- steps of the search, whose vectors are sixteen bytes from a place on and from the next place on
+
+abbrev pub front : List ℕ → ℕ → List ℕ
+front bytes at = take 16 (drop at bytes)
+
+abbrev pub flags_at : ℕ → ℕ → List ℕ → ℕ → List ℕ
+flags_at a c bytes at = pair_flags a c (front bytes at) (front bytes (at + 1))
+
+flags_there : (a c : ℕ) (bytes : List ℕ) (at : ℕ) → flags_at a c bytes at ≡ flags a c 16 (drop at bytes)
+flags_there a c bytes at = ap (λ r. pair_flags a c (take 16 (drop at bytes)) (take 16 r)) (ap (λ j. drop j bytes) {x = at + 1} {y = at + 1} refl ∙ sym (drop-drop 1 at bytes))
+
+pub front_long : (bytes : List ℕ) (at : ℕ) → at + 16 ≤ length bytes → length (front bytes at) ≡ 16
+front_long bytes at h = length-take-le 16 (drop at bytes) (omega (arith, length-drop at bytes))
+
+flags_len : (a c : ℕ) (v w : List ℕ) → length v ≡ length w → length (pair_flags a c v w) ≡ length v
+flags_len a c [] w h = refl
+flags_len a c (x ∷ v) [] h = absurd (omega arith)
+flags_len a c (x ∷ v) (y ∷ w) h = ap suc (flags_len a c v w (omega arith))
+
+pub flags_at_long : (a c : ℕ) (bytes : List ℕ) (at : ℕ) → at + 17 ≤ length bytes → length (flags_at a c bytes at) ≡ 16
+flags_at_long a c bytes at h =
+    flags_len a c (front bytes at) (front bytes (at + 1)) (front_long bytes at (omega arith) ∙ sym (front_long bytes (at + 1) (omega arith))) ∙ front_long bytes at (omega arith)
+
+-- passes over sixteen places
+pub PassedTo-pairs : (a c : ℕ) (bytes : List ℕ) (answer at : ℕ) → PassedTo (stands (a ∷ c ∷ [])) bytes answer at → at + 17 ≤ length bytes
+    → first_place (begins is_set) (flags_at a c bytes at) ≡ 16 → PassedTo (stands (a ∷ c ∷ [])) bytes answer (at + 16)
+PassedTo-pairs a c bytes answer at h fits free =
+    let len = length-drop at bytes in
+    let on = free_flags a c 16 (drop at bytes) (omega arith) (sym (ap (first_place (begins is_set)) (flags_there a c bytes at)) ∙ free) in
+    let later = h.later in
+    let there = ap (first_place (stands (a ∷ c ∷ []))) (drop-drop 16 at bytes ∙ ap (λ j. drop j bytes) {x = at + 16} {y = at + 16} refl) in
+    record { within = omega arith; later = omega arith }
+
+-- has found it among them
+pub PassedTo-pair : (a c : ℕ) (bytes : List ℕ) (answer at : ℕ) → PassedTo (stands (a ∷ c ∷ [])) bytes answer at → at + 17 ≤ length bytes
+    → first_place (begins is_set) (flags_at a c bytes at) < 16 → answer ≡ at + first_place (begins is_set) (flags_at a c bytes at)
+PassedTo-pair a c bytes answer at h fits found =
+    let len = length-drop at bytes in
+    let same = ap (first_place (begins is_set)) (flags_there a c bytes at) in
+    let here = found_flags a c 16 (drop at bytes) (omega arith) (omega arith) in
+    let later = h.later in
+    omega arith
+
+-- one byte has no pair
+alone : (a c : ℕ) (rest : List ℕ) → length rest ≡ 1 → first_place (stands (a ∷ c ∷ [])) rest ≡ 1
+alone a c [] h = absurd (omega arith)
+alone a c (x ∷ []) h = by_first (a == x)
+  where
+    by_first : (v : Bool) → ◌≡◌ {A = ℕ} (cond (v && false) 0 1) 1
+    by_first true = refl
+    by_first false = refl
+alone a c (x ∷ y ∷ rest) h = absurd (omega arith)
+
+-- the last seventeen bytes, of which some were passed over before
+pub last_pairs : (a c : ℕ) (bytes : List ℕ) (at last : ℕ) → PassedTo (stands (a ∷ c ∷ [])) bytes (first_place (stands (a ∷ c ∷ [])) bytes) at
+    → last + 17 ≡ length bytes → last ≤ at → PassedTo (stands (a ∷ c ∷ [])) bytes (first_place (stands (a ∷ c ∷ [])) bytes) last
+last_pairs a c bytes at last h ends back =
+    let later = h.later in
+    let seen = first_place-drop (stands (a ∷ c ∷ [])) bytes last (omega arith) in
+    record { within = omega arith; later = omega arith }
+
+pub no_last_pair : (a c : ℕ) (bytes : List ℕ) (last : ℕ) → PassedTo (stands (a ∷ c ∷ [])) bytes (first_place (stands (a ∷ c ∷ [])) bytes) last
+    → last + 17 ≡ length bytes → first_place (begins is_set) (flags_at a c bytes last) ≡ 16
+    → length bytes ≡ first_place (stands (a ∷ c ∷ [])) bytes
+no_last_pair a c bytes last h ends free =
+    let on = PassedTo-pairs a c bytes _ last h (omega arith) free in
+    let later = on.later in
+    let len = length-drop (last + 16) bytes in
+    let one = alone a c (drop (last + 16) bytes) (omega arith) in
+    omega arith

@@ -1,0 +1,566 @@
+-- A text read mark by mark: what stands before an escape is read by itself, and so is the escape.
+use Rattle.std.proofs.Common.{◌≡◌, ℕ, zero, suc, ◌+◌, ◌*◌, ◌-◌, ◌<◌, ◌≤◌, ◌==◌, ◌||◌, Bool, true, false, cond, List, [], ◌∷◌, ◌++◌, length, take, drop, get_or, reverse, Option, Some, None, refl, sym, ap, ◌∙◌, arith, inl, inr}
+use Rattle.std.specs.List.{flat_map, slice_split, prefix_len, suffix_len}
+use Rattle.std.proofs.lemmas.Bool.{cases_Bool, cases_lt, eqb-true, false≢true}
+use Rattle.std.proofs.Math.Seq.{take-add}
+use Rattle.std.specs.List.{position_or_len}
+use Rattle.std.proofs.lemmas.List.Sums.{position_or_len_is}
+use borrow.Rule.Slice.PartMut.{put_mid}
+use Rattle.std.proofs.lemmas.List.{append-nil, append_cancel_left, take-append-le, length-take, append_assoc, length-append, length-reverse, reverse-append, drop_more, drop-drop, take-append-drop, length-drop, get_or-drop, get_or-take, length-take-le, take-take, drop-take}
+use Rattle.mail_codec.specs.Ascii.{is_blank}
+use Rattle.mail_codec.specs.Places.{first_place, begins, trimmed_at_end}
+use Rattle.mail_codec.specs.QuotedPrintable.{ends_in, without_last, lf, cr_lf, digit_value, byte_of_values, first_escape, ended_line, lines_of_pieces, lines_of, line_bytes, quoted_printable, unescaped}
+use Rattle.mail_codec.specs.private.QuotedPrintable.{is_mark, HasNoEscape}
+use Rattle.mail_codec.proofs.lemmas.Places.{first_place-≤, first_place-before, first_place-passes, first_place-begins}
+use Rattle.mail_codec.proofs.lemmas.Written.{written_rest}
+use Rattle.mail_codec.proofs.lemmas.QuotedPrintableEscapes.{unescaped_stays, unescaped_escape, unescaped-nil, first_escape-other}
+use Rattle.mail_codec.proofs.lemmas.QuotedPrintableLines.{is_lf, split_some, line_read, line_last, nothing_left}
+
+-- ---- what begins with bytes of which the last is no blank, no CR and no `=`
+
+ends_in-front : (c d : ℕ) (front rest : List ℕ) → (d == c) ≡ false → ends_in c (front ++ d ∷ rest) ≡ ends_in c rest
+ends_in-front c d [] [] h = h
+ends_in-front c d [] (y ∷ rest) h = refl
+ends_in-front c d (x ∷ []) rest h = ends_in-front c d [] rest h
+ends_in-front c d (x ∷ y ∷ front) rest h = ends_in-front c d (y ∷ front) rest h
+
+without_last-front : (c d : ℕ) (front rest : List ℕ) → ends_in c rest ≡ true → without_last (front ++ d ∷ rest) ≡ front ++ d ∷ without_last rest
+without_last-front c d [] [] h = absurd (false≢true h)
+without_last-front c d [] (y ∷ rest) h =
+    let e : suc (suc (length rest)) - 1 ≡ suc (suc (length rest) - 1) = omega arith in
+    ap (λ (k : ℕ). take k (d ∷ y ∷ rest)) e
+without_last-front c d (x ∷ front) rest h =
+    let long = length-append front (d ∷ rest) in
+    let e : suc (length (front ++ d ∷ rest)) - 1 ≡ suc (length (front ++ d ∷ rest) - 1) = omega (arith, long) in
+    ap (λ (k : ℕ). take k (x ∷ (front ++ d ∷ rest))) e ∙ ap (λ (r : List ℕ). x ∷ r) (without_last-front c d front rest h)
+
+prefix_len-stop : (test : ℕ → Bool) (d : ℕ) (xs ys : List ℕ) → test d ≡ false → prefix_len test (xs ++ d ∷ ys) ≡ prefix_len test xs
+prefix_len-stop test d [] ys h = rw h refl
+prefix_len-stop test d (x ∷ xs) ys h = ap (λ (n : ℕ). cond (test x) (1 + n) 0) (prefix_len-stop test d xs ys h)
+
+suffix_len-front : (test : ℕ → Bool) (d : ℕ) (front rest : List ℕ) → test d ≡ false → suffix_len test (front ++ d ∷ rest) ≡ suffix_len test rest
+suffix_len-front test d front rest h =
+    ap (λ (r : List ℕ). prefix_len test (reverse r)) (sym (append_assoc front (d ∷ []) rest))
+    ∙ ap (prefix_len test) (reverse-append (front ++ d ∷ []) rest)
+    ∙ ap (λ (r : List ℕ). prefix_len test (reverse rest ++ r)) (reverse-append front (d ∷ []))
+    ∙ prefix_len-stop test d (reverse rest) (reverse front) h
+
+suffix_len-≤ : (test : ℕ → Bool) (xs : List ℕ) → suffix_len test xs ≤ length xs
+suffix_len-≤ test xs = let long = length-reverse xs in let le = go (reverse xs) in omega arith
+  where
+    go : (ys : List ℕ) → prefix_len test ys ≤ length ys
+    go [] = omega arith
+    go (y ∷ ys) = let h = go ys in elim (test y) as (λ v. cond v (1 + prefix_len test ys) 0 ≤ suc (length ys)) [ true ↦ omega arith | false ↦ omega arith ]
+
+take-front : (front rest : List ℕ) (n : ℕ) → take (length front + n) (front ++ rest) ≡ front ++ take n rest
+take-front [] rest n = ap (λ (k : ℕ). take k rest) {x = 0 + n} {y = n} (omega arith)
+take-front (x ∷ front) rest n =
+    let e : suc (length front) + n ≡ suc (length front + n) = omega arith in
+    ap (λ (k : ℕ). take k (x ∷ (front ++ rest))) e ∙ ap (λ (r : List ℕ). x ∷ r) (take-front front rest n)
+
+trimmed-front : (test : ℕ → Bool) (d : ℕ) (front rest : List ℕ) → test d ≡ false
+    → trimmed_at_end test (front ++ d ∷ rest) ≡ front ++ d ∷ trimmed_at_end test rest
+trimmed-front test d front rest h =
+    let n : ℕ = length rest - suffix_len test rest in
+    let blanks = suffix_len-front test d front rest h in
+    let long = length-append front (d ∷ rest) in
+    let le = suffix_len-≤ test rest in
+    let e : length (front ++ d ∷ rest) - suffix_len test (front ++ d ∷ rest) ≡ length front + suc n = omega arith in
+    ap (λ (k : ℕ). take k (front ++ d ∷ rest)) e ∙ take-front front (d ∷ rest) (suc n)
+
+-- the bytes of a line that begins so
+module _ (d : ℕ) (front bytes : List ℕ) (no_blank : is_blank d ≡ false) (no_cr : (d == 13) ≡ false) (no_sign : (d == 61) ≡ false)
+    (read : (rest : List ℕ) → unescaped (front ++ d ∷ rest) ≡ bytes ++ unescaped rest) where
+  line-front : (content ending : List ℕ) → line_bytes (record { content = front ++ d ∷ content; ending = ending })
+      ≡ bytes ++ line_bytes (record { content = content; ending = ending })
+  unfolding line_bytes
+  line-front content ending =
+      let kept : List ℕ = trimmed_at_end is_blank content in
+      let trimmed = trimmed-front is_blank d front content no_blank in
+      let sign = ends_in-front 61 d front kept no_sign in
+      elim (cases_Bool (ends_in 61 kept)) [
+        | inl is ↦ rw (trimmed, sign, is) (ap unescaped (without_last-front 61 d front kept is) ∙ read (without_last kept))
+        | inr other ↦ rw (trimmed, sign, other) (ap (λ (r : List ℕ). r ++ ending) (read kept) ∙ append_assoc bytes (unescaped kept) ending)
+      ]
+
+  ended-front : (piece : List ℕ) → line_bytes (ended_line (front ++ d ∷ piece)) ≡ bytes ++ line_bytes (ended_line piece)
+  ended-front piece =
+      let cr = ends_in-front 13 d front piece no_cr in
+      elim (cases_Bool (ends_in 13 piece)) [
+        | inl is ↦ rw (cr, is) (ap (λ (r : List ℕ). line_bytes (record { content = r; ending = cr_lf })) (without_last-front 13 d front piece is) ∙ line-front (without_last piece) cr_lf)
+        | inr other ↦ rw (cr, other) (line-front piece lf)
+      ]
+
+  pieces-front : (first : List ℕ) (others : List (List ℕ)) → flat_map line_bytes (lines_of_pieces ((front ++ d ∷ first) ∷ others))
+      ≡ bytes ++ flat_map line_bytes (lines_of_pieces (first ∷ others))
+  pieces-front first [] =
+      ap (λ (r : List ℕ). r ++ []) (line-front first [])
+      ∙ append_assoc bytes (line_bytes (record { content = first; ending = [] })) []
+  pieces-front first (other ∷ others) =
+      ap (λ (r : List ℕ). r ++ flat_map line_bytes (lines_of_pieces (other ∷ others))) (ended-front first)
+      ∙ append_assoc bytes (line_bytes (ended_line first)) (flat_map line_bytes (lines_of_pieces (other ∷ others)))
+
+-- ---- a run without LF, and an escape
+
+-- none of the bytes is an LF
+abbrev pub HasNoLf : List ℕ → Type 0
+HasNoLf run = (k : ℕ) → k < length run → is_lf (get_or run k 0) ≡ false
+
+split-front : (run rest first : List ℕ) (others : List (List ℕ)) → HasNoLf run → slice_split is_lf rest ≡ first ∷ others
+    → slice_split is_lf (run ++ rest) ≡ (run ++ first) ∷ others
+split-front [] rest first others none is = is
+split-front (x ∷ run) rest first others none is =
+    let e : is_lf x ≡ false = none 0 (omega arith) in
+    rw (e, split-front run rest first others (λ k l. none (suc k) (omega arith)) is) refl
+
+not_digit : (c l v : ℕ) → digit_value c ≡ None → digit_value l ≡ Some v → (l == c) ≡ false
+not_digit c l v none some = elim (cases_Bool (l == c)) [
+  | inl is ↦ absurd (let same = ap digit_value (eqb-true l c is) in cc)
+  | inr other ↦ other
+]
+
+-- the digits of an escape
+pub record Digits (h l byte : ℕ) : Type 0 where
+  pub high : (v : ℕ) × (digit_value h ≡ Some v)
+  pub low : (v : ℕ) × (digit_value l ≡ Some v)
+
+digits : (h l byte : ℕ) → byte_of_values (digit_value h) (digit_value l) ≡ Some byte → Digits h l byte
+digits h l byte is = go (digit_value h) refl (digit_value l) refl is
+  where
+    go : (high : Option ℕ) → digit_value h ≡ high → (low : Option ℕ) → digit_value l ≡ low → byte_of_values high low ≡ Some byte → Digits h l byte
+    go None eh low el e = cc e
+    go (Some a) eh None el e = cc e
+    go (Some a) eh (Some b) el e = record { high = (a, eh); low = (b, el) }
+
+sign_first : (b h l byte : ℕ) (rest : List ℕ) → first_escape (b ∷ h ∷ l ∷ rest) ≡ Some byte → ((b == 61) ≡ true) × Digits h l byte
+sign_first b h l byte rest found = elim (cases_Bool (b == 61)) [
+  | inl is ↦ (is, digits h l byte (sym (ap (λ (t : Bool). cond t (byte_of_values (digit_value h) (digit_value l)) None) is) ∙ found))
+  | inr other ↦ absurd (let none = first_escape-other b (h ∷ l ∷ rest) other in cc)
+]
+
+-- an escape is seen by its three bytes
+same_escape : (run : List ℕ) (b h l : ℕ) (p q : List ℕ) → first_escape (run ++ b ∷ h ∷ l ∷ p) ≡ first_escape (run ++ b ∷ h ∷ l ∷ q)
+same_escape [] b h l p q = refl
+same_escape (x ∷ []) b h l p q = refl
+same_escape (x ∷ y ∷ []) b h l p q = refl
+same_escape (x ∷ y ∷ z ∷ run) b h l p q = refl
+
+-- in the run, which the rest follows, no escape begins
+abbrev pub NoneBefore : List ℕ → List ℕ → Type 0
+NoneBefore run rest = (k : ℕ) → k < length run → first_escape (drop k run ++ rest) ≡ None
+
+unescaped-front : (run : List ℕ) (b h l byte : ℕ) (p q : List ℕ) → NoneBefore run (b ∷ h ∷ l ∷ q) → first_escape (b ∷ h ∷ l ∷ q) ≡ Some byte
+    → unescaped (run ++ b ∷ h ∷ l ∷ p) ≡ run ++ byte ∷ unescaped p
+unescaped-front [] b h l byte p q none is = unescaped_escape byte (b ∷ h ∷ l ∷ p) is
+unescaped-front (x ∷ run) b h l byte p q none is =
+    unescaped_stays x (run ++ b ∷ h ∷ l ∷ p) (same_escape (x ∷ run) b h l p q ∙ none 0 (omega arith))
+    ∙ ap (λ (r : List ℕ). x ∷ r) (unescaped-front run b h l byte p q (λ k lt. none (suc k) (omega arith)) is)
+
+no_lf_three : (run : List ℕ) (b h l : ℕ) → HasNoLf run → is_lf b ≡ false → is_lf h ≡ false → is_lf l ≡ false → HasNoLf (run ++ b ∷ h ∷ l ∷ [])
+no_lf_three [] b h l none nb nh nl zero lt = nb
+no_lf_three [] b h l none nb nh nl (suc zero) lt = nh
+no_lf_three [] b h l none nb nh nl (suc (suc zero)) lt = nl
+no_lf_three [] b h l none nb nh nl (suc (suc (suc k))) lt = absurd (omega arith)
+no_lf_three (x ∷ run) b h l none nb nh nl zero lt = none 0 (omega arith)
+no_lf_three (x ∷ run) b h l none nb nh nl (suc k) lt = no_lf_three run b h l (λ j lt. none (suc j) (omega arith)) nb nh nl k (omega arith)
+
+-- what comes before an escape and the escape are read by themselves
+pub escape_after : (run rest : List ℕ) (byte : ℕ) → HasNoLf run → NoneBefore run rest → first_escape rest ≡ Some byte
+    → quoted_printable (run ++ rest) ≡ run ++ byte ∷ quoted_printable (drop 3 rest)
+unfolding quoted_printable lines_of
+escape_after run [] byte no_lf none is = cc is
+escape_after run (b ∷ []) byte no_lf none is = cc is
+escape_after run (b ∷ h ∷ []) byte no_lf none is = cc is
+escape_after run (b ∷ h ∷ l ∷ rest) byte no_lf none is =
+    let found = sign_first b h l byte rest is in
+    let sign : b ≡ 61 = eqb-true b 61 found.0 in
+    let high = found.1.high in
+    let low = found.1.low in
+    let some = split_some rest in
+    let front : List ℕ = run ++ b ∷ h ∷ [] in
+    let whole : List ℕ = run ++ b ∷ h ∷ l ∷ [] in
+    let no_lf_whole = no_lf_three run b h l no_lf (rw sign refl) (not_digit 10 h high.0 refl high.1) (not_digit 10 l low.0 refl low.1) in
+    let no_blank : is_blank l ≡ false = rw (not_digit 32 l low.0 refl low.1, not_digit 9 l low.0 refl low.1) refl in
+    let read : (p : List ℕ) → unescaped (front ++ l ∷ p) ≡ (run ++ byte ∷ []) ++ unescaped p = λ p.
+    ap unescaped (append_assoc run (b ∷ h ∷ []) (l ∷ p)) ∙ unescaped-front run b h l byte p rest none is ∙ sym (append_assoc run (byte ∷ []) (unescaped p)) in
+    ap (λ (t : List ℕ). flat_map line_bytes (lines_of_pieces (slice_split is_lf t))) (sym (append_assoc run (b ∷ h ∷ l ∷ []) rest))
+    ∙ ap (λ (ps : List (List ℕ)). flat_map line_bytes (lines_of_pieces ps)) (split-front whole rest some.0 some.1 no_lf_whole some.2)
+    ∙ ap (λ (t : List ℕ). flat_map line_bytes (lines_of_pieces (t ∷ some.1))) (append_assoc run (b ∷ h ∷ l ∷ []) some.0 ∙ sym (append_assoc run (b ∷ h ∷ []) (l ∷ some.0)))
+    ∙ pieces-front l front (run ++ byte ∷ []) no_blank (not_digit 13 l low.0 refl low.1) (not_digit 61 l low.0 refl low.1) read some.0 some.1
+    ∙ append_assoc run (byte ∷ []) (flat_map line_bytes (lines_of_pieces (some.0 ∷ some.1)))
+    ∙ ap (λ (ps : List (List ℕ)). run ++ byte ∷ flat_map line_bytes (lines_of_pieces ps)) (sym some.2)
+
+-- an escape of a loop that appends what it has read
+pub escape_read : (text cur next : List ℕ) (at after byte : ℕ) → after ≡ at + 3 → first_escape (drop at text) ≡ Some byte → next ≡ cur ++ byte ∷ []
+    → cur ++ quoted_printable (drop at text) ≡ next ++ quoted_printable (drop after text)
+escape_read text cur next at after byte after_is is next_is =
+    ap (λ (r : List ℕ). cur ++ r) (escape_after [] (drop at text) byte (λ k l. absurd (omega arith)) (λ k l. absurd (omega arith)) is)
+    ∙ ap (λ (r : List ℕ). cur ++ byte ∷ quoted_printable r) (drop-drop 3 at text ∙ ap (λ (k : ℕ). drop k text) (sym after_is))
+    ∙ sym (append_assoc cur (byte ∷ []) (quoted_printable (drop after text)))
+    ∙ ap (λ (r : List ℕ). r ++ quoted_printable (drop after text)) (sym next_is)
+
+-- ---- bytes in which no escape begins
+
+pub stays_whole : (xs : List ℕ) → HasNoEscape xs → unescaped xs ≡ xs
+stays_whole [] none = unescaped-nil
+stays_whole (x ∷ xs) none = unescaped_stays x xs (none 0) ∙ ap (λ (r : List ℕ). x ∷ r) (stays_whole xs (λ k. none (suc k)))
+
+first_escape-take : (xs : List ℕ) (n : ℕ) → first_escape xs ≡ None → first_escape (take n xs) ≡ None
+first_escape-take [] zero h = refl
+first_escape-take [] (suc n) h = refl
+first_escape-take (x ∷ xs) zero h = refl
+first_escape-take (x ∷ []) (suc zero) h = refl
+first_escape-take (x ∷ []) (suc (suc n)) h = refl
+first_escape-take (x ∷ y ∷ xs) (suc zero) h = refl
+first_escape-take (x ∷ y ∷ []) (suc (suc zero)) h = refl
+first_escape-take (x ∷ y ∷ []) (suc (suc (suc n))) h = refl
+first_escape-take (x ∷ y ∷ z ∷ xs) (suc (suc zero)) h = refl
+first_escape-take (x ∷ y ∷ z ∷ xs) (suc (suc (suc n))) h = h
+
+drop-of-take : (k n : ℕ) (xs : List ℕ) → drop k (take n xs) ≡ take (n - k) (drop k xs)
+drop-of-take k n xs = elim (cases_lt k n) [
+  | inl lt ↦ ap (λ (m : ℕ). drop k (take m xs)) {x = n} {y = k + (n - k)} (omega arith) ∙ drop-take k (n - k) xs
+  | inr ge ↦ drop-past k n xs (omega arith) ∙ ap (λ (m : ℕ). take m (drop k xs)) {x = 0} {y = n - k} (omega arith)
+]
+  where
+    drop-past : (k n : ℕ) (xs : List ℕ) → n ≤ k → drop k (take n xs) ≡ []
+    drop-past zero zero xs h = refl
+    drop-past zero (suc n) xs h = absurd (omega arith)
+    drop-past (suc k) zero xs h = refl
+    drop-past (suc k) (suc n) [] h = refl
+    drop-past (suc k) (suc n) (x ∷ xs) h = drop-past k n xs (omega arith)
+
+pub no_escape-take : (xs : List ℕ) (n : ℕ) → HasNoEscape xs → HasNoEscape (take n xs)
+no_escape-take xs n none k = ap first_escape (drop-of-take k n xs) ∙ first_escape-take (drop k xs) (n - k) (none k)
+
+-- what stands at the front of bytes that were copied
+pub front_copied : (output content part : List ℕ) → take (length content) output ≡ content → (n m : ℕ) → part ≡ take m (take n content)
+    → take (length part) output ≡ part
+front_copied output content part copied n m is =
+    let few = ap length is ∙ length-take m (take n content) in
+    let less = length-take n content in
+    sym (take-take (length part) (length content) output (omega arith))
+    ∙ ap (take (length part)) copied
+    ∙ front content part n m is
+  where
+    front : (content part : List ℕ) (n m : ℕ) → part ≡ take m (take n content) → take (length part) content ≡ part
+    front content part n zero is = ap (λ (r : List ℕ). take (length r) content) is ∙ sym is
+    front content part zero (suc m) is = ap (λ (r : List ℕ). take (length r) content) is ∙ sym is
+    front [] part (suc n) (suc m) is = ap (λ (r : List ℕ). take (length r) []) is ∙ sym is
+    front (x ∷ content) part (suc n) (suc m) is =
+        ap (λ (r : List ℕ). take (length r) (x ∷ content)) is
+        ∙ ap (λ (r : List ℕ). x ∷ r) (front content (take m (take n content)) n m refl)
+        ∙ sym is
+
+-- ---- what a loop has copied since the last line end or escape
+
+-- from one place up to another there is no LF, and no escape begins
+pub record IsPlain (text : List ℕ) (from to : ℕ) : Type 0 where
+  pub no_lf : (k : ℕ) → from ≤ k → k < to → is_lf (get_or text k 0) ≡ false
+  pub no_escape : (k : ℕ) → from ≤ k → k < to → first_escape (drop k text) ≡ None
+
+pub plain-empty : (text : List ℕ) (at : ℕ) → IsPlain text at at
+plain-empty text at = record { no_lf = λ k lo hi. absurd (omega arith); no_escape = λ k lo hi. absurd (omega arith) }
+
+plain-joined : (text : List ℕ) (from to end : ℕ) → IsPlain text from to → IsPlain text to end → IsPlain text from end
+plain-joined text from to end front back = record {
+  no_lf = λ k lo hi. elim (cases_lt k to) [ inl lt ↦ front.no_lf k lo lt | inr ge ↦ back.no_lf k (omega arith) hi ];
+  no_escape = λ k lo hi. elim (cases_lt k to) [ inl lt ↦ front.no_escape k lo lt | inr ge ↦ back.no_escape k (omega arith) hi ];
+}
+
+-- the piece that was copied
+module _ (text : List ℕ) (from to : ℕ) (low : from ≤ to) (high : to ≤ length text) (plain : IsPlain text from to) where
+  abbrev pub piece : List ℕ
+  piece = take (to - from) (drop from text)
+
+  long : length piece ≡ to - from
+  long = length-take-le (to - from) (drop from text) (omega (arith, length-drop from text))
+
+  pub piece-no_escape : HasNoEscape piece
+  piece-no_escape k = elim (cases_lt k (to - from)) [
+    | inl lt ↦
+        ap first_escape (drop-of-take k (to - from) (drop from text))
+        ∙ first_escape-take (drop k (drop from text)) (to - from - k) (ap first_escape (drop-drop k from text) ∙ plain.no_escape (from + k) (omega arith) (omega arith))
+    | inr ge ↦ ap first_escape (drop-of-take k (to - from) (drop from text) ∙ ap (λ (m : ℕ). take m (drop k (drop from text))) {x = to - from - k} {y = 0} (omega arith))
+  ]
+
+  piece-no_lf : HasNoLf piece
+  piece-no_lf k lt =
+      ap is_lf (get_or-take (to - from) (drop from text) k 0 (omega (arith, long)) ∙ get_or-drop from text k 0)
+      ∙ plain.no_lf (from + k) (omega arith) (omega (arith, long))
+
+  rest-is : (k : ℕ) → k ≤ to - from → drop k piece ++ drop to text ≡ drop (from + k) text
+  rest-is k le =
+      let cut : take (to - from - k) (drop (from + k) text) ++ drop (to - from - k) (drop (from + k) text) ≡ drop (from + k) text = take-append-drop (to - from - k) (drop (from + k) text) in
+      ap (λ (r : List ℕ). r ++ drop to text) (drop-of-take k (to - from) (drop from text) ∙ ap (take (to - from - k)) (drop-drop k from text))
+      ∙ ap (λ (r : List ℕ). take (to - from - k) (drop (from + k) text) ++ r) (ap (λ (m : ℕ). drop m text) {x = to} {y = from + k + (to - from - k)} (omega arith) ∙ sym (drop-drop (to - from - k) (from + k) text))
+      ∙ cut
+
+  -- it goes before what is read from an escape on
+  pub before_escape : (byte : ℕ) → first_escape (drop to text) ≡ Some byte → quoted_printable (drop from text) ≡ piece ++ quoted_printable (drop to text)
+  before_escape byte is =
+      let none : NoneBefore piece (drop to text) = λ k lt. ap first_escape (rest-is k (omega (arith, long))) ∙ plain.no_escape (from + k) (omega arith) (omega (arith, long)) in
+      ap quoted_printable (sym (rest-is 0 (omega arith) ∙ ap (λ (m : ℕ). drop m text) {x = from + 0} {y = from} (omega arith)))
+      ∙ escape_after piece (drop to text) byte piece-no_lf none is
+      ∙ ap (λ (r : List ℕ). piece ++ r) (sym (escape_after [] (drop to text) byte (λ k l. absurd (omega arith)) (λ k l. absurd (omega arith)) is))
+
+-- no mark stands before the first
+plain-run : (text : List ℕ) (at m run : ℕ) → run ≡ first_place (begins is_mark) (take m (drop at text)) → IsPlain text at (at + run)
+plain-run text at m run is = record {
+  no_lf = λ k lo hi. (unmarked (get_or text k 0) (free k lo hi)).1;
+  no_escape = λ k lo hi.
+      ap first_escape (drop_more text k 0 (within k lo hi))
+      ∙ first_escape-other (get_or text k 0) (drop (k + 1) text) (unmarked (get_or text k 0) (free k lo hi)).0;
+}
+  where
+    bytes : List ℕ
+    bytes = take m (drop at text)
+
+    unmarked : (b : ℕ) → is_mark b ≡ false → ((b == 61) ≡ false) × ((b == 10) ≡ false)
+    unmarked b h = elim (cases_Bool (b == 61)) [
+      | inl sign ↦ absurd (false≢true (sym h ∙ rw sign refl))
+      | inr other ↦ (other, sym (ap (λ (t : Bool). t || (b == 10)) other) ∙ h)
+    ]
+
+    short : (k : ℕ) → at ≤ k → k < at + run → k - at < length bytes
+    short k lo hi = omega (arith, is, first_place-≤ (begins is_mark) bytes)
+
+    within : (k : ℕ) → at ≤ k → k < at + run → k < length text
+    within k lo hi = let s = short k lo hi in omega (arith, length-take m (drop at text), length-drop at text)
+
+    free : (k : ℕ) → at ≤ k → k < at + run → is_mark (get_or text k 0) ≡ false
+    free k lo hi =
+        let s = short k lo hi in
+        let there : get_or bytes (k - at) 0 ≡ get_or text k 0 =
+        get_or-take m (drop at text) (k - at) 0 (omega (arith, length-take m (drop at text))) ∙ get_or-drop at text (k - at) 0 ∙ ap (λ (j : ℕ). get_or text j 0) {x = at + (k - at)} {y = k} (omega arith) in
+        sym (ap is_mark there)
+        ∙ sym (ap (begins is_mark) (drop_more bytes (k - at) 0 s))
+        ∙ first_place-before (begins is_mark) bytes (k - at) (omega arith)
+
+-- the first mark is one
+pub mark_there : (text : List ℕ) (at m run : ℕ) → run ≡ first_place (begins is_mark) (take m (drop at text)) → run < length (take m (drop at text))
+    → (get_or text (at + run) 0 ≡ 10 → ⊥) → get_or text (at + run) 0 ≡ 61
+mark_there text at m run is lt other =
+    let bytes = take m (drop at text) in
+    let there : get_or bytes run 0 ≡ get_or text (at + run) 0 =
+    get_or-take m (drop at text) run 0 (omega (arith, length-take m (drop at text))) ∙ get_or-drop at text run 0 in
+    let marked : is_mark (get_or text (at + run) 0) ≡ true =
+    sym (ap is_mark there)
+    ∙ sym (ap (begins is_mark) (drop_more bytes run 0 lt))
+    ∙ ap (λ (j : ℕ). begins is_mark (drop j bytes)) is
+    ∙ first_place-passes (begins is_mark) bytes (omega arith) in
+    elim (cases_Bool (get_or text (at + run) 0 == 61)) [
+      | inl sign ↦ eqb-true (get_or text (at + run) 0) 61 sign
+      | inr no_sign ↦ absurd (other (eqb-true (get_or text (at + run) 0) 10 (sym (ap (λ (t : Bool). t || (get_or text (at + run) 0 == 10)) no_sign) ∙ marked)))
+    ]
+
+plain-sign : (text : List ℕ) (at : ℕ) → get_or text at 0 ≡ 61 → first_escape (drop at text) ≡ None → IsPlain text at (at + 1)
+plain-sign text at sign none = record {
+  no_lf = λ k lo hi. ap (λ (j : ℕ). is_lf (get_or text j 0)) {x = k} {y = at} (omega arith) ∙ ap is_lf sign;
+  no_escape = λ k lo hi. ap (λ (j : ℕ). first_escape (drop j text)) {x = k} {y = at} (omega arith) ∙ none;
+}
+
+-- where a line ends
+line_end : (text : List ℕ) (from to : ℕ) → from ≤ to → to ≤ length text → IsPlain text from to → (to < length text → get_or text to 0 ≡ 10)
+    → to ≡ from + first_place (begins is_lf) (drop from text)
+line_end text from to low high plain lf_there =
+    let len = length-drop from text in
+    let same = first_place-begins is_lf (drop from text) in
+    let at : position_or_len is_lf (drop from text) ≡ to - from = position_or_len_is is_lf (drop from text) (to - from) 0 (omega arith)
+    (λ k l. ap is_lf (get_or-drop from text k 0) ∙ plain.no_lf (from + k) (omega arith) (omega arith))
+    (λ lt. ap is_lf (get_or-drop from text (to - from) 0 ∙ ap (λ (j : ℕ). get_or text j 0) {x = from + (to - from)} {y = to} (omega arith) ∙ lf_there (omega arith))) in
+    omega arith
+
+-- where the bytes up to a place stay and more follow, so do those of a part that ends there
+copied_more : (len n run : ℕ) (xs ys front more : List ℕ) → len + n ≤ length xs → take n (drop len xs) ≡ front
+    → take (len + n + run) ys ≡ take (len + n) xs ++ more → (take len ys ≡ take len xs) × (take (n + run) (drop len ys) ≡ front ++ more)
+copied_more len n run xs ys front more fits here is =
+    let low : take len ys ≡ take len xs =
+    sym (take-take len (len + n + run) ys (omega arith))
+    ∙ ap (take len) is
+    ∙ take-append-le len (take (len + n) xs) more (omega (arith, length-take-le (len + n) xs fits))
+    ∙ take-take len (len + n) xs (omega arith) in (
+      low,
+      append_cancel_left (take len xs) _ _ (
+          ap (λ (r : List ℕ). r ++ take (n + run) (drop len ys)) (sym low)
+          ∙ sym (take-add len (n + run) ys)
+          ∙ ap (λ (k : ℕ). take k ys) {x = len + (n + run)} {y = len + n + run} (omega arith)
+          ∙ is
+          ∙ ap (λ (r : List ℕ). r ++ more) (take-add len n xs ∙ ap (λ (r : List ℕ). take len xs ++ r) here)
+          ∙ append_assoc (take len xs) front more),
+    )
+
+-- what goes before an escape, whatever it stands for
+before : (text : List ℕ) (from to : ℕ) (low : from ≤ to) (high : to ≤ length text) (plain : IsPlain text from to) → (first_escape (drop to text) ≡ None → ⊥)
+    → quoted_printable (drop from text) ≡ take (to - from) (drop from text) ++ quoted_printable (drop to text)
+before text from to low high plain some = go (first_escape (drop to text)) refl
+  where
+    go : (o : Option ℕ) → first_escape (drop to text) ≡ o → quoted_printable (drop from text) ≡ take (to - from) (drop from text) ++ quoted_printable (drop to text)
+    go None e = absurd (some e)
+    go (Some byte) e = before_escape text from to low high plain byte e
+
+-- ---- the loop over marks
+
+-- the bytes up to the last line end or escape, then those of the rest, are all; and what has been
+-- copied after them is plain
+pub record Reading (text : List ℕ) (from : ℕ) (output : List ℕ) (len plain at : ℕ) : Type 0 where
+  pub within : at ≤ length text
+  pub start : plain ≤ at
+  pub after : from + len ≤ plain
+  pub room : len + (at - plain) ≤ length output
+  pub so_far : take len output ++ quoted_printable (drop plain text) ≡ quoted_printable (drop from text)
+  pub copied : take (at - plain) (drop len output) ≡ take (at - plain) (drop plain text)
+  pub marks : IsPlain text plain at
+
+-- a part that is written at a place and goes to the end
+abbrev pub with_part : ℕ → List ℕ → List ℕ → List ℕ
+with_part place output part = put_mid place (length output - place) output part
+
+pub length-with_part : (place : ℕ) (output part : List ℕ) → place ≤ length output → length part ≡ length (take (length output - place) (drop place output))
+    → length (with_part place output part) ≡ length output
+length-with_part place output part fits same =
+    let k = length output - place in
+    omega (
+      arith,
+      length-append (take place output) (part ++ drop k (drop place output)),
+      length-append part (drop k (drop place output)),
+      length-take-le place output fits,
+      length-drop k (drop place output),
+      same,
+      length-take k (drop place output),
+      length-drop place output,
+    )
+
+module _ (text : List ℕ) (from : ℕ) (output : List ℕ) (len plain at : ℕ) (h : Reading text from output len plain at) where
+  abbrev place : ℕ
+  place = len + (at - plain)
+
+  -- more bytes without a mark, or with one that stays
+  extended : (run : ℕ) (ys : List ℕ) → at + run ≤ length text → len + (at + run - plain) ≤ length ys
+      → take (place + run) ys ≡ take place output ++ take run (drop at text) → IsPlain text at (at + run) → Reading text from ys len plain (at + run)
+  extended run ys within room is more =
+      let n = at - plain in
+      let start = h.start in
+      let both = copied_more len n run output ys (take n (drop plain text)) (take run (drop at text)) h.room h.copied is in
+      let e : at + run - plain ≡ n + run = omega arith in
+      record {
+        within = within;
+        start = omega arith;
+        after = h.after;
+        room = room;
+        so_far = ap (λ (r : List ℕ). r ++ quoted_printable (drop plain text)) both.0 ∙ h.so_far;
+        copied =
+            ap (λ (k : ℕ). take k (drop len ys)) e
+            ∙ both.1
+            ∙ ap (λ (r : List ℕ). take n (drop plain text) ++ take run r) (ap (λ (k : ℕ). drop k text) {x = at} {y = plain + n} (omega arith) ∙ sym (drop-drop n plain text))
+            ∙ sym (take-add n run (drop plain text))
+            ∙ ap (λ (k : ℕ). take k (drop plain text)) (sym e);
+        marks = plain-joined text plain at (at + run) h.marks more;
+      }
+
+  module _ (run : ℕ) (part : List ℕ) (fits : place + run ≤ length output) (same : length part ≡ length (take (length output - place) (drop place output)))
+      (long : length (with_part place output part) ≡ length output) where
+    -- a run is copied
+    pub after_run : (m : ℕ) → at + m ≤ length text → run ≤ length (take m (drop at text)) → run ≡ first_place (begins is_mark) (take m (drop at text))
+        → take run part ≡ take run (take m (drop at text)) → Reading text from (with_part place output part) len plain (at + run)
+    after_run m within few first copy =
+        let short = length-take m (drop at text) in
+        let start = h.start in
+        extended run (with_part place output part) (omega arith) (omega arith)
+        (written_rest place run output part fits same (take run (drop at text)) (copy ∙ take-take run m (drop at text) (omega arith)))
+        (plain-run text at m run first)
+
+    -- escapes are read
+    pub after_escapes : 0 < run → (first_escape (drop at text) ≡ None → ⊥) → at + 3 * run ≤ length text
+        → take run part ++ quoted_printable (drop (at + 3 * run) text) ≡ quoted_printable (drop at text)
+        → Reading text from (with_part place output part) (place + run) (at + 3 * run) (at + 3 * run)
+    after_escapes some escape within read =
+        let next : List ℕ = quoted_printable (drop (at + 3 * run) text) in
+        let piece : List ℕ = take (at - plain) (drop plain text) in
+        let after = h.after in
+        let start = h.start in
+        record {
+          within = within;
+          start = omega arith;
+          after = omega arith;
+          room = omega arith;
+          so_far =
+              ap (λ (r : List ℕ). r ++ next) (written_rest place run output part fits same (take run part) refl)
+              ∙ append_assoc (take place output) (take run part) next
+              ∙ ap (λ (r : List ℕ). take place output ++ r) read
+              ∙ ap (λ (r : List ℕ). r ++ quoted_printable (drop at text)) (take-add len (at - plain) output ∙ ap (λ (r : List ℕ). take len output ++ r) h.copied)
+              ∙ append_assoc (take len output) piece (quoted_printable (drop at text))
+              ∙ ap (λ (r : List ℕ). take len output ++ r) (sym (before text plain at h.start h.within h.marks escape))
+              ∙ h.so_far;
+          copied = zero_taken (at + 3 * run) (place + run) (with_part place output part);
+          marks = plain-empty text (at + 3 * run);
+        }
+      where
+        zero_taken : (j k : ℕ) (ys : List ℕ) → take (j - j) (drop k ys) ≡ take (j - j) (drop j text)
+        zero_taken j k ys = ap (λ (n : ℕ). take n (drop k ys)) {x = j - j} {y = 0} (omega arith) ∙ sym (ap (λ (n : ℕ). take n (drop j text)) {x = j - j} {y = 0} (omega arith))
+
+  -- a `=` that begins no escape stays
+  pub after_sign : (ys : List ℕ) → length ys ≡ length output → place < length output → at < length text → take (place + 1) ys ≡ take place output ++ 61 ∷ []
+      → get_or text at 0 ≡ 61 → first_escape (drop at text) ≡ None → Reading text from ys len plain (at + 1)
+  after_sign ys long fits lt is sign none =
+      let start = h.start in
+      extended 1 ys (omega arith) (omega arith)
+      (is ∙ ap (λ (r : List ℕ). take place output ++ r) (sym (ap (take 1) (drop_more text at 0 lt) ∙ ap (λ (b : ℕ). b ∷ take 0 (drop (at + 1) text)) sign)))
+      (plain-sign text at sign none)
+
+  -- the same where the bytes so far stay
+  pub kept : (ys : List ℕ) → length ys ≡ length output → take place ys ≡ take place output → Reading text from ys len plain at
+  kept ys long same =
+      let n = at - plain in
+      let both = copied_more len n 0 output ys (take n (drop len output)) [] h.room refl (ap (λ (k : ℕ). take k ys) {x = place + 0} {y = place} (omega arith) ∙ same ∙ sym (append-nil (take place output))) in
+      record {
+        within = h.within;
+        start = h.start;
+        after = h.after;
+        room = let room = h.room in omega arith;
+        so_far = ap (λ (r : List ℕ). r ++ quoted_printable (drop plain text)) both.0 ∙ h.so_far;
+        copied = ap (λ (k : ℕ). take k (drop len ys)) {x = n} {y = n + 0} (omega arith) ∙ both.1 ∙ append-nil (take n (drop len output)) ∙ h.copied;
+        marks = h.marks;
+      }
+
+  module _ (n : ℕ) (part : List ℕ) (fits : len + n ≤ length output) (same : length part ≡ length (take (length output - len) (drop len output))) where
+    -- a line ends
+    pub after_line : (long : length (with_part len output part) ≡ length output) → at < length text → get_or text at 0 ≡ 10 → n ≤ at - plain + 1
+        → take n part ≡ line_bytes (ended_line (take (at - plain) (drop plain text)))
+        → Reading text from (with_part len output part) (len + n) (at + 1) (at + 1)
+    after_line long lt lf_there few is =
+        let after = h.after in
+        let start = h.start in
+        record {
+          within = omega arith;
+          start = omega arith;
+          after = omega arith;
+          room = omega arith;
+          so_far =
+              sym (line_read text (take len output) plain at (omega arith) (line_end text plain at h.start h.within h.marks (λ _. lf_there))
+              (take (len + n) (with_part len output part)) lt (written_rest len n output part fits same _ is))
+              ∙ h.so_far;
+          copied = ap (λ (k : ℕ). take k (drop (len + n) (with_part len output part))) {x = at + 1 - (at + 1)} {y = 0} (omega arith) ∙ sym (ap (λ (k : ℕ). take k (drop (at + 1) text)) {x = at + 1 - (at + 1)} {y = 0} (omega arith));
+          marks = plain-empty text (at + 1);
+        }
+
+    -- the text ends
+    pub after_all : at ≡ length text → take n part ≡ line_bytes (record { content = take (at - plain) (drop plain text); ending = [] })
+        → take (len + n) (with_part len output part) ++ quoted_printable (drop at text) ≡ quoted_printable (drop from text)
+    after_all end is =
+        let start = h.start in
+        nothing_left text (take (len + n) (with_part len output part)) at (omega arith)
+        ∙ sym (line_last text (take len output) plain at (omega arith) (line_end text plain at h.start h.within h.marks (λ lt. absurd (omega arith)))
+        (take (len + n) (with_part len output part)) end (written_rest len n output part fits same _ is))
+        ∙ h.so_far
+
+  -- what has been copied, as a part of what is written
+  pub sliced : take (length (take (at - plain) (drop plain text))) (take (length output - len) (drop len output)) ≡ take (at - plain) (drop plain text)
+  sliced =
+      let room = h.room in
+      let within = h.within in
+      let start = h.start in
+      let long = length-take-le (at - plain) (drop plain text) (omega (arith, length-drop plain text)) in
+      take-take (length (take (at - plain) (drop plain text))) (length output - len) (drop len output) (omega arith)
+      ∙ ap (λ (k : ℕ). take k (drop len output)) long
+      ∙ h.copied

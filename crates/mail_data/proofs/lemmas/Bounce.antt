@@ -1,0 +1,163 @@
+-- Lemmas on reports of delivery.
+use Rattle.std.proofs.Common.{◌≡◌, ℕ, zero, suc, ◌+◌, ◌-◌, ◌<◌, ◌≤◌, Bool, true, false, not, List, [], ◌∷◌, ◌++◌, length, map, take, drop, Bor, Option, Some, None, refl, sym, ap, ◌∙◌, arith, append_assoc, length-drop, inl, inr}
+use Rattle.std.specs.Prelude.{codes, nat_lt, nat_eq, filter}
+use Rattle.std.proofs.lemmas.Bool.{cond-true, cond-false, cases_Bool, lt-ltb, le-ltb, ltb-true, ne_eqb, false≢true}
+use Rattle.std.proofs.lemmas.List.{append-nil, drop_all}
+use Rattle.std.specs.List.{list_any, after_first, position_or_len}
+use Rattle.mailparse.proofs.lemmas.EncodedWord.{any_from_place}
+use Rattle.mailparse.specs.Header.{Header}
+use Rattle.mail_codec.specs.Places.{byte_place, is_empty}
+use Rattle.mail_data.specs.Bounce.{Delivery, after_block, after_type, block_at, block_length, blocks, deliveries, delivery_in, fields, pieces_within, text_of, typed_text_of}
+use Rattle.mail_data.specs.Lines.{empty_line, is_empty_line, starts_line}
+use Rattle.mail_data.proofs.lemmas.Lines.{NoLine, line_place-found, line_place-all, line_place-passes}
+
+-- ---- the type of a value
+
+pub after_type-none : (text : List ℕ) → position_or_len (λ b. nat_eq b 59) text ≡ length text → text ≡ after_type text
+unfolding after_type
+after_type-none text h = sym (cond-false _ _ _ (any_from_place (λ b. nat_eq b 59) text ∙ le-ltb _ _ (omega arith)))
+
+pub after_type-some : (text rest : List ℕ) → position_or_len (λ b. nat_eq b 59) text < length text → rest ≡ after_first (λ b. nat_eq b 59) text → rest ≡ after_type text
+unfolding after_type
+after_type-some text rest h e = e ∙ sym (cond-true _ _ _ (any_from_place (λ b. nat_eq b 59) text ∙ lt-ltb _ _ h))
+
+-- ---- where a block ends
+
+pub stays : (bytes : List ℕ) (n : ℕ) → n ≡ empty_line bytes → n ≡ 0 → is_empty_line bytes ≡ false
+stays bytes n e none = ap (nat_lt 0) (sym e ∙ none)
+
+pub ends : (bytes : List ℕ) (n : ℕ) → n ≡ empty_line bytes → (n ≡ 0 → ⊥) → is_empty_line bytes ≡ true
+ends bytes n e some = ap (nat_lt 0) (sym e) ∙ lt-ltb 0 n (omega arith)
+
+pub block_length-found : (bytes : List ℕ) (at : ℕ) → at ≤ length bytes → NoLine is_empty_line bytes at → starts_line bytes at ≡ true → is_empty_line (drop at bytes) ≡ true
+    → at ≡ block_length bytes
+unfolding block_length
+block_length-found bytes at within none starts passes = line_place-found is_empty_line bytes at within none starts passes
+
+pub block_length-all : (bytes : List ℕ) (at : ℕ) → at ≤ length bytes → NoLine is_empty_line bytes at → is_empty_line (drop at bytes) ≡ false
+    → None ≡ byte_place (drop at bytes) 10 → length bytes ≡ block_length bytes
+unfolding block_length
+block_length-all bytes at within none not_here nowhere = line_place-all is_empty_line bytes at within none not_here nowhere
+
+-- ---- the blocks
+
+some_bytes : (bytes : List ℕ) (r : Bool) → r ≡ nat_eq (length bytes) 0 → r ≡ false → 0 < length bytes
+some_bytes [] r is e = absurd (false≢true (sym e ∙ is))
+some_bytes (b ∷ bytes) r is e = omega arith
+
+no_bytes : (bytes : List ℕ) (r : Bool) → r ≡ nat_eq (length bytes) 0 → r ≡ true → length bytes ≡ 0
+no_bytes [] r is e = refl
+no_bytes (b ∷ bytes) r is e = absurd (false≢true (sym (ne_eqb (length (b ∷ bytes)) 0 (λ n. absurd (omega arith))) ∙ sym is ∙ e))
+
+-- each piece takes some bytes
+some_taken : (bytes : List ℕ) → 0 < length bytes → block_length bytes ≡ 0 → 0 < empty_line (drop (block_length bytes) bytes)
+unfolding block_length
+some_taken bytes some e = ltb-true 0 _ (line_place-passes is_empty_line bytes (omega arith))
+
+pub after_block-shorter : (bytes : List ℕ) → 0 < length bytes → length (after_block bytes) < length bytes
+after_block-shorter bytes some =
+    let a = length-drop (block_length bytes) bytes in
+    let rest = drop (block_length bytes) bytes in
+    let b = length-drop (empty_line rest) rest in
+    elim (cases_Bool (nat_lt 0 (block_length bytes))) [
+      | inl l ↦ let low = ltb-true 0 (block_length bytes) l in omega arith
+      | inr g ↦ let low = some_taken bytes some (grind (arith, g)) in omega arith
+    ]
+
+pieces-enough : (n m : ℕ) (bytes : List ℕ) → length bytes ≤ n → length bytes ≤ m → pieces_within n bytes ≡ pieces_within m bytes
+pieces-enough zero zero bytes a b = refl
+pieces-enough zero (suc m) [] a b = refl
+pieces-enough zero (suc m) (c ∷ bytes) a b = absurd (omega arith)
+pieces-enough (suc n) zero [] a b = refl
+pieces-enough (suc n) zero (c ∷ bytes) a b = absurd (omega arith)
+pieces-enough (suc n) (suc m) [] a b = refl
+pieces-enough (suc n) (suc m) (c ∷ bytes) a b =
+    let less = after_block-shorter (c ∷ bytes) (omega arith) in
+    ap (λ (ps : List (List ℕ)). block_at (c ∷ bytes) ∷ ps) (pieces-enough n m (after_block (c ∷ bytes)) (omega arith) (omega arith))
+
+-- a block, if something stands there
+abbrev pub if_some : List ℕ → List (List ℕ)
+if_some block = filter (λ b. not (is_empty b)) (block ∷ [])
+
+pub blocks-none : (bytes : List ℕ) → length bytes ≡ 0 → blocks bytes ≡ []
+unfolding blocks
+blocks-none [] e = refl
+blocks-none (b ∷ bytes) e = absurd (omega arith)
+
+one_more : (block : List ℕ) (ps : List (List ℕ)) → filter (λ b. not (is_empty b)) (block ∷ ps) ≡ if_some block ++ filter (λ b. not (is_empty b)) ps
+one_more [] ps = refl
+one_more (b ∷ block) ps = refl
+
+pub blocks-next : (bytes : List ℕ) → 0 < length bytes → blocks bytes ≡ if_some (block_at bytes) ++ blocks (after_block bytes)
+unfolding blocks
+blocks-next [] some = absurd (omega arith)
+blocks-next (b ∷ bytes) some =
+    let less = after_block-shorter (b ∷ bytes) some in
+    one_more (block_at (b ∷ bytes)) (pieces_within (length bytes) (after_block (b ∷ bytes)))
+    ∙ ap (λ (ps : List (List ℕ)). if_some (block_at (b ∷ bytes)) ++ filter (λ b. not (is_empty b)) ps)
+    (pieces-enough (length bytes) (length (after_block (b ∷ bytes))) (after_block (b ∷ bytes)) (omega arith) (omega arith))
+
+-- ---- the blocks so far, and those of the rest
+
+pub blocks-shorter : (rest after : List ℕ) (r : Bool) → r ≡ nat_eq (length rest) 0 → r ≡ false → after ≡ after_block rest → length after < length rest
+blocks-shorter rest after r is some e = let less = after_block-shorter rest (some_bytes rest r is some) in omega (arith, ap length e, less)
+
+pub blocks-pushed : (rest block after : List ℕ) (found new all : List (List ℕ)) (r s : Bool) → r ≡ nat_eq (length rest) 0 → r ≡ false → block ≡ block_at rest
+    → after ≡ after_block rest → s ≡ nat_eq (length block) 0 → s ≡ false → new ≡ found ++ block ∷ [] → found ++ blocks rest ≡ all → new ++ blocks after ≡ all
+blocks-pushed rest block after found new all r s is some here next is_block some_block push before =
+    ap (λ (l : List (List ℕ)). l ++ blocks after) push ∙ append_assoc found (block ∷ []) (blocks after)
+    ∙ ap (λ (l : List (List ℕ)). found ++ (l ++ blocks after)) (sym (kept block (some_bytes block s is_block some_block)))
+    ∙ ap (λ (b : List ℕ). found ++ (if_some b ++ blocks after)) here ∙ ap (λ (b : List ℕ). found ++ (if_some (block_at rest) ++ blocks b)) next
+    ∙ ap (λ (l : List (List ℕ)). found ++ l) (sym (blocks-next rest (some_bytes rest r is some))) ∙ before
+  where
+    kept : (block : List ℕ) → 0 < length block → if_some block ≡ block ∷ []
+    kept [] low = absurd (omega arith)
+    kept (b ∷ block) low = refl
+
+pub blocks-passed : (rest block after : List ℕ) (found all : List (List ℕ)) (r s : Bool) → r ≡ nat_eq (length rest) 0 → r ≡ false → block ≡ block_at rest
+    → after ≡ after_block rest → s ≡ nat_eq (length block) 0 → s ≡ true → found ++ blocks rest ≡ all → found ++ blocks after ≡ all
+blocks-passed rest block after found all r s is some here next is_block no_block before =
+    ap (λ (l : List (List ℕ)). found ++ (l ++ blocks after)) (sym (left block (no_bytes block s is_block no_block)))
+    ∙ ap (λ (b : List ℕ). found ++ (if_some b ++ blocks after)) here ∙ ap (λ (b : List ℕ). found ++ (if_some (block_at rest) ++ blocks b)) next
+    ∙ ap (λ (l : List (List ℕ)). found ++ l) (sym (blocks-next rest (some_bytes rest r is some))) ∙ before
+  where
+    left : (block : List ℕ) → length block ≡ 0 → if_some block ≡ []
+    left [] e = refl
+    left (b ∷ block) e = absurd (omega arith)
+
+pub blocks-end : (rest : List ℕ) (found all : List (List ℕ)) (r : Bool) → r ≡ nat_eq (length rest) 0 → r ≡ true → found ++ blocks rest ≡ all → found ≡ all
+blocks-end rest found all r is none before =
+    sym (append-nil found) ∙ ap (λ (l : List (List ℕ)). found ++ l) (sym (blocks-none rest (no_bytes rest r is none))) ∙ before
+
+-- ---- what the fields say
+
+pub delivery-is : (headers : List Header) (final original action status code : Option (List ℕ)) → final ≡ typed_text_of (codes "Final-Recipient") headers
+    → original ≡ typed_text_of (codes "Original-Recipient") headers → action ≡ text_of (codes "Action") headers → status ≡ text_of (codes "Status") headers
+    → code ≡ typed_text_of (codes "Diagnostic-Code") headers
+    → ◌≡◌ {A = Delivery} (record { final_recipient = final; original_recipient = original; action = action; status = status; diagnostic_code = code }) (delivery_in headers)
+delivery-is headers final original action status code a b c d e = rw (a, b, c, d, e) refl
+
+-- ---- the recipients
+
+pub deliveries-none : (status : List ℕ) (items : List (Bor (List ℕ))) → map (λ (b : Bor (List ℕ)). b.now) items ≡ blocks status → length items ≡ 0 → [] ≡ deliveries status
+unfolding deliveries
+deliveries-none status [] is none = ap (λ (l : List (List ℕ)). map (λ block. delivery_in (fields block)) (drop 1 l)) is
+deliveries-none status (b ∷ items) is none = absurd (omega arith)
+
+pub deliveries-some : (status : List ℕ) (items : List (Bor (List ℕ))) (first : Bor (List ℕ)) (others : List (Bor (List ℕ))) (found : List Delivery)
+    → map (λ (b : Bor (List ℕ)). b.now) items ≡ blocks status → items ≡ first ∷ others → found ≡ map (λ (b : Bor (List ℕ)). delivery_in (fields b.now)) others → found ≡ deliveries status
+unfolding deliveries
+deliveries-some status items first others found is cut all =
+    all ∙ each others
+    ∙ ap (λ (l : List (Bor (List ℕ))). map (λ block. delivery_in (fields block)) (drop 1 (map (λ (b : Bor (List ℕ)). b.now) l))) (sym cut)
+    ∙ ap (λ (l : List (List ℕ)). map (λ block. delivery_in (fields block)) (drop 1 l)) is
+  where
+    each : (bs : List (Bor (List ℕ))) → map (λ (b : Bor (List ℕ)). delivery_in (fields b.now)) bs ≡ map (λ block. delivery_in (fields block)) (map (λ (b : Bor (List ℕ)). b.now) bs)
+    each [] = refl
+    each (b ∷ bs) = ap (λ (l : List Delivery). delivery_in (fields b.now) ∷ l) (each bs)
+
+pub deliveries-end : (others : List (Bor (List ℕ))) (n : ℕ) (found : List Delivery) → length others ≤ n
+    → found ++ map (λ (b : Bor (List ℕ)). delivery_in (fields b.now)) (drop n others) ≡ map (λ (b : Bor (List ℕ)). delivery_in (fields b.now)) others
+    → found ≡ map (λ (b : Bor (List ℕ)). delivery_in (fields b.now)) others
+deliveries-end others n found past all =
+    sym (append-nil found) ∙ ap (λ (l : List (Bor (List ℕ))). found ++ map (λ (b : Bor (List ℕ)). delivery_in (fields b.now)) l) (sym (drop_all n others past)) ∙ all

@@ -1,0 +1,100 @@
+-- Lemmas on lines: where the first one starts that passes a test.
+use Rattle.std.proofs.Common.{◌≡◌, ℕ, zero, suc, ◌+◌, ◌-◌, ◌<◌, ◌≤◌, Bool, true, false, cond, eqb, List, ◌&&◌, ◌||◌, length, drop, Some, None, sym, ap, ◌∙◌, arith, length-drop, ◌⊎◌, inl, inr}
+use Rattle.std.specs.Prelude.{nat_lt, ◌==◌}
+use Rattle.std.proofs.lemmas.Bool.{cases_Bool, ltb-true, ne_eqb, and_parts, and_from, and_left, and_right, or_right}
+use Rattle.std.proofs.lemmas.List.{drop-drop}
+use Rattle.mail_codec.specs.Places.{begins, first_place, least, byte_place}
+use Rattle.mail_codec.proofs.lemmas.Places.{least-is, least-passes, first_place-before, first_place-passes}
+use Rattle.mail_codec.proofs.lemmas.WordSearches.{place_none, place_some}
+use Rattle.mail_data.specs.Lines.{starts_line, line_place}
+
+-- a line starts at p from which on the bytes pass the test
+abbrev pub is_line : (List ℕ → Bool) → List ℕ → ℕ → Bool
+is_line test bytes p = starts_line bytes p && test (drop p bytes)
+
+-- no such line starts before a place
+abbrev pub NoLine : (List ℕ → Bool) → List ℕ → ℕ → Type 0
+NoLine test bytes to = (k : ℕ) → k < to → is_line test bytes k ≡ false
+
+-- no line starts where no LF stands before
+no_start : (bytes : List ℕ) (at k : ℕ) → at < k → k ≤ at + first_place (begins (λ b. b == 10)) (drop at bytes) → starts_line bytes k ≡ false
+no_start bytes at k low high =
+    let before : begins (λ b. b == 10) (drop (k - 1 - at) (drop at bytes)) ≡ false =
+    first_place-before (begins (λ b. b == 10)) (drop at bytes) (k - 1 - at) (omega arith) in
+    let same : at + (k - 1 - at) ≡ k - 1 = omega arith in
+    ap (λ t. t || begins (λ b. b == 10) (drop (k - 1) bytes)) (ne_eqb k 0 (λ e. absurd (omega arith)))
+    ∙ ap (λ n. begins (λ b. b == 10) (drop n bytes)) (sym same)
+    ∙ ap (begins (λ b. b == 10)) (sym (drop-drop (k - 1 - at) at bytes)) ∙ before
+
+-- none up to the next line
+no_line_to : (test : List ℕ → Bool) (bytes : List ℕ) (at to : ℕ) → NoLine test bytes at → test (drop at bytes) ≡ false
+    → to ≤ suc (at + first_place (begins (λ b. b == 10)) (drop at bytes)) → NoLine test bytes to
+no_line_to test bytes at to none not_here within k low = pick (compare_to k at)
+  where
+    compare_to : (k at : ℕ) → (k < at) ⊎ ((k ≡ at) ⊎ (at < k))
+    compare_to k at = elim (cases_Bool (nat_lt k at)) [
+      | inl l ↦ inl (ltb-true k at l)
+      | inr g ↦ elim (cases_Bool (nat_lt at k)) [
+        | inl m ↦ inr (inr (ltb-true at k m))
+        | inr h ↦ inr (inl (let a = ltb_false k at g in let b = ltb_false at k h in omega arith))
+      ]
+    ]
+      where
+        ltb_false : (a b : ℕ) → nat_lt a b ≡ false → b ≤ a
+        ltb_false a b e = grind (arith, e)
+
+    pick : (k < at) ⊎ ((k ≡ at) ⊎ (at < k)) → is_line test bytes k ≡ false
+    pick (inl l) = none k l
+    pick (inr (inl e)) = ap (is_line test bytes) e ∙ and_right (starts_line bytes at) (test (drop at bytes)) not_here
+    pick (inr (inr g)) = and_left (starts_line bytes k) (test (drop k bytes)) (no_start bytes at k g (omega arith))
+
+pub no_line_next : (test : List ℕ → Bool) (bytes : List ℕ) (at p : ℕ) → NoLine test bytes at → test (drop at bytes) ≡ false → Some p ≡ byte_place (drop at bytes) 10
+    → NoLine test bytes (at + (p + 1))
+no_line_next test bytes at p none not_here found =
+    let place = place_some (begins (λ b. b == 10)) (drop at bytes) p found in
+    let same = place.0 in
+    no_line_to test bytes at (at + (p + 1)) none not_here (omega arith)
+
+pub next_within : (bytes : List ℕ) (at p : ℕ) → at ≤ length bytes → Some p ≡ byte_place (drop at bytes) 10 → at + (p + 1) ≤ length bytes
+next_within bytes at p within found =
+    let place = place_some (begins (λ b. b == 10)) (drop at bytes) p found in
+    let same = place.0 in
+    let low = place.1 in
+    let len = length-drop at bytes in
+    omega arith
+
+pub starts_next : (bytes : List ℕ) (at p : ℕ) → Some p ≡ byte_place (drop at bytes) 10 → starts_line bytes (at + (p + 1)) ≡ true
+starts_next bytes at p found =
+    let place = place_some (begins (λ b. b == 10)) (drop at bytes) p found in
+    let is = first_place-passes (begins (λ b. b == 10)) (drop at bytes) place.1 in
+    let same : at + (p + 1) - 1 ≡ at + p = omega arith in
+    or_right (eqb (at + (p + 1)) 0) (begins (λ b. b == 10) (drop (at + (p + 1) - 1) bytes))
+    (ap (λ n. begins (λ b. b == 10) (drop n bytes)) same ∙ ap (begins (λ b. b == 10)) (sym (drop-drop p at bytes))
+    ∙ ap (λ n. begins (λ b. b == 10) (drop n (drop at bytes))) place.0 ∙ is)
+
+pub line_place-found : (test : List ℕ → Bool) (bytes : List ℕ) (at : ℕ) → at ≤ length bytes → NoLine test bytes at → starts_line bytes at ≡ true → test (drop at bytes) ≡ true
+    → at ≡ line_place test bytes
+line_place-found test bytes at within none starts passes =
+    sym (least-is (is_line test bytes) (length bytes) at within none (λ low. and_from (starts_line bytes at) (test (drop at bytes)) starts passes))
+
+pub line_place-all : (test : List ℕ → Bool) (bytes : List ℕ) (at : ℕ) → at ≤ length bytes → NoLine test bytes at → test (drop at bytes) ≡ false → None ≡ byte_place (drop at bytes) 10
+    → length bytes ≡ line_place test bytes
+line_place-all test bytes at within none not_here nowhere =
+    let all = place_none (begins (λ b. b == 10)) (drop at bytes) nowhere in
+    let len = length-drop at bytes in
+    sym (least-is (is_line test bytes) (length bytes) (length bytes) (omega arith) (no_line_to test bytes at (length bytes) none not_here (omega arith)) (λ low. absurd (omega arith)))
+
+pub line_place-≤ : (test : List ℕ → Bool) (bytes : List ℕ) → line_place test bytes ≤ length bytes
+line_place-≤ test bytes = least_le (is_line test bytes) (length bytes)
+  where
+    least_le : (test : ℕ → Bool) (bound : ℕ) → least test bound ≤ bound
+    least_le test zero = omega arith
+    least_le test (suc bound) = elim (test 0) as (λ t. cond t 0 (suc (least (λ n. test (suc n)) bound)) ≤ suc bound) [
+      | true ↦ omega arith
+      | false ↦ let h = least_le (λ n. test (suc n)) bound in omega arith
+    ]
+
+-- the bytes pass the test at that place, if it is within them
+pub line_place-passes : (test : List ℕ → Bool) (bytes : List ℕ) → line_place test bytes < length bytes → test (drop (line_place test bytes) bytes) ≡ true
+line_place-passes test bytes l =
+    (and_parts (starts_line bytes (line_place test bytes)) (test (drop (line_place test bytes) bytes)) (least-passes (is_line test bytes) (length bytes) l)).1

@@ -1,0 +1,29 @@
+-- What an archive of threads needs of a mail: its own id, and those of the mails before it (RFC 5322, section 3.6.4).
+use Rattle.std.specs.Prelude.{ℕ, Bool, not, List, [], ◌∷◌, ◌++◌, filter, Option, Some, None, codes}
+use Rattle.std.specs.Option.{option_map_or}
+use Rattle.std.specs.Str.{bytes_eq}
+use Rattle.mailparse.specs.Mail.{Node}
+use Rattle.mailparse.specs.Map.{first_value}
+use Rattle.mail_data.specs.LooseIds.{ids_in}
+
+-- the ids in the first header that has this name
+unfoldable pub ids_of : List ℕ → Node → List (List ℕ)
+ids_of name node = option_map_or ids_in (first_value name node.headers) []
+
+-- the first of some ids
+abbrev pub first_id : List (List ℕ) → Option (List ℕ)
+first_id [] = None
+first_id (id ∷ ids) = Some id
+
+-- the id of a mail: the first in its `Message-ID`
+unfoldable pub message_id : Node → Option (List ℕ)
+message_id node = first_id (ids_of (codes "Message-ID") node)
+
+-- a list without repeats: its first id, and then the others, where that one does not stand again
+abbrev pub without_repeats : List (List ℕ) → List (List ℕ)
+without_repeats [] = []
+without_repeats (id ∷ ids) = id ∷ filter (λ other. not (bytes_eq id other)) (without_repeats ids)
+
+-- the mails before a mail: the ids in its `References`, then those in its `In-Reply-To`, each once
+unfoldable pub parents : Node → List (List ℕ)
+parents node = without_repeats (ids_of (codes "References") node ++ ids_of (codes "In-Reply-To") node)

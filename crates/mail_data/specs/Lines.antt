@@ -1,0 +1,24 @@
+-- Lines of bytes, which end in LF or CR LF: where one starts, and which is empty.
+use Rattle.std.specs.Prelude.{ℕ, ◌-◌, Bool, ◌&&◌, ◌||◌, ◌==◌, nat_lt, List, [], ◌∷◌, length, drop, if◌then◌else◌}
+use Rattle.mail_codec.specs.Ascii.{line_feed, carriage_return}
+use Rattle.mail_codec.specs.Places.{begins, least, stands}
+
+-- the bytes of the empty line that stands here: LF or CR LF, or none
+unfoldable pub empty_line : List ℕ → ℕ
+empty_line bytes = if stands (line_feed ∷ []) bytes then 1 else (if stands (carriage_return ∷ line_feed ∷ []) bytes then 2 else 0)
+
+-- an empty line stands here
+abbrev pub is_empty_line : List ℕ → Bool
+is_empty_line bytes = nat_lt 0 (empty_line bytes)
+
+-- what follows the empty line that stands here, if one does
+abbrev pub after_empty_line : List ℕ → List ℕ
+after_empty_line bytes = drop (empty_line bytes) bytes
+
+-- a line starts at p: it is the first one, or a LF stands before it
+abbrev pub starts_line : List ℕ → ℕ → Bool
+starts_line bytes p = p == 0 || begins (λ b. b == line_feed) (drop (p - 1) bytes)
+
+-- where the first line starts from which on the bytes pass the test, or the length where none does
+abbrev pub line_place : (List ℕ → Bool) → List ℕ → ℕ
+line_place test bytes = least (λ p. starts_line bytes p && test (drop p bytes)) (length bytes)

@@ -1,0 +1,105 @@
+//! What an archive of threads needs of a mail.
+ghost use Rattle.std.specs.Prelude.{◌≡◌, ◌++◌, map, string_bytes, IfErr, IfOk, Ok};
+ghost use Rattle.std.specs.List.{IsDistinct};
+ghost use Rattle.std.specs.Str.{bytes_eq};
+ghost use Rattle.mailparse.specs.Mail.{root};
+ghost use Rattle.mailparse.specs.Map.{text_found};
+ghost use Rattle.mailparse.specs.Outcome.{AnswersOrMemory, GivesTexts, IsMemory};
+ghost use Rattle.mailparse.specs.Views.{tree_of};
+ghost use Rattle.mail_data.specs.Archive.{ids_of, message_id, parents, without_repeats};
+
+use crate::lenient::ids_in;
+use mailparse::{MailHeaderMap, MailParseError, ParsedMail};
+use std::alloc::{AllocError, Global};
+use std::collections::BTreeSet;
+
+/// Returns the id of a mail, or `None` where it has none: the first that `ids_in` finds in the
+/// first header `Message-ID` (RFC 5322, section 3.6.4).
+///
+/// Takes memory for the value of the header and the ids in it.
+///
+/// # Errors
+///
+/// `MailParseError::Memory` where it runs out of memory.
+///
+/// # Examples
+///
+/// ```rust
+/// use mail_data::archive::message_id;
+/// use mailparse::parse_mail;
+///
+/// let mail = parse_mail(alloc, b"Message-ID: <one@example.org> (sent twice)\n\nHi")?;
+/// let id = message_id(alloc, &mail)?.ok_or("no id")?;
+/// assert_eq!(rt; id.as_str(), "one@example.org");
+/// ```
+#[tactic(auto, unfolding(crate::specs::Archive::message_id))]
+pub fn message_id(alloc: Global, mail: &ParsedMail<'_>) -> Result<Option<String>, MailParseError>
+    ensures { AnswersOrMemory text_found result (Ok (message_id (root (tree_of mail.now)))) }
+{
+    let ids = ids_of(alloc, mail, "Message-ID")?;
+    Ok(ids.into_iter().next())
+}
+
+/// Returns the ids of the mails before a mail: those that `ids_in` finds in the first header
+/// `References`, and then those in the first header `In-Reply-To` (RFC 5322, section 3.6.4), in
+/// order, each once, where it stands first.
+///
+/// The last id of `References` is that of the mail that is replied to; it mostly stands in
+/// `In-Reply-To` again. Takes memory for the values of the headers, the ids and a set of them.
+///
+/// # Errors
+///
+/// `MailParseError::Memory` where it runs out of memory.
+///
+/// # Examples
+///
+/// ```rust
+/// use mail_data::archive::parents;
+/// use mailparse::parse_mail;
+///
+/// let mail = parse_mail(alloc, b"References: <one@a> <two@b>\nIn-Reply-To: <two@b>\n\nHi")?;
+/// let ids = parents(alloc, &mail)?;
+/// assert_eq!(rt; ids.len(), 2);
+/// assert_eq!(rt; ids[0].as_str(), "one@a");
+/// assert_eq!(rt; ids[1].as_str(), "two@b");
+/// ```
+#[tactic(auto, unfolding(crate::specs::Archive::parents))]
+pub fn parents(alloc: Global, mail: &ParsedMail<'_>) -> Result<Vec<String>, MailParseError>
+    ensures read { GivesTexts result (parents (root (tree_of mail.now))) }
+    ensures distinct { IfOk result (λ ids. IsDistinct bytes_eq (map string_bytes ids.items)) }
+{
+    let mut ids = ids_of(alloc, mail, "References")?;
+    let mut replied = ids_of(alloc, mail, "In-Reply-To")?;
+    ids.append(&mut replied)?;
+    let ids = without_repeats(alloc, ids)?;
+    Ok(ids)
+}
+
+/// The ids in the first header that has this name.
+#[tactic(auto, unfolding(crate::specs::Archive::ids_of))]
+fn ids_of(alloc: Global, mail: &ParsedMail<'_>, name: &str) -> Result<Vec<String>, MailParseError>
+    ensures read { IfOk result (λ ids.
+        map string_bytes ids.items ≡ ids_of name.now (root (tree_of mail.now))) }
+    ensures only_memory { IfErr result IsMemory }
+{
+    let Some(text) = mail.headers.get_first_value(alloc, name)? else {
+        return Ok(Vec::new(alloc));
+    };
+    let ids = ids_in(alloc, text.as_str())?;
+    Ok(ids)
+}
+
+/// The ids, each where it stands first.
+fn without_repeats(alloc: Global, ids: Vec<String>) -> Result<Vec<String>, AllocError>
+    ensures { IfOk result (λ kept.
+        map string_bytes kept.items ≡ without_repeats (map string_bytes ids.items)) }
+{
+    let mut seen = BTreeSet::new(alloc);
+    let mut kept = Vec::new(alloc);
+    for id in ids {
+        if seen.insert(id.clone()?)? {
+            kept.push(id)?;
+        }
+    }
+    Ok(kept)
+}

@@ -1,0 +1,224 @@
+//! The recipients of a report on delivery.
+ghost use Rattle.std.specs.Prelude.{◌≡◌, ◌≤◌, codes, drop, length, map, IfErr, IfOk, Ok};
+ghost use Rattle.mailparse.specs.Map.{text_found};
+ghost use Rattle.mailparse.specs.Outcome.{AnswersOrMemory, IsMemory};
+ghost use Rattle.mailparse.specs.Views.{tree_of};
+ghost use Rattle.mail_data.specs.Bounce.{after_block, after_type, block_at, block_length, blocks};
+ghost use Rattle.mail_data.specs.Bounce.{deliveries, delivery_in, fields, recipients, status_part};
+ghost use Rattle.mail_data.specs.Bounce.{text_of, typed_text_of};
+ghost use Rattle.mail_data.specs.BounceViews.{delivery};
+ghost use Rattle.mail_data.specs.TextViews.{tree_found};
+
+use crate::forwarding::raw_body;
+use crate::lines::empty_line;
+use mail_codec::bytescan::find_byte;
+use mailparse::{MailHeader, MailHeaderMap, MailParseError, ParsedMail, parse_headers};
+use std::alloc::{AllocError, Global};
+
+/// What a report on delivery says of one recipient, as `recipients` returns it: the texts of its
+/// fields, and `None` where there is no such field (RFC 3464, section 2.3).
+#[derive(Drop)]
+pub struct Recipient {
+    /// The address that the report is on, without its type: `Final-Recipient`.
+    pub final_recipient: Option<String>,
+    /// The address that the sender wrote, without its type: `Original-Recipient`.
+    pub original_recipient: Option<String>,
+    /// What was done: `Action`, as `failed` or `delayed`.
+    pub action: Option<String>,
+    /// The status code: `Status`, as `5.1.1` (RFC 3463).
+    pub status: Option<String>,
+    /// What the other mail system said, without its type: `Diagnostic-Code`.
+    pub diagnostic_code: Option<String>,
+}
+
+/// Returns what a report on delivery says of each recipient, in order (RFC 3464, sections 2.1 to
+/// 2.3), or nothing where the mail is no such report.
+///
+/// The mail has to be a `multipart/report`, and the first of its own parts that is a
+/// `message/delivery-status` counts. Its fields stand in blocks with empty lines between them: the
+/// first block is on the message, each other one on a recipient. A field is found by its name, in
+/// any case, and its text is that of a header's value without whitespace around it; what stands up
+/// to the first `;` of an address or a diagnostic code is its type, and is left out. A block that
+/// `parse_headers` refuses counts as one without fields. A transfer coding, which such a part may
+/// not have, is not undone. Takes memory for the blocks, their headers and the texts.
+///
+/// # Errors
+///
+/// `MailParseError::Memory` where it runs out of memory.
+///
+/// # Examples
+///
+/// ```rust
+/// use mail_data::bounce::recipients;
+/// use mailparse::parse_mail;
+///
+/// let raw = b"Content-Type: multipart/report; boundary=b\n\n\
+///     --b\nContent-Type: message/delivery-status\n\n\
+///     Reporting-MTA: dns; mx.example.org\n\n\
+///     Final-Recipient: rfc822; ann@example.org\nAction: failed\nStatus: 5.1.1\n\n--b--\n";
+/// let mail = parse_mail(alloc, raw)?;
+/// for recipient in &recipients(alloc, &mail)? {
+///     let address = recipient.final_recipient.as_ref().ok_or("no address")?;
+///     assert_eq!(rt; address.as_str(), "ann@example.org");
+/// }
+/// ```
+#[tactic(auto, unfolding(crate::specs::Bounce::recipients))]
+pub fn recipients(alloc: Global, mail: &ParsedMail<'_>) -> Result<Vec<Recipient>, MailParseError>
+    ensures { AnswersOrMemory (λ found. map delivery found.items) result
+        (Ok (recipients (tree_of mail.now))) }
+{
+    let Some(part) = status_part(mail) else {
+        return Ok(Vec::new(alloc));
+    };
+    let status = raw_body(alloc, part)?;
+    let found = deliveries(alloc, status)?;
+    Ok(found)
+}
+
+/// The part that has the status of a delivery, if there is one.
+fn status_part<'m, 'a>(mail: &'m ParsedMail<'a>) -> Option<&'m ParsedMail<'a>>
+    ensures { tree_found result ≡ status_part (tree_of mail.now) }
+{
+    if mail.ctype.mimetype.as_str() != "multipart/report" {
+        return None;
+    }
+    for part in &mail.subparts {
+        if part.ctype.mimetype.as_str() == "message/delivery-status" {
+            return Some(part);
+        }
+    }
+    None
+}
+
+/// What the status of a delivery says of each recipient.
+#[tactic(auto, unfolding(crate::specs::Bounce::deliveries))]
+fn deliveries(alloc: Global, status: &[u8]) -> Result<Vec<Recipient>, MailParseError>
+    ensures read { IfOk result (λ found. map delivery found.items ≡ deliveries status.now) }
+    ensures only_memory { IfErr result IsMemory }
+{
+    let mut found = Vec::new(alloc);
+    let blocks = blocks(alloc, status)?;
+    let Some((_, others)) = blocks.as_slice().split_first() else {
+        return Ok(found);
+    };
+    for block in others {
+        let headers = fields(alloc, block)?;
+        found.push(recipient_in(alloc, &headers)?)?;
+    }
+    Ok(found)
+}
+
+/// What stands between empty lines, where something does.
+fn blocks<'s>(alloc: Global, status: &'s [u8]) -> Result<Vec<&'s [u8]>, AllocError>
+    ensures { IfOk result (λ found. map (λ block. block.now) found.items ≡ blocks status.now) }
+{
+    let mut found = Vec::new(alloc);
+    let mut rest = status;
+    'pieces: while !rest.is_empty() {
+        let (block, after) = cut_block(rest);
+        if !block.is_empty() {
+            found.push(block)?;
+        }
+        rest = after;
+    }
+    Ok(found)
+}
+
+/// What stands before the first empty line, and what follows it.
+fn cut_block(bytes: &[u8]) -> (&[u8], &[u8])
+    ensures block { result.0.now ≡ block_at bytes.now }
+    ensures after { result.1.now ≡ after_block bytes.now }
+{
+    let (block, rest) = bytes.split_at(block_length(bytes));
+    let (_, after) = rest.split_at(empty_line(rest));
+    (block, after)
+}
+
+/// How many bytes stand before the first empty line.
+fn block_length(bytes: &[u8]) -> usize
+    ensures value { result ≡ block_length bytes.now }
+    ensures bounds { result ≤ length bytes.now }
+{
+    let mut at = 0;
+    'lines: while empty_line(&bytes[at..]) == 0 {
+        let Some(place) = find_byte(&bytes[at..], b'\n') else {
+            return bytes.len();
+        };
+        at += place + 1;
+    }
+    at
+}
+
+/// The fields of a block; none where it is refused.
+#[tactic(auto, unfolding(crate::specs::Bounce::fields))]
+fn fields<'s>(alloc: Global, block: &'s [u8]) -> Result<Vec<MailHeader<'s>>, MailParseError>
+    ensures read { IfOk result (λ headers. headers.items ≡ fields block.now) }
+    ensures only_memory { IfErr result IsMemory }
+{
+    match parse_headers(alloc, block) {
+        Ok((headers, _)) => Ok(headers),
+        Err(MailParseError::Memory(error)) => Err(MailParseError::Memory(error)),
+        Err(_) => Ok(Vec::new(alloc)),
+    }
+}
+
+/// What these fields say of a recipient.
+fn recipient_in(alloc: Global, headers: &Vec<MailHeader<'_>>) -> Result<Recipient, MailParseError>
+    ensures read { IfOk result (λ recipient. delivery recipient ≡ delivery_in headers.now.items) }
+    ensures only_memory { IfErr result IsMemory }
+{
+    Ok(Recipient {
+        final_recipient: typed_text_of(alloc, headers, "Final-Recipient")?,
+        original_recipient: typed_text_of(alloc, headers, "Original-Recipient")?,
+        action: text_of(alloc, headers, "Action")?,
+        status: text_of(alloc, headers, "Status")?,
+        diagnostic_code: typed_text_of(alloc, headers, "Diagnostic-Code")?,
+    })
+}
+
+/// The text of the first field that has this name, without whitespace around it.
+#[tactic(auto, unfolding(crate::specs::Bounce::text_of))]
+fn text_of(
+    alloc: Global,
+    headers: &Vec<MailHeader<'_>>,
+    name: &str,
+) -> Result<Option<String>, MailParseError>
+    ensures read { IfOk result (λ found. text_found found ≡ text_of name.now headers.now.items) }
+    ensures only_memory { IfErr result IsMemory }
+{
+    match headers.get_first_value(alloc, name)? {
+        Some(text) => Ok(Some(String::from_str(alloc, text.as_str().trim())?)),
+        None => Ok(None),
+    }
+}
+
+/// The text of such a field after the type that a `;` ends, without whitespace around it.
+#[tactic(auto, unfolding(crate::specs::Bounce::typed_text_of))]
+fn typed_text_of(
+    alloc: Global,
+    headers: &Vec<MailHeader<'_>>,
+    name: &str,
+) -> Result<Option<String>, MailParseError>
+    ensures read { IfOk result (λ found.
+        text_found found ≡ typed_text_of name.now headers.now.items) }
+    ensures only_memory { IfErr result IsMemory }
+{
+    match headers.get_first_value(alloc, name)? {
+        Some(text) => {
+            let text = after_type(text.as_str()).trim();
+            Ok(Some(String::from_str(alloc, text)?))
+        }
+        None => Ok(None),
+    }
+}
+
+/// What follows the first `;` of a text, or the whole text where there is none.
+#[tactic(auto, unfolding(crate::specs::Bounce::after_type))]
+fn after_type(text: &str) -> &str
+    ensures { result.now ≡ after_type text.now }
+{
+    match text.split_once(';') {
+        Some((_, rest)) => rest,
+        None => text,
+    }
+}

@@ -1,0 +1,11 @@
+use Rattle.std.proofs.Common.{◌≡◌, ◌++◌, filter, map}
+use Rattle.mailparse.specs.Views.{tree_of}
+use Rattle.mail_data.specs.Bounce.{recipients}
+use Rattle.mail_data.specs.BounceViews.{delivery}
+use Rattle.mail_jobs.specs.Bounces.{has_failed}
+use Rattle.mail_jobs.proofs.bounces.failed_recipients.Given as goal
+
+-- those who failed so far, and then those of the recipients that are left, are all
+abbrev pub invariant-loop-recipient : goal.invariant-loop-recipient
+invariant-loop-recipient l =
+    map delivery l.failed.items ++ filter has_failed (map delivery l.recipient-iterator.rest.items) ≡ filter has_failed (recipients (tree_of l.mail))

@@ -1,0 +1,2 @@
+pub mod Attachments
+pub mod Bounces

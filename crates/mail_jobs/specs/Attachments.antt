@@ -1,0 +1,44 @@
+-- The files of a mail as they are stored; the program's own choice.
+use Rattle.std.specs.Prelude.{ℕ, List, None, codes, map}
+use Rattle.std.specs.Option.{unwrap_or}
+use Rattle.mail_codec.specs.QuotedPrintable.{quoted_printable}
+use Rattle.mailparse.specs.Body.{BodyKind, in_base64, in_quoted_printable, in_7bit, in_8bit, in_binary}
+use Rattle.mailparse.specs.Mail.{Node, Tree, root}
+use Rattle.mail_data.specs.Base64Front.{Front, base64_front}
+use Rattle.mail_data.specs.FileNames.{safe_name}
+use Rattle.mail_data.specs.Files.{attachments, file_name}
+use Rattle.mail_data.specs.LooseCoding.{loose_body_kind}
+
+-- a file that is stored: where its part stands, its name, and as much of its bytes as can be read
+pub record Stored : Type 0 where
+  pub path : List ℕ
+  pub name : List ℕ
+  pub content : Front
+
+-- the name under which a part is stored
+unfoldable pub stored_name : Node → List ℕ
+stored_name node = safe_name (unwrap_or (file_name node) (codes "unnamed"))
+
+-- bytes that were all read
+abbrev pub whole : List ℕ → Front
+whole bytes = record { bytes = bytes; fault = None }
+
+-- what can be read of a body in this coding: of Base64 what stands before a damage
+abbrev pub readable : BodyKind → List ℕ → Front
+readable in_base64 body = base64_front body
+readable in_quoted_printable body = whole (quoted_printable body)
+readable in_7bit body = whole body
+readable in_8bit body = whole body
+readable in_binary body = whole body
+
+-- the bytes of a part that are stored
+abbrev pub stored_content : Node → Front
+stored_content node = readable (loose_body_kind node) node.body
+
+-- a part that has this path, as it is stored
+abbrev pub stored : List ℕ × Tree → Stored
+stored p = record { path = p.0; name = stored_name (root p.1); content = stored_content (root p.1) }
+
+-- the files of a mail
+abbrev pub stored_files : Tree → List Stored
+stored_files mail = map stored (attachments mail)

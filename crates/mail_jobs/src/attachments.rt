@@ -1,0 +1,87 @@
+//! The files of a mail, each with a name that is safe and the bytes that can be read.
+ghost use Rattle.std.specs.Prelude.{◌≡◌, map, string_bytes, All, IfOk, Ok};
+ghost use Rattle.mailparse.specs.Mail.{root};
+ghost use Rattle.mailparse.specs.Outcome.{AnswersOrMemory, GivesText};
+ghost use Rattle.mailparse.specs.Views.{tree_of};
+ghost use Rattle.mail_data.specs.Base64FrontViews.{front_of};
+ghost use Rattle.mail_data.specs.FileNames.{IsSafeName};
+ghost use Rattle.mail_data.specs.FileViews.{attachment_view};
+ghost use Rattle.mail_jobs.specs.Attachments.{stored, stored_content, stored_files, stored_name, whole};
+ghost use Rattle.mail_jobs.specs.AttachmentViews.{stored_view};
+
+use mail_data::files::{Attachment, attachments, file_name, safe_file_name};
+use mail_data::lenient::{Base64Front, base64_front, loose_body};
+use mailparse::body::Body;
+use mailparse::{MailParseError, ParsedMail};
+use std::alloc::Global;
+
+/// A file of a mail, ready to be stored.
+#[derive(Drop)]
+pub struct StoredFile {
+    /// Where its part stands in the mail, as IMAP numbers parts.
+    pub path: String,
+    /// A name that is safe in any folder, `unnamed` where the mail gives none.
+    pub name: String,
+    /// Its bytes, and where its Base64 is damaged, those before the damage.
+    pub content: Base64Front,
+}
+
+/// The files of a mail, in the order in which they stand.
+pub fn stored_files(alloc: Global, mail: &ParsedMail<'_>) -> Result<Vec<StoredFile>, MailParseError>
+    ensures read { AnswersOrMemory (λ files. map stored_view files.items) result
+        (Ok (stored_files (tree_of mail.now))) }
+    ensures safe { IfOk result (λ files.
+        All (λ file. IsSafeName (string_bytes file.name)) files.items) }
+{
+    let mut files = Vec::new(alloc);
+    for file in attachments(alloc, mail)? {
+        files.push(stored(alloc, file)?)?;
+    }
+    Ok(files)
+}
+
+/// A file of a mail, as it is stored.
+fn stored(alloc: Global, file: Attachment<'_, '_>) -> Result<StoredFile, MailParseError>
+    ensures read { AnswersOrMemory stored_view result (Ok (stored (attachment_view file.entry))) }
+    ensures safe { IfOk result (λ kept. IsSafeName (string_bytes kept.name)) }
+{
+    Ok(StoredFile {
+        path: file.path,
+        name: stored_name(alloc, file.part)?,
+        content: stored_content(alloc, file.part)?,
+    })
+}
+
+/// The name of a file, made safe.
+#[tactic(auto, unfolding(crate::specs::Attachments::stored_name))]
+fn stored_name(alloc: Global, part: &ParsedMail<'_>) -> Result<String, MailParseError>
+    ensures read { GivesText result (stored_name (root (tree_of part.now))) }
+    ensures safe { IfOk result (λ name. IsSafeName (string_bytes name)) }
+{
+    let name = match file_name(alloc, part)? {
+        Some(name) => safe_file_name(alloc, name.as_str())?,
+        None => safe_file_name(alloc, "unnamed")?,
+    };
+    Ok(name)
+}
+
+/// The bytes of a file as far as they can be read.
+#[tactic(auto, unfolding(mailparse::specs::Body::decoded))]
+fn stored_content(alloc: Global, part: &ParsedMail<'_>) -> Result<Base64Front, MailParseError>
+    ensures { AnswersOrMemory front_of result (Ok (stored_content (root (tree_of part.now)))) }
+{
+    match loose_body(alloc, part)? {
+        Body::Base64(body) => Ok(base64_front(alloc, body.get_raw())?),
+        Body::QuotedPrintable(body) => Ok(whole(body.get_decoded(alloc)?)),
+        Body::SevenBit(body) => Ok(whole(body.get_raw().to_vec(alloc)?)),
+        Body::EightBit(body) => Ok(whole(body.get_raw().to_vec(alloc)?)),
+        Body::Binary(body) => Ok(whole(body.get_raw().to_vec(alloc)?)),
+    }
+}
+
+/// Bytes that were all read.
+fn whole(bytes: Vec<u8>) -> Base64Front
+    ensures { front_of result ≡ whole bytes.items }
+{
+    Base64Front { bytes, fault: None }
+}

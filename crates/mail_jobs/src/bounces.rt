@@ -1,0 +1,38 @@
+//! The recipients that a mail did not reach, by the report on its delivery.
+ghost use Rattle.std.specs.Prelude.{◌≡◌, filter, map, Ok};
+ghost use Rattle.mailparse.specs.Outcome.{AnswersOrMemory};
+ghost use Rattle.mailparse.specs.Views.{tree_of};
+ghost use Rattle.mail_data.specs.Bounce.{recipients};
+ghost use Rattle.mail_data.specs.BounceViews.{delivery};
+ghost use Rattle.mail_jobs.specs.Bounces.{has_failed};
+
+use mail_data::bounce::{Recipient, recipients};
+use mailparse::{MailParseError, ParsedMail};
+use std::alloc::Global;
+
+/// The recipients for whom delivery failed for good, in order; none where the mail is no report.
+pub fn failed_recipients(
+    alloc: Global,
+    mail: &ParsedMail<'_>,
+) -> Result<Vec<Recipient>, MailParseError>
+    ensures { AnswersOrMemory (λ failed. map delivery failed.items) result
+        (Ok (filter has_failed (recipients (tree_of mail.now)))) }
+{
+    let mut failed = Vec::new(alloc);
+    for recipient in recipients(alloc, mail)? {
+        if has_failed(&recipient) {
+            failed.push(recipient)?;
+        }
+    }
+    Ok(failed)
+}
+
+/// Whether the action of a recipient is `failed`.
+fn has_failed(recipient: &Recipient) -> bool
+    ensures { result ≡ has_failed (delivery recipient.now) }
+{
+    match &recipient.action {
+        Some(action) => action.eq_ignore_ascii_case("failed"),
+        None => false,
+    }
+}

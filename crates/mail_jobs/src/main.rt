@@ -1,0 +1,26 @@
+//! Four jobs on a mailbox, as callers of the library: the index of each mail, its files, the
+//! recipients that it says were not reached, and its place in a thread.
+//!
+//! It reads a mailbox from standard input and writes a few lines for each mail. A mail that is
+//! refused is a line with its error, and the next one is read.
+#![tactic(auto)]
+
+mod attachments;
+mod bounces;
+mod indexer;
+mod report;
+mod threads;
+
+use mail_data::mailbox::read_mailbox;
+use report::report;
+use std::io::Read;
+
+fn main(rt: HostRuntime) -> anyhow::Result<()> {
+    let alloc = rt.alloc();
+    let mut mailbox = Vec::new(alloc);
+    rt.reader().read_to_end(&mut mailbox)?;
+    for entry in read_mailbox(mailbox.as_slice()) {
+        print!(rt; "{}", report(alloc, entry.mail())?)?;
+    }
+    Ok(())
+}

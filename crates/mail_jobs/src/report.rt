@@ -1,0 +1,77 @@
+//! The lines that the program writes for a mail. Texts of the mail are quoted and their control
+//! characters escaped, so that no mail can forge a line or move the cursor.
+
+use crate::attachments::{StoredFile, stored_files};
+use crate::bounces::failed_recipients;
+use crate::indexer::{IndexEntry, index_entry};
+use crate::threads::thread_place;
+use mail_tables::TABLES;
+use mailparse::{MailParseError, parse_mail_with};
+use std::alloc::{AllocError, Global};
+
+/// The lines of a mail, or one that says why it is refused.
+pub fn report(alloc: Global, mail: &[u8]) -> Result<String, AllocError> {
+    match lines_of(alloc, mail) {
+        Ok(lines) => Ok(lines),
+        Err(MailParseError::Memory(error)) => Err(error),
+        Err(error) => format!(in alloc; "refused: {error}\n\n"),
+    }
+}
+
+/// The lines of a mail: its index, its files, who was not reached, its parents, and an empty one.
+fn lines_of(alloc: Global, mail: &[u8]) -> Result<String, MailParseError> {
+    let mail = parse_mail_with(alloc, mail, &TABLES)?;
+    let mut lines = String::new(alloc);
+    push_entry(&mut lines, &index_entry(alloc, &mail, &TABLES)?)?;
+    for file in stored_files(alloc, &mail)?.as_slice() {
+        push_file(&mut lines, file)?;
+    }
+    for recipient in failed_recipients(alloc, &mail)?.as_slice() {
+        push_text(&mut lines, "not reached", &recipient.final_recipient)?;
+    }
+    for parent in thread_place(alloc, &mail)?.parents.as_slice() {
+        write!(lines, "parent: {:?}\n", parent.as_str())?;
+    }
+    lines.push('\n')?;
+    Ok(lines)
+}
+
+/// Writes the lines of an index entry.
+fn push_entry(lines: &mut String, entry: &IndexEntry) -> Result<(), AllocError> {
+    push_text(lines, "subject", &entry.subject)?;
+    push_text(lines, "from", &entry.from)?;
+    match &entry.date {
+        Some(Ok(seconds)) => write!(lines, "date: {seconds}\n")?,
+        Some(Err(error)) => write!(lines, "date: refused: {error}\n")?,
+        None => {}
+    }
+    push_text(lines, "id", &entry.message_id)?;
+    match &entry.text {
+        Some(Ok(text)) => write!(lines, "text: {:?}\n", text.as_str()),
+        Some(Err(error)) => write!(lines, "text: refused: {error}\n"),
+        None => Ok(()),
+    }
+}
+
+/// Writes the line of a text, if there is one.
+fn push_text(lines: &mut String, name: &str, text: &Option<String>) -> Result<(), AllocError> {
+    match text {
+        Some(text) => write!(lines, "{name}: {:?}\n", text.as_str()),
+        None => Ok(()),
+    }
+}
+
+/// Writes the line of a file.
+fn push_file(lines: &mut String, file: &StoredFile) -> Result<(), AllocError> {
+    let size = file.content.bytes.len();
+    write!(
+        lines,
+        "file {}: {:?}, {size} bytes",
+        file.path,
+        file.name.as_str()
+    )?;
+    match file.content.fault {
+        Some(group) => write!(lines, ", and no Base64 from group {group} on\n"),
+        None => lines.push('\n'),
+    }
+}

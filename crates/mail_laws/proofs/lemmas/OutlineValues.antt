@@ -1,0 +1,163 @@
+-- The values of an outline, as they are written: a header can carry each, and each shows its text.
+use Rattle.std.proofs.Common.{◌≡◌, ◌⊎◌, inl, inr, ℕ, ◌+◌, ◌≤◌, Bool, true, false, cond, ◌&&◌, List, [], ◌∷◌, ◌++◌, length, map, refl, sym, ap, subst, ◌∙◌, arith, append_assoc, length-append}
+use Rattle.std.specs.Prelude.{codes}
+use Rattle.std.specs.List.{list_all}
+use Rattle.std.specs.Str.{chars, IsUtf8, is_utf8}
+use Rattle.std.proofs.lemmas.Bool.{and_parts, and_left, cond-true, cond-false, false_from_ne_true, ne_eqb}
+use Rattle.std.proofs.lemmas.Str.{IsUtf8-from_is_utf8, is_utf8-from_IsUtf8}
+use Rattle.mail_codec.specs.Ascii.{is_blank}
+use Rattle.mail_codec.specs.Charset.{Charsets, four_charsets}
+use Rattle.mail_codec.specs.Places.{first_place, begins, stands}
+use Rattle.mail_codec.proofs.lemmas.Places.{first_place-past}
+use Rattle.mailparse.specs.Header.{Header, ends_header, is_line_end}
+use Rattle.mailparse.specs.Value.{lenient_value_in}
+use Rattle.mailparse.proofs.lemmas.Header.{is_line_end-false}
+use Rattle.mail_laws.specs.EncodedValues.{KnowUtf8, encoded_word, is_plain_value, word_lines, words_of, written_value}
+use Rattle.mail_laws.specs.Outlines.{is_key, shown_header, written_bytes, written_headers}
+use Rattle.mail_laws.proofs.lemmas.EncodedValuesRead.{AreTexts, AreVisible, text_words, word_visible, written_reads}
+use Rattle.mail_laws.proofs.lemmas.OutlineHeaders.{IsValue, AreValues, last_feed, plain_is_value}
+
+-- ---- the lines of encoded words
+
+-- printable bytes at which a test fails are passed over
+over_visible : (test : List ℕ → Bool) → ((b : ℕ) (bs : List ℕ) → 33 ≤ b → test (b ∷ bs) ≡ false)
+    → (front rest : List ℕ) → AreVisible front → first_place test (front ++ rest) ≡ length front + first_place test rest
+over_visible test fails [] rest h = omega arith
+over_visible test fails (b ∷ front) rest h =
+    let past = first_place-past test b (front ++ rest) (fails b (front ++ rest) h.0.0) in
+    let more = over_visible test fails front rest h.1 in
+    omega arith
+
+visible_no_feed : (b : ℕ) (bs : List ℕ) → 33 ≤ b → ends_header (b ∷ bs) ≡ false
+visible_no_feed b bs low = and_left _ _ (ne_eqb b 10 (λ e. absurd (omega (arith, low))))
+
+visible_stays : (b : ℕ) (bs : List ℕ) → 33 ≤ b → list_all is_line_end (b ∷ bs) ≡ false
+visible_stays b bs low =
+    and_left (is_line_end b) _ (is_line_end-false b (λ e. absurd (omega (arith, low))) (λ e. absurd (omega (arith, low))))
+
+-- the first word, the line end with its space, and the other words, before a rest
+words_before : (w v : List ℕ) (ws : List (List ℕ)) (rest : List ℕ)
+    → word_lines (w ∷ v ∷ ws) ++ rest ≡ encoded_word w ++ 13 ∷ 10 ∷ 32 ∷ (word_lines (v ∷ ws) ++ rest)
+words_before w v ws rest = append_assoc (encoded_word w) (13 ∷ 10 ∷ 32 ∷ word_lines (v ∷ ws)) rest
+
+words_length : (w v : List ℕ) (ws : List (List ℕ)) → length (word_lines (w ∷ v ∷ ws)) ≡ length (encoded_word w) + (3 + length (word_lines (v ∷ ws)))
+words_length w v ws = let e = length-append (encoded_word w) (13 ∷ 10 ∷ 32 ∷ word_lines (v ∷ ws)) in e ∙ omega arith
+
+words_end : (ws : List (List ℕ)) → AreTexts ws → (rest : List ℕ) → begins is_blank rest ≡ false
+    → first_place ends_header (word_lines ws ++ 13 ∷ 10 ∷ rest) ≡ length (word_lines ws) + 1
+words_end [] h rest no_blank = last_feed rest no_blank
+words_end (w ∷ []) h rest no_blank =
+    over_visible ends_header visible_no_feed (encoded_word w) (13 ∷ 10 ∷ rest) (word_visible w h.0)
+    ∙ ap (λ n. length (encoded_word w) + n) (last_feed rest no_blank)
+words_end (w ∷ v ∷ ws) h rest no_blank =
+    let more = word_lines (v ∷ ws) ++ 13 ∷ 10 ∷ rest in
+    let first = ap (first_place ends_header) (words_before w v ws (13 ∷ 10 ∷ rest))
+    ∙ over_visible ends_header visible_no_feed (encoded_word w) (13 ∷ 10 ∷ 32 ∷ more) (word_visible w h.0) in
+    let return = first_place-past ends_header 13 (10 ∷ 32 ∷ more) refl in
+    let feed = first_place-past ends_header 10 (32 ∷ more) refl in
+    let space = first_place-past ends_header 32 more refl in
+    let others = words_end (v ∷ ws) h.1 rest no_blank in
+    let size = words_length w v ws in
+    omega arith
+
+words_whole : (ws : List (List ℕ)) → AreTexts ws → first_place (list_all is_line_end) (word_lines ws ++ 13 ∷ []) ≡ length (word_lines ws)
+words_whole [] h = refl
+words_whole (w ∷ []) h =
+    let passed : first_place (list_all is_line_end) (encoded_word w ++ 13 ∷ []) ≡ length (encoded_word w) + 0 =
+    over_visible (list_all is_line_end) visible_stays (encoded_word w) (13 ∷ []) (word_visible w h.0) in
+    passed ∙ omega arith
+words_whole (w ∷ v ∷ ws) h =
+    let more = word_lines (v ∷ ws) ++ 13 ∷ [] in
+    let first = ap (first_place (list_all is_line_end)) (words_before w v ws (13 ∷ []))
+    ∙ over_visible (list_all is_line_end) visible_stays (encoded_word w) (13 ∷ 10 ∷ 32 ∷ more) (word_visible w h.0) in
+    let return = first_place-past (list_all is_line_end) 13 (10 ∷ 32 ∷ more) refl in
+    let feed = first_place-past (list_all is_line_end) 10 (32 ∷ more) refl in
+    let space = first_place-past (list_all is_line_end) 32 more refl in
+    let others = words_whole (v ∷ ws) h.1 in
+    let size = words_length w v ws in
+    omega arith
+
+words_no_space : (ws : List (List ℕ)) → stands (codes " ") (word_lines ws) ≡ false
+words_no_space [] = refl
+words_no_space (w ∷ []) = refl
+words_no_space (w ∷ v ∷ ws) = refl
+
+words_are_value : (ws : List (List ℕ)) → AreTexts ws → IsValue (word_lines ws)
+words_are_value ws h = record { no_space = words_no_space ws; ends = words_end ws h; whole = words_whole ws h }
+
+-- ---- any value
+
+text_is_value : (text : List ℕ) → IsUtf8 text → IsValue (written_value text)
+unfolding written_value
+text_is_value text utf8 = go (is_plain_value text) refl
+  where
+    go : (t : Bool) → is_plain_value text ≡ t → IsValue (cond t text (word_lines (words_of (chars text))))
+    go true e = plain_is_value text e
+    go false e = words_are_value (words_of (chars text)) (text_words text utf8)
+
+-- UTF-8 is written as a text
+written_text : (value : List ℕ) → is_utf8 value ≡ true → written_bytes value ≡ written_value value
+written_text value utf8 = cond-true _ (written_value value) value utf8
+
+pub text_written : (value text : List ℕ) → text ≡ value → IsUtf8 value → written_value text ≡ written_bytes value
+text_written value text same utf8 = ap written_value same ∙ sym (written_text value (is_utf8-from_IsUtf8 value utf8))
+
+-- and other bytes as they are
+pub bytes_written : (value : List ℕ) → (IsUtf8 value → ⊥) → value ≡ written_bytes value
+bytes_written value other = sym (cond-false _ (written_value value) value (false_from_ne_true _ (λ e. other (IsUtf8-from_is_utf8 value e))))
+
+pub written_are_values : (headers : List Header) → list_all (λ h. is_utf8 h.value) headers ≡ true → AreValues (written_headers headers)
+written_are_values [] texts = tt
+written_are_values (h ∷ headers) texts =
+    let both = and_parts (is_utf8 h.value) (list_all (λ x. is_utf8 x.value) headers) texts in (
+      subst IsValue (sym (written_text h.value both.0)) (text_is_value h.value (IsUtf8-from_is_utf8 h.value both.0)),
+      written_are_values headers both.1,
+    )
+
+-- their keys stay
+pub written_keys : (headers : List Header) → list_all (λ h. is_key h.key) headers ≡ true → list_all (λ h. is_key h.key) (written_headers headers) ≡ true
+written_keys [] keys = refl
+written_keys (h ∷ headers) keys =
+    let both = and_parts (is_key h.key) (list_all (λ x. is_key x.key) headers) keys in
+    ap (λ t. t && list_all (λ x. is_key x.key) (written_headers headers)) both.0 ∙ written_keys headers both.1
+
+-- the values of headers show their texts
+abbrev pub AreShown : Charsets → List Header → Type 0
+AreShown known [] = Unit {0}
+AreShown known (h ∷ headers) = (lenient_value_in known (written_bytes h.value) ≡ h.value) × AreShown known headers
+
+pub written_are_shown : (known : Charsets) (headers : List Header) → KnowUtf8 known ⊎ (list_all (λ h. is_plain_value h.value) headers ≡ true)
+    → list_all (λ h. is_utf8 h.value) headers ≡ true → AreShown known headers
+written_are_shown known [] able texts = tt
+written_are_shown known (h ∷ headers) able texts =
+    let both = and_parts (is_utf8 h.value) (list_all (λ x. is_utf8 x.value) headers) texts in
+    let here : KnowUtf8 known ⊎ (is_plain_value h.value ≡ true) = first able in (
+      ap (lenient_value_in known) (written_text h.value both.0) ∙ written_reads known h.value here (IsUtf8-from_is_utf8 h.value both.0),
+      written_are_shown known headers (others able) both.1,
+    )
+  where
+    first : KnowUtf8 known ⊎ (list_all (λ x. is_plain_value x.value) (h ∷ headers) ≡ true) → KnowUtf8 known ⊎ (is_plain_value h.value ≡ true)
+    first (inl knows) = inl knows
+    first (inr plain) = inr (and_parts (is_plain_value h.value) (list_all (λ x. is_plain_value x.value) headers) plain).0
+
+    others : KnowUtf8 known ⊎ (list_all (λ x. is_plain_value x.value) (h ∷ headers) ≡ true) → KnowUtf8 known ⊎ (list_all (λ x. is_plain_value x.value) headers ≡ true)
+    others (inl knows) = inl knows
+    others (inr plain) = inr (and_parts (is_plain_value h.value) (list_all (λ x. is_plain_value x.value) headers) plain).1
+
+-- headers that show their texts are had again from what is written
+pub headers_again : (known : Charsets) (headers : List Header) → AreShown known headers → map (shown_header known) (written_headers headers) ≡ headers
+headers_again known [] shown = refl
+headers_again known (h ∷ headers) shown =
+    ap (λ (v : List ℕ). with_value v ∷ map (shown_header known) (written_headers headers)) shown.0
+    ∙ ap (λ hs. h ∷ hs) (headers_again known headers shown.1)
+  where
+    with_value : List ℕ → Header
+    with_value v = record { key = h.key; value = v }
+
+-- so headers that are written alike are the same
+pub same_headers : (one two : List Header) → list_all (λ h. is_utf8 h.value) one ≡ true → list_all (λ h. is_utf8 h.value) two ≡ true
+    → written_headers one ≡ written_headers two → one ≡ two
+same_headers one two texts others same =
+    sym (headers_again four_charsets one (written_are_shown four_charsets one (inl refl) texts))
+    ∙ ap (map (shown_header four_charsets)) same
+    ∙ headers_again four_charsets two (written_are_shown four_charsets two (inl refl) others)

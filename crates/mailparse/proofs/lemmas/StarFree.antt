@@ -1,0 +1,169 @@
+-- Where no key holds a star, the parameters are the pairs.
+use Rattle.std.proofs.Common.{◌≡◌, ◌<◌, ℕ, suc, Bool, true, false, cond, not, ◌&&◌, ◌||◌, eqb, ltb, List, [], ◌∷◌, ◌++◌, ◌==◌, length, map, Option, Some, None, BTreeMap, String, refl, sym, ap, ◌∙◌, arith}
+use Rattle.std.proofs.lemmas.Bool.{cond-false, false≢true, and_right, lt-ltb, le-ltb}
+use Rattle.std.proofs.lemmas.Slice.Eq.{bytes_eq-Decides}
+use Rattle.std.specs.Borrow.{Bor}
+use Rattle.std.specs.Global.{Global}
+use Rattle.std.specs.List.{list_any}
+use Rattle.std.specs.Option.{is_some, option_map, option_or, option_map_or}
+use Rattle.std.specs.Prelude.{string_bytes}
+use Rattle.std.specs.Str.{bytes_eq}
+use Rattle.mail_codec.specs.Charset.{Charsets}
+use Rattle.mail_codec.specs.Places.{begins, byte_place, first_place}
+use Rattle.mail_codec.proofs.lemmas.Places.{first_place-here, first_place-past}
+use Rattle.mailparse.specs.Continuations.{is_first_of, is_base, is_used, sections_of, joined, joined_at, names_of, parameters_in}
+use Rattle.mailparse.specs.ExtendedValues.{has_left, section_at, starred, is_starred, name_under, is_extended, octets_of, reading_of}
+use Rattle.mailparse.specs.Sections.{text, octets, alone, is_star, numbered, section_name}
+use Rattle.mailparse.specs.Pairs.{Texts, last_of, text_at}
+use Rattle.mailparse.specs.private.Continuations.{has_star, names_in}
+use Rattle.mailparse.specs.private.Filled.{holds_name, shown_name}
+use Rattle.mailparse.proofs.lemmas.Sections.{unnamed}
+
+-- ---- the search for a star
+
+found : (test : ℕ → Bool) (bytes : List ℕ) → list_any test bytes ≡ true → first_place (begins test) bytes < length bytes
+found test [] h = absurd (false≢true h)
+found test (b ∷ bytes) h = go (test b) refl h (found test bytes)
+  where
+    go : (v : Bool) → test b ≡ v → (v || list_any test bytes) ≡ true → (list_any test bytes ≡ true → first_place (begins test) bytes < length bytes)
+        → first_place (begins test) (b ∷ bytes) < suc (length bytes)
+    go true e h more = let here = first_place-here (begins test) (b ∷ bytes) e in omega arith
+    go false e h more =
+        let past = first_place-past (begins test) b bytes e in
+        let later = more h in
+        omega arith
+
+missing : (test : ℕ → Bool) (bytes : List ℕ) → list_any test bytes ≡ false → first_place (begins test) bytes ≡ length bytes
+missing test [] h = refl
+missing test (b ∷ bytes) h = go (test b) refl h (missing test bytes)
+  where
+    go : (v : Bool) → test b ≡ v → (v || list_any test bytes) ≡ false → (list_any test bytes ≡ false → first_place (begins test) bytes ≡ length bytes)
+        → first_place (begins test) (b ∷ bytes) ≡ suc (length bytes)
+    go true e h more = absurd (false≢true (sym h))
+    go false e h more =
+        let past = first_place-past (begins test) b bytes e in
+        let later = more h in
+        omega arith
+
+pub star_found : (name : List ℕ) → is_some (byte_place name 42) ≡ has_star name
+star_found name = go (has_star name) refl
+  where
+    go : (v : Bool) → has_star name ≡ v → is_some (byte_place name 42) ≡ has_star name
+    go true e =
+        ap (λ t. is_some (cond t (Some (first_place (begins (λ b. b == 42)) name)) None)) (lt-ltb (first_place (begins (λ b. b == 42)) name) (length name) (found is_star name e)) ∙ sym e
+    go false e =
+        let none : first_place (begins (λ b. b == 42)) name ≡ length name = missing is_star name e in
+        ap (λ t. is_some (cond t (Some (first_place (begins (λ b. b == 42)) name)) None)) (le-ltb (first_place (begins (λ b. b == 42)) name) (length name) (omega (arith, none))) ∙ sym e
+
+-- ---- names without a star
+
+pub another_key : (key name : List ℕ) → has_star key ≡ false → has_star name ≡ true → bytes_eq key name ≡ false
+another_key key name free some = go (bytes_eq key name) refl
+  where
+    go : (t : Bool) → bytes_eq key name ≡ t → bytes_eq key name ≡ false
+    go true e = absurd (false≢true (sym free ∙ ap has_star ((bytes_eq-Decides key name).0 e) ∙ some))
+    go false e = e
+
+not_held : (names : List (List ℕ)) (name : List ℕ) → list_any has_star names ≡ false → has_star name ≡ true → holds_name names name ≡ false
+not_held [] name free some = refl
+not_held (key ∷ names) name free some = go (has_star key) refl free (λ h. not_held names name h some)
+  where
+    go : (t : Bool) → has_star key ≡ t → (has_star key || list_any has_star names) ≡ false → (list_any has_star names ≡ false → holds_name names name ≡ false)
+        → holds_name (key ∷ names) name ≡ false
+    go true e h rest = absurd (false≢true (sym h ∙ ap (λ s. s || list_any has_star names) e))
+    go false e h rest =
+        ap (λ s. s || holds_name names name) (another_key key name e some)
+        ∙ rest (sym (ap (λ s. s || list_any has_star names) e) ∙ h)
+
+-- a map whose names hold no star has nothing at a name with one
+pub nothing_starred : (m : BTreeMap (String Global) (String Global)) (name : List ℕ) → list_any has_star (names_in m) ≡ false → has_star name ≡ true → text_at m name ≡ None
+nothing_starred m name free some = ap (option_map string_bytes) (unnamed name m (not_held (names_in m) name free some))
+
+pub free_of : (t : Bool) → not t ≡ true → t ≡ false
+free_of true h = absurd (false≢true h)
+free_of false h = refl
+
+-- one more name
+pub star_more : (yielded : List (Bor (String Global) × Bor (String Global))) (e : Bor (String Global) × Bor (String Global)) (so here : Bool)
+    → so ≡ list_any has_star (map shown_name yielded) → here ≡ has_star (shown_name e)
+    → (so || here) ≡ list_any has_star (map shown_name (yielded ++ e ∷ []))
+star_more yielded e so here before now = (λ i. before i || now i) ∙ go yielded
+  where
+    alone : (t : Bool) → t ≡ (t || false)
+    alone true = refl
+    alone false = refl
+
+    go : (names : List (Bor (String Global) × Bor (String Global))) → (list_any has_star (map shown_name names) || has_star (shown_name e)) ≡ list_any has_star (map shown_name (names ++ e ∷ []))
+    go [] = alone (has_star (shown_name e))
+    go (n ∷ names) = by_first (has_star (shown_name n)) (go names)
+      where
+        by_first : (t : Bool) → (list_any has_star (map shown_name names) || has_star (shown_name e)) ≡ list_any has_star (map shown_name (names ++ e ∷ []))
+            → ((t || list_any has_star (map shown_name names)) || has_star (shown_name e)) ≡ (t || list_any has_star (map shown_name (names ++ e ∷ [])))
+        by_first true h = refl
+        by_first false h = h
+
+starred_has : (name : List ℕ) → has_star (starred name) ≡ true
+starred_has [] = refl
+starred_has (b ∷ name) = go (is_star b) refl (starred_has name)
+  where
+    go : (t : Bool) → is_star b ≡ t → has_star (starred name) ≡ true → has_star (starred (b ∷ name)) ≡ true
+    go true e h = ap (λ t. t || has_star (starred name)) e
+    go false e h = ap (λ t. t || has_star (starred name)) e ∙ h
+
+-- ---- pairs that have nothing at a name with a star
+
+module _ (known : Charsets) (pairs : List (List ℕ × List ℕ)) (none_starred : (name : List ℕ) → has_star name ≡ true → last_of pairs name ≡ None) where
+  none_extended : (name : List ℕ) → is_extended (last_of pairs) name ≡ false
+  none_extended name = ap (λ t. is_some t && not (is_some (last_of pairs name))) (none_starred (starred name) (starred_has name))
+
+  none_reads : (name : List ℕ) → reading_of known (last_of pairs) name ≡ None
+  unfolding reading_of
+  none_reads name = cond-false _ _ _ (none_extended name)
+
+  section_is : (name : List ℕ) → section_at known (last_of pairs) name ≡ option_map text (last_of pairs name)
+  unfolding section_at
+  section_is name =
+      ap (λ r. option_or (option_map (λ reading. cond (is_some (numbered name)) (octets reading (octets_of (last_of pairs) name)) (text (reading (octets_of (last_of pairs) name)))) r)
+      (cond (has_left known (last_of pairs) name) None (option_map text (last_of pairs name)))) (none_reads name)
+      ∙ cond-false _ _ _ (and_right (is_starred name) _ (ap is_some (none_reads (name_under name))))
+
+  -- what has a number has a star
+  unnumbered : (name : List ℕ) → has_star name ≡ false → numbered name ≡ None
+  unfolding numbered
+  unnumbered name none = cond-false _ _ _ none
+
+  first_of_none : (base name : List ℕ) → (is_some (section_at known (last_of pairs) name) && is_first_of base name) ≡ false
+  first_of_none base name = go (has_star name) refl
+    where
+      go : (t : Bool) → has_star name ≡ t → (is_some (section_at known (last_of pairs) name) && is_first_of base name) ≡ false
+      go true e = ap (λ p. is_some p && is_first_of base name) (section_is name ∙ ap (option_map text) (none_starred name e))
+      go false e = and_right _ _ (ap (λ n. option_map_or (λ n. bytes_eq n.0 base && eqb n.1 0) n false) (unnumbered name e))
+
+  no_bases : (names : List (List ℕ)) (base : List ℕ) → is_base (section_at known (last_of pairs)) names base ≡ false
+  no_bases names base = and_right _ _ (none names)
+    where
+      none : (names : List (List ℕ)) → list_any (λ name. is_some (section_at known (last_of pairs) name) && is_first_of base name) names ≡ false
+      none [] = refl
+      none (name ∷ names) = ap (λ t. t || list_any (λ name. is_some (section_at known (last_of pairs) name) && is_first_of base name) names) (first_of_none base name) ∙ none names
+
+  none_used : (names : List (List ℕ)) (name : List ℕ) → is_used (section_at known (last_of pairs)) names name ≡ false
+  none_used names name = go (numbered name)
+    where
+      go : (n : Option (List ℕ × ℕ))
+          → option_map_or (λ n. is_base (section_at known (last_of pairs)) names n.0 && (ltb n.1 (length (sections_of (section_at known (last_of pairs)) n.0)) && bytes_eq name (section_name n.0 n.1))) n false ≡ false
+      go None = refl
+      go (Some n) = ap (λ t. t && (ltb n.1 (length (sections_of (section_at known (last_of pairs)) n.0)) && bytes_eq name (section_name n.0 n.1))) (no_bases names n.0)
+
+  pub parameters_are_pairs : (name : List ℕ) → parameters_in known pairs name ≡ last_of pairs name
+  unfolding joined_at
+  parameters_are_pairs name =
+      let names = names_of (map (λ pair. pair.0) pairs) in
+      let at = section_at known (last_of pairs) in
+      ap (λ t. option_or (cond t None (option_map alone (at name))) (cond (is_base at names name) (Some (joined (sections_of at name))) None)) (none_used names name)
+      ∙ ap (λ t. option_or (option_map alone (at name)) (cond t (Some (joined (sections_of at name))) None)) (no_bases names name)
+      ∙ ap (λ p. option_or (option_map alone p) None) (section_is name)
+      ∙ alone_text (last_of pairs name)
+    where
+      alone_text : (t : Option (List ℕ)) → option_or (option_map alone (option_map text t)) None ≡ t
+      alone_text None = refl
+      alone_text (Some t) = refl
