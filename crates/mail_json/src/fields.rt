@@ -37,7 +37,11 @@ pub fn disposition_of(
     alloc: Global,
     part: &ParsedMail<'_>,
 ) -> Result<Option<ParsedContentDisposition>, MailParseError> {
-    if part.headers.get_first_header("Content-Disposition").is_none() {
+    if part
+        .headers
+        .get_first_header("Content-Disposition")
+        .is_none()
+    {
         return Ok(None);
     }
     Ok(Some(part.get_content_disposition_with(alloc, &TABLES)?))
