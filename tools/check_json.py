@@ -1,0 +1,359 @@
+#!/usr/bin/env python3
+"""Compares the lines that mail_json writes with what Python's email package reads of the same mails.
+
+The mails are those of samples/, and made ones: with control characters, with surrogates in UTF-8, with a
+refused body, of 100 levels and of 101, of parts at places that are known, and mailboxes. Python's json
+reads each line, which has to be ASCII control free, its members in their order.
+
+The last line is `N passed, N failed`; the status is 1 where a comparison failed.
+"""
+import argparse
+import base64
+import email
+import email.header
+import email.utils
+import json
+import os
+import random
+import re
+import subprocess
+import sys
+import tempfile
+
+HERE = os.path.dirname(os.path.abspath(__file__))
+TOP = os.path.dirname(HERE)
+MEMBERS = [
+    "subject", "from", "to", "cc", "date", "date_error", "message_id", "in_reply_to", "references", "parts",
+]
+PART_MEMBERS = [
+    "path", "type", "charset", "params", "disposition", "file_name", "attachment", "encoding", "start", "end",
+    "size", "decoded_size", "error", "headers", "text",
+]
+OPTIONAL = {"date_error", "error"}
+HIDDEN = re.compile("[\x00-\x1f\x7f-\x9f\u2028\u2029]")
+
+passed = 0
+failed = 0
+
+
+def judge(is_well, what):
+    """Counts a comparison, and says which failed."""
+    global passed, failed
+    if is_well:
+        passed += 1
+    else:
+        failed += 1
+        print(f"FAILED {what}")
+
+
+def same(found, wanted, what):
+    """Compares two values."""
+    judge(found == wanted, f"{what}: {found!r:.300} and not {wanted!r:.300}")
+
+
+def run(words, data=b"", **streams):
+    """Runs the program on the bytes."""
+    return subprocess.run([PROGRAM, *words], input=data, capture_output=not streams, timeout=60, **streams)
+
+
+def is_ordered(value, members):
+    """Whether an object has these members in this order, all but the optional ones."""
+    wanted = [name for name in members if name in value or name not in OPTIONAL]
+    return list(value) == wanted
+
+
+def lines(output, what):
+    """The values of the lines of an output, each of which has to be one object without hidden characters."""
+    values = []
+    judge(output == b"" or output.endswith(b"\n"), f"{what}: the last line has no end")
+    for line in output.decode("utf-8").split("\n")[:-1]:
+        judge(not HIDDEN.search(line), f"{what}: a line has hidden characters")
+        value = json.loads(line)
+        is_error = list(value) == ["error"]
+        judge(is_error or is_ordered(value, MEMBERS), f"{what}: the members are {list(value)}")
+        for part in value.get("parts", []):
+            judge(is_ordered(part, PART_MEMBERS), f"{what}: the members are {list(part)}")
+        values.append(value)
+    return values
+
+
+def objects(words, data, status, what):
+    """The values of the lines that a run writes, whose status has to be this one."""
+    ended = run(words, data)
+    same(ended.returncode, status, f"{what}: the status")
+    same(ended.stderr, b"", f"{what}: standard error")
+    return lines(ended.stdout, what)
+
+
+def codec(label):
+    """The name that Python has for the charset that the Encoding Standard reads under a label."""
+    return "windows-1252" if label.lower() in ("us-ascii", "iso-8859-1") else label
+
+
+def shown(value):
+    """The text of a header's value, by Python; bytes that are no UTF-8 are Latin-1 by docs/RULES.md."""
+    if value is None:
+        return None
+    raw = value.encode("utf-8", "surrogateescape")
+    try:
+        text = raw.decode("utf-8")
+    except UnicodeDecodeError:
+        text = raw.decode("latin-1")
+    unfolded = re.sub(r"\r?\n[ \t]*", " ", text)
+    pieces = email.header.decode_header(unfolded)
+    return "".join(
+        piece if isinstance(piece, str) else piece.decode(codec(charset) if charset else "raw-unicode-escape")
+        for piece, charset in pieces
+    )
+
+
+def raw_value(mail, name):
+    """The value of the first header with this name, or None; bytes above 0x7F are surrogates."""
+    return next((value for key, value in mail.raw_items() if key.lower() == name), None)
+
+
+def ids(value):
+    """The message ids of a value."""
+    return re.findall(r"<([^<>]*@[^<>]*)>", shown(value) or "")
+
+
+def seconds(value):
+    """The seconds of a date, or None where Python reads none."""
+    if value is None:
+        return None
+    return int(email.utils.parsedate_to_datetime(str(value)).timestamp())
+
+
+def walk(mail, path):
+    """The parts of a mail with their paths, each before its own parts; forwarded mails are not entered."""
+    yield path, mail
+    if mail.get_content_maintype() == "multipart" and mail.is_multipart():
+        for number, part in enumerate(mail.get_payload(), 1):
+            yield from walk(part, f"{path}.{number}" if path else str(number))
+
+
+def compare_part(found, path, part, data, what):
+    """Compares the object of a part with what Python reads of it."""
+    what = f"{what}, part {path!r}"
+    same(found["path"], path, f"{what}: path")
+    same(found["type"], part.get_content_type(), f"{what}: type")
+    charset = email.utils.collapse_rfc2231_value(part.get_param("charset", "us-ascii"))
+    same(found["charset"], charset, f"{what}: charset")
+    params = {key.lower(): email.utils.collapse_rfc2231_value(value) for key, value in part.get_params([])[1:]}
+    same(found["params"], params, f"{what}: params")
+    same(found["disposition"], part.get_content_disposition(), f"{what}: disposition")
+    same(found["file_name"], part.get_filename(), f"{what}: file name")
+    is_leaf = not (part.get_content_maintype() == "multipart" and part.is_multipart())
+    is_file = is_leaf and (part.get_content_disposition() == "attachment" or part.get_filename() is not None)
+    same(found["attachment"], is_file, f"{what}: attachment")
+    same(found["encoding"], (part.get("content-transfer-encoding") or "7bit").lower(), f"{what}: encoding")
+    headers = [[name, shown(value)] for name, value in part.raw_items()]
+    same(found["headers"], headers, f"{what}: headers")
+    again = email.message_from_bytes(data[found["start"]:found["end"]])
+    same(again.items(), part.items(), f"{what}: headers between start and end")
+    same(again.as_bytes(), part.as_bytes(), f"{what}: bytes between start and end")
+    if is_leaf and not part.is_multipart():
+        body = part.get_payload(decode=True)
+        same(found["decoded_size"], len(body), f"{what}: decoded size")
+        is_text = part.get_content_maintype() == "text" and not is_file
+        text = body.decode(codec(charset)) if is_text else None
+        same(found["text"], text, f"{what}: text")
+
+
+def compare(data, what):
+    """Compares the object of a mail with what Python reads of it."""
+    found = objects([], data, 0, what)
+    same(len(found), 1, f"{what}: the number of lines")
+    found = found[0]
+    mail = email.message_from_bytes(data)
+    for name in ("subject", "from", "to", "cc"):
+        same(found[name], shown(raw_value(mail, name)), f"{what}: {name}")
+    same(found["date"], seconds(raw_value(mail, "date")), f"{what}: date")
+    for name, key in (("message_id", "message-id"), ("in_reply_to", "in-reply-to"), ("references", "references")):
+        same(found[name], ids(raw_value(mail, key)), f"{what}: {name}")
+    parts = list(walk(mail, "" if mail.is_multipart() and mail.get_content_maintype() == "multipart" else "1"))
+    same(len(found["parts"]), len(parts), f"{what}: the number of parts")
+    for object_, (path, part) in zip(found["parts"], parts):
+        compare_part(object_, path, part, data, what)
+
+
+def check_samples():
+    """Compares the mails of samples/, but for parts.eml, whose line `--bX` is no delimiter for Python."""
+    names = set(os.listdir(os.path.join(TOP, "samples"))) - {"parts.eml"}
+    for name in sorted(names):
+        with open(os.path.join(TOP, "samples", name), "rb") as file:
+            compare(file.read(), name)
+    with open(os.path.join(TOP, "samples", "parts.eml"), "rb") as file:
+        parts = objects([], file.read(), 0, "parts.eml")[0]["parts"]
+    same([(part["path"], part["text"]) for part in parts], [("", None), ("1", "one"), ("2", "two")], "parts.eml")
+
+
+def check_characters():
+    """Characters that move a terminal, and bytes that are no text."""
+    forged = 'a\x00\x1b[31m\x7f\x85\u009b2J\u2028\u2029"\\\n{"subject":"forged"}'
+    word = "=?utf-8?B?" + base64.b64encode(forged.encode()).decode() + "?="
+    body = "é\r\n\t\x7f\x1b\x9b\u2029".encode() + b"\xed\xa0\x80|\xff|\xf0\x90\x80"
+    data = b"Subject: " + word.encode() + b"\nContent-Type: text/plain; charset=utf-8\n\n" + body
+    found = objects([], data, 0, "characters")
+    same(len(found), 1, "characters: the number of lines")
+    same(found[0]["subject"], forged, "characters: the subject")
+    same(found[0]["parts"][0]["text"], body.decode("utf-8", "replace"), "characters: the text")
+    found = objects([], b"Sub\x9bject: \xe9\x9b\n\n", 0, "a key of high bytes")
+    same(found[0]["parts"][0]["headers"][0][0], "Sub\x9bject", "a key of high bytes")
+    found = objects([], b"Content-Type: text/plain; charset=koi8-r\n\n\xc4\xc1", 0, "KOI8-R")
+    same(found[0]["parts"][0]["text"], b"\xc4\xc1".decode("koi8-r"), "KOI8-R")
+
+
+def check_faults():
+    """A refused body, dates and mails."""
+    found = objects([], b"Content-Transfer-Encoding: base64\n\naGVs**8=", 0, "a refused body")[0]["parts"][0]
+    same((found["size"], found["decoded_size"], found["text"]), (8, None, None), "a refused body")
+    same(found["error"], "Base64 decode error: group 1 is no Base64 group", "a refused body")
+    found = objects([], b"Date: 32 x\n\n", 0, "a refused date")[0]
+    same((found["date"], found["date_error"]), (None, "Invalid day"), "a refused date")
+    found = objects([], b"Date: soon\n\n", 0, "a date without a number")[0]
+    same((found["date"], "date_error" in found), (0, False), "a date without a number")
+    found = objects([], b"", 0, "no bytes")[0]
+    same((found["subject"], found["date"], found["references"]), (None, None, []), "no bytes")
+    same(found["parts"][0]["headers"], [], "no bytes")
+    found = objects([], b" x", 1, "a refused mail")
+    same([list(value) for value in found], [["error"]], "a refused mail")
+
+
+def nested(levels):
+    """A mail with parts so many levels below it."""
+    start = b"Content-Type: multipart/mixed; boundary=b%03d\n\n--b%03d\n"
+    return b"".join(start % (level, level) for level in range(levels)) + b"\nend"
+
+
+def check_levels():
+    """Parts inside parts."""
+    found = objects([], nested(100), 0, "100 levels")[0]["parts"]
+    same(len(found), 101, "100 levels")
+    same((found[-1]["path"], found[-1]["text"]), (".".join(["1"] * 100), "end"), "100 levels")
+    found = objects([], nested(101), 1, "101 levels")
+    same(found, [{"error": "Recursion limit reached"}], "101 levels")
+
+
+def made(random_, end, path, levels):
+    """The bytes of a part, and of it and of its parts the path, the bytes and the offset in them."""
+    if levels == 0 or random_.random() < 0.4:
+        lines_ = [b"x" * random_.randrange(3) for _line in range(random_.randrange(3))]
+        raw = random_.choice([b"", b"Subject: a" + end]) + end + end.join(lines_)
+        return raw, [(path, raw, 0)]
+    boundary = b"b%d" % levels
+    start = b"Content-Type: multipart/mixed; boundary=" + boundary + end + end
+    raw = start + random_.choice([b"", b"preamble" + end, end + b"--bx%b" % boundary + end])
+    places = []
+    for number in range(1, random_.randrange(2, 5)):
+        raw += b"--" + boundary + random_.choice([b"", b" ", b"x"]) + end
+        part, inside = made(random_, end, f"{path}.{number}" if path else str(number), levels - 1)
+        places += [(path_, raw_, len(raw) + at) for path_, raw_, at in inside]
+        raw += part + end
+    raw += b"--" + boundary + b"--" + random_.choice([b"", end, end + b"epilogue"])
+    return raw, [(path, raw, 0)] + places
+
+
+def check_edges():
+    """Where parts begin and end that are empty, after a boundary that is folded, and without an end."""
+    start = b"Content-Type: multipart/mixed; boundary=b\n\n"
+    for data, wanted in (
+        (start + b"--b\n--b\n\n--b--\n", [(0, 58), (47, 47), (51, 51)]),
+        (start + b"--b\n\none", [(0, 51), (47, 51)]),
+        (start + b"--b", [(0, 46)]),
+        (b'Content-Type: multipart/mixed; boundary="b\n c"\n\n--b c\n\none', [(0, 58), (54, 58)]),
+    ):
+        found = objects([], data, 0, repr(data))[0]["parts"]
+        same([(part["start"], part["end"]) for part in found], wanted, repr(data))
+
+
+def check_places():
+    """Where parts begin and end, in mails and mailboxes of parts at known places."""
+    random_ = random.Random(1)
+    for turn in range(150):
+        raw, places = made(random_, random_.choice([b"\n", b"\r\n"]), "", 3)
+        if len(places) == 1:
+            places = [("1", raw, 0)]
+        wanted = [(path, at, at + len(part)) for path, part, at in places]
+        found = objects([], raw, 0, f"places {turn}")[0]["parts"]
+        same([(part["path"], part["start"], part["end"]) for part in found], wanted, f"places {turn}: {raw!r}")
+        front = b"From a\nSubject: 1\n\none\n\nFrom b\n"
+        found = objects(["--mbox"], front + raw + b"\n\n", 0, f"places {turn} in a mailbox")
+        starts = [part["start"] for part in found[1]["parts"]]
+        same(starts, [len(front) + at for _path, _part, at in places], f"places {turn} in a mailbox")
+
+
+def subjects(data, status, what):
+    """The subject of each mail of a mailbox, or its error."""
+    return [value.get("subject", value.get("error")) for value in objects(["--mbox"], data, status, what)]
+
+
+def check_mailboxes():
+    """Mailboxes, whose mails are known."""
+    space = "Header cannot start with a space; it is likely an overhanging line from a previous header"
+    for data, status, wanted in (
+        (b"", 0, []),
+        (b"From a\nSubject: 1\n\none\n\nFrom b\nSubject: 2\n\ntwo", 0, ["1", "2"]),
+        (b"From a\r\nSubject: 1\r\n\r\none\r\n\r\nFrom b\r\nSubject: 2\r\n\r\ntwo\r\n", 0, ["1", "2"]),
+        (b"From a\nFrom b\nSubject: 1\n\none\n", 0, ["1"]),
+        (b"From a", 0, [None]),
+        (b"From a\n\nFrom b\nSubject: 2\n", 0, [None, "2"]),
+        (b"From a\nSubject: 1\n\n>From x\n\nFrom b\n x\n\nFrom c\nSubject: 3\n\n", 1, ["1", space, "3"]),
+        (b"\n\nFrom a\nSubject: 1\n\n", 0, ["1"]),
+        (b"Subject: 1\n\none\n", 1, ["The mailbox does not begin with a line `From `"]),
+    ):
+        same(subjects(data, status, repr(data)), wanted, repr(data))
+
+
+def check_calls():
+    """Arguments, files and streams."""
+    ended = run(["--help"])
+    judge(ended.returncode == 0 and b"--mbox" in ended.stdout and not ended.stderr, "--help")
+    for words in (["--no-such-option"], ["-x"], ["--mbox", "--mboxes"], [""], ["-"]):
+        ended = run(words)
+        judge(ended.returncode == 2 and not ended.stdout and ended.stderr, f"{words} is refused")
+    names = [os.path.join(TOP, "samples", name) for name in ("plain.eml", "parts.eml")]
+    both = b"".join(run([name]).stdout for name in names)
+    same(run(names).stdout, both, "two files")
+    ended = run([names[0], "/no/such/file", names[1]])
+    same((ended.returncode, ended.stdout), (1, both), "a file that is missing")
+    judge(b"/no/such/file" in ended.stderr, "a file that is missing is named")
+    with open("/dev/full", "wb") as full:
+        ended = run(names, stdout=full, stderr=subprocess.PIPE)
+        judge(ended.returncode == 1 and ended.stderr, "output that is full")
+    with tempfile.TemporaryDirectory() as folder:
+        ended = run([folder])
+        judge(ended.returncode == 1 and ended.stderr and not ended.stdout, "a folder")
+        link = os.path.join(folder, "link")
+        os.symlink(os.path.join(TOP, "mail_json"), link)
+        ended = subprocess.run([link, *names], capture_output=True, cwd=folder, timeout=60)
+        same(ended.stdout, both, "through a symbolic link")
+
+
+def main():
+    """Runs all comparisons."""
+    global PROGRAM
+    parser = argparse.ArgumentParser(description=__doc__, formatter_class=argparse.RawDescriptionHelpFormatter)
+    parser.parse_args()
+    built = subprocess.run([os.path.join(HERE, "program.sh"), "mail_json"], stdout=subprocess.PIPE)
+    if built.returncode != 0:
+        print("0 passed, 1 failed")
+        return 1
+    PROGRAM = built.stdout.decode().strip()
+    for check in (
+        check_samples,
+        check_characters,
+        check_faults,
+        check_levels,
+        check_edges,
+        check_places,
+        check_mailboxes,
+        check_calls,
+    ):
+        check()
+    print(f"{passed} passed, {failed} failed")
+    return 1 if failed else 0
+
+
+if __name__ == "__main__":
+    sys.exit(main())
