@@ -1,10 +1,12 @@
 #!/bin/sh
-# check_scripts.sh: calls each script of this folder, and mail_show through a symbolic link from
-# another folder, with `--help`, with an unknown option and with an argument that fits no script.
+# check_scripts.sh: calls each script of this folder with `--help`, with an unknown option and with an
+# argument that fits no script; and mail_show and mail_json through symbolic links from another folder,
+# with `--help`, with wrong arguments and with a file that is missing.
 #
 # A call for help passes that writes to standard output alone and ends with status 0; another call,
-# that writes to standard error alone and ends with status 2; each within 20 seconds. Where the
-# program mail_show is built, what the link shows of a mail has to be what the program shows.
+# that writes to standard error alone and ends with status 2, and with a file that is missing with
+# status 1; each within 20 seconds. Where a program is built, what its link writes of a mail on standard
+# input and of one in a file has to be what the program writes.
 #
 # The last line is `N passed, N failed`; the status is 1 where a call failed.
 arguments=
@@ -40,15 +42,35 @@ for file in "$here"/*; do
         check_calls "$file"
     fi
 done
-ln -s "$top/mail_show" "$work/link"
-cd "$work"
-check_calls ./link
-if program=$(BUILT=only "$here/program.sh" mail_show 2> /dev/null); then
-    "$program" < "$top/samples/attachment.eml" > "$work/wanted"
-    if ./link < "$top/samples/attachment.eml" | cmp -s - "$work/wanted"; then
+
+# check_program NAME: the calls through a symbolic link, from another folder
+check_program() {
+    ln -s "$top/$1" "$work/$1"
+    check 0 out err "./$1" --help
+    check 2 err out "./$1" --no-such-option
+    check 2 err out "./$1" -
+    check 1 err out env BUILT=only "./$1" no/such/file
+    if program=$(BUILT=only "$here/program.sh" "$1" 2> /dev/null); then
+        "$program" < mail > wanted
+        check_output "$1 < mail" "./$1" < mail
+        check_output "$1 mail" "./$1" mail
+    fi
+}
+
+# check_output WHAT COMMAND..: whether the command writes what the file `wanted` has
+check_output() {
+    what=$1
+    shift
+    if "$@" | cmp -s - wanted; then
         pass
     else
-        fail 'mail_show through a symbolic link shows another text than the program'
+        fail "$what through a symbolic link is not what the program writes"
     fi
-fi
+}
+
+cd "$work"
+cp "$top/samples/attachment.eml" mail
+check_program mail_show
+check 2 err out ./mail_show mail mail
+check_program mail_json
 finish

@@ -1,24 +1,31 @@
 #!/bin/sh
-# fail_streams.sh: runs mail_show where standard input or output fails: closed, a folder, full, a
-# pipe that nobody reads. A run passes that ends with status 1 and says on standard error what
-# failed; one whose standard error is closed too, with status 1. No run may end by a signal.
+# fail_streams.sh: runs mail_show and mail_json where standard input, a file or output fails: closed, a
+# folder, missing, full, a pipe that nobody reads. A run passes that ends with status 1 and says on
+# standard error what failed and why, in the system's words; one whose standard error is closed too,
+# with status 1. No run may end by a signal.
 #
 # The last line is `N passed, N failed`; the status is 1 where a run failed.
 arguments=
 . "$(dirname "$0")/prelude.sh"
-program=$("$here/program.sh" mail_show)
+show=$("$here/program.sh" mail_show)
+json=$("$here/program.sh" mail_json)
 make_work
 mail=$top/samples/attachment.eml
 
-# long: a mail whose text is longer than a pipe holds
-long() {
-    yes 'A: b' | head -n 100000
-}
+# a mail whose text is longer than a pipe holds
+yes 'A: b' | head -n 100000 > "$work/long"
 
-# run: runs the program, which leaves its standard error in the file `err`, and sets `status`
+# what the system says of a file that is not open, of a folder, of a device that is full, and so on
+closed='Bad file descriptor (os error 9)'
+folder='Is a directory (os error 21)'
+missing='No such file or directory (os error 2)'
+full='No space left on device (os error 28)'
+unread='Broken pipe (os error 32)'
+
+# run [FILE]: runs the program, which leaves its standard error in the file `err`, and sets `status`
 run() {
     status=0
-    "$program" 2> "$work/err" || status=$?
+    "$program" "$@" 2> "$work/err" || status=$?
 }
 
 # judge WHAT TEXT: whether the run ended with status 1, and the file `err` has the text alone
@@ -26,38 +33,50 @@ judge() {
     if [ "$status" = 1 ] && [ "$(cat "$work/err")" = "$2" ]; then
         pass
     else
-        fail "$1: status $status, standard error: $(cat "$work/err")"
+        fail "$name, $1: status $status, standard error: $(cat "$work/err")"
     fi
 }
 
-run <&- > "$work/out"
-judge 'input closed' 'mail_show: input failed'
-run < "$work" > "$work/out"
-judge 'input is a folder' 'mail_show: input failed'
-run 0> "$work/only-written" > "$work/out"
-judge 'input can only be written' 'mail_show: input failed'
-run < "$mail" >&-
-judge 'output closed' 'mail_show: output failed'
-run < "$mail" > /dev/full
-judge 'output full' 'mail_show: output failed'
-run < "$mail" 1< "$mail"
-judge 'output can only be read' 'mail_show: output failed'
+# inputs: standard input fails
+inputs() {
+    run <&- > "$work/out"
+    judge 'input closed' "$name: input failed: $closed"
+    run < "$work" > "$work/out"
+    judge 'input is a folder' "$name: input failed: $folder"
+    run 0> "$work/only-written" > "$work/out"
+    judge 'input can only be written' "$name: input failed: $closed"
+}
 
-# a pipe whose reader is gone before the first write, and one whose reader goes after some bytes
-{
-    sleep 1
-    run < "$mail"
-    echo "$status" > "$work/status"
-} | true
-status=$(cat "$work/status")
-judge 'a pipe without a reader' 'mail_show: output failed'
-long > "$work/long"
-{
-    run < "$work/long"
-    echo "$status" > "$work/status"
-} | head -c 10 > "$work/out"
-status=$(cat "$work/status")
-judge 'a pipe closed early' 'mail_show: output failed'
+# outputs: output fails
+outputs() {
+    run < "$mail" >&-
+    judge 'output closed' "$name: output failed: $closed"
+    run < "$mail" > /dev/full
+    judge 'output full' "$name: output failed: $full"
+    run "$mail" > /dev/full
+    judge 'output full, of a file' "$name: output failed: $full"
+    run --help > /dev/full
+    judge 'output full, of the help' "$name: output failed: $full"
+    run < "$mail" 1< "$mail"
+    judge 'output can only be read' "$name: output failed: $closed"
+}
+
+# pipes: a pipe whose reader is gone before the first write, and one whose reader goes after some bytes
+pipes() {
+    {
+        sleep 1
+        run < "$mail"
+        echo "$status" > "$work/status"
+    } | true
+    status=$(cat "$work/status")
+    judge 'a pipe without a reader' "$name: output failed: $unread"
+    {
+        run < "$work/long"
+        echo "$status" > "$work/status"
+    } | head -c 10 > "$work/out"
+    status=$(cat "$work/status")
+    judge 'a pipe closed early' "$name: output failed: $unread"
+}
 
 # no_error WHAT: the same where standard error fails too, so that nothing can be said
 no_error() {
@@ -65,16 +84,41 @@ no_error() {
     judge "$1" ''
 }
 
-status=0
-"$program" < "$mail" > /dev/full 2>&- || status=$?
-no_error 'output full and standard error closed'
-status=0
-"$program" < "$mail" > /dev/full 2> /dev/full || status=$?
-no_error 'output and standard error full'
-status=0
-"$program" <&- >&- 2>&- || status=$?
-no_error 'all closed'
-status=0
-printf ' x' | "$program" > "$work/out" 2> /dev/full || status=$?
-no_error 'a refusal with standard error full'
+# silent: standard error fails too
+silent() {
+    status=0
+    "$program" < "$mail" > /dev/full 2>&- || status=$?
+    no_error 'output full and standard error closed'
+    status=0
+    "$program" < "$mail" > /dev/full 2> /dev/full || status=$?
+    no_error 'output and standard error full'
+    status=0
+    "$program" <&- >&- 2>&- || status=$?
+    no_error 'all closed'
+    status=0
+    "$program" no/such/file > "$work/out" 2>&- || status=$?
+    no_error 'a file missing and standard error closed'
+    status=0
+    printf ' x' | "$program" > "$work/out" 2> /dev/full || status=$?
+    no_error 'a refusal with standard error full'
+}
+
+# program NAME PATH: all of them
+program() {
+    name=$1
+    program=$2
+    inputs
+    run no/such/file > "$work/out"
+    judge 'a file is missing' "$name: no/such/file: $missing"
+    outputs
+    pipes
+    silent
+}
+
+program mail_show "$show"
+run "$work" > "$work/out"
+judge 'a file is a folder' "$name: input failed: $folder"
+program mail_json "$json"
+run "$work" > "$work/out"
+judge 'a file is a folder' "$name: $work: $folder"
 finish

@@ -1,47 +1,80 @@
 #!/bin/sh
-# limit_memory.sh: runs mail_show on a mail of 2.4 MB under smaller and smaller limits on its
-# memory (ulimit -v), from 32 MB down to where the loader cannot start it. A run passes that
-# writes the right text, or that ends with status 1, writes nothing, and says that memory ran out.
+# limit_memory.sh: runs mail_show and mail_json on a mail of 2.4 MB under smaller and smaller limits on
+# their memory (ulimit -v), from 32 MB down to where the loader cannot start them. A run passes that
+# writes the right text, or that ends with status 1 and says that memory ran out; what mail_json has
+# written until then has to be the front of the right text, and mail_show may have written nothing.
 #
 # The last line is `N passed, N failed`; the status is 1 where a run failed.
 arguments=
 . "$(dirname "$0")/prelude.sh"
-program=$("$here/program.sh" mail_show)
+show=$("$here/program.sh" mail_show)
+json=$("$here/program.sh" mail_json)
 make_work
 
+# count: how many headers the mail has
+count=60000
 {
-    yes 'Subject: =?utf-8?Q?caf=C3=A9?= and more' | head -n 60000
+    yes 'Subject: =?utf-8?Q?caf=C3=A9?= and more' | head -n "$count"
     printf '\nbody'
 } > "$work/input"
 {
-    echo 'part 0: text/plain, 60000 headers, 4 body bytes'
-    yes '  Subject: café and more' | head -n 60000
-} > "$work/wanted"
+    echo "part 0: text/plain, $count headers, 4 body bytes"
+    yes '  Subject: café and more' | head -n "$count"
+} > "$work/mail_show"
+python3 - "$count" > "$work/mail_json" << 'END'
+import json, sys
+count, subject = int(sys.argv[1]), "café and more"
+size = count * len("Subject: =?utf-8?Q?caf=C3=A9?= and more\n") + 5
+part = {
+    "path": "1", "type": "text/plain", "charset": "us-ascii", "params": {}, "disposition": None, "file_name": None,
+    "attachment": False, "encoding": "7bit", "start": 0, "end": size, "size": 4, "decoded_size": 4,
+    "headers": [["Subject", subject]] * count, "text": "body",
+}
+mail = {"subject": subject, "from": None, "to": None, "cc": None, "date": None, "message_id": [], "in_reply_to": []}
+mail.update(references=[], parts=[part])
+sys.stdout.buffer.write((json.dumps(mail, ensure_ascii=False, separators=(",", ":")) + "\n").encode())
+END
 
-right=0
-limit=32000
-while [ "$limit" -gt 0 ]; do
-    status=0
-    (ulimit -v "$limit" && exec timeout 60 "$program") \
-        < "$work/input" > "$work/out" 2> "$work/err" || status=$?
-    if grep -q 'error while loading shared libraries' "$work/err"; then
-        break
-    elif [ "$status" = 0 ] && cmp -s "$work/out" "$work/wanted" && [ ! -s "$work/err" ]; then
-        right=$((right + 1))
-        pass
-    elif [ "$status" = 1 ] && [ ! -s "$work/out" ] \
-        && [ "$(cat "$work/err")" = 'mail_show: out of memory' ]; then
-        pass
-    else
-        fail "under $limit KB: status $status, $(wc -c < "$work/out") bytes written"
-        head -n 5 "$work/err"
+# is_short NAME: did memory run out, and the run say so?
+is_short() {
+    [ "$status" = 1 ] && grep -q "^$1: .*out of memory\$" "$work/err" \
+        && [ "$(wc -l < "$work/err")" = 1 ] || return 1
+    [ ! -s "$work/out" ] || {
+        [ "$1" = mail_json ] && cmp -s -n "$(wc -c < "$work/out")" "$work/out" "$work/$1"
+    }
+}
+
+# limits NAME PROGRAM: a run under each limit; the file NAME has the right text
+limits() {
+    right=0
+    short=0
+    limit=32000
+    while [ "$limit" -gt 0 ]; do
+        status=0
+        (ulimit -v "$limit" && exec timeout 60 "$2") \
+            < "$work/input" > "$work/out" 2> "$work/err" || status=$?
+        if grep -q 'error while loading shared libraries' "$work/err"; then
+            break
+        elif [ "$status" = 0 ] && cmp -s "$work/out" "$work/$1" && [ ! -s "$work/err" ]; then
+            right=$((right + 1))
+            pass
+        elif is_short "$1"; then
+            short=$((short + 1))
+            pass
+        else
+            fail "$1 under $limit KB: status $status, $(wc -c < "$work/out") bytes written"
+            head -n 5 "$work/err"
+        fi
+        limit=$((limit - 250))
+    done
+    echo "$1 under $((right + short)) limits down to $((limit + 250)) KB:" \
+        "$right right, $short out of memory"
+    # both ways to end have to be met
+    if [ "$right" = 0 ] || [ "$short" = 0 ]; then
+        fail "$1: the limits do not reach from enough memory to too little"
     fi
-    limit=$((limit - 250))
-done
-echo "mail_show under $((passed + failed)) limits down to $((limit + 250)) KB:" \
-    "$right right, $((passed - right)) out of memory"
-# both ways to end have to be met
-if [ "$right" = 0 ] || [ "$right" = "$passed" ]; then
-    fail 'the limits do not reach from enough memory to too little'
-fi
+}
+
+limits mail_show "$show"
+limits mail_json "$json"
 finish

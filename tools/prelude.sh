@@ -1,5 +1,6 @@
 # What each script of this folder begins with. A script has its help as the comment at its head; it
-# names its arguments, in brackets those that may be left out, and then sources this file:
+# names its arguments, in brackets those that may be left out, with two dots one that may stand more
+# than once, and then sources this file:
 #
 #     arguments='[--OPTION] NAME [ORACLE]'
 #     . "$(dirname "$0")/prelude.sh"
@@ -10,7 +11,7 @@
 set -eu
 script=$(basename "$(readlink -f "$0")")
 here=$(dirname "$(readlink -f "$0")")
-# the script at the top of the repository sources this file too
+# the scripts at the top of the repository source this file too
 [ -f "$here/prelude.sh" ] || here=$here/tools
 top=$(dirname "$here")
 passed=0
@@ -48,6 +49,8 @@ check_arguments() {
     for word in $arguments; do
         case $word in
             '[-'*) ;;
+            '['*'..]') most=$((most + $#)) ;;
+            *'..') least=$((least + 1)); most=$((most + $#)) ;;
             '['*) most=$((most + 1)) ;;
             *) least=$((least + 1)); most=$((most + 1)) ;;
         esac

@@ -6,13 +6,15 @@
 # run meets no refusal:
 #
 #   mail_show      on the samples, and on mails that are refused
+#   mail_json      on the same, and on a mailbox
 #   answers        which tries each line again, on some lines of its list
 #   mail_memory    which makes each call of the library that takes memory, and knows what it has
 #                  to return: once, and again on the same inputs where memory ran out
 #
 # A run passes that gives what it gives with ample memory, or that ends with status 1 and says
 # nothing but that memory ran out; where each call is made once, no run with a refusal passes but
-# the latter. After that mail_memory makes the calls that take no memory, while each call for
+# the latter. What mail_json has written until then has to be the front of what it writes with ample
+# memory; the other programs may have written nothing. After that mail_memory makes the calls that take no memory, while each call for
 # memory is refused once what they work on is there.
 #
 # It prints for each input how many calls for memory there were, how many runs met a refusal, and
@@ -40,9 +42,16 @@ is_right() {
         && cmp -s "$work/err" "$work/wanted.err"
 }
 
+# is_front: was nothing written, or the front of what is written with ample memory?
+is_front() {
+    [ ! -s "$work/out" ] || {
+        [ "$may_begin" = yes ] && cmp -s -n "$(wc -c < "$work/out")" "$work/out" "$work/wanted.out"
+    }
+}
+
 # is_short: did memory run out, and the run say only that?
 is_short() {
-    [ "$status" = 1 ] && [ ! -s "$work/out" ] && [ "$(wc -l < "$work/err")" = 1 ] \
+    [ "$status" = 1 ] && is_front && [ "$(wc -l < "$work/err")" = 1 ] \
         && grep -q 'out of memory$' "$work/err"
 }
 
@@ -124,18 +133,32 @@ if ! ${CC:-cc} -O1 -Wall -shared -fPIC -o "$work/refuse.so" "$here/refuse.c"; th
     exit 1
 fi
 show=$("$here/program.sh" mail_show)
+json=$("$here/program.sh" mail_json)
 replay=$("$here/program.sh" answers)
 memory=$("$here/program.sh" mail_memory)
 
 may_be_right=no
-for sample in "$top"/samples/*.eml; do
-    cp "$sample" "$work/input"
-    both "mail_show on $(basename "$sample")" "$show"
-done
-printf 'A: 1\n\rB' > "$work/input"
-both 'mail_show on a lone CR' "$show"
-printf 'Content-Type: multipart/mixed; boundary=b\n\n--b\n x\n--b\n\rz\n--b--\n' > "$work/input"
-both 'mail_show on a part that begins with a space' "$show"
+
+# mails NAME PROGRAM: the samples, and mails that are refused
+mails() {
+    for sample in "$top"/samples/*.eml; do
+        cp "$sample" "$work/input"
+        both "$1 on $(basename "$sample")" "$2"
+    done
+    printf 'A: 1\n\rB' > "$work/input"
+    both "$1 on a lone CR" "$2"
+    printf 'Content-Type: multipart/mixed; boundary=b\n\n--b\n x\n--b\n\rz\n--b--\n' \
+        > "$work/input"
+    both "$1 on a part that begins with a space" "$2"
+}
+
+may_begin=no
+mails mail_show "$show"
+may_begin=yes
+mails mail_json "$json"
+cp "$top/crates/mail_json/stdin" "$work/input"
+both 'mail_json on a mailbox' "$json" --mbox
+may_begin=no
 : > "$work/input"
 both 'mail_memory' "$memory"
 

@@ -11,22 +11,21 @@ mod request;
 mod run;
 
 use fault::Fault;
+use mail_program::arguments;
 use request::{HELP, Mode, USAGE, mode_of};
 use run::run;
-use std::alloc::AllocError;
-use std::env::{self, Env};
 use std::process::ExitCode;
 
 fn main(rt: HostRuntime) -> ExitCode {
     let words = match arguments(&rt) {
         Ok(words) => words,
-        Err(fault) => {
-            let _ = eprintln!(rt; "mail_json: {fault}");
+        Err(error) => {
+            let _ = eprintln!(rt; "mail_json: the arguments could not be read: {error}");
             return ExitCode::FAILURE;
         }
     };
     let is_whole = match mode_of(words.as_slice()) {
-        Mode::Help => rt.print(HELP).is_ok(),
+        Mode::Help => help(&rt),
         Mode::Wrong => {
             let _ = eprintln!(rt; "{USAGE}");
             return ExitCode::from(2);
@@ -41,14 +40,13 @@ fn main(rt: HostRuntime) -> ExitCode {
     }
 }
 
-/// The arguments of the program, without its name.
-fn arguments(rt: &(impl Env + AllocGlobal)) -> Result<Vec<String>, Fault> {
-    let mut words = Vec::new(rt.alloc());
-    for word in env::args(rt)?.skip(1) {
-        match words.push(word) {
-            Ok(()) => {}
-            Err(error) => return Err(Fault::from(AllocError::from(error))),
+/// Prints the help. Returns whether it could be written.
+fn help(rt: &(impl Print + Eprint)) -> bool {
+    match rt.print(HELP) {
+        Ok(()) => true,
+        Err(error) => {
+            let _ = eprintln!(rt; "mail_json: {}", Fault::Output(error));
+            false
         }
     }
-    Ok(words)
 }

@@ -1,5 +1,7 @@
 //! What the arguments ask for.
 
+pub use mail_program::is_option;
+
 /// What `--help` prints.
 pub const HELP: &str = "Writes mails as JSON, one object to a line.
 
@@ -45,9 +47,4 @@ pub fn mode_of(words: &[String]) -> Mode {
         }
     }
     mode
-}
-
-/// Whether an argument is an option, and no name of a file.
-pub fn is_option(word: &str) -> bool {
-    word.starts_with('-') || word.is_empty()
 }

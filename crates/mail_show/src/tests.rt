@@ -319,7 +319,7 @@ fn assert_read_failing(rt: &impl Abort, alloc: Global, row: &Shown, place: usize
         }
         Err(fault) => {
             assert!(*rt;
-                matches!(fault, ShowFault::Input),
+                matches!(fault, ShowFault::Input(e) if e.kind() == ErrorKind::TimedOut),
                 "{place} of {}",
                 row.text
             );
@@ -356,7 +356,7 @@ fn a_read_that_would_have_to_wait_fails(rt: HostRuntime) {
         let mut reader = TestReader::new(INPUT, 1, Trouble::BlocksAt(place));
         let mut writer = TestWriter::new(rt.alloc(), 1, Trouble::Never);
         let outcome = run(rt.alloc(), &mut reader, &mut writer);
-        assert!(rt; matches!(outcome, Err(ShowFault::Input)), "{place}");
+        assert!(rt; matches!(outcome, Err(ShowFault::Input(_))), "{place}");
         assert_eq!(rt; reader.calls, place);
         assert_eq!(rt; (writer.calls, writer.flushes), (0, 0));
     }
@@ -368,7 +368,7 @@ fn a_read_failing_after_what_would_be_refused(rt: HostRuntime) {
         let mut reader = TestReader::new(b" x", 1, Trouble::FailsAt(place));
         let mut writer = TestWriter::new(rt.alloc(), 1, Trouble::Never);
         let outcome = run(rt.alloc(), &mut reader, &mut writer);
-        assert!(rt; matches!(outcome, Err(ShowFault::Input)), "{place}");
+        assert!(rt; matches!(outcome, Err(ShowFault::Input(_))), "{place}");
         assert_eq!(rt; writer.calls, 0, "{place}");
     }
 }
@@ -395,7 +395,7 @@ fn assert_write_failing(
 ) {
     let (outcome, writer) = run_with_trouble(alloc, row.message, trouble);
     assert!(*rt;
-        matches!(outcome, Err(ShowFault::Output)),
+        matches!(outcome, Err(ShowFault::Output(_))),
         "{place} of {}",
         row.text
     );
@@ -438,7 +438,7 @@ fn a_flush_that_fails_is_not_tried_again(rt: HostRuntime) -> Result<(), Fail> {
         let mut writer = TestWriter::new(rt.alloc(), 7, Trouble::Never);
         writer.flush_fault = Some(kind);
         let outcome = run(rt.alloc(), &mut reader, &mut writer);
-        assert!(rt; matches!(outcome, Err(ShowFault::Output)), "{kind:?}");
+        assert!(rt; matches!(outcome, Err(ShowFault::Output(_))), "{kind:?}");
         assert_eq!(rt; writer.flushes, 1);
         assert_eq!(rt; writer.held.as_slice(), TEXT);
     }
@@ -460,12 +460,12 @@ fn display_texts_of_the_faults(rt: HostRuntime) -> Result<(), Fail> {
             text: LONE_CR,
         },
         FaultRow {
-            fault: ShowFault::Input,
-            text: "input failed",
+            fault: ShowFault::Input(io::Error::from_raw_os_error(21)),
+            text: "input failed: Is a directory (os error 21)",
         },
         FaultRow {
-            fault: ShowFault::Output,
-            text: "output failed",
+            fault: ShowFault::Output(io::Error::from_raw_os_error(28)),
+            text: "output failed: No space left on device (os error 28)",
         },
     ];
     for row in &rows {

@@ -1,7 +1,7 @@
 -- Lemmas on what a run does to its reader and its writer.
-use Rattle.std.proofs.Common.{◌≡◌, ℕ, false, List, Option, Some, None, Result, Ok, Err, IfSome, OnOk, is_err, refl, sym, ap, ◌∙◌}
+use Rattle.std.proofs.Common.{◌≡◌, ℕ, List, Option, Some, None, Result, Ok, Err, IfSome, IfOk, OnOk, refl, sym, ap, ◌∙◌}
 use Rattle.std.specs.Io.KnownBytes.{Keeps, Appends, IsAtEnd}
-use Rattle.std.proofs.KnownBytes.{Keeps-refl, Appends-kept}
+use Rattle.std.proofs.KnownBytes.{Keeps-refl}
 use Rattle.mailparse.specs.Mail.{Tree, read_mail}
 use Rattle.mailparse.specs.Refusal.{Refusal}
 use Rattle.mailparse.specs.Outcome.{IsRefusal, IsRefusalOrMemory}
@@ -43,18 +43,15 @@ pub text-of_ok : (text given : List ℕ) → ◌≡◌ {A = Result (List ℕ) Re
 text-of_ok text given e = cc
 
 -- a text that is written is that of the whole input
-pub run-shown : (left_before left held_before held_written held : Option (List ℕ)) (input text : List ℕ) (mail : Tree)
+pub run-shown : (left_before left held_before held : Option (List ℕ)) (input text : List ℕ) (mail : Tree)
     → IsAtEnd left × IfSome left_before (λ all. input ≡ all) → read_mail input ≡ Ok mail → text ≡ mail_text mail
-    → Appends held_before held_written text → Keeps held_written held → HasShown left_before left held_before held
-run-shown None left held_before held_written held input text mail read e is_text wrote kept = record { read = read.0; wrote = tt }
-run-shown (Some all) left held_before held_written held input text mail read e is_text wrote kept =
+    → Appends held_before held text → HasShown left_before left held_before held
+run-shown None left held_before held input text mail read e is_text wrote = record { read = read.0; wrote = tt }
+run-shown (Some all) left held_before held input text mail read e is_text wrote =
     let same : shown all ≡ Ok text = shown-ok all mail (ap read_mail (sym read.1) ∙ e) ∙ ap (λ t. Ok t) (sym is_text) in
-    record { read = read.0; wrote = (text, same, Appends-kept held_before held_written held text wrote kept) }
+    record { read = read.0; wrote = (text, same, wrote) }
 
--- what holds of a result that is not an error
-pub OnOk-at : {T E : Type 0} (P : Type 0) (r : Result T E) → is_err r ≡ false → OnOk r P → P
-OnOk-at P (Ok x) e h = h
-OnOk-at P (Err d) e h = absurd (differ e)
-  where
-    differ : is_err {T = Unit {0}} (Err (tt {0})) ≡ false → ⊥
-    differ f = cc
+-- what holds of a result that is not an error, and what follows from it
+pub OnOk-to : {T E P Q : Type 0} (r : Result T E) → OnOk r P → (P → Q) → IfOk r (λ _. Q)
+OnOk-to (Ok x) h f = f h
+OnOk-to (Err d) h f = tt

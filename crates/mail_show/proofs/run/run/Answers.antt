@@ -3,7 +3,7 @@ use Rattle.std.proofs.lemmas.Result.{err_from_is_err_and}
 use Rattle.mailparse.specs.Mail.{read_mail}
 use Rattle.mailparse.specs.Outcome.{IsRefusalOrMemory}
 use Rattle.mailparse.specs.Views.{tree_of}
-use Rattle.mail_show.proofs.lemmas.Run.{run-refused, run-shown, text-of_ok, OnOk-at}
+use Rattle.mail_show.proofs.lemmas.Run.{run-refused, run-shown, text-of_ok, OnOk-to}
 use Rattle.mail_show.proofs.run.run.Goals as goal
 
 pub returns-in_err-parsed-clause-refused : goal.returns-in_err-parsed-clause-refused
@@ -14,6 +14,6 @@ returns-in_err-parsed-clause-refused g c =
 
 pub returns-clause-shown : goal.returns-clause-shown
 returns-clause-shown g c =
-    run-shown _ _ _ _ _ c.in_ok-input.input.items _ (tree_of c.in_ok-parsed.parsed) c.in_ok-input.ensures
-    (ap read_mail (sym c.as_slice.ensures.value) ∙ c.in_ok-parsed.ensures.read) (c.as_bytes.ensures.value ∙ text-of_ok _ _ c.in_ok-text.ensures)
-    (OnOk-at _ c.write_all.result (sym c.is_err.ensures.value ∙ c.if-is_err.false) c.write_all.ensures.bytes) c.flush.ensures.bytes
+    OnOk-to c.write_output.result c.write_output.ensures.written (λ wrote.
+    run-shown _ _ _ _ c.in_ok-input.input.items _ (tree_of c.in_ok-parsed.parsed) c.in_ok-input.ensures
+    (ap read_mail (sym c.as_slice.ensures.value) ∙ c.in_ok-parsed.ensures.read) (c.as_bytes.ensures.value ∙ text-of_ok _ _ c.in_ok-text.ensures) wrote)

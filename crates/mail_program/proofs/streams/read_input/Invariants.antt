@@ -1,6 +1,6 @@
 use Rattle.std.proofs.Common.{◌<◌, vec_len}
 use Rattle.std.specs.Io.KnownBytes.{Consumes}
-use Rattle.mail_show.proofs.run.read_input.Given as goal
+use Rattle.mail_program.proofs.streams.read_input.Given as goal
 
 -- what was read so far, and then what the reader has left, is what it had
 abbrev pub invariant-loop-turn : goal.invariant-loop-turn

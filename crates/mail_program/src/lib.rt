@@ -1,0 +1,10 @@
+//! What the programs do around their text: their arguments, reading to the end, writing, faults.
+#![tactic(auto)]
+
+mod command;
+mod fault;
+mod streams;
+
+pub use command::{arguments, is_option};
+pub use fault::Fault;
+pub use streams::{read_input, write_output};
