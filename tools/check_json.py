@@ -2,16 +2,14 @@
 """Compares the lines that mail_json writes with what Python's email package reads of the same mails.
 
 The mails are those of samples/, and made ones: with control characters, with surrogates in UTF-8, with a
-refused body, of 100 levels and of 101, of parts at places that are known, and mailboxes. Python's json
-reads each line, which has to be ASCII control free, its members in their order.
+refused body, of 100 levels and of 101, of 100,000 parts, of parts at places that are known, and mailboxes.
+Python's json reads each line, which has to be ASCII control free, its members in their order.
 
 The last line is `N passed, N failed`; the status is 1 where a comparison failed.
 """
 import argparse
 import base64
 import email
-import email.header
-import email.utils
 import json
 import os
 import random
@@ -19,6 +17,8 @@ import re
 import subprocess
 import sys
 import tempfile
+
+from read_by_email import mail_object, part_object, parts_of
 
 HERE = os.path.dirname(os.path.abspath(__file__))
 TOP = os.path.dirname(HERE)
@@ -30,6 +30,8 @@ PART_MEMBERS = [
     "size", "decoded_size", "error", "headers", "text",
 ]
 OPTIONAL = {"date_error", "error"}
+# what no text escapes: the replacement character, marks that turn the direction of writing, four bytes of UTF-8
+SHOWN = "a\ufffd\u200f\u202e\ufeff\U0001f600\U0010ffff/..z"
 HIDDEN = re.compile("[\x00-\x1f\x7f-\x9f\u2028\u2029]")
 
 passed = 0
@@ -71,8 +73,8 @@ def lines(output, what):
         value = json.loads(line)
         is_error = list(value) == ["error"]
         judge(is_error or is_ordered(value, MEMBERS), f"{what}: the members are {list(value)}")
-        for part in value.get("parts", []):
-            judge(is_ordered(part, PART_MEMBERS), f"{what}: the members are {list(part)}")
+        wrong = [list(part) for part in value.get("parts", []) if not is_ordered(part, PART_MEMBERS)]
+        same(wrong, [], f"{what}: the members of parts")
         values.append(value)
     return values
 
@@ -85,79 +87,17 @@ def objects(words, data, status, what):
     return lines(ended.stdout, what)
 
 
-def codec(label):
-    """The name that Python has for the charset that the Encoding Standard reads under a label."""
-    return "windows-1252" if label.lower() in ("us-ascii", "iso-8859-1") else label
-
-
-def shown(value):
-    """The text of a header's value, by Python; bytes that are no UTF-8 are Latin-1 by docs/RULES.md."""
-    if value is None:
-        return None
-    raw = value.encode("utf-8", "surrogateescape")
-    try:
-        text = raw.decode("utf-8")
-    except UnicodeDecodeError:
-        text = raw.decode("latin-1")
-    unfolded = re.sub(r"\r?\n[ \t]*", " ", text)
-    pieces = email.header.decode_header(unfolded)
-    return "".join(
-        piece if isinstance(piece, str) else piece.decode(codec(charset) if charset else "raw-unicode-escape")
-        for piece, charset in pieces
-    )
-
-
-def raw_value(mail, name):
-    """The value of the first header with this name, or None; bytes above 0x7F are surrogates."""
-    return next((value for key, value in mail.raw_items() if key.lower() == name), None)
-
-
-def ids(value):
-    """The message ids of a value."""
-    return re.findall(r"<([^<>]*@[^<>]*)>", shown(value) or "")
-
-
-def seconds(value):
-    """The seconds of a date, or None where Python reads none."""
-    if value is None:
-        return None
-    return int(email.utils.parsedate_to_datetime(str(value)).timestamp())
-
-
-def walk(mail, path):
-    """The parts of a mail with their paths, each before its own parts; forwarded mails are not entered."""
-    yield path, mail
-    if mail.get_content_maintype() == "multipart" and mail.is_multipart():
-        for number, part in enumerate(mail.get_payload(), 1):
-            yield from walk(part, f"{path}.{number}" if path else str(number))
-
-
 def compare_part(found, path, part, data, what):
-    """Compares the object of a part with what Python reads of it."""
+    """Compares the object of a part with what Python reads of it; of a forwarded mail Python decodes no body."""
     what = f"{what}, part {path!r}"
-    same(found["path"], path, f"{what}: path")
-    same(found["type"], part.get_content_type(), f"{what}: type")
-    charset = email.utils.collapse_rfc2231_value(part.get_param("charset", "us-ascii"))
-    same(found["charset"], charset, f"{what}: charset")
-    params = {key.lower(): email.utils.collapse_rfc2231_value(value) for key, value in part.get_params([])[1:]}
-    same(found["params"], params, f"{what}: params")
-    same(found["disposition"], part.get_content_disposition(), f"{what}: disposition")
-    same(found["file_name"], part.get_filename(), f"{what}: file name")
-    is_leaf = not (part.get_content_maintype() == "multipart" and part.is_multipart())
-    is_file = is_leaf and (part.get_content_disposition() == "attachment" or part.get_filename() is not None)
-    same(found["attachment"], is_file, f"{what}: attachment")
-    same(found["encoding"], (part.get("content-transfer-encoding") or "7bit").lower(), f"{what}: encoding")
-    headers = [[name, shown(value)] for name, value in part.raw_items()]
-    same(found["headers"], headers, f"{what}: headers")
+    wanted = part_object(path, part)
+    if part.is_multipart():
+        del wanted["decoded_size"], wanted["text"]
+    for name, value in wanted.items():
+        same(found[name], value, f"{what}: {name}")
     again = email.message_from_bytes(data[found["start"]:found["end"]])
     same(again.items(), part.items(), f"{what}: headers between start and end")
     same(again.as_bytes(), part.as_bytes(), f"{what}: bytes between start and end")
-    if is_leaf and not part.is_multipart():
-        body = part.get_payload(decode=True)
-        same(found["decoded_size"], len(body), f"{what}: decoded size")
-        is_text = part.get_content_maintype() == "text" and not is_file
-        text = body.decode(codec(charset)) if is_text else None
-        same(found["text"], text, f"{what}: text")
 
 
 def compare(data, what):
@@ -165,13 +105,11 @@ def compare(data, what):
     found = objects([], data, 0, what)
     same(len(found), 1, f"{what}: the number of lines")
     found = found[0]
-    mail = email.message_from_bytes(data)
-    for name in ("subject", "from", "to", "cc"):
-        same(found[name], shown(raw_value(mail, name)), f"{what}: {name}")
-    same(found["date"], seconds(raw_value(mail, "date")), f"{what}: date")
-    for name, key in (("message_id", "message-id"), ("in_reply_to", "in-reply-to"), ("references", "references")):
-        same(found[name], ids(raw_value(mail, key)), f"{what}: {name}")
-    parts = list(walk(mail, "" if mail.is_multipart() and mail.get_content_maintype() == "multipart" else "1"))
+    wanted = mail_object(data)
+    parts = list(parts_of(email.message_from_bytes(data)))
+    del wanted["parts"]
+    for name, value in wanted.items():
+        same(found[name], value, f"{what}: {name}")
     same(len(found["parts"]), len(parts), f"{what}: the number of parts")
     for object_, (path, part) in zip(found["parts"], parts):
         compare_part(object_, path, part, data, what)
@@ -198,6 +136,11 @@ def check_characters():
     same(len(found), 1, "characters: the number of lines")
     same(found[0]["subject"], forged, "characters: the subject")
     same(found[0]["parts"][0]["text"], body.decode("utf-8", "replace"), "characters: the text")
+    data = b"Subject: " + SHOWN.encode() + b'\nContent-Type: text/plain; charset=utf-8; name="' + SHOWN.encode() + b'"\n\n'
+    found = objects([], data + SHOWN.encode(), 0, "characters that are shown")[0]
+    same((found["subject"], found["parts"][0]["file_name"]), (SHOWN, SHOWN), "characters that are shown")
+    data = b"Subject: a\nContent-Type: text/plain; charset=utf-8\n\n" + SHOWN.encode()
+    same(objects([], data, 0, "a text of such")[0]["parts"][0]["text"], SHOWN, "a text of such")
     found = objects([], b"Sub\x9bject: \xe9\x9b\n\n", 0, "a key of high bytes")
     same(found[0]["parts"][0]["headers"][0][0], "Sub\x9bject", "a key of high bytes")
     found = objects([], b"Content-Type: text/plain; charset=koi8-r\n\n\xc4\xc1", 0, "KOI8-R")
@@ -233,6 +176,16 @@ def check_levels():
     same((found[-1]["path"], found[-1]["text"]), (".".join(["1"] * 100), "end"), "100 levels")
     found = objects([], nested(101), 1, "101 levels")
     same(found, [{"error": "Recursion limit reached"}], "101 levels")
+
+
+def check_many():
+    """100,000 parts in one mail, each three bytes."""
+    count = 100_000
+    data = b"Content-Type: multipart/mixed; boundary=b\n\n" + b"--b\n\none\n" * count
+    found = objects([], data, 0, "100,000 parts")[0]["parts"]
+    places = [(str(number + 1), 43 + 9 * number + 4, 43 + 9 * number + 8, "one") for number in range(count)]
+    places[-1] = (*places[-1][:2], len(data), "one\n")
+    same([(part["path"], part["start"], part["end"], part["text"]) for part in found[1:]], places, "100,000 parts")
 
 
 def made(random_, end, path, levels):
@@ -345,6 +298,7 @@ def main():
         check_characters,
         check_faults,
         check_levels,
+        check_many,
         check_edges,
         check_places,
         check_mailboxes,

@@ -1,10 +1,11 @@
 #!/usr/bin/env python3
-"""Writes a mail to measure readers on to standard output, or the body of one.
+"""Writes a mail to measure readers on to standard output, or the body of one, or a mailbox.
 
 The same KIND and SCALE give the same bytes. SCALE multiplies the size, 1 if it is left out.
 """
 import argparse
 import base64
+import os
 import quopri
 import random
 import sys
@@ -73,6 +74,17 @@ def small(scale):
     rng = random.Random(SEED)
     parts = [b"--list\r\n" + small_mail(rng, number) for number in range(1, int(scale * 2000) + 1)]
     return head(rng, 0) + b"Content-Type: multipart/digest; boundary=list\r\n\r\n" + b"".join(parts) + b"--list--\r\n"
+
+
+def mails(scale):
+    """Small mails, one after another."""
+    rng = random.Random(SEED)
+    return (small_mail(rng, number) for number in range(1, int(scale * 2000) + 1))
+
+
+def mailbox(scale):
+    """A mailbox of small mails."""
+    return b"".join(b"From a@example.org Sun Oct  2 14:06:22 2016\r\n" + mail + b"\r\n" for mail in mails(scale))
 
 
 def headers(scale):
@@ -159,6 +171,7 @@ LINES = b'"=?utf-8?Q?%s?="'
 KINDS = {
     "attachment": ("a short text and an attachment of 20 MB", attachment),
     "small": ("2,000 mails of 5 kB in one", small),
+    "mailbox": ("a mailbox of 2,000 mails of 5 kB", mailbox),
     "headers": ("5 MB of headers: plain values, folded ones, encoded words", headers),
     "quoted-text": ("10 MB of quoted-printable: a text", lambda s: quoted(quoted_text(s))),
     "quoted-escapes": ("10 MB of quoted-printable: escapes alone", lambda s: quoted(quoted_escapes(s))),
@@ -218,8 +231,16 @@ def main():
     )
     parser.add_argument("kind", metavar="KIND", choices=KINDS, help="which mail, see below")
     parser.add_argument("scale", metavar="SCALE", type=scale_of, nargs="?", default=1, help="how many times the size")
+    parser.add_argument("--files", metavar="FOLDER", help="write each mail of a mailbox to a file in this folder")
     asked = parser.parse_args()
-    sys.stdout.buffer.write(KINDS[asked.kind][1](asked.scale))
+    if asked.files is None:
+        sys.stdout.buffer.write(KINDS[asked.kind][1](asked.scale))
+        return
+    if asked.kind != "mailbox":
+        parser.error("--files is for a mailbox")
+    for number, mail in enumerate(mails(asked.scale), 1):
+        with open(os.path.join(asked.files, f"{number:05}.eml"), "wb") as file:
+            file.write(mail)
 
 
 if __name__ == "__main__":

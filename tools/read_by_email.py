@@ -1,0 +1,176 @@
+#!/usr/bin/env python3
+"""Writes what Python's email package reads of mails as JSON, one object to a line.
+
+The members are those that mail_json writes, but for `start`, `end` and `size`, which the package does not
+know.
+Each FILE is a mail, and with --mbox a mailbox; without a FILE the one on standard input is read. A mail
+that the package fails on is an object with the one member `error`.
+"""
+import argparse
+import email
+import email.header
+import email.message
+import email.utils
+import json
+import re
+import sys
+
+
+def codec(label):
+    """The name that Python has for the charset that the Encoding Standard reads under a label."""
+    return "windows-1252" if label.lower() in ("us-ascii", "iso-8859-1") else label
+
+
+def shown(value):
+    """The text of a header's value; bytes that are no UTF-8 are Latin-1 by docs/RULES.md."""
+    if value is None:
+        return None
+    raw = value.encode("utf-8", "surrogateescape")
+    try:
+        text = raw.decode("utf-8")
+    except UnicodeDecodeError:
+        text = raw.decode("latin-1")
+    unfolded = re.sub(r"\r?\n[ \t]*", " ", text)
+    pieces = email.header.decode_header(unfolded)
+    return "".join(
+        piece if isinstance(piece, str) else piece.decode(codec(charset) if charset else "raw-unicode-escape")
+        for piece, charset in pieces
+    )
+
+
+def raw_value(mail, name):
+    """The value of the first header with this name, or None; bytes above 0x7F are surrogates."""
+    return next((value for key, value in mail.raw_items() if key.lower() == name), None)
+
+
+def value_of(mail, name):
+    """The text of the first header with this name, or None."""
+    return shown(raw_value(mail, name))
+
+
+def ids(value):
+    """The message ids of a value."""
+    return re.findall(r"<([^<>]*@[^<>]*)>", shown(value) or "")
+
+
+def seconds(value):
+    """The seconds of a date, or None where there is none."""
+    if value is None:
+        return None
+    return int(email.utils.parsedate_to_datetime(str(value)).timestamp())
+
+
+def has_parts(part):
+    """Whether a part has parts of its own; a forwarded mail is not entered."""
+    return part.get_content_maintype() == "multipart" and part.is_multipart()
+
+
+def walk(mail, path):
+    """The parts of a mail with their paths, each before its own parts."""
+    yield path, mail
+    if has_parts(mail):
+        for number, part in enumerate(mail.get_payload(), 1):
+            yield from walk(part, f"{path}.{number}" if path else str(number))
+
+
+def parts_of(mail):
+    """The parts of a mail with their paths, as IMAP numbers parts."""
+    return walk(mail, "" if has_parts(mail) else "1")
+
+
+def charset_of(part):
+    """The charset of a part."""
+    return email.utils.collapse_rfc2231_value(part.get_param("charset", "us-ascii"))
+
+
+def params_of(part):
+    """The parameters of the type of a part."""
+    return {key.lower(): email.utils.collapse_rfc2231_value(value) for key, value in part.get_params([])[1:]}
+
+
+def is_file(part):
+    """Whether a part is a file."""
+    return not has_parts(part) and (part.get_content_disposition() == "attachment" or part.get_filename() is not None)
+
+
+def body_of(part):
+    """The decoded bytes of the body of a part."""
+    if part.is_multipart():
+        return part.as_bytes() if part.get_content_maintype() != "multipart" else b""
+    return part.get_payload(decode=True)
+
+
+def text_of(part, body):
+    """The text of a part, or None where it is no text, or a file."""
+    if part.get_content_maintype() != "text" or is_file(part):
+        return None
+    return body.decode(codec(charset_of(part)), "replace")
+
+
+def part_object(path, part):
+    """The object of a part."""
+    body = body_of(part)
+    return {
+        "path": path,
+        "type": part.get_content_type(),
+        "charset": charset_of(part),
+        "params": params_of(part),
+        "disposition": part.get_content_disposition(),
+        "file_name": part.get_filename(),
+        "attachment": is_file(part),
+        "encoding": (part.get("content-transfer-encoding") or "7bit").lower(),
+        "decoded_size": len(body),
+        "headers": [[name, shown(value)] for name, value in part.raw_items()],
+        "text": text_of(part, body),
+    }
+
+
+def date_of(mail):
+    """The member of the date, and the one of its error."""
+    try:
+        return {"date": seconds(raw_value(mail, "date"))}
+    except (TypeError, ValueError, OverflowError, IndexError) as error:
+        return {"date": None, "date_error": str(error)}
+
+
+def mail_object(data):
+    """The object of a mail."""
+    mail = email.message_from_bytes(data)
+    found = {name: value_of(mail, name) for name in ("subject", "from", "to", "cc")}
+    found.update(date_of(mail))
+    for name in ("message_id", "in_reply_to", "references"):
+        found[name] = ids(raw_value(mail, name.replace("_", "-")))
+    found["parts"] = [part_object(path, part) for path, part in parts_of(mail)]
+    return found
+
+
+def mails_of(mailbox):
+    """The mails of a mailbox: each begins after a line `From ` at the front or after an empty line."""
+    starts = list(re.finditer(rb"(?:\A|(?<=\n)\r?\n)From [^\n]*(?:\n|\Z)", mailbox))
+    ends = [found.start() for found in starts[1:]] + [len(mailbox)]
+    for found, end in zip(starts, ends):
+        yield mailbox[found.end():end]
+
+
+def write_lines(data, is_mailbox):
+    """Writes the line of each mail of an input."""
+    for mail in mails_of(data) if is_mailbox else [data]:
+        try:
+            line = json.dumps(mail_object(mail), ensure_ascii=False, separators=(",", ":"))
+        except Exception as error:  # what the package raises is not said anywhere
+            line = json.dumps({"error": f"{type(error).__name__}: {error}"})
+        sys.stdout.buffer.write(line.encode("utf-8", "surrogateescape") + b"\n")
+
+
+def main():
+    """Writes the lines of all inputs."""
+    parser = argparse.ArgumentParser(description=__doc__, formatter_class=argparse.RawDescriptionHelpFormatter)
+    parser.add_argument("--mbox", action="store_true", help="each input is a mailbox")
+    parser.add_argument("files", metavar="FILE", nargs="*", type=argparse.FileType("rb"), help="a mail, or a mailbox")
+    asked = parser.parse_args()
+    for file in asked.files or [sys.stdin.buffer]:
+        write_lines(file.read(), asked.mbox)
+
+
+if __name__ == "__main__":
+    main()
