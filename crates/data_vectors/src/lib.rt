@@ -7,6 +7,8 @@ mod archive;
 #[cfg(test)]
 mod bounces;
 #[cfg(test)]
+mod dates;
+#[cfg(test)]
 mod files;
 #[cfg(test)]
 mod lenient;

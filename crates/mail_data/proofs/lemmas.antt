@@ -6,5 +6,6 @@ pub mod Files
 pub mod Forwarding
 pub mod Lines
 pub mod LooseCoding
+pub mod LooseDate
 pub mod LooseIds
 pub mod Mailbox

@@ -1,5 +1,5 @@
 -- What an archive of threads needs of a mail: its own id, and those of the mails before it (RFC 5322, section 3.6.4).
-use Rattle.std.specs.Prelude.{ℕ, Bool, not, List, [], ◌∷◌, ◌++◌, filter, Option, Some, None, codes}
+use Rattle.std.specs.Prelude.{ℕ, not, List, [], ◌∷◌, ◌++◌, filter, Option, Some, None, codes}
 use Rattle.std.specs.Option.{option_map_or}
 use Rattle.std.specs.Str.{bytes_eq}
 use Rattle.mailparse.specs.Mail.{Node}

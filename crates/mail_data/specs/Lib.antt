@@ -8,6 +8,8 @@ pub mod Base64Front
 pub mod Base64FrontViews
 pub mod LooseIds
 pub mod LooseCoding
+pub mod LooseDate
+pub mod LooseDateViews
 pub mod Texts
 pub mod TextViews
 pub mod Forwarding
@@ -22,6 +24,7 @@ pub use Rattle.mailparse.specs.Block
 pub use Rattle.mailparse.specs.Body
 pub use Rattle.mailparse.specs.BodyViews
 pub use Rattle.mailparse.specs.ContentType
+pub use Rattle.mailparse.specs.Date
 pub use Rattle.mailparse.specs.Disposition
 pub use Rattle.mailparse.specs.Header
 pub use Rattle.mailparse.specs.Mail

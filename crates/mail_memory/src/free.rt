@@ -5,6 +5,7 @@ use crate::found::is_cow;
 use crate::tables::TABLES;
 use mail_codec::bytescan::{find, find_byte, find_pair};
 use mail_codec::charset::{Charset, decode_ascii, decode_latin1, table_for_label};
+use mail_data::lenient::date_of;
 use mailparse::body::Body;
 use mailparse::{
     DispositionType, MailHeader, MailHeaderMap, MailParseError, ParsedContentDisposition,
@@ -124,13 +125,14 @@ fn are_three(mut parts: PartsIterator<'_, '_>) -> bool {
         && parts.next().is_none()
 }
 
-/// `dateparse`, `msgidparse` without an id, and a disposition without an extension.
+/// `dateparse`, `date_of`, `msgidparse` without an id, and a disposition without an extension.
 fn read_texts(alloc: Global) -> Result<bool, MailParseError> {
     let ids = msgidparse(alloc, " ")?;
     let found = ParsedContentDisposition::default(alloc);
     let copy = found.disposition.clone(alloc)?;
     Ok(
         dateparse("Sun, 02 Oct 2016 07:06:22 -0700 (PDT)")? == 1_475_417_182
+            && date_of("Sun, 29 Jul 2012 20:57 +0200").ok() == Some(1_343_588_220)
             && ids.0.is_empty()
             && is_refused(&msgidparse(alloc, "a"), "Message IDs must start with <")
             && found.params.is_empty()

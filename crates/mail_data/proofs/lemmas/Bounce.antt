@@ -1,9 +1,9 @@
 -- Lemmas on reports of delivery.
-use Rattle.std.proofs.Common.{◌≡◌, ℕ, zero, suc, ◌+◌, ◌-◌, ◌<◌, ◌≤◌, Bool, true, false, not, List, [], ◌∷◌, ◌++◌, length, map, take, drop, Bor, Option, Some, None, refl, sym, ap, ◌∙◌, arith, append_assoc, length-drop, inl, inr}
+use Rattle.std.proofs.Common.{◌≡◌, ℕ, zero, suc, ◌<◌, ◌≤◌, Bool, true, false, not, List, [], ◌∷◌, ◌++◌, length, map, drop, Bor, Option, None, refl, sym, ap, ◌∙◌, arith, append_assoc, length-drop, inl, inr}
 use Rattle.std.specs.Prelude.{codes, nat_lt, nat_eq, filter}
 use Rattle.std.proofs.lemmas.Bool.{cond-true, cond-false, cases_Bool, lt-ltb, le-ltb, ltb-true, ne_eqb, false≢true}
 use Rattle.std.proofs.lemmas.List.{append-nil, drop_all}
-use Rattle.std.specs.List.{list_any, after_first, position_or_len}
+use Rattle.std.specs.List.{after_first, position_or_len}
 use Rattle.mailparse.proofs.lemmas.EncodedWord.{any_from_place}
 use Rattle.mailparse.specs.Header.{Header}
 use Rattle.mail_codec.specs.Places.{byte_place, is_empty}

@@ -1,0 +1,81 @@
+-- Lemmas on dates as mail writes them.
+use Rattle.std.proofs.Common.{◌≡◌, ℕ, zero, suc, ◌+◌, ◌*◌, ◌/◌, ◌%◌, ◌-◌, ◌^◌, ◌<◌, ◌≤◌, Bool, true, false, cond, not, ◌&&◌, ◌||◌, eqb, leb, List, [], ◌∷◌, length, take, get_or, refl, arith}
+use Rattle.std.specs.Char.{digit_value, is_ascii_digit}
+use Rattle.std.specs.Int.{IsInRange}
+use Rattle.std.specs.List.{prefix_len}
+use Rattle.std.specs.Str.Parse.{AllDigits, digits_value}
+use Rattle.std.proofs.Math.Nat.{pow-le-pow_right}
+use Rattle.std.proofs.lemmas.Bool.{lt-ltb, le-ltb, leb-true, eqb-true, eqb-false}
+use Rattle.std.proofs.lemmas.Int.Digits.{digits_value-lt, digits_value_more}
+use Rattle.std.proofs.lemmas.Str.Parse.{digit_at, digits_value-take-le}
+use Rattle.mailparse.specs.Date.{year_length}
+use Rattle.mail_data.specs.LooseDate.{days_of_years}
+
+-- ---- digits
+
+digit_is : (b : ℕ) → IsInRange 48 57 b → digit_value b ≡ b - 48
+digit_is b h = rw (le-ltb b 48 (omega (arith, h.0)), lt-ltb b 58 (omega (arith, h.1))) refl
+
+-- the number with one digit more
+pub value-next : (ds : List ℕ) (i : ℕ) → AllDigits 10 ds → i < length ds → 10 * digits_value 10 (take i ds) + (get_or ds i 0 - 48) ≡ digits_value 10 (take (i + 1) ds)
+value-next ds i all lt =
+    let digit = digit_is (get_or ds i 0) (digit_at ds i all lt) in
+    let next = digits_value_more 10 ds i lt in
+    omega (arith, digit, next)
+
+pub value-small : (ds : List ℕ) (i : ℕ) → AllDigits 10 ds → length ds ≤ 9 → digits_value 10 (take i ds) < 10 ^ 9
+value-small ds i all short =
+    let part = digits_value-take-le 10 ds i (omega arith) in
+    let whole = digits_value-lt 10 ds all in
+    let most = pow-le-pow_right {n = 10} (omega arith) {i = length ds} {j = 9} short in
+    omega (arith, part, whole, most)
+
+digit_below : (b : ℕ) → is_ascii_digit b ≡ true → digit_value b < 10
+digit_below b h =
+    let low : 48 ≤ b = leb-true 48 b (and_left_true (leb 48 b) (leb b 57) h) in
+    let high : b ≤ 57 = leb-true b 57 (and_right_true (leb 48 b) (leb b 57) h) in
+    let same : digit_value b ≡ b - 48 = digit_is b (low, high) in
+    omega (arith, low, high, same)
+  where
+    and_left_true : (p q : Bool) → p && q ≡ true → p ≡ true
+    and_left_true true q h = refl
+    and_left_true false q h = absurd (cc)
+
+    and_right_true : (p q : Bool) → p && q ≡ true → q ≡ true
+    and_right_true true q h = h
+    and_right_true false q h = absurd (cc)
+
+-- a run of digits
+pub run-digits : (bytes : List ℕ) → AllDigits 10 (take (prefix_len is_ascii_digit bytes) bytes)
+run-digits [] = tt
+run-digits (b ∷ bytes) = go (run-digits bytes) (is_ascii_digit b) refl
+  where
+    go : AllDigits 10 (take (prefix_len is_ascii_digit bytes) bytes) → (t : Bool) → is_ascii_digit b ≡ t
+        → AllDigits 10 (take (cond t (1 + prefix_len is_ascii_digit bytes) 0) (b ∷ bytes))
+    go later true e = let one : 1 + prefix_len is_ascii_digit bytes ≡ suc (prefix_len is_ascii_digit bytes) = omega arith in rw one (digit_below b e, later)
+    go later false e = tt
+
+-- ---- days of years
+
+-- what a year adds to the count of leap years
+year_counts : (y m : ℕ) → y ≡ m + 1 → year_length y + (y / 100 + (m / 4 + m / 400)) ≡ 365 + (m / 100 + (y / 4 + y / 400))
+year_counts y m next = go (eqb (y % 4) 0) (eqb (y % 100) 0) (eqb (y % 400) 0) refl refl refl
+  where
+    go : (a b c : Bool) → eqb (y % 4) 0 ≡ a → eqb (y % 100) 0 ≡ b → eqb (y % 400) 0 ≡ c
+        → cond (a && (not b || c)) 366 365 + (y / 100 + (m / 4 + m / 400)) ≡ 365 + (m / 100 + (y / 4 + y / 400))
+    go true true true p q r = let a = eqb-true _ _ p in let b = eqb-true _ _ q in let c = eqb-true _ _ r in omega arith
+    go true true false p q r = let a = eqb-true _ _ p in let b = eqb-true _ _ q in let c = eqb-false _ _ r in omega arith
+    go true false true p q r = let b = eqb-false _ _ q in let c = eqb-true _ _ r in absurd (omega arith)
+    go true false false p q r = let a = eqb-true _ _ p in let b = eqb-false _ _ q in let c = eqb-false _ _ r in omega arith
+    go false true c p q r = let a = eqb-false _ _ p in let b = eqb-true _ _ q in absurd (omega arith)
+    go false false true p q r = let b = eqb-false _ _ q in let c = eqb-true _ _ r in absurd (omega arith)
+    go false false false p q r = let a = eqb-false _ _ p in let b = eqb-false _ _ q in let c = eqb-false _ _ r in omega arith
+
+-- the closed count
+pub days_of_years-closed : (n : ℕ) → days_of_years n + ((1899 + n) / 100 + 460) ≡ 365 * n + ((1899 + n) / 4 + (1899 + n) / 400)
+days_of_years-closed zero = refl
+days_of_years-closed (suc n) =
+    let before = days_of_years-closed n in
+    let year = year_counts (1900 + n) (1899 + n) (omega arith) in
+    let same : 1899 + suc n ≡ 1900 + n = omega arith in
+    rw same (omega arith)

@@ -1,0 +1,198 @@
+-- Dates as mail writes them: RFC 5322, section 3.3, and the obsolete forms of section 4.3. What is read where the standard
+-- leaves it open, and the faults, are the crate's own rule.
+use Rattle.std.specs.Prelude.{ℕ, zero, suc, ◌+◌, ◌*◌, ◌%◌, ◌-◌, Bool, false, not, ◌&&◌, ◌||◌, ◌==◌, nat_lt, nat_le, List, [], ◌∷◌, length, take, drop, sum, ℤ, pos, ◌+ℤ◌, neg_ℤ, Option, Some, None, ok_or, unwrap_or, Result, Ok, Err, codes, slice_index_or, if◌then◌else◌}
+use Rattle.std.specs.Char.{is_ascii_alphabetic, is_ascii_digit, is_ascii_whitespace}
+use Rattle.std.specs.Int.{is_in_range}
+use Rattle.std.specs.List.{prefix_len}
+use Rattle.std.specs.Option.{option_map_or}
+use Rattle.std.specs.Str.Parse.{digits_value}
+use Rattle.mail_codec.specs.Ascii.{opening_parenthesis, closing_parenthesis, backslash, comma, colon}
+use Rattle.mail_codec.specs.Places.{is_empty}
+use Rattle.mailparse.specs.Date.{look_up, month_lengths, months, year_length, zone_size}
+use Rattle.mail_data.specs.declared.lenient.date.DateError.{DateError}
+use Rattle.mail_data.specs.declared.lenient.date.DateError.TheVariants.{Day, Month, Year, Time, Zone, TrailingText}
+
+-- what is read, or what was found missing or wrong first
+abbrev pub Dated : Type 0 → Type 0
+Dated A = Result A DateError
+
+-- what is read after something else, unless that is missing or wrong
+infixl 10 ◌>>=◌
+abbrev pub ◌>>=◌ : {A B : Type 0} → Dated A → (A → Dated B) → Dated B
+(Ok x) >>= f = f x
+(Err fault) >>= f = Err fault
+
+-- Whitespace and comments.
+
+-- a byte that is no whitespace and opens no comment, where no comment is open
+abbrev pub ends_white : ℕ → ℕ → Bool
+ends_white depth b = depth == 0 && not (is_ascii_whitespace b || b == opening_parenthesis)
+
+-- how many comments are open after a byte, where so many are open before it; a byte that is quoted opens and closes none
+abbrev pub depth_after : Bool → ℕ → ℕ → ℕ
+depth_after quoted depth b =
+    if quoted then depth else
+    if b == opening_parenthesis then suc depth else
+    if b == closing_parenthesis then depth - 1 else depth
+
+-- what follows whitespace and comments, where so many comments are open, and the first byte is quoted or not: a backslash
+-- quotes the byte after it
+abbrev pub after_white : Bool → ℕ → List ℕ → List ℕ
+after_white quoted depth [] = []
+after_white quoted depth (b ∷ rest) =
+    if not quoted && ends_white depth b then b ∷ rest
+    else after_white (not quoted && b == backslash) (depth_after quoted depth b) rest
+
+-- what follows the whitespace and the comments at the front; a comment that is not closed goes to the end
+unfoldable pub after_comments : List ℕ → List ℕ
+after_comments bytes = after_white false 0 bytes
+
+-- Runs, marks and numbers, each after whitespace and comments, and what follows them.
+
+-- the bytes at the front that pass the test
+unfoldable pub run_at : (ℕ → Bool) → List ℕ → List ℕ × List ℕ
+run_at test bytes =
+    let rest = after_comments bytes in
+    (take (prefix_len test rest) rest, drop (prefix_len test rest) rest)
+
+-- what follows the byte at the front, if it is that one
+abbrev pub after_byte : ℕ → List ℕ → Option (List ℕ)
+after_byte mark [] = None
+after_byte mark (b ∷ rest) = if b == mark then Some rest else None
+
+unfoldable pub after_mark : ℕ → List ℕ → Option (List ℕ)
+after_mark mark bytes = after_byte mark (after_comments bytes)
+
+-- the number that one digit or two write, if it is at most that
+unfoldable pub small_number : ℕ → List ℕ → Option (ℕ × List ℕ)
+small_number most bytes =
+    let run = run_at is_ascii_digit bytes in
+    if is_in_range 1 2 (length run.0) && nat_le (digits_value 10 run.0) most
+    then Some (digits_value 10 run.0, run.1) else None
+
+-- Days, months and years.
+
+-- what follows the name of a day of the week and a comma, each if it is there; the name may be any word
+unfoldable pub after_day_name : List ℕ → List ℕ
+after_day_name bytes =
+    let rest = (run_at is_ascii_alphabetic bytes).1 in
+    unwrap_or (after_mark comma rest) rest
+
+-- the names of the months, with the month's number from 0: the first three letters, the whole, and `Sept`
+abbrev pub month_names : List (List ℕ × ℕ)
+month_names = (codes "Sept", 8) ∷ months
+
+-- the month that a word names
+unfoldable pub month_at : List ℕ → Dated (ℕ × List ℕ)
+month_at bytes =
+    let run = run_at is_ascii_alphabetic bytes in do
+      month ← ok_or (look_up month_names run.0) Month
+      Ok (month, run.1)
+
+-- the year that digits write: two from 00 to 49 are of the years from 2000, other two and three digits are counted from 1900, and
+-- four to nine write the year itself, from 1900 on
+unfoldable pub year_of : List ℕ → Dated ℕ
+year_of digits =
+    let n = digits_value 10 digits in
+    if length digits == 2 then Ok (if nat_lt n 50 then 2000 + n else 1900 + n) else
+    if length digits == 3 then Ok (1900 + n) else
+    if is_in_range 4 9 (length digits) && nat_le 1900 n then Ok n else Err Year
+
+unfoldable pub year_at : List ℕ → Dated (ℕ × List ℕ)
+year_at bytes =
+    let run = run_at is_ascii_digit bytes in do
+      year ← year_of run.0
+      Ok (year, run.1)
+
+-- the days of the first n years from 1900 on
+abbrev pub days_of_years : ℕ → ℕ
+days_of_years zero = 0
+days_of_years (suc n) = days_of_years n + year_length (1900 + n)
+
+-- the days from 1 January 1900 to a day, by its year, its month counted from 0, and its number in the month
+unfoldable pub day_number : ℕ → ℕ → ℕ → ℕ
+day_number year month day = days_of_years (year - 1900) + (sum (take month (month_lengths year)) + (day - 1))
+
+-- the days of a month
+unfoldable pub month_length : ℕ → ℕ → ℕ
+month_length year month = slice_index_or (month_lengths year) month 0
+
+-- a day, which its month has to have, counted from 1 January 1900, and what follows the year
+unfoldable pub day_at : List ℕ → Dated (ℕ × List ℕ)
+day_at bytes = do
+  day ← ok_or (small_number 31 (after_day_name bytes)) Day
+  month ← month_at day.1
+  year ← year_at month.1
+  if is_in_range 1 (month_length year.0 month.0) day.0
+      then Ok (day_number year.0 month.0 day.0, year.1) else Err Day
+
+-- Times of day.
+
+-- a number after a colon
+unfoldable pub after_colon : ℕ → List ℕ → Dated (ℕ × List ℕ)
+after_colon most bytes = do
+  rest ← ok_or (after_mark colon bytes) Time
+  ok_or (small_number most rest) Time
+
+-- the second, or 0 where no colon follows the minute; 60 is a leap second
+unfoldable pub second_at : List ℕ → Dated (ℕ × List ℕ)
+second_at bytes = option_map_or (λ rest. ok_or (small_number 60 rest) Time) (after_mark colon bytes) (Ok (0, bytes))
+
+-- the seconds from the start of the day to a time
+unfoldable pub time_at : List ℕ → Dated (ℕ × List ℕ)
+time_at bytes = do
+  hour ← ok_or (small_number 23 bytes) Time
+  minute ← after_colon 59 hour.1
+  second ← second_at minute.1
+  Ok (3600 * hour.0 + 60 * minute.0 + second.0, second.1)
+
+-- Zones.
+
+-- the seconds that four digits write: hours, and minutes below 60
+unfoldable pub offset_at : List ℕ → Dated (ℕ × List ℕ)
+offset_at bytes =
+    let run = run_at is_ascii_digit bytes in
+    let n = digits_value 10 run.0 in
+    if length run.0 == 4 && nat_lt (n % 100) 60 then Ok (zone_size n, run.1) else Err Zone
+
+-- the names of zones, with the hours that they are west of Greenwich
+abbrev pub zone_names : List (List ℕ × ℕ)
+zone_names =
+    (codes "EDT", 4) ∷ (codes "EST", 5) ∷ (codes "CDT", 5) ∷ (codes "CST", 6)
+    ∷ (codes "MDT", 6) ∷ (codes "MST", 7) ∷ (codes "PDT", 7) ∷ (codes "PST", 8) ∷ []
+
+-- the seconds that a zone with a name is west of Greenwich: none where the name is none of those; and none without a zone
+unfoldable pub named_zone_at : List ℕ → Dated (ℕ × List ℕ)
+named_zone_at bytes =
+    let run = run_at is_ascii_alphabetic bytes in
+    if is_empty run.0 && not (is_empty run.1) then Err Zone
+    else Ok (3600 * unwrap_or (look_up zone_names run.0) 0, run.1)
+
+-- what a zone in the west adds to the seconds, and what one in the east does
+abbrev pub west : ℕ × List ℕ → Dated (ℤ × List ℕ)
+west offset = Ok (pos offset.0, offset.1)
+
+abbrev pub east : ℕ × List ℕ → Dated (ℤ × List ℕ)
+east offset = Ok (neg_ℤ (pos offset.0), offset.1)
+
+-- what a zone adds to the seconds: after `+` it is in the east, after `-` and with a name in the west
+unfoldable pub zone_at : List ℕ → Dated (ℤ × List ℕ)
+zone_at bytes =
+    option_map_or (λ rest. offset_at rest >>= east) (after_mark 43 bytes)
+    (option_map_or (λ rest. offset_at rest >>= west) (after_mark 45 bytes)
+    (named_zone_at bytes >>= west))
+
+-- The date.
+
+-- the seconds from 1 January 1970, 0 h, to so many seconds after the start of 1900
+abbrev pub since_1970 : ℕ → ℤ
+since_1970 seconds = pos seconds +ℤ neg_ℤ (pos (86400 * day_number 1970 0 1))
+
+-- the seconds from 1 January 1970, 0 h UTC, to the date of a text
+unfoldable pub date_of : List ℕ → Dated ℤ
+date_of text = do
+  day ← day_at text
+  time ← time_at day.1
+  zone ← zone_at time.1
+  if is_empty (after_comments zone.1)
+      then Ok (since_1970 (86400 * day.0 + time.0) +ℤ zone.0) else Err TrailingText

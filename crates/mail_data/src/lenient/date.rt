@@ -1,0 +1,90 @@
+//! Dates as mail writes them (RFC 5322, sections 3.3 and 4.3).
+ghost use Rattle.std.specs.Prelude.{◌≡◌, ◌<◌, ◌^◌, neg_ℤ, pos, ◌≤ℤ◌, ◌+ℤ◌};
+ghost use Rattle.mail_data.specs.LooseDate.{date_of, since_1970};
+
+mod calendar;
+mod fields;
+mod numbers;
+mod white;
+mod zones;
+
+use fields::{day_at, time_at};
+use thiserror::Error;
+use white::after_comments;
+use zones::zone_at;
+
+/// What is missing in a date, or wrong in it, as `date_of` returns it.
+#[derive(Clone, Copy, Debug, PartialEq, Eq, Error)]
+pub enum DateError {
+    /// No number of one digit or two, or one that is no day of the month.
+    #[error("no day of the month")]
+    Day,
+    /// No name of a month.
+    #[error("no month")]
+    Month,
+    /// No number of two digits to nine, or a year before 1900.
+    #[error("no year")]
+    Year,
+    /// No time of day.
+    #[error("no time of day")]
+    Time,
+    /// Something after the time that is no zone.
+    #[error("no zone")]
+    Zone,
+    /// Something after the zone that is no comment.
+    #[error("text after the zone")]
+    TrailingText,
+}
+
+/// Returns the seconds from 1 January 1970, 0 h UTC, to a date as mail writes it: with the forms of
+/// RFC 5322, section 3.3, and the obsolete ones of section 4.3.
+///
+/// These are a day of the week and a comma, which may be absent and are not compared with the date;
+/// a day of one digit or two, which the month has to have; the name of a month, its first three
+/// letters or `Sept`, in any case; a year; a time of day, whose seconds may be left out; and a zone.
+/// A year of two digits is from 1950 to 2049, one of three is counted from 1900, and one of four to
+/// nine has to be at least 1900. The second may be 60. A zone is a sign and four digits, or a name:
+/// `EST`, `EDT`, `CST`, `CDT`, `MST`, `MDT`, `PST` and `PDT` have their offset, and every other
+/// name, a single letter among them, is UTC, and so is a date without a zone. Whitespace and
+/// comments may stand between two of these and at both ends; a comment may hold comments.
+///
+/// Unlike `mailparse::dateparse`, this reads `20:57 +0200`, without seconds, as it is meant. Takes
+/// no memory.
+///
+/// # Errors
+///
+/// What is missing or wrong first, in the order of the variants of `DateError`, but that a day is
+/// set beside its month once the year is read.
+///
+/// # Examples
+///
+/// ```rust
+/// use mail_data::lenient::{DateError, date_of};
+///
+/// assert_eq!(rt; date_of("Sun, 29 Jul 2012 20:57 +0200").ok(), Some(1_343_588_220));
+/// assert_eq!(rt; date_of("21 Nov 97 09:55:06 GMT").ok(), Some(880_106_106));
+/// assert_eq!(rt; date_of("30 Feb 2012 20:57 +0200").err(), Some(DateError::Day));
+/// ```
+#[tactic(auto, unfolding(crate::specs::LooseDate::date_of))]
+pub fn date_of(text: &str) -> Result<i64, DateError>
+    ensures { result ≡ date_of text.now }
+{
+    let (day, rest) = day_at(text.as_bytes())?;
+    let (time, rest) = time_at(rest)?;
+    let (zone, rest) = zone_at(rest)?;
+    if !after_comments(rest).is_empty() {
+        return Err(DateError::TrailingText);
+    }
+    Ok(since_1970(86_400 * day + time, zone))
+}
+
+/// The seconds from 1 January 1970, 0 h UTC, to so many seconds after the start of 1900 in a zone
+/// that adds so many to them.
+#[tactic(auto, unfolding(crate::specs::LooseDate::day_number))]
+fn since_1970(seconds: u64, zone: i64) -> i64
+    requires seconds { seconds < 2 ^ 60 }
+    requires zone { (neg_ℤ (pos (10 ^ 11)) ≤ℤ zone) × (zone ≤ℤ pos (10 ^ 11)) }
+    ensures { result ≡ since_1970 seconds +ℤ zone }
+{
+    seconds as i64 - 2_208_988_800 + zone
+}

@@ -1,0 +1,182 @@
+//! The day and the time of a date.
+ghost use Rattle.std.specs.Prelude.{◌≡◌, ◌≤◌, ◌<◌, ◌*◌, ◌^◌, length, map, IfOk};
+ghost use Rattle.std.specs.Str.{str_eq_ignore_ascii_case};
+ghost use Rattle.std.specs.Str.Parse.{AllDigits};
+ghost use Rattle.mailparse.specs.Date.{look_up};
+ghost use Rattle.mail_data.specs.LooseDate.{after_colon, after_day_name, day_at, month_at};
+ghost use Rattle.mail_data.specs.LooseDate.{second_at, time_at, year_at, year_of};
+ghost use Rattle.mail_data.specs.LooseDateViews.{part_read};
+
+use super::DateError;
+use super::calendar::{day_number, month_length};
+use super::numbers::{number_of, small_number};
+use super::white::{after_mark, digits_at, letters_at};
+
+/// The names of the months, with the month's number from 0.
+static MONTHS: [(&str, usize); 24] = [
+    ("Sept", 8),
+    ("Jan", 0),
+    ("January", 0),
+    ("Feb", 1),
+    ("February", 1),
+    ("Mar", 2),
+    ("March", 2),
+    ("Apr", 3),
+    ("April", 3),
+    ("May", 4),
+    ("Jun", 5),
+    ("June", 5),
+    ("Jul", 6),
+    ("July", 6),
+    ("Aug", 7),
+    ("August", 7),
+    ("Sep", 8),
+    ("September", 8),
+    ("Oct", 9),
+    ("October", 9),
+    ("Nov", 10),
+    ("November", 10),
+    ("Dec", 11),
+    ("December", 11),
+];
+
+/// The days from 1 January 1900 to the day at the front, and what follows the year.
+#[tactic(auto, unfolding(crate::specs::LooseDate::day_at))]
+pub(super) fn day_at(text: &[u8]) -> Result<(u64, &[u8]), DateError>
+    ensures read { part_read result ≡ day_at text.now }
+    ensures bounds { IfOk result (λ p. p.0 < 367 * 2 ^ 30) }
+{
+    let Some((day, rest)) = small_number(after_day_name(text), 31) else {
+        return Err(DateError::Day);
+    };
+    let (month, rest) = month_at(rest)?;
+    let (year, rest) = year_at(rest)?;
+    if day < 1 || day > month_length(year, month) {
+        return Err(DateError::Day);
+    }
+    Ok((day_number(year, month, day), rest))
+}
+
+/// What follows the name of a day of the week and a comma, each if it is there.
+#[tactic(auto, unfolding(crate::specs::LooseDate::after_day_name))]
+fn after_day_name(text: &[u8]) -> &[u8]
+    ensures { result.now ≡ after_day_name text.now }
+{
+    let (_, rest) = letters_at(text);
+    match after_mark(rest, b',') {
+        Some(after) => after,
+        None => rest,
+    }
+}
+
+/// The month that the word at the front names, counted from 0, and what follows it.
+#[tactic(auto, unfolding(crate::specs::LooseDate::month_at))]
+fn month_at(text: &[u8]) -> Result<(usize, &[u8]), DateError>
+    ensures read { part_read result ≡ month_at text.now }
+    ensures bounds { IfOk result (λ p. p.0 < 12) }
+{
+    let (word, rest) = letters_at(text);
+    match look_up(&MONTHS, word) {
+        Some(month) => Ok((month, rest)),
+        None => Err(DateError::Month),
+    }
+}
+
+/// What a table has for a word, ignoring ASCII case.
+pub(super) fn look_up<T: Copy>(table: &[(&str, T)], word: &[u8]) -> Option<T>
+    ensures { result ≡ look_up (map (λ row. (row.0.now, row.1)) table.now) word.now }
+{
+    for (name, value) in table {
+        if is_same(word, name) {
+            return Some(*value);
+        }
+    }
+    None
+}
+
+/// Whether a word is a name, ignoring ASCII case.
+fn is_same(word: &[u8], name: &str) -> bool
+    ensures { result ≡ str_eq_ignore_ascii_case word.now name.now }
+{
+    word.eq_ignore_ascii_case(name.as_bytes())
+}
+
+/// The year that the digits at the front write, and what follows them.
+#[tactic(auto, unfolding(crate::specs::LooseDate::year_at))]
+fn year_at(text: &[u8]) -> Result<(u64, &[u8]), DateError>
+    ensures read { part_read result ≡ year_at text.now }
+    ensures bounds { IfOk result (λ p. (1900 ≤ p.0) × (p.0 < 2 ^ 30)) }
+{
+    let (digits, rest) = digits_at(text);
+    match year_of(digits) {
+        Ok(year) => Ok((year, rest)),
+        Err(error) => Err(error),
+    }
+}
+
+/// The year that digits write.
+#[tactic(auto, unfolding(crate::specs::LooseDate::year_of))]
+fn year_of(digits: &[u8]) -> Result<u64, DateError>
+    requires { AllDigits 10 digits.now }
+    ensures read { result ≡ year_of digits.now }
+    ensures bounds { IfOk result (λ year. (1900 ≤ year) × (year < 2 ^ 30)) }
+{
+    if digits.len() < 2 || digits.len() > 9 {
+        return Err(DateError::Year);
+    }
+    let number = number_of(digits);
+    if digits.len() == 2 && number < 50 {
+        return Ok(2000 + number);
+    }
+    if digits.len() < 4 {
+        return Ok(1900 + number);
+    }
+    if number < 1900 {
+        return Err(DateError::Year);
+    }
+    Ok(number)
+}
+
+/// The seconds from the start of the day to the time at the front, and what follows it.
+#[tactic(auto, unfolding(crate::specs::LooseDate::time_at))]
+pub(super) fn time_at(text: &[u8]) -> Result<(u64, &[u8]), DateError>
+    ensures read { part_read result ≡ time_at text.now }
+    ensures bounds { IfOk result (λ p. p.0 < 86401) }
+{
+    let Some((hour, rest)) = small_number(text, 23) else {
+        return Err(DateError::Time);
+    };
+    let (minute, rest) = after_colon(rest, 59)?;
+    let (second, rest) = second_at(rest)?;
+    Ok((3600 * hour + 60 * minute + second, rest))
+}
+
+/// The number after a colon, if it is at most that, and what follows it.
+#[tactic(auto, unfolding(crate::specs::LooseDate::after_colon))]
+fn after_colon(text: &[u8], most: u64) -> Result<(u64, &[u8]), DateError>
+    ensures read { part_read result ≡ after_colon most text.now }
+    ensures bounds { IfOk result (λ p. p.0 ≤ most) }
+{
+    let Some(rest) = after_mark(text, b':') else {
+        return Err(DateError::Time);
+    };
+    match small_number(rest, most) {
+        Some(number) => Ok(number),
+        None => Err(DateError::Time),
+    }
+}
+
+/// The second, or 0 where no colon follows the minute, and what follows it.
+#[tactic(auto, unfolding(crate::specs::LooseDate::second_at))]
+fn second_at(text: &[u8]) -> Result<(u64, &[u8]), DateError>
+    ensures read { part_read result ≡ second_at text.now }
+    ensures bounds { IfOk result (λ p. p.0 ≤ 60) }
+{
+    let Some(rest) = after_mark(text, b':') else {
+        return Ok((0, text));
+    };
+    match small_number(rest, 60) {
+        Some(second) => Ok(second),
+        None => Err(DateError::Time),
+    }
+}

@@ -1,0 +1,39 @@
+//! The numbers that digits write.
+ghost use Rattle.std.specs.Prelude.{◌≡◌, ◌≤◌, ◌<◌, ◌^◌, length, option_map, IfSome};
+ghost use Rattle.std.specs.Str.Parse.{AllDigits, digits_value};
+ghost use Rattle.mail_data.specs.LooseDate.{small_number};
+ghost use Rattle.mail_data.specs.LooseDateViews.{part_and_rest};
+
+use super::white::digits_at;
+
+/// The number that one digit or two write, after whitespace and comments, if it is at most that,
+/// and what follows it.
+#[tactic(auto, unfolding(crate::specs::LooseDate::small_number))]
+pub(super) fn small_number(text: &[u8], most: u64) -> Option<(u64, &[u8])>
+    ensures value { option_map part_and_rest result ≡ small_number most text.now }
+    ensures bounds { IfSome result (λ p. p.0 ≤ most) }
+{
+    let (digits, rest) = digits_at(text);
+    if digits.len() < 1 || digits.len() > 2 {
+        return None;
+    }
+    let number = number_of(digits);
+    if number > most {
+        return None;
+    }
+    Some((number, rest))
+}
+
+/// The number that at most nine digits write.
+pub(super) fn number_of(digits: &[u8]) -> u64
+    requires digits { AllDigits 10 digits.now }
+    requires short { length digits.now ≤ 9 }
+    ensures value { result ≡ digits_value 10 digits.now }
+    ensures bounds { result < 10 ^ 9 }
+{
+    let mut number = 0;
+    for digit in digits {
+        number = 10 * number + u64::from(*digit - b'0');
+    }
+    number
+}

@@ -1,0 +1,107 @@
+//! Whitespace and comments of a date, and what stands after them.
+ghost use Rattle.std.specs.Prelude.{◌≡◌, ◌+◌, ◌≤◌, ◌<◌, ◌^◌, length, option_map};
+ghost use Rattle.std.specs.Char.{is_ascii_alphabetic, is_ascii_digit};
+ghost use Rattle.std.specs.List.{prefix_len};
+ghost use Rattle.std.specs.Str.Parse.{AllDigits};
+ghost use Rattle.mail_data.specs.LooseDate.{after_comments, after_mark, depth_after, ends_white, run_at};
+
+/// What follows the whitespace and the comments at the front.
+#[tactic(auto, unfolding(crate::specs::LooseDate::after_comments))]
+pub(super) fn after_comments(text: &[u8]) -> &[u8]
+    ensures { result.now ≡ after_comments text.now }
+{
+    let mut is_quoted = false;
+    let mut depth = 0;
+    for (place, byte) in text.iter().enumerate() {
+        let byte = *byte;
+        if !is_quoted && ends_white(depth, byte) {
+            let (_, rest) = text.split_at(place);
+            return rest;
+        }
+        depth = depth_after(is_quoted, depth, byte);
+        is_quoted = !is_quoted && byte == b'\\';
+    }
+    let (_, rest) = text.split_at(text.len());
+    rest
+}
+
+/// Whether a byte is no whitespace and opens no comment, where no comment is open.
+fn ends_white(depth: usize, byte: u8) -> bool
+    ensures { result ≡ ends_white depth byte }
+{
+    depth == 0 && !(byte.is_ascii_whitespace() || byte == b'(')
+}
+
+/// How many comments are open after a byte.
+fn depth_after(is_quoted: bool, depth: usize, byte: u8) -> usize
+    requires { depth < 2 ^ 63 }
+    ensures value { result ≡ depth_after is_quoted depth byte }
+    ensures bounds { result ≤ depth + 1 }
+{
+    if is_quoted {
+        return depth;
+    }
+    if byte == b'(' {
+        return depth + 1;
+    }
+    if byte == b')' {
+        return depth.saturating_sub(1);
+    }
+    depth
+}
+
+/// What follows the byte at the front, after whitespace and comments, if it is that one.
+#[tactic(auto, unfolding(crate::specs::LooseDate::after_mark))]
+pub(super) fn after_mark(text: &[u8], mark: u8) -> Option<&[u8]>
+    ensures { option_map (λ rest. rest.now) result ≡ after_mark mark text.now }
+{
+    let Some((byte, rest)) = after_comments(text).split_first() else {
+        return None;
+    };
+    if *byte == mark { Some(rest) } else { None }
+}
+
+/// The letters at the front, after whitespace and comments, and what follows them.
+#[tactic(auto, unfolding(crate::specs::LooseDate::run_at))]
+pub(super) fn letters_at(text: &[u8]) -> (&[u8], &[u8])
+    ensures { (result.0.now, result.1.now) ≡ run_at is_ascii_alphabetic text.now }
+{
+    let rest = after_comments(text);
+    rest.split_at(letters_len(rest))
+}
+
+/// How many letters stand at the front.
+fn letters_len(text: &[u8]) -> usize
+    ensures value { result ≡ prefix_len is_ascii_alphabetic text.now }
+    ensures bounds { result ≤ length text.now }
+{
+    for (place, byte) in text.iter().enumerate() {
+        if !byte.is_ascii_alphabetic() {
+            return place;
+        }
+    }
+    text.len()
+}
+
+/// The digits at the front, after whitespace and comments, and what follows them.
+#[tactic(auto, unfolding(crate::specs::LooseDate::run_at))]
+pub(super) fn digits_at(text: &[u8]) -> (&[u8], &[u8])
+    ensures run { (result.0.now, result.1.now) ≡ run_at is_ascii_digit text.now }
+    ensures digits { AllDigits 10 result.0.now }
+{
+    let rest = after_comments(text);
+    rest.split_at(digits_len(rest))
+}
+
+/// How many digits stand at the front.
+fn digits_len(text: &[u8]) -> usize
+    ensures value { result ≡ prefix_len is_ascii_digit text.now }
+    ensures bounds { result ≤ length text.now }
+{
+    for (place, byte) in text.iter().enumerate() {
+        if !byte.is_ascii_digit() {
+            return place;
+        }
+    }
+    text.len()
+}
