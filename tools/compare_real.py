@@ -6,9 +6,10 @@ for four jobs: the index (subject, from, date, id), the attachments (names and s
 report on delivery says were not reached, and the threads (the ids of the mails before it). Both sides read
 the same mailbox, into which all are put; so a line that begins with `From ` begins with `>From ` there.
 
-For each item it prints of how many mails it differs, how many of these are refused here and how many there,
-and some of them: the mail, what is said here, and what Python says. The last line says how many mails agree
-in all. The status is 0 however many differ.
+For each item it prints in how many mails it differs, in how many of these it is refused here and in how many
+by Python, and some of them: the mail, what is said here, and what Python says. The item `mail` are those that are
+refused whole. What both refuse counts as the same. An attachment whose Base64 is damaged has the size of what
+mail_jobs reads of it. The last line says how many mails agree in all. The status is 0 however many differ.
 """
 import argparse
 import collections
@@ -23,8 +24,9 @@ from read_by_email import ids, is_file, body_of, mails_of, parts_of, raw_value, 
 
 HERE = os.path.dirname(os.path.abspath(__file__))
 BATCH = 1000
-ITEMS = ("subject", "from", "date", "id", "attachments", "not reached", "parents")
+ITEMS = ("mail", "subject", "from", "date", "id", "attachments", "not reached", "parents")
 ESCAPE = re.compile(r"\\(u\{([0-9a-f]+)\}|.)")
+FILE = re.compile(r'^file ([0-9.]*): ".*", ([0-9]+) bytes', re.M)
 NAMED = {"n": "\n", "r": "\r", "t": "\t", "0": "\0"}
 
 
@@ -33,6 +35,9 @@ class Refused:
 
     def __init__(self, why):
         self.why = why
+
+    def __eq__(self, other):
+        return isinstance(other, Refused)
 
     def __repr__(self):
         return f"refused: {self.why}"
@@ -81,6 +86,17 @@ def ran(words, data):
     return ended.stdout.decode("utf-8")
 
 
+def records(output):
+    """The records of mail_jobs, each of which ends in an empty line."""
+    found = []
+    for line in output.split("\n")[:-1]:
+        if line:
+            found.append(line)
+        else:
+            yield "\n".join(found)
+            found = []
+
+
 def once(texts):
     """The texts, each where it stands first."""
     return list(dict.fromkeys(texts))
@@ -95,15 +111,19 @@ def said_here(line, job):
     """What is said here of each item of a mail: its line of mail_json, and its lines of mail_jobs."""
     mail = json.loads(line)
     if "error" in mail:
-        return dict.fromkeys(ITEMS, Refused(mail["error"]))
+        return {"mail": Refused(mail["error"])}
+    read = {path: int(size) for path, size in FILE.findall(job)}
     files = [part for part in mail["parts"] if part["attachment"]]
     missed = [line.split(": ", 1)[1] for line in job.split("\n") if line.startswith("not reached: ")]
     return {
+        "mail": None,
         "subject": mail["subject"],
         "from": mail["from"],
         "date": Refused(mail["date_error"]) if "date_error" in mail else mail["date"],
         "id": mail["message_id"][0] if mail["message_id"] else None,
-        "attachments": [(part["file_name"], part.get("error") or part["decoded_size"]) for part in files],
+        "attachments": [
+            (part["file_name"], read.get(part["path"]) if "error" in part else part["decoded_size"]) for part in files
+        ],
         "not reached": [unescaped(text) for text in missed],
         "parents": once(mail["references"] + mail["in_reply_to"]),
     }
@@ -138,7 +158,7 @@ READERS = {
 
 def said_there(data):
     """What Python says of each item of a mail."""
-    said = {}
+    said = {"mail": None}
     for item, reader in READERS.items():
         try:
             said[item] = reader(email.message_from_bytes(data))
@@ -160,7 +180,7 @@ class Counts:
     def add(self, name, here, there):
         """Counts a mail."""
         self.mails += 1
-        wrong = [item for item in ITEMS if here[item] != there[item]]
+        wrong = [item for item in here if here[item] != there[item]]
         self.same += not wrong
         for item in wrong:
             self.differ[item, "all"] += 1
@@ -183,7 +203,7 @@ def compare(batch, programs, counts):
     """Compares a batch of mails."""
     mailbox = b"".join(b"From a\n" + mail + b"\n" for _name, mail in batch)
     lines = ran([programs["mail_json"], "--mbox"], mailbox).split("\n")[:-1]
-    jobs = ran([programs["mail_jobs"]], mailbox).split("\n\n")[:-1]
+    jobs = list(records(ran([programs["mail_jobs"]], mailbox)))
     if not len(lines) == len(jobs) == len(batch):
         sys.exit(f"{len(batch)} mails are {len(lines)} lines of mail_json and {len(jobs)} records of mail_jobs")
     for (name, mail), line, job in zip(batch, lines, jobs):
