@@ -5,8 +5,8 @@
 #
 # A call for help passes that writes to standard output alone and ends with status 0; another call,
 # that writes to standard error alone and ends with status 2, and with a file that is missing with
-# status 1; each within 20 seconds. Where a program is built, what its link writes of a mail on standard
-# input and of one in a file has to be what the program writes.
+# status 1; each within 20 seconds. Where a program is built, it gets such calls too, and what its link
+# writes of a mail on standard input and of one in a file has to be what the program writes.
 #
 # The last line is `N passed, N failed`; the status is 1 where a call failed.
 arguments=
@@ -51,6 +51,10 @@ check_program() {
     check 2 err out "./$1" -
     check 1 err out env BUILT=only "./$1" no/such/file
     if program=$(BUILT=only "$here/program.sh" "$1" 2> /dev/null); then
+        check 0 out err "$program" --help
+        check 0 out err "$program" no/such/argument -h
+        check 2 err out "$program" --no-such-option
+        check 2 err out "$program" mail ''
         "$program" < mail > wanted
         check_output "$1 < mail" "./$1" < mail
         check_output "$1 mail" "./$1" mail

@@ -9,9 +9,7 @@
 arguments='[GIGABYTES]'
 . "$(dirname "$0")/prelude.sh"
 gigabytes=${1:-1}
-case $gigabytes in
-    *[!0-9]* | '' | 0) usage "$gigabytes is no number of gigabytes" ;;
-esac
+number "$gigabytes" 1
 json=$("$here/program.sh" mail_json)
 make_work
 

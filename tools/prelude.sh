@@ -61,6 +61,14 @@ check_arguments() {
 }
 check_arguments "$@"
 
+# number WORD LEAST: refuses a word that is no number, or less than the least
+number() {
+    case $1 in
+        *[!0-9]* | '') usage "$1 is no number" ;;
+    esac
+    [ "$1" -ge "$2" ] || usage "$1 is less than $2"
+}
+
 # make_work: makes `work`, a folder that goes when the script ends
 make_work() {
     work=$(mktemp -d)

@@ -145,9 +145,10 @@ def mail_object(data):
 
 
 def mails_of(mailbox):
-    """The mails of a mailbox: each begins after a line `From ` at the front or after an empty line."""
-    starts = list(re.finditer(rb"(?:\A|(?<=\n)\r?\n)From [^\n]*(?:\n|\Z)", mailbox))
-    ends = [found.start() for found in starts[1:]] + [len(mailbox)]
+    """The mails of a mailbox, cut as docs/RULES.md says; what stands before the first is left out."""
+    starts = list(re.finditer(rb"(?:\A|(?:\A|(?<=\n))\r?\n)From [^\n]*(?:\n|\Z)", mailbox))
+    last = re.search(rb"(?<=\n)\r?\n\Z", mailbox)
+    ends = [found.start() for found in starts[1:]] + [last.start() if last else len(mailbox)]
     for found, end in zip(starts, ends):
         yield mailbox[found.end():end]
 

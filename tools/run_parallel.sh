@@ -10,9 +10,7 @@
 arguments='[COUNT]'
 . "$(dirname "$0")/prelude.sh"
 count=${1:-20000}
-case $count in
-    *[!0-9]* | '') usage "$count is no number" ;;
-esac
+number "$count" 8
 json=$("$here/program.sh" mail_json)
 make_work
 

@@ -1,0 +1,235 @@
+#!/usr/bin/env python3
+"""Compares what mail_json and mail_jobs say of real mails with what Python's email package reads of them.
+
+Each PLACE is a mail, a mailbox (a file that begins with `From `) or a folder of such files. The mails are read
+for four jobs: the index (subject, from, date, id), the attachments (names and sizes), the recipients that a
+report on delivery says were not reached, and the threads (the ids of the mails before it). Both sides read
+the same mailbox, into which all are put; so a line that begins with `From ` begins with `>From ` there.
+
+For each item it prints in how many mails it differs, in how many of these it is refused here and in how many
+by Python, and some of them: the mail, what is said here, and what Python says. The item `mail` are those that are
+refused whole. What both refuse counts as the same. An attachment whose Base64 is damaged has the size of what
+mail_jobs reads of it. The last line says how many mails agree in all. The status is 0 however many differ.
+"""
+import argparse
+import collections
+import email
+import json
+import os
+import re
+import subprocess
+import sys
+
+from read_by_email import ids, is_file, body_of, mails_of, parts_of, raw_value, seconds, value_of
+
+HERE = os.path.dirname(os.path.abspath(__file__))
+BATCH = 1000
+ITEMS = ("mail", "subject", "from", "date", "id", "attachments", "not reached", "parents")
+ESCAPE = re.compile(r"\\(u\{([0-9a-f]+)\}|.)")
+FILE = re.compile(r'^file ([0-9.]*): ".*", ([0-9]+) bytes', re.M)
+NAMED = {"n": "\n", "r": "\r", "t": "\t", "0": "\0"}
+
+
+class Refused:
+    """What a side says of a mail or an item that it refuses."""
+
+    def __init__(self, why):
+        self.why = why
+
+    def __eq__(self, other):
+        return isinstance(other, Refused)
+
+    def __repr__(self):
+        return f"refused: {self.why}"
+
+
+def files_of(places):
+    """The files of all places, in order."""
+    for place in places:
+        if not os.path.isdir(place):
+            yield place
+        for folder, folders, names in os.walk(place):
+            folders.sort()
+            yield from (os.path.join(folder, name) for name in sorted(names))
+
+
+def mails_at(places):
+    """The mails of all places, each with its name."""
+    for path in files_of(places):
+        with open(path, "rb") as file:
+            data = file.read()
+        if data.startswith(b"From "):
+            yield from ((f"{path}:{number}", mail) for number, mail in enumerate(mails_of(data), 1))
+        else:
+            yield path, data
+
+
+def quoted(mail):
+    """A mail as it stands in a mailbox."""
+    mail = re.sub(rb"(?m)^From ", b">From ", mail)
+    return mail if mail.endswith(b"\n") else mail + b"\n"
+
+
+def program(name):
+    """Where a built program is."""
+    built = subprocess.run([os.path.join(HERE, "program.sh"), name], stdout=subprocess.PIPE, check=False)
+    if built.returncode != 0:
+        sys.exit(1)
+    return built.stdout.decode().strip()
+
+
+def ran(words, data):
+    """What a program writes of a mailbox, with the status 1 where a mail is refused."""
+    ended = subprocess.run(words, input=data, stdout=subprocess.PIPE, check=False)
+    if ended.returncode not in (0, 1):
+        sys.exit(f"{words[0]} ended with status {ended.returncode}")
+    return ended.stdout.decode("utf-8")
+
+
+def records(output):
+    """The records of mail_jobs, each of which ends in an empty line."""
+    found = []
+    for line in output.split("\n")[:-1]:
+        if line:
+            found.append(line)
+        else:
+            yield "\n".join(found)
+            found = []
+
+
+def once(texts):
+    """The texts, each where it stands first."""
+    return list(dict.fromkeys(texts))
+
+
+def unescaped(text):
+    """A text that mail_jobs wrote in quotes."""
+    return ESCAPE.sub(lambda found: chr(int(found[2], 16)) if found[2] else NAMED.get(found[1], found[1]), text[1:-1])
+
+
+def said_here(line, job):
+    """What is said here of each item of a mail: its line of mail_json, and its lines of mail_jobs."""
+    mail = json.loads(line)
+    if "error" in mail:
+        return {"mail": Refused(mail["error"])}
+    read = {path: int(size) for path, size in FILE.findall(job)}
+    files = [part for part in mail["parts"] if part["attachment"]]
+    missed = [line.split(": ", 1)[1] for line in job.split("\n") if line.startswith("not reached: ")]
+    return {
+        "mail": None,
+        "subject": mail["subject"],
+        "from": mail["from"],
+        "date": Refused(mail["date_error"]) if "date_error" in mail else mail["date"],
+        "id": mail["message_id"][0] if mail["message_id"] else None,
+        "attachments": [
+            (part["file_name"], read.get(part["path"]) if "error" in part else part["decoded_size"]) for part in files
+        ],
+        "not reached": [unescaped(text) for text in missed],
+        "parents": once(mail["references"] + mail["in_reply_to"]),
+    }
+
+
+def not_reached(mail):
+    """The recipients for whom delivery failed, by the report on it."""
+    if mail.get_content_type() != "multipart/report" or not mail.is_multipart():
+        return []
+    reports = [part for part in mail.get_payload() if part.get_content_type() == "message/delivery-status"]
+    blocks = reports[0].get_payload()[1:] if reports and reports[0].is_multipart() else []
+    failed = [block for block in blocks if str(block.get("action", "")).strip().lower() == "failed"]
+    found = [value_of(block, "final-recipient") for block in failed]
+    return [text.split(";", 1)[-1].strip() for text in found if text is not None]
+
+
+def sizes(mail):
+    """The names and sizes of the files of a mail."""
+    return [(part.get_filename(), len(body_of(part))) for _path, part in parts_of(mail) if is_file(part)]
+
+
+READERS = {
+    "subject": lambda mail: value_of(mail, "subject"),
+    "from": lambda mail: value_of(mail, "from"),
+    "date": lambda mail: seconds(raw_value(mail, "date")),
+    "id": lambda mail: next(iter(ids(raw_value(mail, "message-id"))), None),
+    "attachments": sizes,
+    "not reached": not_reached,
+    "parents": lambda mail: once(ids(raw_value(mail, "references")) + ids(raw_value(mail, "in-reply-to"))),
+}
+
+
+def said_there(data):
+    """What Python says of each item of a mail."""
+    said = {"mail": None}
+    for item, reader in READERS.items():
+        try:
+            said[item] = reader(email.message_from_bytes(data))
+        except Exception as error:  # what the package raises is not said anywhere
+            said[item] = Refused(f"{type(error).__name__}: {error}")
+    return said
+
+
+class Counts:
+    """How many mails differ in each item, and some of them."""
+
+    def __init__(self, shown):
+        self.shown = shown
+        self.mails = 0
+        self.same = 0
+        self.differ = collections.Counter()
+        self.examples = collections.defaultdict(list)
+
+    def add(self, name, here, there):
+        """Counts a mail."""
+        self.mails += 1
+        wrong = [item for item in here if here[item] != there[item]]
+        self.same += not wrong
+        for item in wrong:
+            self.differ[item, "all"] += 1
+            self.differ[item, "here"] += isinstance(here[item], Refused)
+            self.differ[item, "there"] += isinstance(there[item], Refused)
+            if len(self.examples[item]) < self.shown:
+                self.examples[item].append((name, here[item], there[item]))
+
+    def show(self):
+        """Prints the counts."""
+        for item in ITEMS:
+            counts = [self.differ[item, which] for which in ("all", "here", "there")]
+            print("{}: {} differ, {} refused here, {} by Python".format(item, *counts))
+            for name, here, there in self.examples[item]:
+                print(f"  {name}\n    here   {here!r:.200}\n    Python {there!r:.200}")
+        print(f"{self.mails} mails, {self.same} of which agree in all")
+
+
+def compare(batch, programs, counts):
+    """Compares a batch of mails."""
+    mailbox = b"".join(b"From a\n" + mail + b"\n" for _name, mail in batch)
+    lines = ran([programs["mail_json"], "--mbox"], mailbox).split("\n")[:-1]
+    jobs = list(records(ran([programs["mail_jobs"]], mailbox)))
+    if not len(lines) == len(jobs) == len(batch):
+        sys.exit(f"{len(batch)} mails are {len(lines)} lines of mail_json and {len(jobs)} records of mail_jobs")
+    for (name, mail), line, job in zip(batch, lines, jobs):
+        counts.add(name, said_here(line, job), said_there(mail))
+
+
+def main():
+    """Compares the mails of all places."""
+    parser = argparse.ArgumentParser(description=__doc__, formatter_class=argparse.RawDescriptionHelpFormatter)
+    parser.add_argument("--show", metavar="N", type=int, default=3, help="how many mails to show for each item, 3")
+    parser.add_argument("places", metavar="PLACE", nargs="+", help="a mail, a mailbox, or a folder of them")
+    asked = parser.parse_args()
+    missing = [place for place in asked.places if not os.path.exists(place)]
+    if missing:
+        parser.error(f"{missing[0]} is not there")
+    programs = {name: program(name) for name in ("mail_json", "mail_jobs")}
+    counts = Counts(asked.show)
+    batch = []
+    for name, mail in mails_at(asked.places):
+        batch.append((name, quoted(mail)))
+        if len(batch) == BATCH:
+            compare(batch, programs, counts)
+            batch = []
+    compare(batch, programs, counts)
+    counts.show()
+
+
+if __name__ == "__main__":
+    main()
