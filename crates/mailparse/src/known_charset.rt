@@ -57,4 +57,22 @@ impl<'t> KnownCharset<'t> {
             KnownCharset::Table(table) => table.decode_without_bom_handling(alloc, bytes),
         }
     }
+
+    /// The same of a list of bytes, which becomes the text itself where it is UTF-8 that is read as
+    /// such.
+    pub(crate) fn into_text_without_bom_handling(
+        self,
+        alloc: Global,
+        bytes: Vec<u8>,
+    ) -> Result<String, AllocError>
+        ensures { IfOk result (λ t. string_bytes t ≡ known_text self.entry bytes.items) }
+    {
+        let KnownCharset::Kept(Charset::Utf8) = self else {
+            return self.decode_without_bom_handling(alloc, bytes.as_slice());
+        };
+        match String::from_utf8(bytes) {
+            Ok(text) => Ok(text),
+            Err(e) => self.decode_without_bom_handling(alloc, e.as_bytes()),
+        }
+    }
 }

@@ -1,9 +1,9 @@
 -- A text read in parts: blocks of letters, groups that go over line ends, and what is absent.
-use Rattle.std.proofs.Common.{◌≡◌, ℕ, zero, suc, ◌+◌, ◌*◌, ◌/◌, ◌<◌, ◌≤◌, Bool, true, false, cond, List, [], ◌∷◌, ◌++◌, length, take, drop, get_or, set, Ok, refl, sym, ap, ◌∙◌, arith}
-use Rattle.std.proofs.lemmas.List.{append_assoc, drop-drop, drop_more, take-append-drop, take_more_set, length-take-le, length-drop}
+use Rattle.std.proofs.Common.{◌≡◌, ℕ, zero, suc, ◌+◌, ◌*◌, ◌/◌, ◌<◌, ◌≤◌, Bool, true, false, cond, List, [], ◌∷◌, ◌++◌, length, take, drop, get_or, replicate, set, Ok, refl, sym, ap, ◌∙◌, arith}
+use Rattle.std.proofs.lemmas.List.{append_assoc, drop-drop, drop_more, take-append-drop, take-append-le, take_more_set, length-take-le, length-drop}
 use Rattle.std.proofs.Math.Seq.{take-add}
 use Rattle.std.specs.List.{prefix_len}
-use Rattle.mail_codec.specs.Base64.{groups_from, prepend}
+use Rattle.mail_codec.specs.Base64.{letter_value, groups_from, prepend}
 use Rattle.mail_codec.specs.private.Base64.{KeepsLetters}
 use Rattle.mail_codec.specs.private.Runs.{ends_run, without_ends}
 use Rattle.mail_codec.specs.private.Vectors.{is_letter}
@@ -38,6 +38,32 @@ prefix_take p (suc n) [] = omega arith
 prefix_take p (suc n) (x ∷ xs) =
     let rest = prefix_take p n xs in
     elim (p x) as (λ v. cond v (1 + prefix_len p (take n xs)) 0 ≤ cond v (1 + prefix_len p xs) 0) [ true ↦ omega arith | false ↦ omega arith ]
+
+-- zeros are no letters, and after a text they change nothing
+no_letter : is_letter 0 ≡ false
+unfolding letter_value
+no_letter = refl
+
+no_letters : (n k : ℕ) → prefix_len is_letter (drop k (replicate n 0)) ≡ 0
+no_letters zero zero = refl
+no_letters zero (suc k) = refl
+no_letters (suc n) zero = rw no_letter refl
+no_letters (suc n) (suc k) = no_letters n k
+
+letters_before_zeros : (n k : ℕ) (xs : List ℕ) → prefix_len is_letter (xs ++ drop k (replicate n 0)) ≡ prefix_len is_letter xs
+letters_before_zeros n k [] = no_letters n k
+letters_before_zeros n k (x ∷ xs) = ap (λ i. cond (is_letter x) (1 + i) 0) (letters_before_zeros n k xs)
+
+-- the letters of a tail, with zeros after it in place of what a vector has more
+pub tail_letters : (tail copied : List ℕ) (len : ℕ) → copied ≡ tail → len ≡ prefix_len is_letter (copied ++ drop (length tail) (replicate 16 0)) → len ≡ prefix_len is_letter tail
+tail_letters tail copied len is len_is =
+    len_is ∙ ap (λ xs. prefix_len is_letter (xs ++ drop (length tail) (replicate 16 0))) is ∙ letters_before_zeros 16 (length tail) tail
+
+pub tail_groups : (tail copied bytes : List ℕ) (k n : ℕ) → copied ≡ tail → 4 * k ≤ length tail
+    → groups_from n (take (4 * k) (copied ++ drop (length tail) (replicate 16 0))) ≡ Ok bytes → groups_from n (take (4 * k) tail) ≡ Ok bytes
+tail_groups tail copied bytes k n is few read =
+    ap (groups_from n) (sym (take-append-le (4 * k) tail (drop (length tail) (replicate 16 0)) few)
+    ∙ ap (λ xs. take (4 * k) (xs ++ drop (length tail) (replicate 16 0))) (sym is)) ∙ read
 
 -- one more byte is gathered
 pub gathered_one : (absent : RunEnd) (text four : List ℕ) (found place b : ℕ) → found < length four → place < length text → b ≡ get_or text place 0 → ends_run absent b ≡ false

@@ -1,8 +1,14 @@
 -- Padded groups filled up, read, and cut.
-use Rattle.std.proofs.Common.{◌≡◌, ℕ, zero, suc, ◌+◌, ◌*◌, ◌/◌, ◌%◌, ◌<◌, ◌≤◌, ◌==◌, List, [], ◌∷◌, ◌++◌, length, take, drop, slice_index, Option, Some, None, Ok, refl, sym, ap, ◌∙◌, arith, inl, inr}
-use Rattle.std.proofs.lemmas.Bool.{cases_Bool}
-use Rattle.std.proofs.lemmas.List.{append_assoc, drop_all, take-append-le, drop-append-le, length-append, append-nil, drop-drop}
+use Rattle.std.proofs.Common.{◌≡◌, ℕ, zero, suc, ◌+◌, ◌*◌, ◌/◌, ◌%◌, ◌<◌, ◌≤◌, ◌==◌, List, [], ◌∷◌, ◌++◌, length, take, drop, slice_index, Option, Some, None, true, false, Ok, refl, sym, ap, ◌∙◌, arith, inl, inr}
+use Rattle.std.proofs.lemmas.Bool.{cases_Bool, eqb-true}
+use Rattle.std.proofs.lemmas.List.{append_assoc, drop_all, take-append-le, take-take, drop-append-le, length-append, append-nil, drop-drop}
+use Rattle.std.proofs.lemmas.List.Sums.{prefix_len_passes}
+use Rattle.std.specs.List.{prefix_len}
 use Rattle.mail_codec.specs.Base64.{padding, letter_value, group_number, bytes_of_values, three_bytes, group_bytes, groups_from, after_group, prepend}
+use Rattle.mail_codec.specs.private.Base64.{KeepsLetters, KeepsPadding}
+use Rattle.mail_codec.specs.private.Runs.{ends_run, without_ends}
+use Rattle.mail_codec.specs.private.Vectors.{is_letter}
+use Rattle.mail_codec.specs.declared.bytescan.runs.RunEnd.{RunEnd}
 use Rattle.mail_codec.specs.private.Padded.{zero_letter, third, fourth, filled, group_len, cut_groups}
 use Rattle.base64.specs.GeneralPurpose.{IsBytes, decode_of}
 use Rattle.base64.specs.Engines.{standard}
@@ -189,3 +195,41 @@ engine_filled n k letters full given old decoded none same is text_bytes bytes d
     let read : prepend old (groups_from n (filled letters)) ≡ Ok decoded =
     groups_decoded n k (filled letters) old decoded (filled_bytes letters text_bytes) bytes (ap (decode_of standard) (sym given_is) ∙ decoded_is) front in
     sym (prepend-nil (groups_from n (filled letters))) ∙ ap (λ (x : List ℕ). prepend x (groups_from n (filled letters))) (sym none) ∙ read
+
+-- ---- a text of one group
+
+-- four bytes that are letters, or padding, once they are filled up
+module _ (absent : RunEnd) (keeps : KeepsLetters absent) (pads : KeepsPadding absent) where
+  third_kept : (r s : ℕ) → is_letter (third r s) ≡ true → ends_run absent r ≡ false
+  third_kept r s h = elim (cases_Bool (s == padding)) [
+    | inr whole ↦ keeps r (rw whole at h)
+    | inl short ↦ elim (cases_Bool (r == padding)) [
+      | inl both ↦ ap (ends_run absent) (eqb-true r padding both) ∙ pads
+      | inr one ↦ keeps r (rw (short, one) at h)
+    ]
+  ]
+
+  fourth_kept : (s : ℕ) → is_letter (fourth s) ≡ true → ends_run absent s ≡ false
+  fourth_kept s h = elim (cases_Bool (s == padding)) [
+    | inl short ↦ ap (ends_run absent) (eqb-true s padding short) ∙ pads
+    | inr whole ↦ keeps s (rw whole at h)
+  ]
+
+  pub one_group_read : (n p q r s t f : ℕ) (text more out old new : List ℕ) → text ≡ p ∷ q ∷ r ∷ s ∷ [] → t ≡ third r s → f ≡ fourth s
+      → 4 ≤ prefix_len is_letter (p ∷ q ∷ t ∷ f ∷ more) → groups_from n (p ∷ q ∷ t ∷ f ∷ []) ≡ Ok (take 3 out)
+      → new ≡ old ++ take (group_len r s) out → prepend old (groups_from n (without_ends absent text)) ≡ Ok new
+  unfolding filled cut_groups
+  one_group_read n p q r s t f text more out old new text_is t_is f_is letters read new_is =
+      let all : List ℕ = p ∷ q ∷ t ∷ f ∷ more in
+      let p_kept : ends_run absent p ≡ false = keeps p (prefix_len_passes is_letter all 0 0 (omega (arith, letters))) in
+      let q_kept : ends_run absent q ≡ false = keeps q (prefix_len_passes is_letter all 1 0 (omega (arith, letters))) in
+      let r_kept : ends_run absent r ≡ false = third_kept r s (ap is_letter (sym t_is) ∙ prefix_len_passes is_letter all 2 0 (omega (arith, letters))) in
+      let s_kept : ends_run absent s ≡ false = fourth_kept s (ap is_letter (sym f_is) ∙ prefix_len_passes is_letter all 3 0 (omega (arith, letters))) in
+      let kept : without_ends absent (p ∷ q ∷ r ∷ s ∷ []) ≡ p ∷ q ∷ r ∷ s ∷ [] = rw (p_kept, q_kept, r_kept, s_kept) refl in
+      let full : groups_from n (filled (p ∷ q ∷ r ∷ s ∷ [])) ≡ Ok (take 3 out) =
+      ap (λ x. groups_from n (p ∷ q ∷ x ∷ fourth s ∷ [])) (sym t_is) ∙ ap (λ x. groups_from n (p ∷ q ∷ t ∷ x ∷ [])) (sym f_is) ∙ read in
+      ap (λ x. prepend old (groups_from n (without_ends absent x))) text_is
+      ∙ ap (λ x. prepend old (groups_from n x)) kept
+      ∙ ap (prepend old) (cut_reads n (p ∷ q ∷ r ∷ s ∷ []) (take 3 out) refl full)
+      ∙ ap (λ x. Ok (old ++ x)) (append-nil (take (group_len r s) (take 3 out)) ∙ take-take (group_len r s) 3 out (group_len_few r s))
+      ∙ ap Ok (sym new_is)

@@ -1,5 +1,6 @@
 -- How the private functions of the Base64 decoder say what they did; this crate's own words.
 use Rattle.std.specs.Prelude.{◌≡◌, ℕ, true, false, List, Result, Ok, Err}
+use Rattle.mail_codec.specs.Base64.{padding}
 use Rattle.mail_codec.specs.private.Runs.{ends_run}
 use Rattle.mail_codec.specs.private.Vectors.{is_letter}
 use Rattle.mail_codec.specs.declared.bytescan.runs.RunEnd.{RunEnd}
@@ -12,3 +13,7 @@ items_unless_fault (Err n) items = Err n
 -- no letter counts as absent
 abbrev pub KeepsLetters : RunEnd → Type 0
 KeepsLetters absent = (b : ℕ) → is_letter b ≡ true → ends_run absent b ≡ false
+
+-- nor does padding
+abbrev pub KeepsPadding : RunEnd → Type 0
+KeepsPadding absent = ends_run absent padding ≡ false

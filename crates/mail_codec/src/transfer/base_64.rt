@@ -2,7 +2,7 @@
 ghost use Rattle.std.specs.Prelude.{◌≡◌, ◌+◌, ◌*◌, ◌/◌, ◌%◌, ◌^◌, ◌<◌, ◌≤◌, ◌≢◌, ◌++◌, length, drop, vec_len, IfOk, OnOk, option_map, if◌then◌else◌};
 ghost use Rattle.mail_codec.specs.Ascii.{equals_sign};
 ghost use Rattle.mail_codec.specs.Base64.{base64, bytes_of_values, group_bytes, groups_from, items_or_fault, letter_value, prepend};
-ghost use Rattle.mail_codec.specs.private.Base64.{KeepsLetters, items_unless_fault};
+ghost use Rattle.mail_codec.specs.private.Base64.{KeepsLetters, KeepsPadding, items_unless_fault};
 ghost use Rattle.mail_codec.specs.Places.{without_ascii_whitespace};
 ghost use Rattle.mail_codec.specs.private.Runs.{without_ends};
 
@@ -10,7 +10,7 @@ mod groups;
 mod padded;
 
 use self::groups::put_groups;
-use self::padded::{decode_padded_groups, filled_pair, group_len};
+use self::padded::{decode_padded_groups, filled_pair, group_len, push_one_group};
 use crate::bytescan::runs::{RunEnd, push_runs};
 use base64::DecodeAllocError;
 use base64::engine::general_purpose::STANDARD;
@@ -76,7 +76,7 @@ pub fn decode_base64_body(alloc: Global, body: &[u8]) -> Result<Result<Vec<u8>, 
 }
 
 /// The bytes of the groups of a text without what counts as absent: letters are read where they lie,
-/// and from the first other group on a window of the text at a time.
+/// and from the first other group on a window of the text at a time, but for a group that ends it.
 #[inline(always)]
 fn decode_base64_without(
     alloc: Global,
@@ -84,6 +84,7 @@ fn decode_base64_without(
     absent: RunEnd,
 ) -> Result<Result<Vec<u8>, usize>, AllocError>
     requires letters { KeepsLetters absent }
+    requires padding { KeepsPadding absent }
     ensures { IfOk result
         (λ decoded. items_or_fault decoded ≡ groups_from 0 (without_ends absent text.now)) }
 {
@@ -93,11 +94,14 @@ fn decode_base64_without(
     let mut at = 0;
     'buffers: while at < text.len() {
         let (count, next) = put_groups(&mut buffer, text, at, absent);
-        if next == at {
-            return decode_windows(alloc, bytes, groups, text, at, absent);
-        }
         bytes.extend_from_slice(&buffer[..3 * count])?;
         groups += count;
+        if push_one_group(&mut bytes, &text[next..])? {
+            return Ok(Ok(bytes));
+        }
+        if next == at {
+            return decode_windows(alloc, bytes, groups, text, next, absent);
+        }
         at = next;
     }
     Ok(Ok(bytes))

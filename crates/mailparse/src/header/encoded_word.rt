@@ -86,6 +86,6 @@ pub(crate) fn decode_word(
     let Some(bytes) = decode_encoded(alloc, encoding, encoded)? else {
         return Ok(None);
     };
-    let text = charset.decode_without_bom_handling(alloc, bytes.as_slice())?;
+    let text = charset.into_text_without_bom_handling(alloc, bytes)?;
     Ok(Some(text))
 }

@@ -1,6 +1,6 @@
 //! Base64 groups read where they lie: sixteen letters at a time, and four at a time where a line
 //! ends within a group.
-ghost use Rattle.std.specs.Prelude.{◌≡◌, ℕ, ◌+◌, ◌*◌, ◌/◌, ◌≤◌, ◌++◌, Ok, length, take, drop, OnSome, IfSome};
+ghost use Rattle.std.specs.Prelude.{◌≡◌, ℕ, ◌+◌, ◌*◌, ◌/◌, ◌<◌, ◌≤◌, ◌++◌, Ok, length, take, drop, OnSome, IfSome};
 ghost use Rattle.std.specs.List.{prefix_len};
 ghost use Rattle.mail_codec.specs.Base64.{groups_from, prepend};
 ghost use Rattle.mail_codec.specs.private.Base64.{KeepsLetters};
@@ -47,6 +47,9 @@ pub(crate) fn put_groups(
             at = next;
             continue;
         }
+        if text.len() - at <= 4 {
+            return (count, at);
+        }
         let Some(next) = put_next_group(output, 3 * count, text, at, absent) else {
             return (count, at);
         };
@@ -57,8 +60,7 @@ pub(crate) fn put_groups(
 }
 
 /// Writes the bytes of the groups of letters at the front of the next sixteen bytes to a place.
-/// Returns how many letters come before the first byte that is none, or 0 where fewer bytes are
-/// left.
+/// Returns how many letters come before the first byte that is none, or before the end of the text.
 #[inline(always)]
 fn put_block(output: &mut [u8], place: usize, text: &[u8], at: usize) -> usize
     requires room { place + 16 ≤ length output.old }
@@ -71,16 +73,32 @@ fn put_block(output: &mut [u8], place: usize, text: &[u8], at: usize) -> usize
         ≡ Ok (take (3 * k) (drop place output.new)) }
 {
     if text.len() - at < LANES {
-        return 0;
+        return put_tail(output, place, &text[at..]);
     }
     put_letters(output, place, u8x16::from_slice(&text[at..]))
+}
+
+/// The same of the last bytes of a text, which are fewer than a vector has: zeros, which are no
+/// letters, stand after them.
+fn put_tail(output: &mut [u8], place: usize, tail: &[u8]) -> usize
+    requires room { place + 16 ≤ length output.old }
+    requires short { length tail.now < 16 }
+    ensures bounds { result ≤ length tail.now }
+    ensures letters { result ≤ prefix_len is_letter tail.now }
+    ensures kept { take place output.new ≡ take place output.old }
+    ensures read { (k n : ℕ) → 4 * k ≤ result
+        → groups_from n (take (4 * k) tail.now) ≡ Ok (take (3 * k) (drop place output.new)) }
+{
+    let mut letters = [0u8; LANES];
+    letters[..tail.len()].copy_from_slice(tail);
+    put_letters(output, place, u8x16::from_array(letters))
 }
 
 /// Writes the bytes of the groups at the front of the letters to a place. Returns how many letters
 /// come before the first byte that is none; what is written after the groups that they make means
 /// nothing.
 #[inline(always)]
-fn put_letters(output: &mut [u8], place: usize, letters: u8x16) -> usize
+pub(crate) fn put_letters(output: &mut [u8], place: usize, letters: u8x16) -> usize
     requires room { place + 16 ≤ length output.old }
     ensures len { result ≡ prefix_len is_letter letters }
     ensures bounds { result ≤ 16 }

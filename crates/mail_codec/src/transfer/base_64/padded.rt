@@ -1,11 +1,17 @@
-//! Base64 groups with padding, read together with others.
+//! Base64 groups with padding: one alone, and many together.
 ghost use Rattle.std.specs.Prelude.{◌≡◌, ℕ, Ok, true, false, ◌+◌, ◌*◌, ◌/◌, ◌%◌, ◌≤◌, ◌++◌, length, IfOk, OnOk};
 ghost use Rattle.mail_codec.specs.Base64.{groups_from, prepend};
+ghost use Rattle.mail_codec.specs.private.Base64.{KeepsLetters, KeepsPadding};
 ghost use Rattle.mail_codec.specs.private.Padded.{cut_groups, filled, fourth, group_len, third};
+ghost use Rattle.mail_codec.specs.private.Runs.{without_ends};
+ghost use Rattle.mail_codec.specs.declared.bytescan.runs.RunEnd.{RunEnd};
 
+use super::groups::put_letters;
+use crate::vectors::LANES;
 use base64::DecodeAllocError;
 use base64::engine::general_purpose::STANDARD;
 use std::alloc::AllocError;
+use std::simd::prelude::*;
 
 /// Appends the bytes of whole groups and returns true where all of them are groups, some perhaps
 /// padded; otherwise appends nothing and returns false. The engine takes padding in the last group alone,
@@ -33,6 +39,31 @@ pub(crate) fn decode_padded_groups(
         Err(DecodeAllocError::OutOfMemory) => Err(AllocError),
         Err(DecodeAllocError::DecodeError(_)) => Ok(false),
     }
+}
+
+/// Appends the bytes of a text that is one group, perhaps padded, and returns true; otherwise appends
+/// nothing and returns false. The missing letters are filled up, and their bytes cut off.
+pub(crate) fn push_one_group(bytes: &mut Vec<u8>, text: &[u8]) -> Result<bool, AllocError>
+    ensures read { IfOk result (λ is_read. is_read ≡ true → (absent : RunEnd) (n : ℕ)
+        → KeepsLetters absent → KeepsPadding absent
+        → prepend bytes.old.items (groups_from n (without_ends absent text.now))
+        ≡ Ok bytes.new.items) }
+    ensures kept { IfOk result (λ is_read. is_read ≡ false →
+        bytes.new.items ≡ bytes.old.items) }
+{
+    if text.len() != 4 {
+        return Ok(false);
+    }
+    let (third, fourth) = filled_pair(text[2], text[3]);
+    let letters = u8x16::from_array([
+        text[0], text[1], third, fourth, 0, 0, 0, 0, 0, 0, 0, 0, 0, 0, 0, 0,
+    ]);
+    let mut decoded = [0u8; LANES];
+    if put_letters(&mut decoded, 0, letters) < 4 {
+        return Ok(false);
+    }
+    bytes.extend_from_slice(&decoded[..group_len(text[2], text[3])])?;
+    Ok(true)
 }
 
 /// Makes the list whole groups with their padding filled up.

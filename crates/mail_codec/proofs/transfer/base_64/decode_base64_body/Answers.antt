@@ -6,7 +6,7 @@ use Rattle.mail_codec.proofs.lemmas.VectorLetters.{letters_fail}
 use Rattle.mail_codec.proofs.transfer.base_64.decode_base64_body.Goals as goal
 
 pub decode_base64_without-requires : goal.decode_base64_without-requires
-decode_base64_without-requires c = record { letters = letters_fail (ends_run Whitespace) refl }
+decode_base64_without-requires c = record { letters = letters_fail (ends_run Whitespace) refl; padding = refl }
 
 pub returns : goal.returns
 returns c = rw (base64_without_whitespace c.args.body.now) c.decode_base64_without.ensures

@@ -1,4 +1,4 @@
-use Rattle.std.proofs.Common.{sym, arith}
+use Rattle.std.proofs.Common.{sym, ◌∙◌, arith}
 use Rattle.mail_codec.proofs.lemmas.Base64Groups.{prepend-nil}
 use Rattle.mail_codec.proofs.lemmas.Base64Parts.{read_whole, buffer_read}
 use Rattle.mail_codec.proofs.transfer.base_64.decode_base64_without.Goals as goal
@@ -11,7 +11,11 @@ buffers-init c = record {
 }
 
 pub returns-then-next-at : goal.returns-then-next-at
-returns-then-next-at c = rw c.buffers.invariant.so_far c.decode_windows.ensures
+returns-then-next-at c =
+    let e = c.put_groups-count.ensures in
+    let more = buffer_read _ c.buffers.bytes.items _ _ c.buffers.groups c.put_groups-count.result.0 _ _ c.buffers.invariant.so_far e.read
+    (c.in_ok-push_one_group.ensures.kept c.if-branch.false ∙ c.in_ok-extend_from_slice.ensures.items) in
+    rw more c.decode_windows.ensures
 
 pub buffers-preserved : goal.buffers-preserved
 buffers-preserved c =
@@ -19,7 +23,8 @@ buffers-preserved c =
     record {
       within = e.within;
       counted = omega (arith, c.buffers.invariant.counted, e.counted);
-      so_far = buffer_read _ c.buffers.bytes.items _ _ c.buffers.groups c.put_groups-count.result.0 _ _ c.buffers.invariant.so_far e.read c.in_ok-extend_from_slice.ensures.items;
+      so_far = buffer_read _ c.buffers.bytes.items _ _ c.buffers.groups c.put_groups-count.result.0 _ _ c.buffers.invariant.so_far e.read
+          (c.in_ok-push_one_group.ensures.kept c.if-branch.false ∙ c.in_ok-extend_from_slice.ensures.items);
     }
 
 pub returns : goal.returns

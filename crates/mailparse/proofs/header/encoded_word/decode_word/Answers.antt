@@ -26,4 +26,4 @@ pub returns : goal.returns
 returns c =
     word_whole (charsets_with c.args.tables.now) c.args.inside.now c.in-Some.label.now _ _ _ c.in-Some-2.bytes.items _ (known_text c.in-Some-for_label.charset) c.in-Some.ensures c.in-Some-cut_at_question_mark.ensures (ap (charsets_with c.args.tables.now) (sym c.as_bytes.ensures.value) ∙ sym c.for_label.ensures ∙ ap (option_map known_text) c.in-Some-for_label.is)
     (sym c.in_ok-bytes.ensures ∙ ap (option_map (λ (b : Vec ℕ Global). b.items)) c.in-Some-2.is)
-    (c.in_ok-text.ensures ∙ ap (known_text c.in-Some-for_label.charset) c.as_slice.ensures.value)
+    c.in_ok-text.ensures

@@ -32,6 +32,13 @@ parts-preserved-then-next-at c =
       read = absent_passed c.args.absent c.args.text.now _ _ _ _ _ block c.after_absent-next.ensures.passed;
     }
 
+pub returns-then-text-at-le4-clause-read : goal.returns-then-text-at-le4-clause-read
+returns-then-text-at-le4-clause-read c =
+    let e = c.put_block-len.ensures in
+    let len = c.put_block-len.result in
+    block_read c.args.absent c.args.text.now (without_ends c.args.absent (drop c.args.from c.args.text.now)) c.requires.letters c.parts.output c.put_block-len.new.output c.parts.count c.parts.at (len / 4) c.parts.invariant.read
+    (omega (arith, e.within)) (omega (arith, e.letters)) e.kept (λ m. e.read (len / 4) m (omega arith)) _ _ refl (omega arith)
+
 pub returns-in_default-clause-read : goal.returns-in_default-clause-read
 returns-in_default-clause-read c n =
     let e = c.put_block-len.ensures in
