@@ -1,6 +1,7 @@
 -- Escapes, one after the other.
-use Rattle.std.proofs.Common.{◌≡◌, ℕ, ◌==◌, false, List, [], ◌∷◌, drop, Option, Some, None, refl, ap}
-use Rattle.mail_codec.specs.QuotedPrintable.{first_escape, after_escape, unescaped}
+use Rattle.std.proofs.Common.{◌≡◌, ℕ, ◌+◌, ◌<◌, ◌≤◌, ◌==◌, false, List, [], ◌∷◌, length, drop, get_or, Option, Some, None, refl, ap, arith}
+use Rattle.mail_codec.specs.QuotedPrintable.{digit_value, byte_of_values, first_escape, after_escape, unescaped}
+use Rattle.mail_codec.proofs.lemmas.VectorLetters.{drop_three}
 
 -- ---- escapes
 
@@ -28,3 +29,15 @@ pub first_escape-other : (b : ℕ) (rest : List ℕ) → (b == 61) ≡ false →
 first_escape-other b [] h = refl
 first_escape-other b (c ∷ []) h = refl
 first_escape-other b (c ∷ d ∷ rest) h = rw h refl
+
+-- fewer than three bytes are none
+pub first_escape-short : (xs : List ℕ) → length xs < 3 → first_escape xs ≡ None
+first_escape-short [] h = refl
+first_escape-short (b ∷ []) h = refl
+first_escape-short (b ∷ c ∷ []) h = refl
+first_escape-short (b ∷ c ∷ d ∷ rest) h = absurd (omega arith)
+
+-- what a `=` and the two bytes after it are
+pub first_escape-at : (text : List ℕ) (at : ℕ) → at + 3 ≤ length text → get_or text at 0 ≡ 61
+    → first_escape (drop at text) ≡ byte_of_values (digit_value (get_or text (at + 1) 0)) (digit_value (get_or text (at + 2) 0))
+first_escape-at text at h sign = rw (drop_three at text h, sign) refl
