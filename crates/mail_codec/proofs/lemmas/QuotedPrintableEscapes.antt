@@ -1,7 +1,6 @@
 -- Escapes, one after the other.
-use Rattle.std.proofs.Common.{◌≡◌, ℕ, ◌+◌, ◌<◌, ◌≤◌, ◌==◌, false, List, [], ◌∷◌, length, drop, get_or, Option, Some, None, refl, ap, arith}
-use Rattle.mail_codec.specs.QuotedPrintable.{digit_value, byte_of_values, first_escape, after_escape, unescaped}
-use Rattle.mail_codec.proofs.lemmas.VectorLetters.{drop_three}
+use Rattle.std.proofs.Common.{◌≡◌, ℕ, ◌<◌, ◌==◌, false, List, [], ◌∷◌, length, drop, Option, Some, None, refl, ap, arith}
+use Rattle.mail_codec.specs.QuotedPrintable.{first_escape, after_escape, unescaped}
 
 -- ---- escapes
 
@@ -36,8 +35,3 @@ first_escape-short [] h = refl
 first_escape-short (b ∷ []) h = refl
 first_escape-short (b ∷ c ∷ []) h = refl
 first_escape-short (b ∷ c ∷ d ∷ rest) h = absurd (omega arith)
-
--- what a `=` and the two bytes after it are
-pub first_escape-at : (text : List ℕ) (at : ℕ) → at + 3 ≤ length text → get_or text at 0 ≡ 61
-    → first_escape (drop at text) ≡ byte_of_values (digit_value (get_or text (at + 1) 0)) (digit_value (get_or text (at + 2) 0))
-first_escape-at text at h sign = rw (drop_three at text h, sign) refl

@@ -145,7 +145,7 @@ four_letters_read p q r s hp hq hr hs ep eq er es =
     rw (d.2, a.0, b.0, c.0, d.0) refl
 
 -- the three items at a place, and what follows them
-pub drop_three : (at : ℕ) (xs : List ℕ) → at + 3 ≤ length xs → drop at xs ≡ get_or xs at 0 ∷ get_or xs (at + 1) 0 ∷ get_or xs (at + 2) 0 ∷ drop (at + 3) xs
+drop_three : (at : ℕ) (xs : List ℕ) → at + 3 ≤ length xs → drop at xs ≡ get_or xs at 0 ∷ get_or xs (at + 1) 0 ∷ get_or xs (at + 2) 0 ∷ drop (at + 3) xs
 drop_three at xs h =
     let a : drop at xs ≡ get_or xs at 0 ∷ drop (at + 1) xs = drop_more xs at 0 (omega arith) in
     let b : drop (at + 1) xs ≡ get_or xs (at + 1) 0 ∷ drop (at + 1 + 1) xs = drop_more xs (at + 1) 0 (omega arith) in

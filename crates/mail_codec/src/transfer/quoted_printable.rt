@@ -1,6 +1,5 @@
 //! Quoted-printable, over bytes (RFC 2045, section 6.7).
-ghost use Rattle.std.specs.Prelude.{◌≡◌, ◌↔◌, ◌+◌, ◌*◌, ◌<◌, ◌≤◌, ◌-◌, ◌++◌, length, take, drop, slice_index, None, IfOk, OnOk};
-ghost use Rattle.std.specs.Option.{unwrap_or};
+ghost use Rattle.std.specs.Prelude.{◌≡◌, ◌↔◌, ◌+◌, ◌*◌, ◌<◌, ◌≤◌, ◌-◌, ◌++◌, length, take, drop, slice_index, None, IfOk, OnOk, IfSome};
 ghost use Rattle.std.specs.List.{suffix_len};
 ghost use Rattle.mail_codec.specs.Ascii.{equals_sign, is_blank};
 ghost use Rattle.mail_codec.specs.Places.{begins, first_place};
@@ -16,7 +15,10 @@ use std::simd::prelude::*;
 /// How many bytes are read before they are appended; more than a line has by the rules of mail.
 const BUFFER: usize = 4096;
 
-/// The value of each byte that is a hexadecimal digit, of either case, and 255 for the others.
+/// What stands in the table for a byte that is no digit.
+const NO_DIGIT: u8 = 0xFF;
+
+/// The value of each byte that is a hexadecimal digit, of either case.
 static DIGIT_VALUES: [u8; 256] = [
     0xFF, 0xFF, 0xFF, 0xFF, 0xFF, 0xFF, 0xFF, 0xFF, 0xFF, 0xFF, 0xFF, 0xFF, 0xFF, 0xFF, 0xFF, 0xFF,
     0xFF, 0xFF, 0xFF, 0xFF, 0xFF, 0xFF, 0xFF, 0xFF, 0xFF, 0xFF, 0xFF, 0xFF, 0xFF, 0xFF, 0xFF, 0xFF,
@@ -305,18 +307,20 @@ fn escape_at(text: &[u8], at: usize) -> Option<u8>
     requires sign { slice_index text.now at ≡ equals_sign }
     ensures read { result ≡ first_escape (drop at text.now) }
 {
-    let high = digit_value(text[at + 1]);
-    let low = digit_value(text[at + 2]);
-    if high | low > 15 {
-        return None;
-    }
+    let high = digit_value(text[at + 1])?;
+    let low = digit_value(text[at + 2])?;
     Some(high * 16 + low)
 }
 
-/// The value of a hexadecimal digit, of either case, and 255 for any other byte.
+/// The value of a hexadecimal digit, of either case.
 #[inline(always)]
-fn digit_value(digit: u8) -> u8
-    ensures { result ≡ unwrap_or (digit_value digit) 255 }
+fn digit_value(digit: u8) -> Option<u8>
+    ensures read { result ≡ digit_value digit }
+    ensures bounds { IfSome result (λ value. value < 16) }
 {
-    DIGIT_VALUES[digit as usize]
+    let value = DIGIT_VALUES[digit as usize];
+    if value == NO_DIGIT {
+        return None;
+    }
+    Some(value)
 }
