@@ -4,7 +4,6 @@ pub mod Runs
 pub mod Words
 pub mod WordBytes
 pub mod WordSearches
-pub mod RunMarks
 pub mod Vectors
 pub mod Pairs
 pub mod VectorLetters

@@ -1,5 +1,5 @@
 -- Escapes, one after the other.
-use Rattle.std.proofs.Common.{◌≡◌, ℕ, ◌==◌, false, List, [], ◌∷◌, drop, Option, Some, None, refl, ap}
+use Rattle.std.proofs.Common.{◌≡◌, ℕ, ◌<◌, ◌==◌, false, List, [], ◌∷◌, length, drop, Option, Some, None, refl, ap, arith}
 use Rattle.mail_codec.specs.QuotedPrintable.{first_escape, after_escape, unescaped}
 
 -- ---- escapes
@@ -28,3 +28,10 @@ pub first_escape-other : (b : ℕ) (rest : List ℕ) → (b == 61) ≡ false →
 first_escape-other b [] h = refl
 first_escape-other b (c ∷ []) h = refl
 first_escape-other b (c ∷ d ∷ rest) h = rw h refl
+
+-- fewer than three bytes are none
+pub first_escape-short : (xs : List ℕ) → length xs < 3 → first_escape xs ≡ None
+first_escape-short [] h = refl
+first_escape-short (b ∷ []) h = refl
+first_escape-short (b ∷ c ∷ []) h = refl
+first_escape-short (b ∷ c ∷ d ∷ rest) h = absurd (omega arith)

@@ -1,13 +1,13 @@
--- Bytes copied run by run.
-use Rattle.std.proofs.Common.{◌≡◌, ℕ, suc, ◌+◌, ◌-◌, ◌≤◌, ◌<◌, Bool, true, false, not, get_or, List, [], ◌∷◌, ◌++◌, length, take, drop, refl, sym, ap, ◌∙◌, arith, inl, inr, filter}
-use Rattle.std.proofs.lemmas.List.{append_assoc, drop-drop, length-drop, get_or-drop}
-use Rattle.std.proofs.lemmas.Bool.{cases_Bool, cases_lt}
-use Rattle.std.specs.List.{position_or_len}
-use Rattle.std.proofs.lemmas.List.Sums.{position_or_len_is}
+-- Bytes copied without those that end a run.
+use Rattle.std.proofs.Common.{◌≡◌, ℕ, zero, suc, ◌+◌, ◌≤◌, ◌<◌, Bool, true, false, cond, not, get_or, List, [], ◌∷◌, ◌++◌, length, take, drop, refl, sym, ap, ◌∙◌, arith, inl, inr, filter}
+use Rattle.std.proofs.lemmas.List.{append_assoc, append-nil, drop-drop, drop_more, length-drop, length-take-le, take-take}
+use Rattle.std.proofs.lemmas.Bool.{cases_Bool}
+use lib.Lanes.{put_chunk}
 use Rattle.mail_codec.specs.Places.{first_place, begins}
-use Rattle.mail_codec.specs.private.Runs.{ends_run, NoneEnds}
+use Rattle.mail_codec.specs.private.Runs.{ends_run, without_ends}
 use Rattle.mail_codec.specs.declared.bytescan.runs.RunEnd.{RunEnd}
-use Rattle.mail_codec.proofs.lemmas.Places.{first_place-begins}
+use Rattle.mail_codec.proofs.lemmas.WordSearches.{found_front}
+use Rattle.mail_codec.proofs.lemmas.Written.{stored_after}
 
 -- what is kept is what stands before the first end of a run, and then what is kept of what follows it
 runs_first : (ends : ℕ → Bool) (xs : List ℕ)
@@ -22,57 +22,103 @@ runs_first ends (x ∷ xs) = elim (cases_Bool (ends x)) [
       rw (free, more) (ap (λ (r : List ℕ). x ∷ r) (runs_first ends xs))
 ]
 
--- one run of a loop that appends them
-pub runs_step : (ends : ℕ → Bool) (xs kept next : List ℕ) (at place : ℕ) → at ≤ length xs
-    → place ≡ at + first_place (begins ends) (drop at xs)
-    → next ≡ kept ++ take (place - at) (drop at xs)
-    → kept ++ filter (λ b. not (ends b)) (drop at xs) ≡ next ++ filter (λ b. not (ends b)) (drop (place + 1) xs)
-runs_step ends xs kept next at place within place_is next_is =
-    let n : ℕ = first_place (begins ends) (drop at xs) in
-    let rest : List ℕ → List ℕ = λ (ys : List ℕ). filter (λ b. not (ends b)) ys in
-    let len : place - at ≡ n = omega arith in
-    let following : drop (n + 1) (drop at xs) ≡ drop (place + 1) xs =
-    drop-drop (n + 1) at xs ∙ ap (λ (k : ℕ). drop k xs) (omega arith) in
-    let here : next ≡ kept ++ take n (drop at xs) = next_is ∙ ap (λ (k : ℕ). kept ++ take k (drop at xs)) len in
-    ap (λ (r : List ℕ). kept ++ r) (runs_first ends (drop at xs))
-    ∙ sym (append_assoc kept (take n (drop at xs)) (rest (drop (n + 1) (drop at xs))))
-    ∙ ap (λ (r : List ℕ). r ++ rest (drop (n + 1) (drop at xs))) (sym here)
-    ∙ ap (λ (r : List ℕ). next ++ rest r) following
-
--- ---- runs found by places
-
--- where no run ends before it, a place that ends one is the first
-first_end : (end : RunEnd) (xs : List ℕ) (from place : ℕ) → NoneEnds end xs from place → from ≤ place → place < length xs
-    → ends_run end (get_or xs place 0) ≡ true → place ≡ from + first_place (begins (ends_run end)) (drop from xs)
-first_end end xs from place free low high here =
-    let len = length-drop from xs in
-    let at : position_or_len (ends_run end) (drop from xs) ≡ place - from = position_or_len_is (ends_run end) (drop from xs) (place - from) 0 (omega arith)
-    (λ k l. ap (ends_run end) (get_or-drop from xs k 0) ∙ free (from + k) (omega arith) (omega arith))
-    (λ _. ap (ends_run end) (get_or-drop from xs (place - from) 0 ∙ ap (λ (j : ℕ). get_or xs j 0) {x = from + (place - from)} {y = place} (omega arith)) ∙ here) in
-    let same = first_place-begins (ends_run end) (drop from xs) in
-    omega arith
-
--- a run that ends at a place is appended
-pub run_appended : (end : RunEnd) (xs kept next : List ℕ) (from place : ℕ) → NoneEnds end xs from place → from ≤ place → place < length xs
-    → ends_run end (get_or xs place 0) ≡ true → next ≡ kept ++ take (place - from) (drop from xs)
-    → next ++ filter (λ b. not (ends_run end b)) (drop (place + 1) xs) ≡ kept ++ filter (λ b. not (ends_run end b)) (drop from xs)
-run_appended end xs kept next from place free low high here is =
-    sym (runs_step (ends_run end) xs kept next from place (omega arith) (first_end end xs from place free low high here) is)
-
--- a run that does not end goes to the end
-pub run_to_end : (end : RunEnd) (xs : List ℕ) (from : ℕ) → NoneEnds end xs from (length xs) → from ≤ length xs
-    → filter (λ b. not (ends_run end b)) (drop from xs) ≡ drop from xs
-run_to_end end xs from free low = all_kept (ends_run end) (drop from xs) (λ k l. let len = length-drop from xs in ap (ends_run end) (get_or-drop from xs k 0) ∙ free (from + k) (omega arith) (omega arith))
+-- bytes at the front none of which ends a run are kept
+kept_front : (ends : ℕ → Bool) (n : ℕ) (xs : List ℕ) → n ≤ length xs → first_place (begins ends) (take n xs) ≡ n
+    → filter (λ b. not (ends b)) xs ≡ take n xs ++ filter (λ b. not (ends b)) (drop n xs)
+kept_front ends zero xs h e = refl
+kept_front ends (suc n) [] h e = absurd (omega arith)
+kept_front ends (suc n) (x ∷ xs) h e = go (ends x) refl e (kept_front ends n xs (omega arith))
   where
-    all_kept : (ends : ℕ → Bool) (ys : List ℕ) → ((k : ℕ) → k < length ys → ends (get_or ys k 0) ≡ false) → filter (λ b. not (ends b)) ys ≡ ys
-    all_kept ends [] h = refl
-    all_kept ends (y ∷ ys) h =
-        let e = h 0 (omega arith) in
-        rw e (ap (λ (r : List ℕ). y ∷ r) (all_kept ends ys (λ k l. h (suc k) (omega arith))))
+    go : (v : Bool) → ends x ≡ v → cond v 0 (suc (first_place (begins ends) (take n xs))) ≡ suc n
+        → (first_place (begins ends) (take n xs) ≡ n → filter (λ b. not (ends b)) xs ≡ take n xs ++ filter (λ b. not (ends b)) (drop n xs))
+        → filter (λ b. not (ends b)) (x ∷ xs) ≡ take (suc n) (x ∷ xs) ++ filter (λ b. not (ends b)) (drop (suc n) (x ∷ xs))
+    go true t e rest = absurd (omega arith)
+    go false t e rest = rw t (ap (λ (r : List ℕ). x ∷ r) (rest (omega arith)))
 
--- one more place at which no run ends
-pub NoneEnds-more : (end : RunEnd) (xs : List ℕ) (from place : ℕ) → NoneEnds end xs from place → ends_run end (get_or xs place 0) ≡ false → NoneEnds end xs from (place + 1)
-NoneEnds-more end xs from place free here k low high = elim (cases_lt k place) [
-  | inl before ↦ free k low before
-  | inr at ↦ ap (λ (j : ℕ). ends_run end (get_or xs j 0)) {x = k} {y = place} (omega arith) ∙ here
-]
+-- ---- what has been written, up to a place
+
+-- what was written, and then what is kept of the rest, is all
+pub record Kept (end : RunEnd) (bytes output : List ℕ) (len at : ℕ) : Type 0 where
+  pub within : at ≤ length bytes
+  pub few : len ≤ at
+  pub so_far : take len output ++ without_ends end (drop at bytes) ≡ without_ends end bytes
+
+-- more bytes, of which the last may end a run
+module _ (end : RunEnd) (bytes output : List ℕ) (len at : ℕ) (h : Kept end bytes output len at) where
+  written_more : (next : List ℕ) (n m : ℕ) → n ≤ m → at + m ≤ length bytes → (ys : List ℕ) → take (len + n) next ≡ take len output ++ ys
+      → without_ends end (drop at bytes) ≡ ys ++ without_ends end (drop m (drop at bytes)) → Kept end bytes next (len + n) (at + m)
+  written_more next n m le fits ys front is =
+      let low = h.few in
+      let there : drop m (drop at bytes) ≡ drop (at + m) bytes = drop-drop m at bytes ∙ ap (λ (k : ℕ). drop k bytes) (omega arith) in
+      record {
+        within = fits;
+        few = omega arith;
+        so_far =
+            ap (λ (r : List ℕ). r ++ without_ends end (drop (at + m) bytes)) front
+            ∙ append_assoc (take len output) ys (without_ends end (drop (at + m) bytes))
+            ∙ ap (λ (r : List ℕ). take len output ++ (ys ++ without_ends end r)) (sym there)
+            ∙ ap (λ (r : List ℕ). take len output ++ r) (sym is)
+            ∙ h.so_far;
+      }
+
+  -- a vector that was stored
+  abbrev vector : List ℕ
+  vector = take 16 (drop at bytes)
+
+  vector_long : at + 16 ≤ length bytes → length vector ≡ 16
+  vector_long fits = length-take-le 16 (drop at bytes) (omega (arith, length-drop at bytes))
+
+  -- no run ends in it
+  pub vector_kept : at + 16 ≤ length bytes → len + 16 ≤ length output → first_place (begins (ends_run end)) vector ≡ 16
+      → Kept end bytes (put_chunk len output vector) (len + 16) (at + 16)
+  vector_kept fits room free =
+      written_more (put_chunk len output vector) 16 16 (omega arith) fits vector
+      (stored_after len 16 output vector (omega (arith, vector_long fits)) (omega (arith, vector_long fits)) ∙ ap (λ (r : List ℕ). take len output ++ r) (take-take 16 16 (drop at bytes) (omega arith)))
+      (kept_front (ends_run end) 16 (drop at bytes) (omega (arith, length-drop at bytes)) free)
+
+  -- a run ends in it
+  pub vector_ended : (place : ℕ) → at + 16 ≤ length bytes → len + 16 ≤ length output → place ≡ first_place (begins (ends_run end)) vector → place < 16
+      → Kept end bytes (put_chunk len output vector) (len + place) (at + (place + 1))
+  vector_ended place fits room is few =
+      let same : first_place (begins (ends_run end)) (drop at bytes) ≡ place =
+      found_front (ends_run end) 16 (drop at bytes) (omega (arith, is)) (omega (arith, length-drop at bytes)) ∙ sym is in
+      written_more (put_chunk len output vector) place (place + 1) (omega arith) (omega arith) (take place (drop at bytes))
+      (stored_after len place output vector (omega (arith, vector_long fits)) (omega (arith, vector_long fits)) ∙ ap (λ (r : List ℕ). take len output ++ r) (take-take place 16 (drop at bytes) (omega arith)))
+      (rw same at (runs_first (ends_run end) (drop at bytes)))
+
+  -- a byte that ends a run, and one that does not
+  pub byte_ended : (next : List ℕ) → at < length bytes → take len next ≡ take len output → ends_run end (get_or bytes at 0) ≡ true → Kept end bytes next len (at + 1)
+  byte_ended next fits front ended =
+      let low = h.few in
+      record {
+        within = omega arith;
+        few = omega arith;
+        so_far =
+            ap (λ (r : List ℕ). r ++ without_ends end (drop (at + 1) bytes)) front
+            ∙ ap (λ (r : List ℕ). take len output ++ r) (sym (rw (drop_more bytes at 0 fits, ended) refl))
+            ∙ h.so_far;
+      }
+
+  pub byte_kept : (next : List ℕ) → at < length bytes → take (len + 1) next ≡ take len output ++ get_or bytes at 0 ∷ [] → ends_run end (get_or bytes at 0) ≡ false
+      → Kept end bytes next (len + 1) (at + 1)
+  byte_kept next fits front free =
+      let low = h.few in
+      record {
+        within = omega arith;
+        few = omega arith;
+        so_far =
+            ap (λ (r : List ℕ). r ++ without_ends end (drop (at + 1) bytes)) front
+            ∙ append_assoc (take len output) (get_or bytes at 0 ∷ []) (without_ends end (drop (at + 1) bytes))
+            ∙ ap (λ (r : List ℕ). take len output ++ r) (sym (rw (drop_more bytes at 0 fits, free) refl))
+            ∙ h.so_far;
+      }
+
+  -- nothing is left
+  pub all_kept : at ≡ length bytes → take len output ≡ without_ends end bytes
+  all_kept e = sym (append-nil (take len output)) ∙ ap (λ (r : List ℕ). take len output ++ without_ends end r) (sym (nothing_after bytes at e)) ∙ h.so_far
+    where
+      nothing_after : (xs : List ℕ) (n : ℕ) → n ≡ length xs → drop n xs ≡ []
+      nothing_after [] zero e = refl
+      nothing_after [] (suc n) e = refl
+      nothing_after (x ∷ xs) zero e = absurd (omega arith)
+      nothing_after (x ∷ xs) (suc n) e = nothing_after xs n (omega arith)

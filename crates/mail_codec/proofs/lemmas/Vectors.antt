@@ -5,6 +5,8 @@ use Rattle.std.proofs.lemmas.Bool.{agree_below, agree_below_at}
 use Rattle.std.proofs.lemmas.Simd.{Each1-from_get_or, swz_l, SwzOk, SwzOk-from_below, length-swz_l, get_or-swz_l_below, map-map, bitmask_splat, mask_l-mod, zip2_splat, zip2_splat_left, zip2_of_maps, leading_from_mask_l, trailing_mask_l}
 use Rattle.std.specs.List.{prefix_len}
 use Rattle.std.specs.Prelude.{nat_lt, nat_le}
+use Rattle.std.specs.Char.{is_ascii_whitespace}
+use Rattle.mail_codec.specs.private.Vectors.{whitespace_of_half}
 use Rattle.mail_codec.specs.Places.{begins, first_place}
 use Rattle.mail_codec.proofs.lemmas.Places.{first_place-begins}
 use Rattle.std.specs.Int.{w64, trailing_zeros}
@@ -135,6 +137,22 @@ below_marked a v long = lanes_marked (λ x. cond (nat_lt x a) 255 0) (λ b. nat_
 pub from_marked : (a : ℕ) (v : List ℕ) → length v ≡ 16
     → mask_l (map (top 7) (zip2 (λ x y. cond (nat_le x y) 255 0) (replicate 16 a) v)) % 2 ^ 64 ≡ mask_l (map (λ b. nat_le a b) v)
 from_marked a v long = lanes_marked (λ x. cond (nat_le a x) 255 0) (λ b. nat_le a b) v _ long (zip2_splat_left (λ x y. cond (nat_le x y) 255 0) a 16 v long) (λ x. flag (nat_le a x))
+
+-- two tests that agree on all bytes
+map_same : (p q : ℕ → Bool) → agree_below p q 256 ≡ true → (v : List ℕ) → Each1 (Fits w8) v → map p v ≡ map q v
+map_same p q all [] h = refl
+map_same p q all (x ∷ v) h = rw (agree_below_at p q 256 x all h.0.fits, map_same p q all v h.1) refl
+
+-- a byte is whitespace exactly where it is the one with its lower half
+whitespace_agree : agree_below (λ b. b == whitespace_of_half b) is_ascii_whitespace 256 ≡ true
+whitespace_agree = refl
+
+pub whitespace_marked : (v like : List ℕ) → IsLanes v → like ≡ map whitespace_of_half v
+    → mask_l (map (top 7) (zip2 (λ x y. cond (x == y) 255 0) v like)) % 2 ^ 64 ≡ mask_l (map is_ascii_whitespace v)
+whitespace_marked v like fits is =
+    lanes_marked (λ b. cond (b == whitespace_of_half b) 255 0) (λ b. b == whitespace_of_half b) v _ fits.0
+    (zip2_of_maps (λ x y. cond (x == y) 255 0) (λ b. b) whitespace_of_half v (itself v) is) (λ b. flag (b == whitespace_of_half b))
+    ∙ ap mask_l (map_same (λ b. b == whitespace_of_half b) is_ascii_whitespace whitespace_agree v fits.1)
 
 -- the first lane that passes, by a mask
 pub first_lane_none : (test : ℕ → Bool) (v : List ℕ) (mask : ℕ) → length v ≡ 16 → mask ≡ mask_l (map test v) → mask ≡ 0 → 16 ≡ first_place (begins test) v

@@ -8,9 +8,6 @@ use Rattle.std.proofs.lemmas.List.{drop-drop, length-drop, take_all}
 use Rattle.std.proofs.lemmas.Nat.{le_or_l, le_or_r}
 use Rattle.std.proofs.Math.Nat.{mul-suc}
 use Rattle.mail_codec.specs.Places.{first_place, begins, place, stands, text_place}
-use Rattle.mail_codec.specs.private.Runs.{ends_run, may_end_run}
-use Rattle.mail_codec.specs.declared.bytescan.runs.RunEnd.{RunEnd}
-use Rattle.mail_codec.specs.declared.bytescan.runs.RunEnd.TheVariants.{Byte, LineEnd, Whitespace}
 use Rattle.std.proofs.lemmas.Bool.Decides.{nat_tests, Decides-eqb}
 use Rattle.mail_codec.specs.private.Words.{IsMask}
 use Rattle.mail_codec.proofs.lemmas.Places.{PassedTo, first_place-≤, first_place-drop, place_from_weaker, place-found}
@@ -102,16 +99,6 @@ both_zero m n e = (omega (arith, le_or_l m n), omega (arith, le_or_r m n))
 
 -- ---- a test that lets more bytes pass
 
--- each byte that ends a run may end one
-pub ends_may : (end : RunEnd) (b : ℕ) → ends_run end b ≡ true → may_end_run end b ≡ true
-ends_may (Byte wanted) b h = h
-ends_may LineEnd b h = h
-ends_may Whitespace b h = grind (arith, nat_tests)
-
-begins_may : (end : RunEnd) (rest : List ℕ) → begins (ends_run end) rest ≡ true → begins (may_end_run end) rest ≡ true
-begins_may end [] h = h
-begins_may end (b ∷ rest) h = ends_may end b h
-
 -- up to the first place with the one, there is none with the other
 pub PassedTo-weaker : (weak strong : List ℕ → Bool) → ((rest : List ℕ) → strong rest ≡ true → weak rest ≡ true)
     → (bytes rest : List ℕ) (answer at n : ℕ) → PassedTo strong bytes answer at
@@ -126,11 +113,6 @@ PassedTo-weaker weak strong implies bytes rest answer at n h is place =
     let within = h.within in
     let later = h.later in
     record { within = omega arith; later = omega arith }
-
--- up to the first byte that may end a run, no run ends
-pub PassedTo-may : (end : RunEnd) (bytes rest : List ℕ) (answer at n : ℕ) → PassedTo (begins (ends_run end)) bytes answer at
-    → rest ≡ drop at bytes → n ≡ first_place (begins (may_end_run end)) rest → PassedTo (begins (ends_run end)) bytes answer (at + n)
-PassedTo-may end = PassedTo-weaker (begins (may_end_run end)) (begins (ends_run end)) (begins_may end)
 
 -- ---- a text found by its first byte
 

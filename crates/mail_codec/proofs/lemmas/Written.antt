@@ -37,6 +37,13 @@ module _ (at n : ℕ) (xs part : List ℕ) (fits : at + n ≤ length xs) (same :
       → take (at + n) (put_mid at (length xs - at) xs part) ≡ take (at + n) bytes
   copied_rest bytes front more = copied_after at (length xs - at) n xs part bytes front (omega arith) enough more
 
+-- what stands before a vector that was stored stays, and then comes what the vector begins with
+pub stored_after : (at m : ℕ) (xs v : List ℕ) → at + length v ≤ length xs → m ≤ length v → take (at + m) (put_chunk at xs v) ≡ take at xs ++ take m v
+stored_after at m xs v room few =
+    take-add at m (put_chunk at xs v)
+    ∙ ap (λ ys. ys ++ take m (drop at (put_chunk at xs v))) (stored_before at xs v)
+    ∙ ap (λ ys. take at xs ++ ys) (stored_at at m xs v room few)
+
 -- a vector copied from a place to the same place
 pub stored_copy : (at m : ℕ) (xs bytes : List ℕ) → take at xs ≡ take at bytes → at + 16 ≤ length xs → at + 16 ≤ length bytes → m ≤ 16
     → take (at + m) (put_chunk at xs (take 16 (drop at bytes))) ≡ take (at + m) bytes

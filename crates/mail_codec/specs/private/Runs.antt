@@ -1,5 +1,5 @@
 -- The runs that bytes are cut into where they are copied; this crate's own words.
-use Rattle.std.specs.Prelude.{◌≡◌, ℕ, suc, ◌<◌, ◌≤◌, Bool, false, not, ◌||◌, ◌==◌, nat_lt, filter, List, slice_index}
+use Rattle.std.specs.Prelude.{ℕ, suc, Bool, not, ◌||◌, ◌==◌, nat_lt, filter, List}
 use Rattle.std.specs.Char.{is_ascii_whitespace}
 use Rattle.mail_codec.specs.Ascii.{line_feed, carriage_return, space}
 use Rattle.mail_codec.specs.declared.bytescan.runs.RunEnd.{RunEnd}
@@ -16,10 +16,6 @@ abbrev pub may_end_run : RunEnd → ℕ → Bool
 may_end_run (Byte wanted) b = b == wanted
 may_end_run LineEnd b = b == carriage_return || b == line_feed
 may_end_run Whitespace b = nat_lt b (suc space)
-
--- No run ends from one place up to another.
-abbrev pub NoneEnds : RunEnd → List ℕ → ℕ → ℕ → Type 0
-NoneEnds end bytes from to = (k : ℕ) → from ≤ k → k < to → ends_run end (slice_index bytes k) ≡ false
 
 -- The bytes that end no run, in order.
 abbrev pub without_ends : RunEnd → List ℕ → List ℕ

@@ -17,6 +17,11 @@ pair_flags first second lanes next =
 abbrev pub is_set : ℕ → Bool
 is_set flag = flag == 1
 
+-- The byte of ASCII whitespace with the same lower half as a byte, or 0 where there is none.
+abbrev pub whitespace_of_half : ℕ → ℕ
+whitespace_of_half b =
+    slice_index (32 ∷ 0 ∷ 0 ∷ 0 ∷ 0 ∷ 0 ∷ 0 ∷ 0 ∷ 0 ∷ 9 ∷ 10 ∷ 0 ∷ 12 ∷ 13 ∷ 0 ∷ 0 ∷ []) (bit_and b 15)
+
 -- The byte is a letter of Base64.
 abbrev pub is_letter : ℕ → Bool
 is_letter b = is_some (letter_value b)

@@ -1,17 +1,20 @@
 //! Runs of bytes, which end at certain bytes: how long the first is, and all of them put together.
 //!
 //! What is small is inlined: the searches are fast where the compiler knows what ends a run.
-ghost use Rattle.std.specs.Prelude.{◌≡◌, ◌≤◌, ◌+◌, ◌++◌, length, take, drop, IfOk, OnOk, false};
+ghost use Rattle.std.specs.Prelude.{◌≡◌, ◌≤◌, ◌++◌, length, take, OnOk};
 ghost use Rattle.mail_codec.specs.Places.{begins, first_place};
-ghost use Rattle.mail_codec.specs.private.Runs.{ends_run, may_end_run, NoneEnds, without_ends};
+ghost use Rattle.mail_codec.specs.private.Runs.{ends_run, may_end_run, without_ends};
 ghost use Rattle.mail_codec.specs.private.Vectors.{lane_mask};
 ghost use Rattle.mail_codec.specs.private.Words.{IsMask};
 
 use super::words::{either_mask, equal_mask, first_marked, space_mask};
 use crate::vectors::LANES;
-use crate::vectors::marks::{either_lanes, equal_lanes, first_lane, lanes_below};
+use crate::vectors::marks::{either_lanes, equal_lanes, first_lane, lanes_below, whitespace_lanes};
 use std::alloc::AllocError;
 use std::simd::prelude::*;
+
+/// How many bytes are looked at before what stays of them is appended.
+const BUFFER: usize = 1024;
 
 /// Which bytes end a run.
 #[derive(Clone, Copy)]
@@ -73,6 +76,18 @@ impl RunEnd {
             RunEnd::Whitespace => lanes_below(bytes, b'!'),
         }
     }
+
+    /// Marks those of sixteen bytes that end a run.
+    #[inline(always)]
+    fn end_lanes(self, bytes: u8x16) -> u64
+        ensures { result ≡ lane_mask (ends_run self) bytes }
+    {
+        match self {
+            RunEnd::Byte(wanted) => equal_lanes(bytes, wanted),
+            RunEnd::LineEnd => either_lanes(bytes, b'\r', b'\n'),
+            RunEnd::Whitespace => whitespace_lanes(bytes),
+        }
+    }
 }
 
 /// Appends the bytes that end no run, in order. The error comes where memory runs out.
@@ -80,100 +95,59 @@ impl RunEnd {
 pub(crate) fn push_runs(kept: &mut Vec<u8>, bytes: &[u8], end: RunEnd) -> Result<(), AllocError>
     ensures { OnOk result (kept.new.items ≡ kept.old.items ++ without_ends end bytes.now) }
 {
-    let (words, _) = bytes.as_chunks::<8>();
-    let mut from = 0;
+    let mut buffer = [0u8; BUFFER];
     let mut at = 0;
-    for word in words {
-        let marks = end.mask(word);
-        let place = at;
-        at += 8;
-        if marks == 0 {
-            continue;
-        }
-        from = push_marked(kept, bytes, from, place, marks, end)?;
+    'buffers: while at < bytes.len() {
+        let next = at + (bytes.len() - at).min(BUFFER);
+        let len = put_runs(&mut buffer, &bytes[at..next], end);
+        kept.extend_from_slice(&buffer[..len])?;
+        at = next;
     }
-    push_tail(kept, bytes, from, at, end)
-}
-
-/// Appends the runs that end within the word at place `at`, the first of which starts at `from`.
-/// Each byte that is marked is tested again. Returns where the run starts that does not end there.
-#[inline(always)]
-fn push_marked(
-    kept: &mut Vec<u8>,
-    bytes: &[u8],
-    from: usize,
-    at: usize,
-    marks: u64,
-    end: RunEnd,
-) -> Result<usize, AllocError>
-    requires within { at + 8 ≤ length bytes.now }
-    requires start { from ≤ at }
-    requires free { NoneEnds end bytes.now from at }
-    requires marked { IsMask (may_end_run end) (take 8 (drop at bytes.now)) marks }
-    ensures bounds { IfOk result (λ next. next ≤ at + 8) }
-    ensures free { IfOk result (λ next. NoneEnds end bytes.now next (at + 8)) }
-    ensures kept { IfOk result (λ next. kept.new.items ++ without_ends end (drop next bytes.now)
-        ≡ kept.old.items ++ without_ends end (drop from bytes.now)) }
-{
-    let mut start = from;
-    let mut left = marks;
-    'marks: while left != 0 {
-        let place = at + first_marked(left);
-        left &= !(1 << left.trailing_zeros());
-        if !end.is_met_by(bytes[place]) {
-            continue;
-        }
-        kept.extend_from_slice(&bytes[start..place])?;
-        start = place + 1;
-    }
-    Ok(start)
-}
-
-/// Appends the runs from `from` on, of which the first does not end before `at`.
-fn push_tail(
-    kept: &mut Vec<u8>,
-    bytes: &[u8],
-    from: usize,
-    at: usize,
-    end: RunEnd,
-) -> Result<(), AllocError>
-    requires within { at ≤ length bytes.now }
-    requires start { from ≤ at }
-    requires free { NoneEnds end bytes.now from at }
-    ensures { OnOk result (kept.new.items
-        ≡ kept.old.items ++ without_ends end (drop from bytes.now)) }
-{
-    let mut start = from;
-    'bytes: for place in at..bytes.len() {
-        if !end.is_met_by(bytes[place]) {
-            continue;
-        }
-        kept.extend_from_slice(&bytes[start..place])?;
-        start = place + 1;
-    }
-    kept.extend_from_slice(&bytes[start..])?;
     Ok(())
 }
 
-/// The least place of a byte that ends a run, or the length where there is none. Where a byte that
-/// may end one does not, the search goes on after it.
+/// Writes the bytes that end no run at the front of `output`, and returns how many they are. A
+/// vector is written whole before it is looked at, and what follows the first end of a run is
+/// written over.
 #[inline(always)]
-pub(crate) fn run_len(bytes: &[u8], end: RunEnd) -> usize
-    ensures least { result ≡ first_place (begins (ends_run end)) bytes.now }
+fn put_runs(output: &mut [u8], bytes: &[u8], end: RunEnd) -> usize
+    requires room { length bytes.now ≤ length output.old }
+    ensures written { take result output.new ≡ without_ends end bytes.now }
     ensures bounds { result ≤ length bytes.now }
 {
+    let mut len = 0;
     let mut at = 0;
-    'ends: while at < bytes.len() {
-        at += may_end_len(&bytes[at..], end);
-        if at == bytes.len() {
-            return at;
+    'vectors: while bytes.len() - at >= LANES {
+        let vector = u8x16::from_slice(&bytes[at..]);
+        vector.copy_to_slice(&mut output[len..]);
+        let place = first_lane(end.end_lanes(vector));
+        if place != LANES {
+            len += place;
+            at += place + 1;
+            continue;
         }
-        if end.is_met_by(bytes[at]) {
-            return at;
-        }
-        at += 1;
+        len += LANES;
+        at += LANES;
     }
-    at
+    len + put_few(&mut output[len..], &bytes[at..], end)
+}
+
+/// The same, byte by byte: each is written, and where it ends a run, written over.
+#[inline(always)]
+fn put_few(output: &mut [u8], bytes: &[u8], end: RunEnd) -> usize
+    requires room { length bytes.now ≤ length output.old }
+    ensures written { take result output.new ≡ without_ends end bytes.now }
+    ensures bounds { result ≤ length bytes.now }
+{
+    let mut len = 0;
+    for byte in bytes {
+        output[len] = *byte;
+        if end.is_met_by(*byte) {
+            continue;
+        }
+        len += 1;
+    }
+    len
 }
 
 /// The least place of a byte that may end a run, or the length where there is none: by vectors, and

@@ -1,5 +1,5 @@
 //! Quoted-printable, over bytes (RFC 2045, section 6.7).
-ghost use Rattle.std.specs.Prelude.{◌≡◌, ◌↔◌, ◌+◌, ◌*◌, ◌<◌, ◌≤◌, ◌-◌, ◌++◌, length, take, drop, slice_index, None, IfOk, OnOk, OnSome, IfSome};
+ghost use Rattle.std.specs.Prelude.{◌≡◌, ◌↔◌, ◌+◌, ◌*◌, ◌<◌, ◌≤◌, ◌-◌, ◌++◌, length, take, drop, slice_index, None, IfOk, OnOk, IfSome};
 ghost use Rattle.std.specs.List.{suffix_len};
 ghost use Rattle.mail_codec.specs.Ascii.{equals_sign, is_blank};
 ghost use Rattle.mail_codec.specs.Places.{begins, first_place};
@@ -169,10 +169,11 @@ fn put_escapes(output: &mut [u8], text: &[u8], from: usize) -> usize
     ensures read { take result output.new ++ quoted_printable (drop (from + 3 * result) text.now)
         ≡ quoted_printable (drop from text.now) }
 {
+    let most = output.len().min((text.len() - from) / 3);
     let mut count = 0;
-    'escapes: while count < output.len() {
+    'escapes: while count < most {
         let at = from + 3 * count;
-        if at >= text.len() || text[at] != b'=' {
+        if text[at] != b'=' {
             return count;
         }
         let Some(byte) = escape_at(text, at) else {
@@ -299,18 +300,15 @@ fn put_tail(output: &mut [u8], tail: &[u8]) -> usize
     tail.len()
 }
 
-/// The byte of the escape at a place that holds `=`.
-fn escape_at(kept: &[u8], at: usize) -> Option<u8>
-    requires within { at < length kept.now }
-    requires sign { slice_index kept.now at ≡ equals_sign }
-    ensures read { result ≡ first_escape (drop at kept.now) }
-    ensures bounds { OnSome result (at + 3 ≤ length kept.now) }
+/// The byte of the escape at a place that holds `=`, with two bytes after it.
+#[inline(always)]
+fn escape_at(text: &[u8], at: usize) -> Option<u8>
+    requires within { at + 3 ≤ length text.now }
+    requires sign { slice_index text.now at ≡ equals_sign }
+    ensures read { result ≡ first_escape (drop at text.now) }
 {
-    if kept.len() - at < 3 {
-        return None;
-    }
-    let high = digit_value(kept[at + 1])?;
-    let low = digit_value(kept[at + 2])?;
+    let high = digit_value(text[at + 1])?;
+    let low = digit_value(text[at + 2])?;
     Some(high * 16 + low)
 }
 

@@ -1,10 +1,16 @@
 //! Which bytes of a vector pass a test: a mask has a bit for each byte, the lowest for the first.
-ghost use Rattle.std.specs.Prelude.{◌≡◌, ℕ, Bool, List, length, ◌==◌, ◌||◌, nat_lt, nat_le};
+ghost use Rattle.std.specs.Prelude.{◌≡◌, ℕ, Bool, List, length, map, ◌==◌, ◌||◌, nat_lt, nat_le};
+ghost use Rattle.std.specs.Char.{is_ascii_whitespace};
 ghost use Rattle.mail_codec.specs.Places.{begins, first_place};
-ghost use Rattle.mail_codec.specs.private.Vectors.{is_set, lane_mask, pair_flags};
+ghost use Rattle.mail_codec.specs.private.Vectors.{is_set, lane_mask, pair_flags, whitespace_of_half};
 
 use super::LANES;
 use std::simd::prelude::*;
+
+/// The byte of ASCII whitespace with each lower half, or 0 where there is none.
+const WHITESPACE: [u8; 16] = [
+    b' ', 0, 0, 0, 0, 0, 0, 0, 0, b'\t', b'\n', 0, 0x0C, b'\r', 0, 0,
+];
 
 /// Marks the bytes that are `wanted`.
 #[inline(always)]
@@ -46,6 +52,22 @@ pub(crate) fn lanes_from(bytes: u8x16, bound: u8) -> u64
     ensures { result ≡ lane_mask (λ b. nat_le bound b) bytes }
 {
     bytes.simd_ge(u8x16::splat(bound)).to_bitmask()
+}
+
+/// Marks the bytes of ASCII whitespace: space, tab, LF, FF and CR.
+#[inline(always)]
+pub(crate) fn whitespace_lanes(bytes: u8x16) -> u64
+    ensures { result ≡ lane_mask is_ascii_whitespace bytes }
+{
+    bytes.simd_eq(whitespace_like(bytes)).to_bitmask()
+}
+
+/// Of each byte the byte of ASCII whitespace with the same lower half, or 0.
+#[inline(always)]
+fn whitespace_like(bytes: u8x16) -> u8x16
+    ensures { result ≡ map whitespace_of_half bytes }
+{
+    u8x16::from_array(WHITESPACE).swizzle_dyn(bytes & u8x16::splat(15))
 }
 
 /// The place of the first byte that a mask marks, or 16 where it marks none.

@@ -1,7 +1,8 @@
 use Rattle.std.proofs.Common.{◌+◌, ◌*◌, inl, inr, take, drop, sym, ap, ◌∙◌, arith}
 use Rattle.std.proofs.lemmas.Bool.{cases_lt}
-use Rattle.std.proofs.lemmas.List.{length-set, take_more_set}
+use Rattle.std.proofs.lemmas.List.{length-drop, length-set, take_more_set}
 use Rattle.mail_codec.specs.QuotedPrintable.{first_escape}
+use Rattle.mail_codec.proofs.lemmas.QuotedPrintableEscapes.{first_escape-short}
 use Rattle.mail_codec.proofs.lemmas.QuotedPrintableMarks.{escape_read}
 use Rattle.mail_codec.proofs.transfer.quoted_printable.put_escapes.Goals as goal
 
@@ -9,7 +10,7 @@ pub escapes-preserved : goal.escapes-preserved
 escapes-preserved c =
     let at = c.args.from + 3 * c.escapes.count in
     record {
-      within = omega (arith, c.in-Some.ensures.bounds);
+      within = omega (arith, c.min-most.ensures);
       room = omega (arith, length-set c.escapes.output c.escapes.count c.in-Some.byte);
       first = λ some none. elim (cases_lt 0 c.escapes.count) [
         | inl more ↦ c.escapes.invariant.first more none
@@ -23,3 +24,12 @@ escapes-preserved c =
           (sym c.in-Some.ensures.read) (take_more_set c.escapes.output c.escapes.count c.in-Some.byte (omega arith)))
           ∙ c.escapes.invariant.so_far;
     }
+
+pub returns-clause-first : goal.returns-clause-first
+returns-clause-first c = (
+  (λ zero. first_escape-short (drop c.args.from c.args.text.now) (omega (arith, zero, c.min-most.ensures, length-drop c.args.from c.args.text.now))),
+  (λ none. elim (cases_lt 0 c.escapes.count) [
+    | inl more ↦ absurd (c.escapes.invariant.first more none)
+    | inr zero ↦ omega arith
+  ]),
+)
