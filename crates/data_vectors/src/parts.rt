@@ -2,7 +2,7 @@
 //! Of three of these mails Python's `get_body`, with the preferences `plain` and `html`, was asked,
 //! and chooses the same parts.
 use crate::texts::{Case, assert_texts, cases};
-use mail_data::forwarding::forwarded;
+use mail_data::forwarding::{forwarded, mails_inside};
 use mail_data::texts::text_part;
 use mailparse::{MailParseError, parse_mail};
 use std::alloc::{AllocError, Global};
@@ -78,4 +78,51 @@ static FORWARDED: [Case; 6] = cases! {
 #[test]
 fn mails_inside_mails(rt: HostRuntime) -> Result<(), Fail> {
     Ok(assert_texts(&rt, rt.alloc(), &FORWARDED, shown_inside)?)
+}
+
+/// The mails inside a mail, two mails deep, each in braces.
+fn mails_of(alloc: Global, raw: &[u8]) -> Result<String, MailParseError> {
+    let mut text = String::new(alloc);
+    let mail = parse_mail(alloc, raw)?;
+    for inside in mails_inside(alloc, &mail, 2)?.as_slice() {
+        let inside = inside.as_slice().escape_ascii();
+        write!(text, "{{{inside}}}")?;
+    }
+    Ok(text)
+}
+
+/// The same, or the text of the error.
+fn shown_mails(alloc: Global, raw: &[u8]) -> Result<String, AllocError> {
+    match mails_of(alloc, raw) {
+        Ok(text) => Ok(text),
+        Err(error) => format!(in alloc; "{error}"),
+    }
+}
+
+/// The mails that Python's `email` finds, as its `as_bytes` writes them; but that the line end before
+/// a delimiter belongs to the delimiter (RFC 2046, section 5.1.1), and that it refuses no mail.
+static MAILS: [Case; 7] = cases! {
+    b"Subject: Hi\n\nHello" => "",
+    b"Content-Type: message/rfc822\n\nSubject: a\n\nHi" => "{Subject: a\\n\\nHi}",
+    b"Content-Type: message/rfc822\n\nContent-Type: message/rfc822\n\nSubject: a\n\nHi"
+        => "{Content-Type: message/rfc822\\n\\nSubject: a\\n\\nHi}{Subject: a\\n\\nHi}",
+    b"Content-Type: message/rfc822\n\nContent-Type: message/rfc822\n\n\
+      Content-Type: message/rfc822\n\nSubject: a\n\nHi"
+        => "{Content-Type: message/rfc822\\n\\nContent-Type: message/rfc822\\n\\nSubject: a\\n\\nHi}\
+            {Content-Type: message/rfc822\\n\\nSubject: a\\n\\nHi}",
+    b"Content-Type: multipart/mixed; boundary=b\n\n--b\n\nText\n\
+      --b\nContent-Type: message/rfc822\n\nSubject: 1\n\nOne\n--b\nContent-Type: message/rfc822\n\n\
+      Content-Type: multipart/mixed; boundary=c\n\n\
+      --c\nContent-Type: message/rfc822\n\nSubject: 3\n\nThree\n--c--\n--b--\n"
+        => "{Subject: 1\\n\\nOne}\
+            {Content-Type: multipart/mixed; boundary=c\\n\\n--c\\nContent-Type: message/rfc822\\n\\n\
+            Subject: 3\\n\\nThree\\n--c--}{Subject: 3\\n\\nThree}",
+    b"Content-Type: multipart/digest; boundary=b\n\n--b\n\nSubject: 1\n\nOne\n\
+      --b\n\nSubject: 2\n\nTwo\n--b--\n" => "{Subject: 1\\n\\nOne}{Subject: 2\\n\\nTwo}",
+    b"Content-Type: message/rfc822\n\n A: b\n" => "{ A: b\\n}",
+};
+
+#[test]
+fn mails_of_mails(rt: HostRuntime) -> Result<(), Fail> {
+    Ok(assert_texts(&rt, rt.alloc(), &MAILS, shown_mails)?)
 }

@@ -13,6 +13,7 @@ pub mod LooseDateViews
 pub mod Texts
 pub mod TextViews
 pub mod Forwarding
+pub mod ForwardingViews
 pub mod Bounce
 pub mod BounceViews
 pub mod Archive

@@ -1,12 +1,14 @@
 //! Mails inside mails.
-ghost use Rattle.std.specs.Prelude.{◌≡◌, ◌≤◌, option_map, IfErr, IfOk, Ok};
+ghost use Rattle.std.specs.Prelude.{◌≡◌, ◌≤◌, ◌++◌, option_map, IfErr, IfOk, OnOk, Ok};
 ghost use Rattle.mailparse.specs.Mail.{root};
 ghost use Rattle.mailparse.specs.Outcome.{AnswersOrMemory, IsMemory};
 ghost use Rattle.mailparse.specs.Views.{tree_of};
-ghost use Rattle.mail_data.specs.Forwarding.{forwarded, forwards};
+ghost use Rattle.mail_data.specs.Forwarding.{bytes_inside, forwarded, forwards, mail_inside};
+ghost use Rattle.mail_data.specs.Forwarding.{mails_inside};
+ghost use Rattle.mail_data.specs.ForwardingViews.{bytes_of_each};
 
 use mailparse::body::Body;
-use mailparse::{MAX_LEVELS, MailParseError, ParsedMail, parse_mail_limited};
+use mailparse::{MAX_LEVELS, MailParseError, ParsedMail, parse_mail, parse_mail_limited};
 use std::alloc::Global;
 
 /// Returns the mail that a part forwards, read as `parse_mail_limited` reads it with parts at most
@@ -51,6 +53,109 @@ pub fn forwarded<'m>(
     match parse_mail_limited(alloc, raw, levels) {
         Ok(mail) => Ok(Some(mail)),
         Err(error) => Err(error),
+    }
+}
+
+/// Returns the bytes of each mail that a mail or one of its parts forwards, and of the mails inside
+/// those, no more than `most` mails deep (RFC 2046, section 5.2.1).
+///
+/// So an index of all that a mail holds reads each of them as a mail of its own. They stand in
+/// order, each before the mails inside it. With `most` 0 there is none, and with 1 the mails inside
+/// the forwarded ones are left. A mail that is refused is in the list, and what it may hold is not;
+/// as with `forwarded`, a transfer coding is not undone. Takes memory for the list and a copy of
+/// each mail: a byte is copied once for each mail that it stands in. Each mail is read, as
+/// `parse_mail` reads it, to find those inside it.
+///
+/// # Errors
+///
+/// `MailParseError::Memory` where it runs out of memory.
+///
+/// # Examples
+///
+/// ```rust
+/// use mail_data::forwarding::mails_inside;
+/// use mailparse::parse_mail;
+///
+/// let raw = b"Content-Type: message/rfc822\n\nContent-Type: message/rfc822\n\nSubject: a\n\nHi";
+/// let mail = parse_mail(alloc, raw)?;
+/// let mails = mails_inside(alloc, &mail, 10)?;
+/// assert_eq!(rt; mails.len(), 2);
+/// assert_eq!(rt; mails[1].as_slice(), b"Subject: a\n\nHi".as_slice());
+/// ```
+pub fn mails_inside(
+    alloc: Global,
+    mail: &ParsedMail<'_>,
+    most: u8,
+) -> Result<Vec<Vec<u8>>, MailParseError>
+    ensures { AnswersOrMemory bytes_of_each result (Ok (mails_inside most (tree_of mail.now))) }
+{
+    let mut mails = Vec::new(alloc);
+    push_mails(alloc, mail, most, &mut mails)?;
+    Ok(mails)
+}
+
+/// Adds the bytes of each mail inside a mail, no more than so many mails deep.
+fn push_mails(
+    alloc: Global,
+    mail: &ParsedMail<'_>,
+    most: u8,
+    mails: &mut Vec<Vec<u8>>,
+) -> Result<(), MailParseError>
+    ensures written { OnOk result (bytes_of_each mails.new
+        ≡ bytes_of_each mails.old ++ mails_inside most (tree_of mail.now)) }
+    ensures only_memory { IfErr result IsMemory }
+{
+    if most == 0 {
+        return Ok(());
+    }
+    for part in mail.parts(alloc)? {
+        push_bytes(alloc, part, mails)?;
+        if let Some(inside) = mail_inside(alloc, part)? {
+            push_mails(alloc, &inside, most - 1, mails)?;
+        }
+    }
+    Ok(())
+}
+
+/// Adds the bytes of the mail that a part forwards, if it does.
+#[tactic(auto, unfolding(crate::specs::Forwarding::bytes_inside))]
+fn push_bytes(
+    alloc: Global,
+    part: &ParsedMail<'_>,
+    mails: &mut Vec<Vec<u8>>,
+) -> Result<(), MailParseError>
+    ensures written { OnOk result (bytes_of_each mails.new
+        ≡ bytes_of_each mails.old ++ bytes_inside (root (tree_of part.now))) }
+    ensures only_memory { IfErr result IsMemory }
+{
+    if !forwards(part) {
+        return Ok(());
+    }
+    let raw = raw_body(alloc, part)?;
+    let mut bytes = Vec::new(alloc);
+    bytes.extend_from_slice(raw)?;
+    mails.push(bytes)?;
+    Ok(())
+}
+
+/// The mail that a part forwards, if it does and the mail is not refused.
+#[tactic(auto, unfolding(crate::specs::Forwarding::mail_inside))]
+fn mail_inside<'m>(
+    alloc: Global,
+    part: &'m ParsedMail<'_>,
+) -> Result<Option<ParsedMail<'m>>, MailParseError>
+    ensures read { IfOk result (λ mail.
+        option_map tree_of mail ≡ mail_inside (root (tree_of part.now))) }
+    ensures only_memory { IfErr result IsMemory }
+{
+    if !forwards(part) {
+        return Ok(None);
+    }
+    let raw = raw_body(alloc, part)?;
+    match parse_mail(alloc, raw) {
+        Ok(mail) => Ok(Some(mail)),
+        Err(MailParseError::Memory(error)) => Err(MailParseError::Memory(error)),
+        Err(_) => Ok(None),
     }
 }
 

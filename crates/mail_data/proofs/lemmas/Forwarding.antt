@@ -1,14 +1,16 @@
 -- Lemmas on forwarded mails.
-use Rattle.std.proofs.Common.{◌≡◌, ℕ, true, false, List, Option, Some, None, Ok, Err, sym, ap, ◌∙◌}
+use Rattle.std.proofs.Common.{◌≡◌, ◌≢◌, ℕ, zero, suc, ◌-◌, true, false, List, [], ◌++◌, Option, Some, None, Ok, Err, refl, sym, ap, ◌∙◌, arith}
+use Rattle.std.specs.Prelude.{flat_map}
+use Rattle.std.specs.Option.{option_map_or}
 use Rattle.std.proofs.lemmas.Bool.{cond-true, cond-false}
 use Rattle.std.specs.Cow.{cow_str_bytes}
 use Rattle.mail_codec.specs.Charset.{four_charsets}
-use Rattle.mailparse.specs.Mail.{Node, Tree, read_mail_in}
+use Rattle.mailparse.specs.Mail.{Node, Tree, read_mail_in, root, trees_within}
 use Rattle.mailparse.specs.Outcome.{IsRefusalOrMemory}
 use Rattle.mailparse.specs.Refusal.{◌>>=◌, Reads, Refusal, generic, encoding, base64_fault}
 use Rattle.mailparse.specs.declared.error.MailParseError.{MailParseError}
 use Rattle.mailparse.specs.declared.error.MailParseError.TheVariants.{QuotedPrintableDecodeError, Base64DecodeError, EncodingError, Generic, Memory}
-use Rattle.mail_data.specs.Forwarding.{forwards, forwarded}
+use Rattle.mail_data.specs.Forwarding.{bytes_inside, forwards, forwarded, mail_inside, mails_inside}
 
 -- the mail inside, once it was read
 abbrev inside : Reads Tree → Reads (Option Tree)
@@ -39,3 +41,13 @@ forwarded-err levels node raw (Base64DecodeError fault) h same given = refused l
 forwarded-err levels node raw (EncodingError text) h same given = refused levels node raw (encoding (cow_str_bytes text)) h same given
 forwarded-err levels node raw (Generic text) h same given = refused levels node raw (generic text.now) h same given
 forwarded-err levels node raw (Memory e) h same given = given
+
+-- ---- mails inside mails
+
+-- the mails inside a part: the one that it forwards, and those inside that one, no more than so many mails deep
+abbrev pub mails_in_part : ℕ → Tree → List (List ℕ)
+mails_in_part most part = bytes_inside (root part) ++ option_map_or (mails_inside most) (mail_inside (root part)) []
+
+pub mails_inside-some : (most : ℕ) (t : Tree) → most ≢ 0 → mails_inside most t ≡ flat_map (mails_in_part (most - 1)) (trees_within t)
+mails_inside-some zero t h = absurd (h refl)
+mails_inside-some (suc most) t h = let e : suc most - 1 ≡ most = omega arith in rw e refl
