@@ -5,11 +5,12 @@ use crate::json::{write_text, write_word};
 use crate::mail::write_mail;
 use crate::request::is_option;
 use mail_data::mailbox::{Mailbox, read_mailbox};
+use mail_program::read_input;
 use mail_tables::TABLES;
 use mailparse::{MailParseError, parse_mail_with};
 use std::alloc::Global;
 use std::fs;
-use std::io::{self, BufWriter, Read, Write};
+use std::io::{self, BufWriter, Write};
 use std::rt::Files;
 
 /// Writes the mails of the files that the arguments name, or of standard input where they name
@@ -73,11 +74,10 @@ fn run_input<W: Write>(
     is_mailbox: bool,
     out: &mut W,
 ) -> Result<bool, Fault> {
-    let mut input = Vec::new(rt.alloc());
-    match rt.reader().read_to_end(&mut input) {
-        Ok(_) => write_input(rt.alloc(), input.as_slice(), is_mailbox, out),
-        Err(error) => {
-            let _ = eprintln!(rt; "mail_json: input failed: {error}");
+    match read_input(rt.alloc(), &mut rt.reader()) {
+        Ok(input) => write_input(rt.alloc(), input.as_slice(), is_mailbox, out),
+        Err(fault) => {
+            let _ = eprintln!(rt; "mail_json: {fault}");
             Ok(false)
         }
     }
