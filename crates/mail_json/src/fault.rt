@@ -1,4 +1,5 @@
 //! Why a line could not be written whole.
+ghost use Rattle.std.specs.Prelude.{◌≡◌};
 
 use mailparse::MailParseError;
 use std::alloc::AllocError;
@@ -8,7 +9,7 @@ use thiserror::Error;
 /// Why a line could not be written whole.
 #[derive(Debug, Drop, Error)]
 pub enum Fault {
-    /// Memory ran out, or a call refused what stands for nothing in the line.
+    /// Memory ran out.
     #[error("{0}")]
     Mail(MailParseError),
     /// A write failed.
@@ -17,18 +18,31 @@ pub enum Fault {
 }
 
 impl From<MailParseError> for Fault {
+    ghost use Rattle.mail_json.specs.declared.fault.Fault.TheVariants.{Mail};
+
+    ghost from_gives = { λ error fault. fault ≡ Mail error };
+
     fn from(error: MailParseError) -> Fault {
         Fault::Mail(error)
     }
 }
 
 impl From<AllocError> for Fault {
+    ghost use Rattle.mail_json.specs.declared.fault.Fault.TheVariants.{Mail};
+    ghost use Rattle.mailparse.specs.declared.error.MailParseError.TheVariants.{Memory};
+
+    ghost from_gives = { λ error fault. fault ≡ Mail (Memory error) };
+
     fn from(error: AllocError) -> Fault {
         Fault::Mail(MailParseError::Memory(error))
     }
 }
 
 impl From<io::Error> for Fault {
+    ghost use Rattle.mail_json.specs.declared.fault.Fault.TheVariants.{Output};
+
+    ghost from_gives = { λ error fault. fault ≡ Output error };
+
     fn from(error: io::Error) -> Fault {
         Fault::Output(error)
     }
