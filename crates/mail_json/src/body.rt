@@ -1,12 +1,20 @@
 //! What a body is.
+ghost use Rattle.std.specs.Prelude.{◌≡◌, length};
+ghost use Rattle.mail_codec.specs.Tables.{charsets_with};
+ghost use Rattle.mailparse.specs.Body.{BodyKind, decoded_text_in};
+ghost use Rattle.mailparse.specs.BodyViews.{Content, IsBody};
+ghost use Rattle.mailparse.specs.Outcome.{AnswersOrMemory, ReadsText};
+ghost use Rattle.mail_json.specs.Members.{coding_text, decoded_size};
 
-use mail_tables::TABLES;
-use mailparse::MailParseError;
 use mailparse::body::Body;
+use mailparse::{MailParseError, SingleByteTable};
 use std::alloc::Global;
 
 /// The name of the transfer coding of a body.
-pub fn coding_name(body: &Body<'_>) -> &'static str {
+pub fn coding_name(body: &Body<'_>) -> &'static str
+    ensures { (kind : BodyKind) (given : Content) → IsBody kind given body.now →
+        result.now ≡ coding_text kind }
+{
     match body {
         Body::Base64(_) => "base64",
         Body::QuotedPrintable(_) => "quoted-printable",
@@ -17,7 +25,10 @@ pub fn coding_name(body: &Body<'_>) -> &'static str {
 }
 
 /// How many bytes a body has as it stands in the mail.
-pub fn raw_length(body: &Body<'_>) -> usize {
+pub fn raw_length(body: &Body<'_>) -> usize
+    ensures { (kind : BodyKind) (given : Content) → IsBody kind given body.now →
+        result ≡ length given.raw }
+{
     match body {
         Body::Base64(body) => body.get_raw().len(),
         Body::QuotedPrintable(body) => body.get_raw().len(),
@@ -28,7 +39,11 @@ pub fn raw_length(body: &Body<'_>) -> usize {
 }
 
 /// How many bytes a body stands for.
-pub fn decoded_length(alloc: Global, body: &Body<'_>) -> Result<usize, MailParseError> {
+#[tactic(auto, unfolding(mailparse::specs::Body::decoded))]
+pub fn decoded_length(alloc: Global, body: &Body<'_>) -> Result<usize, MailParseError>
+    ensures { (kind : BodyKind) (given : Content) → IsBody kind given body.now →
+        AnswersOrMemory (λ n. n) result (decoded_size kind given.raw) }
+{
     match body {
         Body::Base64(body) => Ok(body.get_decoded(alloc)?.len()),
         Body::QuotedPrintable(body) => Ok(body.get_decoded(alloc)?.len()),
@@ -38,13 +53,22 @@ pub fn decoded_length(alloc: Global, body: &Body<'_>) -> Result<usize, MailParse
     }
 }
 
-/// The text that a body stands for.
-pub fn text_of(alloc: Global, body: &Body<'_>) -> Result<String, MailParseError> {
+/// The text that a body stands for, where texts may also be in the charsets of some tables.
+#[tactic(auto, unfolding(mailparse::specs::Body::decoded_text_in, mailparse::specs::Body::decoded))]
+pub fn text_of(
+    alloc: Global,
+    body: &Body<'_>,
+    tables: &[SingleByteTable<'_>],
+) -> Result<String, MailParseError>
+    ensures { (kind : BodyKind) (given : Content) → IsBody kind given body.now →
+        ReadsText result (decoded_text_in (charsets_with tables.now) kind
+            given.ctype.charset given.raw) }
+{
     match body {
-        Body::Base64(body) => body.get_decoded_as_string_with(alloc, &TABLES),
-        Body::QuotedPrintable(body) => body.get_decoded_as_string_with(alloc, &TABLES),
-        Body::SevenBit(body) => body.get_as_string_with(alloc, &TABLES),
-        Body::EightBit(body) => body.get_as_string_with(alloc, &TABLES),
-        Body::Binary(body) => body.get_as_string_with(alloc, &TABLES),
+        Body::Base64(body) => body.get_decoded_as_string_with(alloc, tables),
+        Body::QuotedPrintable(body) => body.get_decoded_as_string_with(alloc, tables),
+        Body::SevenBit(body) => body.get_as_string_with(alloc, tables),
+        Body::EightBit(body) => body.get_as_string_with(alloc, tables),
+        Body::Binary(body) => body.get_as_string_with(alloc, tables),
     }
 }

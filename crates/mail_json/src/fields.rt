@@ -1,21 +1,35 @@
-//! What headers say, in the charsets of the tables too.
+//! What headers say, in the charsets of some tables too.
+ghost use Rattle.std.specs.Prelude.{◌≡◌, Some, option_map, string_bytes, IfErr, IfOk, Ok};
+ghost use Rattle.mail_codec.specs.Tables.{charsets_with};
+ghost use Rattle.mailparse.specs.Mail.{root};
+ghost use Rattle.mailparse.specs.Map.{text_found};
+ghost use Rattle.mailparse.specs.Outcome.{AnswersOrMemory, GivesTexts, IsMemory, refusal_of};
+ghost use Rattle.mailparse.specs.Refusal.{Refusal};
+ghost use Rattle.mailparse.specs.Views.{content_type, disposition, kind, tree_of};
+ghost use Rattle.mail_json.specs.Members.{disposition_of, ids_of, is_kept_apart, kind_text};
+ghost use Rattle.mail_json.specs.Members.{name_in, refusal_text, value_of};
+ghost use Rattle.mail_json.specs.Written.{IsEnd};
 
+use crate::fault::Fault;
 use mail_data::lenient::ids_in;
-use mail_tables::TABLES;
 use mailparse::{
     DispositionType, MailHeaderMap, MailParseError, ParsedContentDisposition, ParsedContentType,
-    ParsedMail,
+    ParsedMail, SingleByteTable, parse_content_disposition_with,
 };
-use std::alloc::Global;
+use std::alloc::{AllocError, Global};
 
 /// The value of the first header with this name.
 pub fn value_of(
     alloc: Global,
     mail: &ParsedMail<'_>,
     key: &str,
-) -> Result<Option<String>, MailParseError> {
+    tables: &[SingleByteTable<'_>],
+) -> Result<Option<String>, MailParseError>
+    ensures { AnswersOrMemory text_found result
+        (Ok (value_of (charsets_with tables.now) key.now (root (tree_of mail.now)))) }
+{
     match mail.headers.get_first_header(key) {
-        Some(header) => Ok(Some(header.get_value_with(alloc, &TABLES)?)),
+        Some(header) => Ok(Some(header.get_value_with(alloc, tables)?)),
         None => Ok(None),
     }
 }
@@ -25,8 +39,12 @@ pub fn ids_of(
     alloc: Global,
     mail: &ParsedMail<'_>,
     key: &str,
-) -> Result<Vec<String>, MailParseError> {
-    match value_of(alloc, mail, key)? {
+    tables: &[SingleByteTable<'_>],
+) -> Result<Vec<String>, MailParseError>
+    ensures { GivesTexts result
+        (ids_of (charsets_with tables.now) key.now (root (tree_of mail.now))) }
+{
+    match value_of(alloc, mail, key, tables)? {
         Some(value) => Ok(ids_in(alloc, value.as_str())?),
         None => Ok(Vec::new(alloc)),
     }
@@ -36,19 +54,35 @@ pub fn ids_of(
 pub fn disposition_of(
     alloc: Global,
     part: &ParsedMail<'_>,
-) -> Result<Option<ParsedContentDisposition>, MailParseError> {
-    if part
-        .headers
-        .get_first_header("Content-Disposition")
-        .is_none()
-    {
-        return Ok(None);
+    tables: &[SingleByteTable<'_>],
+) -> Result<Option<ParsedContentDisposition>, MailParseError>
+    ensures { AnswersOrMemory (λ shown. option_map disposition shown) result
+        (Ok (disposition_of (charsets_with tables.now) (root (tree_of part.now)))) }
+{
+    match value_of(alloc, part, "Content-Disposition", tables)? {
+        Some(value) => {
+            let shown = parse_content_disposition_with(alloc, value.as_str(), tables)?;
+            Ok(Some(shown))
+        }
+        None => Ok(None),
     }
-    Ok(Some(part.get_content_disposition_with(alloc, &TABLES)?))
 }
 
-/// The name of a disposition.
-pub fn disposition_name(shown: &DispositionType) -> &str {
+/// The name of a disposition, if there is one.
+pub fn disposition_name(shown: &Option<ParsedContentDisposition>) -> Option<&str>
+    ensures { option_map (λ name. name.now) result
+        ≡ option_map (λ d. kind_text d.kind) (option_map disposition shown.now) }
+{
+    match shown {
+        Some(shown) => Some(kind_name(&shown.disposition)),
+        None => None,
+    }
+}
+
+/// The name of a kind of disposition.
+fn kind_name(shown: &DispositionType) -> &str
+    ensures { result.now ≡ kind_text (kind shown.now) }
+{
     match shown {
         DispositionType::Inline => "inline",
         DispositionType::Attachment => "attachment",
@@ -61,7 +95,10 @@ pub fn disposition_name(shown: &DispositionType) -> &str {
 pub fn file_name<'n>(
     shown: &'n Option<ParsedContentDisposition>,
     ctype: &'n ParsedContentType,
-) -> Option<&'n str> {
+) -> Option<&'n str>
+    ensures { option_map (λ name. name.now) result
+        ≡ name_in (option_map disposition shown.now) (content_type ctype.now) }
+{
     if let Some(shown) = shown {
         if let Some(name) = shown.params.get("filename") {
             return Some(name.as_str());
@@ -74,9 +111,37 @@ pub fn file_name<'n>(
 }
 
 /// Whether a disposition is `attachment`.
-pub fn is_kept_apart(shown: &Option<ParsedContentDisposition>) -> bool {
+pub fn is_kept_apart(shown: &Option<ParsedContentDisposition>) -> bool
+    ensures { result ≡ is_kept_apart (option_map disposition shown.now) }
+{
     match shown {
         Some(shown) => matches!(shown.disposition, DispositionType::Attachment),
         None => false,
+    }
+}
+
+/// Why something is refused, in the words in which the error shows itself; an error that says that
+/// memory ran out is passed on.
+#[tactic(auto, unfolding(crate::specs::Members::refusal_text))]
+pub fn refusal_text(alloc: Global, error: &MailParseError) -> Result<String, Fault>
+    ensures read { IfOk result (λ text. (refusal : Refusal) →
+        refusal_of error.now ≡ Some refusal → string_bytes text ≡ refusal_text refusal) }
+    ensures no_memory { IfOk result (λ text. IsMemory error.now → ⊥) }
+    ensures only_memory { IfErr result IsEnd }
+{
+    match error {
+        MailParseError::Base64DecodeError(fault) => {
+            let group = fault.group;
+            Ok(format!(in alloc; "Base64 decode error: group {group} is no Base64 group")?)
+        }
+        MailParseError::EncodingError(text) => {
+            let text = text.as_str();
+            Ok(format!(in alloc; "Encoding error: {text}")?)
+        }
+        MailParseError::Generic(text) => Ok(String::from_str(alloc, text)?),
+        MailParseError::QuotedPrintableDecodeError(fault) => {
+            Ok(format!(in alloc; "QuotedPrintable decode error: {fault}")?)
+        }
+        MailParseError::Memory(_) => Err(Fault::Mail(MailParseError::Memory(AllocError))),
     }
 }

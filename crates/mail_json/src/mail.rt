@@ -1,64 +1,118 @@
 //! The object of a mail.
+ghost use Rattle.std.specs.Prelude.{codes, option_map};
+ghost use Rattle.mail_codec.specs.Tables.{charsets_with};
+ghost use Rattle.mailparse.specs.Date.{date_seconds};
+ghost use Rattle.mailparse.specs.Mail.{root};
+ghost use Rattle.mailparse.specs.Views.{tree_of};
+ghost use Rattle.mail_json.specs.Members.{date_text, id_list_text, ids_text, value_of};
+ghost use Rattle.mail_json.specs.Members.{value_text, values_text};
+ghost use Rattle.mail_json.specs.PartTexts.{IsMailText};
+ghost use Rattle.mail_json.specs.Written.{Writes, WritesOne};
 
 use crate::fault::Fault;
-use crate::fields::{ids_of, value_of};
-use crate::json::{write_optional, write_text, write_texts, write_word};
+use crate::fields::{ids_of, refusal_text, value_of};
+use crate::strings::{write_optional, write_text, write_texts, write_word};
 use crate::part::{whole_path, write_parts};
-use mailparse::{MailParseError, ParsedMail, dateparse};
+use mailparse::{ParsedMail, SingleByteTable, dateparse};
 use std::alloc::Global;
 use std::io::Write;
 
-/// The headers whose first values are members, with what is written before each.
-const TEXTS: [(&str, &str); 4] = [
-    ("Subject", "{\"subject\":"),
-    ("From", ",\"from\":"),
-    ("To", ",\"to\":"),
-    ("Cc", ",\"cc\":"),
-];
-
-/// The headers whose ids are members, with what is written before each.
-const IDS: [(&str, &str); 3] = [
-    ("Message-ID", ",\"message_id\":"),
-    ("In-Reply-To", ",\"in_reply_to\":"),
-    ("References", ",\"references\":"),
-];
-
-/// Writes the object of a mail that begins at this offset of the input.
+/// Writes the object of a mail that begins at this offset of the input, where texts may also be in
+/// the charsets of some tables.
 pub fn write_mail<W: Write>(
     alloc: Global,
     out: &mut W,
     mail: &ParsedMail<'_>,
     start: usize,
-) -> Result<(), Fault> {
-    write_values(alloc, out, mail)?;
-    write_date(alloc, out, mail)?;
-    write_ids(alloc, out, mail)?;
+    tables: &[SingleByteTable<'_>],
+) -> Result<(), Fault>
+    ensures { WritesOne (W.contents out.old) (W.contents out.new) result
+        (IsMailText (charsets_with tables.now) start (tree_of mail.now)) }
+{
+    write_values(alloc, out, mail, tables)?;
+    write_date(alloc, out, mail, tables)?;
+    write_ids(alloc, out, mail, tables)?;
     write_word(out, ",\"parts\":[")?;
-    write_parts(alloc, out, mail, whole_path(mail), start)?;
+    write_parts(alloc, out, mail, whole_path(mail), start, tables)?;
     write_word(out, "]}")
 }
 
 /// Writes the members that are values of headers.
-fn write_values<W: Write>(alloc: Global, out: &mut W, mail: &ParsedMail<'_>) -> Result<(), Fault> {
-    for (key, before) in TEXTS {
-        write_word(out, before)?;
-        write_optional(alloc, out, value_of(alloc, mail, key)?)?;
-    }
-    Ok(())
+fn write_values<W: Write>(
+    alloc: Global,
+    out: &mut W,
+    mail: &ParsedMail<'_>,
+    tables: &[SingleByteTable<'_>],
+) -> Result<(), Fault>
+    ensures { Writes (W.contents out.old) (W.contents out.new) result
+        (values_text (charsets_with tables.now) (root (tree_of mail.now))) }
+{
+    write_value(alloc, out, "{\"subject\":", mail, "Subject", tables)?;
+    write_value(alloc, out, ",\"from\":", mail, "From", tables)?;
+    write_value(alloc, out, ",\"to\":", mail, "To", tables)?;
+    write_value(alloc, out, ",\"cc\":", mail, "Cc", tables)
+}
+
+/// Writes the value of the first header with this name, after these words.
+fn write_value<W: Write>(
+    alloc: Global,
+    out: &mut W,
+    before: &str,
+    mail: &ParsedMail<'_>,
+    key: &str,
+    tables: &[SingleByteTable<'_>],
+) -> Result<(), Fault>
+    ensures { Writes (W.contents out.old) (W.contents out.new) result
+        (value_text (charsets_with tables.now) before.now key.now (root (tree_of mail.now))) }
+{
+    let value = value_of(alloc, mail, key, tables)?;
+    write_word(out, before)?;
+    write_optional(alloc, out, value)
 }
 
 /// Writes the members that are ids of headers.
-fn write_ids<W: Write>(alloc: Global, out: &mut W, mail: &ParsedMail<'_>) -> Result<(), Fault> {
-    for (key, before) in IDS {
-        write_word(out, before)?;
-        write_texts(alloc, out, ids_of(alloc, mail, key)?.as_slice())?;
-    }
-    Ok(())
+fn write_ids<W: Write>(
+    alloc: Global,
+    out: &mut W,
+    mail: &ParsedMail<'_>,
+    tables: &[SingleByteTable<'_>],
+) -> Result<(), Fault>
+    ensures { Writes (W.contents out.old) (W.contents out.new) result
+        (ids_text (charsets_with tables.now) (root (tree_of mail.now))) }
+{
+    write_id_list(alloc, out, ",\"message_id\":", mail, "Message-ID", tables)?;
+    write_id_list(alloc, out, ",\"in_reply_to\":", mail, "In-Reply-To", tables)?;
+    write_id_list(alloc, out, ",\"references\":", mail, "References", tables)
+}
+
+/// Writes the ids in the first header with this name, after these words.
+fn write_id_list<W: Write>(
+    alloc: Global,
+    out: &mut W,
+    before: &str,
+    mail: &ParsedMail<'_>,
+    key: &str,
+    tables: &[SingleByteTable<'_>],
+) -> Result<(), Fault>
+    ensures { Writes (W.contents out.old) (W.contents out.new) result
+        (id_list_text (charsets_with tables.now) before.now key.now (root (tree_of mail.now))) }
+{
+    let ids = ids_of(alloc, mail, key, tables)?;
+    write_word(out, before)?;
+    write_texts(alloc, out, ids.as_slice())
 }
 
 /// Writes the date: its seconds, or `null` where there is none or it is refused, and then why.
-fn write_date<W: Write>(alloc: Global, out: &mut W, mail: &ParsedMail<'_>) -> Result<(), Fault> {
-    let Some(date) = value_of(alloc, mail, "Date")? else {
+fn write_date<W: Write>(
+    alloc: Global,
+    out: &mut W,
+    mail: &ParsedMail<'_>,
+    tables: &[SingleByteTable<'_>],
+) -> Result<(), Fault>
+    ensures { Writes (W.contents out.old) (W.contents out.new) result (date_text (option_map
+        date_seconds (value_of (charsets_with tables.now) (codes "Date") (root (tree_of mail.now))))) }
+{
+    let Some(date) = value_of(alloc, mail, "Date", tables)? else {
         return write_word(out, ",\"date\":null");
     };
     match dateparse(date.as_str()) {
@@ -66,17 +120,10 @@ fn write_date<W: Write>(alloc: Global, out: &mut W, mail: &ParsedMail<'_>) -> Re
             write!(out, ",\"date\":{seconds}")?;
             Ok(())
         }
-        Err(error) => write_refused_date(alloc, out, &error),
+        Err(error) => {
+            let text = refusal_text(alloc, &error)?;
+            write_word(out, ",\"date\":null,\"date_error\":")?;
+            write_text(alloc, out, text.as_str())
+        }
     }
-}
-
-/// Writes that the date is refused.
-fn write_refused_date<W: Write>(
-    alloc: Global,
-    out: &mut W,
-    error: &MailParseError,
-) -> Result<(), Fault> {
-    write_word(out, ",\"date\":null,\"date_error\":")?;
-    let error = format!(in alloc; "{error}")?;
-    write_text(alloc, out, error.as_str())
 }

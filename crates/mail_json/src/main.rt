@@ -4,11 +4,11 @@
 mod body;
 mod fault;
 mod fields;
-mod json;
 mod mail;
 mod part;
 mod request;
 mod run;
+mod strings;
 
 use fault::Fault;
 use mail_program::arguments;

@@ -1,20 +1,47 @@
 //! The objects of the parts.
+ghost use Rattle.std.specs.Prelude.{◌≡◌, ◌++◌, ◌∷◌, ◌&&◌, codes, drop, length, not, option_map, IfErr, IfOk, Ok, string_bytes};
+ghost use Rattle.mail_codec.specs.Places.{stands};
+ghost use Rattle.mail_codec.specs.Tables.{charsets_with};
+ghost use Rattle.mailparse.specs.Body.{BodyKind};
+ghost use Rattle.mailparse.specs.BodyViews.{Content, IsBody};
+ghost use Rattle.mailparse.specs.Mail.{root};
+ghost use Rattle.mailparse.specs.Outcome.{IsMemory};
+ghost use Rattle.mailparse.specs.Views.{content_type, disposition, tree_of};
+ghost use Rattle.mail_data.specs.Files.{is_leaf, path_under, whole_path};
+ghost use Rattle.mail_json.specs.Members.{IsTypeText, body_text, decoded_size, disposition_of};
+ghost use Rattle.mail_json.specs.Members.{file_text, header_text, headers_text, is_file};
+ghost use Rattle.mail_json.specs.Members.{flag_text, parameter_text, place_text, size_text};
+ghost use Rattle.mail_json.specs.PartTexts.{AreAfterCommas, IsPartText, delimiter_length};
+ghost use Rattle.mail_json.specs.PartTexts.{line_after, line_end_length, part_start, places};
+ghost use Rattle.mail_json.specs.PartTexts.{preamble_end};
+ghost use Rattle.mail_json.specs.Written.{Writes, WritesOne};
 
 use crate::body::{coding_name, decoded_length, raw_length, text_of};
 use crate::fault::Fault;
-use crate::fields::{disposition_name, disposition_of, file_name, is_kept_apart};
-use crate::json::{write_comma, write_owned, write_text, write_word};
+use crate::fields::{disposition_name, disposition_of, file_name, is_kept_apart, refusal_text};
+use crate::strings::{write_comma, write_name, write_owned, write_text, write_word};
 use mail_codec::bytescan::find_byte;
 use mail_data::lenient::loose_body;
-use mail_tables::TABLES;
 use mailparse::body::Body;
-use mailparse::{MailHeader, MailParseError, ParsedContentType, ParsedMail};
+use mailparse::{
+    MailHeader, MailParseError, ParsedContentDisposition, ParsedContentType, ParsedMail,
+    SingleByteTable,
+};
 use std::alloc::{AllocError, Global};
 use std::io::Write;
 
 /// The path of a whole mail.
-pub fn whole_path(mail: &ParsedMail<'_>) -> &'static str {
-    if mail.subparts.is_empty() { "1" } else { "" }
+pub fn whole_path(mail: &ParsedMail<'_>) -> &'static str
+    ensures { result.now ≡ whole_path (tree_of mail.now) }
+{
+    if is_leaf(mail) { "1" } else { "" }
+}
+
+/// Whether a message has no parts.
+fn is_leaf(part: &ParsedMail<'_>) -> bool
+    ensures { result ≡ is_leaf (tree_of part.now) }
+{
+    part.subparts.as_slice().is_empty()
 }
 
 /// Writes the object of a part that has this path and begins at this offset of the input, and then
@@ -25,24 +52,33 @@ pub fn write_parts<W: Write>(
     part: &ParsedMail<'_>,
     path: &str,
     start: usize,
-) -> Result<(), Fault> {
-    write_part(alloc, out, part, path, start)?;
+    tables: &[SingleByteTable<'_>],
+) -> Result<(), Fault>
+    ensures { WritesOne (W.contents out.old) (W.contents out.new) result (λ text.
+        AreAfterCommas (IsPartText (charsets_with tables.now))
+            (places path.now start (tree_of part.now)) (codes "," ++ text)) }
+{
+    write_part(alloc, out, part, path, start, tables)?;
     let delimiter = delimiter_length(&part.ctype);
     let mut at = preamble_end(alloc, part)?;
-    let mut number = 0usize;
+    let mut number = 0;
     for subpart in &part.subparts {
         write_word(out, ",")?;
-        number = number.saturating_add(1);
+        number += 1;
         at = part_start(part.raw_bytes, at, delimiter);
-        let path = path_under(alloc, path, number)?;
-        write_parts(alloc, out, subpart, path.as_str(), start.saturating_add(at))?;
+        let under = path_under(alloc, path, number)?;
+        let begin = start.saturating_add(at);
+        write_parts(alloc, out, subpart, under.as_str(), begin, tables)?;
         at = at.saturating_add(subpart.raw_bytes.len());
     }
     Ok(())
 }
 
 /// The path of the part with this number, by the path of the message that it is a part of.
-fn path_under(alloc: Global, path: &str, number: usize) -> Result<String, AllocError> {
+#[tactic(auto, unfolding(mail_data::specs::Files::path_under))]
+fn path_under(alloc: Global, path: &str, number: usize) -> Result<String, AllocError>
+    ensures { IfOk result (λ text. string_bytes text ≡ path_under path.now number) }
+{
     if path.is_empty() {
         format!(in alloc; "{number}")
     } else {
@@ -51,7 +87,9 @@ fn path_under(alloc: Global, path: &str, number: usize) -> Result<String, AllocE
 }
 
 /// How many bytes the dash-boundary has: `--` and the boundary (RFC 2046, section 5.1.1).
-fn delimiter_length(ctype: &ParsedContentType) -> usize {
+fn delimiter_length(ctype: &ParsedContentType) -> usize
+    ensures { result ≡ delimiter_length (content_type ctype.now) }
+{
     match ctype.params.get("boundary") {
         Some(boundary) => boundary.len().saturating_add(2),
         None => 0,
@@ -59,7 +97,10 @@ fn delimiter_length(ctype: &ParsedContentType) -> usize {
 }
 
 /// Where the preamble of a part ends, counted from where the part begins.
-fn preamble_end(alloc: Global, part: &ParsedMail<'_>) -> Result<usize, MailParseError> {
+fn preamble_end(alloc: Global, part: &ParsedMail<'_>) -> Result<usize, MailParseError>
+    ensures read { IfOk result (λ end. end ≡ preamble_end (root (tree_of part.now))) }
+    ensures only_memory { IfErr result IsMemory }
+{
     let body = part.get_body_encoded(alloc)?;
     let headers = part.get_headers().get_raw_bytes().len();
     Ok(headers.saturating_add(raw_length(&body)))
@@ -67,17 +108,39 @@ fn preamble_end(alloc: Global, part: &ParsedMail<'_>) -> Result<usize, MailParse
 
 /// Where the part begins that follows a part or the preamble that ends here: a line end comes
 /// first, unless what ends here is empty, and then the line of the delimiter.
-fn part_start(raw: &[u8], end: usize, delimiter: usize) -> usize {
-    let after = end.saturating_add(line_end_length(raw.get(end..).unwrap_or(b"")));
-    let after = after.saturating_add(delimiter);
-    match find_byte(raw.get(after..).unwrap_or(b""), b'\n') {
-        Some(place) => after.saturating_add(place).saturating_add(1),
+#[tactic(auto, unfolding(crate::specs::PartTexts::part_start))]
+fn part_start(raw: &[u8], end: usize, delimiter: usize) -> usize
+    ensures { result ≡ part_start raw.now end delimiter }
+{
+    let after = end.saturating_add(line_end_length(rest_at(raw, end)));
+    line_after(raw, after.saturating_add(delimiter))
+}
+
+/// The place just after the first LF from there on, or the end where there is none.
+fn line_after(raw: &[u8], place: usize) -> usize
+    ensures { result ≡ line_after raw.now place }
+{
+    match find_byte(rest_at(raw, place), b'\n') {
+        Some(count) => place.saturating_add(count).saturating_add(1),
         None => raw.len(),
     }
 }
 
+/// The bytes from there on, or none.
+fn rest_at(raw: &[u8], place: usize) -> &[u8]
+    ensures { result.now ≡ drop place raw.now }
+{
+    if place < raw.len() {
+        &raw[place..]
+    } else {
+        &raw[raw.len()..]
+    }
+}
+
 /// How many bytes the line end at the front has, or 0 where none is.
-fn line_end_length(bytes: &[u8]) -> usize {
+fn line_end_length(bytes: &[u8]) -> usize
+    ensures { result ≡ line_end_length bytes.now }
+{
     if bytes.starts_with(b"\n") {
         1
     } else if bytes.starts_with(b"\r\n") {
@@ -94,28 +157,50 @@ fn write_part<W: Write>(
     part: &ParsedMail<'_>,
     path: &str,
     start: usize,
-) -> Result<(), Fault> {
+    tables: &[SingleByteTable<'_>],
+) -> Result<(), Fault>
+    ensures { WritesOne (W.contents out.old) (W.contents out.new) result
+        (IsPartText (charsets_with tables.now)
+            (record { path = path.now; start = start; part = tree_of part.now })) }
+{
     write_word(out, "{\"path\":")?;
     write_text(alloc, out, path)?;
     write_type(alloc, out, &part.ctype)?;
-    let is_file = write_file(alloc, out, part)?;
+    let is_file = write_file(alloc, out, part, tables)?;
     let end = start.saturating_add(part.raw_bytes.len());
     let body = loose_body(alloc, part)?;
-    let coding = coding_name(&body);
-    let size = raw_length(&body);
+    write_place(out, coding_name(&body), start, end, raw_length(&body))?;
+    write_decoded_size(alloc, out, &body)?;
+    write_headers(alloc, out, part.headers.as_slice(), tables)?;
+    write_word(out, ",\"text\":")?;
+    write_body_text(alloc, out, &body, is_read(part, is_file), tables)?;
+    write_word(out, "}")
+}
+
+/// Whether the body of a part is a text that is to be read.
+fn is_read(part: &ParsedMail<'_>, is_file: bool) -> bool
+    ensures { result ≡ (not is_file && is_leaf (tree_of part.now)
+        && stands (codes "text/") (root (tree_of part.now)).ctype.mimetype) }
+{
+    !is_file && is_leaf(part) && part.ctype.mimetype.as_str().starts_with("text/")
+}
+
+/// Writes the name of a coding, where a part stands, and how many bytes its body has.
+fn write_place<W: Write>(
+    out: &mut W,
+    coding: &str,
+    start: usize,
+    end: usize,
+    size: usize,
+) -> Result<(), Fault>
+    ensures { Writes (W.contents out.old) (W.contents out.new) result
+        (place_text coding.now start end size) }
+{
     write!(
         out,
         ",\"encoding\":\"{coding}\",\"start\":{start},\"end\":{end},\"size\":{size}"
     )?;
-    write_decoded_size(alloc, out, &body)?;
-    write_headers(alloc, out, part.headers.as_slice())?;
-    write_word(out, ",\"text\":")?;
-    if !is_file && part.subparts.is_empty() && part.ctype.mimetype.as_str().starts_with("text/") {
-        write_body_text(alloc, out, &body)?;
-    } else {
-        write_word(out, "null")?;
-    }
-    write_word(out, "}")
+    Ok(())
 }
 
 /// Writes the type, its charset and its parameters.
@@ -123,7 +208,10 @@ fn write_type<W: Write>(
     alloc: Global,
     out: &mut W,
     ctype: &ParsedContentType,
-) -> Result<(), Fault> {
+) -> Result<(), Fault>
+    ensures { WritesOne (W.contents out.old) (W.contents out.new) result
+        (IsTypeText (content_type ctype.now)) }
+{
     write_word(out, ",\"type\":")?;
     write_text(alloc, out, ctype.mimetype.as_str())?;
     write_word(out, ",\"charset\":")?;
@@ -132,53 +220,105 @@ fn write_type<W: Write>(
     let mut is_first = true;
     for (name, value) in &ctype.params {
         write_comma(out, is_first)?;
-        write_text(alloc, out, name.as_str())?;
-        write_word(out, ":")?;
-        write_text(alloc, out, value.as_str())?;
+        write_parameter(alloc, out, name.as_str(), value.as_str())?;
         is_first = false;
     }
     write_word(out, "}")
 }
 
+/// Writes a parameter as a member.
+fn write_parameter<W: Write>(
+    alloc: Global,
+    out: &mut W,
+    name: &str,
+    value: &str,
+) -> Result<(), Fault>
+    ensures { Writes (W.contents out.old) (W.contents out.new) result
+        (parameter_text (name.now, value.now)) }
+{
+    write_text(alloc, out, name)?;
+    write_word(out, ":")?;
+    write_text(alloc, out, value)
+}
+
 /// Writes the disposition, the name of the file and whether the part is an attachment, and returns
 /// the last.
-fn write_file<W: Write>(alloc: Global, out: &mut W, part: &ParsedMail<'_>) -> Result<bool, Fault> {
-    let shown = disposition_of(alloc, part)?;
+fn write_file<W: Write>(
+    alloc: Global,
+    out: &mut W,
+    part: &ParsedMail<'_>,
+    tables: &[SingleByteTable<'_>],
+) -> Result<bool, Fault>
+    ensures written { let node = root (tree_of part.now) in
+        Writes (W.contents out.old) (W.contents out.new) result
+            (file_text (is_leaf (tree_of part.now))
+                (disposition_of (charsets_with tables.now) node) node.ctype) }
+    ensures value { let node = root (tree_of part.now) in
+        IfOk result (λ is. is ≡ is_file (is_leaf (tree_of part.now))
+            (disposition_of (charsets_with tables.now) node) node.ctype) }
+{
+    let shown = disposition_of(alloc, part, tables)?;
+    let is_file = is_file(part, &shown);
     write_word(out, ",\"disposition\":")?;
-    match &shown {
-        Some(shown) => write_text(alloc, out, disposition_name(&shown.disposition))?,
-        None => write_word(out, "null")?,
-    }
-    let name = file_name(&shown, &part.ctype);
+    write_name(alloc, out, disposition_name(&shown))?;
     write_word(out, ",\"file_name\":")?;
-    match name {
-        Some(name) => write_text(alloc, out, name)?,
-        None => write_word(out, "null")?,
-    }
-    let is_file = part.subparts.is_empty() && (is_kept_apart(&shown) || name.is_some());
-    write!(out, ",\"attachment\":{is_file}")?;
+    write_name(alloc, out, file_name(&shown, &part.ctype))?;
+    write_word(out, ",\"attachment\":")?;
+    write_word(out, flag_text(is_file))?;
     Ok(is_file)
 }
 
+/// Whether a part of this disposition is an attachment: it has no parts of its own, and its
+/// disposition is `attachment` or it has a file name.
+fn is_file(part: &ParsedMail<'_>, shown: &Option<ParsedContentDisposition>) -> bool
+    ensures { result ≡ is_file (is_leaf (tree_of part.now)) (option_map disposition shown.now)
+        (root (tree_of part.now)).ctype }
+{
+    is_leaf(part) && (is_kept_apart(shown) || file_name(shown, &part.ctype).is_some())
+}
+
+/// `true` or `false`.
+fn flag_text(flag: bool) -> &'static str
+    ensures { result.now ≡ flag_text flag }
+{
+    if flag { "true" } else { "false" }
+}
+
 /// Writes how many bytes the body stands for, or `null` where it is refused, and then why.
-fn write_decoded_size<W: Write>(alloc: Global, out: &mut W, body: &Body<'_>) -> Result<(), Fault> {
+fn write_decoded_size<W: Write>(alloc: Global, out: &mut W, body: &Body<'_>) -> Result<(), Fault>
+    ensures { (kind : BodyKind) (given : Content) → IsBody kind given body.now →
+        Writes (W.contents out.old) (W.contents out.new) result
+            (size_text (decoded_size kind given.raw)) }
+{
     match decoded_length(alloc, body) {
         Ok(size) => {
             write!(out, ",\"decoded_size\":{size}")?;
             Ok(())
         }
-        Err(MailParseError::Memory(error)) => Err(Fault::from(error)),
         Err(error) => {
+            let text = refusal_text(alloc, &error)?;
             write_word(out, ",\"decoded_size\":null,\"error\":")?;
-            let error = format!(in alloc; "{error}")?;
-            write_text(alloc, out, error.as_str())
+            write_text(alloc, out, text.as_str())
         }
     }
 }
 
-/// Writes the text of a body, or `null` where it is refused.
-fn write_body_text<W: Write>(alloc: Global, out: &mut W, body: &Body<'_>) -> Result<(), Fault> {
-    match text_of(alloc, body) {
+/// Writes the text of a body that is to be read, or `null` where it is refused or is not to be.
+fn write_body_text<W: Write>(
+    alloc: Global,
+    out: &mut W,
+    body: &Body<'_>,
+    is_read: bool,
+    tables: &[SingleByteTable<'_>],
+) -> Result<(), Fault>
+    ensures { (kind : BodyKind) (given : Content) → IsBody kind given body.now →
+        Writes (W.contents out.old) (W.contents out.new) result
+            (body_text (charsets_with tables.now) is_read kind given) }
+{
+    if !is_read {
+        return write_word(out, "null");
+    }
+    match text_of(alloc, body, tables) {
         Ok(text) => write_owned(alloc, out, text),
         Err(MailParseError::Memory(error)) => Err(Fault::from(error)),
         Err(_refusal) => write_word(out, "null"),
@@ -190,12 +330,16 @@ fn write_headers<W: Write>(
     alloc: Global,
     out: &mut W,
     headers: &[MailHeader<'_>],
-) -> Result<(), Fault> {
+    tables: &[SingleByteTable<'_>],
+) -> Result<(), Fault>
+    ensures { Writes (W.contents out.old) (W.contents out.new) result
+        (headers_text (charsets_with tables.now) headers.now) }
+{
     write_word(out, ",\"headers\":[")?;
     let mut is_first = true;
     for header in headers {
         write_comma(out, is_first)?;
-        write_header(alloc, out, header)?;
+        write_header(alloc, out, header, tables)?;
         is_first = false;
     }
     write_word(out, "]")
@@ -206,10 +350,14 @@ fn write_header<W: Write>(
     alloc: Global,
     out: &mut W,
     header: &MailHeader<'_>,
-) -> Result<(), Fault> {
+    tables: &[SingleByteTable<'_>],
+) -> Result<(), Fault>
+    ensures { Writes (W.contents out.old) (W.contents out.new) result
+        (header_text (charsets_with tables.now) header.now) }
+{
     write_word(out, "[")?;
     write_owned(alloc, out, header.get_key(alloc)?)?;
     write_word(out, ",")?;
-    write_owned(alloc, out, header.get_value_with(alloc, &TABLES)?)?;
+    write_owned(alloc, out, header.get_value_with(alloc, tables)?)?;
     write_word(out, "]")
 }

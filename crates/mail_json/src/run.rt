@@ -1,13 +1,22 @@
 //! A run over the inputs.
+ghost use Rattle.std.specs.Prelude.{◌≡◌};
+ghost use Rattle.std.specs.Char.{is_ascii_whitespace};
+ghost use Rattle.std.specs.List.{list_all};
+ghost use Rattle.mail_codec.specs.Tables.{charsets_with};
+ghost use Rattle.mail_data.specs.MailboxViews.{entries_left};
+ghost use Rattle.mail_json.specs.Lines.{AreInputLines, AreLines, AreMailboxLines, IsFront, IsLine};
+ghost use Rattle.mail_json.specs.Lines.{WritesLines, error_line};
+ghost use Rattle.mail_json.specs.Written.{Writes};
 
 use crate::fault::Fault;
-use crate::json::{write_text, write_word};
+use crate::fields::refusal_text;
+use crate::strings::{write_text, write_word};
 use crate::mail::write_mail;
 use crate::request::is_option;
 use mail_data::mailbox::{Mailbox, read_mailbox};
 use mail_program::read_input;
 use mail_tables::TABLES;
-use mailparse::{MailParseError, parse_mail_with};
+use mailparse::{SingleByteTable, parse_mail_with};
 use std::alloc::Global;
 use std::fs;
 use std::io::{self, BufWriter, Write};
@@ -60,7 +69,7 @@ fn run_file<W: Write>(
     out: &mut W,
 ) -> Result<bool, Fault> {
     match fs::read(rt, name) {
-        Ok(input) => write_input(rt.alloc(), input.as_slice(), is_mailbox, out),
+        Ok(input) => write_input(rt.alloc(), input.as_slice(), is_mailbox, out, &TABLES),
         Err(error) => {
             let _ = eprintln!(rt; "mail_json: {name}: {error}");
             Ok(false)
@@ -75,7 +84,7 @@ fn run_input<W: Write>(
     out: &mut W,
 ) -> Result<bool, Fault> {
     match read_input(rt.alloc(), &mut rt.reader()) {
-        Ok(input) => write_input(rt.alloc(), input.as_slice(), is_mailbox, out),
+        Ok(input) => write_input(rt.alloc(), input.as_slice(), is_mailbox, out, &TABLES),
         Err(fault) => {
             let _ = eprintln!(rt; "mail_json: {fault}");
             Ok(false)
@@ -83,31 +92,80 @@ fn run_input<W: Write>(
     }
 }
 
-/// Writes the mails of an input. Returns whether no mail was refused.
+/// Writes the mails of an input, whose texts may also be in the charsets of some tables. Returns
+/// whether no mail was refused.
 pub fn write_input<W: Write>(
     alloc: Global,
     input: &[u8],
     is_mailbox: bool,
     out: &mut W,
-) -> Result<bool, Fault> {
+    tables: &[SingleByteTable<'_>],
+) -> Result<bool, Fault>
+    ensures { WritesLines (W.contents out.old) (W.contents out.new) result
+        (AreInputLines (charsets_with tables.now) is_mailbox input.now) }
+{
     if is_mailbox {
-        write_mailbox(alloc, read_mailbox(input), out)
+        write_mailbox(alloc, input, out, tables)
     } else {
-        write_line(alloc, input, 0, out)
+        write_line(alloc, input, 0, out, tables)
     }
 }
 
 /// Writes each mail of a mailbox, and an error for what stands before the first one. Returns
 /// whether there was no error.
-fn write_mailbox<W: Write>(alloc: Global, mails: Mailbox<'_>, out: &mut W) -> Result<bool, Fault> {
-    let mut at = mails.front().len();
-    let mut is_whole = mails.front().trim_ascii().is_empty();
-    if !is_whole {
-        write_error(alloc, out, "The mailbox does not begin with a line `From `")?;
+fn write_mailbox<W: Write>(
+    alloc: Global,
+    input: &[u8],
+    out: &mut W,
+    tables: &[SingleByteTable<'_>],
+) -> Result<bool, Fault>
+    ensures { WritesLines (W.contents out.old) (W.contents out.new) result
+        (AreMailboxLines (charsets_with tables.now) input.now) }
+{
+    let mails = read_mailbox(input);
+    let front = mails.front();
+    let is_blank = write_front(alloc, front, out)?;
+    let are_read = write_mails(alloc, mails, front.len(), out, tables)?;
+    Ok(is_blank & are_read)
+}
+
+/// Writes an error for what stands before the first mail of a mailbox, unless it is whitespace.
+/// Returns whether it is.
+fn write_front<W: Write>(alloc: Global, front: &[u8], out: &mut W) -> Result<bool, Fault>
+    ensures { WritesLines (W.contents out.old) (W.contents out.new) result (IsFront front.now) }
+{
+    if is_blank(front) {
+        return Ok(true);
     }
+    write_error(alloc, out, "The mailbox does not begin with a line `From `")?;
+    Ok(false)
+}
+
+/// Whether all bytes are whitespace.
+fn is_blank(bytes: &[u8]) -> bool
+    ensures { result ≡ list_all is_ascii_whitespace bytes.now }
+{
+    bytes.iter().all(|byte| byte.is_ascii_whitespace())
+}
+
+/// Writes each mail of a mailbox, the first of which begins at this offset with its separator.
+/// Returns whether none was refused.
+fn write_mails<W: Write>(
+    alloc: Global,
+    mails: Mailbox<'_>,
+    start: usize,
+    out: &mut W,
+    tables: &[SingleByteTable<'_>],
+) -> Result<bool, Fault>
+    ensures { WritesLines (W.contents out.old) (W.contents out.new) result
+        (AreLines (charsets_with tables.now) start (entries_left mails.entry)) }
+{
+    let mut at = start;
+    let mut is_whole = true;
     for entry in mails {
         at = at.saturating_add(entry.separator().len());
-        is_whole &= write_line(alloc, entry.mail(), at, out)?;
+        let is_read = write_line(alloc, entry.mail(), at, out, tables)?;
+        is_whole &= is_read;
         at = at.saturating_add(entry.mail().len());
         at = at.saturating_add(entry.ending().len());
     }
@@ -121,24 +179,29 @@ fn write_line<W: Write>(
     raw: &[u8],
     start: usize,
     out: &mut W,
-) -> Result<bool, Fault> {
-    match parse_mail_with(alloc, raw, &TABLES) {
+    tables: &[SingleByteTable<'_>],
+) -> Result<bool, Fault>
+    ensures { WritesLines (W.contents out.old) (W.contents out.new) result
+        (IsLine (charsets_with tables.now) start raw.now) }
+{
+    match parse_mail_with(alloc, raw, tables) {
         Ok(mail) => {
-            write_mail(alloc, out, &mail, start)?;
+            write_mail(alloc, out, &mail, start, tables)?;
             write_word(out, "\n")?;
             Ok(true)
         }
-        Err(MailParseError::Memory(error)) => Err(Fault::Mail(MailParseError::Memory(error))),
         Err(error) => {
-            let error = format!(in alloc; "{error}")?;
-            write_error(alloc, out, error.as_str())?;
+            let text = refusal_text(alloc, &error)?;
+            write_error(alloc, out, text.as_str())?;
             Ok(false)
         }
     }
 }
 
 /// Writes the line of an error.
-fn write_error<W: Write>(alloc: Global, out: &mut W, error: &str) -> Result<(), Fault> {
+fn write_error<W: Write>(alloc: Global, out: &mut W, error: &str) -> Result<(), Fault>
+    ensures { Writes (W.contents out.old) (W.contents out.new) result (error_line error.now) }
+{
     write_word(out, "{\"error\":")?;
     write_text(alloc, out, error)?;
     write_word(out, "}\n")

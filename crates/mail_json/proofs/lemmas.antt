@@ -1,0 +1,4 @@
+pub mod Json
+pub mod Lines
+pub mod Parameters
+pub mod PartTexts

@@ -1,0 +1,157 @@
+-- Lemmas on JSON text.
+use Rattle.std.proofs.Common.{◌≡◌, ℕ, suc, ◌+◌, ◌<◌, Bool, true, false, List, [], ◌∷◌, ◌++◌, length, drop, get_or, Option, Some, None, Result, Ok, Err, refl, sym, ap, subst, ◌∙◌, append_assoc, add-one, drop-cons}
+use Rattle.std.proofs.KnownBytes.{Appends-nil, Appends-trans}
+use Rattle.std.proofs.lemmas.Bool.{cond-true, cond-false}
+use Rattle.std.proofs.lemmas.List.{append-nil}
+use Rattle.std.proofs.lemmas.Str.{chars-nil, chars_past_char}
+use Rattle.std.specs.Char.{encode_utf8}
+use Rattle.std.specs.Io.KnownBytes.{Appends}
+use Rattle.std.specs.List.{flat_map}
+use Rattle.std.specs.Fmt.{padded_integral, format_spec}
+use Rattle.std.specs.Prelude.{ℤ, codes, option_map, ◌^◌, ◌-◌}
+use Rattle.std.specs.Str.{chars, IsUtf8}
+use Rattle.std.specs.Cow.{cow_str_bytes}
+use Rattle.mailparse.specs.Refusal.{Reads, Refusal, generic, encoding, base64_fault}
+use Rattle.mailparse.specs.Outcome.{IsMemory, IsRefusal, IsRefusalOrMemory, Refuses, refusal_of}
+use Rattle.mailparse.specs.declared.error.MailParseError.{MailParseError}
+use Rattle.mailparse.specs.declared.error.MailParseError.TheVariants.{QuotedPrintableDecodeError, Base64DecodeError, EncodingError, Generic, Memory}
+use Rattle.mail_json.specs.Written.{Writes, WritesOne}
+use Rattle.mail_program.specs.declared.fault.Fault.{Fault}
+use Rattle.mailparse.specs.Date.{date_seconds}
+use Rattle.mail_json.specs.Members.{date_text, refusal_text}
+use Rattle.mail_json.specs.Json.{is_hidden, hexadecimal, character_text, json_text, shown, comma, after_commas, joined}
+
+-- two writes, one after the other
+pub appends_then : (a b c : Option (List ℕ)) (bs cs : List ℕ) → Appends a b bs → Appends b c cs → Appends a c (bs ++ cs)
+appends_then a b c bs cs p q = Appends-trans a b c bs cs p q
+
+-- a character that is shown as it is, and one that is not
+pub character_plain : (c : ℕ) → is_hidden c ≡ false → character_text c ≡ encode_utf8 c
+unfolding character_text
+character_plain c e = cond-false (is_hidden c) (codes "\\u" ++ hexadecimal c) (encode_utf8 c) e
+
+pub character_hidden : (c : ℕ) → is_hidden c ≡ true → character_text c ≡ codes "\\u" ++ hexadecimal c
+unfolding character_text
+character_hidden c e = cond-true (is_hidden c) (codes "\\u" ++ hexadecimal c) (encode_utf8 c) e
+
+-- what is written for digits in four places or more, which begin with 0 where there are fewer
+abbrev pub hexadecimal_output : Option (List ℕ) → Option (List ℕ)
+hexadecimal_output digits = option_map (padded_integral (format_spec 32 0 4 4 (2 ^ 64 - 1)) false []) digits
+
+-- the first character, and what follows it
+pub shown_past : (rest next : List ℕ) (c : ℕ) → IsUtf8 rest → rest ≡ encode_utf8 c ++ next → shown rest ≡ character_text c ++ shown next
+unfolding shown
+shown_past rest next c utf8 e = ap (λ cs. flat_map character_text cs) (chars_past_char rest next c utf8 e)
+
+pub shown_nil : (rest : List ℕ) → rest ≡ [] → shown rest ≡ []
+unfolding shown
+shown_nil rest e = ap (λ cs. flat_map character_text cs) (ap chars e ∙ chars-nil)
+
+-- if what follows a plain character shows as it stands, so does the whole
+pub same_past : (rest next : List ℕ) (c : ℕ) → IsUtf8 rest → rest ≡ encode_utf8 c ++ next → is_hidden c ≡ false → shown next ≡ next → shown rest ≡ rest
+same_past rest next c utf8 e plain same =
+    shown_past rest next c utf8 e ∙ ap (λ t. t ++ shown next) (character_plain c plain) ∙ ap (λ t. encode_utf8 c ++ t) same ∙ sym e
+
+-- what was written, and then the rest shown, is all shown
+pub escaped_past : (all written rest next new : List ℕ) (c : ℕ) → IsUtf8 rest → rest ≡ encode_utf8 c ++ next → new ≡ written ++ character_text c
+    → written ++ shown rest ≡ all → new ++ shown next ≡ all
+escaped_past all written rest next new c utf8 e push here =
+    ap (λ w. w ++ shown next) push ∙ append_assoc written (character_text c) (shown next)
+    ∙ ap (λ t. written ++ t) (sym (shown_past rest next c utf8 e)) ∙ here
+
+pub escaped_end : (all written rest : List ℕ) → rest ≡ [] → written ++ shown rest ≡ all → written ≡ all
+escaped_end all written rest none here = sym (append-nil written) ∙ ap (λ t. written ++ t) (sym (shown_nil rest none)) ∙ here
+
+-- ---- one write after another
+
+pub writes_then : {T : Type 0} (old mid new : Option (List ℕ)) (r : Result T Fault) (a b : List ℕ) → Appends old mid a → Writes mid new r b
+    → Writes old new r (a ++ b)
+writes_then old mid new (Ok done) a b p q = Appends-trans old mid new a b p q
+writes_then old mid new (Err fault) a b p q = q
+
+-- a text that is one of these was written
+pub writes_one : {T : Type 0} (Is : List ℕ → Type 0) (old new : Option (List ℕ)) (r : Result T Fault) (text : List ℕ) → Is text → Writes old new r text
+    → WritesOne old new r Is
+writes_one Is old new (Ok done) text h p = (text, h, p)
+writes_one Is old new (Err fault) text h p = p
+
+-- the same text by another name
+pub writes_as : {T : Type 0} (old new : Option (List ℕ)) (r : Result T Fault) (a b : List ℕ) → a ≡ b → Writes old new r a → Writes old new r b
+writes_as old new r a b e p = subst (λ t. Writes old new r t) e p
+
+pub appends_as : (old new : Option (List ℕ)) (a b : List ℕ) → a ≡ b → Appends old new a → Appends old new b
+appends_as old new a b e p = subst (λ t. Appends old new t) e p
+
+-- eight texts one after another
+pub grouped : (a b c d e f g h : List ℕ) → a ++ (b ++ (c ++ (d ++ (e ++ (f ++ (g ++ h)))))) ≡ a ++ b ++ c ++ d ++ e ++ f ++ g ++ h
+grouped a b c d e f g h =
+    sym (append_assoc (a ++ b ++ c ++ d ++ e ++ f) g h ∙ append_assoc (a ++ b ++ c ++ d ++ e) f (g ++ h)
+    ∙ append_assoc (a ++ b ++ c ++ d) e (f ++ (g ++ h)) ∙ append_assoc (a ++ b ++ c) d (e ++ (f ++ (g ++ h)))
+    ∙ append_assoc (a ++ b) c (d ++ (e ++ (f ++ (g ++ h)))) ∙ append_assoc a b (c ++ (d ++ (e ++ (f ++ (g ++ h))))))
+
+-- ---- refusals
+
+refuses_at : {Y : Type 0} (o : Option Refusal) (given : Reads Y) → Refuses o given → (r : Refusal) × (o ≡ Some r) × (given ≡ Err r)
+refuses_at None given h = absurd h
+refuses_at (Some r) given h = (r, refl, h)
+
+-- the refusal that an error is
+pub refused : {Y : Type 0} (e : MailParseError) (given : Reads Y) → IsRefusal e given → (r : Refusal) × (refusal_of e ≡ Some r) × (given ≡ Err r)
+refused e given h = refuses_at (refusal_of e) given h
+
+-- the same of an error that does not say that memory ran out
+pub refused_or_memory : {Y : Type 0} (e : MailParseError) (given : Reads Y) → (IsMemory e → ⊥) → IsRefusalOrMemory e given
+    → (r : Refusal) × (refusal_of e ≡ Some r) × (given ≡ Err r)
+refused_or_memory (QuotedPrintableDecodeError fault) given n h = absurd h
+refused_or_memory (Base64DecodeError fault) given n h = (base64_fault fault.group, refl, h)
+refused_or_memory (EncodingError text) given n h = (encoding (cow_str_bytes text), refl, h)
+refused_or_memory (Generic text) given n h = (generic text.now, refl, h)
+refused_or_memory (Memory e) given n h = absurd (n tt)
+
+pub ok_same : {T E : Type 0} (a b : T) → ◌≡◌ {A = Result T E} (Ok a) (Ok b) → a ≡ b
+ok_same a b e = cc
+
+-- a date that is refused
+pub date_refused : (found : Option (List ℕ)) (date : List ℕ) (r : Refusal) → found ≡ Some date → date_seconds date ≡ Err r
+    → date_text (option_map date_seconds found) ≡ codes ",\"date\":null,\"date_error\":" ++ json_text (refusal_text r)
+date_refused found date r e f = ap (λ (o : Option (List ℕ)). date_text (option_map date_seconds o)) e ∙ ap (λ (d : Reads ℤ). date_text (Some d)) f
+
+-- ---- items with commas
+
+-- the first of the items that are left
+pub drop_next : {A : Type 0} (xs : List A) (i : ℕ) (x : A) → i < length xs → x ≡ get_or xs i x → drop i xs ≡ x ∷ drop (i + 1) xs
+drop_next xs i x h e = drop-cons xs i x h ∙ ap (λ y. y ∷ drop (suc i) xs) (sym e) ∙ ap (λ n. x ∷ drop n xs) (sym (add-one i))
+
+-- the texts of the items that are left, where none was written yet and where some were
+abbrev pub left_text : {A : Type 0} → (A → List ℕ) → Bool → List A → List ℕ
+left_text text true xs = joined text xs
+left_text text false xs = after_commas text xs
+
+-- what was written is a text that the texts of the items that are left complete
+abbrev pub Wrote : {A : Type 0} → (A → List ℕ) → Option (List ℕ) → Option (List ℕ) → Bool → (left all : List A) → Type 0
+Wrote text old new first left all = (done : List ℕ) × Appends old new done × (done ++ left_text text first left ≡ joined text all)
+
+pub wrote_start : {A : Type 0} (text : A → List ℕ) (old : Option (List ℕ)) (left all : List A) → left ≡ all → Wrote text old old true left all
+wrote_start text old left all e = ([], Appends-nil old, ap (λ xs. joined text xs) e)
+
+pub wrote_more : {A : Type 0} (text : A → List ℕ) (old a b c : Option (List ℕ)) (first : Bool) (x : A) (left rest all : List A) → left ≡ x ∷ rest
+    → Wrote text old a first left all → Appends a b (comma first) → Appends b c (text x) → Wrote text old c false rest all
+wrote_more text old a b c true x left rest all e here p q =
+    let wrote = Appends-trans old a c here.0 (text x) here.1 (Appends-trans a b c [] (text x) p q) in
+    (here.0 ++ text x, wrote, append_assoc here.0 (text x) (after_commas text rest) ∙ ap (λ xs. here.0 ++ joined text xs) (sym e) ∙ here.2)
+wrote_more text old a b c false x left rest all e here p q =
+    let wrote = Appends-trans old a c here.0 (codes "," ++ text x) here.1 (Appends-trans a b c (codes ",") (text x) p q) in
+    (here.0 ++ (codes "," ++ text x), wrote,
+    append_assoc here.0 (codes "," ++ text x) (after_commas text rest) ∙ ap (λ xs. here.0 ++ after_commas text xs) (sym e) ∙ here.2)
+
+-- nothing is left
+ended : {A : Type 0} (text : A → List ℕ) (old new : Option (List ℕ)) (all : List A) (done left : List ℕ) → left ≡ []
+    → Appends old new done → done ++ left ≡ joined text all → Appends old new (joined text all)
+ended text old new all done left none wrote e =
+    let same : done ≡ joined text all = sym (append-nil done) ∙ ap (λ t. done ++ t) (sym none) ∙ e in
+    subst (Appends old new) same wrote
+
+pub wrote_all : {A : Type 0} (text : A → List ℕ) (old new : Option (List ℕ)) (first : Bool) (left all : List A) → left ≡ []
+    → Wrote text old new first left all → Appends old new (joined text all)
+wrote_all text old new true left all e here = ended text old new all here.0 (joined text left) (ap (λ xs. joined text xs) e) here.1 here.2
+wrote_all text old new false left all e here = ended text old new all here.0 (after_commas text left) (ap (λ xs. after_commas text xs) e) here.1 here.2

@@ -1,0 +1,118 @@
+-- Lemmas on the texts of parts.
+use Rattle.std.proofs.Common.{◌≡◌, ℕ, suc, List, [], ◌∷◌, ◌++◌, ◌+◌, ◌<◌, ◌≤◌, map, length, drop, get_or, add-one, refl, sym, ap, subst, ◌∙◌, append_assoc, eqb, arith}
+use Rattle.std.proofs.lemmas.Bool.{ne_eqb}
+use Rattle.std.proofs.lemmas.List.{append-nil, drop_all, length-map}
+use Rattle.std.specs.Prelude.{codes}
+use Rattle.mailparse.specs.Mail.{Node, Tree, Forest, tree, part_and, root, forest}
+use Rattle.mailparse.specs.Views.{content_type, tree_of, tree_step}
+use Rattle.mailparse.specs.declared.mail.ParsedMail.{ParsedMail}
+use Rattle.mailparse.specs.declared.mail.ParsedMail.TheViews.{out-ParsedMail}
+use Rattle.mailparse.specs.declared.mail.ParsedMail.TheFolds.{fold_out-ParsedMail}
+use Rattle.mail_data.specs.Files.{is_leaf, path_under}
+use Rattle.mail_json.proofs.lemmas.Json.{drop_next}
+use Rattle.mail_json.specs.Members.{further}
+use Rattle.mail_json.specs.PartTexts.{Place, AreAfterCommas, delimiter_length, part_start, places, places_in, preamble_end}
+
+-- one after the other
+pub after_commas_then : {A : Type 0} (Is : A → List ℕ → Type 0) (xs ys : List A) (a b : List ℕ) → AreAfterCommas Is xs a → AreAfterCommas Is ys b
+    → AreAfterCommas Is (xs ++ ys) (a ++ b)
+after_commas_then Is [] ys a b p q = subst (AreAfterCommas Is ys) (ap (λ t. t ++ b) (sym p)) q
+after_commas_then Is (x ∷ xs) ys a b p q =
+    (p.0, p.1 ++ b, p.2, after_commas_then Is xs ys p.1 b p.3 q,
+    ap (λ t. t ++ b) p.4 ∙ ap (λ t. codes "," ++ t) (append_assoc p.0 p.1 b))
+
+-- what was written of a message and its parts, which any text of the parts that are left completes
+abbrev pub Completes : (Place → List ℕ → Type 0) → (left all : List Place) → List ℕ → Type 0
+Completes Is left all done = (rest : List ℕ) → AreAfterCommas Is left rest → AreAfterCommas Is all (codes "," ++ (done ++ rest))
+
+-- the message itself
+pub completes_start : (Is : Place → List ℕ → Type 0) (place : Place) (left all : List Place) (own : List ℕ) → all ≡ place ∷ left → Is place own
+    → Completes Is left all own
+completes_start Is place left all own e p = λ rest h. subst (λ (xs : List Place). AreAfterCommas Is xs (codes "," ++ (own ++ rest))) (sym e) (own, rest, p, h, refl)
+
+-- one part more
+pub completes_more : (Is : Place → List ℕ → Type 0) (mine next left all : List Place) (done text : List ℕ) → left ≡ mine ++ next
+    → Completes Is left all done → AreAfterCommas Is mine (codes "," ++ text) → Completes Is next all (done ++ (codes "," ++ text))
+completes_more Is mine next left all done text e here p = λ rest h.
+    let whole = here ((codes "," ++ text) ++ rest)
+        (subst (λ (xs : List Place). AreAfterCommas Is xs ((codes "," ++ text) ++ rest)) (sym e) (after_commas_then Is mine next (codes "," ++ text) rest p h)) in
+    subst (λ t. AreAfterCommas Is all (codes "," ++ t)) (sym (append_assoc done (codes "," ++ text) rest)) whole
+
+-- no part is left
+pub completes_end : (Is : Place → List ℕ → Type 0) (left all : List Place) (done : List ℕ) → left ≡ [] → Completes Is left all done
+    → AreAfterCommas Is all (codes "," ++ done)
+completes_end Is left all done e here =
+    subst (λ t. AreAfterCommas Is all (codes "," ++ t)) (append-nil done) (here [] (subst (λ (xs : List Place). AreAfterCommas Is xs []) (sym e) refl))
+
+-- ---- a message and its parts
+
+pub bytes-out : (m : ParsedMail) → (out-ParsedMail m).raw_bytes.now ≡ (root (tree_of m)).bytes
+bytes-out m = ap (λ (t : Tree). (root t).bytes) (sym (fold_out-ParsedMail Tree tree_step m))
+
+pub ctype-out : (m : ParsedMail) → content_type (out-ParsedMail m).ctype ≡ (root (tree_of m)).ctype
+ctype-out m = ap (λ (t : Tree). (root t).ctype) (sym (fold_out-ParsedMail Tree tree_step m))
+
+pub headers-out : (m : ParsedMail) → (out-ParsedMail m).headers.items ≡ (root (tree_of m)).headers
+headers-out m = ap (λ (t : Tree). (root t).headers) (sym (fold_out-ParsedMail Tree tree_step m))
+
+leaf-forest : (node : Node) (ts : List Tree) → is_leaf (tree node (forest ts)) ≡ eqb (length ts) 0
+leaf-forest node [] = refl
+leaf-forest node (t ∷ ts) = sym (ne_eqb (length (t ∷ ts)) 0 (λ e. absurd (omega arith)))
+
+leaf-at : (t : Tree) (node : Node) (ts : List Tree) → t ≡ tree node (forest ts) → is_leaf t ≡ eqb (length ts) 0
+leaf-at t node ts e = ap is_leaf e ∙ leaf-forest node ts
+
+-- a message has no parts exactly where its list of parts is empty
+pub is_leaf-out : (m : ParsedMail) → is_leaf (tree_of m) ≡ eqb (length (out-ParsedMail m).subparts.items) 0
+is_leaf-out m =
+    leaf-at (tree_of m) _ (map tree_of (out-ParsedMail m).subparts.items) (fold_out-ParsedMail Tree tree_step m)
+    ∙ ap (λ n. eqb n 0) (length-map (out-ParsedMail m).subparts.items tree_of)
+
+-- the places of a message that has these parts
+places-at : (path : List ℕ) (start : ℕ) (t : Tree) (node : Node) (parts : Forest) → t ≡ tree node parts
+    → places path start t ≡ record { path = path; start = start; part = t } ∷ places_in path start (root t) 1 (preamble_end (root t)) parts
+places-at path start t node parts e =
+    ap (places path start) e
+    ∙ ap (λ (u : Tree). record { path = path; start = start; part = u } ∷ places_in path start (root u) 1 (preamble_end (root u)) parts) (sym e)
+
+pub places-out : (path : List ℕ) (start : ℕ) (m : ParsedMail)
+    → places path start (tree_of m)
+    ≡ record { path = path; start = start; part = tree_of m }
+    ∷ places_in path start (root (tree_of m)) 1 (preamble_end (root (tree_of m))) (forest (map tree_of (out-ParsedMail m).subparts.items))
+places-out path start m = places-at path start (tree_of m) _ (forest (map tree_of (out-ParsedMail m).subparts.items)) (fold_out-ParsedMail Tree tree_step m)
+
+-- the places of the first part that is left, and then those of the others
+pub places-more : (path : List ℕ) (start : ℕ) (node : Node) (number end begin : ℕ) (parts : List Tree) (t : Tree) (ts : List Tree) → parts ≡ t ∷ ts
+    → begin ≡ part_start node.bytes end (delimiter_length node.ctype)
+    → places_in path start node number end (forest parts)
+    ≡ places (path_under path number) (further start begin) t ++ places_in path start node (suc number) (further begin (length (root t).bytes)) (forest ts)
+places-more path start node number end begin parts t ts e at =
+    ap (λ (ps : List Tree). places_in path start node number end (forest ps)) e
+    ∙ ap (λ b. places (path_under path number) (further start b) t ++ places_in path start node (suc number) (further b (length (root t).bytes)) (forest ts)) (sym at)
+
+-- one part more was written, which begins there; what follows it is what is left
+pub parts_step : (Is : Place → List ℕ → Type 0) (path : List ℕ) (start : ℕ) (node : Node) (i end begin begun after : ℕ) (under : List ℕ)
+    (parts : List ParsedMail) (m : ParsedMail) (all : List Place) (done text : List ℕ)
+    → i < length parts → m ≡ get_or parts i m → begin ≡ part_start node.bytes end (delimiter_length node.ctype) → under ≡ path_under path (suc i)
+    → begun ≡ further start begin → after ≡ further begin (length (root (tree_of m)).bytes)
+    → Completes Is (places_in path start node (suc i) end (forest (map tree_of (drop i parts)))) all done
+    → AreAfterCommas Is (places under begun (tree_of m)) (codes "," ++ text)
+    → Completes Is (places_in path start node (suc (i + 1)) after (forest (map tree_of (drop (i + 1) parts)))) all (done ++ (codes "," ++ text))
+parts_step Is path start node i end begin begun after under parts m all done text h item at is_under is_begun is_after here p =
+    let rest = drop (i + 1) parts in
+    let mine = places (path_under path (suc i)) (further start begin) (tree_of m) in
+    let left : map tree_of (drop i parts) ≡ tree_of m ∷ map tree_of rest = ap (map tree_of) (drop_next parts i m h item) in
+    let cut = places-more path start node (suc i) end begin (map tree_of (drop i parts)) (tree_of m) (map tree_of rest) left at in
+    let next =
+        ap (λ n. places_in path start node (suc n) (further begin (length (root (tree_of m)).bytes)) (forest (map tree_of rest))) (sym (add-one i))
+        ∙ ap (λ a. places_in path start node (suc (i + 1)) a (forest (map tree_of rest))) (sym is_after) in
+    let own : places under begun (tree_of m) ≡ mine =
+        ap (λ u. places u begun (tree_of m)) is_under ∙ ap (λ b. places (path_under path (suc i)) b (tree_of m)) is_begun in
+    completes_more Is mine (places_in path start node (suc (i + 1)) after (forest (map tree_of rest)))
+    (places_in path start node (suc i) end (forest (map tree_of (drop i parts)))) all done text (cut ∙ ap (λ ps. mine ++ ps) next) here
+    (subst (λ (ps : List Place). AreAfterCommas Is ps (codes "," ++ text)) own p)
+
+-- no part is left
+pub parts_end : (path : List ℕ) (start : ℕ) (node : Node) (number end i : ℕ) (parts : List ParsedMail) → length parts ≤ i
+    → places_in path start node number end (forest (map tree_of (drop i parts))) ≡ []
+parts_end path start node number end i parts h = ap (λ (ps : List ParsedMail). places_in path start node number end (forest (map tree_of ps))) (drop_all i parts h)

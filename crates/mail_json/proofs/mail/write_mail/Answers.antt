@@ -1,0 +1,22 @@
+use Rattle.std.proofs.Common.{◌++◌, List, ℕ, refl, subst}
+use Rattle.std.specs.Prelude.{codes}
+use Rattle.std.proofs.KnownBytes.{Appends-trans}
+use Rattle.mail_codec.specs.Tables.{charsets_with}
+use Rattle.mailparse.specs.Mail.{root}
+use Rattle.mailparse.specs.Views.{tree_of}
+use Rattle.mail_json.specs.Members.{mail_text}
+use Rattle.mail_json.specs.PartTexts.{AreJoined, IsMailText, IsPartText, places}
+use Rattle.mail_json.proofs.lemmas.Json.{writes_one, writes_then}
+use Rattle.mail_json.proofs.mail.write_mail.Goals as goal
+
+pub returns : goal.returns
+returns g c =
+    let known = charsets_with c.args.tables.now in
+    let mail = tree_of c.args.mail.now in
+    let parts = c.in_ok-write_parts.ensures in
+    let values = Appends-trans _ _ _ _ _ c.in_ok-write_values.ensures c.in_ok-write_date.ensures in
+    let ids = Appends-trans _ _ _ _ _ values c.in_ok-write_ids.ensures in
+    let front = Appends-trans _ _ _ _ _ ids c.in_ok-write_word.ensures in
+    let written = writes_then _ _ _ _ _ _ (Appends-trans _ _ _ _ _ front parts.2) c.write_word-2.ensures in
+    writes_one (IsMailText known c.args.start mail) _ _ _ (mail_text known (root mail) parts.0)
+    (parts.0, subst (λ (path : List ℕ). AreJoined (IsPartText known) (places path c.args.start mail) parts.0) c.whole_path.ensures parts.1, refl) written

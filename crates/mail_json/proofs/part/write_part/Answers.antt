@@ -1,0 +1,62 @@
+use Rattle.std.proofs.Common.{◌≡◌, ◌++◌, ◌∷◌, Bool, not, ◌&&◌, List, ℕ, length, refl, sym, ap, subst, ◌∙◌}
+use Rattle.std.proofs.lemmas.Result.{err_from_is_err_and}
+use Rattle.std.specs.Prelude.{codes}
+use Rattle.std.proofs.KnownBytes.{Appends-trans}
+use Rattle.mail_codec.specs.Places.{stands}
+use Rattle.mail_codec.specs.Tables.{charsets_with}
+use Rattle.mailparse.specs.BodyViews.{content_of}
+use Rattle.mailparse.specs.ContentType.{ContentType}
+use Rattle.mailparse.specs.Mail.{root}
+use Rattle.mailparse.specs.Views.{tree_of}
+use Rattle.mailparse.specs.declared.mail.ParsedMail.TheViews.{out-ParsedMail}
+use Rattle.mail_data.specs.Files.{is_leaf}
+use Rattle.mail_data.specs.LooseCoding.{loose_body_kind}
+use Rattle.mail_json.specs.Members.{IsTypeText, body_text, coding_text, further, headers_text, place_text}
+use Rattle.mail_json.specs.PartTexts.{Place, IsPartText, part_text}
+use Rattle.mail_json.proofs.lemmas.Json.{appends_as, writes_one, writes_then}
+use Rattle.mail_json.proofs.lemmas.PartTexts.{bytes-out, ctype-out, headers-out}
+use Rattle.mail_json.proofs.part.write_part.Goals as goal
+
+pub returns : goal.returns
+returns g c =
+    let known = charsets_with c.args.tables.now in
+    let m = c.args.part.now in
+    let node = root (tree_of m) in
+    let kind = loose_body_kind node in
+    let given = content_of node in
+    let place : Place = record { path = c.args.path.now; start = c.args.start; part = tree_of m } in
+    let type = c.in_ok-write_type.ensures in
+    let is_body = c.in_ok-body.ensures.read in
+    let end = c.saturating_add-end.ensures ∙ ap (λ (bytes : List ℕ). further c.args.start (length bytes)) (bytes-out m) in
+    let places =
+        ap (λ (name : List ℕ). place_text name c.args.start c.saturating_add-end.result c.raw_length.result) (c.coding_name.ensures kind given is_body)
+        ∙ ap (λ e. place_text (coding_text kind) c.args.start e c.raw_length.result) end
+        ∙ ap (λ n. place_text (coding_text kind) c.args.start (further c.args.start (length node.bytes)) n) (c.raw_length.ensures kind given is_body) in
+    let headers = ap (headers_text known) (c.as_slice.ensures.value ∙ headers-out m) in
+    let is_read =
+        c.is_read.ensures
+        ∙ ap (λ is. not is && is_leaf (tree_of m) && stands (codes "text/") node.ctype.mimetype) c.in_ok-is_file.ensures.value in
+    let body = ap (λ is. body_text known is kind given) is_read in
+    let one = Appends-trans _ _ _ _ _ c.in_ok-write_word.ensures c.in_ok-write_text.ensures in
+    let two = Appends-trans _ _ _ _ _ one type.2 in
+    let three = Appends-trans _ _ _ _ _ two c.in_ok-is_file.ensures.written in
+    let four = Appends-trans _ _ _ _ _ three (appends_as _ _ _ _ places c.in_ok-write_place.ensures) in
+    let five = Appends-trans _ _ _ _ _ four (c.in_ok-write_decoded_size.ensures kind given is_body) in
+    let six = Appends-trans _ _ _ _ _ five (appends_as _ _ _ _ headers c.in_ok-write_headers.ensures) in
+    let seven = Appends-trans _ _ _ _ _ six c.in_ok-write_word-2.ensures in
+    let eight = Appends-trans _ _ _ _ _ seven (appends_as _ _ _ _ body (c.in_ok-write_body_text.ensures kind given is_body)) in
+    let written = writes_then _ _ _ _ _ _ eight c.write_word-3.ensures in
+    writes_one (IsPartText known place) _ _ _ (part_text known place type.0)
+    (type.0, subst (λ (t : ContentType). IsTypeText t type.0) (ctype-out m) type.1, refl) written
+
+pub returns-in_err-write_decoded_size : goal.returns-in_err-write_decoded_size
+returns-in_err-write_decoded_size g c =
+    let node = root (tree_of c.args.part.now) in
+    let p = err_from_is_err_and c.from_residual-in_err-write_decoded_size.result c.from_residual-in_err-write_decoded_size.ensures.1 in
+    rw (p.1, p.2) (c.in_err-write_decoded_size.ensures (loose_body_kind node) (content_of node) c.in_ok-body.ensures.read)
+
+pub returns-in_err-write_body_text : goal.returns-in_err-write_body_text
+returns-in_err-write_body_text g c =
+    let node = root (tree_of c.args.part.now) in
+    let p = err_from_is_err_and c.from_residual-in_err-write_body_text.result c.from_residual-in_err-write_body_text.ensures.1 in
+    rw (p.1, p.2) (c.in_err-write_body_text.ensures (loose_body_kind node) (content_of node) c.in_ok-body.ensures.read)

@@ -1,0 +1,49 @@
+-- JSON text of strings, of lists and of what is not there (RFC 8259, sections 5 and 7), as this program writes it.
+use Rattle.std.specs.Prelude.{ℕ, ◌^◌, ◌-◌, Bool, true, false, ◌&&◌, ◌||◌, ◌==◌, nat_lt, List, [], ◌∷◌, ◌++◌, flat_map, Option, Some, None, codes, chars, if◌then◌else◌}
+use Rattle.std.specs.Char.{encode_utf8}
+use Rattle.std.specs.Fmt.{digits, padded_integral, format_spec}
+use Rattle.json.specs.Print.{quoted}
+
+-- a character, which JSON lets stand, that moves a terminal or ends a line for some readers: DEL, the controls from U+0080 to U+009F, and
+-- the separators U+2028 and U+2029
+unfoldable pub is_hidden : ℕ → Bool
+is_hidden c = (nat_lt 126 c && nat_lt c 160) || (c == 8232 || c == 8233)
+
+-- a number in hexadecimal digits, in lower case, four or more
+abbrev pub hexadecimal : ℕ → List ℕ
+hexadecimal c = padded_integral (format_spec 32 0 4 4 (2 ^ 64 - 1)) false [] (digits 16 false c)
+
+-- what stands for a character: `\u` and its number where it is hidden, otherwise itself
+unfoldable pub character_text : ℕ → List ℕ
+character_text c = if is_hidden c then codes "\\u" ++ hexadecimal c else encode_utf8 c
+
+-- a JSON text whose hidden characters are escaped
+unfoldable pub shown : List ℕ → List ℕ
+shown json = flat_map character_text (chars json)
+
+-- a string: within quotation marks, with `"`, `\` and controls escaped, each by the shortest escape; and hidden characters
+unfoldable pub json_text : List ℕ → List ℕ
+json_text text = shown (quoted text)
+
+-- a string, or `null` where there is none
+abbrev pub text_or_null : Option (List ℕ) → List ℕ
+text_or_null (Some text) = json_text text
+text_or_null None = codes "null"
+
+-- the texts of items, each after a comma
+abbrev pub after_commas : {A : Type 0} → (A → List ℕ) → List A → List ℕ
+after_commas text xs = flat_map (λ x. codes "," ++ text x) xs
+
+-- the texts of items, a comma between two
+abbrev pub joined : {A : Type 0} → (A → List ℕ) → List A → List ℕ
+joined text [] = []
+joined text (x ∷ xs) = text x ++ after_commas text xs
+
+-- a list of strings
+abbrev pub json_texts : List (List ℕ) → List ℕ
+json_texts texts = codes "[" ++ joined json_text texts ++ codes "]"
+
+-- what stands before an item or a member
+abbrev pub comma : Bool → List ℕ
+comma true = []
+comma false = codes ","

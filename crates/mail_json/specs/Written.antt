@@ -1,0 +1,22 @@
+-- What a call wrote to a writer, where the writer tells its bytes; the program's own words.
+use Rattle.std.specs.Prelude.{◌≡◌, ℕ, List, Option, Result, Ok, Err}
+use Rattle.std.specs.Io.KnownBytes.{Appends}
+use Rattle.mailparse.specs.Outcome.{IsMemory}
+use Rattle.mail_program.specs.declared.fault.Fault.{Fault}
+use Rattle.mail_program.specs.declared.fault.Fault.TheVariants.{Input, Mail, Output}
+
+-- memory ran out, or a write failed
+abbrev pub IsEnd : Fault → Type 0
+IsEnd (Mail e) = IsMemory e
+IsEnd (Input e) = ⊥
+IsEnd (Output e) = Unit {0}
+
+-- the text was written and nothing else; otherwise memory ran out or a write failed
+abbrev pub Writes : {T : Type 0} → Option (List ℕ) → Option (List ℕ) → Result T Fault → List ℕ → Type 0
+Writes old new (Ok done) text = Appends old new text
+Writes old new (Err fault) text = IsEnd fault
+
+-- the same of a text that is one of these
+abbrev pub WritesOne : {T : Type 0} → Option (List ℕ) → Option (List ℕ) → Result T Fault → (List ℕ → Type 0) → Type 0
+WritesOne old new (Ok done) Is = (text : List ℕ) × Is text × Appends old new text
+WritesOne old new (Err fault) Is = IsEnd fault
