@@ -1,6 +1,6 @@
 -- What is written of a mail and of its parts, by what they have; the program's own form. The rules are those of the library and of the layer
 -- above it, under the charsets that are known.
-use Rattle.std.specs.Prelude.{◌≡◌, ℕ, ℤ, ◌+◌, ◌^◌, ◌-◌, min, Bool, true, false, ◌&&◌, ◌||◌, List, [], ◌∷◌, ◌++◌, length, drop, map, Option, Some, None, option_map, option_and_then, is_some, Ok, Err, codes, decimal, if◌then◌else◌}
+use Rattle.std.specs.Prelude.{◌≡◌, ℕ, ℤ, ◌+◌, ◌^◌, ◌-◌, min, Bool, true, false, ◌&&◌, ◌||◌, List, [], ◌++◌, length, map, Option, Some, None, option_map, option_and_then, is_some, Ok, Err, codes, decimal}
 use Rattle.std.specs.Cmp.Lexicographic.{slice_cmp}
 use Rattle.std.specs.Fmt.{signed_decimal}
 use Rattle.std.specs.List.Sorted.{IsStrictlySortedBy}
@@ -9,7 +9,6 @@ use Rattle.std.specs.Option.{option_map_or}
 use Rattle.std.specs.Ordering.{nat_cmp}
 use Rattle.std.specs.Str.{bytes_eq}
 use Rattle.mail_codec.specs.Charset.{Charsets}
-use Rattle.mail_codec.specs.Places.{stands}
 use Rattle.mailparse.specs.Body.{BodyKind, in_base64, in_quoted_printable, in_7bit, in_8bit, in_binary, decoded, decoded_text_in}
 use Rattle.mailparse.specs.BodyViews.{Content}
 use Rattle.mailparse.specs.ContentType.{ContentType}
@@ -22,7 +21,6 @@ use Rattle.mailparse.specs.Pairs.{Texts}
 use Rattle.mailparse.specs.Refusal.{◌>>=◌, Reads, Refusal, generic, encoding, base64_fault}
 use Rattle.mailparse.specs.Value.{lenient_value_in}
 use Rattle.mail_data.specs.Files.{first_text}
-use Rattle.mail_data.specs.LooseCoding.{loose_body_kind}
 use Rattle.mail_data.specs.LooseIds.{ids_in}
 use Rattle.mail_json.specs.Json.{json_text, json_texts, text_or_null, joined}
 

@@ -1,5 +1,5 @@
 -- The parts of a mail, where each stands in the input, and the text that is written of each; the program's own form.
-use Rattle.std.specs.Prelude.{◌≡◌, ℕ, suc, ◌+◌, Bool, not, ◌&&◌, List, [], ◌∷◌, ◌++◌, length, drop, codes, if◌then◌else◌}
+use Rattle.std.specs.Prelude.{◌≡◌, ℕ, suc, not, ◌&&◌, List, [], ◌∷◌, ◌++◌, length, drop, codes, if◌then◌else◌}
 use Rattle.std.specs.Option.{option_map_or}
 use Rattle.mail_codec.specs.Ascii.{line_feed}
 use Rattle.mail_codec.specs.Charset.{Charsets}

@@ -1,5 +1,5 @@
 -- What a call wrote to a writer, where the writer tells its bytes; the program's own words.
-use Rattle.std.specs.Prelude.{◌≡◌, ℕ, List, Option, Result, Ok, Err}
+use Rattle.std.specs.Prelude.{ℕ, List, Option, Result, Ok, Err}
 use Rattle.std.specs.Io.KnownBytes.{Appends}
 use Rattle.mailparse.specs.Outcome.{IsMemory}
 use Rattle.mail_program.specs.declared.fault.Fault.{Fault}

@@ -62,7 +62,7 @@ pub fn text_of(
 ) -> Result<String, MailParseError>
     ensures { (kind : BodyKind) (given : Content) → IsBody kind given body.now →
         ReadsText result (decoded_text_in (charsets_with tables.now) kind
-            given.ctype.charset given.raw) }
+        given.ctype.charset given.raw) }
 {
     match body {
         Body::Base64(body) => body.get_decoded_as_string_with(alloc, tables),

@@ -11,8 +11,8 @@ ghost use Rattle.mail_json.specs.Written.{Writes, WritesOne};
 
 use crate::fault::Fault;
 use crate::fields::{ids_of, refusal_text, value_of};
-use crate::strings::{write_optional, write_text, write_texts, write_word};
 use crate::part::{whole_path, write_parts};
+use crate::strings::{write_optional, write_text, write_texts, write_word};
 use mailparse::{ParsedMail, SingleByteTable, dateparse};
 use std::alloc::Global;
 use std::io::Write;

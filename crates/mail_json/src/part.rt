@@ -56,7 +56,7 @@ pub fn write_parts<W: Write>(
 ) -> Result<(), Fault>
     ensures { WritesOne (W.contents out.old) (W.contents out.new) result (λ text.
         AreAfterCommas (IsPartText (charsets_with tables.now))
-            (places path.now start (tree_of part.now)) (codes "," ++ text)) }
+        (places path.now start (tree_of part.now)) (codes "," ++ text)) }
 {
     write_part(alloc, out, part, path, start, tables)?;
     let delimiter = delimiter_length(&part.ctype);
@@ -161,7 +161,7 @@ fn write_part<W: Write>(
 ) -> Result<(), Fault>
     ensures { WritesOne (W.contents out.old) (W.contents out.new) result
         (IsPartText (charsets_with tables.now)
-            (record { path = path.now; start = start; part = tree_of part.now })) }
+        (record { path = path.now; start = start; part = tree_of part.now })) }
 {
     write_word(out, "{\"path\":")?;
     write_text(alloc, out, path)?;
@@ -204,11 +204,7 @@ fn write_place<W: Write>(
 }
 
 /// Writes the type, its charset and its parameters.
-fn write_type<W: Write>(
-    alloc: Global,
-    out: &mut W,
-    ctype: &ParsedContentType,
-) -> Result<(), Fault>
+fn write_type<W: Write>(alloc: Global, out: &mut W, ctype: &ParsedContentType) -> Result<(), Fault>
     ensures { WritesOne (W.contents out.old) (W.contents out.new) result
         (IsTypeText (content_type ctype.now)) }
 {
@@ -251,11 +247,11 @@ fn write_file<W: Write>(
 ) -> Result<bool, Fault>
     ensures written { let node = root (tree_of part.now) in
         Writes (W.contents out.old) (W.contents out.new) result
-            (file_text (is_leaf (tree_of part.now))
-                (disposition_of (charsets_with tables.now) node) node.ctype) }
+        (file_text (is_leaf (tree_of part.now))
+        (disposition_of (charsets_with tables.now) node) node.ctype) }
     ensures value { let node = root (tree_of part.now) in
         IfOk result (λ is. is ≡ is_file (is_leaf (tree_of part.now))
-            (disposition_of (charsets_with tables.now) node) node.ctype) }
+        (disposition_of (charsets_with tables.now) node) node.ctype) }
 {
     let shown = disposition_of(alloc, part, tables)?;
     let is_file = is_file(part, &shown);
@@ -288,7 +284,7 @@ fn flag_text(flag: bool) -> &'static str
 fn write_decoded_size<W: Write>(alloc: Global, out: &mut W, body: &Body<'_>) -> Result<(), Fault>
     ensures { (kind : BodyKind) (given : Content) → IsBody kind given body.now →
         Writes (W.contents out.old) (W.contents out.new) result
-            (size_text (decoded_size kind given.raw)) }
+        (size_text (decoded_size kind given.raw)) }
 {
     match decoded_length(alloc, body) {
         Ok(size) => {
@@ -313,7 +309,7 @@ fn write_body_text<W: Write>(
 ) -> Result<(), Fault>
     ensures { (kind : BodyKind) (given : Content) → IsBody kind given body.now →
         Writes (W.contents out.old) (W.contents out.new) result
-            (body_text (charsets_with tables.now) is_read kind given) }
+        (body_text (charsets_with tables.now) is_read kind given) }
 {
     if !is_read {
         return write_word(out, "null");

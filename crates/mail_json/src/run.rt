@@ -10,9 +10,9 @@ ghost use Rattle.mail_json.specs.Written.{Writes};
 
 use crate::fault::Fault;
 use crate::fields::refusal_text;
-use crate::strings::{write_text, write_word};
 use crate::mail::write_mail;
 use crate::request::is_option;
+use crate::strings::{write_text, write_word};
 use mail_data::mailbox::{Mailbox, read_mailbox};
 use mail_program::read_input;
 use mail_tables::TABLES;

@@ -140,9 +140,11 @@ wrote_more text old a b c true x left rest all e here p q =
     let wrote = Appends-trans old a c here.0 (text x) here.1 (Appends-trans a b c [] (text x) p q) in
     (here.0 ++ text x, wrote, append_assoc here.0 (text x) (after_commas text rest) ∙ ap (λ xs. here.0 ++ joined text xs) (sym e) ∙ here.2)
 wrote_more text old a b c false x left rest all e here p q =
-    let wrote = Appends-trans old a c here.0 (codes "," ++ text x) here.1 (Appends-trans a b c (codes ",") (text x) p q) in
-    (here.0 ++ (codes "," ++ text x), wrote,
-    append_assoc here.0 (codes "," ++ text x) (after_commas text rest) ∙ ap (λ xs. here.0 ++ after_commas text xs) (sym e) ∙ here.2)
+    let wrote = Appends-trans old a c here.0 (codes "," ++ text x) here.1 (Appends-trans a b c (codes ",") (text x) p q) in (
+      here.0 ++ (codes "," ++ text x),
+      wrote,
+      append_assoc here.0 (codes "," ++ text x) (after_commas text rest) ∙ ap (λ xs. here.0 ++ after_commas text xs) (sym e) ∙ here.2,
+    )
 
 -- nothing is left
 ended : {A : Type 0} (text : A → List ℕ) (old new : Option (List ℕ)) (all : List A) (done left : List ℕ) → left ≡ []

@@ -29,12 +29,12 @@ pub lines_more : (known : Charsets) (start at begin after : ℕ) (all left next 
     → Continues known start all after next (is_whole && first) (done ++ line)
 lines_more known start at begin after all left next entry is_whole first done line bytes e is_begin is_after same p here = λ others lines h.
     let own =
-        subst (λ (b : ℕ). IsLine known b entry.mail first line) is_begin (subst (λ (bs : List ℕ). IsLine known begin bs first line) same p) in
+    subst (λ (b : ℕ). IsLine known b entry.mail first line) is_begin (subst (λ (bs : List ℕ). IsLine known begin bs first line) same p) in
     let place = is_after ∙ ap (λ b. further (further b (length entry.mail)) (length entry.ending)) is_begin in
     let rest = subst (λ (n : ℕ). AreLines known n next others lines) place h in
     let whole =
-        here (first && others) (line ++ lines)
-        (subst (λ (es : List Entry). AreLines known at es (first && others) (line ++ lines)) (sym e) (first, others, line, lines, own, rest, refl, refl)) in
+    here (first && others) (line ++ lines)
+    (subst (λ (es : List Entry). AreLines known at es (first && others) (line ++ lines)) (sym e) (first, others, line, lines, own, rest, refl, refl)) in
     subst (λ (w : Bool). AreLines known start all w ((done ++ line) ++ lines)) (and_grouped is_whole first others)
     (subst (λ (t : List ℕ). AreLines known start all (is_whole && (first && others)) t) (sym (append_assoc done line lines)) whole)
 
@@ -51,6 +51,13 @@ pub mailbox_lines : (known : Charsets) (bytes front : List ℕ) (left : List Ent
     → front ≡ take (front_length bytes) bytes → left ≡ entries bytes → IsFront front is_blank error → AreLines known (length front) left are_read lines
     → AreMailboxLines known bytes (is_blank && are_read) (error ++ lines)
 mailbox_lines known bytes front left is_blank are_read error lines e f p q =
-    let mails = subst (λ (es : List Entry). AreLines known (length front) es are_read lines) f q in
-    (is_blank, are_read, error, lines, subst (λ (bs : List ℕ). IsFront bs is_blank error) e p,
-    subst (λ (bs : List ℕ). AreLines known (length bs) (entries bytes) are_read lines) e mails, refl, refl)
+    let mails = subst (λ (es : List Entry). AreLines known (length front) es are_read lines) f q in (
+      is_blank,
+      are_read,
+      error,
+      lines,
+      subst (λ (bs : List ℕ). IsFront bs is_blank error) e p,
+      subst (λ (bs : List ℕ). AreLines known (length bs) (entries bytes) are_read lines) e mails,
+      refl,
+      refl,
+    )

@@ -3,7 +3,7 @@ use Rattle.std.proofs.Common.{◌≡◌, ℕ, suc, List, [], ◌∷◌, ◌++◌
 use Rattle.std.proofs.lemmas.Bool.{ne_eqb}
 use Rattle.std.proofs.lemmas.List.{append-nil, drop_all, length-map}
 use Rattle.std.specs.Prelude.{codes}
-use Rattle.mailparse.specs.Mail.{Node, Tree, Forest, tree, part_and, root, forest}
+use Rattle.mailparse.specs.Mail.{Node, Tree, Forest, tree, root, forest}
 use Rattle.mailparse.specs.Views.{content_type, tree_of, tree_step}
 use Rattle.mailparse.specs.declared.mail.ParsedMail.{ParsedMail}
 use Rattle.mailparse.specs.declared.mail.ParsedMail.TheViews.{out-ParsedMail}
@@ -17,9 +17,13 @@ use Rattle.mail_json.specs.PartTexts.{Place, AreAfterCommas, delimiter_length, p
 pub after_commas_then : {A : Type 0} (Is : A → List ℕ → Type 0) (xs ys : List A) (a b : List ℕ) → AreAfterCommas Is xs a → AreAfterCommas Is ys b
     → AreAfterCommas Is (xs ++ ys) (a ++ b)
 after_commas_then Is [] ys a b p q = subst (AreAfterCommas Is ys) (ap (λ t. t ++ b) (sym p)) q
-after_commas_then Is (x ∷ xs) ys a b p q =
-    (p.0, p.1 ++ b, p.2, after_commas_then Is xs ys p.1 b p.3 q,
-    ap (λ t. t ++ b) p.4 ∙ ap (λ t. codes "," ++ t) (append_assoc p.0 p.1 b))
+after_commas_then Is (x ∷ xs) ys a b p q = (
+  p.0,
+  p.1 ++ b,
+  p.2,
+  after_commas_then Is xs ys p.1 b p.3 q,
+  ap (λ t. t ++ b) p.4 ∙ ap (λ t. codes "," ++ t) (append_assoc p.0 p.1 b),
+)
 
 -- what was written of a message and its parts, which any text of the parts that are left completes
 abbrev pub Completes : (Place → List ℕ → Type 0) → (left all : List Place) → List ℕ → Type 0
@@ -35,7 +39,7 @@ pub completes_more : (Is : Place → List ℕ → Type 0) (mine next left all : 
     → Completes Is left all done → AreAfterCommas Is mine (codes "," ++ text) → Completes Is next all (done ++ (codes "," ++ text))
 completes_more Is mine next left all done text e here p = λ rest h.
     let whole = here ((codes "," ++ text) ++ rest)
-        (subst (λ (xs : List Place). AreAfterCommas Is xs ((codes "," ++ text) ++ rest)) (sym e) (after_commas_then Is mine next (codes "," ++ text) rest p h)) in
+    (subst (λ (xs : List Place). AreAfterCommas Is xs ((codes "," ++ text) ++ rest)) (sym e) (after_commas_then Is mine next (codes "," ++ text) rest p h)) in
     subst (λ t. AreAfterCommas Is all (codes "," ++ t)) (sym (append_assoc done (codes "," ++ text) rest)) whole
 
 -- no part is left
@@ -104,10 +108,10 @@ parts_step Is path start node i end begin begun after under parts m all done tex
     let left : map tree_of (drop i parts) ≡ tree_of m ∷ map tree_of rest = ap (map tree_of) (drop_next parts i m h item) in
     let cut = places-more path start node (suc i) end begin (map tree_of (drop i parts)) (tree_of m) (map tree_of rest) left at in
     let next =
-        ap (λ n. places_in path start node (suc n) (further begin (length (root (tree_of m)).bytes)) (forest (map tree_of rest))) (sym (add-one i))
-        ∙ ap (λ a. places_in path start node (suc (i + 1)) a (forest (map tree_of rest))) (sym is_after) in
+    ap (λ n. places_in path start node (suc n) (further begin (length (root (tree_of m)).bytes)) (forest (map tree_of rest))) (sym (add-one i))
+    ∙ ap (λ a. places_in path start node (suc (i + 1)) a (forest (map tree_of rest))) (sym is_after) in
     let own : places under begun (tree_of m) ≡ mine =
-        ap (λ u. places u begun (tree_of m)) is_under ∙ ap (λ b. places (path_under path (suc i)) b (tree_of m)) is_begun in
+    ap (λ u. places u begun (tree_of m)) is_under ∙ ap (λ b. places (path_under path (suc i)) b (tree_of m)) is_begun in
     completes_more Is mine (places_in path start node (suc (i + 1)) after (forest (map tree_of rest)))
     (places_in path start node (suc i) end (forest (map tree_of (drop i parts)))) all done text (cut ∙ ap (λ ps. mine ++ ps) next) here
     (subst (λ (ps : List Place). AreAfterCommas Is ps (codes "," ++ text)) own p)

@@ -1,10 +1,8 @@
-use Rattle.std.proofs.Common.{◌≡◌, ◌++◌, List, ℕ, Option, Some, sym, ap, ◌∙◌}
+use Rattle.std.proofs.Common.{◌++◌, Some, sym, ap, ◌∙◌}
 use Rattle.std.specs.Prelude.{codes}
-use Rattle.std.specs.String.{string_bytes}
 use Rattle.mailparse.specs.Date.{date_seconds}
 use Rattle.mailparse.specs.Map.{text_found}
 use Rattle.mail_json.specs.Json.{json_text}
-use Rattle.mail_json.specs.Members.{refusal_text}
 use Rattle.mail_json.proofs.lemmas.Json.{date_refused, ok_same, refused, writes_as, writes_then}
 use Rattle.mail_json.proofs.mail.write_date.Goals as goal
 

@@ -21,13 +21,17 @@ loop-subpart-init g t c =
     let place : Place = record { path = path; start = c.args.start; part = tree_of m } in
     let own = c.in_ok-write_part.ensures in
     let whole =
-        places-out path c.args.start m
-        ∙ ap (λ (ms : List ParsedMail). place ∷ left (preamble_end (root (tree_of m))) (forest (map tree_of ms))) (sym c.deref-subpart-items.ensures.value)
-        ∙ ap (λ n. place ∷ left n (forest (map tree_of parts))) (sym c.in_ok-at.ensures.read) in
+    places-out path c.args.start m
+    ∙ ap (λ (ms : List ParsedMail). place ∷ left (preamble_end (root (tree_of m))) (forest (map tree_of ms))) (sym c.deref-subpart-items.ensures.value)
+    ∙ ap (λ n. place ∷ left n (forest (map tree_of parts))) (sym c.in_ok-at.ensures.read) in
     record {
       count = refl;
-      wrote = (own.0, own.2, completes_start (IsPartText known) place (left c.in_ok-at.at (forest (map tree_of parts))) (places path c.args.start (tree_of m))
-          own.0 whole own.1);
+      wrote = (
+        own.0,
+        own.2,
+        completes_start (IsPartText known) place (left c.in_ok-at.at (forest (map tree_of parts))) (places path c.args.start (tree_of m))
+            own.0 whole own.1,
+      );
     }
 
 pub loop-subpart-preserved : goal.loop-subpart-preserved
@@ -39,19 +43,21 @@ loop-subpart-preserved g t c =
     let count = c.loop-subpart.invariant.count in
     let part = c.in_ok-write_parts.ensures {u = tt} in
     let begin =
-        c.part_start-at.ensures ∙ ap (λ b. part_start b c.loop-subpart.at c.delimiter_length-delimiter.result) (bytes-out m)
-        ∙ ap (λ d. part_start node.bytes c.loop-subpart.at d) (c.delimiter_length-delimiter.ensures ∙ ap delimiter_length (ctype-out m)) in
+    c.part_start-at.ensures ∙ ap (λ b. part_start b c.loop-subpart.at c.delimiter_length-delimiter.result) (bytes-out m)
+    ∙ ap (λ d. part_start node.bytes c.loop-subpart.at d) (c.delimiter_length-delimiter.ensures ∙ ap delimiter_length (ctype-out m)) in
     let number : c.loop-subpart.number + 1 ≡ suc c.loop-subpart.subpart-index = omega (arith, count) in
     let under = c.as_str.ensures.value ∙ c.in_ok-under.ensures ∙ ap (path_under path) number in
     let after =
-        c.saturating_add-at.ensures ∙ ap (λ (bytes : List ℕ). further c.part_start-at.result (length bytes)) (bytes-out c.subpart-item.result) in
+    c.saturating_add-at.ensures ∙ ap (λ (bytes : List ℕ). further c.part_start-at.result (length bytes)) (bytes-out c.subpart-item.result) in
     record {
       count = omega (arith, count);
-      wrote = (here.0 ++ (codes "," ++ part.0),
-      Appends-trans _ _ _ here.0 (codes "," ++ part.0) here.1 (Appends-trans _ _ _ (codes ",") part.0 c.in_ok-write_word.ensures part.2),
-      parts_step (IsPartText (charsets_with c.args.tables.now)) path c.args.start node c.loop-subpart.subpart-index c.loop-subpart.at c.part_start-at.result
-          c.saturating_add-begin.result c.saturating_add-at.result c.as_str.result.now c.deref-subpart-items.result.now c.subpart-item.result
-          (places path c.args.start (tree_of m)) here.0 part.0 (omega arith) c.subpart-item.is begin under c.saturating_add-begin.ensures after here.2 part.1);
+      wrote = (
+        here.0 ++ (codes "," ++ part.0),
+        Appends-trans _ _ _ here.0 (codes "," ++ part.0) here.1 (Appends-trans _ _ _ (codes ",") part.0 c.in_ok-write_word.ensures part.2),
+        parts_step (IsPartText (charsets_with c.args.tables.now)) path c.args.start node c.loop-subpart.subpart-index c.loop-subpart.at c.part_start-at.result
+            c.saturating_add-begin.result c.saturating_add-at.result c.as_str.result.now c.deref-subpart-items.result.now c.subpart-item.result
+            (places path c.args.start (tree_of m)) here.0 part.0 (omega arith) c.subpart-item.is begin under c.saturating_add-begin.ensures after here.2 part.1,
+      );
     }
 
 pub returns : goal.returns
@@ -59,5 +65,5 @@ returns g t c =
     let m = c.args.part.now in
     let wrote = c.loop-subpart.invariant.wrote in
     let none = parts_end c.args.path.now c.args.start (root (tree_of m)) _ c.loop-subpart.at c.loop-subpart.subpart-index c.deref-subpart-items.result.now
-        (omega arith) in
+    (omega arith) in
     (wrote.0, completes_end (IsPartText (charsets_with c.args.tables.now)) _ _ wrote.0 none wrote.2, wrote.1)

@@ -1,4 +1,4 @@
-use Rattle.std.proofs.Common.{◌≡◌, ◌++◌, ◌∷◌, Bool, not, ◌&&◌, List, ℕ, length, refl, sym, ap, subst, ◌∙◌}
+use Rattle.std.proofs.Common.{not, ◌&&◌, List, ℕ, length, refl, ap, subst, ◌∙◌}
 use Rattle.std.proofs.lemmas.Result.{err_from_is_err_and}
 use Rattle.std.specs.Prelude.{codes}
 use Rattle.std.proofs.KnownBytes.{Appends-trans}
@@ -8,7 +8,6 @@ use Rattle.mailparse.specs.BodyViews.{content_of}
 use Rattle.mailparse.specs.ContentType.{ContentType}
 use Rattle.mailparse.specs.Mail.{root}
 use Rattle.mailparse.specs.Views.{tree_of}
-use Rattle.mailparse.specs.declared.mail.ParsedMail.TheViews.{out-ParsedMail}
 use Rattle.mail_data.specs.Files.{is_leaf}
 use Rattle.mail_data.specs.LooseCoding.{loose_body_kind}
 use Rattle.mail_json.specs.Members.{IsTypeText, body_text, coding_text, further, headers_text, place_text}
@@ -29,13 +28,13 @@ returns g c =
     let is_body = c.in_ok-body.ensures.read in
     let end = c.saturating_add-end.ensures ∙ ap (λ (bytes : List ℕ). further c.args.start (length bytes)) (bytes-out m) in
     let places =
-        ap (λ (name : List ℕ). place_text name c.args.start c.saturating_add-end.result c.raw_length.result) (c.coding_name.ensures kind given is_body)
-        ∙ ap (λ e. place_text (coding_text kind) c.args.start e c.raw_length.result) end
-        ∙ ap (λ n. place_text (coding_text kind) c.args.start (further c.args.start (length node.bytes)) n) (c.raw_length.ensures kind given is_body) in
+    ap (λ (name : List ℕ). place_text name c.args.start c.saturating_add-end.result c.raw_length.result) (c.coding_name.ensures kind given is_body)
+    ∙ ap (λ e. place_text (coding_text kind) c.args.start e c.raw_length.result) end
+    ∙ ap (λ n. place_text (coding_text kind) c.args.start (further c.args.start (length node.bytes)) n) (c.raw_length.ensures kind given is_body) in
     let headers = ap (headers_text known) (c.as_slice.ensures.value ∙ headers-out m) in
     let is_read =
-        c.is_read.ensures
-        ∙ ap (λ is. not is && is_leaf (tree_of m) && stands (codes "text/") node.ctype.mimetype) c.in_ok-is_file.ensures.value in
+    c.is_read.ensures
+    ∙ ap (λ is. not is && is_leaf (tree_of m) && stands (codes "text/") node.ctype.mimetype) c.in_ok-is_file.ensures.value in
     let body = ap (λ is. body_text known is kind given) is_read in
     let one = Appends-trans _ _ _ _ _ c.in_ok-write_word.ensures c.in_ok-write_text.ensures in
     let two = Appends-trans _ _ _ _ _ one type.2 in

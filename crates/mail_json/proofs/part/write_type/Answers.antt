@@ -1,4 +1,4 @@
-use Rattle.std.proofs.Common.{◌∷◌, List, map, refl, sym, ap, ◌∙◌}
+use Rattle.std.proofs.Common.{◌∷◌, map, refl, sym, ap, ◌∙◌}
 use Rattle.std.proofs.KnownBytes.{Appends-trans}
 use Rattle.std.specs.String.{string_bytes}
 use Rattle.mailparse.specs.Views.{content_type}
@@ -12,8 +12,8 @@ pub loop-name-preserved : goal.loop-name-preserved
 loop-name-preserved g c =
     let rest = map pair_of c.next.new.self in
     let left =
-        ap (map pair_of) c.in-Some.ensures.steps ∙ ap (λ n. (n, string_bytes c.in-Some.value.now) ∷ rest) (sym c.as_str-in-loop-name.ensures.value)
-        ∙ ap (λ v. (c.as_str-in-loop-name.result.now, v) ∷ rest) (sym c.as_str-in-loop-name-2.ensures.value) in
+    ap (map pair_of) c.in-Some.ensures.steps ∙ ap (λ n. (n, string_bytes c.in-Some.value.now) ∷ rest) (sym c.as_str-in-loop-name.ensures.value)
+    ∙ ap (λ v. (c.as_str-in-loop-name.result.now, v) ∷ rest) (sym c.as_str-in-loop-name-2.ensures.value) in
     wrote_more parameter_text _ _ _ _ c.loop-name.is_first (c.as_str-in-loop-name.result.now, c.as_str-in-loop-name-2.result.now) _ rest _ left
     c.loop-name.invariant c.in_ok-write_comma.ensures c.in_ok-write_parameter.ensures
 

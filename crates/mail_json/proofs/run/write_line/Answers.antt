@@ -12,9 +12,11 @@ pub returns-in_ok-write_word-in-Ok : goal.returns-in_ok-write_word-in-Ok
 returns-in_ok-write_word-in-Ok g c =
     let known = charsets_with c.args.tables.now in
     let object = c.in_ok-write_mail-in-Ok.ensures in
-    let line = object.0 ++ codes "\n" in
-    (line, subst (λ (r : Reads Tree). IsLineOf known c.args.start r true line) (sym c.in-Ok.ensures.read) (refl, object.0, object.1, refl),
-    Appends-trans _ _ _ _ _ object.2 c.in_ok-write_word-in-Ok.ensures)
+    let line = object.0 ++ codes "\n" in (
+      line,
+      subst (λ (r : Reads Tree). IsLineOf known c.args.start r true line) (sym c.in-Ok.ensures.read) (refl, object.0, object.1, refl),
+      Appends-trans _ _ _ _ _ object.2 c.in_ok-write_word-in-Ok.ensures,
+    )
 
 pub returns-in_ok-write_error-in-Err : goal.returns-in_ok-write_error-in-Err
 returns-in_ok-write_error-in-Err g c =

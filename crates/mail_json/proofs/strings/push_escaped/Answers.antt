@@ -8,7 +8,7 @@ use Rattle.mail_json.proofs.strings.push_escaped.Goals as goal
 pub returns-then-is_hidden : goal.returns-then-is_hidden
 returns-then-is_hidden c =
     let shows : styled_digits_output c.in_radix.result c.laid_out.result ≡ Some (hexadecimal c.args.c) =
-        ap (styled_digits_output c.in_radix.result) c.laid_out.ensures ∙ ap hexadecimal_output c.in_radix.ensures ∙ ap (λ n. Some (hexadecimal n)) c.from-number.ensures in
+    ap (styled_digits_output c.in_radix.result) c.laid_out.ensures ∙ ap hexadecimal_output c.in_radix.ensures ∙ ap (λ n. Some (hexadecimal n)) c.from-number.ensures in
     rw (character_hidden c.args.c (sym c.is_hidden.ensures ∙ c.if-is_hidden.true))
     (subst (λ (o : Option (List ℕ)). OnOk c.write.result (AppendsText (string_bytes c.args.text.now) (string_bytes c.write.new.self) (Some (92 ∷ 117 ∷ []) ++? o)))
     shows c.write.ensures.bytes)
