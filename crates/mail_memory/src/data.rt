@@ -4,7 +4,7 @@ use crate::found::{is_bytes, is_only_text, is_some_text, is_text};
 use mail_data::archive::{message_id, parents};
 use mail_data::bounce::{Recipient, recipients};
 use mail_data::files::{attachments, file_name, is_attachment, safe_file_name};
-use mail_data::forwarding::forwarded;
+use mail_data::forwarding::{forwarded, mails_inside};
 use mail_data::lenient::{base64_front, ids_in, loose_body};
 use mail_data::mailbox::read_mailbox;
 use mail_data::texts::text_part;
@@ -72,7 +72,7 @@ fn is_base64(alloc: Global, part: &ParsedMail<'_>) -> Result<bool, MailParseErro
     }
 }
 
-/// `text_part` and `forwarded`.
+/// `text_part`, `forwarded` and `mails_inside`.
 pub fn find_parts(alloc: Global) -> Result<bool, MailParseError> {
     let mail = parse_mail(alloc, WITH_FILE)?;
     let forwarding = parse_mail(alloc, b"Content-Type: message/rfc822\n\nSubject: x\n\nHi")?;
@@ -84,7 +84,16 @@ pub fn find_parts(alloc: Global) -> Result<bool, MailParseError> {
         Some(inside) => inside.get_body(alloc)?,
         None => return Ok(false),
     };
-    Ok(is_text(text, "Hello") && is_text(inside, "Hi") && forwarded(alloc, &mail, 1)?.is_none())
+    let mails = mails_inside(alloc, &forwarding, 1)?;
+    let [only] = mails.as_slice() else {
+        return Ok(false);
+    };
+    Ok(
+        is_text(text, "Hello")
+            && is_text(inside, "Hi")
+            && forwarded(alloc, &mail, 1)?.is_none()
+            && only.as_slice() == b"Subject: x\n\nHi".as_slice(),
+    )
 }
 
 /// `recipients`.
