@@ -153,9 +153,11 @@ def check_faults():
     same((found["size"], found["decoded_size"], found["text"]), (8, None, None), "a refused body")
     same(found["error"], "Base64 decode error: group 1 is no Base64 group", "a refused body")
     found = objects([], b"Date: 32 x\n\n", 0, "a refused date")[0]
-    same((found["date"], found["date_error"]), (None, "Invalid day"), "a refused date")
+    same((found["date"], found["date_error"]), (None, "no day of the month"), "a refused date")
     found = objects([], b"Date: soon\n\n", 0, "a date without a number")[0]
-    same((found["date"], "date_error" in found), (0, False), "a date without a number")
+    same((found["date"], found["date_error"]), (None, "no day of the month"), "a date without a number")
+    found = objects([], b"Date: Sun, 29 Jul 2012 20:57 +0200\n\n", 0, "a date without seconds")[0]
+    same((found["date"], "date_error" in found), (1343588220, False), "a date without seconds")
     found = objects([], b"", 0, "no bytes")[0]
     same((found["subject"], found["date"], found["references"]), (None, None, []), "no bytes")
     same(found["parts"][0]["headers"], [], "no bytes")

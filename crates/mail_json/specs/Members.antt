@@ -12,7 +12,6 @@ use Rattle.mail_codec.specs.Charset.{Charsets}
 use Rattle.mailparse.specs.Body.{BodyKind, in_base64, in_quoted_printable, in_7bit, in_8bit, in_binary, decoded, decoded_text_in}
 use Rattle.mailparse.specs.BodyViews.{Content}
 use Rattle.mailparse.specs.ContentType.{ContentType}
-use Rattle.mailparse.specs.Date.{date_seconds}
 use Rattle.mailparse.specs.Disposition.{Disposition, Kind, inline, attachment, form_data, extension, disposition_in}
 use Rattle.mailparse.specs.Header.{Header, key_text}
 use Rattle.mailparse.specs.Mail.{Node}
@@ -21,7 +20,10 @@ use Rattle.mailparse.specs.Pairs.{Texts}
 use Rattle.mailparse.specs.Refusal.{◌>>=◌, Reads, Refusal, generic, encoding, base64_fault}
 use Rattle.mailparse.specs.Value.{lenient_value_in}
 use Rattle.mail_data.specs.Files.{first_text}
+use Rattle.mail_data.specs.LooseDate.{Dated, date_of}
 use Rattle.mail_data.specs.LooseIds.{ids_in}
+use Rattle.mail_data.specs.declared.lenient.date.DateError.{DateError}
+use Rattle.mail_data.specs.declared.lenient.date.DateError.TheVariants.{Day, Month, Year, Time, Zone, TrailingText}
 use Rattle.mail_json.specs.Json.{json_text, json_texts, text_or_null, joined}
 
 -- why something is refused
@@ -61,11 +63,20 @@ abbrev pub read_text : Reads (List ℕ) → List ℕ
 read_text (Ok text) = json_text text
 read_text (Err refusal) = codes "null"
 
+-- what is missing in a date, or wrong in it
+abbrev pub date_fault_text : DateError → List ℕ
+date_fault_text Day = codes "no day of the month"
+date_fault_text Month = codes "no month"
+date_fault_text Year = codes "no year"
+date_fault_text Time = codes "no time of day"
+date_fault_text Zone = codes "no zone"
+date_fault_text TrailingText = codes "text after the zone"
+
 -- the member of a date: its seconds, or `null` where there is none or it is refused, and then why
-abbrev pub date_text : Option (Reads ℤ) → List ℕ
+abbrev pub date_text : Option (Dated ℤ) → List ℕ
 date_text None = codes ",\"date\":null"
 date_text (Some (Ok seconds)) = codes ",\"date\":" ++ signed_decimal seconds
-date_text (Some (Err refusal)) = codes ",\"date\":null,\"date_error\":" ++ json_text (refusal_text refusal)
+date_text (Some (Err fault)) = codes ",\"date\":null,\"date_error\":" ++ json_text (date_fault_text fault)
 
 -- `true` or `false`
 abbrev pub flag_text : Bool → List ℕ
@@ -170,5 +181,5 @@ module _ (known : Charsets) where
   -- the object of a mail, whose parts have this text
   abbrev pub mail_text : Node → List ℕ → List ℕ
   mail_text node parts =
-      values_text node ++ date_text (option_map date_seconds (value_of (codes "Date") node)) ++ ids_text node ++ codes ",\"parts\":[" ++ parts
+      values_text node ++ date_text (option_map date_of (value_of (codes "Date") node)) ++ ids_text node ++ codes ",\"parts\":[" ++ parts
       ++ codes "]}"

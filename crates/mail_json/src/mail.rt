@@ -1,19 +1,20 @@
 //! The object of a mail.
-ghost use Rattle.std.specs.Prelude.{codes, option_map};
+ghost use Rattle.std.specs.Prelude.{◌≡◌, codes, option_map};
 ghost use Rattle.mail_codec.specs.Tables.{charsets_with};
-ghost use Rattle.mailparse.specs.Date.{date_seconds};
 ghost use Rattle.mailparse.specs.Mail.{root};
 ghost use Rattle.mailparse.specs.Views.{tree_of};
-ghost use Rattle.mail_json.specs.Members.{date_text, id_list_text, ids_text, value_of};
-ghost use Rattle.mail_json.specs.Members.{value_text, values_text};
+ghost use Rattle.mail_data.specs.LooseDate.{date_of};
+ghost use Rattle.mail_json.specs.Members.{date_fault_text, date_text, id_list_text, ids_text};
+ghost use Rattle.mail_json.specs.Members.{value_of, value_text, values_text};
 ghost use Rattle.mail_json.specs.PartTexts.{IsMailText};
 ghost use Rattle.mail_json.specs.Written.{Writes, WritesOne};
 
 use crate::fault::Fault;
-use crate::fields::{ids_of, refusal_text, value_of};
+use crate::fields::{ids_of, value_of};
 use crate::part::{whole_path, write_parts};
 use crate::strings::{write_optional, write_text, write_texts, write_word};
-use mailparse::{ParsedMail, SingleByteTable, dateparse};
+use mail_data::lenient::{DateError, date_of};
+use mailparse::{ParsedMail, SingleByteTable};
 use std::alloc::Global;
 use std::io::Write;
 
@@ -110,20 +111,33 @@ fn write_date<W: Write>(
     tables: &[SingleByteTable<'_>],
 ) -> Result<(), Fault>
     ensures { Writes (W.contents out.old) (W.contents out.new) result (date_text (option_map
-        date_seconds (value_of (charsets_with tables.now) (codes "Date") (root (tree_of mail.now))))) }
+        date_of (value_of (charsets_with tables.now) (codes "Date") (root (tree_of mail.now))))) }
 {
     let Some(date) = value_of(alloc, mail, "Date", tables)? else {
         return write_word(out, ",\"date\":null");
     };
-    match dateparse(date.as_str()) {
+    match date_of(date.as_str()) {
         Ok(seconds) => {
             write!(out, ",\"date\":{seconds}")?;
             Ok(())
         }
         Err(error) => {
-            let text = refusal_text(alloc, &error)?;
             write_word(out, ",\"date\":null,\"date_error\":")?;
-            write_text(alloc, out, text.as_str())
+            write_text(alloc, out, date_fault(error))
         }
+    }
+}
+
+/// What is missing in a date, or wrong in it, in the words in which the error shows itself.
+fn date_fault(error: DateError) -> &'static str
+    ensures { result.now ≡ date_fault_text error }
+{
+    match error {
+        DateError::Day => "no day of the month",
+        DateError::Month => "no month",
+        DateError::Year => "no year",
+        DateError::Time => "no time of day",
+        DateError::Zone => "no zone",
+        DateError::TrailingText => "text after the zone",
     }
 }

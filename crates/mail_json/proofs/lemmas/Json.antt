@@ -17,8 +17,9 @@ use Rattle.mailparse.specs.declared.error.MailParseError.{MailParseError}
 use Rattle.mailparse.specs.declared.error.MailParseError.TheVariants.{QuotedPrintableDecodeError, Base64DecodeError, EncodingError, Generic, Memory}
 use Rattle.mail_json.specs.Written.{Writes, WritesOne}
 use Rattle.mail_program.specs.declared.fault.Fault.{Fault}
-use Rattle.mailparse.specs.Date.{date_seconds}
-use Rattle.mail_json.specs.Members.{date_text, refusal_text}
+use Rattle.mail_data.specs.LooseDate.{Dated, date_of}
+use Rattle.mail_data.specs.declared.lenient.date.DateError.{DateError}
+use Rattle.mail_json.specs.Members.{date_fault_text, date_text}
 use Rattle.mail_json.specs.Json.{is_hidden, hexadecimal, character_text, json_text, shown, comma, after_commas, joined}
 
 -- two writes, one after the other
@@ -112,9 +113,9 @@ pub ok_same : {T E : Type 0} (a b : T) → ◌≡◌ {A = Result T E} (Ok a) (Ok
 ok_same a b e = cc
 
 -- a date that is refused
-pub date_refused : (found : Option (List ℕ)) (date : List ℕ) (r : Refusal) → found ≡ Some date → date_seconds date ≡ Err r
-    → date_text (option_map date_seconds found) ≡ codes ",\"date\":null,\"date_error\":" ++ json_text (refusal_text r)
-date_refused found date r e f = ap (λ (o : Option (List ℕ)). date_text (option_map date_seconds o)) e ∙ ap (λ (d : Reads ℤ). date_text (Some d)) f
+pub date_refused : (found : Option (List ℕ)) (date : List ℕ) (fault : DateError) → found ≡ Some date → date_of date ≡ Err fault
+    → date_text (option_map date_of found) ≡ codes ",\"date\":null,\"date_error\":" ++ json_text (date_fault_text fault)
+date_refused found date fault e f = ap (λ (o : Option (List ℕ)). date_text (option_map date_of o)) e ∙ ap (λ (d : Dated ℤ). date_text (Some d)) f
 
 -- ---- items with commas
 
