@@ -158,3 +158,27 @@ fn a_byte_twice_at_each_place(rt: HostRuntime) -> Result<(), Fail> {
     assert_same_for(&rt, first_twice_missed(rt.alloc())?, None, "==");
     Ok(())
 }
+
+/// The first of 40 places where this byte with another right after it is not found where the plain
+/// rule finds them, among bytes that are neither.
+fn first_place_missed(first: u8, second: u8) -> Option<usize> {
+    let mut bytes = [first ^ 0x55; 42];
+    for place in 0..40usize {
+        bytes[place] = first;
+        bytes[place + 1] = second;
+        if find_pair(&bytes, first, second) != plain_place(&bytes, first, second) {
+            return Some(place);
+        }
+        bytes[place] = second ^ 0x2A;
+    }
+    None
+}
+
+#[test]
+fn each_byte_of_a_pair_at_each_place(rt: HostRuntime) {
+    for byte in 0..=255u8 {
+        assert_same_for(&rt, first_place_missed(byte, b'-'), None, byte);
+        assert_same_for(&rt, first_place_missed(b'\n', byte), None, byte);
+        assert_same_for(&rt, first_place_missed(byte, byte), None, byte);
+    }
+}

@@ -82,6 +82,56 @@ fn all_bytes_of_latin1(rt: HostRuntime) -> Result<(), Fail> {
     Ok(assert_latin1(&rt, rt.alloc(), &all_bytes(), expected.as_str())?)
 }
 
+/// The character among 35 letters, after so many of them.
+fn among_letters(alloc: Global, lane: usize, shown: char) -> Result<String, AllocError> {
+    let mut text = String::new(alloc);
+    for place in 0..36usize {
+        text.push(if place == lane { shown } else { 'e' })?;
+    }
+    Ok(text)
+}
+
+/// Whether windows-1252 reads the bytes as the one text, and Latin-1 as the other.
+fn are_read(
+    alloc: Global,
+    bytes: &[u8],
+    windows_1252: &str,
+    latin1: &str,
+) -> Result<bool, AllocError> {
+    let text = Charset::Windows1252.decode_without_bom_handling(alloc, bytes)?;
+    let other = decode_latin1(alloc, bytes)?;
+    Ok(text.as_bytes() == windows_1252.as_bytes() && other.as_bytes() == latin1.as_bytes())
+}
+
+/// The first lane of two vectors in which the byte is not read as this character under
+/// windows-1252, or not as that of its number under Latin-1.
+fn first_lane_misread(alloc: Global, byte: u8, shown: char) -> Result<Option<usize>, AllocError> {
+    let mut bytes = [b'e'; 36];
+    for lane in 0..36usize {
+        bytes[lane] = byte;
+        let expected = among_letters(alloc, lane, shown)?;
+        let same_number = among_letters(alloc, lane, char::from(byte))?;
+        if !are_read(alloc, &bytes, expected.as_str(), same_number.as_str())? {
+            return Ok(Some(lane));
+        }
+        bytes[lane] = b'e';
+    }
+    Ok(None)
+}
+
+#[test]
+fn each_byte_in_each_lane(rt: HostRuntime) -> Result<(), Fail> {
+    let shown = ascii_and(rt.alloc(), WINDOWS_1252_HIGH)?;
+    let mut byte = 0u8;
+    for shown in shown.as_str().chars() {
+        let misread = first_lane_misread(rt.alloc(), byte, shown)?;
+        assert_same_for(&rt, misread, None, byte);
+        byte = byte.wrapping_add(1);
+    }
+    assert_same(&rt, byte, 0);
+    Ok(())
+}
+
 /// U+FFFD for each of the bytes 80 to FF.
 fn replaced_high(alloc: Global) -> Result<String, AllocError> {
     let mut text = String::new(alloc);

@@ -1,7 +1,7 @@
 //! Each byte in each place of a vector of sixteen, and texts of every length up to a few vectors,
 //! beside the plain rules: Base64 group by group, quoted-printable and searches byte by byte.
 use crate::base64_texts::{ALPHABET, Call, decode, value_of};
-use crate::texts::{Bytes, joined, repeated};
+use crate::texts::{assert_same, assert_same_for, joined, repeated};
 use mail_codec::bytescan::{find_byte, strip_ascii_whitespace};
 use mail_codec::charset::{Charset, decode_latin1};
 use mail_codec::transfer::decode_quoted_printable;
@@ -89,16 +89,10 @@ fn each_byte_among_letters_in_each_lane(rt: HostRuntime) -> Result<(), Fail> {
         if byte == b'=' {
             continue;
         }
-        assert_eq!(rt;
-            first_lane_misread(rt.alloc(), Call::Text, byte)?,
-            None,
-            "{byte}"
-        );
-        assert_eq!(rt;
-            first_lane_misread(rt.alloc(), Call::Body, byte)?,
-            None,
-            "{byte}"
-        );
+        let misread = first_lane_misread(rt.alloc(), Call::Text, byte)?;
+        assert_same_for(&rt, misread, None, byte);
+        let misread = first_lane_misread(rt.alloc(), Call::Body, byte)?;
+        assert_same_for(&rt, misread, None, byte);
     }
     Ok(())
 }
@@ -123,7 +117,7 @@ fn each_byte_as_a_letter_in_each_lane(rt: HostRuntime) -> Result<(), Fail> {
         if b"=\r\n".contains(&byte) {
             continue;
         }
-        assert_eq!(rt; first_letter_misread(rt.alloc(), byte)?, None, "{byte}");
+        assert_same_for(&rt, first_letter_misread(rt.alloc(), byte)?, None, byte);
     }
     Ok(())
 }
@@ -158,11 +152,7 @@ fn letters_of_each_length_in_lines(rt: HostRuntime) -> Result<(), Fail> {
     for line in [
         1usize, 2, 3, 5, 7, 15, 16, 17, 19, 64, 73, 74, 75, 76, 77, 200,
     ] {
-        assert_eq!(rt;
-            first_length_misread(rt.alloc(), line)?,
-            None,
-            "lines of {line}"
-        );
+        assert_same_for(&rt, first_length_misread(rt.alloc(), line)?, None, line);
     }
     Ok(())
 }
@@ -191,7 +181,7 @@ fn first_length_missed(alloc: Global) -> Result<Option<usize>, AllocError> {
 
 #[test]
 fn a_byte_at_each_place_of_each_length(rt: HostRuntime) -> Result<(), Fail> {
-    assert_eq!(rt; first_length_missed(rt.alloc())?, None);
+    assert_same(&rt, first_length_missed(rt.alloc())?, None);
     Ok(())
 }
 
@@ -206,34 +196,63 @@ fn plain_stripped(alloc: Global, bytes: &[u8]) -> Result<Vec<u8>, AllocError> {
     Ok(kept)
 }
 
+/// Whether the whitespace goes, and no other byte.
+fn is_stripped(alloc: Global, bytes: &[u8]) -> Result<bool, AllocError> {
+    let stripped = strip_ascii_whitespace(alloc, bytes)?;
+    let expected = plain_stripped(alloc, bytes)?;
+    Ok(stripped.as_slice() == expected.as_slice())
+}
+
+/// The first of 201 lengths from this one on for which the bytes' front is not stripped.
+fn first_length_not_stripped(
+    alloc: Global,
+    bytes: &[u8],
+    from: usize,
+) -> Result<Option<usize>, AllocError> {
+    for more in 0..=200usize {
+        let length = from.saturating_add(more);
+        if !is_stripped(alloc, bytes.get(..length).unwrap_or(b""))? {
+            return Ok(Some(length));
+        }
+    }
+    Ok(None)
+}
+
 #[test]
 fn whitespace_goes_at_each_length(rt: HostRuntime) -> Result<(), Fail> {
-    let all = repeated(rt.alloc(), b"a \x0Bb\r\n\x1F!cdefghijklmnopqr\t", 10)?;
-    for length in 0..=200usize {
-        let bytes = all.as_slice().get(..length).unwrap_or(b"");
-        let stripped = strip_ascii_whitespace(rt.alloc(), bytes)?;
-        let expected = plain_stripped(rt.alloc(), bytes)?;
-        assert_eq!(rt;
-            Bytes(stripped.as_slice()),
-            Bytes(expected.as_slice()),
-            "{length}"
-        );
+    let all = repeated(rt.alloc(), b"a \x0Bb\r\n\x1F!cdefghijklmnopqr\t", 100)?;
+    for from in [0usize, 930, 1950] {
+        let missed = first_length_not_stripped(rt.alloc(), all.as_slice(), from)?;
+        assert_same(&rt, missed, None);
     }
     Ok(())
 }
 
+#[test]
+fn whitespace_goes_between_runs_of_each_length(rt: HostRuntime) -> Result<(), Fail> {
+    let all = letters(rt.alloc(), 250)?;
+    for line in [1usize, 2, 3, 4, 5, 8, 14, 15, 16, 17, 18, 31, 32, 33, 76] {
+        for end in [b"\r\n".as_slice(), b" "] {
+            let lines = in_lines(rt.alloc(), all.as_slice(), line, end)?;
+            let missed = first_length_not_stripped(rt.alloc(), lines.as_slice(), 0)?;
+            assert_same_for(&rt, missed, None, line);
+        }
+    }
+    Ok(())
+}
+
+/// The byte of this value as a hexadecimal digit.
+fn digit_of(value: u8) -> u8 {
+    *b"0123456789ABCDEF".get(value as usize).unwrap_or(&b'0')
+}
+
 /// What stands for this text in quoted-printable, when each byte is an escape whose number leaves
-/// this rest by three.
-fn escaped(alloc: Global, text: &[u8], rest: usize) -> Result<Vec<u8>, AllocError> {
-    let digits = *b"0123456789ABCDEF";
+/// this rest by a number.
+fn escaped(alloc: Global, text: &[u8], by: usize, rest: usize) -> Result<Vec<u8>, AllocError> {
     let mut all = Vec::new(alloc);
     for (number, byte) in text.iter().enumerate() {
-        if number % 3 == rest {
-            all.extend_from_slice(&[
-                b'=',
-                digits[(*byte / 16) as usize],
-                digits[(*byte % 16) as usize],
-            ])?;
+        if number.checked_rem(by) == Some(rest) {
+            all.extend_from_slice(&[b'=', digit_of(*byte / 16), digit_of(*byte % 16)])?;
         } else {
             all.push(*byte)?;
         }
@@ -241,21 +260,82 @@ fn escaped(alloc: Global, text: &[u8], rest: usize) -> Result<Vec<u8>, AllocErro
     Ok(all)
 }
 
+/// The first length up to 200 of a text that is not read with such escapes.
+fn first_escapes_misread(
+    alloc: Global,
+    by: usize,
+    rest: usize,
+) -> Result<Option<usize>, AllocError> {
+    let all = repeated(alloc, b"text of some letters, ", 10)?;
+    for length in 0..=200usize {
+        let front = all.as_slice().get(..length).unwrap_or(b"");
+        let text = joined(alloc, &[front, b"."])?;
+        let coded = escaped(alloc, text.as_slice(), by, rest)?;
+        let decoded = decode_quoted_printable(alloc, coded.as_slice())?;
+        if decoded.as_slice() != text.as_slice() {
+            return Ok(Some(length));
+        }
+    }
+    Ok(None)
+}
+
 #[test]
 fn escapes_at_each_length(rt: HostRuntime) -> Result<(), Fail> {
-    let all = repeated(rt.alloc(), b"text of some letters, ", 10)?;
-    for length in 0..=200usize {
-        for rest in 0..4usize {
-            let front = all.as_slice().get(..length).unwrap_or(b"");
-            let text = joined(rt.alloc(), &[front, b"."])?;
-            let coded = escaped(rt.alloc(), text.as_slice(), rest)?;
-            let decoded = decode_quoted_printable(rt.alloc(), coded.as_slice())?;
-            assert_eq!(rt;
-                Bytes(decoded.as_slice()),
-                Bytes(text.as_slice()),
-                "{length}"
-            );
+    for by in [1usize, 2, 3, 5, 16, 17] {
+        for rest in 0..=by {
+            let misread = first_escapes_misread(rt.alloc(), by, rest)?;
+            assert_same_for(&rt, misread, None, (by, rest));
         }
+    }
+    Ok(())
+}
+
+/// The value of a hexadecimal digit.
+fn digit_value(byte: u8) -> Option<u8> {
+    match byte {
+        b'0'..=b'9' => Some(byte - b'0'),
+        b'A'..=b'F' => Some(byte - b'A' + 10),
+        b'a'..=b'f' => Some(byte - b'a' + 10),
+        _ => None,
+    }
+}
+
+/// What `=` and two bytes are read as, of which the first is no LF.
+fn plain_escape(alloc: Global, first: u8, second: u8) -> Result<Vec<u8>, AllocError> {
+    match (digit_value(first), digit_value(second)) {
+        (Some(high), Some(low)) => joined(alloc, &[&[high.wrapping_mul(16).wrapping_add(low)]]),
+        _ => joined(alloc, &[&[b'=', first, second]]),
+    }
+}
+
+/// The first of twelve escapes in a row in whose place `=` and these two bytes are misread.
+fn first_escape_misread(alloc: Global, first: u8, second: u8) -> Result<Option<usize>, AllocError> {
+    let plain = plain_escape(alloc, first, second)?;
+    for place in 0..12usize {
+        let front = repeated(alloc, b"=41", place)?;
+        let read = repeated(alloc, b"A", place)?;
+        let text = joined(
+            alloc,
+            &[front.as_slice(), &[b'=', first, second], b"=42=43."],
+        )?;
+        let expected = joined(alloc, &[read.as_slice(), plain.as_slice(), b"BC."])?;
+        let decoded = decode_quoted_printable(alloc, text.as_slice())?;
+        if decoded.as_slice() != expected.as_slice() {
+            return Ok(Some(place));
+        }
+    }
+    Ok(None)
+}
+
+#[test]
+fn each_byte_as_a_digit_in_a_row_of_escapes(rt: HostRuntime) -> Result<(), Fail> {
+    for byte in 0..=255u8 {
+        if byte != b'\n' {
+            let misread = first_escape_misread(rt.alloc(), byte, b'1')?;
+            assert_same_for(&rt, misread, None, byte);
+        }
+        let misread = first_escape_misread(rt.alloc(), b'4', byte)?;
+        assert_same_for(&rt, misread, None, byte);
     }
     Ok(())
 }
@@ -278,7 +358,7 @@ fn first_byte_changed(alloc: Global, byte: u8) -> Result<Option<usize>, AllocErr
 #[test]
 fn each_byte_stays_in_each_lane(rt: HostRuntime) -> Result<(), Fail> {
     for byte in 0..=255u8 {
-        assert_eq!(rt; first_byte_changed(rt.alloc(), byte)?, None, "{byte}");
+        assert_same_for(&rt, first_byte_changed(rt.alloc(), byte)?, None, byte);
     }
     Ok(())
 }
@@ -308,8 +388,8 @@ fn first_e_misread(alloc: Global, length: usize) -> Result<Option<usize>, AllocE
 
 #[test]
 fn a_high_byte_at_each_place_of_each_length(rt: HostRuntime) -> Result<(), Fail> {
-    for length in 0..=100usize {
-        assert_eq!(rt; first_e_misread(rt.alloc(), length)?, None, "{length}");
+    for length in 0..=200usize {
+        assert_same_for(&rt, first_e_misread(rt.alloc(), length)?, None, length);
     }
     Ok(())
 }

@@ -110,8 +110,8 @@ fn first_misread(alloc: Global, byte: u8) -> Result<Option<usize>, AllocError> {
 }
 
 #[test]
-fn each_low_byte_at_each_place(rt: HostRuntime) -> Result<(), Fail> {
-    for byte in 0..=0x20u8 {
+fn each_byte_at_each_place(rt: HostRuntime) -> Result<(), Fail> {
+    for byte in 0..=255u8 {
         assert_same_for(&rt, first_misread(rt.alloc(), byte)?, None, byte);
     }
     Ok(())
