@@ -7,6 +7,7 @@ Each FILE is a mail, and with --mbox a mailbox; without a FILE the one on standa
 that the package fails on is an object with the one member `error`.
 """
 import argparse
+import datetime
 import email
 import email.header
 import email.message
@@ -54,10 +55,11 @@ def ids(value):
 
 
 def seconds(value):
-    """The seconds of a date, or None where there is none."""
+    """The seconds of a date, or None where there is none; a date without a zone is UTC, and so is one with `-0000`."""
     if value is None:
         return None
-    return int(email.utils.parsedate_to_datetime(str(value)).timestamp())
+    found = email.utils.parsedate_to_datetime(str(value))
+    return int((found if found.tzinfo else found.replace(tzinfo=datetime.timezone.utc)).timestamp())
 
 
 def has_parts(part):

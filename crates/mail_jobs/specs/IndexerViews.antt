@@ -12,6 +12,6 @@ use Rattle.mail_jobs.specs.declared.indexer.IndexEntry.{IndexEntry}
 pub record IsEntry (known : Charsets) (t : Tree) (entry : IndexEntry) : Type 0 where
   pub subject : text_found entry.subject ≡ first_value_in known (codes "Subject") (root t).headers
   pub from : text_found entry.from ≡ first_value_in known (codes "From") (root t).headers
-  pub date : AnswersIf (λ seconds. seconds) entry.date (mail.date (root t))
+  pub date : entry.date ≡ mail.date known (root t)
   pub message_id : text_found entry.message_id ≡ message_id (root t)
   pub text : AnswersIf (λ text. string_bytes text) entry.text (mail.text known t)

@@ -10,8 +10,9 @@ ghost use Rattle.mail_jobs.specs.IndexerViews.{IsEntry};
 ghost use Rattle.mail_jobs.specs.Outcomes.{AnswersIf};
 
 use mail_data::archive::message_id;
+use mail_data::lenient::{self, DateError};
 use mail_data::texts::text_part;
-use mailparse::{MailHeaderMap, MailParseError, ParsedMail, SingleByteTable, dateparse};
+use mailparse::{MailHeaderMap, MailParseError, ParsedMail, SingleByteTable};
 use std::alloc::Global;
 
 /// What an index keeps of a mail. What the mail does not have is `None`; a date or a text that is
@@ -21,7 +22,7 @@ pub struct IndexEntry {
     pub subject: Option<String>,
     pub from: Option<String>,
     /// The seconds from 1 January 1970, 0 h UTC.
-    pub date: Option<Result<i64, MailParseError>>,
+    pub date: Option<Result<i64, DateError>>,
     /// The first id of `Message-ID`, without its angle brackets.
     pub message_id: Option<String>,
     pub text: Option<Result<String, MailParseError>>,
@@ -39,7 +40,7 @@ pub fn index_entry(
     Ok(IndexEntry {
         subject: value_of(alloc, mail, "Subject", tables)?,
         from: value_of(alloc, mail, "From", tables)?,
-        date: date_of(alloc, mail)?,
+        date: date_of(alloc, mail, tables)?,
         message_id: message_id(alloc, mail)?,
         text: text_of(alloc, mail, tables)?,
     })
@@ -65,13 +66,13 @@ fn value_of(
 fn date_of(
     alloc: Global,
     mail: &ParsedMail<'_>,
-) -> Result<Option<Result<i64, MailParseError>>, MailParseError>
-    ensures read { IfOk result (λ found.
-        AnswersIf (λ seconds. seconds) found (date (root (tree_of mail.now)))) }
-    ensures only_memory { IfErr result IsMemory }
+    tables: &[SingleByteTable<'_>],
+) -> Result<Option<Result<i64, DateError>>, MailParseError>
+    ensures { AnswersOrMemory (λ found. found) result
+        (Ok (date (charsets_with tables.now) (root (tree_of mail.now)))) }
 {
-    match mail.headers.get_first_value(alloc, "Date")? {
-        Some(date) => Ok(Some(dateparse(date.as_str()))),
+    match value_of(alloc, mail, "Date", tables)? {
+        Some(date) => Ok(Some(lenient::date_of(date.as_str()))),
         None => Ok(None),
     }
 }
