@@ -6,6 +6,7 @@ pub mod WordBytes
 pub mod WordSearches
 pub mod Vectors
 pub mod Pairs
+pub mod Blocks
 pub mod VectorLetters
 pub mod CharsetUtf8
 pub mod CharsetLabels

@@ -1,4 +1,4 @@
-//! Times of reading a mail.
+//! Times of reading a mail, and of searches for a byte by the crate memchr.
 use mailparse::parse_mail;
 use std::fmt::Write as _;
 use std::hint::black_box;
@@ -30,10 +30,39 @@ fn all(input: &[u8]) -> usize {
     })
 }
 
-/// Writes the times of so many rounds of each work.
+/// Looks for a byte that is absent; how many bytes come before it.
+fn absent(input: &[u8]) -> usize {
+    memchr::memchr(0, black_box(input)).unwrap_or(input.len())
+}
+
+/// Finds each LF; how many there are.
+fn lines(input: &[u8]) -> usize {
+    let mut rest = black_box(input);
+    let mut count = 0;
+    while let Some(place) = memchr::memchr(b'\n', rest) {
+        rest = &rest[place + 1..];
+        count += 1;
+    }
+    count
+}
+
+/// Writes the times of so many rounds of each work on a mail.
 pub fn bench(out: &mut String, input: &[u8], rounds: usize) {
     let _ = writeln!(out, "bytes {}\ndecoded {}", input.len(), full(input));
-    let works: [(&str, fn(&[u8]) -> usize); 3] = [("parse", parse), ("full", full), ("all", all)];
+    let works: [Work; 3] = [("parse", parse), ("full", full), ("all", all)];
+    times(out, &works, input, rounds);
+}
+
+/// Writes the times of so many rounds of each search.
+pub fn search(out: &mut String, input: &[u8], rounds: usize) {
+    times(out, &[("absent", absent), ("lines", lines)], input, rounds);
+}
+
+/// A work and its name.
+type Work = (&'static str, fn(&[u8]) -> usize);
+
+/// Writes the times of so many rounds of each work.
+fn times(out: &mut String, works: &[Work], input: &[u8], rounds: usize) {
     for (name, work) in works {
         let mut times: Vec<f64> = (0..rounds.max(1))
             .map(|_| {

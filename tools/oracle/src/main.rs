@@ -63,6 +63,10 @@ fn run() -> Result<ExitCode, Fault> {
             let rounds = words.get(1).and_then(|count| count.parse().ok());
             bench::bench(&mut output, &input, rounds.unwrap_or(10));
         }
+        "search" => {
+            let rounds = words.get(1).and_then(|count| count.parse().ok());
+            bench::search(&mut output, &input, rounds.unwrap_or(10));
+        }
         "show" => match shown_mail(&input) {
             Ok(text) => output = text,
             Err(e) => {

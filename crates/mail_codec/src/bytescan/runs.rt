@@ -1,7 +1,7 @@
 //! Runs of bytes, which end at certain bytes: how long the first is, and all of them put together.
 //!
 //! What is small is inlined: the searches are fast where the compiler knows what ends a run.
-ghost use Rattle.std.specs.Prelude.{◌≡◌, ◌≤◌, ◌++◌, length, take, OnOk};
+ghost use Rattle.std.specs.Prelude.{◌≡◌, ◌≤◌, ◌+◌, ◌==◌, ◌++◌, length, take, drop, OnOk};
 ghost use Rattle.mail_codec.specs.Places.{begins, first_place};
 ghost use Rattle.mail_codec.specs.private.Runs.{ends_run, may_end_run, without_ends};
 ghost use Rattle.mail_codec.specs.private.Vectors.{lane_mask};
@@ -15,6 +15,12 @@ use std::simd::prelude::*;
 
 /// How many bytes are looked at before what stays of them is appended.
 const BUFFER: usize = 1024;
+
+/// How many bytes a search looks at vector by vector before it takes blocks of four.
+const NEAR: usize = 512;
+
+/// How many bytes four vectors have.
+const BLOCK: usize = 64;
 
 /// Which bytes end a run.
 #[derive(Clone, Copy)]
@@ -150,10 +156,54 @@ fn put_few(output: &mut [u8], bytes: &[u8], end: RunEnd) -> usize
     len
 }
 
-/// The least place of a byte that may end a run, or the length where there is none: by vectors, and
-/// where there are fewer bytes than one has, by words.
+/// The least place of a byte that may end a run, or the length where there is none: what is near
+/// vector by vector, and what is far by blocks of four.
 #[inline(always)]
 pub(crate) fn may_end_len(bytes: &[u8], end: RunEnd) -> usize
+    ensures least { result ≡ first_place (begins (may_end_run end)) bytes.now }
+    ensures bounds { result ≤ length bytes.now }
+{
+    let near = bytes.len().min(NEAR);
+    let place = short_len(&bytes[..near], end);
+    if place != near || near == bytes.len() {
+        return place;
+    }
+    near + blocks_len(&bytes[near..], end)
+}
+
+/// The same by blocks of four vectors, as far as none of their bytes may end a run.
+#[inline(always)]
+fn blocks_len(bytes: &[u8], end: RunEnd) -> usize
+    ensures least { result ≡ first_place (begins (may_end_run end)) bytes.now }
+    ensures bounds { result ≤ length bytes.now }
+{
+    let mut at = 0;
+    'blocks: while bytes.len() - at >= BLOCK {
+        if !is_free(bytes, at, end) {
+            break;
+        }
+        at += BLOCK;
+    }
+    at + short_len(&bytes[at..], end)
+}
+
+/// Whether none of the 64 bytes from a place on may end a run: the masks of four vectors are put
+/// together and tested once.
+#[inline(always)]
+fn is_free(bytes: &[u8], at: usize, end: RunEnd) -> bool
+    requires within { at + 64 ≤ length bytes.now }
+    ensures { result ≡ (first_place (begins (may_end_run end)) (take 64 (drop at bytes.now)) == 64) }
+{
+    let first = end.lanes(u8x16::from_slice(&bytes[at..]));
+    let second = end.lanes(u8x16::from_slice(&bytes[at + 16..]));
+    let third = end.lanes(u8x16::from_slice(&bytes[at + 32..]));
+    let fourth = end.lanes(u8x16::from_slice(&bytes[at + 48..]));
+    first | second | third | fourth == 0
+}
+
+/// The same by vectors alone, and where there are fewer bytes than one has, by words.
+#[inline(always)]
+fn short_len(bytes: &[u8], end: RunEnd) -> usize
     ensures least { result ≡ first_place (begins (may_end_run end)) bytes.now }
     ensures bounds { result ≤ length bytes.now }
 {
