@@ -116,6 +116,21 @@ fn a_byte_at_each_place(rt: HostRuntime) -> Result<(), Fail> {
     Ok(())
 }
 
+/// Long texts, among them those at whose length a search takes one more block of four vectors, or one
+/// more vector for what is left.
+static LONG: [usize; 18] = [
+    256, 320, 511, 512, 513, 527, 528, 529, 575, 576, 577, 591, 592, 639, 640, 641, 703, 4096,
+];
+
+#[test]
+fn a_byte_at_each_place_of_long_texts(rt: HostRuntime) -> Result<(), Fail> {
+    for length in &LONG {
+        assert_holds(&rt, is_nowhere(rt.alloc(), *length)?, *length);
+        assert_same_for(&rt, first_missed(rt.alloc(), *length)?, None, *length);
+    }
+    Ok(())
+}
+
 #[test]
 fn each_byte_among_all(rt: HostRuntime) {
     let bytes = all_bytes();

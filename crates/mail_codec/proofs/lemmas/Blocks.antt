@@ -1,12 +1,12 @@
 -- Blocks of four vectors, whose masks are put together.
-use Rattle.std.proofs.Common.{◌≡◌, ◌≢◌, ℕ, zero, suc, ◌+◌, ◌*◌, ◌<◌, ◌≤◌, Bool, true, false, cond, ◌==◌, bit_or, List, [], ◌∷◌, map, length, take, drop, inl, inr, refl, sym, ap, ◌∙◌, arith}
+use Rattle.std.proofs.Common.{◌≡◌, ℕ, zero, suc, ◌+◌, ◌<◌, ◌≤◌, Bool, true, false, cond, ◌==◌, bit_or, List, [], ◌∷◌, length, take, drop, inl, inr, refl, sym, ap, ◌∙◌, arith}
 use Rattle.std.proofs.lemmas.Bool.{cases_eq, ne_eqb, cases_lt}
-use Rattle.std.proofs.lemmas.List.{length-drop, length-take-le, drop-drop, take-take, take_all}
+use Rattle.std.proofs.lemmas.List.{length-drop, length-take-le, drop-drop, take-take}
 use Rattle.mail_codec.specs.Places.{first_place, begins}
 use Rattle.mail_codec.specs.private.Vectors.{lane_mask}
 use Rattle.mail_codec.proofs.lemmas.Places.{PassedTo, first_place-≤}
 use Rattle.mail_codec.proofs.lemmas.Vectors.{first_lane_none}
-use Rattle.mail_codec.proofs.lemmas.WordSearches.{PassedTo-chunk, PassedTo-found, both_zero, found_front, free_front}
+use Rattle.mail_codec.proofs.lemmas.WordSearches.{PassedTo-chunk, PassedTo-found, both_zero}
 
 -- a mask is 0 where no lane passes
 free_mask : (test : ℕ → Bool) (v : List ℕ) → first_place (begins test) v ≡ length v → lane_mask test v ≡ 0
@@ -24,23 +24,6 @@ inside zero m n xs h = take-take m n xs (omega arith)
 inside (suc k) m zero xs h = absurd (omega arith)
 inside (suc k) m (suc n) [] h = refl
 inside (suc k) m (suc n) (x ∷ xs) h = inside k m n xs (omega arith)
-
--- bytes at the front, and then the others
-pub front_found : (test : ℕ → Bool) (bytes : List ℕ) (n p : ℕ) → n ≤ length bytes → p ≡ first_place (begins test) (take n bytes) → p ≢ n
-    → p ≡ first_place (begins test) bytes
-front_found test bytes n p h is some =
-    let low : first_place (begins test) (take n bytes) < n = omega (arith, is, some, first_place-≤ (begins test) (take n bytes), length-take-le n bytes h) in
-    is ∙ sym (found_front test n bytes low h)
-
-pub front_whole : (test : ℕ → Bool) (bytes : List ℕ) (n p : ℕ) → n ≡ length bytes → p ≡ first_place (begins test) (take n bytes)
-    → p ≡ first_place (begins test) bytes
-front_whole test bytes n p h is = is ∙ ap (first_place (begins test)) (take_all n bytes (omega arith))
-
-pub front_free : (test : ℕ → Bool) (bytes : List ℕ) (n p q : ℕ) → n ≤ length bytes → p ≡ first_place (begins test) (take n bytes) → p ≡ n
-    → q ≡ first_place (begins test) (drop n bytes) → n + q ≡ first_place (begins test) bytes
-front_free test bytes n p q h is all rest =
-    let on = free_front test n bytes h (sym is ∙ all) in
-    omega (arith, on, rest)
 
 -- ---- four vectors
 

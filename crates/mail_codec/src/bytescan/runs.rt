@@ -156,19 +156,42 @@ fn put_few(output: &mut [u8], bytes: &[u8], end: RunEnd) -> usize
     len
 }
 
-/// The least place of a byte that may end a run, or the length where there is none: what is near
-/// vector by vector, and what is far by blocks of four.
+/// The least place of a byte that may end a run, or the length where there is none: by vectors, and
+/// where there are fewer bytes than one has, by words.
 #[inline(always)]
 pub(crate) fn may_end_len(bytes: &[u8], end: RunEnd) -> usize
     ensures least { result ≡ first_place (begins (may_end_run end)) bytes.now }
     ensures bounds { result ≤ length bytes.now }
 {
-    let near = bytes.len().min(NEAR);
-    let place = short_len(&bytes[..near], end);
-    if place != near || near == bytes.len() {
-        return place;
+    if bytes.len() < LANES {
+        near_len(bytes, end)
+    } else {
+        vectors_len(bytes, end)
     }
-    near + blocks_len(&bytes[near..], end)
+}
+
+/// The same where there are as many bytes as a vector has: what is near vector by vector, and what
+/// is far by blocks of four.
+#[inline(always)]
+fn vectors_len(bytes: &[u8], end: RunEnd) -> usize
+    requires { 16 ≤ length bytes.now }
+    ensures least { result ≡ first_place (begins (may_end_run end)) bytes.now }
+    ensures bounds { result ≤ length bytes.now }
+{
+    let last = bytes.len() - LANES;
+    let far = last.min(NEAR);
+    let mut at = 0;
+    'vectors: while at < far {
+        let place = first_lane(end.lanes(u8x16::from_slice(&bytes[at..])));
+        if place != LANES {
+            return at + place;
+        }
+        at += LANES;
+    }
+    if at < last {
+        return at + blocks_len(&bytes[at..], end);
+    }
+    last + first_lane(end.lanes(u8x16::from_slice(&bytes[last..])))
 }
 
 /// The same by blocks of four vectors, as far as none of their bytes may end a run.
