@@ -1,6 +1,6 @@
 #!/bin/sh
 # time_mails.sh [ORACLE]: prints the nanoseconds that reading large mails takes for each byte, the
-# least of the rounds, of which there are 15, or ROUNDS: `parse` reads the mail, `full` also decodes
+# least of the rounds, of which there are 16, or ROUNDS: `parse` reads the mail, `full` also decodes
 # the value of each header and the whole body of each part. The mails are a large attachment, many
 # small mails in one, headers alone, and quoted-printable: a text, and escapes alone. Before that comes
 # what one copy of the same bytes takes in memory, which no reader can beat.
@@ -14,8 +14,8 @@ arguments='[ORACLE]'
 take_oracle "$@"
 speed=$("$here/program.sh" mail_speed)
 make_work
-turns=5
-each=$(((${ROUNDS:-15} + turns - 1) / turns))
+each=4
+turns=$(((${ROUNDS:-16} + each - 1) / each))
 
 # least PATTERN FILE: the least of the numbers that stand where the pattern has its group
 least() {
