@@ -171,7 +171,8 @@ pub(crate) fn may_end_len(bytes: &[u8], end: RunEnd) -> usize
 }
 
 /// The same where there are as many bytes as a vector has: what is near vector by vector, and what
-/// is far by blocks of four.
+/// is far by blocks of four. The last vector is that of the last sixteen bytes, of which some may have
+/// been looked at before.
 #[inline(always)]
 fn vectors_len(bytes: &[u8], end: RunEnd) -> usize
     requires { 16 ≤ length bytes.now }
@@ -194,7 +195,7 @@ fn vectors_len(bytes: &[u8], end: RunEnd) -> usize
     last + first_lane(end.lanes(u8x16::from_slice(&bytes[last..])))
 }
 
-/// The same by blocks of four vectors, as far as none of their bytes may end a run.
+/// The same by blocks of four vectors, as far as none of their bytes may end a run, and then by words.
 #[inline(always)]
 fn blocks_len(bytes: &[u8], end: RunEnd) -> usize
     ensures least { result ≡ first_place (begins (may_end_run end)) bytes.now }
@@ -207,7 +208,7 @@ fn blocks_len(bytes: &[u8], end: RunEnd) -> usize
         }
         at += BLOCK;
     }
-    at + short_len(&bytes[at..], end)
+    at + near_len(&bytes[at..], end)
 }
 
 /// Whether none of the 64 bytes from a place on may end a run: the masks of four vectors are put
@@ -222,39 +223,6 @@ fn is_free(bytes: &[u8], at: usize, end: RunEnd) -> bool
     let third = end.lanes(u8x16::from_slice(&bytes[at + 32..]));
     let fourth = end.lanes(u8x16::from_slice(&bytes[at + 48..]));
     first | second | third | fourth == 0
-}
-
-/// The same by vectors alone, and where there are fewer bytes than one has, by words.
-#[inline(always)]
-fn short_len(bytes: &[u8], end: RunEnd) -> usize
-    ensures least { result ≡ first_place (begins (may_end_run end)) bytes.now }
-    ensures bounds { result ≤ length bytes.now }
-{
-    if bytes.len() < LANES {
-        near_len(bytes, end)
-    } else {
-        lanes_len(bytes, end)
-    }
-}
-
-/// The least place of a byte that may end a run, or the length, by vectors. The last vector is that
-/// of the last sixteen bytes, of which some may have been looked at before.
-#[inline(always)]
-fn lanes_len(bytes: &[u8], end: RunEnd) -> usize
-    requires { 16 ≤ length bytes.now }
-    ensures least { result ≡ first_place (begins (may_end_run end)) bytes.now }
-    ensures bounds { result ≤ length bytes.now }
-{
-    let last = bytes.len() - LANES;
-    let mut at = 0;
-    'vectors: while at < last {
-        let place = first_lane(end.lanes(u8x16::from_slice(&bytes[at..])));
-        if place != LANES {
-            return at + place;
-        }
-        at += LANES;
-    }
-    last + first_lane(end.lanes(u8x16::from_slice(&bytes[last..])))
 }
 
 /// The least place of a byte that may end a run, or the length, by words of eight.
