@@ -1,16 +1,17 @@
 #!/bin/sh
 # run_parallel.sh [COUNT]: runs mail_json on 20,000 mails of 5 kB, or COUNT, in one process and in four
-# at a time: on a folder of files by GNU parallel and by xargs, and on eight mailboxes by GNU parallel.
-# It prints the time of each, the least of three, and how many times the time of one process that is;
-# and it compares what they write, whose lines have to be the same set.
+# at a time: on a folder of files by GNU parallel and by xargs, and on eight mailboxes by GNU parallel;
+# and then on a folder of mails with an attachment of 1 MB, of which there are 200, or a hundredth of
+# COUNT. It prints the time of each, the least of three, and how many times the time of one process
+# that is; and it compares what they write, whose lines have to be the same set.
 #
-# It needs 15 kB of disk for each mail. Where GNU parallel is not installed (the package `parallel`), it
-# says so and runs xargs alone. The last line is `N passed, N failed`; the status is 1 where a run
-# failed or wrote other lines.
+# It needs 25 kB of disk for each mail that COUNT says. Where GNU parallel is not installed (the package
+# `parallel`), it says so and runs xargs alone. The last line is `N passed, N failed`; the status is 1
+# where a run failed or wrote other lines.
 arguments='[COUNT]'
 . "$(dirname "$0")/prelude.sh"
 count=${1:-20000}
-number "$count" 8
+number "$count" 100
 json=$("$here/program.sh" mail_json)
 make_work
 
@@ -21,15 +22,20 @@ made() {
     "$here/make_benchmark_mail.py" mailbox "$scale" "$@"
 }
 
-mkdir "$work/mails" "$work/boxes"
-made "$count" --files "$work/mails"
+mkdir "$work/small" "$work/large" "$work/boxes"
+made "$count" --files "$work/small"
+"$here/make_benchmark_mail.py" attachment 0.05 > "$work/large/1"
+for number in $(seq 2 $((count / 100))); do
+    cp "$work/large/1" "$work/large/$number"
+done
 made $((count / 8)) > "$work/boxes/1"
 for number in 2 3 4 5 6 7 8; do
     cp "$work/boxes/1" "$work/boxes/$number"
 done
 
+# files: the names of the mails in the folder `mails`; a process of xargs takes `batch` of them
 files() {
-    find "$work/mails" -type f -print0
+    find "$work/$mails" -type f -print0
 }
 
 files_by_one() {
@@ -43,7 +49,7 @@ files_by_parallel() {
 # a process of xargs writes to a file of its own, since the lines that several write to one may mix
 files_by_xargs() {
     rm -f "$work"/batch.*
-    files | OUT=$work xargs -0 -P 4 -n 500 sh -c '"$0" "$@" > "$(mktemp "$OUT/batch.XXXXXX")"' "$json"
+    files | OUT=$work xargs -0 -P 4 -n "$batch" sh -c '"$0" "$@" > "$(mktemp "$OUT/batch.XXXXXX")"' "$json"
     cat "$work"/batch.*
 }
 
@@ -101,9 +107,15 @@ by_parallel() {
 
 echo "four processes at a time, on $(nproc) processors"
 : > "$work/failed"
-alone files_by_one "$count"
-by_parallel files_by_parallel
-compared files_by_xargs
+for mails in small large; do
+    total=$(files | tr -dc '\0' | wc -c)
+    batch=$((total / 40 + 1))
+    echo "$mails mails in files of their own:"
+    alone files_by_one "$total"
+    by_parallel files_by_parallel
+    compared files_by_xargs
+done
+echo 'mailboxes of small mails:'
 alone boxes_by_one $((count / 8 * 8))
 by_parallel boxes_by_parallel
 if [ -s "$work/failed" ]; then
