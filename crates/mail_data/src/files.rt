@@ -22,15 +22,17 @@ pub struct Attachment<'m, 'a> {
     /// Where the part stands in the mail, as IMAP numbers parts (RFC 3501, section 6.4.5): `2.1` is
     /// the first part of the second part, and `1` the body of a mail without parts.
     pub path: String,
-    /// The part: `get_body_raw` returns the bytes of the file.
+    /// The part: `get_body_raw` returns the bytes of the file. Where its Base64 is damaged or the
+    /// name of its transfer coding has a comment, `lenient::loose_body` and `base64_front` read it.
     pub part: &'m ParsedMail<'a>,
 }
 
 /// Returns the name of the file that a part is: the parameter `filename` of its disposition (RFC
 /// 2183, section 2.3), otherwise the parameter `name` of its type, or `None` where it has neither.
 ///
-/// The name is as the sender wrote it: `safe_file_name` makes it fit to be used. Takes memory for
-/// the disposition and the name.
+/// The name is as the sender wrote it, perhaps empty: `safe_file_name` makes it fit to be used. The
+/// disposition is read in the four charsets that `mail_codec::charset` knows, without tables of the
+/// caller. Takes memory for the disposition and the name.
 ///
 /// # Errors
 ///

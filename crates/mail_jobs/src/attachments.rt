@@ -20,7 +20,7 @@ use std::alloc::Global;
 pub struct StoredFile {
     /// Where its part stands in the mail, as IMAP numbers parts.
     pub path: String,
-    /// A name that is safe in any folder, `unnamed` where the mail gives none.
+    /// A safe name, `unnamed` where the mail gives none. Two files may have the same.
     pub name: String,
     /// Its bytes, and where its Base64 is damaged, those before the damage.
     pub content: Base64Front,

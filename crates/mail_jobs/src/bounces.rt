@@ -10,7 +10,8 @@ use mail_data::bounce::{Recipient, recipients};
 use mailparse::{MailParseError, ParsedMail};
 use std::alloc::Global;
 
-/// The recipients for whom delivery failed for good, in order; none where the mail is no report.
+/// The recipients whose action is `failed`, in any case and with nothing after it, in order; none
+/// where the mail is no report.
 pub fn failed_recipients(
     alloc: Global,
     mail: &ParsedMail<'_>,

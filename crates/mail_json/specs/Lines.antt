@@ -17,7 +17,7 @@ use Rattle.mail_program.specs.declared.fault.Fault.{Fault}
 abbrev pub error_line : List ℕ → List ℕ
 error_line text = codes "{\"error\":" ++ json_text text ++ codes "}\n"
 
--- what is written of mails, and whether none of them is refused
+-- what is written of mails, and whether no error is among it
 abbrev pub Lines : Type 1
 Lines = Bool → List ℕ → Type 0
 
@@ -59,7 +59,7 @@ module _ (known : Charsets) where
   AreInputLines true bytes = AreMailboxLines bytes
   AreInputLines false bytes = IsLine 0 bytes
 
--- such lines were written, and nothing else, and the call returned whether no mail is refused; otherwise memory ran out or a write failed
+-- such lines were written, and nothing else, and the call returned whether no error is among them; otherwise memory ran out or a write failed
 abbrev pub WritesLines : Option (List ℕ) → Option (List ℕ) → Result Bool Fault → Lines → Type 0
 WritesLines old new (Ok is_whole) Are = (text : List ℕ) × Are is_whole text × Appends old new text
 WritesLines old new (Err fault) Are = IsEnd fault

@@ -141,7 +141,7 @@ module _ (known : Charsets) where
   abbrev pub ids_of : List ℕ → Node → List (List ℕ)
   ids_of key node = option_map_or ids_in (value_of key node) []
 
-  -- the disposition of a part, if it names one
+  -- the disposition of a part, if it has such a header
   abbrev pub disposition_of : Node → Option Disposition
   disposition_of node = option_map (disposition_in known) (value_of (codes "Content-Disposition") node)
 

@@ -50,7 +50,7 @@ pub fn ids_of(
     }
 }
 
-/// The disposition of a part, or `None` where it names none.
+/// The disposition of a part, or `None` where it has no such header.
 pub fn disposition_of(
     alloc: Global,
     part: &ParsedMail<'_>,

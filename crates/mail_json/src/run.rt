@@ -24,7 +24,7 @@ use std::rt::Files;
 
 /// Writes the mails of the files that the arguments name, or of standard input where they name
 /// none; says on standard error what could not be read or written. Returns whether all was written
-/// and no mail refused.
+/// and no error among it.
 pub fn run(
     rt: &(impl Files + Input + Print + Eprint + AllocGlobal),
     words: &[String],
@@ -93,7 +93,8 @@ fn run_input<W: Write>(
 }
 
 /// Writes the mails of an input, whose texts may also be in the charsets of some tables. Returns
-/// whether no mail was refused.
+/// whether it wrote no error: no mail was refused, and nothing but whitespace stands before the first
+/// mail of a mailbox.
 pub fn write_input<W: Write>(
     alloc: Global,
     input: &[u8],

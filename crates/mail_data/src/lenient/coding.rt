@@ -16,9 +16,9 @@ use mailparse::{MailHeaderMap, MailParseError, ParsedMail};
 use std::alloc::{AllocError, Global};
 
 /// Returns the body of a part in its transfer coding, as `ParsedMail::get_body_encoded` does, but
-/// the name of the coding ends at whitespace, `(` or `;` (RFC 2045, section 6.1).
+/// the name of the coding ends at ASCII whitespace, `(` or `;` (RFC 2045, section 6.1).
 ///
-/// So `base64 (a comment)` and a name with a space behind it are Base64, and not `7bit`. Where
+/// So `base64 (a comment)` and `base64` with a space after it are Base64, and not `7bit`. Where
 /// `get_body_encoded` finds another coding than `7bit`, this is the same one. Takes memory for the
 /// name of the coding.
 ///
