@@ -8,7 +8,7 @@ asks Python, and not the oracle.
 
 The list of the repository was made with the code of the Rust crate mailparse 0.18.0, changed where
 docs/DIFFERENCES.md says that this port differs, its Base64 errors replaced by the number of the
-first group of four that is not one. The kind `email_header` asks no oracle: Python writes the values.
+first invalid group of four. The kind `email_header` asks no oracle: Python writes the values.
 """
 import argparse
 import importlib

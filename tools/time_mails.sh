@@ -6,8 +6,8 @@
 # what one copy of the same bytes takes in memory, which no reader can beat.
 #
 # With ORACLE, a program whose command `bench N` reads a mail from standard input and prints lines
-# `parse ..` and `all ..` of the same works, its times stand beside ours, and how many times theirs
-# ours are. Both are timed in turn, a few rounds each, so that a machine that grows slower for a
+# `parse ..` and `all ..` of the same works, its times stand beside ours, and the ratio of ours
+# to theirs. Both are timed in turn, a few rounds each, so that a machine that grows slower for a
 # while does so for both.
 arguments='[ORACLE]'
 . "$(dirname "$0")/prelude.sh"

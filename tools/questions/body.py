@@ -2,7 +2,7 @@
 
 ENCODING is the transfer encoding, `-` for none, LABEL that of the charset, KIND the kind that the
 encoding chooses; DECODED and TEXT are `d` and the bytes that the body stands for, and their text in
-UTF-8, or `e` and the number of the first group of four that is not one.
+UTF-8, or `e` and the number of the first invalid group of four.
 
 To `body` and a transfer encoding, a zero byte, a charset label, a zero byte and a body the oracle
 answers the lines `kind NAME`, `decoded ok HEX` and `text ok HEX`, or `decoded err` and `text err`

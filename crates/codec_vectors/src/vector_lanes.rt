@@ -24,7 +24,7 @@ fn three_bytes(group: &[u8]) -> Option<[u8; 3]> {
 }
 
 /// The bytes of groups of four letters without padding and without anything absent, or the number
-/// of the first that is none.
+/// of the first byte that is not a letter.
 fn plain_groups(alloc: Global, letters: &[u8]) -> Result<Result<Vec<u8>, usize>, AllocError> {
     let mut bytes = Vec::new(alloc);
     for (number, group) in letters.chunks(4).enumerate() {

@@ -7,6 +7,8 @@ mod archive;
 #[cfg(test)]
 mod bounces;
 #[cfg(test)]
+mod charsets;
+#[cfg(test)]
 mod dates;
 #[cfg(test)]
 mod files;

@@ -1,8 +1,8 @@
 //! The README's first program, word for word.
 #![tactic(auto)]
 
-use mail_data::files::{attachments, file_name};
-use mail_data::texts::text_part;
+use mail_data::files::{attachments_with, file_name_with};
+use mail_data::texts::text_part_with;
 use mail_tables::TABLES;
 use mailparse::{MailHeaderMap, parse_mail_with};
 use std::io::Read;
@@ -15,11 +15,11 @@ fn main(rt: HostRuntime) -> anyhow::Result<()> {
     if let Some(subject) = mail.headers.get_first_header("Subject") {
         println!(rt; "Subject: {}", subject.get_value_with(alloc, &TABLES)?)?;
     }
-    if let Some(part) = text_part(alloc, &mail)? {
+    if let Some(part) = text_part_with(alloc, &mail, &TABLES)? {
         println!(rt; "{}", part.get_body_with(alloc, &TABLES)?)?;
     }
-    for file in attachments(alloc, &mail)? {
-        if let Some(name) = file_name(alloc, file.part)? {
+    for file in attachments_with(alloc, &mail, &TABLES)? {
+        if let Some(name) = file_name_with(alloc, file.part, &TABLES)? {
             println!(rt; "Attachment {}: {name}", file.path)?;
         }
     }

@@ -1,9 +1,10 @@
 -- The files that a mail carries (RFC 2183, section 2.3; RFC 2046, section 5.2.1), and the paths of its parts (RFC 3501,
 -- section 6.4.5).
 use Rattle.std.specs.Prelude.{ℕ, suc, Bool, true, false, ◌&&◌, ◌||◌, List, [], ◌∷◌, ◌++◌, filter, Option, Some, None, is_some, codes, decimal, if◌then◌else◌}
+use Rattle.mail_codec.specs.Charset.{Charsets, four_charsets}
 use Rattle.mailparse.specs.ContentType.{ContentType}
 use Rattle.mailparse.specs.Disposition.{Disposition, Kind, attachment}
-use Rattle.mailparse.specs.Mail.{Node, Tree, Forest, tree, no_parts, part_and, root, shown_as}
+use Rattle.mailparse.specs.Mail.{Node, Tree, Forest, tree, no_parts, part_and, root, shown_as_in}
 
 -- the first of two texts that is there
 abbrev pub first_text : Option (List ℕ) → Option (List ℕ) → Option (List ℕ)
@@ -13,10 +14,6 @@ first_text None other = other
 -- the name of a file that a disposition or else a type has: the one's `filename`, otherwise the other's `name`
 abbrev pub name_in : Disposition → ContentType → Option (List ℕ)
 name_in shown ctype = first_text (shown.params (codes "filename")) (ctype.params (codes "name"))
-
--- the name of a message's file
-unfoldable pub file_name : Node → Option (List ℕ)
-file_name node = name_in (shown_as node) node.ctype
 
 -- the disposition is `attachment`
 abbrev pub is_kept_apart : Kind → Bool
@@ -31,10 +28,6 @@ is_leaf (tree node (part_and t ts)) = false
 -- a disposition and a type are those of a file: the disposition is `attachment`, or there is a file name
 abbrev pub are_of_file : Disposition → ContentType → Bool
 are_of_file shown ctype = is_kept_apart shown.kind || is_some (name_in shown ctype)
-
--- a message is a file: it has no parts, and its disposition and its type are those of a file
-unfoldable pub is_attachment : Tree → Bool
-is_attachment t = is_leaf t && are_of_file (shown_as (root t)) (root t).ctype
 
 -- the path of the part with this number, by the path of the message that it is a part of: the numbers from the outside on, a dot between two
 unfoldable pub path_under : List ℕ → ℕ → List ℕ
@@ -55,14 +48,34 @@ abbrev mutual
 abbrev pub whole_path : Tree → List ℕ
 whole_path t = if is_leaf t then codes "1" else []
 
--- the files among messages with paths
-abbrev pub files_among : List (List ℕ × Tree) → List (List ℕ × Tree)
-files_among messages = filter (λ p. is_attachment p.1) messages
+-- Under the charsets that are known.
+module _ (known : Charsets) where
+  -- the name of a message's file
+  unfoldable pub file_name_in : Node → Option (List ℕ)
+  file_name_in node = name_in (shown_as_in known node) node.ctype
 
--- the files of a message that has this path
-abbrev pub attachments_under : List ℕ → Tree → List (List ℕ × Tree)
-attachments_under path t = files_among (with_paths path t)
+  -- a message is a file: it has no parts, and its disposition and its type are those of a file
+  unfoldable pub is_attachment_in : Tree → Bool
+  is_attachment_in t = is_leaf t && are_of_file (shown_as_in known (root t)) (root t).ctype
 
--- the files of a whole message, with their paths
+  -- the files among messages with paths
+  abbrev pub files_among : List (List ℕ × Tree) → List (List ℕ × Tree)
+  files_among messages = filter (λ p. is_attachment_in p.1) messages
+
+  -- the files of a message that has this path
+  abbrev pub attachments_under : List ℕ → Tree → List (List ℕ × Tree)
+  attachments_under path t = files_among (with_paths path t)
+
+  -- the files of a whole message, with their paths
+  abbrev pub attachments_in : Tree → List (List ℕ × Tree)
+  attachments_in t = attachments_under (whole_path t) t
+
+-- the same under the four charsets
+abbrev pub file_name : Node → Option (List ℕ)
+file_name node = file_name_in four_charsets node
+
+abbrev pub is_attachment : Tree → Bool
+is_attachment t = is_attachment_in four_charsets t
+
 abbrev pub attachments : Tree → List (List ℕ × Tree)
-attachments t = attachments_under (whole_path t) t
+attachments t = attachments_in four_charsets t

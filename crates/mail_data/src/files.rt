@@ -1,17 +1,20 @@
 //! The files that a mail carries.
 ghost use Rattle.std.specs.Prelude.{◌≡◌, ◌++◌, map, option_map, string_bytes, [], ◌∷◌, IfErr, IfOk, OnOk, Ok};
+ghost use Rattle.mail_codec.specs.Tables.{charsets_with};
 ghost use Rattle.mailparse.specs.Mail.{root};
 ghost use Rattle.mailparse.specs.Map.{text_found};
 ghost use Rattle.mailparse.specs.Outcome.{AnswersOrMemory, IsMemory};
 ghost use Rattle.mailparse.specs.Views.{content_type, disposition, kind, tree_of};
-ghost use Rattle.mail_data.specs.Files.{are_of_file, attachments, attachments_under, file_name, files_among};
-ghost use Rattle.mail_data.specs.Files.{is_attachment, is_kept_apart, is_leaf, name_in, path_under, whole_path};
+ghost use Rattle.mail_data.specs.Files.{are_of_file, attachments, attachments_in, attachments_under, file_name};
+ghost use Rattle.mail_data.specs.Files.{file_name_in, files_among, is_attachment, is_attachment_in};
+ghost use Rattle.mail_data.specs.Files.{is_kept_apart, is_leaf, name_in, path_under, whole_path};
 ghost use Rattle.mail_data.specs.FileViews.{attachment_view};
 
 mod names;
 
 use mailparse::{
     DispositionType, MailParseError, ParsedContentDisposition, ParsedContentType, ParsedMail,
+    SingleByteTable,
 };
 pub use names::safe_file_name;
 use std::alloc::{AllocError, Global};
@@ -31,8 +34,8 @@ pub struct Attachment<'m, 'a> {
 /// 2183, section 2.3), otherwise the parameter `name` of its type, or `None` where it has neither.
 ///
 /// The name is as the sender wrote it, perhaps empty: `safe_file_name` makes it fit to be used. The
-/// disposition is read in the four charsets that `mail_codec::charset` knows, without tables of the
-/// caller. Takes memory for the disposition and the name.
+/// disposition is read in the four charsets that are always known; `file_name_with` knows others.
+/// Takes memory for the disposition and the name.
 ///
 /// # Errors
 ///
@@ -47,11 +50,44 @@ pub struct Attachment<'m, 'a> {
 /// let mail = parse_mail(alloc, b"Content-Type: image/png; name=\"a.png\"\n\n")?;
 /// assert_eq!(rt; file_name(alloc, &mail)?.ok_or("no name")?.as_str(), "a.png");
 /// ```
-#[tactic(auto, unfolding(crate::specs::Files::file_name))]
 pub fn file_name(alloc: Global, part: &ParsedMail<'_>) -> Result<Option<String>, MailParseError>
     ensures { AnswersOrMemory text_found result (Ok (file_name (root (tree_of part.now)))) }
 {
-    let shown = part.get_content_disposition(alloc)?;
+    file_name_with(alloc, part, &[])
+}
+
+/// Returns the name of the file that a part is as `file_name` does, where the disposition may also
+/// be in the charsets of some tables.
+///
+/// The type is as the part was read: `mailparse::parse_mail_with` reads it with tables. Takes memory
+/// for the disposition and the name.
+///
+/// # Errors
+///
+/// `MailParseError::Memory` where it runs out of memory.
+///
+/// # Examples
+///
+/// ```rust
+/// use mail_data::files::file_name_with;
+/// use mailparse::{SingleByteTable, parse_mail};
+///
+/// let tables = [SingleByteTable { labels: &["x-euro"], high: &['€'; 128] }];
+/// let raw = b"Content-Disposition: attachment; filename*=x-euro''5%80.txt\n\n";
+/// let mail = parse_mail(alloc, raw)?;
+/// let name = file_name_with(alloc, &mail, &tables)?.ok_or("no name")?;
+/// assert_eq!(rt; name.as_str(), "5€.txt");
+/// ```
+#[tactic(auto, unfolding(crate::specs::Files::file_name_in))]
+pub fn file_name_with(
+    alloc: Global,
+    part: &ParsedMail<'_>,
+    tables: &[SingleByteTable<'_>],
+) -> Result<Option<String>, MailParseError>
+    ensures { AnswersOrMemory text_found result
+        (Ok (file_name_in (charsets_with tables.now) (root (tree_of part.now)))) }
+{
+    let shown = part.get_content_disposition_with(alloc, tables)?;
     match named_file(&shown, &part.ctype) {
         Some(name) => Ok(Some(String::from_str(alloc, name)?)),
         None => Ok(None),
@@ -100,10 +136,41 @@ fn named_file<'n>(
 pub fn is_attachment(alloc: Global, part: &ParsedMail<'_>) -> Result<bool, MailParseError>
     ensures { AnswersOrMemory (λ is. is) result (Ok (is_attachment (tree_of part.now))) }
 {
+    is_attachment_with(alloc, part, &[])
+}
+
+/// Returns whether a part is a file as `is_attachment` does, where the disposition may also be in
+/// the charsets of some tables.
+///
+/// Takes memory for the disposition.
+///
+/// # Errors
+///
+/// `MailParseError::Memory` where it runs out of memory.
+///
+/// # Examples
+///
+/// ```rust
+/// use mail_data::files::{is_attachment, is_attachment_with};
+/// use mailparse::{SingleByteTable, parse_mail};
+///
+/// let tables = [SingleByteTable { labels: &["x-euro"], high: &['€'; 128] }];
+/// let mail = parse_mail(alloc, b"Content-Disposition: inline; filename*=x-euro''%80\n\n")?;
+/// assert!(rt; is_attachment_with(alloc, &mail, &tables)?);
+/// assert!(rt; !is_attachment(alloc, &mail)?);
+/// ```
+pub fn is_attachment_with(
+    alloc: Global,
+    part: &ParsedMail<'_>,
+    tables: &[SingleByteTable<'_>],
+) -> Result<bool, MailParseError>
+    ensures { AnswersOrMemory (λ is. is) result
+        (Ok (is_attachment_in (charsets_with tables.now) (tree_of part.now))) }
+{
     if !is_leaf(part) {
         return Ok(false);
     }
-    let shown = part.get_content_disposition(alloc)?;
+    let shown = part.get_content_disposition_with(alloc, tables)?;
     Ok(are_of_file(&shown, &part.ctype))
 }
 
@@ -133,7 +200,7 @@ fn is_kept_apart(shown: &DispositionType) -> bool
 
 /// Returns the files of a mail, in the order in which they stand, each with the path of its part.
 ///
-/// Takes memory for the list and the paths.
+/// Takes memory for the list, the paths and each disposition in turn.
 ///
 /// # Errors
 ///
@@ -160,8 +227,38 @@ pub fn attachments<'m, 'a>(
     ensures { AnswersOrMemory (λ files. map attachment_view files.items) result
         (Ok (attachments (tree_of mail.now))) }
 {
+    attachments_with(alloc, mail, &[])
+}
+
+/// Returns the files of a mail as `attachments` does, where dispositions may also be in the charsets
+/// of some tables.
+///
+/// Takes memory for the list, the paths and each disposition in turn.
+///
+/// # Errors
+///
+/// `MailParseError::Memory` where it runs out of memory.
+///
+/// # Examples
+///
+/// ```rust
+/// use mail_data::files::attachments_with;
+/// use mailparse::{SingleByteTable, parse_mail};
+///
+/// let tables = [SingleByteTable { labels: &["x-euro"], high: &['€'; 128] }];
+/// let mail = parse_mail(alloc, b"Content-Disposition: inline; filename*=x-euro''%80\n\n")?;
+/// assert_eq!(rt; attachments_with(alloc, &mail, &tables)?.len(), 1);
+/// ```
+pub fn attachments_with<'m, 'a>(
+    alloc: Global,
+    mail: &'m ParsedMail<'a>,
+    tables: &[SingleByteTable<'_>],
+) -> Result<Vec<Attachment<'m, 'a>>, MailParseError>
+    ensures { AnswersOrMemory (λ files. map attachment_view files.items) result
+        (Ok (attachments_in (charsets_with tables.now) (tree_of mail.now))) }
+{
     let mut files = Vec::new(alloc);
-    push_attachments(alloc, mail, whole_path(mail), &mut files)?;
+    push_attachments(alloc, mail, whole_path(mail), tables, &mut files)?;
     Ok(files)
 }
 
@@ -177,18 +274,20 @@ fn push_attachments<'m, 'a>(
     alloc: Global,
     mail: &'m ParsedMail<'a>,
     path: &str,
+    tables: &[SingleByteTable<'_>],
     files: &mut Vec<Attachment<'m, 'a>>,
 ) -> Result<(), MailParseError>
     ensures written { OnOk result (map attachment_view files.new.items
-        ≡ map attachment_view files.old.items ++ attachments_under path.now (tree_of mail.now)) }
+        ≡ map attachment_view files.old.items
+        ++ attachments_under (charsets_with tables.now) path.now (tree_of mail.now)) }
     ensures only_memory { IfErr result IsMemory }
 {
-    push_own(alloc, mail, path, files)?;
+    push_own(alloc, mail, path, tables, files)?;
     let mut number = 0;
     for part in &mail.subparts {
         number += 1;
         let path = path_under(alloc, path, number)?;
-        push_attachments(alloc, part, path.as_str(), files)?;
+        push_attachments(alloc, part, path.as_str(), tables, files)?;
     }
     Ok(())
 }
@@ -198,13 +297,15 @@ fn push_own<'m, 'a>(
     alloc: Global,
     part: &'m ParsedMail<'a>,
     path: &str,
+    tables: &[SingleByteTable<'_>],
     files: &mut Vec<Attachment<'m, 'a>>,
 ) -> Result<(), MailParseError>
     ensures written { OnOk result (map attachment_view files.new.items
-        ≡ map attachment_view files.old.items ++ files_among ((path.now, tree_of part.now) ∷ [])) }
+        ≡ map attachment_view files.old.items
+        ++ files_among (charsets_with tables.now) ((path.now, tree_of part.now) ∷ [])) }
     ensures only_memory { IfErr result IsMemory }
 {
-    if !is_attachment(alloc, part)? {
+    if !is_attachment_with(alloc, part, tables)? {
         return Ok(());
     }
     let path = String::from_str(alloc, path)?;

@@ -1,12 +1,13 @@
 //! The text of a mail.
 ghost use Rattle.std.specs.Prelude.{◌≡◌, Ok};
+ghost use Rattle.mail_codec.specs.Tables.{charsets_with};
 ghost use Rattle.mailparse.specs.Outcome.{AnswersOrMemory};
 ghost use Rattle.mailparse.specs.Views.{tree_of};
-ghost use Rattle.mail_data.specs.Texts.{first_shown, is_shown, text_part};
+ghost use Rattle.mail_data.specs.Texts.{first_shown, is_shown, text_part, text_part_in};
 ghost use Rattle.mail_data.specs.TextViews.{tree_found};
 
-use crate::files::is_attachment;
-use mailparse::{MailParseError, ParsedMail};
+use crate::files::is_attachment_with;
+use mailparse::{MailParseError, ParsedMail, SingleByteTable};
 use std::alloc::Global;
 
 /// Returns the part of a mail that is to be read as its text, or `None` where there is none: the
@@ -16,8 +17,8 @@ use std::alloc::Global;
 /// The mail itself is looked at first, and then its parts, each before its own parts. So of a
 /// `multipart/alternative` it is the plain text, where there is one; a plain text without a name that
 /// stands beside an HTML text in another multipart, such as the footer of a list, comes first too. A
-/// text that has a file name is a file, as `files::is_attachment` says. `ParsedMail::get_body` returns the text of the part. Takes memory for the list of parts
-/// and the dispositions.
+/// text that has a file name is a file, as `files::is_attachment` says. `ParsedMail::get_body`
+/// returns the text of the part. Takes memory for the list of parts and the dispositions.
 ///
 /// # Errors
 ///
@@ -35,17 +36,48 @@ use std::alloc::Global;
 /// let part = text_part(alloc, &mail)?.ok_or("no text")?;
 /// assert_eq!(rt; part.get_body(alloc)?.as_str(), "Hi");
 /// ```
-#[tactic(auto, unfolding(crate::specs::Texts::text_part))]
 pub fn text_part<'m, 'a>(
     alloc: Global,
     mail: &'m ParsedMail<'a>,
 ) -> Result<Option<&'m ParsedMail<'a>>, MailParseError>
     ensures { AnswersOrMemory tree_found result (Ok (text_part (tree_of mail.now))) }
 {
-    if let Some(part) = first_shown(alloc, mail, "text/plain")? {
+    text_part_with(alloc, mail, &[])
+}
+
+/// Returns the part of a mail that is to be read as its text as `text_part` does, where the
+/// dispositions that tell files from texts may also be in the charsets of some tables.
+///
+/// Takes memory for the list of parts and the dispositions.
+///
+/// # Errors
+///
+/// `MailParseError::Memory` where it runs out of memory.
+///
+/// # Examples
+///
+/// ```rust
+/// use mail_data::texts::{text_part, text_part_with};
+/// use mailparse::{SingleByteTable, parse_mail};
+///
+/// let tables = [SingleByteTable { labels: &["x-euro"], high: &['€'; 128] }];
+/// let mail = parse_mail(alloc, b"Content-Disposition: inline; filename*=x-euro''%80\n\nHi")?;
+/// assert!(rt; text_part_with(alloc, &mail, &tables)?.is_none());
+/// assert!(rt; text_part(alloc, &mail)?.is_some());
+/// ```
+#[tactic(auto, unfolding(crate::specs::Texts::text_part_in))]
+pub fn text_part_with<'m, 'a>(
+    alloc: Global,
+    mail: &'m ParsedMail<'a>,
+    tables: &[SingleByteTable<'_>],
+) -> Result<Option<&'m ParsedMail<'a>>, MailParseError>
+    ensures { AnswersOrMemory tree_found result
+        (Ok (text_part_in (charsets_with tables.now) (tree_of mail.now))) }
+{
+    if let Some(part) = first_shown(alloc, mail, "text/plain", tables)? {
         return Ok(Some(part));
     }
-    let part = first_shown(alloc, mail, "text/html")?;
+    let part = first_shown(alloc, mail, "text/html", tables)?;
     Ok(part)
 }
 
@@ -55,12 +87,13 @@ fn first_shown<'m, 'a>(
     alloc: Global,
     mail: &'m ParsedMail<'a>,
     mimetype: &str,
+    tables: &[SingleByteTable<'_>],
 ) -> Result<Option<&'m ParsedMail<'a>>, MailParseError>
     ensures { AnswersOrMemory tree_found result
-        (Ok (first_shown mimetype.now (tree_of mail.now))) }
+        (Ok (first_shown (charsets_with tables.now) mimetype.now (tree_of mail.now))) }
 {
     for part in mail.parts(alloc)? {
-        if is_shown(alloc, part, mimetype)? {
+        if is_shown(alloc, part, mimetype, tables)? {
             return Ok(Some(part));
         }
     }
@@ -69,11 +102,17 @@ fn first_shown<'m, 'a>(
 
 /// Whether a part has this type and is no file.
 #[tactic(auto, unfolding(crate::specs::Texts::is_shown))]
-fn is_shown(alloc: Global, part: &ParsedMail<'_>, mimetype: &str) -> Result<bool, MailParseError>
-    ensures { AnswersOrMemory (λ is. is) result (Ok (is_shown mimetype.now (tree_of part.now))) }
+fn is_shown(
+    alloc: Global,
+    part: &ParsedMail<'_>,
+    mimetype: &str,
+    tables: &[SingleByteTable<'_>],
+) -> Result<bool, MailParseError>
+    ensures { AnswersOrMemory (λ is. is) result
+        (Ok (is_shown (charsets_with tables.now) mimetype.now (tree_of part.now))) }
 {
     if part.ctype.mimetype.as_str() != mimetype {
         return Ok(false);
     }
-    Ok(!is_attachment(alloc, part)?)
+    Ok(!is_attachment_with(alloc, part, tables)?)
 }

@@ -2,11 +2,12 @@
 use Rattle.std.specs.Prelude.{ℕ, List, None, codes, map}
 use Rattle.std.specs.Option.{unwrap_or}
 use Rattle.mail_codec.specs.QuotedPrintable.{quoted_printable}
+use Rattle.mail_codec.specs.Charset.{Charsets}
 use Rattle.mailparse.specs.Body.{BodyKind, in_base64, in_quoted_printable, in_7bit, in_8bit, in_binary}
 use Rattle.mailparse.specs.Mail.{Node, Tree, root}
 use Rattle.mail_data.specs.Base64Front.{Front, base64_front}
 use Rattle.mail_data.specs.FileNames.{safe_name}
-use Rattle.mail_data.specs.Files.{attachments, file_name}
+use Rattle.mail_data.specs.Files.{attachments_in, file_name_in}
 use Rattle.mail_data.specs.LooseCoding.{loose_body_kind}
 
 -- a file that is stored: where its part stands, its name, and as much of its bytes as can be read
@@ -16,8 +17,8 @@ pub record Stored : Type 0 where
   pub content : Front
 
 -- the name under which a part is stored
-unfoldable pub stored_name : Node → List ℕ
-stored_name node = safe_name (unwrap_or (file_name node) (codes "unnamed"))
+unfoldable pub stored_name : Charsets → Node → List ℕ
+stored_name known node = safe_name (unwrap_or (file_name_in known node) (codes "unnamed"))
 
 -- bytes that were all read
 abbrev pub whole : List ℕ → Front
@@ -36,9 +37,9 @@ abbrev pub stored_content : Node → Front
 stored_content node = readable (loose_body_kind node) node.body
 
 -- a part that has this path, as it is stored
-abbrev pub stored : List ℕ × Tree → Stored
-stored p = record { path = p.0; name = stored_name (root p.1); content = stored_content (root p.1) }
+abbrev pub stored : Charsets → List ℕ × Tree → Stored
+stored known p = record { path = p.0; name = stored_name known (root p.1); content = stored_content (root p.1) }
 
 -- the files of a mail
-abbrev pub stored_files : Tree → List Stored
-stored_files mail = map stored (attachments mail)
+abbrev pub stored_files : Charsets → Tree → List Stored
+stored_files known mail = map (stored known) (attachments_in known mail)

@@ -1,5 +1,6 @@
 //! The files of a mail, each with a name that is safe and the bytes that can be read.
 ghost use Rattle.std.specs.Prelude.{◌≡◌, map, string_bytes, All, IfOk, Ok};
+ghost use Rattle.mail_codec.specs.Tables.{charsets_with};
 ghost use Rattle.mailparse.specs.Mail.{root};
 ghost use Rattle.mailparse.specs.Outcome.{AnswersOrMemory, GivesText};
 ghost use Rattle.mailparse.specs.Views.{tree_of};
@@ -9,10 +10,10 @@ ghost use Rattle.mail_data.specs.FileViews.{attachment_view};
 ghost use Rattle.mail_jobs.specs.Attachments.{stored, stored_content, stored_files, stored_name, whole};
 ghost use Rattle.mail_jobs.specs.AttachmentViews.{stored_view};
 
-use mail_data::files::{Attachment, attachments, file_name, safe_file_name};
+use mail_data::files::{Attachment, attachments_with, file_name_with, safe_file_name};
 use mail_data::lenient::{Base64Front, base64_front, loose_body};
 use mailparse::body::Body;
-use mailparse::{MailParseError, ParsedMail};
+use mailparse::{MailParseError, ParsedMail, SingleByteTable};
 use std::alloc::Global;
 
 /// A file of a mail, ready to be stored.
@@ -26,39 +27,54 @@ pub struct StoredFile {
     pub content: Base64Front,
 }
 
-/// The files of a mail, in the order in which they stand.
-pub fn stored_files(alloc: Global, mail: &ParsedMail<'_>) -> Result<Vec<StoredFile>, MailParseError>
+/// The files of a mail, in the order in which they stand, where names may also be in the charsets of
+/// some tables.
+pub fn stored_files(
+    alloc: Global,
+    mail: &ParsedMail<'_>,
+    tables: &[SingleByteTable<'_>],
+) -> Result<Vec<StoredFile>, MailParseError>
     ensures read { AnswersOrMemory (λ files. map stored_view files.items) result
-        (Ok (stored_files (tree_of mail.now))) }
+        (Ok (stored_files (charsets_with tables.now) (tree_of mail.now))) }
     ensures safe { IfOk result (λ files.
         All (λ file. IsSafeName (string_bytes file.name)) files.items) }
 {
     let mut files = Vec::new(alloc);
-    for file in attachments(alloc, mail)? {
-        files.push(stored(alloc, file)?)?;
+    for file in attachments_with(alloc, mail, tables)? {
+        files.push(stored(alloc, file, tables)?)?;
     }
     Ok(files)
 }
 
 /// A file of a mail, as it is stored.
-fn stored(alloc: Global, file: Attachment<'_, '_>) -> Result<StoredFile, MailParseError>
-    ensures read { AnswersOrMemory stored_view result (Ok (stored (attachment_view file.entry))) }
+fn stored(
+    alloc: Global,
+    file: Attachment<'_, '_>,
+    tables: &[SingleByteTable<'_>],
+) -> Result<StoredFile, MailParseError>
+    ensures read { AnswersOrMemory stored_view result
+        (Ok (stored (charsets_with tables.now) (attachment_view file.entry))) }
     ensures safe { IfOk result (λ kept. IsSafeName (string_bytes kept.name)) }
 {
     Ok(StoredFile {
         path: file.path,
-        name: stored_name(alloc, file.part)?,
+        name: stored_name(alloc, file.part, tables)?,
         content: stored_content(alloc, file.part)?,
     })
 }
 
 /// The name of a file, made safe.
 #[tactic(auto, unfolding(crate::specs::Attachments::stored_name))]
-fn stored_name(alloc: Global, part: &ParsedMail<'_>) -> Result<String, MailParseError>
-    ensures read { GivesText result (stored_name (root (tree_of part.now))) }
+fn stored_name(
+    alloc: Global,
+    part: &ParsedMail<'_>,
+    tables: &[SingleByteTable<'_>],
+) -> Result<String, MailParseError>
+    ensures read { GivesText result
+        (stored_name (charsets_with tables.now) (root (tree_of part.now))) }
     ensures safe { IfOk result (λ name. IsSafeName (string_bytes name)) }
 {
-    let name = match file_name(alloc, part)? {
+    let name = match file_name_with(alloc, part, tables)? {
         Some(name) => safe_file_name(alloc, name.as_str())?,
         None => safe_file_name(alloc, "unnamed")?,
     };

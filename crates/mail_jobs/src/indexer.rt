@@ -11,7 +11,7 @@ ghost use Rattle.mail_jobs.specs.Outcomes.{AnswersIf};
 
 use mail_data::archive::message_id;
 use mail_data::lenient::{self, DateError};
-use mail_data::texts::text_part;
+use mail_data::texts::text_part_with;
 use mailparse::{MailHeaderMap, MailParseError, ParsedMail, SingleByteTable};
 use std::alloc::Global;
 
@@ -87,7 +87,7 @@ fn text_of(
         AnswersIf (λ t. string_bytes t) found (text (charsets_with tables.now) (tree_of mail.now))) }
     ensures only_memory { IfErr result IsMemory }
 {
-    let Some(part) = text_part(alloc, mail)? else {
+    let Some(part) = text_part_with(alloc, mail, tables)? else {
         return Ok(None);
     };
     match part.get_body_with(alloc, tables) {

@@ -23,7 +23,7 @@ fn lines_of(alloc: Global, mail: &[u8]) -> Result<String, MailParseError> {
     let mail = parse_mail_with(alloc, mail, &TABLES)?;
     let mut lines = String::new(alloc);
     push_entry(&mut lines, &index_entry(alloc, &mail, &TABLES)?)?;
-    for file in stored_files(alloc, &mail)?.as_slice() {
+    for file in stored_files(alloc, &mail, &TABLES)?.as_slice() {
         push_file(&mut lines, file)?;
     }
     for recipient in failed_recipients(alloc, &mail)?.as_slice() {

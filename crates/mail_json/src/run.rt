@@ -39,7 +39,7 @@ pub fn run(
     }
 }
 
-/// The same, where a write that fails or want of memory ends the run.
+/// The same; a write that fails, or running out of memory, ends the run.
 fn run_all(
     rt: &(impl Files + Input + Print + Eprint + AllocGlobal),
     words: &[String],

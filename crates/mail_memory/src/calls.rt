@@ -15,7 +15,7 @@ pub struct Fault {
 }
 
 /// Each group, by the name of one of its calls.
-static GROUPS: [&str; 30] = [
+static GROUPS: [&str; 31] = [
     "decode_base64",
     "decode_quoted_printable",
     "decode",
@@ -42,6 +42,7 @@ static GROUPS: [&str; 30] = [
     "render",
     "encode_value",
     "file_name",
+    "file_name_with",
     "base64_front",
     "text_part",
     "recipients",
@@ -134,6 +135,7 @@ fn is_right(alloc: Global, inputs: &Inputs<'_>, group: &str) -> Result<bool, Mai
         "render" => outlines::write(alloc),
         "encode_value" => outlines::write_values(alloc),
         "file_name" => data::find_files(alloc),
+        "file_name_with" => data::find_named_files(alloc),
         "base64_front" => data::read_leniently(alloc),
         "text_part" => data::find_parts(alloc),
         "recipients" => data::read_report(alloc),

@@ -1,13 +1,17 @@
 //! The calls of `mail_data`.
 
 use crate::found::{is_bytes, is_only_text, is_some_text, is_text};
+use crate::tables::TABLES;
 use mail_data::archive::{message_id, parents};
 use mail_data::bounce::{Recipient, recipients};
-use mail_data::files::{attachments, file_name, is_attachment, safe_file_name};
+use mail_data::files::{
+    attachments, attachments_with, file_name, file_name_with, is_attachment, is_attachment_with,
+    safe_file_name,
+};
 use mail_data::forwarding::{forwarded, mails_inside};
 use mail_data::lenient::{base64_front, ids_in, loose_body};
 use mail_data::mailbox::read_mailbox;
-use mail_data::texts::text_part;
+use mail_data::texts::{text_part, text_part_with};
 use mailparse::body::Body;
 use mailparse::{MailParseError, ParsedMail, parse_mail};
 use std::alloc::Global;
@@ -36,6 +40,24 @@ pub fn find_files(alloc: Global) -> Result<bool, MailParseError> {
             && is_attachment(alloc, file.part)?
             && !is_attachment(alloc, &mail)?
             && is_text(safe_file_name(alloc, "../a")?, ".._a"),
+    )
+}
+
+/// The same calls with tables, and `text_part_with`.
+pub fn find_named_files(alloc: Global) -> Result<bool, MailParseError> {
+    let mail = parse_mail(
+        alloc,
+        b"Content-Disposition: inline; filename*=x-one''%80\n\nHi",
+    )?;
+    let files = attachments_with(alloc, &mail, &TABLES)?;
+    let [file] = files.as_slice() else {
+        return Ok(false);
+    };
+    Ok(
+        file.path.as_str() == "1"
+            && is_some_text(file_name_with(alloc, file.part, &TABLES)?, "\u{400}")
+            && is_attachment_with(alloc, &mail, &TABLES)?
+            && text_part_with(alloc, &mail, &TABLES)?.is_none(),
     )
 }
 

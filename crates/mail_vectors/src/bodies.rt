@@ -227,7 +227,7 @@ fn bodies_are_decoded_to_bytes(rt: HostRuntime) -> Result<(), Fail> {
     Ok(())
 }
 
-/// A body, and the number of its first group that is none.
+/// A body, and the number of its first invalid group.
 static INVALID_GROUPS: [Case<&[u8], usize>; 6] = cases! {
     b"aGk" => 0,
     b"aG\x0Bk=" => 0,

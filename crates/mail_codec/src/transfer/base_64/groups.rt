@@ -60,7 +60,7 @@ pub(crate) fn put_groups(
 }
 
 /// Writes the bytes of the groups of letters at the front of the next sixteen bytes to a place.
-/// Returns how many letters come before the first byte that is none, or before the end of the text.
+/// Returns how many letters come before the first byte that is not a letter, or before the end of the text.
 #[inline(always)]
 fn put_block(output: &mut [u8], place: usize, text: &[u8], at: usize) -> usize
     requires room { place + 16 ≤ length output.old }
@@ -95,8 +95,8 @@ fn put_tail(output: &mut [u8], place: usize, tail: &[u8]) -> usize
 }
 
 /// Writes the bytes of the groups at the front of the letters to a place. Returns how many letters
-/// come before the first byte that is none; what is written after the groups that they make means
-/// nothing.
+/// come before the first byte that is not one; what is written after the groups that they make
+/// means nothing.
 #[inline(always)]
 pub(crate) fn put_letters(output: &mut [u8], place: usize, letters: u8x16) -> usize
     requires room { place + 16 ≤ length output.old }

@@ -1,0 +1,15 @@
+use Rattle.std.proofs.Common.{Ok, sym, ap, ◌∙◌}
+use Rattle.mail_codec.specs.Tables.{charsets_with}
+use Rattle.mailparse.specs.Views.{content_type, disposition, tree_of}
+use Rattle.mailparse.specs.declared.mail.ParsedMail.TheViews.{out-ParsedMail}
+use Rattle.mail_data.proofs.lemmas.Files.{ctype-out, is_attachment-parts, is_attachment-leaf}
+use Rattle.mail_data.proofs.files.is_attachment_with.Goals as goal
+
+pub returns-then-not-is_leaf : goal.returns-then-not-is_leaf
+returns-then-not-is_leaf c = ap Ok (is_attachment-parts (charsets_with c.args.tables.now) (tree_of c.args.part.now) (sym c.if-not-is_leaf.true ∙ c.is_leaf.ensures))
+
+pub returns : goal.returns
+returns c =
+    let m = c.args.part.now in
+    ap Ok (is_attachment-leaf (charsets_with c.args.tables.now) (tree_of m) (disposition c.in_ok-shown.shown) (content_type (out-ParsedMail m).ctype) _
+    (sym c.if-not-is_leaf.false ∙ c.is_leaf.ensures) c.in_ok-shown.ensures (ctype-out m) c.are_of_file.ensures)
