@@ -90,9 +90,14 @@ def params_of(part):
     return {key.lower(): email.utils.collapse_rfc2231_value(value) for key, value in part.get_params([])[1:]}
 
 
+def file_name(part):
+    """The name of a part's file; an empty one counts as none."""
+    return part.get_filename() or email.utils.collapse_rfc2231_value(part.get_param("name", "")) or None
+
+
 def is_file(part):
     """Whether a part is a file."""
-    return not has_parts(part) and (part.get_content_disposition() == "attachment" or part.get_filename() is not None)
+    return not has_parts(part) and (part.get_content_disposition() == "attachment" or file_name(part) is not None)
 
 
 def body_of(part):
@@ -118,7 +123,7 @@ def part_object(path, part):
         "charset": charset_of(part),
         "params": params_of(part),
         "disposition": part.get_content_disposition(),
-        "file_name": part.get_filename(),
+        "file_name": file_name(part),
         "attachment": is_file(part),
         "encoding": (part.get("content-transfer-encoding") or "7bit").lower(),
         "decoded_size": len(body),

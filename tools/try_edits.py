@@ -9,7 +9,7 @@ of a proof goes to must-fail/, which `rt ci` tries.)
 
 The script proves each crate from nothing, in a copy of the repository. Then it checks the crate with a
 batch of edits at once, over the proofs that are kept, where no two edits of a batch change one function.
-(Where one batch holds all edits of a crate, and no other crate with edits stands on it, the check of that
+(Where one batch holds all edits of a crate, and no other crate with edits depends on it, the check of that
 batch is the first check of the crate.)
 An edit passes if the function that it changes is refused, and the line says which goal became false (or
 that its proof only names what is gone, which says little: such edits are listed at the end); each

@@ -26,7 +26,7 @@ class Ran:
 
 
 def crates_listed(top):
-    """The crates of the repository with those that they stand on, as crates.txt lists them."""
+    """The crates of the repository with those that they depend on, as crates.txt lists them."""
     with open(f"{top}/crates.txt", encoding="utf-8") as opened:
         lines = [it.partition("#")[0].strip() for it in opened]
     listed = {}
@@ -37,7 +37,7 @@ def crates_listed(top):
 
 
 def all_below(listed, name):
-    """The crate and all that it stands on, lowest first."""
+    """The crate and all that it depends on, lowest first."""
     found = []
     for it in listed[name]:
         found += [low for low in all_below(listed, it) if low not in found]
@@ -83,7 +83,7 @@ class Checker:
         copy_sources(top, self.base, [*PARTS, "out"] if is_kept else PARTS)
 
     def prove(self, crate, jobs):
-        """Proves a crate from nothing, after those that it stands on; returns what was said and taken."""
+        """Proves a crate from nothing, after those that it depends on; returns what was said and taken."""
         ran = run_check(f"{self.base}/crates/{crate}", jobs)
         return read_output(ran.output), ran
 

@@ -39,8 +39,8 @@ pub fn push_text(alloc: Global, line: &mut String, text: String) -> Result<(), A
     push_bytes(alloc, line, text.as_bytes())
 }
 
-/// Writes a refusal: `!` where bytes are not UTF-8, `e` and the Base64 group that is refused, or `g`
-/// and the text of the refusal. Memory that ran out is none.
+/// Writes a refusal: `!` where bytes are not UTF-8, `e` and the Base64 group that is refused, or
+/// `g` and the text of the refusal. Memory that ran out is none.
 pub fn push_refusal(
     alloc: Global,
     line: &mut String,

@@ -1,9 +1,9 @@
-//! Lines on mails read under the tables of `mail_tables`: `tables MAIL ANSWER`. MAIL is the bytes of
-//! a mail. ANSWER is the refusal, a letter for its form and then its text, or for the mail and each
-//! of its parts, each before its own parts, `;` and these fields: how many parts it has, its type,
-//! the label of its charset and its PARAMS, how many headers there are, the key of each and the text
-//! that its value shows, the KIND and the PARAMS of its disposition, and the text of its body. KIND
-//! and PARAMS are those of the lines on texts.
+//! Lines on mails read under the tables of `mail_tables`: `tables MAIL ANSWER`. MAIL is the bytes
+//! of a mail. ANSWER is the refusal, a letter for its form and then its text, or for the mail and
+//! each of its parts, each before its own parts, `;` and these fields: how many parts it has, its
+//! type, the label of its charset and its PARAMS, how many headers there are, the key of each and
+//! the text that its value shows, the KIND and the PARAMS of its disposition, and the text of its
+//! body. KIND and PARAMS are those of the lines on texts.
 
 use crate::field::{bytes_of, push_bytes, push_refusal, push_text};
 use crate::text::{push_params, push_shown};

@@ -5,8 +5,8 @@ use mailparse::{MailParseError, ParsedContentType};
 use std::alloc::Global;
 use std::test::Fail;
 
-/// A body with its transfer coding and the label of its charset, some tables, and the text that it is
-/// under them.
+/// A body with its transfer encoding and the label of its charset, some tables, and the text that
+/// it is under them.
 struct BodyRow {
     coding: &'static str,
     label: &'static str,

@@ -1,4 +1,4 @@
-//! The transfer coding Base64.
+//! The transfer encoding Base64.
 ghost use Rattle.std.specs.Prelude.{◌<◌};
 
 use crate::texts::{ByteCase, Bytes, Case, assert_holds, assert_same_for, cases};
@@ -146,7 +146,8 @@ fn group_with(byte: u8, place: usize) -> [u8; 4]
     group
 }
 
-/// Asserts that a group of `A` but for this byte is decoded, or refused where the byte may not stand.
+/// Asserts that a group of `A` but for this byte is decoded, or refused where the byte may not
+/// stand.
 fn assert_group_with(
     rt: &impl Abort,
     alloc: Global,

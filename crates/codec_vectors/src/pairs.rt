@@ -89,8 +89,8 @@ fn plain_place(bytes: &[u8], first: u8, second: u8) -> Option<usize> {
         .position(|pair| pair[0] == first && pair[1] == second)
 }
 
-/// The first place of a LF among so many bytes, the others being `-`, where the pair is not found, or
-/// is found though the LF is the last byte.
+/// The first place of a LF among so many bytes, the others being `-`, where the pair is not found,
+/// or is found though the LF is the last byte.
 fn first_missed(alloc: Global, length: usize) -> Result<Option<usize>, AllocError> {
     let mut bytes = repeated(alloc, b"-", length)?;
     for place in 0..bytes.len() {

@@ -1,4 +1,4 @@
-//! The transfer coding quoted-printable.
+//! The transfer encoding quoted-printable.
 use crate::texts::{ByteCase, Bytes, Case, assert_bytes, assert_same_for, cases, joined, repeated};
 use mail_codec::transfer::decode_quoted_printable;
 use std::alloc::{AllocError, Global};
@@ -70,8 +70,8 @@ fn assert_decoded(
 /// A text of two lines, the first with a soft line break.
 const TWO_LINES: &[u8; 23] = b"caf=c3=A9 \t=\r\n=3Dau \t\r\n";
 
-/// A place, and what the bytes before it are decoded to, and those from there on; both from a program
-/// in Python that follows RFC 2045, section 6.7, line by line.
+/// A place, and what the bytes before it are decoded to, and those from there on; both from a
+/// program in Python that follows RFC 2045, section 6.7, line by line.
 struct SplitRow {
     place: usize,
     before: &'static [u8],
@@ -217,7 +217,8 @@ fn each_split_of_two_lines(rt: HostRuntime) -> Result<(), Fail> {
 /// A line that line ends are put into.
 const ONE_LINE: &[u8; 7] = b"a =C3b=";
 
-/// What is put into the line, and what the same program decodes it to, by the place where it is put.
+/// What is put into the line, and what the same program decodes it to, by the place where it is
+/// put.
 struct LineEndRow {
     line_end: &'static [u8],
     decoded: [&'static [u8]; 8],

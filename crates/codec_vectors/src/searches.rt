@@ -116,8 +116,8 @@ fn a_byte_at_each_place(rt: HostRuntime) -> Result<(), Fail> {
     Ok(())
 }
 
-/// Long texts, among them those at whose length a search takes one more block of four vectors, or one
-/// more vector for what is left.
+/// Long texts, among them those at whose length a search takes one more block of four vectors, or
+/// one more vector for what is left.
 static LONG: [usize; 18] = [
     256, 320, 511, 512, 513, 527, 528, 529, 575, 576, 577, 591, 592, 639, 640, 641, 703, 4096,
 ];

@@ -55,8 +55,8 @@ where
     Ok(())
 }
 
-/// Asserts that what was found is what is expected. (`assert_eq!` is proved anew at each place where it
-/// stands, with all that its message prints; these three are proved once.)
+/// Asserts that what was found is what is expected. (`assert_eq!` is proved anew at each place
+/// where it stands, with all that its message prints; these three are proved once.)
 pub fn assert_same<T: PartialEq + Debug + Drop>(rt: &impl Abort, found: T, expected: T) {
     assert_eq!(*rt; found, expected);
 }

@@ -54,8 +54,8 @@ fn letters(alloc: Global, length: usize) -> Result<Vec<u8>, AllocError> {
     Ok(all)
 }
 
-/// The first lane of two vectors in which the byte is not read as the plain rule says: as a letter, as
-/// absent, or as a fault.
+/// The first lane of two vectors in which the byte is not read as the plain rule says: as a letter,
+/// as absent, or as a fault.
 fn first_lane_misread(alloc: Global, call: Call, byte: u8) -> Result<Option<usize>, AllocError> {
     let whole = letters(alloc, 36)?;
     for lane in 0..whole.len() {

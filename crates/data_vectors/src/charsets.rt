@@ -1,5 +1,5 @@
-//! The files and the text of mails whose dispositions are in charsets of tables. The names of the files
-//! are those that Python's `get_filename` returns.
+//! The files and the text of mails whose dispositions are in charsets of tables. The names of the
+//! files are those that Python's `get_filename` returns.
 use crate::texts::{Case, assert_texts, cases};
 use mail_data::files::{
     attachments, attachments_with, file_name, file_name_with, is_attachment, is_attachment_with,

@@ -1,6 +1,6 @@
-//! Dates as mail writes them: the examples of RFC 5322, appendix A, and others whose seconds Python's
-//! `calendar.timegm` counts from the fields that the rules give. Where Python's `email` reads the
-//! text as these fields, it returns the same.
+//! Dates as mail writes them: the examples of RFC 5322, appendix A, and others whose seconds
+//! Python's `calendar.timegm` counts from the fields that the rules give. Where Python's `email`
+//! reads the text as these fields, it returns the same.
 use crate::texts::{Case, assert_texts, cases};
 use mail_data::lenient::date_of;
 use std::alloc::{AllocError, Global};

@@ -1,5 +1,5 @@
-//! The files of mails: their paths, their names and their sizes, by hand from the rules. Of one mail
-//! Python's `get_filename` was asked, and gives the same names.
+//! The files of mails: their paths, their names and their sizes, by hand from the rules. Of one
+//! mail Python's `get_filename` was asked, and gives the same names.
 use crate::texts::{Case, assert_texts, cases};
 use mail_data::files::{attachments, file_name, is_attachment, safe_file_name};
 use mailparse::{MailParseError, parse_mail};
@@ -29,7 +29,7 @@ fn shown_files(alloc: Global, raw: &[u8]) -> Result<String, AllocError> {
     }
 }
 
-static FILES: [Case; 10] = cases! {
+static FILES: [Case; 13] = cases! {
     b"Subject: Hi\n\nHello" => "",
     b"Content-Disposition: attachment\n\nabc" => "1 - 3;",
     b"Content-Type: image/png; name=\"a.png\"\nContent-Transfer-Encoding: base64\n\naGk=" => "1 a.png 2;",
@@ -42,6 +42,10 @@ static FILES: [Case; 10] = cases! {
       --c\nContent-Disposition: attachment; filename=\"b.txt\"\n\nx\n\
       --c\nContent-Type: message/rfc822\nContent-Disposition: attachment\n\nSubject: f\n\ny\n\
       --c--\n--b--\n" => "2 a.png 2;3.1 b.txt 1;3.2 - 13;",
+    // An empty name counts as none.
+    b"Content-Type: text/plain; name=\"\"\n\nHello" => "",
+    b"Content-Type: image/png; name=a.png\nContent-Disposition: inline; filename=\"\"\n\n" => "1 a.png 0;",
+    b"Content-Disposition: attachment; filename=\"\"\n\nabc" => "1 - 3;",
     // A message with parts is no file, whatever it says of itself.
     b"Content-Type: multipart/mixed; boundary=b\nContent-Disposition: attachment\n\n\
       --b\n\nHello\n--b--\n" => "",

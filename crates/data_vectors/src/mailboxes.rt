@@ -1,5 +1,5 @@
-//! Mailboxes, by hand from the rules. Of seven of them whose lines end in LF Python's `mailbox.mbox`
-//! was asked, and gives the same mails.
+//! Mailboxes, by hand from the rules. Of seven of them whose lines end in LF Python's
+//! `mailbox.mbox` was asked, and gives the same mails.
 use crate::texts::{Case, assert_texts, cases};
 use mail_data::mailbox::read_mailbox;
 use std::alloc::{AllocError, Global};

@@ -99,8 +99,9 @@ fn shown_mails(alloc: Global, raw: &[u8]) -> Result<String, AllocError> {
     }
 }
 
-/// The mails that Python's `email` finds, as its `as_bytes` writes them; but that the line end before
-/// a delimiter belongs to the delimiter (RFC 2046, section 5.1.1), and that it refuses no mail.
+/// The mails that Python's `email` finds, as its `as_bytes` writes them; but that the line end
+/// before a delimiter belongs to the delimiter (RFC 2046, section 5.1.1), and that it refuses no
+/// mail.
 static MAILS: [Case; 7] = cases! {
     b"Subject: Hi\n\nHello" => "",
     b"Content-Type: message/rfc822\n\nSubject: a\n\nHi" => "{Subject: a\\n\\nHi}",

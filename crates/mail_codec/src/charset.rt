@@ -1,7 +1,7 @@
 //! The charsets of mail text: their labels, and the text of bytes in each.
 //!
-//! Four are known: UTF-8, windows-1252 and UTF-16 in both byte orders. A caller may hand in tables of
-//! others in which each byte is one character.
+//! Four are known: UTF-8, windows-1252 and UTF-16 in both byte orders. A caller may hand in tables
+//! of others in which each byte is one character.
 ghost use Rattle.std.specs.Prelude.{◌≡◌, ◌↔◌, IfOk, IsOk, IsAscii, string_bytes};
 ghost use Rattle.std.specs.Cow.{cow_str_bytes, IsBorrowedStr};
 ghost use Rattle.mail_codec.specs.Charset.{ascii_text, charset_of_label, marked_text_of, text_of};
@@ -55,8 +55,8 @@ impl Charset {
         labels::charset_of(label.trim_ascii())
     }
 
-    /// Returns the text of the bytes in this charset, or in the one whose byte order mark they begin
-    /// with (the WHATWG Encoding Standard, section 6).
+    /// Returns the text of the bytes in this charset, or in the one whose byte order mark they
+    /// begin with (the WHATWG Encoding Standard, section 6).
     ///
     /// A byte order mark is removed, and overrules the charset. What is not a character reads as
     /// U+FFFD. Takes memory for the text.

@@ -1,4 +1,4 @@
-//! Codecs of mail: byte searches, charsets and transfer codings.
+//! Codecs of mail: byte searches, charsets and transfer encodings.
 //!
 //! They work on bytes alone and know nothing of headers and messages, which the crate `mailparse`
 //! reads. What takes memory has the argument `alloc` and returns a `Result`; no call panics.

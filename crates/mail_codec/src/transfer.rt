@@ -1,4 +1,4 @@
-//! The transfer codings Base64 and quoted-printable, over bytes.
+//! The transfer encodings Base64 and quoted-printable, over bytes.
 
 mod base_64;
 mod quoted_printable;

@@ -1,6 +1,6 @@
 -- The files that a mail carries (RFC 2183, section 2.3; RFC 2046, section 5.2.1), and the paths of its parts (RFC 3501,
 -- section 6.4.5).
-use Rattle.std.specs.Prelude.{ℕ, suc, Bool, true, false, ◌&&◌, ◌||◌, List, [], ◌∷◌, ◌++◌, filter, Option, Some, None, is_some, codes, decimal, if◌then◌else◌}
+use Rattle.std.specs.Prelude.{ℕ, suc, Bool, true, false, ◌&&◌, ◌||◌, List, [], ◌∷◌, ◌++◌, filter, Option, Some, None, is_some, is_empty, codes, decimal, if◌then◌else◌}
 use Rattle.mail_codec.specs.Charset.{Charsets, four_charsets}
 use Rattle.mailparse.specs.ContentType.{ContentType}
 use Rattle.mailparse.specs.Disposition.{Disposition, Kind, attachment}
@@ -11,9 +11,14 @@ abbrev pub first_text : Option (List ℕ) → Option (List ℕ) → Option (List
 first_text (Some text) other = Some text
 first_text None other = other
 
--- the name of a file that a disposition or else a type has: the one's `filename`, otherwise the other's `name`
+-- a text that is there and not empty
+abbrev pub filled : Option (List ℕ) → Option (List ℕ)
+filled None = None
+filled (Some text) = if is_empty text then None else Some text
+
+-- the name of a file that a disposition or else a type has: the one's `filename`, otherwise the other's `name`; an empty one counts as none
 abbrev pub name_in : Disposition → ContentType → Option (List ℕ)
-name_in shown ctype = first_text (shown.params (codes "filename")) (ctype.params (codes "name"))
+name_in shown ctype = first_text (filled (shown.params (codes "filename"))) (filled (ctype.params (codes "name")))
 
 -- the disposition is `attachment`
 abbrev pub is_kept_apart : Kind → Bool

@@ -1,4 +1,4 @@
--- The transfer coding of a body where more stands beside its name: whitespace, a comment or a parameter (RFC 2045, section
+-- The transfer encoding of a body where more stands beside its name: whitespace, a comment or a parameter (RFC 2045, section
 -- 6.1; RFC 5322, section 3.2.2).
 use Rattle.std.specs.Prelude.{ℕ, Bool, not, ◌||◌, ◌==◌, List, take, Option, option_map, codes}
 use Rattle.std.specs.Char.{is_ascii_whitespace}
@@ -24,6 +24,6 @@ name_at text =
 unfoldable pub loose_kind : Option (List ℕ) → BodyKind
 loose_kind value = kind_named (option_map (λ text. name_at (str_to_ascii_lowercase text)) value)
 
--- the transfer coding of a message's body, by its first `Content-Transfer-Encoding`
+-- the transfer encoding of a message's body, by its first `Content-Transfer-Encoding`
 abbrev pub loose_body_kind : Node → BodyKind
 loose_body_kind node = loose_kind (first_value (codes "Content-Transfer-Encoding") node.headers)

@@ -39,7 +39,7 @@ pub struct Recipient {
 /// first block is on the message, each other one on a recipient. A field is found by its name, in
 /// any case, and its text is that of a header's value without whitespace around it; what stands up
 /// to the first `;` of an address or a diagnostic code is its type, and is left out. A block that
-/// `parse_headers` refuses counts as one without fields. A transfer coding, which such a part may
+/// `parse_headers` refuses counts as one without fields. A transfer encoding, which such a part may
 /// not have, is not undone. Takes memory for the blocks, their headers and the texts.
 ///
 /// # Errors

@@ -4,9 +4,11 @@ ghost use Rattle.mail_codec.specs.Tables.{charsets_with};
 ghost use Rattle.mailparse.specs.Mail.{root};
 ghost use Rattle.mailparse.specs.Map.{text_found};
 ghost use Rattle.mailparse.specs.Outcome.{AnswersOrMemory, IsMemory};
+ghost use Rattle.mailparse.specs.Pairs.{text_at};
 ghost use Rattle.mailparse.specs.Views.{content_type, disposition, kind, tree_of};
-ghost use Rattle.mail_data.specs.Files.{are_of_file, attachments, attachments_in, attachments_under, file_name};
-ghost use Rattle.mail_data.specs.Files.{file_name_in, files_among, is_attachment, is_attachment_in};
+ghost use Rattle.mail_data.specs.Files.{are_of_file, attachments, attachments_in, attachments_under};
+ghost use Rattle.mail_data.specs.Files.{file_name, file_name_in, files_among, filled};
+ghost use Rattle.mail_data.specs.Files.{is_attachment, is_attachment_in};
 ghost use Rattle.mail_data.specs.Files.{is_kept_apart, is_leaf, name_in, path_under, whole_path};
 ghost use Rattle.mail_data.specs.FileViews.{attachment_view};
 
@@ -18,6 +20,7 @@ use mailparse::{
 };
 pub use names::safe_file_name;
 use std::alloc::{AllocError, Global};
+use std::collections::BTreeMap;
 
 /// A file that a mail carries, as `attachments` returns it.
 #[derive(Drop)]
@@ -26,7 +29,8 @@ pub struct Attachment<'m, 'a> {
     /// the first part of the second part, and `1` the body of a mail without parts.
     pub path: String,
     /// The part: `get_body_raw` returns the bytes of the file. Where its Base64 is damaged or the
-    /// name of its transfer coding has a comment, `lenient::loose_body` and `base64_front` read it.
+    /// name of its transfer encoding has a comment, `lenient::loose_body` and `base64_front` read
+    /// it.
     pub part: &'m ParsedMail<'a>,
 }
 
@@ -59,8 +63,8 @@ pub fn file_name(alloc: Global, part: &ParsedMail<'_>) -> Result<Option<String>,
 /// Returns the name of the file that a part is as `file_name` does, where the disposition may also
 /// be in the charsets of some tables.
 ///
-/// The type is as the part was read: `mailparse::parse_mail_with` reads it with tables. Takes memory
-/// for the disposition and the name.
+/// The type is as the part was read: `mailparse::parse_mail_with` reads it with tables. Takes
+/// memory for the disposition and the name.
 ///
 /// # Errors
 ///
@@ -94,7 +98,7 @@ pub fn file_name_with(
     }
 }
 
-/// The name of a file that a disposition or else a type has.
+/// The name of a file that a disposition or else a type has; an empty one counts as none.
 fn named_file<'n>(
     shown: &'n ParsedContentDisposition,
     ctype: &'n ParsedContentType,
@@ -102,12 +106,34 @@ fn named_file<'n>(
     ensures { option_map (λ name. name.now) result
         ≡ name_in (disposition shown.now) (content_type ctype.now) }
 {
-    match shown.params.get("filename") {
-        Some(name) => Some(name.as_str()),
-        None => match ctype.params.get("name") {
-            Some(name) => Some(name.as_str()),
-            None => None,
-        },
+    match filled_parameter(&shown.params, "filename") {
+        Some(name) => Some(name),
+        None => filled_parameter(&ctype.params, "name"),
+    }
+}
+
+/// Returns the text of a parameter of a type or a disposition, or `None` where it is missing or
+/// empty. Takes no memory.
+///
+/// # Examples
+///
+/// ```rust
+/// use mail_data::files::filled_parameter;
+/// use mailparse::parse_content_type;
+///
+/// let ctype = parse_content_type(alloc, "text/plain; name=\"\"; format=flowed")?;
+/// assert_eq!(rt; filled_parameter(&ctype.params, "format"), Some("flowed"));
+/// assert_eq!(rt; filled_parameter(&ctype.params, "name"), None);
+/// ```
+pub fn filled_parameter<'p>(
+    parameters: &'p BTreeMap<String, String>,
+    name: &str,
+) -> Option<&'p str>
+    ensures { option_map (λ text. text.now) result ≡ filled (text_at parameters.now name.now) }
+{
+    match parameters.get(name) {
+        Some(text) if !text.is_empty() => Some(text.as_str()),
+        _ => None,
     }
 }
 
@@ -230,8 +256,8 @@ pub fn attachments<'m, 'a>(
     attachments_with(alloc, mail, &[])
 }
 
-/// Returns the files of a mail as `attachments` does, where dispositions may also be in the charsets
-/// of some tables.
+/// Returns the files of a mail as `attachments` does, where dispositions may also be in the
+/// charsets of some tables.
 ///
 /// Takes memory for the list, the paths and each disposition in turn.
 ///

@@ -1,7 +1,7 @@
 //! What applications ask of mail, above the port of `mailparse`: which parts are files and how they
 //! are named (`files`), the mails of a mailbox (`mailbox`), the text to be read (`texts`),
-//! forwarded mails (`forwarding`), the recipients of a report on delivery (`bounce`), the ids that a
-//! thread is made of (`archive`), and readings that take what can be taken where the strict calls
+//! forwarded mails (`forwarding`), the recipients of a report on delivery (`bounce`), the ids that
+//! a thread is made of (`archive`), and readings that take what can be taken where the strict calls
 //! refuse (`lenient`).
 //!
 //! The rules of this layer are its own; those of `mailparse` stay as they are. What takes memory

@@ -15,10 +15,11 @@ use std::alloc::Global;
 /// 5.1.4).
 ///
 /// The mail itself is looked at first, and then its parts, each before its own parts. So of a
-/// `multipart/alternative` it is the plain text, where there is one; a plain text without a name that
-/// stands beside an HTML text in another multipart, such as the footer of a list, comes first too. A
-/// text that has a file name is a file, as `files::is_attachment` says. `ParsedMail::get_body`
-/// returns the text of the part. Takes memory for the list of parts and the dispositions.
+/// `multipart/alternative` it is the plain text, where there is one; a plain text without a name
+/// that stands beside an HTML text in another multipart, such as the footer of a list, comes first
+/// too. A text that has a file name is a file, as `files::is_attachment` says.
+/// `ParsedMail::get_body` returns the text of the part. Takes memory for the list of parts and the
+/// dispositions.
 ///
 /// # Errors
 ///

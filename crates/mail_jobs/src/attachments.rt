@@ -27,8 +27,8 @@ pub struct StoredFile {
     pub content: Base64Front,
 }
 
-/// The files of a mail, in the order in which they stand, where names may also be in the charsets of
-/// some tables.
+/// The files of a mail, in the order in which they stand, where names may also be in the charsets
+/// of some tables.
 pub fn stored_files(
     alloc: Global,
     mail: &ParsedMail<'_>,

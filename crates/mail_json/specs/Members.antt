@@ -19,7 +19,7 @@ use Rattle.mailparse.specs.Map.{first_value_in}
 use Rattle.mailparse.specs.Pairs.{Texts}
 use Rattle.mailparse.specs.Refusal.{◌>>=◌, Reads, Refusal, generic, encoding, base64_fault}
 use Rattle.mailparse.specs.Value.{lenient_value_in}
-use Rattle.mail_data.specs.Files.{first_text}
+use Rattle.mail_data.specs.Files.{filled, first_text}
 use Rattle.mail_data.specs.LooseDate.{Dated, date_of}
 use Rattle.mail_data.specs.LooseIds.{ids_in}
 use Rattle.mail_data.specs.declared.lenient.date.DateError.{DateError}
@@ -32,7 +32,7 @@ refusal_text (generic text) = text
 refusal_text (encoding text) = codes "Encoding error: " ++ text
 refusal_text (base64_fault group) = codes "Base64 decode error: group " ++ decimal group ++ codes " is no Base64 group"
 
--- the name of a transfer coding
+-- the name of a transfer encoding
 abbrev pub coding_text : BodyKind → List ℕ
 coding_text in_base64 = codes "base64"
 coding_text in_quoted_printable = codes "quoted-printable"
@@ -103,9 +103,9 @@ abbrev pub IsTypeText : ContentType → List ℕ → Type 0
 IsTypeText ctype text =
     (pairs : List (List ℕ × List ℕ)) × Lists ctype.params pairs × (text ≡ type_text ctype.mimetype ctype.charset pairs)
 
--- the name of the file that a disposition, if there is one, or else a type has
+-- the name of the file that a disposition, if there is one, or else a type has; an empty one counts as none
 abbrev pub name_in : Option Disposition → ContentType → Option (List ℕ)
-name_in shown ctype = first_text (option_and_then (λ d. d.params (codes "filename")) shown) (ctype.params (codes "name"))
+name_in shown ctype = first_text (filled (option_and_then (λ d. d.params (codes "filename")) shown)) (filled (ctype.params (codes "name")))
 
 -- the disposition is `attachment`
 abbrev pub is_kept_apart : Option Disposition → Bool

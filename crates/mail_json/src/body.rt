@@ -10,7 +10,7 @@ use mailparse::body::Body;
 use mailparse::{MailParseError, SingleByteTable};
 use std::alloc::Global;
 
-/// The name of the transfer coding of a body.
+/// The name of the transfer encoding of a body.
 pub fn coding_name(body: &Body<'_>) -> &'static str
     ensures { (kind : BodyKind) (given : Content) → IsBody kind given body.now →
         result.now ≡ coding_text kind }

@@ -11,6 +11,7 @@ ghost use Rattle.mail_json.specs.Members.{name_in, refusal_text, value_of};
 ghost use Rattle.mail_json.specs.Written.{IsEnd};
 
 use crate::fault::Fault;
+use mail_data::files::filled_parameter;
 use mail_data::lenient::ids_in;
 use mailparse::{
     DispositionType, MailHeaderMap, MailParseError, ParsedContentDisposition, ParsedContentType,
@@ -91,7 +92,7 @@ fn kind_name(shown: &DispositionType) -> &str
     }
 }
 
-/// The name of a file that a disposition or else a type has.
+/// The name of a file that a disposition or else a type has; an empty one counts as none.
 pub fn file_name<'n>(
     shown: &'n Option<ParsedContentDisposition>,
     ctype: &'n ParsedContentType,
@@ -100,14 +101,11 @@ pub fn file_name<'n>(
         ≡ name_in (option_map disposition shown.now) (content_type ctype.now) }
 {
     if let Some(shown) = shown {
-        if let Some(name) = shown.params.get("filename") {
-            return Some(name.as_str());
+        if let Some(name) = filled_parameter(&shown.params, "filename") {
+            return Some(name);
         }
     }
-    match ctype.params.get("name") {
-        Some(name) => Some(name.as_str()),
-        None => None,
-    }
+    filled_parameter(&ctype.params, "name")
 }
 
 /// Whether a disposition is `attachment`.

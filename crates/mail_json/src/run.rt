@@ -93,8 +93,8 @@ fn run_input<W: Write>(
 }
 
 /// Writes the mails of an input, whose texts may also be in the charsets of some tables. Returns
-/// whether it wrote no error: no mail was refused, and nothing but whitespace stands before the first
-/// mail of a mailbox.
+/// whether it wrote no error: no mail was refused, and nothing but whitespace stands before the
+/// first mail of a mailbox.
 pub fn write_input<W: Write>(
     alloc: Global,
     input: &[u8],

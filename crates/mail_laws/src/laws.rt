@@ -58,9 +58,9 @@ pub fn block_covers()
         header_spans raw ++ blank_span raw ≡ take block.index raw }
 {}
 
-/// The key and the value of each header of a block have the bytes of their ranges. In each header the
-/// range of the key comes first, then that of the value, and then the next header; all stand before
-/// the index of the block.
+/// The key and the value of each header of a block have the bytes of their ranges. In each header
+/// the range of the key comes first, then that of the value, and then the next header; all stand
+/// before the index of the block.
 pub fn keys_and_values_stand_apart()
     ensures bytes { (raw : List ℕ) (block : HeaderList) → read_headers raw ≡ Ok block →
         block.headers ≡ values_below (header_count raw) (header_at raw) }
@@ -70,8 +70,8 @@ pub fn keys_and_values_stand_apart()
         j < header_count raw → (value_range raw j).end ≤ block.index }
 {}
 
-/// Exactly one list of tokens fits a line of a value, the one that is computed, whatever charsets are
-/// known.
+/// Exactly one list of tokens fits a line of a value, the one that is computed, whatever charsets
+/// are known.
 pub fn one_list_of_tokens_fits()
     ensures fits { (known : Charsets) (line : List ℕ)
         → AreTokens known line (token_ranges known line) }
@@ -79,8 +79,8 @@ pub fn one_list_of_tokens_fits()
         → AreTokens known line tokens → tokens ≡ token_ranges known line }
 {}
 
-/// The tokens of a line stand one after another from its start to its end, so that their bytes make up
-/// the line.
+/// The tokens of a line stand one after another from its start to its end, so that their bytes make
+/// up the line.
 pub fn tokens_make_up_line()
     ensures adjoin { (known : Charsets) (line : List ℕ)
         → Adjoin 0 (token_ranges known line) (length line) }
@@ -102,8 +102,8 @@ pub fn adjacent_words_join()
 {}
 
 /// The body and the parts of a message stand at ranges of its bytes that lie apart, in order, after
-/// its header block: before each part stand three bytes or more that are in none of them, those of a
-/// delimiter and its line end.
+/// its header block: before each part stand three bytes or more that are in none of them, those of
+/// a delimiter and its line end.
 pub fn parts_apart()
     ensures { (ctype : ContentType) (bytes : List ℕ) (block : HeaderList) →
         read_headers bytes ≡ Ok block →
@@ -112,18 +112,20 @@ pub fn parts_apart()
         × Apart 3 cut.body.end cut.parts (length bytes) }
 {}
 
-/// `least` gives the least number that passes a test, or the bound, and no other number is the least.
-/// It is at most the bound, it passes where it is below the bound, and no number below it passes.
+/// `least` gives the least number that passes a test, or the bound, and no other number is the
+/// least. It is at most the bound, it passes where it is below the bound, and no number below it
+/// passes.
 pub fn least_is_least()
     ensures least { (test : ℕ → Bool) (bound : ℕ) → IsLeast test bound (least test bound) }
     ensures only { (test : ℕ → Bool) (bound n : ℕ) → IsLeast test bound n → n ≡ least test bound }
 {}
 
 /// Exactly one list of delimiters fits a body in words of places, and exactly one preamble with one
-/// list of parts: those that are computed. Each delimiter begins a line of the body, after the line of
-/// the one before, and none stands between them; the list ends at the close-delimiter, which the first
-/// is never taken for, or where none follows. Each part stands on the lines between a delimiter and
-/// the next, without the line end before the next, or, where none follows, on all lines that are left.
+/// list of parts: those that are computed. Each delimiter begins a line of the body, after the line
+/// of the one before, and none stands between them; the list ends at the close-delimiter, which the
+/// first is never taken for, or where none follows. Each part stands on the lines between a
+/// delimiter and the next, without the line end before the next, or, where none follows, on all
+/// lines that are left.
 pub fn one_list_of_delimiters_fits()
     ensures fits { (dash_boundary bytes : List ℕ) (body : ℕ) → IsCutAt dash_boundary bytes body
         (delimiters dash_boundary bytes body) (cut_parts dash_boundary bytes body) }
@@ -133,19 +135,19 @@ pub fn one_list_of_delimiters_fits()
         IsCutAt dash_boundary bytes body places cut → cut ≡ cut_parts dash_boundary bytes body }
 {}
 
-/// What stands at the tree of ranges of a mail is the tree that is read, whatever charsets are known
-/// and under every limit on levels. Each message has the range of the mail where it stands, and those
-/// of its header block, of its keys and values and of its body; and the ranges are refused just as the
-/// mail is.
+/// What stands at the tree of ranges of a mail is the tree that is read, whatever charsets are
+/// known and under every limit on levels. Each message has the range of the mail where it stands,
+/// and those of its header block, of its keys and values and of its body; and the ranges are
+/// refused just as the mail is.
 pub fn ranges_give_tree()
     ensures { (known : Charsets) (mail : List ℕ) (greatest : ℕ) →
         read_there mail (ranges_in known mail greatest) ≡ read_mail_in known greatest mail }
 {}
 
 /// The header blocks and the bodies of a message and of all its parts stand apart in the mail, one
-/// after another, so that no byte serves two of them. In each message the keys and the values stand in
-/// order within its block, the body follows the block, and the parts follow the body in order, within
-/// the message, three bytes or more before each.
+/// after another, so that no byte serves two of them. In each message the keys and the values stand
+/// in order within its block, the body follows the block, and the parts follow the body in order,
+/// within the message, three bytes or more before each.
 pub fn ranges_apart()
     ensures nested { (known : Charsets) (mail : List ℕ) (greatest : ℕ) (ranges : RangeTree) →
         ranges_in known mail greatest ≡ Ok ranges →
@@ -169,9 +171,9 @@ pub fn nodes_bounded()
         read_mail_in known greatest bytes ≡ Ok mail → IsBounded mail (length bytes) }
 {}
 
-/// A message that is read under one limit on levels is read as the same tree under every greater one,
-/// whatever charsets are known. Under the lower limit it is read or refused just as under the greater
-/// one, unless the lower limit itself refuses it.
+/// A message that is read under one limit on levels is read as the same tree under every greater
+/// one, whatever charsets are known. Under the lower limit it is read or refused just as under the
+/// greater one, unless the lower limit itself refuses it.
 pub fn levels_agree()
     ensures read { (known : Charsets) (lower greater : ℕ) (bytes : List ℕ) (mail : Tree) →
         lower ≤ greater → read_mail_in known lower bytes ≡ Ok mail →
@@ -186,8 +188,8 @@ pub fn plain_value_reads_as_itself()
     ensures { (value : List ℕ) → IsPlain value → lenient_value value ≡ value }
 {}
 
-/// Where the bytes of a value are UTF-8, the strict reading succeeds and agrees with the lenient one;
-/// and where the strict reading succeeds, it agrees with the lenient one.
+/// Where the bytes of a value are UTF-8, the strict reading succeeds and agrees with the lenient
+/// one; and where the strict reading succeeds, it agrees with the lenient one.
 pub fn utf8_value_agrees()
     ensures agrees { (bytes : List ℕ) → IsUtf8 bytes →
         strict_value bytes ≡ Ok (lenient_value bytes) }
@@ -195,8 +197,8 @@ pub fn utf8_value_agrees()
         lenient_value bytes ≡ value }
 {}
 
-/// Exactly one list of words fits the characters of a text, the one that is computed: each word is not
-/// empty, has at most 45 bytes, and would have more with the next character.
+/// Exactly one list of words fits the characters of a text, the one that is computed: each word is
+/// not empty, has at most 45 bytes, and would have more with the next character.
 pub fn one_list_of_words_fits()
     ensures fits { (characters : List ℕ) → AreWords characters (words_of characters) }
     ensures only { (characters : List ℕ) (words : List (List ℕ)) → AreWords characters words →
@@ -217,9 +219,9 @@ pub fn one_list_of_segments_fits()
         found ≡ segments text }
 {}
 
-/// Of the characters between quotes exactly those go that are a backslash at an odd place of its run,
-/// with no backslash or an even number of them directly before it; all others stay, in order. So of a
-/// run of n backslashes n / 2 stay, rounded down.
+/// Of the characters between quotes exactly those go that are a backslash at an odd place of its
+/// run, with no backslash or an even number of them directly before it; all others stay, in order.
+/// So of a run of n backslashes n / 2 stay, rounded down.
 pub fn odd_backslashes_go()
     ensures places { (text : List ℕ) → without_escapes 0 text ≡ staying text }
     ensures runs { (n : ℕ) (rest : List ℕ) → begins (λ b. b == backslash) rest ≡ false →
@@ -232,30 +234,30 @@ pub fn dispositions_equal_by_kind()
     ensures { (a b : DispositionType) → Decides (ghosts.eq a b) (kind a ≡ kind b) }
 {}
 
-/// Where no key holds a star, the parameters are the pairs, of equal keys the last, whatever charsets
-/// are known.
+/// Where no key holds a star, the parameters are the pairs, of equal keys the last, whatever
+/// charsets are known.
 pub fn pairs_without_stars_are_parameters()
     ensures { (known : Charsets) (pairs : List (List ℕ × List ℕ)) → AreStarFree pairs →
         (name : List ℕ) → parameters_in known pairs name ≡ last_of pairs name }
 {}
 
-/// The text that the sections of a value make is what one walk over them makes, which keeps the bytes
-/// of extended sections until a text or the end follows, and reads them then, in the charset of the
-/// last of them.
+/// The text that the sections of a value make is what one walk over them makes, which keeps the
+/// bytes of extended sections until a text or the end follows, and reads them then, in the charset
+/// of the last of them.
 pub fn runs_are_read_once()
     ensures { (sections : List Section) → joined sections ≡ walked_after None [] sections }
 {}
 
 /// The candidates for the charset source of a name are exactly the names of their form: they end in
-/// `*0` and without the last `0` begin the name, with a star after them they are keys, and without it
-/// they are none.
+/// `*0` and without the last `0` begin the name, with a star after them they are keys, and without
+/// it they are none.
 pub fn candidates_have_a_form()
     ensures { (keys : Texts) (name z : List ℕ) →
         Contains (candidates keys name) z ↔ IsCandidate keys name z }
 {}
 
-/// The charset source of a name is the greatest of its candidates: no other has a key that is later in
-/// byte order. A name without a candidate is its own charset source.
+/// The charset source of a name is the greatest of its candidates: no other has a key that is later
+/// in byte order. A name without a candidate is its own charset source.
 pub fn charset_source_is_the_greatest()
     ensures greatest { (keys : Texts) (name z : List ℕ) → IsCandidate keys name z →
         IsCandidate keys name (charset_source keys name)
@@ -264,16 +266,16 @@ pub fn charset_source_is_the_greatest()
         charset_source keys name ≡ name }
 {}
 
-/// Whatever charsets are known, something stands only at the names that are looked at for bases: the
-/// keys, and the keys without their last byte.
+/// Whatever charsets are known, something stands only at the names that are looked at for bases:
+/// the keys, and the keys without their last byte.
 pub fn nothing_stands_elsewhere()
     ensures { (known : Charsets) (pairs : List (List ℕ × List ℕ)) (name : List ℕ) →
         IsSome (section_at known (last_of pairs) name) →
         Contains (names_of (map (λ pair. pair.0) pairs)) name }
 {}
 
-/// A text of exactly `multipart/mixed; boundary=B`, where B is letters and digits, has one pair, the
-/// boundary B, and names that type with that one parameter, whatever charsets are known.
+/// A text of exactly `multipart/mixed; boundary=B`, where B is letters and digits, has one pair,
+/// the boundary B, and names that type with that one parameter, whatever charsets are known.
 pub fn plain_boundary_is_read()
     ensures pairs { (boundary : List ℕ) → IsAlphanumeric boundary →
         pairs_of (boundary_type boundary) ≡ (codes "boundary", boundary) ∷ [] }
@@ -308,8 +310,8 @@ pub fn days_follow_each_other()
 {}
 
 /// The texts that are read as message ids are exactly those of the form: whitespace, and then any
-/// number of times `<`, an id without `>`, `>` and whitespace. Any other text is refused for the first
-/// place that breaks the form.
+/// number of times `<`, an id without `>`, `>` and whitespace. Any other text is refused for the
+/// first place that breaks the form.
 pub fn message_ids_have_a_form()
     ensures read { (text : List ℕ) (ids : List (List ℕ)) →
         AreIds text ids ↔ (message_ids text ≡ Ok ids) }
@@ -330,12 +332,12 @@ pub fn percent_free()
     ensures { (text : List ℕ) → list_any is_percent text ≡ false → percent_decode text ≡ text }
 {}
 
-/// What is written of an outline that is well formed, but for its depth, is read as the message that it
-/// stands for under every limit on levels that is no less than its depth, and is refused for the limit
-/// under every lower one; so a well-formed outline is read back. Its headers show the keys and the texts
-/// of the outline. Where no value is written as encoded words, all this holds whatever charsets are
-/// known; otherwise of charsets that know UTF-8 by its label, which those with the tables of a caller
-/// do. Two such outlines that are written as the same bytes are one.
+/// What is written of an outline that is well formed, but for its depth, is read as the message
+/// that it stands for under every limit on levels that is no less than its depth, and is refused
+/// for the limit under every lower one; so a well-formed outline is read back. Its headers show the
+/// keys and the texts of the outline. Where no value is written as encoded words, all this holds
+/// whatever charsets are known; otherwise of charsets that know UTF-8 by its label, which those
+/// with the tables of a caller do. Two such outlines that are written as the same bytes are one.
 pub fn outline_reads_back()
     ensures read { (known : Charsets) (greatest : ℕ) (outline : OutlineTree) → Show known outline →
         is_well_formed_within outline ≡ true → depth outline ≤ greatest →

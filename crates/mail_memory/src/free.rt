@@ -5,6 +5,7 @@ use crate::found::is_cow;
 use crate::tables::TABLES;
 use mail_codec::bytescan::{find, find_byte, find_pair};
 use mail_codec::charset::{Charset, decode_ascii, decode_latin1, table_for_label};
+use mail_data::files::filled_parameter;
 use mail_data::lenient::date_of;
 use mailparse::body::Body;
 use mailparse::{
@@ -34,6 +35,7 @@ pub fn are_right(
         && is_true(decode_ascii_bytes(alloc))
         && are_places()
         && data::is_one_mail()
+        && filled_parameter(&ctype.params, "name").is_none()
 }
 
 /// Whether there is a result, and it is right.

@@ -81,7 +81,7 @@ pub fn read_bodies(alloc: Global) -> Result<bool, MailParseError> {
     )
 }
 
-/// Whether a body in this transfer coding is U+0400 and `a`.
+/// Whether a body in this transfer encoding is U+0400 and `a`.
 fn is_body(
     alloc: Global,
     raw: &[u8],

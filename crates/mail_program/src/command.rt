@@ -7,7 +7,8 @@ use std::io;
 ///
 /// # Errors
 ///
-/// An argument is no UTF-8 (`ErrorKind::InvalidData`), or memory ran out (`ErrorKind::OutOfMemory`).
+/// An argument is no UTF-8 (`ErrorKind::InvalidData`), or memory ran out
+/// (`ErrorKind::OutOfMemory`).
 pub fn arguments(rt: &(impl Env + AllocGlobal)) -> io::Result<Vec<String>> {
     let mut words = Vec::new(rt.alloc());
     for word in env::args(rt)?.skip(1) {

@@ -1,4 +1,4 @@
-//! Bodies by their transfer coding and their charset.
+//! Bodies by their transfer encoding and their charset.
 use crate::texts::{Bytes, Case, assert_same, assert_same_for, cases, repeated, shown_error};
 use mailparse::body::Body;
 use mailparse::{MailParseError, ParsedContentType};
@@ -12,7 +12,7 @@ fn type_with(alloc: Global, charset: &str) -> Result<ParsedContentType, MailPars
     Ok(ctype)
 }
 
-/// The name of a transfer coding, or none for the empty text.
+/// The name of a transfer encoding, or none for the empty text.
 fn coding(alloc: Global, name: &str) -> Result<Option<String>, AllocError> {
     if name.is_empty() {
         return Ok(None);
@@ -71,7 +71,7 @@ fn charset_label<'a>(body: &Body<'a>) -> &'a str {
     }
 }
 
-/// The name of a transfer coding (none where it is empty), and the kind of the body.
+/// The name of a transfer encoding (none where it is empty), and the kind of the body.
 static KINDS: [Case<&str, &str>; 15] = cases! {
     "base64" => "base64",
     "quoted-printable" => "quoted-printable",
@@ -106,7 +106,7 @@ fn a_body_has_the_kind_that_is_named_to_the_byte(rt: HostRuntime) -> Result<(), 
     Ok(())
 }
 
-/// The name of a transfer coding, a body, and the bytes that it stands for.
+/// The name of a transfer encoding, a body, and the bytes that it stands for.
 struct DecodedBytes {
     coding: &'static str,
     raw: &'static [u8],
@@ -206,7 +206,7 @@ static DECODED_BYTES: [DecodedBytes; 18] = [
     },
 ];
 
-/// The bytes that a body stands for under the name of a transfer coding.
+/// The bytes that a body stands for under the name of a transfer encoding.
 fn bytes_under(alloc: Global, name: &str, raw: &[u8]) -> Result<Vec<u8>, MailParseError> {
     let ctype = ParsedContentType::default(alloc)?;
     let encoding = coding(alloc, name)?;
@@ -259,7 +259,7 @@ fn base64_is_refused_at_its_first_invalid_group(rt: HostRuntime) -> Result<(), F
     Ok(())
 }
 
-/// The name of a transfer coding, the label of a charset, a body, and its text.
+/// The name of a transfer encoding, the label of a charset, a body, and its text.
 struct DecodedText {
     coding: &'static str,
     label: &'static str,
@@ -426,7 +426,7 @@ static DECODED_TEXTS: [DecodedText; 26] = [
     },
 ];
 
-/// The text of a body under the name of a transfer coding and the label of a charset.
+/// The text of a body under the name of a transfer encoding and the label of a charset.
 fn text_under(
     alloc: Global,
     name: &str,

@@ -1,8 +1,8 @@
 //! The Debug texts of headers and of messages.
 //!
 //! The expected texts were printed by a Rust program (rustc 1.95) that shows a key and a value as
-//! `format!("{:?}", String::from_utf8_lossy(bytes))` in a `debug_struct` of these names, and a message
-//! by a derived `Debug`.
+//! `format!("{:?}", String::from_utf8_lossy(bytes))` in a `debug_struct` of these names, and a
+//! message by a derived `Debug`.
 use crate::texts::{
     Case, TextCase, all_key_bytes, assert_same, assert_texts, cases, text_or_error,
 };

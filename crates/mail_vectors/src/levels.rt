@@ -74,8 +74,8 @@ fn messages_under_limits(rt: HostRuntime) -> Result<(), Fail> {
     Ok(())
 }
 
-/// Asserts that messages so many times inside messages are read under as many levels, parts of parts
-/// and all, and are refused under one fewer.
+/// Asserts that messages so many times inside messages are read under as many levels, parts of
+/// parts and all, and are refused under one fewer.
 fn assert_nested(rt: &impl Abort, alloc: Global, times: u8) -> Result<(), MailParseError> {
     let raw = nested(alloc, usize::from(times))?;
     let mail = under(alloc, raw.as_slice(), times)?;

@@ -1,8 +1,8 @@
 //! Extended values (`NAME*=`) and values in numbered sections (`NAME*0=`, `NAME*1=`), of RFC 2231.
 //!
-//! Which starred key is the charset source of a name, and how sections are joined, is this project's
-//! own choice: the expected values follow its rules in docs/RULES.md, and nothing is claimed of the
-//! Rust crate there.
+//! Which starred key is the charset source of a name, and how sections are joined, is this
+//! project's own choice: the expected values follow its rules in docs/RULES.md, and nothing is
+//! claimed of the Rust crate there.
 use crate::texts::{Case, assert_same_for, cases};
 use mailparse::{MailParseError, parse_content_type};
 use std::alloc::Global;

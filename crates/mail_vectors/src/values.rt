@@ -1,7 +1,7 @@
 //! What values read as: unfolding, encoded words among other text, and bytes that are UTF-8 or not.
 //!
-//! Where nothing else is said, the expected values are those of the Rust crate, built with the rules
-//! of this one where docs/DIFFERENCES.md says that the two differ.
+//! Where nothing else is said, the expected values are those of the Rust crate, built with the
+//! rules of this one where docs/DIFFERENCES.md says that the two differ.
 use crate::texts::{
     Bytes, Case, TextCase, assert_holds, assert_same_for, assert_texts, cases, joined, repeated,
     text_or_error,

@@ -1,4 +1,4 @@
--- The body of a message: the transfer coding that it is in (RFC 2045, section 6), its bytes and its text.
+-- The body of a message: the transfer encoding that it is in (RFC 2045, section 6), its bytes and its text.
 use Rattle.std.specs.Prelude.{ℕ, List, codes, Option, Some, None, Result, Ok, Err, if◌then◌else◌}
 use Rattle.std.specs.Option.{option_map_or}
 use Rattle.std.specs.Str.{bytes_eq}
@@ -8,7 +8,7 @@ use Rattle.mail_codec.specs.Base64.{base64}
 use Rattle.mail_codec.specs.QuotedPrintable.{quoted_printable}
 use Rattle.mailparse.specs.Refusal.{◌>>=◌, Reads, base64_fault}
 
--- the transfer codings of a body
+-- the transfer encodings of a body
 pub data BodyKind : Type 0 where
   in_base64 in_quoted_printable in_7bit in_8bit in_binary : BodyKind
 

@@ -28,12 +28,12 @@ content c = record { raw = c.raw.now; ctype = content_type c.ctype.now }
 abbrev pub content_of : Node → Content
 content_of node = record { raw = node.body; ctype = node.ctype }
 
--- the transfer coding of the library's value for it
+-- the transfer encoding of the library's value for it
 abbrev pub encoding_kind : Encoding → BodyKind
 encoding_kind encoding.Base64 = in_base64
 encoding_kind encoding.QuotedPrintable = in_quoted_printable
 
--- the transfer coding that an encoded body is in
+-- the transfer encoding that an encoded body is in
 abbrev pub encoded_kind : EncodedBody → BodyKind
 encoded_kind b = encoding_kind b.encoding
 
@@ -49,7 +49,7 @@ text_content b = content b.content
 abbrev pub binary_content : BinaryBody → Content
 binary_content b = content b.content
 
--- the text that names a transfer coding, if there is one
+-- the text that names a transfer encoding, if there is one
 abbrev pub name_of : Option (String Global) → Option (List ℕ)
 name_of None = None
 name_of (Some name) = Some (string_bytes name)

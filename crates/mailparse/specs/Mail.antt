@@ -33,7 +33,7 @@ pub record Node : Type 0 where
 abbrev pub block_of : Node → HeaderBlock
 block_of node = record { bytes = node.block; headers = node.headers }
 
--- the transfer coding of a message's body: what its first `Content-Transfer-Encoding` names, in lower case
+-- the transfer encoding of a message's body: what its first `Content-Transfer-Encoding` names, in lower case
 abbrev pub body_kind : Node → BodyKind
 body_kind node = kind_named (option_map str_to_ascii_lowercase (first_value (codes "Content-Transfer-Encoding") node.headers))
 

@@ -1,4 +1,4 @@
-//! The body of a message: its transfer coding, its bytes and its text.
+//! The body of a message: its transfer encoding, its bytes and its text.
 ghost use Rattle.mailparse.specs.Body.{kind_named};
 ghost use Rattle.mailparse.specs.BodyViews.{IsBody, name_of};
 ghost use Rattle.mailparse.specs.Views.{content_type};
@@ -15,7 +15,7 @@ pub use encoded::EncodedBody;
 use encoded::Encoding;
 pub use text::TextBody;
 
-/// A body by its transfer coding (RFC 2045, section 6).
+/// A body by its transfer encoding (RFC 2045, section 6).
 #[derive(Drop)]
 pub enum Body<'a> {
     /// A body in Base64.
@@ -31,12 +31,12 @@ pub enum Body<'a> {
 }
 
 impl<'a> Body<'a> {
-    /// Returns the body of these bytes and this content type, in the transfer coding that the text
-    /// names.
+    /// Returns the body of these bytes and this content type, in the transfer encoding that the
+    /// text names.
     ///
     /// The names are exactly `base64`, `quoted-printable`, `7bit`, `8bit` and `binary`, in lower
-    /// case; any other text, and none, means `7bit`. Takes no memory. `ParsedMail::get_body_encoded`
-    /// makes the body of a message.
+    /// case; any other text, and none, means `7bit`. Takes no memory.
+    /// `ParsedMail::get_body_encoded` makes the body of a message.
     ///
     /// # Examples
     ///

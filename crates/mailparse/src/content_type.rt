@@ -28,8 +28,8 @@ pub struct ParsedContentType {
 }
 
 impl ParsedContentType {
-    /// Returns the type of a message that names none: `text/plain` in `us-ascii`, without parameters
-    /// (RFC 2045, section 5.2).
+    /// Returns the type of a message that names none: `text/plain` in `us-ascii`, without
+    /// parameters (RFC 2045, section 5.2).
     ///
     /// Takes memory for the two texts.
     ///
@@ -58,8 +58,8 @@ impl ParsedContentType {
     }
 }
 
-/// Reads the value of a `Content-Type` header, as `get_value` returns it (RFC 2045, section 5.1; RFC
-/// 2231, sections 3 and 4).
+/// Reads the value of a `Content-Type` header, as `get_value` returns it (RFC 2045, section 5.1;
+/// RFC 2231, sections 3 and 4).
 ///
 /// The type is what stands before the first semicolon outside quotes, without whitespace around it
 /// and in ASCII lower case; it need not be one that anybody knows. The charset is the parameter of
@@ -90,8 +90,8 @@ pub fn parse_content_type(alloc: Global, text: &str) -> Result<ParsedContentType
 /// Reads the value of a `Content-Type` header as `parse_content_type` does, where extended
 /// parameters may also be in the charsets of some tables (RFC 2231, section 4).
 ///
-/// A label that one of the four charsets has is not looked for in the tables; of the tables the
-/// first that has it is read. Takes memory for the texts and the parameters.
+/// The four built-in charsets take precedence over the tables; among the tables, the first
+/// that has the label is used. Takes memory for the texts and the parameters.
 ///
 /// # Errors
 ///

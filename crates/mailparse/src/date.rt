@@ -13,8 +13,8 @@ use calendar::day_number;
 use fields::{month_number, next_number, year_number, zone_seconds};
 use words::next_word;
 
-/// Returns the seconds from 1 January 1970, 0 h UTC, to a date as mail writes it (RFC 5322, sections
-/// 3.3 and 4.3).
+/// Returns the seconds from 1 January 1970, 0 h UTC, to a date as mail writes it (RFC 5322,
+/// sections 3.3 and 4.3).
 ///
 /// The words between spaces and colons are a day, a month, a year, an hour, a minute, a second and
 /// a zone, in this order. What stands before the first number below 256 is passed over, and so is

@@ -110,8 +110,8 @@ impl ParsedContentDisposition {
 ///
 /// The kind is what stands before the first semicolon outside quotes, without whitespace around it
 /// and in ASCII lower case: `inline`, `attachment` and `form-data` have names of their own, any
-/// other text is an `Extension`, and no text at all means `Inline`. Every text is read. Takes memory
-/// for the text and the parameters.
+/// other text is an `Extension`, and no text at all means `Inline`. Every text is read. Takes
+/// memory for the text and the parameters.
 ///
 /// # Errors
 ///
@@ -139,8 +139,8 @@ pub fn parse_content_disposition(
 /// Reads the value of a `Content-Disposition` header as `parse_content_disposition` does, where
 /// extended parameters may also be in the charsets of some tables (RFC 2231, section 4).
 ///
-/// A label that one of the four charsets has is not looked for in the tables; of the tables the
-/// first that has it is read. Takes memory for the text and the parameters.
+/// The four built-in charsets take precedence over the tables; among the tables, the first
+/// that has the label is used. Takes memory for the text and the parameters.
 ///
 /// # Errors
 ///

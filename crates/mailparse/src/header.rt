@@ -86,8 +86,8 @@ impl<'a> MailHeader<'a> {
         Ok(decode_latin1(alloc, self.get_key_raw())?)
     }
 
-    /// Returns the text of the value: its lines are joined, a space for each line end that shows, and
-    /// its encoded words decoded (RFC 5322, section 2.2.3; RFC 2047, sections 2, 4 and 6.2).
+    /// Returns the text of the value: its lines are joined, a space for each line end that shows,
+    /// and its encoded words decoded (RFC 5322, section 2.2.3; RFC 2047, sections 2, 4 and 6.2).
     ///
     /// Bytes that are not UTF-8 are read as Latin-1, one character for each byte; `get_value_utf8`
     /// refuses them. Takes memory for the text.
@@ -118,11 +118,11 @@ impl<'a> MailHeader<'a> {
     /// Returns the text of the value as `get_value` does, where encoded words may also be in the
     /// charsets of some tables (RFC 2047, section 2).
     ///
-    /// A label that one of the four charsets has is not looked for in the tables; of the tables the
-    /// first that has it is read. Takes memory for the text.
+    /// The four built-in charsets take precedence over the tables; among the tables, the first
+    /// that has the label is used. Takes memory for the text.
     ///
-    /// Control characters stay in the text, as `get_value` says: escape them before it is shown on a
-    /// terminal or written to a log.
+    /// Control characters stay in the text, as `get_value` says: escape them before it is shown on
+    /// a terminal or written to a log.
     ///
     /// # Errors
     ///
@@ -229,8 +229,8 @@ impl<'a> MailHeader<'a> {
         self.key
     }
 
-    /// Returns the bytes of the value, as they stand in the message: without the spaces at its front
-    /// and the line end after it, with the line ends inside it.
+    /// Returns the bytes of the value, as they stand in the message: without the spaces at its
+    /// front and the line end after it, with the line ends inside it.
     ///
     /// Takes no memory.
     ///

@@ -2,7 +2,7 @@
 //! parts inside parts, bodies, dates and message ids.
 //!
 //! `parse_mail` reads a whole message. What it returns borrows the bytes of the message; values and
-//! bodies are decoded where they are asked for. `parse_header`, `parse_headers`,
+//! bodies are decoded on demand. `parse_header`, `parse_headers`,
 //! `parse_content_type`, `parse_content_disposition`, `dateparse` and `msgidparse` each read a part
 //! of a message by itself.
 //!

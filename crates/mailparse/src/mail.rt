@@ -85,7 +85,7 @@ impl<'a> ParsedMail<'a> {
         Headers::new(self.header_bytes, self.headers.as_slice())
     }
 
-    /// Returns the body in its transfer coding, which the first `Content-Transfer-Encoding` names
+    /// Returns the body in its transfer encoding, which the first `Content-Transfer-Encoding` names
     /// (RFC 2045, section 6).
     ///
     /// The name counts in any case; any other text, and none, means `7bit`. Nothing is decoded yet.
@@ -122,12 +122,12 @@ impl<'a> ParsedMail<'a> {
         Ok(Body::new(self.body_bytes, &self.ctype, &encoding))
     }
 
-    /// Returns the text that the body stands for: its transfer coding is undone, and the bytes are
-    /// read under the charset of the type that `ctype` holds now.
+    /// Returns the text that the body stands for: its transfer encoding is undone, and the bytes
+    /// are read under the charset of the type that `ctype` holds now.
     ///
     /// A byte order mark overrules that charset, and under an unknown label each byte that is not
     /// ASCII is U+FFFD. Takes memory for the bytes and for the text. Of a message with parts it is
-    /// the text before the first part.
+    /// the preamble.
     ///
     /// Control characters stay in the text, ESC and NUL among them. On a terminal they may move the
     /// cursor or change what it shows, and in a log line ends forge lines: escape them first.
@@ -155,8 +155,8 @@ impl<'a> ParsedMail<'a> {
     /// Returns the text that the body stands for as `get_body` does, where its charset may also be
     /// that of a table.
     ///
-    /// A label that one of the four charsets has is not looked for in the tables; of the tables the
-    /// first that has it is read. Takes memory for the bytes and for the text.
+    /// The four built-in charsets take precedence over the tables; among the tables, the first
+    /// that has the label is used. Takes memory for the bytes and for the text.
     ///
     /// Control characters stay in the text, as `get_body` says: escape them before it is shown on a
     /// terminal or written to a log.
@@ -195,10 +195,10 @@ impl<'a> ParsedMail<'a> {
         }
     }
 
-    /// Returns the bytes that the body stands for: its transfer coding is undone, and no charset is
-    /// looked at.
+    /// Returns the bytes that the body stands for: its transfer encoding is undone, and no charset
+    /// is looked at.
     ///
-    /// Takes memory for the bytes. Of a message with parts they are the bytes before the first part.
+    /// Takes memory for the bytes. Of a message with parts they are the preamble.
     ///
     /// # Errors
     ///
@@ -256,11 +256,11 @@ impl<'a> ParsedMail<'a> {
         self.get_content_disposition_with(alloc, &[])
     }
 
-    /// Returns how the message is to be shown as `get_content_disposition` does, where encoded words
-    /// and extended parameters may also be in the charsets of some tables.
+    /// Returns how the message is to be shown as `get_content_disposition` does, where encoded
+    /// words and extended parameters may also be in the charsets of some tables.
     ///
-    /// A label that one of the four charsets has is not looked for in the tables; of the tables the
-    /// first that has it is read. Takes memory for the text and the parameters.
+    /// The four built-in charsets take precedence over the tables; among the tables, the first
+    /// that has the label is used. Takes memory for the text and the parameters.
     ///
     /// # Errors
     ///
@@ -335,7 +335,7 @@ impl<'a> ParsedMail<'a> {
 /// message, the empty input too, but for the three things under Errors.
 ///
 /// Takes memory for the lists of headers and parts and for the types; bodies and values are decoded
-/// where they are asked for. However the parts are nested, the headers, the bytes of the bodies and
+/// on demand. However the parts are nested, the headers, the bytes of the bodies and
 /// three for each part are together at most the bytes of the message.
 ///
 /// # Errors
@@ -345,7 +345,7 @@ impl<'a> ParsedMail<'a> {
 /// - `MailParseError::Generic` with the text `Header cannot start with a space; it is likely an
 ///   overhanging line from a previous header`;
 /// - `MailParseError::Generic` with the text `Headers were followed by an unexpected lone CR
-///   character!`, for a CR without LF where a header or the blank line is wanted;
+///   character!`, for a CR without LF where a header or the blank line is expected;
 /// - `MailParseError::Generic` with the text `Recursion limit reached`, for a part more than 100
 ///   levels below the message (`parse_mail_limited` takes a lower limit);
 /// - `MailParseError::Memory` where it runs out of memory.
@@ -386,11 +386,11 @@ pub fn parse_mail(alloc: Global, raw: &[u8]) -> Result<ParsedMail<'_>, MailParse
     parse_mail_limited(alloc, raw, MAX_LEVELS)
 }
 
-/// Reads a message as `parse_mail` does, where the encoded words and the extended parameters of each
-/// `Content-Type` may also be in the charsets of some tables.
+/// Reads a message as `parse_mail` does, where the encoded words and the extended parameters of
+/// each `Content-Type` may also be in the charsets of some tables.
 ///
-/// A label that one of the four charsets has is not looked for in the tables; of the tables the
-/// first that has it is read. What is returned does not keep the tables: the calls that end in
+/// The four built-in charsets take precedence over the tables; among the tables, the first
+/// that has the label is used. What is returned does not keep the tables: the calls that end in
 /// `_with` take them again.
 ///
 /// Takes memory as `parse_mail` does.
@@ -441,7 +441,7 @@ pub fn parse_mail_with<'a>(
 /// - `MailParseError::Generic` with the text `Header cannot start with a space; it is likely an
 ///   overhanging line from a previous header`;
 /// - `MailParseError::Generic` with the text `Headers were followed by an unexpected lone CR
-///   character!`, for a CR without LF where a header or the blank line is wanted;
+///   character!`, for a CR without LF where a header or the blank line is expected;
 /// - `MailParseError::Generic` with the text `Recursion limit reached`, for a part more than
 ///   `levels` levels below the message;
 /// - `MailParseError::Memory` where it runs out of memory.

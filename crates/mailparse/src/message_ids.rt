@@ -109,8 +109,8 @@ impl fmt::Display for MessageIdList {
 /// 3.6.4).
 ///
 /// Each id is what stands between a `<` and the first `>` after it. It may be empty, and may hold
-/// whitespace and any other character. Before, between and after ids stands whitespace or nothing; a
-/// text of whitespace alone is the empty list. Takes memory for the list and its ids, and none
+/// whitespace and any other character. Before, between and after ids stands whitespace or nothing;
+/// a text of whitespace alone is the empty list. Takes memory for the list and its ids, and none
 /// before the first whole id.
 ///
 /// # Errors
@@ -145,8 +145,8 @@ pub fn msgidparse(alloc: Global, ids: &str) -> Result<MessageIdList, MailParseEr
     Ok(MessageIdList(found))
 }
 
-/// The id that a text begins with, after whitespace, and the text after its `>`; `None` where no `>` is
-/// left.
+/// The id that a text begins with, after whitespace, and the text after its `>`; `None` where no
+/// `>` is left.
 fn next_id(text: &str) -> Result<Option<(&str, &str)>, MailParseError>
     ensures { MatchResult result (λ found. IsNextIdOrNone text.now found)
         (λ e. IsRefusal e (message_ids text.now)) }

@@ -1,7 +1,7 @@
-//! Replays a list of outlines on standard input, and says how many agree and which do not. Each line
-//! is an outline, step by step, the bytes that it is written as, and how deep it is where it is well
-//! formed; `steps` and `replay` say the form. What a well-formed one is written as is read back
-//! under each limit on levels from 0 to its depth.
+//! Replays a list of outlines on standard input, and says how many agree and which do not. Each
+//! line is an outline, step by step, the bytes that it is written as, and how deep it is where it
+//! is well formed; `steps` and `replay` say the form. What a well-formed one is written as is read
+//! back under each limit on levels from 0 to its depth.
 //!
 //! tools/make_outlines.py made the list in the file `stdin`: it writes and judges each outline by
 //! itself. Two thirds of the list have values of any text.

@@ -1,6 +1,6 @@
-//! A replay of a list: each line is `STEPS BYTES DEPTH`. BYTES are those that the outline is written
-//! as, in hexadecimal; DEPTH is the greatest level at which an outline stands in a well-formed one,
-//! and a dash where it is not well formed.
+//! A replay of a list: each line is `STEPS BYTES DEPTH`. BYTES are those that the outline is
+//! written as, in hexadecimal; DEPTH is the greatest level at which an outline stands in a
+//! well-formed one, and a dash where it is not well formed.
 
 use crate::compare::is_message_of;
 use crate::steps::{FORM, bytes_of, outline_of};

@@ -279,8 +279,8 @@ fn well_formed_parts(rt: HostRuntime) -> Result<(), Fail> {
     Ok(assert_judged(&rt, rt.alloc(), &empty, false)?)
 }
 
-/// A body inside so many outlines, one inside another, with the boundaries `b000`, `b001` and so on,
-/// the outermost first.
+/// A body inside so many outlines, one inside another, with the boundaries `b000`, `b001` and so
+/// on, the outermost first.
 fn nested(alloc: Global, times: u8) -> Result<Outline, AllocError> {
     let mut outline = bare(alloc, b"x")?;
     for turn in 0..times {

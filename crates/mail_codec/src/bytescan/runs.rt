@@ -171,8 +171,8 @@ pub(crate) fn may_end_len(bytes: &[u8], end: RunEnd) -> usize
 }
 
 /// The same where there are as many bytes as a vector has: what is near vector by vector, and what
-/// is far by blocks of four. The last vector is that of the last sixteen bytes, of which some may have
-/// been looked at before.
+/// is far by blocks of four. The last vector is that of the last sixteen bytes, of which some may
+/// have been looked at before.
 #[inline(always)]
 fn vectors_len(bytes: &[u8], end: RunEnd) -> usize
     requires { 16 ≤ length bytes.now }
@@ -195,7 +195,8 @@ fn vectors_len(bytes: &[u8], end: RunEnd) -> usize
     last + first_lane(end.lanes(u8x16::from_slice(&bytes[last..])))
 }
 
-/// The same by blocks of four vectors, as far as none of their bytes may end a run, and then by words.
+/// The same by blocks of four vectors, as far as none of their bytes may end a run, and then by
+/// words.
 #[inline(always)]
 fn blocks_len(bytes: &[u8], end: RunEnd) -> usize
     ensures least { result ≡ first_place (begins (may_end_run end)) bytes.now }

@@ -48,8 +48,8 @@ impl<'t> SingleByteTable<'t> {
         }
     }
 
-    /// Returns the text of the bytes under this table, a byte order mark read as any other bytes are
-    /// (the WHATWG Encoding Standard, section 9.1).
+    /// Returns the text of the bytes under this table, a byte order mark read as any other bytes
+    /// are (the WHATWG Encoding Standard, section 9.1).
     ///
     /// Takes memory for the text.
     ///

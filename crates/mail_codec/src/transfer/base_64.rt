@@ -25,8 +25,8 @@ const WINDOW: usize = 4096;
 /// Returns the bytes that a Base64 text stands for (RFC 4648, section 4).
 ///
 /// CR and LF count as absent wherever they stand, groups with padding may stand anywhere, and bits
-/// that make no whole byte are ignored. Takes memory for the bytes, which is reserved at once, and a
-/// few kilobytes for letters on the way.
+/// that make no whole byte are ignored. Takes memory for the bytes, which is reserved at once, and
+/// a few kilobytes for letters on the way.
 ///
 /// # Errors
 ///
@@ -52,8 +52,8 @@ pub fn decode_base64(alloc: Global, text: &[u8]) -> Result<Result<Vec<u8>, usize
 /// Returns the bytes that a Base64 body stands for (RFC 2045, section 6.8).
 ///
 /// All ASCII whitespace counts as absent: space, tab, LF, FF and CR, but not the vertical tab
-/// (0x0B). Otherwise it reads as `decode_base64` does, and takes memory as that does: no copy of the
-/// body is made.
+/// (0x0B). Otherwise it reads as `decode_base64` does, and takes memory as that does: no copy of
+/// the body is made.
 ///
 /// # Errors
 ///
@@ -75,8 +75,9 @@ pub fn decode_base64_body(alloc: Global, body: &[u8]) -> Result<Result<Vec<u8>, 
     decode_base64_without(alloc, body, RunEnd::Whitespace)
 }
 
-/// The bytes of the groups of a text without what counts as absent: letters are read where they lie,
-/// and from the first other group on a window of the text at a time, but for a group that ends it.
+/// The bytes of the groups of a text without what counts as absent: letters are read where they
+/// lie, and from the first other group on a window of the text at a time, but for a group that ends
+/// it.
 #[inline(always)]
 fn decode_base64_without(
     alloc: Global,

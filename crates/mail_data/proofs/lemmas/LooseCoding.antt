@@ -1,4 +1,4 @@
--- Lemmas on the names of transfer codings.
+-- Lemmas on the names of transfer encodings.
 use Rattle.std.proofs.Common.{◌≡◌, ℕ, true, false, List, Option, Some, None, refl, sym, ap, ◌∙◌, inl, inr}
 use Rattle.std.specs.Prelude.{codes, option_map}
 use Rattle.std.specs.Str.{bytes_eq, str_to_ascii_lowercase}

@@ -7,8 +7,8 @@ use std::alloc::{AllocError, Global};
 /// The most bytes that a safe name has.
 const MOST_BYTES: usize = 255;
 
-/// Returns the name of a file made safe: on a POSIX system it names a file in the folder where it is
-/// used, and no other. Names that Windows reserves, as `NUL` and `C:x`, stay.
+/// Returns the name of a file made safe: on a POSIX system it names a file in the folder where it
+/// is used, and no other. Names that Windows reserves, as `NUL` and `C:x`, stay.
 ///
 /// Each `/`, `\` and control character, NUL among them, is `_` in it. It has at most 255 bytes, cut
 /// between characters. Where that leaves nothing, `.` or `..`, it is `_`. A name that already is so

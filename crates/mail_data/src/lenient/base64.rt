@@ -22,9 +22,10 @@ pub struct Base64Front {
 /// of that group (RFC 4648, section 4; RFC 2045, section 6.8).
 ///
 /// ASCII whitespace is ignored. Two or three letters at the end, or two and one `=`, are read as a
-/// group whose padding is missing; one letter alone is invalid. Where `decode_base64_body` reads the body, the bytes
-/// are the same and there is no invalid group. `Body::get_raw` returns the body of a mail as it
-/// stands. Takes memory for the bytes, and where a group is invalid for a copy of the body.
+/// group whose padding is missing; one letter alone is invalid. Where `decode_base64_body` reads
+/// the body, the bytes are the same and there is no invalid group. `Body::get_raw` returns the body
+/// of a mail as it stands. Takes memory for the bytes, and where a group is invalid for a copy of
+/// the body.
 ///
 /// # Errors
 ///

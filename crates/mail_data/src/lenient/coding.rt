@@ -1,4 +1,4 @@
-//! Transfer codings with more beside their name.
+//! Transfer encodings with more beside their name.
 ghost use Rattle.std.specs.Prelude.{◌≡◌, ◌≢◌, ◌≤◌, codes, length, not, Some, IfErr, IfOk};
 ghost use Rattle.std.specs.Char.{is_ascii_whitespace};
 ghost use Rattle.std.specs.List.{prefix_len};
@@ -15,7 +15,7 @@ use mailparse::body::Body;
 use mailparse::{MailHeaderMap, MailParseError, ParsedMail};
 use std::alloc::{AllocError, Global};
 
-/// Returns the body of a part in its transfer coding, as `ParsedMail::get_body_encoded` does, but
+/// Returns the body of a part in its transfer encoding, as `ParsedMail::get_body_encoded` does, but
 /// the name of the coding ends at ASCII whitespace, `(` or `;` (RFC 2045, section 6.1).
 ///
 /// So `base64 (a comment)` and `base64` with a space after it are Base64, and not `7bit`. Where

@@ -41,21 +41,21 @@ pub enum DateError {
 ///
 /// These are a day of the week and a comma, which may be absent and are not compared with the date;
 /// a day of one digit or two, which the month has to have; the name of a month, its first three
-/// letters or `Sept`, in any case; a year; a time of day, whose seconds may be left out; and a zone.
-/// A year of two digits is from 1950 to 2049, one of three is counted from 1900, and one of four to
-/// nine has to be at least 1900. The second may be 60. A zone is a sign and four digits, the last two
-/// below 60, or a name: `EST`, `EDT`, `CST`, `CDT`, `MST`, `MDT`, `PST` and `PDT` have their offset, and every other
-/// name, a single letter or `PM` among them, is UTC, and so is a date without a zone. ASCII
-/// whitespace and comments may stand between words, numbers and marks and at both ends; a comment may
-/// hold comments.
+/// letters or `Sept`, in any case; a year; a time of day, whose seconds may be left out; and a
+/// zone. A year of two digits is from 1950 to 2049, one of three is counted from 1900, and one of
+/// four to nine has to be at least 1900. The second may be 60. A zone is a sign and four digits,
+/// the last two below 60, or a name: `EST`, `EDT`, `CST`, `CDT`, `MST`, `MDT`, `PST` and `PDT` have
+/// their offset, and every other name, a single letter or `PM` among them, is UTC, and so is a date
+/// without a zone. ASCII whitespace and comments may stand between words, numbers and marks and at
+/// both ends; a comment may hold comments.
 ///
 /// Unlike `mailparse::dateparse`, this reads `20:57 +0200`, without seconds, as it is meant. Takes
 /// no memory.
 ///
 /// # Errors
 ///
-/// What is missing or wrong first, in the order of the variants of `DateError`; but whether the month
-/// has the day, up to 31, is looked at once the year is read.
+/// What is missing or wrong first, in the order of the variants of `DateError`; but whether the
+/// month has the day, up to 31, is looked at once the year is read.
 ///
 /// # Examples
 ///

@@ -11,8 +11,8 @@ use std::alloc::{AllocError, Global};
 /// What else stands in the text is passed over, so a broken list gives the ids that it has. An id
 /// goes from a `<` up to the first `>`, and holds no `<`: where several follow one another, the
 /// last one opens it. Where `msgidparse` reads the text, this list is that one with each id cut to
-/// what follows its last `<`, without those that then have no `@`. Takes memory for the list and the
-/// ids.
+/// what follows its last `<`, without those that then have no `@`. Takes memory for the list and
+/// the ids.
 ///
 /// # Errors
 ///

@@ -19,10 +19,10 @@ const WORD_BYTES: usize = 45;
 /// Returns what a header's value is written as, so that it shows this text (RFC 2047, sections 2,
 /// 4.1 and 5).
 ///
-/// A text of printable ASCII that does not begin with a space and holds no `=?` is written as it is;
-/// so is the empty text. Any other is written as encoded words `=?utf-8?B?..?=`, which are joined by
-/// CR LF and a space. From the left each word takes as many whole characters as fit in 45 bytes.
-/// Takes memory for the result.
+/// A text of printable ASCII that does not begin with a space and holds no `=?` is written as it
+/// is; so is the empty text. Any other is written as encoded words `=?utf-8?B?..?=`, which are
+/// joined by CR LF and a space. From the left each word takes as many whole characters as fit in 45
+/// bytes. Takes memory for the result.
 ///
 /// # Errors
 ///

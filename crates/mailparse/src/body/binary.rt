@@ -91,11 +91,11 @@ impl<'a> BinaryBody<'a> {
         self.get_as_string_with(alloc, &[])
     }
 
-    /// Returns the text of the body as `get_as_string` does, where its charset may also be that of a
-    /// table.
+    /// Returns the text of the body as `get_as_string` does, where its charset may also be that of
+    /// a table.
     ///
-    /// A label that one of the four charsets has is not looked for in the tables; of the tables the
-    /// first that has it is read. Takes memory for the text.
+    /// The four built-in charsets take precedence over the tables; among the tables, the first
+    /// that has the label is used. Takes memory for the text.
     ///
     /// # Errors
     ///

@@ -13,7 +13,7 @@ use mail_codec::charset::SingleByteTable;
 use mail_codec::transfer::{decode_base64_body, decode_quoted_printable};
 use std::alloc::Global;
 
-/// The transfer coding of an encoded body.
+/// The transfer encoding of an encoded body.
 #[derive(Clone, Copy)]
 pub(super) enum Encoding {
     Base64,
@@ -140,8 +140,8 @@ impl<'a> EncodedBody<'a> {
     /// Returns the text that the body stands for as `get_decoded_as_string` does, where its charset
     /// may also be that of a table.
     ///
-    /// A label that one of the four charsets has is not looked for in the tables; of the tables the
-    /// first that has it is read. Takes memory for the bytes and for the text.
+    /// The four built-in charsets take precedence over the tables; among the tables, the first
+    /// that has the label is used. Takes memory for the bytes and for the text.
     ///
     /// # Errors
     ///

@@ -11,8 +11,8 @@ use super::MailHeader;
 use crate::error::MailParseError;
 use mail_codec::bytescan::find_byte;
 
-/// Reads the header at the front of `raw`, and returns it with the number of bytes that it takes, its
-/// line end among them (RFC 5322, sections 2.2 and 2.2.3).
+/// Reads the header at the front of `raw`, and returns it with the number of bytes that it takes,
+/// its line end among them (RFC 5322, sections 2.2 and 2.2.3).
 ///
 /// The key ends at the first colon; a line without one is a key alone. The value goes on over each
 /// line that begins with a space or a tab. Takes no memory.
@@ -20,8 +20,8 @@ use mail_codec::bytescan::find_byte;
 /// # Errors
 ///
 /// `MailParseError::Generic`: with the text `Empty string provided` for the empty input, and with
-/// `Header cannot start with a space; it is likely an overhanging line from a previous header` where
-/// the first byte is a space. Nothing else is refused.
+/// `Header cannot start with a space; it is likely an overhanging line from a previous header`
+/// where the first byte is a space. Nothing else is refused.
 ///
 /// # Examples
 ///

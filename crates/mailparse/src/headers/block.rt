@@ -21,7 +21,7 @@ use std::alloc::Global;
 /// - `MailParseError::Generic` with the text `Header cannot start with a space; it is likely an
 ///   overhanging line from a previous header`;
 /// - `MailParseError::Generic` with the text `Headers were followed by an unexpected lone CR
-///   character!`, for a CR without LF where a header or the blank line is wanted;
+///   character!`, for a CR without LF where a header or the blank line is expected;
 /// - `MailParseError::Memory` where it runs out of memory.
 ///
 /// What is refused before the first header is refused without taking memory.

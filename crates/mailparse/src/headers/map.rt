@@ -38,8 +38,8 @@ pub trait MailHeaderMap {
     fn get_first_header(&self, key: &str) -> Option<&MailHeader<'_>>
         ensures { option_copied result ≡ first_with_key key.now (present self.now) };
 
-    /// Returns the value of the first header with this name, as `MailHeader::get_value` reads it, or
-    /// `None` where there is none.
+    /// Returns the value of the first header with this name, as `MailHeader::get_value` reads it,
+    /// or `None` where there is none.
     ///
     /// Takes memory for the value, and none where there is no such header.
     ///

@@ -11,7 +11,8 @@ ghost use Rattle.mailparse.specs.private.Delimiters.{IsDelimiter};
 use bstr::ByteSlice;
 use mail_codec::bytescan::{find_byte, find_pair};
 
-/// Where the preamble ends that starts at `start`, and where the first part starts, if there is one.
+/// Where the preamble ends that starts at `start`, and where the first part starts, if there is
+/// one.
 pub(super) fn cut_preamble(raw: &[u8], start: usize, delimiter: &[u8]) -> (usize, Option<usize>)
     requires delimiter { IsDelimiter delimiter.now }
     requires within { start ≤ length raw.now }
@@ -60,10 +61,11 @@ fn is_close_delimiter(raw: &[u8], after: usize) -> bool
     raw[after..].starts_with(b"--")
 }
 
-/// The place of the first delimiter at or after `start`, where `start` counts as the start of a line.
+/// The place of the first delimiter at or after `start`, where `start` counts as the start of a
+/// line.
 ///
-/// A dash-boundary that holds a LF is sought with the LF before it, and not line by line: that takes
-/// no more time than the two are long together.
+/// A dash-boundary that holds a LF is sought with the LF before it, and not line by line: that
+/// takes no more time than the two are long together.
 fn find_delimiter(raw: &[u8], start: usize, delimiter: &[u8]) -> Option<usize>
     requires delimiter { IsDelimiter delimiter.now }
     requires within { start ≤ length raw.now }
@@ -88,8 +90,8 @@ fn find_delimiter(raw: &[u8], start: usize, delimiter: &[u8]) -> Option<usize>
 /// The first place at or after `start` where a line begins with `key`, where `start` counts as the
 /// start of a line.
 ///
-/// It goes from one line that begins with the first byte of `key` to the next: all others are passed
-/// over.
+/// It goes from one line that begins with the first byte of `key` to the next: all others are
+/// passed over.
 fn find_from_u8_line_prefix(raw: &[u8], start: usize, key: &[u8]) -> Option<usize>
     requires some { 0 < length key.now }
     requires within { start ≤ length raw.now }
@@ -118,7 +120,8 @@ fn find_from_u8(raw: &[u8], start: usize, byte: u8) -> Option<usize>
     Some(start + place + 1)
 }
 
-/// Whether a line starts at `at` and begins with `key`, where `start` counts as the start of a line.
+/// Whether a line starts at `at` and begins with `key`, where `start` counts as the start of a
+/// line.
 fn is_line_prefix(raw: &[u8], start: usize, at: usize, key: &[u8]) -> bool
     requires low { start ≤ at }
     requires within { at ≤ length raw.now }

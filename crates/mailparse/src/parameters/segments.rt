@@ -77,7 +77,8 @@ fn plain_len(bytes: &[u8]) -> usize
     length_before(&bytes[..end], b'"')
 }
 
-/// The first segment of a text, and what stands after its semicolon, if it has one. Takes no memory.
+/// The first segment of a text, and what stands after its semicolon, if it has one. Takes no
+/// memory.
 pub(super) fn cut_segment(text: &str) -> (&str, Option<&str>)
     ensures cut { segments text.now ≡ result.0.now ∷ segments_of_rest result.1 }
     ensures shorter { IfSome result.1 (λ rest. length rest.now < length text.now) }

@@ -60,7 +60,8 @@ pub(crate) fn put_groups(
 }
 
 /// Writes the bytes of the groups of letters at the front of the next sixteen bytes to a place.
-/// Returns how many letters come before the first byte that is not a letter, or before the end of the text.
+/// Returns how many letters come before the first byte that is not a letter, or before the end of
+/// the text.
 #[inline(always)]
 fn put_block(output: &mut [u8], place: usize, text: &[u8], at: usize) -> usize
     requires room { place + 16 ≤ length output.old }

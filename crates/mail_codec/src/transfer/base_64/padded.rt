@@ -14,9 +14,9 @@ use std::alloc::AllocError;
 use std::simd::prelude::*;
 
 /// Appends the bytes of whole groups and returns true where all of them are groups, some perhaps
-/// padded; otherwise appends nothing and returns false. The engine takes padding in the last group alone,
-/// so the missing letters are filled up, all groups are read at once, and then each is cut. `full`
-/// and `decoded` are lent to be written over, so that all windows share them.
+/// padded; otherwise appends nothing and returns false. The engine takes padding in the last group
+/// alone, so the missing letters are filled up, all groups are read at once, and then each is cut.
+/// `full` and `decoded` are lent to be written over, so that all windows share them.
 pub(crate) fn decode_padded_groups(
     bytes: &mut Vec<u8>,
     letters: &[u8],
@@ -41,8 +41,8 @@ pub(crate) fn decode_padded_groups(
     }
 }
 
-/// Appends the bytes of a text that is one group, perhaps padded, and returns true; otherwise appends
-/// nothing and returns false. The missing letters are filled up, and their bytes cut off.
+/// Appends the bytes of a text that is one group, perhaps padded, and returns true; otherwise
+/// appends nothing and returns false. The missing letters are filled up, and their bytes cut off.
 pub(crate) fn push_one_group(bytes: &mut Vec<u8>, text: &[u8]) -> Result<bool, AllocError>
     ensures read { IfOk result (λ is_read. is_read ≡ true → (absent : RunEnd) (n : ℕ)
         → KeepsLetters absent → KeepsPadding absent
