@@ -25,8 +25,8 @@ abbrev pub ◌>>=◌ : {A B : Type 0} → Dated A → (A → Dated B) → Dated 
 -- Whitespace and comments.
 
 -- a byte that is no whitespace and opens no comment, where no comment is open
-abbrev pub ends_white : ℕ → ℕ → Bool
-ends_white depth b = depth == 0 && not (is_ascii_whitespace b || b == opening_parenthesis)
+abbrev pub ends_whitespace : ℕ → ℕ → Bool
+ends_whitespace depth b = depth == 0 && not (is_ascii_whitespace b || b == opening_parenthesis)
 
 -- how many comments are open after a byte, where so many are open before it; a byte that is quoted opens and closes none
 abbrev pub depth_after : Bool → ℕ → ℕ → ℕ
@@ -37,15 +37,15 @@ depth_after quoted depth b =
 
 -- what follows whitespace and comments, where so many comments are open, and the first byte is quoted or not: a backslash
 -- quotes the byte after it
-abbrev pub after_white : Bool → ℕ → List ℕ → List ℕ
-after_white quoted depth [] = []
-after_white quoted depth (b ∷ rest) =
-    if not quoted && ends_white depth b then b ∷ rest
-    else after_white (not quoted && b == backslash) (depth_after quoted depth b) rest
+abbrev pub after_whitespace : Bool → ℕ → List ℕ → List ℕ
+after_whitespace quoted depth [] = []
+after_whitespace quoted depth (b ∷ rest) =
+    if not quoted && ends_whitespace depth b then b ∷ rest
+    else after_whitespace (not quoted && b == backslash) (depth_after quoted depth b) rest
 
 -- what follows the whitespace and the comments at the front; a comment that is not closed goes to the end
 unfoldable pub after_comments : List ℕ → List ℕ
-after_comments bytes = after_white false 0 bytes
+after_comments bytes = after_whitespace false 0 bytes
 
 -- Runs, marks and numbers, each after whitespace and comments, and what follows them.
 

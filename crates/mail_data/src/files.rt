@@ -125,10 +125,7 @@ fn named_file<'n>(
 /// assert_eq!(rt; filled_parameter(&ctype.params, "format"), Some("flowed"));
 /// assert_eq!(rt; filled_parameter(&ctype.params, "name"), None);
 /// ```
-pub fn filled_parameter<'p>(
-    parameters: &'p BTreeMap<String, String>,
-    name: &str,
-) -> Option<&'p str>
+pub fn filled_parameter<'p>(parameters: &'p BTreeMap<String, String>, name: &str) -> Option<&'p str>
     ensures { option_map (λ text. text.now) result ≡ filled (text_at parameters.now name.now) }
 {
     match parameters.get(name) {

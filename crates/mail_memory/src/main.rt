@@ -10,10 +10,10 @@ mod calls;
 mod codec;
 mod data;
 mod found;
-mod free;
 mod headers;
 mod inputs;
 mod mails;
+mod no_alloc;
 mod outlines;
 mod tables;
 mod texts;
@@ -68,5 +68,5 @@ fn are_free(alloc: Global) -> Result<bool, MailParseError> {
     let mail = parse_mail(alloc, inputs::TWO_CODINGS)?;
     let ctype = ParsedContentType::default(alloc)?;
     let parts = mail.parts(alloc)?;
-    Ok(free::are_right(alloc, &mail, parts, &ctype) && free::is_memory_refused(alloc))
+    Ok(no_alloc::are_right(alloc, &mail, parts, &ctype) && no_alloc::is_memory_refused(alloc))
 }

@@ -17,11 +17,11 @@ mod encoded_words;
 #[cfg(test)]
 mod errors;
 #[cfg(test)]
+mod header_lookups;
+#[cfg(test)]
 mod headers;
 #[cfg(test)]
 mod levels;
-#[cfg(test)]
-mod looking_up;
 #[cfg(test)]
 mod message_ids;
 #[cfg(test)]

@@ -5,12 +5,12 @@ ghost use Rattle.mail_data.specs.LooseDate.{date_of, since_1970};
 mod calendar;
 mod fields;
 mod numbers;
-mod white;
+mod whitespace;
 mod zones;
 
 use fields::{day_at, time_at};
 use thiserror::Error;
-use white::after_comments;
+use whitespace::after_comments;
 use zones::zone_at;
 
 /// What is missing in a date, or wrong in it, as `date_of` returns it.

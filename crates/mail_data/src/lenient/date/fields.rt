@@ -10,7 +10,7 @@ ghost use Rattle.mail_data.specs.LooseDateViews.{part_read};
 use super::DateError;
 use super::calendar::{day_number, month_length};
 use super::numbers::{number_of, small_number};
-use super::white::{after_mark, digits_at, letters_at};
+use super::whitespace::{after_mark, digits_at, letters_at};
 
 /// The names of the months, with the month's number from 0.
 static MONTHS: [(&str, usize); 24] = [

@@ -4,7 +4,7 @@ ghost use Rattle.std.specs.Str.Parse.{AllDigits, digits_value};
 ghost use Rattle.mail_data.specs.LooseDate.{small_number};
 ghost use Rattle.mail_data.specs.LooseDateViews.{part_and_rest};
 
-use super::white::digits_at;
+use super::whitespace::digits_at;
 
 /// The number that one digit or two write, after whitespace and comments, if it is at most that,
 /// and what follows it.

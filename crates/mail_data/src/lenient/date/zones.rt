@@ -6,7 +6,7 @@ ghost use Rattle.mail_data.specs.LooseDateViews.{part_read};
 use super::DateError;
 use super::fields::look_up;
 use super::numbers::number_of;
-use super::white::{after_mark, digits_at, letters_at};
+use super::whitespace::{after_mark, digits_at, letters_at};
 
 /// The names of zones, with the hours that they are west of Greenwich.
 static ZONES: [(&str, u64); 8] = [

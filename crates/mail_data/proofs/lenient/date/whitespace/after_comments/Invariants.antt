@@ -1,10 +1,10 @@
 -- What follows the whitespace and comments of the rest follows those of the text.
 use Rattle.std.proofs.Common.{◌≡◌, ◌≤◌, false, drop}
-use Rattle.mail_data.specs.LooseDate.{after_white}
-use Rattle.mail_data.proofs.lenient.date.white.after_comments.Given as goal
+use Rattle.mail_data.specs.LooseDate.{after_whitespace}
+use Rattle.mail_data.proofs.lenient.date.whitespace.after_comments.Given as goal
 
 abbrev pub invariant-loop-place : goal.invariant-loop-place
 invariant-loop-place l = record {
-  same : after_white l.is_quoted l.depth (drop l.place l.text) ≡ after_white false 0 l.text;
+  same : after_whitespace l.is_quoted l.depth (drop l.place l.text) ≡ after_whitespace false 0 l.text;
   small : l.depth ≤ l.place;
 }

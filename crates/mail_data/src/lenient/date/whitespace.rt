@@ -3,7 +3,7 @@ ghost use Rattle.std.specs.Prelude.{◌≡◌, ◌+◌, ◌≤◌, ◌<◌, ◌^
 ghost use Rattle.std.specs.Char.{is_ascii_alphabetic, is_ascii_digit};
 ghost use Rattle.std.specs.List.{prefix_len};
 ghost use Rattle.std.specs.Str.Parse.{AllDigits};
-ghost use Rattle.mail_data.specs.LooseDate.{after_comments, after_mark, depth_after, ends_white, run_at};
+ghost use Rattle.mail_data.specs.LooseDate.{after_comments, after_mark, depth_after, ends_whitespace, run_at};
 
 /// What follows the whitespace and the comments at the front.
 #[tactic(auto, unfolding(crate::specs::LooseDate::after_comments))]
@@ -14,7 +14,7 @@ pub(super) fn after_comments(text: &[u8]) -> &[u8]
     let mut depth = 0;
     for (place, byte) in text.iter().enumerate() {
         let byte = *byte;
-        if !is_quoted && ends_white(depth, byte) {
+        if !is_quoted && ends_whitespace(depth, byte) {
             let (_, rest) = text.split_at(place);
             return rest;
         }
@@ -26,8 +26,8 @@ pub(super) fn after_comments(text: &[u8]) -> &[u8]
 }
 
 /// Whether a byte is no whitespace and opens no comment, where no comment is open.
-fn ends_white(depth: usize, byte: u8) -> bool
-    ensures { result ≡ ends_white depth byte }
+fn ends_whitespace(depth: usize, byte: u8) -> bool
+    ensures { result ≡ ends_whitespace depth byte }
 {
     depth == 0 && !(byte.is_ascii_whitespace() || byte == b'(')
 }
