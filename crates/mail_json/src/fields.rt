@@ -124,7 +124,7 @@ pub fn is_kept_apart(shown: &Option<ParsedContentDisposition>) -> bool
 pub fn refusal_text(alloc: Global, error: &MailParseError) -> Result<String, Fault>
     ensures read { IfOk result (λ text. (refusal : Refusal) →
         refusal_of error.now ≡ Some refusal → string_bytes text ≡ refusal_text refusal) }
-    ensures no_memory { IfOk result (λ text. IsMemory error.now → ⊥) }
+    ensures not_memory { IfOk result (λ text. IsMemory error.now → ⊥) }
     ensures only_memory { IfErr result IsEnd }
 {
     match error {

@@ -36,7 +36,7 @@ first_place-over test over fails (b ∷ front) rest all =
     let more = first_place-over test over fails front rest parts.1 in
     omega arith
 
--- what stands behind a list and one more byte
+-- what stands after a list and one more byte
 pub drop_past : (front : List ℕ) (b : ℕ) (rest : List ℕ) → drop (suc (length front)) (front ++ b ∷ rest) ≡ rest
 drop_past [] b rest = refl
 drop_past (x ∷ front) b rest = drop_past front b rest
@@ -75,7 +75,7 @@ value_passed b bs h =
     let low = (value_byte b h).0 in
     and_left (is_line_end b) _ (is_line_end-false b (λ e. absurd (omega (arith, low))) (λ e. absurd (omega (arith, low))))
 
--- the value starts behind one space
+-- the value starts after one space
 value_begins : (value rest : List ℕ) → stands (codes " ") value ≡ false → first_place (begins (λ b. not (eqb b 32))) (value ++ 13 ∷ rest) ≡ 0
 value_begins [] rest h = refl
 value_begins (v ∷ value) rest h =
@@ -84,26 +84,26 @@ value_begins (v ∷ value) rest h =
 
 -- ---- one header, as it is written, and what follows it
 
--- what stands behind its colon
-abbrev behind : List ℕ → List ℕ → List ℕ
-behind value rest = 32 ∷ (value ++ 13 ∷ 10 ∷ rest)
+-- what stands after its colon
+abbrev after_colon : List ℕ → List ℕ → List ℕ
+after_colon value rest = 32 ∷ (value ++ 13 ∷ 10 ∷ rest)
 
 abbrev line : List ℕ → List ℕ → List ℕ → List ℕ
-line key value rest = key ++ 58 ∷ behind value rest
+line key value rest = key ++ 58 ∷ after_colon value rest
 
 -- what stands between its colon and its LF
 abbrev between : List ℕ → List ℕ
 between value = 32 ∷ (value ++ 13 ∷ [])
 
-behind_between : (value rest : List ℕ) → behind value rest ≡ between value ++ 10 ∷ rest
-behind_between value rest = ap (λ (x : List ℕ). 32 ∷ x) (sym (append_assoc value (13 ∷ []) (10 ∷ rest)))
+after_colon_between : (value rest : List ℕ) → after_colon value rest ≡ between value ++ 10 ∷ rest
+after_colon_between value rest = ap (λ (x : List ℕ). 32 ∷ x) (sym (append_assoc value (13 ∷ []) (10 ∷ rest)))
 
 length-between : (value : List ℕ) → length (between value) ≡ length value + 2
 length-between value = let e = length-append value (13 ∷ []) in omega arith
 
 length-line : (key value rest : List ℕ) → length (line key value rest) ≡ length key + length value + 4 + length rest
 length-line key value rest =
-    let a = length-append key (58 ∷ behind value rest) in
+    let a = length-append key (58 ∷ after_colon value rest) in
     let b = length-append value (13 ∷ 10 ∷ rest) in
     omega arith
 
@@ -140,20 +140,20 @@ module _ (key value rest : List ℕ) (keys : list_all is_key_byte key ≡ true) 
   key_end-written : key_end (line key value rest) ≡ length key
   unfolding key_end
   key_end-written =
-      let e : first_place (begins ends_key) (line key value rest) ≡ length key + 0 = first_place-over (begins ends_key) is_key_byte key_passed key (58 ∷ behind value rest) keys in
+      let e : first_place (begins ends_key) (line key value rest) ≡ length key + 0 = first_place-over (begins ends_key) is_key_byte key_passed key (58 ∷ after_colon value rest) keys in
       e ∙ omega arith
 
   has_colon-written : has_colon (line key value rest) ≡ true
   unfolding has_colon
   has_colon-written =
       ap (λ n. begins (λ b. eqb b 58) (drop n (line key value rest))) key_end-written
-      ∙ ap (begins (λ b. eqb b 58)) (drop_at key (58 ∷ behind value rest) (length key) refl)
+      ∙ ap (begins (λ b. eqb b 58)) (drop_at key (58 ∷ after_colon value rest) (length key) refl)
 
-  behind_colon : drop (suc (length key)) (line key value rest) ≡ behind value rest
-  behind_colon = drop_past key 58 (behind value rest)
+  drop_after_colon : drop (suc (length key)) (line key value rest) ≡ after_colon value rest
+  drop_after_colon = drop_past key 58 (after_colon value rest)
 
-  end_behind : first_place ends_header (behind value rest) ≡ length value + 2
-  end_behind =
+  end_after_colon : first_place ends_header (after_colon value rest) ≡ length value + 2
+  end_after_colon =
       first_place-past ends_header 32 (value ++ 13 ∷ 10 ∷ rest) (no_feed_passed 32 (value ++ 13 ∷ 10 ∷ rest) refl)
       ∙ ap suc (valued.ends rest no_blank) ∙ omega arith
 
@@ -161,7 +161,7 @@ module _ (key value rest : List ℕ) (keys : list_all is_key_byte key ≡ true) 
   unfolding header_end
   header_end-written =
       let from : suc (length key) + first_place ends_header (drop (suc (length key)) (line key value rest)) ≡ length key + length value + 3 =
-      ap (λ (x : List ℕ). suc (length key) + first_place ends_header x) behind_colon ∙ ap (λ n. suc (length key) + n) end_behind ∙ omega arith in
+      ap (λ (x : List ℕ). suc (length key) + first_place ends_header x) drop_after_colon ∙ ap (λ n. suc (length key) + n) end_after_colon ∙ omega arith in
       rw (has_colon-written, key_end-written) from
 
   pub header_length-written : header_length (line key value rest) ≡ length key + length value + 4
@@ -178,7 +178,7 @@ module _ (key value rest : List ℕ) (keys : list_all is_key_byte key ≡ true) 
       let one : length key + 1 ≡ suc (length key) = omega arith in
       sym (ap (λ k. take k (drop (length key + 1) (line key value rest))) n
       ∙ ap (λ k. take (length value + 2) (drop k (line key value rest))) one
-      ∙ ap (take (length value + 2)) (behind_colon ∙ behind_between value rest)
+      ∙ ap (take (length value + 2)) (drop_after_colon ∙ after_colon_between value rest)
       ∙ take_at (between value) (10 ∷ rest) (length value + 2) (length-between value))
 
   is_spaceless : value ++ 13 ∷ [] ≡ drop (first_place (begins (λ b. not (eqb b 32))) (between value)) (between value)
@@ -193,7 +193,7 @@ module _ (key value rest : List ℕ) (keys : list_all is_key_byte key ≡ true) 
   header_of-written =
       header_of-value (line key value rest) (length key) (header_end (line key value rest)) has_colon-written (sym key_end-written) refl (between value) (value ++ 13 ∷ []) value
       is_between is_spaceless is_trimmed
-      ∙ ap (λ (k : List ℕ). pair k value) (take_at key (58 ∷ behind value rest) (length key) refl)
+      ∙ ap (λ (k : List ℕ). pair k value) (take_at key (58 ∷ after_colon value rest) (length key) refl)
     where
       pair : List ℕ → List ℕ → Header
       pair k v = record { key = k; value = v }
@@ -247,7 +247,7 @@ no_blank-block : (headers : List Header) (body : List ℕ) → list_all (λ h. i
 no_blank-block [] body keys = refl
 no_blank-block (h ∷ headers) body keys =
     ap (begins is_blank) (header_block-more h headers body ∙ header_line-rest h (header_block headers ++ body))
-    ∙ no_blank-key h.key (58 ∷ behind h.value (header_block headers ++ body)) (and_parts (is_key h.key) _ keys).0
+    ∙ no_blank-key h.key (58 ∷ after_colon h.value (header_block headers ++ body)) (and_parts (is_key h.key) _ keys).0
 
 -- a header as it is written, and then a block
 one_more : (h : Header) (rest : List ℕ) (n m : ℕ) (headers : List Header) (raw : List ℕ) → is_key h.key ≡ true → IsValue h.value → begins is_blank rest ≡ false
@@ -256,7 +256,7 @@ one_more : (h : Header) (rest : List ℕ) (n m : ℕ) (headers : List Header) (r
 one_more h rest n m headers raw is_named is_valued no_blank whole read size =
     let named = and_parts (list_all is_key_byte h.key) (not (is_empty h.key)) is_named in
     let text : raw ≡ line h.key h.value rest = whole ∙ header_line-rest h rest in
-    let first : has_header raw ≡ true = ap has_header text ∙ has_header-key h.key (58 ∷ behind h.value rest) is_named in
+    let first : has_header raw ≡ true = ap has_header text ∙ has_header-key h.key (58 ∷ after_colon h.value rest) is_named in
     let header : header_of raw ≡ h = ap header_of text ∙ header_of-written h.key h.value rest named.0 is_valued no_blank in
     let taken : header_length raw ≡ length (header_line h) =
     ap header_length text ∙ header_length-written h.key h.value rest named.0 is_valued no_blank ∙ sym (length-header_line h) in

@@ -84,14 +84,14 @@ abbrev pub written : List ℕ → List (List ℕ) → List ℕ
 written d [] = d ++ 45 ∷ 45 ∷ 13 ∷ 10 ∷ []
 written d (p ∷ ps) = d ++ 13 ∷ 10 ∷ (p ++ 13 ∷ 10 ∷ written d ps)
 
--- what stands behind the first of its delimiters
-abbrev behind : List ℕ → List (List ℕ) → List ℕ
-behind d [] = 45 ∷ 45 ∷ 13 ∷ 10 ∷ []
-behind d (p ∷ ps) = 13 ∷ 10 ∷ (p ++ 13 ∷ 10 ∷ written d ps)
+-- what stands after the first of its delimiters
+abbrev after_delimiter : List ℕ → List (List ℕ) → List ℕ
+after_delimiter d [] = 45 ∷ 45 ∷ 13 ∷ 10 ∷ []
+after_delimiter d (p ∷ ps) = 13 ∷ 10 ∷ (p ++ 13 ∷ 10 ∷ written d ps)
 
-written-behind : (d : List ℕ) (ps : List (List ℕ)) → written d ps ≡ d ++ behind d ps
-written-behind d [] = refl
-written-behind d (p ∷ ps) = refl
+written-after_delimiter : (d : List ℕ) (ps : List (List ℕ)) → written d ps ≡ d ++ after_delimiter d ps
+written-after_delimiter d [] = refl
+written-after_delimiter d (p ∷ ps) = refl
 
 -- a part that holds no delimiter
 pub record IsClear (d part : List ℕ) : Type 0 where
@@ -169,8 +169,8 @@ module _ (x : ℕ) (text : List ℕ) (free : list_all no_return (x ∷ text) ≡
         ∙ ap (take (length part)) there
         ∙ take_at part (13 ∷ rest) (length part) refl
 
-    behind_delimiter : (n : ℕ) → s + length part + 2 + length (x ∷ text) ≡ n → drop n bytes ≡ more
-    behind_delimiter n e =
+    drop_to_delimiter : (n : ℕ) → s + length part + 2 + length (x ∷ text) ≡ n → drop n bytes ≡ more
+    drop_to_delimiter n e =
         further bytes ((x ∷ text) ++ more) (s + length part + 2) (length (x ∷ text)) n (at_delimiter (s + length part + 2) refl) e
         ∙ drop_at (x ∷ text) more (length (x ∷ text)) refl
 
@@ -180,7 +180,7 @@ module _ (x : ℕ) (text : List ℕ) (free : list_all no_return (x ∷ text) ≡
         ap (option_and_then (λ p. if is_close_delimiter (x ∷ text) bytes p then None else part_after (x ∷ text) bytes p)) found
 
     closes : is_close_delimiter (x ∷ text) bytes (s + length part + 2) ≡ (nat_lt (length more) 2 || stands (codes "--") more)
-    closes = ap (λ (r : List ℕ). nat_lt (length r) 2 || stands (codes "--") r) (behind_delimiter (s + length part + 2 + length (x ∷ text)) refl)
+    closes = ap (λ (r : List ℕ). nat_lt (length r) 2 || stands (codes "--") r) (drop_to_delimiter (s + length part + 2 + length (x ∷ text)) refl)
 
   -- the parts from one on are those that are written there
   ranges-written : (ps : List (List ℕ)) (bytes part : List ℕ) (s : ℕ) → IsClear (x ∷ text) part → AreClear (x ∷ text) ps
@@ -200,15 +200,15 @@ module _ (x : ℕ) (text : List ℕ) (free : list_all no_return (x ∷ text) ≡
       let q = s + length part + 2 + length (x ∷ text) in
       let goes_on : is_close_delimiter (x ∷ text) bytes (s + length part + 2) ≡ false =
       closes bytes part more s clear there ∙ ap (λ t. t || stands (codes "--") more) (le-ltb (length more) 2 (omega arith)) in
-      let at : drop q bytes ≡ more = behind_delimiter bytes part more s clear there q refl in
+      let at : drop q bytes ≡ more = drop_to_delimiter bytes part more s clear there q refl in
       let next : next_part (x ∷ text) bytes s ≡ Some (q + 2) =
       next_by_delimiter bytes part more s clear there ∙ cond-false _ _ _ goes_on
       ∙ line_after-crlf bytes (p ++ 13 ∷ 10 ∷ written (x ∷ text) ps) q at in
-      let behind_it : drop (q + 2) bytes ≡ p ++ 13 ∷ 10 ∷ written (x ∷ text) ps = further bytes more q 2 (q + 2) at refl in
+      let drop_past_it : drop (q + 2) bytes ≡ p ++ 13 ∷ 10 ∷ written (x ∷ text) ps = further bytes more q 2 (q + 2) at refl in
       ap (map (slice bytes)) (part_ranges-some (x ∷ text) bytes s)
       ∙ ap (λ (p : List ℕ). p ∷ map (slice bytes) (part_ranges (x ∷ text) bytes (next_part (x ∷ text) bytes s))) (part_slice bytes part more s clear there)
       ∙ ap (λ (o : Option ℕ). part ∷ map (slice bytes) (part_ranges (x ∷ text) bytes o)) next
-      ∙ ap (λ (ps : List (List ℕ)). part ∷ ps) (ranges-written ps bytes p (q + 2) all.0 all.1 behind_it)
+      ∙ ap (λ (ps : List (List ℕ)). part ∷ ps) (ranges-written ps bytes p (q + 2) all.0 all.1 drop_past_it)
 
   -- what is written is cut into its parts, and nothing stands before them
   module _ (bytes : List ℕ) (i : ℕ) (part : List ℕ) (ps : List (List ℕ)) (all : AreClear (x ∷ text) (part ∷ ps)) (there : drop i bytes ≡ written (x ∷ text) (part ∷ ps)) where
@@ -225,15 +225,15 @@ module _ (x : ℕ) (text : List ℕ) (free : list_all no_return (x ∷ text) ≡
         let none : i - i ≡ 0 = omega arith in
         ap (λ n. take (n - i) (drop i bytes)) preamble_end ∙ ap (λ n. take n (drop i bytes)) none
 
-    behind_first : drop (i + length (x ∷ text)) bytes ≡ 13 ∷ 10 ∷ (part ++ 13 ∷ 10 ∷ written (x ∷ text) ps)
-    behind_first =
+    drop_past_first : drop (i + length (x ∷ text)) bytes ≡ 13 ∷ 10 ∷ (part ++ 13 ∷ 10 ∷ written (x ∷ text) ps)
+    drop_past_first =
         further bytes (written (x ∷ text) (part ∷ ps)) i (length (x ∷ text)) (i + length (x ∷ text)) there refl
         ∙ drop_at (x ∷ text) (13 ∷ 10 ∷ (part ++ 13 ∷ 10 ∷ written (x ∷ text) ps)) (length (x ∷ text)) refl
 
     first_start : first_part (x ∷ text) bytes i ≡ Some (i + length (x ∷ text) + 2)
     first_start =
         ap (option_and_then (part_after (x ∷ text) bytes)) first_delimiter
-        ∙ line_after-crlf bytes (part ++ 13 ∷ 10 ∷ written (x ∷ text) ps) (i + length (x ∷ text)) behind_first
+        ∙ line_after-crlf bytes (part ++ 13 ∷ 10 ∷ written (x ∷ text) ps) (i + length (x ∷ text)) drop_past_first
 
     pub parts-written : map (slice bytes) (cut_parts (x ∷ text) bytes i).parts ≡ part ∷ ps
     unfolding cut_parts
@@ -241,4 +241,4 @@ module _ (x : ℕ) (text : List ℕ) (free : list_all no_return (x ∷ text) ≡
         let q = i + length (x ∷ text) in
         ap (λ (o : Option ℕ). map (slice bytes) (part_ranges (x ∷ text) bytes o)) first_start
         ∙ ranges-written ps bytes part (q + 2) all.0 all.1
-        (further bytes (13 ∷ 10 ∷ (part ++ 13 ∷ 10 ∷ written (x ∷ text) ps)) q 2 (q + 2) behind_first refl)
+        (further bytes (13 ∷ 10 ∷ (part ++ 13 ∷ 10 ∷ written (x ∷ text) ps)) q 2 (q + 2) drop_past_first refl)
