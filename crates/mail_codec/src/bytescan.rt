@@ -33,9 +33,9 @@ pub fn find_byte(haystack: &[u8], byte: u8) -> Option<usize>
     Some(place)
 }
 
-/// Returns the first place where `needle` stands in `haystack`, or `None` where it stands nowhere.
+/// Returns the first place where `needle` occurs in `haystack`, or `None` if it does not occur.
 ///
-/// The empty needle stands nowhere. Takes no memory. Each place of the needle's first byte is
+/// The empty needle never occurs. Takes no memory. Each place of the needle's first byte is
 /// compared in turn, so the time grows with the needle where that byte is frequent.
 ///
 /// # Examples
@@ -62,8 +62,8 @@ pub fn find(haystack: &[u8], needle: &[u8]) -> Option<usize>
     None
 }
 
-/// Returns the first place where `first` stands in `haystack` with `second` right after it, or
-/// `None` where they stand so nowhere.
+/// Returns the first place where `first` occurs in `haystack` with `second` right after it, or
+/// `None` if there is no such place.
 ///
 /// Takes no memory. The time does not grow with how frequent either byte is.
 ///

@@ -84,8 +84,8 @@ impl Charset {
         }
     }
 
-    /// Returns the text of the bytes in this charset, a byte order mark read as any other bytes are
-    /// (the WHATWG Encoding Standard, sections 8, 9.1 and 14).
+    /// Returns the text of the bytes in this charset, reading a byte order mark like any other
+    /// bytes (the WHATWG Encoding Standard, sections 8, 9.1 and 14).
     ///
     /// What is not a character reads as U+FFFD. Takes memory for the text.
     ///
@@ -135,8 +135,8 @@ fn marked(bytes: &[u8]) -> Option<(Charset, &[u8])>
     None
 }
 
-/// Returns the Latin-1 text of the bytes: one character for each byte, the one of its number, from
-/// U+0000 to U+00FF (IANA's ISO-8859-1).
+/// Returns the Latin-1 text of the bytes: one character for each byte, the one with the same
+/// number, from U+0000 to U+00FF (IANA's ISO-8859-1).
 ///
 /// Where all bytes are ASCII, and only there, the text borrows them; that takes no memory and
 /// succeeds. Otherwise it takes memory for the text.

@@ -15,11 +15,11 @@ use mail_codec::bytescan::find_byte;
 use mailparse::{MailHeader, MailHeaderMap, MailParseError, ParsedMail, parse_headers};
 use std::alloc::{AllocError, Global};
 
-/// What a report on delivery says of one recipient, as `recipients` returns it: the texts of its
-/// fields, and `None` where there is no such field (RFC 3464, section 2.3).
+/// What a delivery report says about one recipient, as `recipients` returns it: the texts of its
+/// fields, or `None` for a field that is missing (RFC 3464, section 2.3).
 #[derive(Drop)]
 pub struct Recipient {
-    /// The address that the report is on, without its type: `Final-Recipient`.
+    /// The address that the report is about, without its type: `Final-Recipient`.
     pub final_recipient: Option<String>,
     /// The address that the sender wrote, without its type: `Original-Recipient`.
     pub original_recipient: Option<String>,
@@ -31,16 +31,17 @@ pub struct Recipient {
     pub diagnostic_code: Option<String>,
 }
 
-/// Returns what a report on delivery says of each recipient, in order (RFC 3464, sections 2.1 to
-/// 2.3), or nothing where the mail is no such report.
+/// Returns what a delivery report says about each recipient, in order (RFC 3464, sections 2.1 to
+/// 2.3), or an empty list if the mail is not such a report.
 ///
 /// The mail has to be a `multipart/report`, and the first of its own parts that is a
-/// `message/delivery-status` counts. Its fields stand in blocks with empty lines between them: the
-/// first block is on the message, each other one on a recipient. A field is found by its name, in
-/// any case, and its text is that of a header's value without whitespace around it; what stands up
-/// to the first `;` of an address or a diagnostic code is its type, and is left out. A block that
-/// `parse_headers` refuses counts as one without fields. A transfer encoding, which such a part may
-/// not have, is not undone. Takes memory for the blocks, their headers and the texts.
+/// `message/delivery-status` is used. Its fields are in blocks separated by empty lines: the first
+/// block is about the message, and each other block is about one recipient. A field is found by its
+/// name, ignoring ASCII case, and its text is read like a header's value, without whitespace around
+/// it. In an address or a diagnostic code, the text up to the first `;` is its type, and is left
+/// out. A block that `parse_headers` refuses counts as one without fields. A transfer encoding,
+/// which such a part must not have, is not undone. Takes memory for the blocks, their headers and
+/// the texts.
 ///
 /// # Errors
 ///

@@ -34,12 +34,13 @@ pub struct Attachment<'m, 'a> {
     pub part: &'m ParsedMail<'a>,
 }
 
-/// Returns the name of the file that a part is: the parameter `filename` of its disposition (RFC
-/// 2183, section 2.3), otherwise the parameter `name` of its type, or `None` where it has neither.
+/// Returns the file name of a part: the parameter `filename` of its disposition (RFC 2183, section
+/// 2.3), otherwise the parameter `name` of its type, or `None` if it has neither. An empty parameter
+/// counts as none.
 ///
-/// The name is as the sender wrote it, perhaps empty: `safe_file_name` makes it fit to be used. The
-/// disposition is read in the four charsets that are always known; `file_name_with` knows others.
-/// Takes memory for the disposition and the name.
+/// The name is as the sender wrote it: `safe_file_name` makes it fit to be used. The disposition is
+/// read in the four charsets that are always known; `file_name_with` knows others. Takes memory for
+/// the disposition and the name.
 ///
 /// # Errors
 ///
@@ -60,8 +61,8 @@ pub fn file_name(alloc: Global, part: &ParsedMail<'_>) -> Result<Option<String>,
     file_name_with(alloc, part, &[])
 }
 
-/// Returns the name of the file that a part is as `file_name` does, where the disposition may also
-/// be in the charsets of some tables.
+/// Returns the file name of a part as `file_name` does, but the disposition may also be in the
+/// charsets of some tables (RFC 2183, section 2.3; RFC 2231, section 4).
 ///
 /// The type is as the part was read: `mailparse::parse_mail_with` reads it with tables. Takes
 /// memory for the disposition and the name.
@@ -135,11 +136,11 @@ pub fn filled_parameter<'p>(parameters: &'p BTreeMap<String, String>, name: &str
 }
 
 /// Returns whether a part is a file: it has no parts of its own, and its disposition is
-/// `attachment` or it has a file name.
+/// `attachment` or it has a file name (RFC 2183, sections 2.2 and 2.3).
 ///
 /// So an image that is shown in the text counts if it has a name, and a forwarded message
-/// (`message/rfc822`), which is not read into, counts as any other part. Takes memory for the
-/// disposition.
+/// (`message/rfc822`), whose content is not parsed, counts like any other part. Takes memory for
+/// the disposition.
 ///
 /// # Errors
 ///
@@ -162,8 +163,8 @@ pub fn is_attachment(alloc: Global, part: &ParsedMail<'_>) -> Result<bool, MailP
     is_attachment_with(alloc, part, &[])
 }
 
-/// Returns whether a part is a file as `is_attachment` does, where the disposition may also be in
-/// the charsets of some tables.
+/// Returns whether a part is a file as `is_attachment` does, but the disposition may also be in the
+/// charsets of some tables (RFC 2183, sections 2.2 and 2.3; RFC 2231, section 4).
 ///
 /// Takes memory for the disposition.
 ///
@@ -221,7 +222,8 @@ fn is_kept_apart(shown: &DispositionType) -> bool
     }
 }
 
-/// Returns the files of a mail, in the order in which they stand, each with the path of its part.
+/// Returns the files of a mail (RFC 2183, section 2), in the order in which they appear, each with
+/// the path of its part.
 ///
 /// Takes memory for the list, the paths and each disposition in turn.
 ///
@@ -253,8 +255,8 @@ pub fn attachments<'m, 'a>(
     attachments_with(alloc, mail, &[])
 }
 
-/// Returns the files of a mail as `attachments` does, where dispositions may also be in the
-/// charsets of some tables.
+/// Returns the files of a mail as `attachments` does, but dispositions may also be in the charsets
+/// of some tables (RFC 2183, section 2; RFC 2231, section 4).
 ///
 /// Takes memory for the list, the paths and each disposition in turn.
 ///

@@ -15,10 +15,11 @@ use std::alloc::Global;
 /// `levels` levels below it, or `None` where the part forwards none: its type has to be
 /// `message/rfc822` (RFC 2046, section 5.2.1).
 ///
-/// The mail borrows the bytes of the part's body as they stand: a transfer encoding, which such a
-/// part may not have, is not undone. A mail that is forwarded may forward another; that one is read
-/// by a further call, so the caller says how deep to go. The caller proves that `levels` is at most
-/// `MAX_LEVELS`. Takes memory as `parse_mail_limited` does, and for the name of the coding.
+/// The mail borrows the bytes of the part's body as they are: a transfer encoding, which such a
+/// part must not have, is not undone. A forwarded mail may itself forward another; that one is read
+/// by a further call, so the caller decides how deep to go. The caller proves that `levels` is at
+/// most `MAX_LEVELS`. Takes memory as `parse_mail_limited` does, and for the name of the transfer
+/// encoding.
 ///
 /// # Errors
 ///
@@ -59,12 +60,12 @@ pub fn forwarded<'m>(
 /// Returns the bytes of each mail that a mail or one of its parts forwards, and of the mails inside
 /// those, no more than `most` mails deep (RFC 2046, section 5.2.1).
 ///
-/// So an index of all that a mail holds reads each of them as a mail of its own. They stand in
-/// order, each before the mails inside it. With `most` 0 there is none, and with 1 the mails inside
-/// the forwarded ones are left. A mail that is refused is in the list, and what it may hold is not;
-/// as with `forwarded`, a transfer encoding is not undone. Takes memory for the list and a copy of
-/// each mail: a byte is copied once for each mail that it stands in. Each mail is read, as
-/// `parse_mail` reads it, to find those inside it.
+/// An index of everything that a mail holds can thus read each of them as a mail of its own. They
+/// are in order, each before the mails inside it. If `most` is 0, the list is empty; if it is 1,
+/// the mails inside the forwarded ones are left out. A mail that is refused is in the list, but the
+/// mails inside it are not; as with `forwarded`, a transfer encoding is not undone. Takes memory
+/// for the list and a copy of each mail: a byte is copied once for each mail that it belongs to.
+/// Each mail is read, as `parse_mail` reads it, to find those inside it.
 ///
 /// # Errors
 ///

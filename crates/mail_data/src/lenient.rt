@@ -1,4 +1,4 @@
-//! Readings that take what can be taken, where the strict calls of `mailparse` refuse.
+//! Lenient readings that recover what they can where the strict calls of `mailparse` refuse.
 mod base64;
 mod coding;
 mod date;

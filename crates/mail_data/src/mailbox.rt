@@ -10,7 +10,7 @@ use crate::lines::empty_line;
 use mail_codec::bytescan::find_byte;
 use std::marker::Model;
 
-/// A mail of a mailbox: three slices that lie one after another.
+/// A mail of a mailbox (RFC 4155, appendix A): three slices that follow one another.
 #[derive(Drop)]
 pub struct MailboxEntry<'a> {
     separator: &'a [u8],
@@ -27,7 +27,8 @@ impl<'a> Model for MailboxEntry<'a> {
 }
 
 impl<'a> MailboxEntry<'a> {
-    /// Returns the line before the mail, which begins with `From `, its line end among them.
+    /// Returns the line before the mail, which begins with `From `, including its line end (RFC
+    /// 4155, appendix A).
     ///
     /// Takes no memory.
     ///
@@ -46,7 +47,7 @@ impl<'a> MailboxEntry<'a> {
         self.separator
     }
 
-    /// Returns the bytes of the mail.
+    /// Returns the bytes of the mail (RFC 4155, appendix A).
     ///
     /// They are as they stand in the mailbox: a line that a writer began with `>From ` stays so.
     /// Takes no memory.
@@ -66,7 +67,7 @@ impl<'a> MailboxEntry<'a> {
         self.mail
     }
 
-    /// Returns the empty line that ends the mail, if there is one.
+    /// Returns the empty line that ends the mail (RFC 4155, appendix A), if there is one.
     ///
     /// Takes no memory.
     ///
@@ -86,7 +87,7 @@ impl<'a> MailboxEntry<'a> {
     }
 }
 
-/// An iterator over the mails of a mailbox, as `read_mailbox` returns it.
+/// An iterator over the mails of a mailbox (RFC 4155, appendix A), as `read_mailbox` returns it.
 ///
 /// Nothing is copied, and no call takes memory.
 #[derive(Drop)]

@@ -14,10 +14,10 @@ use std::alloc::Global;
 /// first `text/plain` that is no file, otherwise the first `text/html` (RFC 2046, sections 4.1 and
 /// 5.1.4).
 ///
-/// The mail itself is looked at first, and then its parts, each before its own parts. So of a
-/// `multipart/alternative` it is the plain text, where there is one; a plain text without a name
-/// that stands beside an HTML text in another multipart, such as the footer of a list, comes first
-/// too. A text that has a file name is a file, as `files::is_attachment` says.
+/// The mail itself is looked at first, and then its parts, each before its own parts. So for a
+/// `multipart/alternative` it is the plain text, if there is one. In any other multipart, too, a
+/// plain text without a file name, such as a mailing-list footer, takes precedence over an HTML
+/// text beside it. A text that has a file name is a file, as `files::is_attachment` says.
 /// `ParsedMail::get_body` returns the text of the part. Takes memory for the list of parts and the
 /// dispositions.
 ///
@@ -46,8 +46,9 @@ pub fn text_part<'m, 'a>(
     text_part_with(alloc, mail, &[])
 }
 
-/// Returns the part of a mail that is to be read as its text as `text_part` does, where the
-/// dispositions that tell files from texts may also be in the charsets of some tables.
+/// Returns the part of a mail that is to be read as its text, as `text_part` does, but the
+/// dispositions that tell files from texts may also be in the charsets of some tables (RFC 2046,
+/// sections 4.1 and 5.1.4; RFC 2231, section 4).
 ///
 /// Takes memory for the list of parts and the dispositions.
 ///

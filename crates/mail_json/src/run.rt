@@ -23,8 +23,8 @@ use std::io::{self, BufWriter, Write};
 use std::rt::Files;
 
 /// Writes the mails of the files that the arguments name, or of standard input where they name
-/// none; says on standard error what could not be read or written. Returns whether all was written
-/// and no error among it.
+/// none; reports on standard error what could not be read or written. Returns whether everything
+/// was written and none of it was an error.
 pub fn run(
     rt: &(impl Files + Input + Print + Eprint + AllocGlobal),
     words: &[String],

@@ -1,4 +1,4 @@
-//! JSON text of strings and of members of an object (RFC 8259, sections 5 and 7).
+//! JSON text of strings and of members of an object (RFC 8259, sections 4, 5 and 7).
 ghost use Rattle.std.specs.Prelude.{◌≡◌, ◌++◌, false, map, option_map, string_bytes, IfOk, OnOk};
 ghost use Rattle.mail_json.specs.Json.{character_text, comma, is_hidden, json_text, json_texts};
 ghost use Rattle.mail_json.specs.Json.{shown, text_or_null};

@@ -219,9 +219,9 @@ pub fn one_list_of_segments_fits()
         found ≡ segments text }
 {}
 
-/// Of the characters between quotes exactly those go that are a backslash at an odd place of its
-/// run, with no backslash or an even number of them directly before it; all others stay, in order.
-/// So of a run of n backslashes n / 2 stay, rounded down.
+/// Between quotes, a character is removed exactly if it is a backslash at an odd place of its run,
+/// that is, with no backslash or an even number of them directly before it; all others stay, in
+/// order. So n / 2 backslashes, rounded down, stay of a run of n.
 pub fn odd_backslashes_go()
     ensures places { (text : List ℕ) → without_escapes 0 text ≡ staying text }
     ensures runs { (n : ℕ) (rest : List ℕ) → begins (λ b. b == backslash) rest ≡ false →
@@ -229,13 +229,13 @@ pub fn odd_backslashes_go()
         ≡ replicate (n / 2) backslash ++ without_escapes 0 rest }
 {}
 
-/// Two dispositions are equal exactly if their kinds are, and the texts of extensions.
+/// Two dispositions are equal exactly if their kinds are equal and, for extensions, their texts.
 pub fn dispositions_equal_by_kind()
     ensures { (a b : DispositionType) → Decides (ghosts.eq a b) (kind a ≡ kind b) }
 {}
 
-/// Where no key holds a star, the parameters are the pairs, of equal keys the last, whatever
-/// charsets are known.
+/// Where no key holds a star, the parameters are the pairs, with the last one of equal keys,
+/// whatever charsets are known.
 pub fn pairs_without_stars_are_parameters()
     ensures { (known : Charsets) (pairs : List (List ℕ × List ℕ)) → AreStarFree pairs →
         (name : List ℕ) → parameters_in known pairs name ≡ last_of pairs name }
@@ -248,9 +248,9 @@ pub fn runs_are_read_once()
     ensures { (sections : List Section) → joined sections ≡ walked_after None [] sections }
 {}
 
-/// The candidates for the charset source of a name are exactly the names of their form: they end in
-/// `*0` and without the last `0` begin the name, with a star after them they are keys, and without
-/// it they are none.
+/// The candidates for the charset source of a name are exactly the names of this form: they end in
+/// `*0`; without the last `0` they are a prefix of the name; with a star after them they are keys;
+/// and without that star they are not keys.
 pub fn candidates_have_a_form()
     ensures { (keys : Texts) (name z : List ℕ) →
         Contains (candidates keys name) z ↔ IsCandidate keys name z }
@@ -288,9 +288,9 @@ pub fn plain_boundary_is_read()
         } }
 {}
 
-/// The days of the years from 1970 up to a year, one after another, are 365 for each and a day for
-/// each leap year, which is each fourth, but of the full centuries each fourth alone; 477 of them
-/// stand before 1970.
+/// The days of the years from 1970 up to a given year, added one by one, are 365 for each year and
+/// one more for each leap year. Every fourth year is a leap year, except that only every fourth of
+/// the full centuries is; 477 leap years come before 1970.
 pub fn leap_days_are_counted()
     ensures { (year : ℕ) → 1970 ≤ year →
         days_of_years (year - 1970) + ((year - 1) / 100 + 477)
@@ -332,12 +332,13 @@ pub fn percent_free()
     ensures { (text : List ℕ) → list_any is_percent text ≡ false → percent_decode text ≡ text }
 {}
 
-/// What is written of an outline that is well formed, but for its depth, is read as the message
-/// that it stands for under every limit on levels that is no less than its depth, and is refused
-/// for the limit under every lower one; so a well-formed outline is read back. Its headers show the
-/// keys and the texts of the outline. Where no value is written as encoded words, all this holds
-/// whatever charsets are known; otherwise of charsets that know UTF-8 by its label, which those
-/// with the tables of a caller do. Two such outlines that are written as the same bytes are one.
+/// Take an outline that is well formed except perhaps for its depth. Under every limit on levels
+/// that is at least its depth, its written form is read as the message that it stands for; under
+/// every lower limit, it is refused because of the limit. So a well-formed outline is read back.
+/// The headers show the keys and the texts of the outline. If no value is written as encoded words,
+/// all this holds whatever charsets are known; otherwise it holds for charsets that know UTF-8 by
+/// its label, as those with the tables of a caller do. Two such outlines that are written as the
+/// same bytes are the same.
 pub fn outline_reads_back()
     ensures read { (known : Charsets) (greatest : ℕ) (outline : OutlineTree) → Show known outline →
         is_well_formed_within outline ≡ true → depth outline ≤ greatest →

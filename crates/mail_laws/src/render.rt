@@ -1,9 +1,9 @@
 //! Outlines of messages: what they are written as, and whether they read back.
 //!
 //! An outline is the headers of a message and its body, or its parts, each an outline of its own.
-//! Whoever sends mail writes a well-formed one by `render`; `mailparse::parse_mail` reads exactly
-//! those headers, bodies and parts of it, and `MailHeader::get_value` the values, which may be any
-//! text. `encode_value` writes a value alone.
+//! A program that sends mail writes a well-formed one with `render`; `mailparse::parse_mail` then
+//! reads back exactly those headers, bodies and parts, and `MailHeader::get_value` the values,
+//! which may be any text. `encode_value` writes a single value.
 ghost use Rattle.std.specs.Prelude.{◌≡◌, ◌++◌, ◌&&◌, OnOk, Ok, nat_le, not};
 ghost use Rattle.mailparse.specs.Outcome.{AnswersOrMemory, ReadsBytes};
 ghost use Rattle.mail_laws.specs.Outlines.{dash_boundary, depth, header_block, header_line, holds_delimiter, is_well_formed_within, rendered, well_formed, written_bytes, written_headers};
@@ -167,7 +167,7 @@ fn push_delimiter(boundary: &[u8], rest: &[u8], bytes: &mut Vec<u8>) -> Result<(
 ///
 /// All of these have to hold, for the outline and for every outline inside it:
 ///
-/// 1. Each key is one or more printable bytes of ASCII, without a space and a colon.
+/// 1. Each key is one or more printable bytes of ASCII other than the space and the colon.
 /// 2. Each value is UTF-8.
 /// 3. Where there are parts, a header has the key `Content-Type`, ignoring ASCII case, and the
 ///    value of the first such header is exactly `multipart/mixed; boundary=` and the boundary.

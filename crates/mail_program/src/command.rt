@@ -7,7 +7,7 @@ use std::io;
 ///
 /// # Errors
 ///
-/// An argument is no UTF-8 (`ErrorKind::InvalidData`), or memory ran out
+/// An argument is not UTF-8 (`ErrorKind::InvalidData`), or memory ran out
 /// (`ErrorKind::OutOfMemory`).
 pub fn arguments(rt: &(impl Env + AllocGlobal)) -> io::Result<Vec<String>> {
     let mut words = Vec::new(rt.alloc());

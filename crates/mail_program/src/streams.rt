@@ -15,7 +15,7 @@ const READ_SIZE: usize = 64 * 1024;
 ///
 /// # Errors
 ///
-/// `Fault::Input` where a read failed, and that memory ran out.
+/// `Fault::Input` if a read failed, and `Fault::Mail` if memory ran out.
 pub fn read_input<R: Read>(alloc: Global, reader: &mut R) -> Result<Vec<u8>, Fault>
     ensures { IsRead (R.remaining reader.old) (R.remaining reader.new) result }
 {

@@ -1,7 +1,7 @@
 //! The single-byte encodings of the WHATWG Encoding Standard (sections 4.2 and 9) that `mail_codec`
 //! leaves out, as tables with all their labels.
 //!
-//! They go to the calls of `mailparse` that take tables, all of them or a few. A byte that has no
+//! Pass all of them, or a few, to the calls of `mailparse` that take tables. A byte that has no
 //! character in an encoding is U+FFFD.
 //!
 //! # Examples

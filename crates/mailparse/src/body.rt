@@ -18,24 +18,24 @@ pub use text::TextBody;
 /// A body by its transfer encoding (RFC 2045, section 6).
 #[derive(Drop)]
 pub enum Body<'a> {
-    /// A body in Base64.
+    /// A body in Base64 (RFC 2045, section 6.8).
     Base64(EncodedBody<'a>),
-    /// A body in quoted-printable.
+    /// A body in quoted-printable (RFC 2045, section 6.7).
     QuotedPrintable(EncodedBody<'a>),
-    /// A text of 7-bit bytes in short lines, which stands as it is.
+    /// Text of 7-bit bytes in short lines, not encoded (RFC 2045, section 2.7).
     SevenBit(TextBody<'a>),
-    /// A text of bytes in short lines, which stands as it is.
+    /// Text of bytes in short lines, not encoded (RFC 2045, section 2.8).
     EightBit(TextBody<'a>),
-    /// Bytes that stand as they are.
+    /// Bytes that are not encoded (RFC 2045, section 2.9).
     Binary(BinaryBody<'a>),
 }
 
 impl<'a> Body<'a> {
-    /// Returns the body of these bytes and this content type, in the transfer encoding that the
-    /// text names.
+    /// Returns the body with these bytes and this content type, in the transfer encoding that
+    /// `transfer_encoding` names (RFC 2045, section 6).
     ///
     /// The names are exactly `base64`, `quoted-printable`, `7bit`, `8bit` and `binary`, in lower
-    /// case; any other text, and none, means `7bit`. Takes no memory.
+    /// case; any other text, or `None`, means `7bit`. Takes no memory.
     /// `ParsedMail::get_body_encoded` makes the body of a message.
     ///
     /// # Examples

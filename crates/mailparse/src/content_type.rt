@@ -23,7 +23,7 @@ pub struct ParsedContentType {
     pub mimetype: String,
     /// The label of the charset that a text is in, or `us-ascii` where none was given.
     pub charset: String,
-    /// All parameters by name in ASCII lower case, the charset among them where it was given.
+    /// All parameters by name in ASCII lower case, including the charset if one was given.
     pub params: BTreeMap<String, String>,
 }
 
@@ -61,10 +61,10 @@ impl ParsedContentType {
 /// Reads the value of a `Content-Type` header, as `get_value` returns it (RFC 2045, section 5.1;
 /// RFC 2231, sections 3 and 4).
 ///
-/// The type is what stands before the first semicolon outside quotes, without whitespace around it
-/// and in ASCII lower case; it need not be one that anybody knows. The charset is the parameter of
-/// that name, which stays among the parameters, or `us-ascii` where there is none. Every text is
-/// read. Takes memory for the texts and the parameters.
+/// The type is the text before the first semicolon outside quotes, without whitespace around it and
+/// in ASCII lower case; it need not be a known type. The charset is the parameter of that name,
+/// which also stays in the parameters, or `us-ascii` if there is none. Any text is accepted. Takes
+/// memory for the texts and the parameters.
 ///
 /// # Errors
 ///

@@ -13,24 +13,25 @@ use calendar::day_number;
 use fields::{month_number, next_number, year_number, zone_seconds};
 use words::next_word;
 
-/// Returns the seconds from 1 January 1970, 0 h UTC, to a date as mail writes it (RFC 5322,
+/// Returns the seconds from 1 January 1970, 00:00 UTC, to a date as written in mail (RFC 5322,
 /// sections 3.3 and 4.3).
 ///
 /// The words between spaces and colons are a day, a month, a year, an hour, a minute, a second and
-/// a zone, in this order. What stands before the first number below 256 is passed over, and so is
-/// what stands after the zone. Words at the end may be absent: a text without a year is 0. A number
-/// of two digits is a year from 1970 to 2069. Takes no memory.
+/// a zone, in this order. Anything before the first number below 256 is skipped, and so is anything
+/// after the zone. Words at the end may be missing: a text without a year gives 0. A year below 100
+/// is one from 1970 to 2069, and a day past the end of its month runs into the next month. Takes no
+/// memory.
 ///
 /// # Errors
 ///
-/// `MailParseError::Generic` for the first word that is not what its place wants, with the text:
+/// `MailParseError::Generic` for the first word that is not valid in its place, with the text:
 ///
 /// - `Invalid day` for a day that is not 1 to 31,
 /// - `Unrecognized month` for a word that names no month,
 /// - `Invalid year` for a year that is not a number below 2^32,
 /// - `Disallowed year` for a year from 100 to 1969,
 /// - `Invalid hour`, `Invalid minute` or `Invalid second` for one that is not a number below 256,
-/// - `Invalid timezone` for a zone that is neither a number from -2400 to 2400 nor a name.
+/// - `Invalid timezone` for a zone that is neither a number from -2400 to 2400 nor a known name.
 ///
 /// # Examples
 ///

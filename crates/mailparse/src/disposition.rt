@@ -16,7 +16,7 @@ use std::collections::BTreeMap;
 /// The kind of a disposition (RFC 2183, section 2).
 #[derive(Debug, Drop, PartialEq)]
 pub enum DispositionType {
-    /// Shown with the message; also what no text at all means.
+    /// Shown with the message; also the meaning of an empty text.
     Inline,
     /// Kept apart from the message, to be opened on demand.
     Attachment,
@@ -42,7 +42,7 @@ impl Default for DispositionType {
 impl DispositionType {
     /// Returns an equal value.
     ///
-    /// Takes memory for the text of an `Extension` alone.
+    /// Takes memory only for the text of an `Extension`.
     ///
     /// # Errors
     ///
@@ -108,9 +108,9 @@ impl ParsedContentDisposition {
 /// Reads the value of a `Content-Disposition` header, as `get_value` returns it (RFC 2183, section
 /// 2; RFC 2231, sections 3 and 4).
 ///
-/// The kind is what stands before the first semicolon outside quotes, without whitespace around it
-/// and in ASCII lower case: `inline`, `attachment` and `form-data` have names of their own, any
-/// other text is an `Extension`, and no text at all means `Inline`. Every text is read. Takes
+/// The kind is the text before the first semicolon outside quotes, without whitespace around it and
+/// in ASCII lower case: `inline`, `attachment` and `form-data` have variants of their own, any
+/// other text is an `Extension`, and an empty text means `Inline`. Any value is accepted. Takes
 /// memory for the text and the parameters.
 ///
 /// # Errors

@@ -21,7 +21,8 @@ use std::marker::Model;
 use std::{fmt, str};
 use value::value_ref;
 
-/// A header of a message: the bytes of its key and of its value, as they stand in the message.
+/// A header of a message (RFC 5322, section 2.2): the bytes of its key and of its value, as they
+/// appear in the message.
 #[derive(Drop)]
 pub struct MailHeader<'a> {
     key: &'a [u8],
@@ -36,8 +37,8 @@ impl<'a> Model for MailHeader<'a> {
 }
 
 impl<'a> MailHeader<'a> {
-    /// Returns the text of the key: one character for each byte, the one of its number (IANA's
-    /// ISO-8859-1).
+    /// Returns the key as text: one character for each byte, the one with the same number (RFC
+    /// 5322, section 2.2; IANA's ISO-8859-1).
     ///
     /// Takes memory for the text; `get_key_ref` borrows it where it can.
     ///
@@ -60,10 +61,10 @@ impl<'a> MailHeader<'a> {
         Ok(text.into_owned(alloc)?)
     }
 
-    /// Returns the text of the key as `get_key` does, borrowed where all its bytes are ASCII, and
-    /// only there.
+    /// Returns the key as text, as `get_key` does, borrowed if and only if all its bytes are ASCII
+    /// (RFC 5322, section 2.2).
     ///
-    /// Where it borrows it takes no memory and succeeds.
+    /// When it borrows, it takes no memory and succeeds.
     ///
     /// # Errors
     ///
@@ -86,14 +87,16 @@ impl<'a> MailHeader<'a> {
         Ok(decode_latin1(alloc, self.get_key_raw())?)
     }
 
-    /// Returns the text of the value: its lines are joined, a space for each line end that shows,
-    /// and its encoded words decoded (RFC 5322, section 2.2.3; RFC 2047, sections 2, 4 and 6.2).
+    /// Returns the value as text: its lines are unfolded, with a space for each line end that
+    /// shows, and its encoded words are decoded (RFC 5322, section 2.2.3; RFC 2047, sections 2, 4
+    /// and 6.2).
     ///
     /// Bytes that are not UTF-8 are read as Latin-1, one character for each byte; `get_value_utf8`
     /// refuses them. Takes memory for the text.
     ///
-    /// Control characters stay in the text, also those of encoded words, such as ESC and LF. On a
-    /// terminal they may move the cursor, and in a log forge a line: escape them first.
+    /// Control characters, such as ESC and LF, stay in the text, including those from encoded
+    /// words. On a terminal they may move the cursor, and in a log they may forge a line: escape
+    /// them first.
     ///
     /// # Errors
     ///
@@ -121,8 +124,8 @@ impl<'a> MailHeader<'a> {
     /// The four built-in charsets take precedence over the tables; among the tables, the first
     /// that has the label is used. Takes memory for the text.
     ///
-    /// Control characters stay in the text, as `get_value` says: escape them before it is shown on
-    /// a terminal or written to a log.
+    /// Control characters stay in the text, as with `get_value`: escape them before showing the
+    /// text on a terminal or writing it to a log.
     ///
     /// # Errors
     ///
@@ -177,7 +180,7 @@ impl<'a> MailHeader<'a> {
         }
     }
 
-    /// Returns the text of the value as `get_value` does, where its bytes are UTF-8 (RFC 6532).
+    /// Returns the value as text, as `get_value` does, but only if its bytes are UTF-8 (RFC 6532).
     ///
     /// Takes memory for the text, and none where it refuses the bytes.
     ///
@@ -210,8 +213,8 @@ impl<'a> MailHeader<'a> {
         Ok(value_ref(alloc, text, &[])?.into_owned(alloc)?)
     }
 
-    /// Returns the bytes of the key, as they stand in the message, spaces before the colon among
-    /// them.
+    /// Returns the bytes of the key as they appear in the message, including any spaces before the
+    /// colon (RFC 5322, section 2.2).
     ///
     /// Takes no memory.
     ///
@@ -229,8 +232,8 @@ impl<'a> MailHeader<'a> {
         self.key
     }
 
-    /// Returns the bytes of the value, as they stand in the message: without the spaces at its
-    /// front and the line end after it, with the line ends inside it.
+    /// Returns the bytes of the value as they appear in the message: without the leading spaces and
+    /// the final line end, but with the line ends inside it (RFC 5322, section 2.2).
     ///
     /// Takes no memory.
     ///
@@ -249,7 +252,7 @@ impl<'a> MailHeader<'a> {
     }
 }
 
-/// Shows the key and the value, bytes that are not UTF-8 as U+FFFD.
+/// Shows the key and the value, with U+FFFD for bytes that are not UTF-8.
 impl fmt::Debug for MailHeader<'_> {
     fn fmt<W: fmt::Write>(&self, f: &mut fmt::Formatter<W>) -> fmt::Result {
         f.debug_struct("MailHeader")

@@ -11,9 +11,10 @@ use crate::header::MailHeader;
 use std::marker::Model;
 use std::{fmt, slice};
 
-/// The header block of a message: its bytes, and the list of its headers.
+/// The header block of a message (RFC 5322, section 2.2): its bytes, and the list of its headers.
 ///
-/// It is iterated over in the order of the message, and looked up by `MailHeaderMap`.
+/// Iterating over it yields the headers in the order of the message; `MailHeaderMap` looks them up
+/// by name.
 #[derive(Drop)]
 pub struct Headers<'a> {
     raw_bytes: &'a [u8],
@@ -35,7 +36,8 @@ impl<'a> Headers<'a> {
         Headers { raw_bytes, headers }
     }
 
-    /// Returns the bytes of the header block, the blank line that ends it among them.
+    /// Returns the bytes of the header block, including the blank line that ends it (RFC 5322,
+    /// section 2.1).
     ///
     /// Takes no memory.
     ///

@@ -44,7 +44,7 @@ impl<'t> KnownCharset<'t> {
         }
     }
 
-    /// The text of the bytes in this charset, a byte order mark read as any other bytes are.
+    /// The text of the bytes in this charset; a byte order mark is read like any other bytes.
     pub(crate) fn decode_without_bom_handling(
         self,
         alloc: Global,

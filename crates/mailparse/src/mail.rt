@@ -41,28 +41,29 @@ use types::{delimiter_of, is_digest, node_type};
 /// ```
 pub const MAX_LEVELS: u8 = 100;
 
-/// A message that was read, or a part of one.
+/// A parsed message, or a part of one (RFC 5322, section 2.1; RFC 2046, section 5.1).
 ///
-/// It borrows the bytes of the message. The public fields may be changed; what the methods return
-/// follows them.
+/// It borrows the bytes of the message. The public fields may be changed; the methods use their
+/// current values.
 #[derive(Debug, Drop)]
 pub struct ParsedMail<'a> {
     /// The bytes of the message.
     pub raw_bytes: &'a [u8],
-    /// The bytes of its header block, the blank line among them.
+    /// The bytes of its header block, including the blank line.
     header_bytes: &'a [u8],
-    /// Its headers, in the order in which they stand.
+    /// Its headers (RFC 5322, section 2.2), in the order in which they appear.
     pub headers: Vec<MailHeader<'a>>,
-    /// Its type.
+    /// Its content type (RFC 2045, section 5).
     pub ctype: ParsedContentType,
-    /// The bytes of its body: in a message with parts, those of the preamble.
+    /// The bytes of its body; for a message with parts, those of the preamble.
     body_bytes: &'a [u8],
-    /// Its parts, in the order in which they stand.
+    /// Its parts (RFC 2046, section 5.1), in the order in which they appear.
     pub subparts: Vec<ParsedMail<'a>>,
 }
 
 impl<'a> ParsedMail<'a> {
-    /// Returns the header block: its bytes, and the headers that `headers` holds now.
+    /// Returns the header block (RFC 5322, section 2.2): its bytes, and the headers that `headers`
+    /// currently holds.
     ///
     /// Takes no memory.
     ///
@@ -85,11 +86,12 @@ impl<'a> ParsedMail<'a> {
         Headers::new(self.header_bytes, self.headers.as_slice())
     }
 
-    /// Returns the body in its transfer encoding, which the first `Content-Transfer-Encoding` names
-    /// (RFC 2045, section 6).
+    /// Returns the body, still in the transfer encoding that the first `Content-Transfer-Encoding`
+    /// header names (RFC 2045, section 6).
     ///
-    /// The name counts in any case; any other text, and none, means `7bit`. Nothing is decoded yet.
-    /// Takes memory for the name of the coding.
+    /// The name is compared ignoring ASCII case; any other text, or no such header, means `7bit`,
+    /// the crate's own rule.
+    /// Nothing is decoded yet. Takes memory for the name of the encoding.
     ///
     /// # Errors
     ///
@@ -122,15 +124,15 @@ impl<'a> ParsedMail<'a> {
         Ok(Body::new(self.body_bytes, &self.ctype, &encoding))
     }
 
-    /// Returns the text that the body stands for: its transfer encoding is undone, and the bytes
-    /// are read under the charset of the type that `ctype` holds now.
+    /// Returns the body as text: its transfer encoding is undone, and the bytes are decoded in the
+    /// charset that `ctype` currently names (RFC 2045, section 6; RFC 2046, section 4.1.2).
     ///
-    /// A byte order mark overrules that charset, and under an unknown label each byte that is not
-    /// ASCII is U+FFFD. Takes memory for the bytes and for the text. Of a message with parts it is
-    /// the preamble.
+    /// A byte order mark overrides that charset. If the label is unknown, each byte that is not
+    /// ASCII becomes U+FFFD. Takes memory for the bytes and for the text. For a message with parts,
+    /// the body is the preamble.
     ///
-    /// Control characters stay in the text, ESC and NUL among them. On a terminal they may move the
-    /// cursor or change what it shows, and in a log line ends forge lines: escape them first.
+    /// Control characters, including ESC and NUL, stay in the text. On a terminal they may move the
+    /// cursor or change what it shows; in a log, a line end may forge a line. Escape them first.
     ///
     /// # Errors
     ///
@@ -152,14 +154,14 @@ impl<'a> ParsedMail<'a> {
         self.get_body_with(alloc, &[])
     }
 
-    /// Returns the text that the body stands for as `get_body` does, where its charset may also be
-    /// that of a table.
+    /// Returns the body as text, as `get_body` does, but its charset may also be that of a table
+    /// (RFC 2045, section 6; RFC 2046, section 4.1.2).
     ///
     /// The four built-in charsets take precedence over the tables; among the tables, the first
     /// that has the label is used. Takes memory for the bytes and for the text.
     ///
-    /// Control characters stay in the text, as `get_body` says: escape them before it is shown on a
-    /// terminal or written to a log.
+    /// Control characters stay in the text, as with `get_body`: escape them before showing the text
+    /// on a terminal or writing it to a log.
     ///
     /// # Errors
     ///
@@ -195,10 +197,10 @@ impl<'a> ParsedMail<'a> {
         }
     }
 
-    /// Returns the bytes that the body stands for: its transfer encoding is undone, and no charset
-    /// is looked at.
+    /// Returns the decoded bytes of the body: its transfer encoding is undone, and the charset is
+    /// ignored (RFC 2045, section 6).
     ///
-    /// Takes memory for the bytes. Of a message with parts they are the preamble.
+    /// Takes memory for the bytes. For a message with parts, the body is the preamble.
     ///
     /// # Errors
     ///
@@ -227,8 +229,9 @@ impl<'a> ParsedMail<'a> {
         }
     }
 
-    /// Returns how the message is to be shown: what its first `Content-Disposition` says, and
-    /// otherwise `Inline` without parameters (RFC 2183, section 2).
+    /// Returns how the message is to be shown: what its first `Content-Disposition` header says
+    /// (RFC 2183, section 2), or, by the crate's own rule, `Inline` without parameters if it has
+    /// none.
     ///
     /// Takes memory for the text and the parameters.
     ///
@@ -256,8 +259,9 @@ impl<'a> ParsedMail<'a> {
         self.get_content_disposition_with(alloc, &[])
     }
 
-    /// Returns how the message is to be shown as `get_content_disposition` does, where encoded
-    /// words and extended parameters may also be in the charsets of some tables.
+    /// Returns how the message is to be shown, as `get_content_disposition` does, but encoded words
+    /// and extended parameters may also be in the charsets of some tables (RFC 2183, section 2; RFC
+    /// 2047, section 2; RFC 2231, section 4).
     ///
     /// The four built-in charsets take precedence over the tables; among the tables, the first
     /// that has the label is used. Takes memory for the text and the parameters.
@@ -294,7 +298,8 @@ impl<'a> ParsedMail<'a> {
         }
     }
 
-    /// Returns an iterator over the message itself and then its parts, each before its own parts.
+    /// Returns an iterator over the message itself and then all its parts, each part before its own
+    /// parts (RFC 2046, section 5.1).
     ///
     /// Takes memory for the list of them.
     ///
@@ -331,12 +336,13 @@ impl<'a> ParsedMail<'a> {
 /// section 2.1; RFC 2046, section 5.1).
 ///
 /// A message whose type begins with `multipart` and has a boundary is cut at each line that begins
-/// with `--` and the boundary. Each part is read as a message in the same way. Any bytes are a
-/// message, the empty input too, but for the three things under Errors.
+/// with `--` and the boundary, up to the close-delimiter. Each part is read as a message in the
+/// same way. Any input, even an empty one, is a message, except in the first three cases under
+/// Errors.
 ///
 /// Takes memory for the lists of headers and parts and for the types; bodies and values are decoded
-/// on demand. However the parts are nested, the headers, the bytes of the bodies and
-/// three for each part are together at most the bytes of the message.
+/// on demand. However the parts are nested, the number of headers, the number of body bytes, and
+/// three for each part add up to at most the number of bytes of the message.
 ///
 /// # Errors
 ///
@@ -386,12 +392,13 @@ pub fn parse_mail(alloc: Global, raw: &[u8]) -> Result<ParsedMail<'_>, MailParse
     parse_mail_limited(alloc, raw, MAX_LEVELS)
 }
 
-/// Reads a message as `parse_mail` does, where the encoded words and the extended parameters of
-/// each `Content-Type` may also be in the charsets of some tables.
+/// Reads a message as `parse_mail` does, but the encoded words and the extended parameters of each
+/// `Content-Type` may also be in the charsets of some tables (RFC 2047, section 2; RFC 2231,
+/// section 4).
 ///
 /// The four built-in charsets take precedence over the tables; among the tables, the first
-/// that has the label is used. What is returned does not keep the tables: the calls that end in
-/// `_with` take them again.
+/// that has the label is used. The result does not keep the tables: the calls that end in `_with`
+/// have to be given them again.
 ///
 /// Takes memory as `parse_mail` does.
 ///
@@ -427,10 +434,10 @@ pub fn parse_mail_with<'a>(
 
 /// Reads a message as `parse_mail` does, but with parts at most `levels` levels below it.
 ///
-/// The message itself stands at level 0, its parts at level 1, and so on: under 0 every part is
-/// refused. A part that stands too deep is refused before its headers are read. What is read under
-/// one limit is read alike under every greater one. The caller proves that `levels` is at most
-/// `MAX_LEVELS`.
+/// The message itself is at level 0, its parts are at level 1, and so on: if `levels` is 0, every
+/// part is refused. A part that is too deep is refused before its headers are read. Whatever is
+/// read under one limit is read the same way under every greater one. The caller proves that
+/// `levels` is at most `MAX_LEVELS`.
 ///
 /// Takes memory as `parse_mail` does.
 ///
@@ -473,7 +480,7 @@ pub fn parse_mail_limited(
     parse_mail_recursive(alloc, raw, false, levels + 1, &[])
 }
 
-/// Reads a message where so many levels may stand, its own among them.
+/// Reads a message with at most `levels` levels, including its own.
 fn parse_mail_recursive<'a>(
     alloc: Global,
     raw: &'a [u8],

@@ -17,8 +17,8 @@ use std::ops::{Deref, DerefMut};
 /// The ids of a header such as `References`, in order, each without its angle brackets (RFC 5322,
 /// section 3.6.4).
 ///
-/// It is read and changed as the vector that it holds. It is shown as mail writes it: each id in
-/// angle brackets, one space between each two.
+/// It dereferences to the vector that it holds. It is displayed as it is written in mail: each id
+/// in angle brackets, with one space between ids.
 #[derive(Debug, Drop)]
 pub struct MessageIdList(pub Vec<String>);
 
@@ -109,9 +109,9 @@ impl fmt::Display for MessageIdList {
 /// 3.6.4).
 ///
 /// Each id is what stands between a `<` and the first `>` after it. It may be empty, and may hold
-/// whitespace and any other character. Before, between and after ids stands whitespace or nothing;
-/// a text of whitespace alone is the empty list. Takes memory for the list and its ids, and none
-/// before the first whole id.
+/// whitespace and any other character except `>`. Before, between and after the ids there may be
+/// whitespace and nothing else; a text of only whitespace gives the empty list. Takes memory for
+/// the list and its ids, and none before the first whole id.
 ///
 /// # Errors
 ///

@@ -48,8 +48,8 @@ impl<'t> SingleByteTable<'t> {
         }
     }
 
-    /// Returns the text of the bytes under this table, a byte order mark read as any other bytes
-    /// are (the WHATWG Encoding Standard, section 9.1).
+    /// Returns the text of the bytes under this table, reading a byte order mark like any other
+    /// bytes (the WHATWG Encoding Standard, section 9.1).
     ///
     /// Takes memory for the text.
     ///
@@ -85,8 +85,9 @@ impl<'t> SingleByteTable<'t> {
     }
 }
 
-/// Returns the number, from 0, of the table that is read under the label: the first that has it.
-/// `None` where no table has it, and where one of the four charsets has it, which wins.
+/// Returns the index, counted from 0, of the table that is used for the label: the first that has
+/// it. Returns `None` if no table has it, or if one of the four charsets has it, which wins (the
+/// WHATWG Encoding Standard, section 4.2).
 ///
 /// ASCII whitespace around the label (space, tab, LF, FF, CR) and ASCII case do not count; the
 /// labels of the tables are not trimmed. Takes no memory.

@@ -40,10 +40,11 @@ static DIGIT_VALUES: [u8; 256] = [
 
 /// Returns the bytes that a quoted-printable text stands for (RFC 2045, section 6.7).
 ///
-/// Of each line the spaces and tabs at its end go, then a final `=` together with the line end,
-/// which is LF or CR LF; then each `=` with two hexadecimal digits of either case, from the left,
-/// is one byte. Every other byte stays, so no text is refused. Takes memory for the bytes, which is
-/// reserved at once; where a line is longer than four kilobytes, as much again on the way.
+/// On each line, the spaces and tabs at its end are removed, then a final `=` together with the
+/// line end, which is LF or CR LF. Then, from the left, each `=` with two hexadecimal digits of
+/// either case becomes one byte. Every other byte stays, so no text is refused. Takes memory for
+/// the bytes, which is reserved at once; if a line is longer than four kilobytes, as much again
+/// temporarily.
 ///
 /// # Errors
 ///

@@ -62,7 +62,7 @@ pub(crate) fn whitespace_lanes(bytes: u8x16) -> u64
     bytes.simd_eq(whitespace_like(bytes)).to_bitmask()
 }
 
-/// Of each byte the byte of ASCII whitespace with the same lower half, or 0.
+/// For each byte, the byte of ASCII whitespace with the same lower half, or 0.
 #[inline(always)]
 fn whitespace_like(bytes: u8x16) -> u8x16
     ensures { result ≡ map whitespace_of_half bytes }

@@ -10,9 +10,10 @@ const MOST_BYTES: usize = 255;
 /// Returns the name of a file made safe: on a POSIX system it names a file in the folder where it
 /// is used, and no other. Names that Windows reserves, as `NUL` and `C:x`, stay.
 ///
-/// Each `/`, `\` and control character, NUL among them, is `_` in it. It has at most 255 bytes, cut
-/// between characters. Where that leaves nothing, `.` or `..`, it is `_`. A name that already is so
-/// stays as it is. Marks that turn the direction of writing stay. Takes memory for the name.
+/// Each `/`, `\` and control character, including NUL, becomes `_`. The name is cut between
+/// characters to at most 255 bytes. If the result is empty, `.` or `..`, it becomes `_`. A name
+/// that is already safe stays as it is. Marks that change the text direction stay. Takes memory for
+/// the name.
 ///
 /// # Errors
 ///

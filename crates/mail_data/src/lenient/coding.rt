@@ -1,4 +1,4 @@
-//! Transfer encodings with more beside their name.
+//! Transfer encodings whose name is followed by other text.
 ghost use Rattle.std.specs.Prelude.{◌≡◌, ◌≢◌, ◌≤◌, codes, length, not, Some, IfErr, IfOk};
 ghost use Rattle.std.specs.Char.{is_ascii_whitespace};
 ghost use Rattle.std.specs.List.{prefix_len};
@@ -18,9 +18,9 @@ use std::alloc::{AllocError, Global};
 /// Returns the body of a part in its transfer encoding, as `ParsedMail::get_body_encoded` does, but
 /// the name of the coding ends at ASCII whitespace, `(` or `;` (RFC 2045, section 6.1).
 ///
-/// So `base64 (a comment)` and `base64` with a space after it are Base64, and not `7bit`. Where
-/// `get_body_encoded` finds another coding than `7bit`, this is the same one. Takes memory for the
-/// name of the coding.
+/// So `base64 (a comment)` and `base64` with a space after it are Base64, and not `7bit`. If
+/// `get_body_encoded` finds an encoding other than `7bit`, this call finds the same one. Takes
+/// memory for the name of the encoding.
 ///
 /// # Errors
 ///

@@ -16,13 +16,13 @@ use zones::zone_at;
 /// What is missing in a date, or wrong in it, as `date_of` returns it.
 #[derive(Clone, Copy, Debug, PartialEq, Eq, Error)]
 pub enum DateError {
-    /// No number of one digit or two, or one that is no day of the month.
+    /// No number of one or two digits, or one that is not a day of the month.
     #[error("no day of the month")]
     Day,
     /// No name of a month.
     #[error("no month")]
     Month,
-    /// No number of two digits to nine, or a year before 1900.
+    /// No number of two to nine digits, or a year before 1900.
     #[error("no year")]
     Year,
     /// No time of day.
@@ -36,8 +36,8 @@ pub enum DateError {
     TrailingText,
 }
 
-/// Returns the seconds from 1 January 1970, 0 h UTC, to a date as mail writes it: with the forms of
-/// RFC 5322, section 3.3, and the obsolete ones of section 4.3.
+/// Returns the seconds from 1 January 1970, 00:00 UTC, to a date as written in mail: in the forms
+/// of RFC 5322, section 3.3, or the obsolete ones of section 4.3.
 ///
 /// These are a day of the week and a comma, which may be absent and are not compared with the date;
 /// a day of one digit or two, which the month has to have; the name of a month, its first three
@@ -54,8 +54,8 @@ pub enum DateError {
 ///
 /// # Errors
 ///
-/// What is missing or wrong first, in the order of the variants of `DateError`; but whether the
-/// month has the day, up to 31, is looked at once the year is read.
+/// The first thing that is missing or wrong, in the order of the variants of `DateError`; but
+/// whether the month has that day, up to 31, is checked only after the year is read.
 ///
 /// # Examples
 ///

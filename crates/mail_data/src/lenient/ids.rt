@@ -5,10 +5,10 @@ ghost use Rattle.mail_data.specs.LooseIds.{id_at, ids_in, is_at, is_closing, is_
 
 use std::alloc::{AllocError, Global};
 
-/// Returns the message ids of a text: whatever stands within angle brackets and has an `@` (after
-/// RFC 5322, section 3.6.4), without the brackets and in order.
+/// Returns the message ids in a text: whatever is in angle brackets and has an `@` (following RFC
+/// 5322, section 3.6.4), without the brackets and in order.
 ///
-/// What else stands in the text is passed over, so a broken list gives the ids that it has. An id
+/// Anything else in the text is skipped, so a broken list gives the ids that it has. An id
 /// goes from a `<` up to the first `>`, and holds no `<`: where several follow one another, the
 /// last one opens it. Where `msgidparse` reads the text, this list is that one with each id cut to
 /// what follows its last `<`, without those that then have no `@`. Takes memory for the list and

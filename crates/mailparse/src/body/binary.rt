@@ -12,14 +12,14 @@ use crate::error::MailParseError;
 use mail_codec::charset::SingleByteTable;
 use std::alloc::Global;
 
-/// A body of bytes that stand as they are (RFC 2045, section 2.9).
+/// A body of bytes that are not encoded (RFC 2045, section 2.9).
 #[derive(Clone, Copy)]
 pub struct BinaryBody<'a> {
     pub(super) content: BodyContent<'a>,
 }
 
 impl<'a> BinaryBody<'a> {
-    /// Returns the content type that the body was made with.
+    /// Returns the content type that the body was made with (RFC 2045, section 5).
     ///
     /// Takes no memory.
     ///
@@ -41,7 +41,8 @@ impl<'a> BinaryBody<'a> {
         self.content.ctype
     }
 
-    /// Returns the bytes of the body as they stand in the message.
+    /// Returns the bytes of the body as they appear in the message, not decoded (RFC 2045, section
+    /// 6).
     ///
     /// Takes no memory.
     ///
@@ -63,10 +64,10 @@ impl<'a> BinaryBody<'a> {
         self.content.raw
     }
 
-    /// Returns the text of the body under the charset of its content type.
+    /// Returns the text of the body in the charset of its content type (RFC 2046, section 4.1.2).
     ///
-    /// A byte order mark overrules that charset, and under an unknown label each byte that is not
-    /// ASCII is U+FFFD. Takes memory for the text.
+    /// A byte order mark overrides that charset. If the label is unknown, each byte that is not
+    /// ASCII becomes U+FFFD. Takes memory for the text.
     ///
     /// # Errors
     ///
@@ -91,8 +92,8 @@ impl<'a> BinaryBody<'a> {
         self.get_as_string_with(alloc, &[])
     }
 
-    /// Returns the text of the body as `get_as_string` does, where its charset may also be that of
-    /// a table.
+    /// Returns the text of the body as `get_as_string` does, but its charset may also be that of a
+    /// table (RFC 2046, section 4.1.2).
     ///
     /// The four built-in charsets take precedence over the tables; among the tables, the first
     /// that has the label is used. Takes memory for the text.

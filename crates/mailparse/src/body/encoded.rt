@@ -28,7 +28,7 @@ pub struct EncodedBody<'a> {
 }
 
 impl<'a> EncodedBody<'a> {
-    /// Returns the content type that the body was made with.
+    /// Returns the content type that the body was made with (RFC 2045, section 5).
     ///
     /// Takes no memory.
     ///
@@ -50,7 +50,8 @@ impl<'a> EncodedBody<'a> {
         self.content.ctype
     }
 
-    /// Returns the bytes of the body as they stand in the message.
+    /// Returns the bytes of the body as they appear in the message, not decoded (RFC 2045, section
+    /// 6).
     ///
     /// Takes no memory.
     ///
@@ -72,10 +73,10 @@ impl<'a> EncodedBody<'a> {
         self.content.raw
     }
 
-    /// Returns the bytes that the body stands for (RFC 2045, sections 6.7 and 6.8).
+    /// Returns the decoded bytes of the body (RFC 2045, sections 6.7 and 6.8).
     ///
-    /// In Base64 ASCII whitespace is ignored; in quoted-printable every text is read. Takes memory
-    /// for the bytes and, in Base64, a few kilobytes more.
+    /// In Base64, ASCII whitespace is ignored; in quoted-printable, any text is accepted. Takes
+    /// memory for the bytes and, in Base64, a few kilobytes more.
     ///
     /// # Errors
     ///
@@ -106,10 +107,11 @@ impl<'a> EncodedBody<'a> {
         }
     }
 
-    /// Returns the text that the body stands for, under the charset of its content type.
+    /// Returns the decoded text of the body, in the charset of its content type (RFC 2045, sections
+    /// 6.7 and 6.8; RFC 2046, section 4.1.2).
     ///
-    /// A byte order mark overrules that charset, and under an unknown label each byte that is not
-    /// ASCII is U+FFFD. Takes memory for the bytes and for the text.
+    /// A byte order mark overrides that charset. If the label is unknown, each byte that is not
+    /// ASCII becomes U+FFFD. Takes memory for the bytes and for the text.
     ///
     /// # Errors
     ///
@@ -137,8 +139,8 @@ impl<'a> EncodedBody<'a> {
         self.get_decoded_as_string_with(alloc, &[])
     }
 
-    /// Returns the text that the body stands for as `get_decoded_as_string` does, where its charset
-    /// may also be that of a table.
+    /// Returns the decoded text of the body as `get_decoded_as_string` does, but its charset may
+    /// also be that of a table (RFC 2045, sections 6.7 and 6.8; RFC 2046, section 4.1.2).
     ///
     /// The four built-in charsets take precedence over the tables; among the tables, the first
     /// that has the label is used. Takes memory for the bytes and for the text.

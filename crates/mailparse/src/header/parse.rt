@@ -11,11 +11,11 @@ use super::MailHeader;
 use crate::error::MailParseError;
 use mail_codec::bytescan::find_byte;
 
-/// Reads the header at the front of `raw`, and returns it with the number of bytes that it takes,
-/// its line end among them (RFC 5322, sections 2.2 and 2.2.3).
+/// Reads the header at the front of `raw`, and returns it with the number of bytes that it takes
+/// up, including its line end (RFC 5322, sections 2.2 and 2.2.3).
 ///
-/// The key ends at the first colon; a line without one is a key alone. The value goes on over each
-/// line that begins with a space or a tab. Takes no memory.
+/// The key ends at the first colon; a line without a colon is a key alone. The value continues on
+/// each line that begins with a space or a tab. Takes no memory.
 ///
 /// # Errors
 ///

@@ -12,7 +12,7 @@ use std::alloc::Global;
 /// Reads the headers at the front of `raw` up to the blank line that ends them, or to the end of
 /// input, and returns them with the offset just after the blank line (RFC 5322, section 2.1).
 ///
-/// A blank line is LF or CR LF. Takes memory for the list of headers alone.
+/// A blank line is LF or CR LF. Takes memory only for the list of headers.
 ///
 /// # Errors
 ///

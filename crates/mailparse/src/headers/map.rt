@@ -11,17 +11,16 @@ use crate::error::MailParseError;
 use crate::header::MailHeader;
 use std::alloc::{AllocError, Global};
 
-/// A list of headers, in the order of the message, that is looked up by name.
+/// A list of headers, in the order of the message, with lookup by name (RFC 5322, section 2.2).
 ///
-/// A name is compared with the text of a whole key, one character for each byte, ignoring ASCII
-/// case and nothing else (after RFC 5322, section 1.2.2): a space before the colon belongs to the
-/// key.
+/// A name is compared with the text of the whole key, one character for each byte. Only ASCII case
+/// is ignored (following RFC 5322, section 1.2.2): a space before the colon belongs to the key.
 pub trait MailHeaderMap {
     ghost use Rattle.mailparse.specs.Header.{Header};
     // The headers that the map has now.
     ghost present: { Self → List Header };
 
-    /// Returns the first header with this name, or `None` where there is none.
+    /// Returns the first header with this name (RFC 5322, section 2.2), or `None` if there is none.
     ///
     /// Takes no memory.
     ///
@@ -38,8 +37,8 @@ pub trait MailHeaderMap {
     fn get_first_header(&self, key: &str) -> Option<&MailHeader<'_>>
         ensures { option_copied result ≡ first_with_key key.now (present self.now) };
 
-    /// Returns the value of the first header with this name, as `MailHeader::get_value` reads it,
-    /// or `None` where there is none.
+    /// Returns the value of the first header with this name (RFC 5322, section 2.2), as
+    /// `MailHeader::get_value` reads it, or `None` if there is none.
     ///
     /// Takes memory for the value, and none where there is no such header.
     ///
@@ -62,8 +61,8 @@ pub trait MailHeaderMap {
             (Ok (first_value key.now (present self.now))) }
         ensures no_alloc { IsNone (first_with_key key.now (present self.now)) → IsOk result };
 
-    /// Returns the values of all headers with this name, as `MailHeader::get_value` reads them, in
-    /// the order of the message.
+    /// Returns the values of all headers with this name (RFC 5322, section 2.2), as
+    /// `MailHeader::get_value` reads them, in the order of the message.
     ///
     /// Takes memory for the values and their list, and none where there is no such header.
     ///
@@ -85,7 +84,7 @@ pub trait MailHeaderMap {
         ensures read { GivesTexts result (all_values key.now (present self.now)) }
         ensures no_alloc { IsNone (first_with_key key.now (present self.now)) → IsOk result };
 
-    /// Returns all headers with this name, in the order of the message.
+    /// Returns all headers with this name (RFC 5322, section 2.2), in the order of the message.
     ///
     /// Takes memory for the list, and none where there is no such header.
     ///

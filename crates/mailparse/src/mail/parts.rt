@@ -6,8 +6,8 @@ ghost use Rattle.mailparse.specs.Views.{tree_of};
 use crate::mail::ParsedMail;
 use std::alloc::AllocError;
 
-/// An iterator over a message and its parts, each before its own parts, as `ParsedMail::parts`
-/// returns it.
+/// An iterator over a message and all its parts, each part before its own parts, as
+/// `ParsedMail::parts` returns it (RFC 2046, section 5.1).
 ///
 /// It holds the whole list; `next` takes no memory.
 #[derive(Drop)]
