@@ -150,9 +150,9 @@ class Run:
                 self.little += [str(it.edit)] if it.says_little else []
                 print(f"{'passed' if it.is_refused else 'FAILED'} {it.edit}: {it.text}", flush=True)
 
-    def prove(self, name, trial, jobs):
+    def prove(self, name, trial):
         """Proves a crate as it is, and keeps the proofs."""
-        said, ran = self.checker.prove(name, jobs)
+        said, ran = self.checker.prove(name)
         if not is_proved(said):
             raise Stopped(f"{name} is not proved as it is: {first_words(said)}")
         self.say(f"{name}: proved as it is, {self.took(ran)}")
@@ -174,10 +174,10 @@ class Run:
             raise Stopped(f"beside an edit that changes nothing, {real} is not refused")
         self.say(f"{trial.crate.name}: an edit that changes nothing is told as not refused, {self.took(ran)}")
 
-    def try_batch(self, trial, number, jobs):
+    def try_batch(self, trial, number):
         """Checks a batch, and each of its edits alone that it does not show to be refused."""
         batch = trial.batches[number]
-        said, ran = self.checker.check_with(trial.crate.name, texts_with(trial.crate, batch), jobs)
+        said, ran = self.checker.check_with(trial.crate.name, texts_with(trial.crate, batch))
         why = unclear(trial.known or said.names_of(trial.crate.name), batch, said)
         outcomes = [] if why else [outcome_of(edit, said) for edit in batch]
         self.say(f"{trial.crate.name}: batch {number + 1} of {len(trial.batches)}, {len(batch)} edits, {self.took(ran)}")
@@ -188,7 +188,7 @@ class Run:
         for edit in batch:
             if str(edit) not in sure and not self.is_stopped:
                 if not trial.known:
-                    self.prove(trial.crate.name, trial, jobs)
+                    self.prove(trial.crate.name, trial)
                 self.try_alone(trial, edit)
 
     def try_alone(self, trial, edit):
@@ -209,7 +209,7 @@ def check_names(trial):
 
 
 def tasks_of(run):
-    """The tasks by their keys: what each waits for, and its call, which gets how many jobs it may use."""
+    """The tasks by their keys: what each waits for, and its call."""
     listed = run.checker.listed
     trials = {it.crate.name: it for it in run.trials if it.edits}
     if not trials:
@@ -221,13 +221,13 @@ def tasks_of(run):
         trial = trials.get(name)
         if name in above or trial is lowest or run.checker.is_kept or len(trial.batches) > 1:
             below = [("prove", it) for it in listed[name]]
-            tasks["prove", name] = below, lambda jobs, name=name, trial=trial: run.prove(name, trial, jobs)
+            tasks["prove", name] = below, lambda name=name, trial=trial: run.prove(name, trial)
     shown = ("nothing", lowest.crate.name)
-    tasks[shown] = [("prove", lowest.crate.name)], lambda jobs: run.show_that_it_can_fail(lowest)
+    tasks[shown] = [("prove", lowest.crate.name)], lambda: run.show_that_it_can_fail(lowest)
     for name, trial in trials.items():
         proofs = [key for it in all_below(listed, name) if (key := ("prove", it)) in tasks]
         for number in range(len(trial.batches)):
-            call = lambda jobs, trial=trial, number=number: run.try_batch(trial, number, jobs)
+            call = lambda trial=trial, number=number: run.try_batch(trial, number)
             tasks["batch", name, number] = [*proofs, shown], call
     return tasks
 
@@ -241,7 +241,7 @@ def run_tasks(tasks, lanes, stop):
             while left or running:
                 start_ready(pool, lanes, done, running, left)
                 for ended in wait(running, return_when=FIRST_COMPLETED).done:
-                    key, _ = running.pop(ended)
+                    key = running.pop(ended)
                     ended.result()
                     done.add(key)
         except BaseException:
@@ -250,16 +250,11 @@ def run_tasks(tasks, lanes, stop):
 
 
 def start_ready(pool, lanes, done, running, left):
-    """Starts the tasks that wait for nothing, as far as lanes are idle. A proof from nothing gets the lanes
-    that nothing else is ready for."""
+    """Starts the tasks that wait for nothing, as far as lanes are idle."""
     ready = [key for key, (waits, _) in left.items() if done.issuperset(waits)]
-    for at, key in enumerate(ready):
-        idle = lanes - sum(jobs for _, jobs in running.values())
-        if idle < 1:
-            return
-        is_first = key[0] == "prove" or (key[0] == "batch" and ("prove", key[1]) not in done)
-        jobs = max(1, idle - (len(ready) - at - 1)) if is_first else 1
-        running[pool.submit(left.pop(key)[1], jobs)] = key, jobs
+    for key in ready[: lanes - len(running)]:
+        _, call = left.pop(key)
+        running[pool.submit(call)] = key
 
 
 def main():

@@ -253,11 +253,11 @@ class FakeChecker:
         self.checked = []
         self.proved = []
 
-    def prove(self, crate, jobs):
+    def prove(self, crate):
         self.proved.append(crate)
         return self.answer(crate, "")
 
-    def check_with(self, crate, texts, jobs=1):
+    def check_with(self, crate, texts):
         self.checked.append(texts["src/lib.rt"])
         return self.answer(crate, texts["src/lib.rt"])
 
@@ -333,7 +333,7 @@ class RunTest(unittest.TestCase):
 
     def test_nothing_goes_on_where_the_crate_is_not_proved(self):
         broken = FakeChecker()
-        broken.prove = lambda crate, jobs: broken.answer(crate, "fn a() { wrong }")
+        broken.prove = lambda crate: broken.answer(crate, "fn a() { wrong }")
         with self.assertRaisesRegex(try_edits.Stopped, "low is not proved as it is"):
             self.run_with(broken, "wrong")
 
