@@ -18,6 +18,9 @@ Where a batch does not tell clearly, or an edit was not refused in it, the edit 
 is called failed. First of all a batch with an edit that changes nothing is tried, which has to be told
 as not refused.
 
+With --gentle, which is for a run beside other proofs, a batch starts only where a processor is idle, and
+then gets what the rest leaves. The first proofs do not wait, since each waits for those of the crates below.
+
 NAME is a crate, or an edit, as CRATE/NAME; with none, all are tried. The last line is `N passed, N failed`,
 and the status is 1 where an edit failed.
 """
@@ -53,9 +56,14 @@ def read_words():
     reader = argparse.ArgumentParser(description=title, epilog=more, formatter_class=form)
     reader.add_argument("--jobs", type=int, default=0, help="how many checks run side by side; one a processor")
     reader.add_argument("--batch", type=int, default=16, help="how many edits are checked at once at most")
+    reader.add_argument("--gentle", action="store_true", help="leave the processors to what else runs")
     reader.add_argument("--kept", action="store_true", help="start from what `rt check` has kept in crates/*/out")
     reader.add_argument("names", nargs="*", metavar="NAME", help="a crate, or an edit as CRATE/NAME")
     return reader, reader.parse_args()
+
+
+# How often, in seconds, it looks whether a batch may start.
+LOOK = 3
 
 
 class Stopped(Exception):
@@ -232,15 +240,38 @@ def tasks_of(run):
     return tasks
 
 
-def run_tasks(tasks, lanes, stop):
+class Idle:
+    """Looks whether a processor has been idle since it was last asked."""
+
+    def __init__(self, measure=None):
+        self.measure = measure or idle_seconds
+        self.last = self.measure()
+
+    def is_found(self):
+        """Says so once a second at most, so that what was started is seen at work before more is."""
+        then, now = self.last, self.measure()
+        if now[0] - then[0] < 1:
+            return False
+        self.last = now
+        return now[1] - then[1] > 0.8 * (now[0] - then[0])
+
+
+def idle_seconds():
+    """The time now, and for how long the processors have been idle since the machine started."""
+    with open("/proc/stat", encoding="utf-8") as opened:
+        idle, waiting = map(int, opened.readline().split()[4:6])
+    return time.monotonic(), (idle + waiting) / os.sysconf("SC_CLK_TCK")
+
+
+def run_tasks(tasks, lanes, stop, has_room=lambda: True):
     """Runs the tasks side by side, each once those that it waits for have ended. Where one fails, it calls
     `stop`, and returns once what runs has ended."""
     done, running, left = set(), {}, dict(tasks)
     with ThreadPoolExecutor(lanes) as pool:
         try:
             while left or running:
-                start_ready(pool, lanes, done, running, left)
-                for ended in wait(running, return_when=FIRST_COMPLETED).done:
+                start_ready(pool, lanes, done, running, left, has_room)
+                for ended in wait(running, timeout=LOOK, return_when=FIRST_COMPLETED).done:
                     key = running.pop(ended)
                     ended.result()
                     done.add(key)
@@ -249,12 +280,14 @@ def run_tasks(tasks, lanes, stop):
             raise
 
 
-def start_ready(pool, lanes, done, running, left):
-    """Starts the tasks that wait for nothing, as far as lanes are idle."""
+def start_ready(pool, lanes, done, running, left, has_room):
+    """Starts the tasks that wait for nothing, as far as lanes are idle: the proofs of crates first; others
+    as far as there is room for them, or where nothing runs."""
     ready = [key for key, (waits, _) in left.items() if done.issuperset(waits)]
-    for key in ready[: lanes - len(running)]:
-        _, call = left.pop(key)
-        running[pool.submit(call)] = key
+    for key in sorted(ready, key=lambda it: it[0] != "prove")[: lanes - len(running)]:
+        if key[0] == "prove" or not running or has_room():
+            _, call = left.pop(key)
+            running[pool.submit(call)] = key
 
 
 def main():
@@ -266,11 +299,12 @@ def main():
     if lost:
         reader.error(f"there is no crate with edits, and no edit, of the name {lost[0]}")
     with tempfile.TemporaryDirectory(prefix="try-edits-") as room:
-        run = Run(trials, Checker(TOP, room, words.kept), words.jobs or processors())
+        run = Run(trials, Checker(TOP, room, words.kept, words.gentle), words.jobs or processors())
+        has_room = Idle().is_found if words.gentle else lambda: True
         for trial in trials:
             run.tell(Outcome(name, False, f"BAD EDIT: {why}") for name, why in trial.bad)
         try:
-            run_tasks(tasks_of(run), run.jobs, run.stop)
+            run_tasks(tasks_of(run), run.jobs, run.stop, has_room)
         except Stopped as why:
             run.say(f"stopped: {why}")
             run.failed += 1

@@ -55,13 +55,13 @@ def copy_sources(top, to, parts):
                 shutil.copytree(f"{top}/crates/{crate}/{part}", f"{to}/crates/{crate}/{part}")
 
 
-def run_check(folder):
+def run_check(folder, before=()):
     """Runs `rt check` in the folder of a crate, on one processor: on four it takes half as much again of
-    them, and other checks run beside it."""
+    them, and other checks run beside it. The words `before` stand before the command."""
     with tempfile.TemporaryFile("w+", encoding="utf-8", errors="replace") as output:
         started = time.monotonic()
         how = {"cwd": folder, "stdin": subprocess.DEVNULL, "stdout": output, "stderr": subprocess.STDOUT}
-        process = subprocess.Popen(["rt", "check", "--jobs", "1"], **how)
+        process = subprocess.Popen([*before, "rt", "check", "--jobs", "1"], **how)
         stopper = threading.Timer(LIMIT, process.kill)
         stopper.start()
         # (wait4 gives what the process and those that it started took)
@@ -73,11 +73,13 @@ def run_check(folder):
 
 
 class Checker:
-    """A copy of the repository with the proofs of its crates, and copies of that with texts changed."""
+    """A copy of the repository with the proofs of its crates, and copies of that with texts changed. Where
+    it is gentle, the checks of changed texts get the processors after the proofs."""
 
-    def __init__(self, top, room, is_kept):
+    def __init__(self, top, room, is_kept, is_gentle=False):
         self.room = room
         self.is_kept = is_kept
+        self.before = ["nice", "-n", "10"] if is_gentle else []
         self.listed = crates_listed(top)
         self.base = f"{room}/base"
         os.mkdir(self.base)
@@ -97,7 +99,7 @@ class Checker:
                 os.remove(path)
                 with open(path, "w", encoding="utf-8", newline="") as opened:
                     opened.write(text)
-            ran = run_check(f"{copy}/crates/{crate}")
+            ran = run_check(f"{copy}/crates/{crate}", self.before)
         return read_output(ran.output), ran
 
     def link_base(self, crate, copy):

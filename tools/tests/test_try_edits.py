@@ -356,6 +356,37 @@ class RunTest(unittest.TestCase):
         self.assertEqual(checker_of_test.proved, ["low", "high"])
 
 
+class OrderTest(unittest.TestCase):
+    def order_of(self, names, waits, has_room):
+        """In which order one lane runs the tasks, each of which waits for those that are named."""
+        started = []
+        tasks = {key: (waits.get(key, []), lambda key=key: started.append(key)) for key in names}
+        try_edits.run_tasks(tasks, 1, lambda: None, has_room)
+        return started
+
+    def test_the_proofs_of_crates_start_first(self):
+        low, high, batch = ("prove", "low"), ("prove", "high"), ("batch", "low", 0)
+        order = self.order_of([low, batch, high], {high: [low], batch: [low]}, lambda: True)
+        self.assertEqual(order, [low, high, batch])
+
+    def test_a_batch_waits_for_room_while_something_runs(self):
+        done, running, left = set(), {}, {("batch", "low", 0): ([], int), ("prove", "low"): ([], int)}
+        with try_edits.ThreadPoolExecutor(4) as pool:
+            try_edits.start_ready(pool, 4, done, running, left, lambda: False)
+            self.assertEqual((list(running.values()), list(left)), ([("prove", "low")], [("batch", "low", 0)]))
+            try_edits.start_ready(pool, 4, done, running, left, lambda: True)
+            self.assertEqual(left, {})
+
+    def test_a_batch_waits_for_no_room_where_nothing_runs(self):
+        batches = [("batch", "low", 0), ("batch", "low", 1)]
+        self.assertEqual(self.order_of(batches, {}, lambda: False), batches)
+
+    def test_a_processor_is_idle_once_it_was_so_for_most_of_the_time(self):
+        measured = [(0.0, 5.0), (0.5, 5.5), (2.0, 6.5), (4.0, 8.3), (6.0, 10.0)]
+        idle = try_edits.Idle(iter(measured).__next__)
+        self.assertEqual([idle.is_found() for _ in measured[1:]], [False, False, True, True])
+
+
 def main():
     if len(sys.argv) > 1:
         print(__doc__.strip(), file=sys.stderr if sys.argv[1] != "--help" else sys.stdout)
