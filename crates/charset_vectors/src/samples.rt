@@ -17,10 +17,11 @@ static KOI8_R: &[u8] = b"From: =?koi8-r?b?4c7OwQ==?= <anna@example.org>\r\n\
 
 #[test]
 fn a_mail_in_koi8_r(rt: HostRuntime) -> Result<(), Fail> {
-    let mail = parse_mail_with(rt.alloc(), KOI8_R, &TABLES)?;
+    let tables = &TABLES;
+    let mail = parse_mail_with(rt.alloc(), KOI8_R, tables)?;
     let from = mail.headers.get_first_header("From").ok_or("no sender")?;
     assert_eq!(rt;
-        from.get_value_with(rt.alloc(), &TABLES)?.as_str(),
+        from.get_value_with(rt.alloc(), tables)?.as_str(),
         "Анна <anna@example.org>"
     );
     let subject = mail
@@ -28,14 +29,14 @@ fn a_mail_in_koi8_r(rt: HostRuntime) -> Result<(), Fail> {
         .get_first_header("Subject")
         .ok_or("no subject")?;
     assert_eq!(rt;
-        subject.get_value_with(rt.alloc(), &TABLES)?.as_str(),
+        subject.get_value_with(rt.alloc(), tables)?.as_str(),
         "Встреча в четверг"
     );
     assert_eq!(rt;
         mail.ctype.params.get("name").ok_or("no name")?.as_str(),
         "план.txt"
     );
-    let text = mail.get_body_with(rt.alloc(), &TABLES)?;
+    let text = mail.get_body_with(rt.alloc(), tables)?;
     assert_eq!(rt;
         text.as_str(),
         "Здравствуйте!\r\nВстретимся в четверг, в 10:30.\r\n"

@@ -12,14 +12,15 @@ use std::test::Fail;
 
 /// The names of the files of a mail, and then the text that is to be read.
 fn names_and_text(alloc: Global, raw: &[u8]) -> Result<String, MailParseError> {
-    let mail = parse_mail_with(alloc, raw, &TABLES)?;
+    let tables = &TABLES;
+    let mail = parse_mail_with(alloc, raw, tables)?;
     let mut text = String::new(alloc);
-    for file in attachments_with(alloc, &mail, &TABLES)?.as_slice() {
-        if let Some(name) = file_name_with(alloc, file.part, &TABLES)? {
+    for file in attachments_with(alloc, &mail, tables)?.as_slice() {
+        if let Some(name) = file_name_with(alloc, file.part, tables)? {
             write!(text, "{name};")?;
         }
     }
-    if let Some(part) = text_part_with(alloc, &mail, &TABLES)? {
+    if let Some(part) = text_part_with(alloc, &mail, tables)? {
         write!(text, " {}", part.get_body(alloc)?)?;
     }
     Ok(text)

@@ -11,15 +11,16 @@ fn main(rt: HostRuntime) -> anyhow::Result<()> {
     let alloc = rt.alloc();
     let mut raw = Vec::new(alloc);
     rt.reader().read_to_end(&mut raw)?;
-    let mail = parse_mail_with(alloc, raw.as_slice(), &TABLES)?;
+    let tables = &TABLES;
+    let mail = parse_mail_with(alloc, raw.as_slice(), tables)?;
     if let Some(subject) = mail.headers.get_first_header("Subject") {
-        println!(rt; "Subject: {}", subject.get_value_with(alloc, &TABLES)?)?;
+        println!(rt; "Subject: {}", subject.get_value_with(alloc, tables)?)?;
     }
-    if let Some(part) = text_part_with(alloc, &mail, &TABLES)? {
-        println!(rt; "{}", part.get_body_with(alloc, &TABLES)?)?;
+    if let Some(part) = text_part_with(alloc, &mail, tables)? {
+        println!(rt; "{}", part.get_body_with(alloc, tables)?)?;
     }
-    for file in attachments_with(alloc, &mail, &TABLES)? {
-        if let Some(name) = file_name_with(alloc, file.part, &TABLES)? {
+    for file in attachments_with(alloc, &mail, tables)? {
+        if let Some(name) = file_name_with(alloc, file.part, tables)? {
             println!(rt; "Attachment {}: {name}", file.path)?;
         }
     }

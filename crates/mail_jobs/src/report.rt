@@ -20,10 +20,11 @@ pub fn report(alloc: Global, mail: &[u8]) -> Result<String, AllocError> {
 
 /// The lines of a mail: its index, its files, who was not reached, its parents, and an empty one.
 fn lines_of(alloc: Global, mail: &[u8]) -> Result<String, MailParseError> {
-    let mail = parse_mail_with(alloc, mail, &TABLES)?;
+    let tables = &TABLES;
+    let mail = parse_mail_with(alloc, mail, tables)?;
     let mut lines = String::new(alloc);
-    push_entry(&mut lines, &index_entry(alloc, &mail, &TABLES)?)?;
-    for file in stored_files(alloc, &mail, &TABLES)?.as_slice() {
+    push_entry(&mut lines, &index_entry(alloc, &mail, tables)?)?;
+    for file in stored_files(alloc, &mail, tables)?.as_slice() {
         push_file(&mut lines, file)?;
     }
     for recipient in failed_recipients(alloc, &mail)?.as_slice() {

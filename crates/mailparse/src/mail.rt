@@ -89,9 +89,8 @@ impl<'a> ParsedMail<'a> {
     /// Returns the body, still in the transfer encoding that the first `Content-Transfer-Encoding`
     /// header names (RFC 2045, section 6).
     ///
-    /// The name is compared ignoring ASCII case; any other text, or no such header, means `7bit`,
-    /// the crate's own rule.
-    /// Nothing is decoded yet. Takes memory for the name of the encoding.
+    /// The name is compared ignoring ASCII case. By the crate's own rule, any other text, or no such
+    /// header, means `7bit`. Nothing is decoded yet. Takes memory for the name of the encoding.
     ///
     /// # Errors
     ///
