@@ -15,7 +15,7 @@ import random
 
 WORDS = ["caf\u00e9", "Hello", "world", "a", "Re:", "x=y", "\u8fce\u5a36", "\U0001f600", "(note)", "plain text", "=?x?Q?a?="]
 CHARSETS = ["utf-8", "UTF-8", "us-ascii", "iso-8859-1", "windows-1252", "utf-16", "utf-16be", "koi8-r", "x", ""]
-CODINGS = ["base64", "quoted-printable", "7bit", "8bit", "binary", "BASE64", "base64 ", "x-other"]
+ENCODINGS = ["base64", "quoted-printable", "7bit", "8bit", "binary", "BASE64", "base64 ", "x-other"]
 LEAF_TYPES = ["text/plain", "text/html", "TEXT/PLAIN", "image/png", "application/octet-stream", "message/rfc822", "text", ""]
 MULTI_TYPES = ["multipart/mixed", "multipart/alternative", "multipart/digest", "Multipart/Digest", "multipart", "multipartx/y"]
 BOUNDARIES = ["b", "bb", "bbb", "b-", "--", "-", "=_Part_1", "a b", "b'c", "0123456789" * 7, "\u00e9", "b?", "x;y", ""]
@@ -74,16 +74,16 @@ def parameters(rng, eol):
     return "".join(rng.choice([";", "; ", ";" + eol + " ", " ;"]) + one for one in made)
 
 
-def body(rng, coding, eol):
-    """A body, mostly in that coding."""
+def body(rng, encoding, eol):
+    """A body, mostly in that encoding."""
     data = " ".join(rng.choice(WORDS) for _ in range(rng.randrange(20))).encode("utf-8")
     if rng.random() < 0.2:
         data = rng.randbytes(rng.randrange(60))
-    if coding.lower().strip() == "base64":
+    if encoding.lower().strip() == "base64":
         data = base64.encodebytes(data)
         if rng.random() < 0.3:
             data = data.replace(b"=", rng.choice([b"", b"==", b"!"]))
-    elif coding == "quoted-printable":
+    elif encoding == "quoted-printable":
         data = quopri.encodestring(data)
         if rng.random() < 0.3:
             data = data.replace(b"=C3", rng.choice([b"=c3", b"=C", b"= \n", b"=\xff"]))
@@ -97,13 +97,13 @@ def boundary_text(rng, boundary):
     return quoted(rng, boundary)
 
 
-def header_lines(rng, eol, ctype, coding):
+def header_lines(rng, eol, ctype, encoding):
     """The headers of a mail or a part, with or without their blank line."""
     lines = [f"{rng.choice(KEYS)}:{rng.choice(['', ' ', '  '])}{value(rng, eol)}" for _ in range(rng.randrange(4))]
     if ctype is not None:
         lines.append(f"{rng.choice(['Content-Type', 'content-type', 'CONTENT-TYPE'])}: {ctype}{parameters(rng, eol)}")
-    if coding is not None:
-        lines.append(f"Content-Transfer-Encoding: {coding}")
+    if encoding is not None:
+        lines.append(f"Content-Transfer-Encoding: {encoding}")
     if rng.random() < 0.3:
         lines.append(f"Content-Disposition: {rng.choice(['inline', 'attachment', 'Form-Data', 'x', ''])}{parameters(rng, eol)}")
     if rng.random() < 0.2:
@@ -119,11 +119,11 @@ def header_lines(rng, eol, ctype, coding):
 
 def leaf(rng, eol):
     """A mail or a part without parts."""
-    coding = rng.choice(CODINGS) if rng.random() < 0.6 else None
+    encoding = rng.choice(ENCODINGS) if rng.random() < 0.6 else None
     ctype = rng.choice(LEAF_TYPES) if rng.random() < 0.7 else None
     if ctype is not None and rng.random() < 0.7:
         ctype += f"; charset={quoted(rng, rng.choice(CHARSETS))}"
-    return header_lines(rng, eol, ctype, coding) + body(rng, coding or "", eol)
+    return header_lines(rng, eol, ctype, encoding) + body(rng, encoding or "", eol)
 
 
 def mail(rng, levels, outer):

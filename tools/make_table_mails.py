@@ -253,10 +253,10 @@ class Writer:
             data = b"\xef\xbb\xbf" + standard(codec, data).encode("utf-8")
         elif data.startswith(tuple(mark for mark, _ in MARKS)):
             data = b"x" + data
-        coding = self.rng.choice(["base64", "quoted-printable", "8bit", None])
-        if coding is not None:
-            lines.append(f"Content-Transfer-Encoding: {coding}")
-        encode = {"base64": base64.encodebytes, "quoted-printable": quopri.encodestring}.get(coding, bytes)
+        encoding = self.rng.choice(["base64", "quoted-printable", "8bit", None])
+        if encoding is not None:
+            lines.append(f"Content-Transfer-Encoding: {encoding}")
+        encode = {"base64": base64.encodebytes, "quoted-printable": quopri.encodestring}.get(encoding, bytes)
         return "\n".join(lines).encode("ascii") + b"\n", encode(data)
 
     def parts(self, levels):

@@ -34,8 +34,8 @@ LABELS = [
     b"windows-1252", b"Windows-1252", b"utf-16", b"UTF-16LE", b"utf-16be", b"unicode",
 ]
 UNKNOWN_LABELS = [b"koi8-r", b"x", b"", b"utf-7", b"utf_8", b"iso-8859-2", b"utf-8*en", b"replacement"]
-CODINGS = [b"Q", b"q", b"B", b"b"]
-UNKNOWN_CODINGS = [b"", b"X", b"QQ", b"Q ", b"8bit"]
+ENCODINGS = [b"Q", b"q", b"B", b"b"]
+UNKNOWN_ENCODINGS = [b"", b"X", b"QQ", b"Q ", b"8bit"]
 
 # Q-encoded rests: escapes, ends in whitespace, what only looks like an escape.
 Q_RESTS = [
@@ -58,15 +58,15 @@ TEXTS = [
 ]
 
 
-def word(label=b"utf-8", coding=b"Q", rest=b"a"):
+def word(label=b"utf-8", encoding=b"Q", rest=b"a"):
     """An encoded word."""
-    return b"=?" + label + b"?" + coding + b"?" + rest + b"?="
+    return b"=?" + label + b"?" + encoding + b"?" + rest + b"?="
 
 
 A = word()
 B = word(rest=b"b")
 UNKNOWN = word(b"x", b"Q", b"b")
-NO_BASE64 = word(coding=b"B", rest=b"YQ")
+NO_BASE64 = word(encoding=b"B", rest=b"YQ")
 
 
 def chosen_values():
@@ -95,13 +95,13 @@ def chosen_values():
     yield from [edge + A + edge + B + edge for edge in EDGES]
     yield from [b"\xc3\xa9\xc3\xa9 " + A, b"\xc3\xa9" + A, A + b"\xc3\xa9", b"\xe8\xbf\x8e" + A + b" " + B]
     # The inside of a word.
-    yield from [word(label, coding) for label in LABELS + UNKNOWN_LABELS for coding in CODINGS[::2]]
-    yield from [word(b"utf-8", coding, b"YQ==") for coding in CODINGS + UNKNOWN_CODINGS]
+    yield from [word(label, encoding) for label in LABELS + UNKNOWN_LABELS for encoding in ENCODINGS[::2]]
+    yield from [word(b"utf-8", encoding, b"YQ==") for encoding in ENCODINGS + UNKNOWN_ENCODINGS]
     yield from [word(white + b"utf-8" + white) for white in ASCII_WHITE + WIDE_WHITE[:2]]
     yield from [word(rest=rest) for rest in Q_RESTS]
     yield from [word(b"windows-1252", b"q", rest) for rest in Q_RESTS]
     yield from [word(b"utf-16be", b"Q", rest) for rest in Q_RESTS[-30:]]
-    yield from [word(coding=b"B", rest=rest) for rest in B_RESTS]
+    yield from [word(encoding=b"B", rest=rest) for rest in B_RESTS]
     yield from [word(b"utf-16le", b"b", rest) for rest in B_RESTS]
     yield from [word(b"UTF-16BE", b"B", rest) for rest in B_RESTS[-12:]]
     yield word(b"windows-1252", b"Q", b"".join(b"=%02X" % byte for byte in range(128, 160)))
@@ -116,7 +116,7 @@ def chosen_values():
     yield from [A + A, A + b"x " + B, A + b"?=", A + b"?= ?=", b"=?" + A, b"=? " + A, A[:-2] + b" " + B, A[:-2] + b"?=x?="]
     # Long values: one word, many words, many lines, many openings.
     yield word(rest=b"abc_" * 300)
-    yield word(coding=b"B", rest=base64.b64encode("h\u00e9llo ".encode("utf-8") * 150))
+    yield word(encoding=b"B", rest=base64.b64encode("h\u00e9llo ".encode("utf-8") * 150))
     yield b" ".join([A, B] * 60)
     yield b"\r\n ".join([A, b"text", B, UNKNOWN] * 25)
     yield b"=?a?=x " * 200
@@ -148,15 +148,15 @@ def q_text(rng, data):
 
 
 def made_word(rng):
-    """A word: mostly a sound one, else one with an unknown label or coding or a doubtful rest."""
+    """A word: mostly a sound one, else one with an unknown label or encoding or a doubtful rest."""
     label = rng.choice(LABELS if rng.random() < 0.85 else UNKNOWN_LABELS)
-    coding = rng.choice(CODINGS if rng.random() < 0.92 else UNKNOWN_CODINGS)
+    encoding = rng.choice(ENCODINGS if rng.random() < 0.92 else UNKNOWN_ENCODINGS)
     sound = rng.random() < 0.75
-    if coding in (b"B", b"b"):
+    if encoding in (b"B", b"b"):
         rest = base64.b64encode(payload(rng, label)) if sound else rng.choice(B_RESTS)
     else:
         rest = q_text(rng, payload(rng, label)) if sound else rng.choice(Q_RESTS)
-    return word(label, coding, rest)
+    return word(label, encoding, rest)
 
 
 def made_value(rng):

@@ -72,8 +72,8 @@ fn ids_of_texts(rt: HostRuntime) -> Result<(), Fail> {
     Ok(assert_texts(&rt, rt.alloc(), &IDS, shown_ids)?)
 }
 
-/// The name of the coding in which a mail with this in its `Content-Transfer-Encoding` is.
-fn coding_of(alloc: Global, value: &[u8]) -> Result<String, MailParseError> {
+/// The name of the encoding in which a mail with this in its `Content-Transfer-Encoding` is.
+fn encoding_of(alloc: Global, value: &[u8]) -> Result<String, MailParseError> {
     let mut raw = Vec::new(alloc);
     raw.extend_from_slice(b"Content-Transfer-Encoding:")?;
     raw.extend_from_slice(value)?;
@@ -90,14 +90,14 @@ fn coding_of(alloc: Global, value: &[u8]) -> Result<String, MailParseError> {
 }
 
 /// The same, or the text of the error.
-fn shown_coding(alloc: Global, value: &[u8]) -> Result<String, AllocError> {
-    match coding_of(alloc, value) {
+fn shown_encoding(alloc: Global, value: &[u8]) -> Result<String, AllocError> {
+    match encoding_of(alloc, value) {
         Ok(text) => Ok(text),
         Err(error) => format!(in alloc; "{error}"),
     }
 }
 
-static CODINGS: [Case; 12] = cases! {
+static ENCODINGS: [Case; 12] = cases! {
     b"base64" => "base64",
     b" BASE64" => "base64",
     b" base64 " => "base64",
@@ -113,6 +113,6 @@ static CODINGS: [Case; 12] = cases! {
 };
 
 #[test]
-fn codings_of_mails(rt: HostRuntime) -> Result<(), Fail> {
-    Ok(assert_texts(&rt, rt.alloc(), &CODINGS, shown_coding)?)
+fn encodings_of_mails(rt: HostRuntime) -> Result<(), Fail> {
+    Ok(assert_texts(&rt, rt.alloc(), &ENCODINGS, shown_encoding)?)
 }

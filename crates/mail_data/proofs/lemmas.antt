@@ -5,7 +5,7 @@ pub mod FileNames
 pub mod Files
 pub mod Forwarding
 pub mod Lines
-pub mod LooseCoding
+pub mod LooseEncoding
 pub mod LooseDate
 pub mod LooseIds
 pub mod Mailbox

@@ -7,7 +7,7 @@ pub mod MailboxViews
 pub mod Base64Front
 pub mod Base64FrontViews
 pub mod LooseIds
-pub mod LooseCoding
+pub mod LooseEncoding
 pub mod LooseDate
 pub mod LooseDateViews
 pub mod Texts

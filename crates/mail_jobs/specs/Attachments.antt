@@ -8,7 +8,7 @@ use Rattle.mailparse.specs.Mail.{Node, Tree, root}
 use Rattle.mail_data.specs.Base64Front.{Front, base64_front}
 use Rattle.mail_data.specs.FileNames.{safe_name}
 use Rattle.mail_data.specs.Files.{attachments_in, file_name_in}
-use Rattle.mail_data.specs.LooseCoding.{loose_body_kind}
+use Rattle.mail_data.specs.LooseEncoding.{loose_body_kind}
 
 -- a file that is stored: where its part stands, its name, and as much of its bytes as can be read
 pub record Stored : Type 0 where
@@ -24,7 +24,7 @@ stored_name known node = safe_name (unwrap_or (file_name_in known node) (codes "
 abbrev pub whole : List ℕ → Front
 whole bytes = record { bytes = bytes; fault = None }
 
--- what can be read of a body in this coding: of Base64 what stands before a damage
+-- what can be read of a body in this encoding: of Base64 what stands before a damage
 abbrev pub readable : BodyKind → List ℕ → Front
 readable in_base64 body = base64_front body
 readable in_quoted_printable body = whole (quoted_printable body)

@@ -33,12 +33,12 @@ refusal_text (encoding text) = codes "Encoding error: " ++ text
 refusal_text (base64_fault group) = codes "Base64 decode error: group " ++ decimal group ++ codes " is no Base64 group"
 
 -- the name of a transfer encoding
-abbrev pub coding_text : BodyKind → List ℕ
-coding_text in_base64 = codes "base64"
-coding_text in_quoted_printable = codes "quoted-printable"
-coding_text in_7bit = codes "7bit"
-coding_text in_8bit = codes "8bit"
-coding_text in_binary = codes "binary"
+abbrev pub encoding_text : BodyKind → List ℕ
+encoding_text in_base64 = codes "base64"
+encoding_text in_quoted_printable = codes "quoted-printable"
+encoding_text in_7bit = codes "7bit"
+encoding_text in_8bit = codes "8bit"
+encoding_text in_binary = codes "binary"
 
 -- the name of a disposition
 abbrev pub kind_text : Kind → List ℕ
@@ -122,10 +122,10 @@ file_text leaf shown ctype =
     codes ",\"disposition\":" ++ text_or_null (option_map (λ d. kind_text d.kind) shown) ++ codes ",\"file_name\":" ++ text_or_null (name_in shown ctype)
     ++ codes ",\"attachment\":" ++ flag_text (is_file leaf shown ctype)
 
--- the members of a coding, of where a part stands, and of how many bytes its body has
+-- the members of an encoding by its name, of where a part stands, and of how many bytes its body has
 abbrev pub place_text : List ℕ → ℕ → ℕ → ℕ → List ℕ
-place_text coding start end size =
-    codes ",\"encoding\":\"" ++ coding ++ codes "\",\"start\":" ++ decimal start ++ codes ",\"end\":" ++ decimal end ++ codes ",\"size\":" ++ decimal size
+place_text name start end size =
+    codes ",\"encoding\":\"" ++ name ++ codes "\",\"start\":" ++ decimal start ++ codes ",\"end\":" ++ decimal end ++ codes ",\"size\":" ++ decimal size
 
 -- a place so many bytes further on; places stop at the greatest number of 64 bits, where no file ends
 abbrev pub further : ℕ → ℕ → ℕ

@@ -8,9 +8,9 @@ use Rattle.mailparse.specs.BodyViews.{content_of}
 use Rattle.mailparse.specs.ContentType.{ContentType}
 use Rattle.mailparse.specs.Mail.{Node, Tree, Forest, tree, no_parts, part_and, root}
 use Rattle.mail_data.specs.Files.{is_leaf, path_under, whole_path}
-use Rattle.mail_data.specs.LooseCoding.{loose_body_kind}
+use Rattle.mail_data.specs.LooseEncoding.{loose_body_kind}
 use Rattle.mail_json.specs.Json.{json_text}
-use Rattle.mail_json.specs.Members.{IsTypeText, body_text, coding_text, decoded_size, disposition_of, file_text, further, headers_text, is_file, mail_text, place_text, size_text}
+use Rattle.mail_json.specs.Members.{IsTypeText, body_text, encoding_text, decoded_size, disposition_of, file_text, further, headers_text, is_file, mail_text, place_text, size_text}
 
 -- a part: its path, where it begins in the input, and the message that it is
 pub record Place : Type 0 where
@@ -63,7 +63,7 @@ module _ (known : Charsets) where
       let kind = loose_body_kind node in
       let shown = disposition_of known node in
       codes "{\"path\":" ++ json_text place.path ++ type ++ file_text leaf shown node.ctype
-      ++ place_text (coding_text kind) place.start (further place.start (length node.bytes)) (length node.body)
+      ++ place_text (encoding_text kind) place.start (further place.start (length node.bytes)) (length node.body)
       ++ size_text (decoded_size kind node.body) ++ headers_text known node.headers ++ codes ",\"text\":"
       ++ body_text known (not (is_file leaf shown node.ctype) && leaf && stands (codes "text/") node.ctype.mimetype) kind (content_of node) ++ codes "}"
 

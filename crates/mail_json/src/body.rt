@@ -4,16 +4,16 @@ ghost use Rattle.mail_codec.specs.Tables.{charsets_with};
 ghost use Rattle.mailparse.specs.Body.{BodyKind, decoded_text_in};
 ghost use Rattle.mailparse.specs.BodyViews.{Content, IsBody};
 ghost use Rattle.mailparse.specs.Outcome.{AnswersOrMemory, ReadsText};
-ghost use Rattle.mail_json.specs.Members.{coding_text, decoded_size};
+ghost use Rattle.mail_json.specs.Members.{encoding_text, decoded_size};
 
 use mailparse::body::Body;
 use mailparse::{MailParseError, SingleByteTable};
 use std::alloc::Global;
 
 /// The name of the transfer encoding of a body.
-pub fn coding_name(body: &Body<'_>) -> &'static str
+pub fn encoding_name(body: &Body<'_>) -> &'static str
     ensures { (kind : BodyKind) (given : Content) → IsBody kind given body.now →
-        result.now ≡ coding_text kind }
+        result.now ≡ encoding_text kind }
 {
     match body {
         Body::Base64(_) => "base64",

@@ -16,7 +16,7 @@ ghost use Rattle.mail_json.specs.PartTexts.{line_after, line_end_length, part_st
 ghost use Rattle.mail_json.specs.PartTexts.{preamble_end};
 ghost use Rattle.mail_json.specs.Written.{Writes, WritesOne};
 
-use crate::body::{coding_name, decoded_length, raw_length, text_of};
+use crate::body::{decoded_length, encoding_name, raw_length, text_of};
 use crate::fault::Fault;
 use crate::fields::{disposition_name, disposition_of, file_name, is_kept_apart, refusal_text};
 use crate::strings::{write_comma, write_name, write_owned, write_text, write_word};
@@ -169,7 +169,7 @@ fn write_part<W: Write>(
     let is_file = write_file(alloc, out, part, tables)?;
     let end = start.saturating_add(part.raw_bytes.len());
     let body = loose_body(alloc, part)?;
-    write_place(out, coding_name(&body), start, end, raw_length(&body))?;
+    write_place(out, encoding_name(&body), start, end, raw_length(&body))?;
     write_decoded_size(alloc, out, &body)?;
     write_headers(alloc, out, part.headers.as_slice(), tables)?;
     write_word(out, ",\"text\":")?;
@@ -185,20 +185,20 @@ fn is_read(part: &ParsedMail<'_>, is_file: bool) -> bool
     !is_file && is_leaf(part) && part.ctype.mimetype.as_str().starts_with("text/")
 }
 
-/// Writes the name of a coding, where a part stands, and how many bytes its body has.
+/// Writes the name of an encoding, where a part stands, and how many bytes its body has.
 fn write_place<W: Write>(
     out: &mut W,
-    coding: &str,
+    encoding: &str,
     start: usize,
     end: usize,
     size: usize,
 ) -> Result<(), Fault>
     ensures { Writes (W.contents out.old) (W.contents out.new) result
-        (place_text coding.now start end size) }
+        (place_text encoding.now start end size) }
 {
     write!(
         out,
-        ",\"encoding\":\"{coding}\",\"start\":{start},\"end\":{end},\"size\":{size}"
+        ",\"encoding\":\"{encoding}\",\"start\":{start},\"end\":{end},\"size\":{size}"
     )?;
     Ok(())
 }

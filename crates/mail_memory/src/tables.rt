@@ -86,9 +86,12 @@ fn is_body(
     alloc: Global,
     raw: &[u8],
     ctype: &ParsedContentType,
-    coding: &Option<String>,
+    encoding: &Option<String>,
 ) -> Result<bool, MailParseError> {
-    Ok(is_text(text_of(alloc, &Body::new(raw, ctype, coding))?, "\u{400}a"))
+    Ok(is_text(
+        text_of(alloc, &Body::new(raw, ctype, encoding))?,
+        "\u{400}a",
+    ))
 }
 
 fn text_of(alloc: Global, body: &Body<'_>) -> Result<String, MailParseError> {

@@ -13,7 +13,7 @@ fn type_with(alloc: Global, charset: &str) -> Result<ParsedContentType, MailPars
 }
 
 /// The name of a transfer encoding, or none for the empty text.
-fn coding(alloc: Global, name: &str) -> Result<Option<String>, AllocError> {
+fn encoding_of(alloc: Global, name: &str) -> Result<Option<String>, AllocError> {
     if name.is_empty() {
         return Ok(None);
     }
@@ -94,7 +94,7 @@ static KINDS: [Case<&str, &str>; 15] = cases! {
 fn a_body_has_the_kind_that_is_named_to_the_byte(rt: HostRuntime) -> Result<(), Fail> {
     let ctype = type_with(rt.alloc(), "X-Label")?;
     for case in &KINDS {
-        let encoding = coding(rt.alloc(), case.input)?;
+        let encoding = encoding_of(rt.alloc(), case.input)?;
         let body = Body::new(b"aG k=", &ctype, &encoding);
         assert_same_for(&rt, kind_of(&body), case.expected, case);
         assert_same_for(&rt, raw_bytes(&body), b"aG k=".as_slice(), case);
@@ -108,99 +108,99 @@ fn a_body_has_the_kind_that_is_named_to_the_byte(rt: HostRuntime) -> Result<(), 
 
 /// The name of a transfer encoding, a body, and the bytes that it stands for.
 struct DecodedBytes {
-    coding: &'static str,
+    encoding: &'static str,
     raw: &'static [u8],
     decoded: &'static [u8],
 }
 
 static DECODED_BYTES: [DecodedBytes; 18] = [
     DecodedBytes {
-        coding: "base64",
+        encoding: "base64",
         raw: b"",
         decoded: b"",
     },
     DecodedBytes {
-        coding: "base64",
+        encoding: "base64",
         raw: b"aGVsbG 8gd\r\n29ybGQ=",
         decoded: b"hello world",
     },
     DecodedBytes {
-        coding: "base64",
+        encoding: "base64",
         raw: b"aGk=aGk=",
         decoded: b"hihi",
     },
     DecodedBytes {
-        coding: "base64",
+        encoding: "base64",
         raw: b"aGl=",
         decoded: b"hi",
     },
     DecodedBytes {
-        coding: "base64",
+        encoding: "base64",
         raw: b"aG k=",
         decoded: b"hi",
     },
     DecodedBytes {
-        coding: "base64",
+        encoding: "base64",
         raw: b" \t\n\x0C\raGk=\x0C",
         decoded: b"hi",
     },
     DecodedBytes {
-        coding: "base64",
+        encoding: "base64",
         raw: b" \r\n",
         decoded: b"",
     },
     DecodedBytes {
-        coding: "quoted-printable",
+        encoding: "quoted-printable",
         raw: b"",
         decoded: b"",
     },
     DecodedBytes {
-        coding: "quoted-printable",
+        encoding: "quoted-printable",
         raw: b"a =\r\nb=C3=A9=zz \nc=",
         decoded: b"a b\xC3\xA9=zz\nc",
     },
     DecodedBytes {
-        coding: "quoted-printable",
+        encoding: "quoted-printable",
         raw: b"a= \r\nb",
         decoded: b"ab",
     },
     DecodedBytes {
-        coding: "quoted-printable",
+        encoding: "quoted-printable",
         raw: b"a==\nb",
         decoded: b"a=b",
     },
     DecodedBytes {
-        coding: "quoted-printable",
+        encoding: "quoted-printable",
         raw: b"=3d=C3=A",
         decoded: b"=\xC3=A",
     },
     DecodedBytes {
-        coding: "quoted-printable",
+        encoding: "quoted-printable",
         raw: b"a=\rb",
         decoded: b"a=\rb",
     },
     DecodedBytes {
-        coding: "7bit",
+        encoding: "7bit",
         raw: b"a=3D \r\n",
         decoded: b"a=3D \r\n",
     },
     DecodedBytes {
-        coding: "8bit",
+        encoding: "8bit",
         raw: b"\xFF\0",
         decoded: b"\xFF\0",
     },
     DecodedBytes {
-        coding: "binary",
+        encoding: "binary",
         raw: b"\r\n=\r\n",
         decoded: b"\r\n=\r\n",
     },
     DecodedBytes {
-        coding: "BASE64",
+        encoding: "BASE64",
         raw: b"aGk=",
         decoded: b"aGk=",
     },
     DecodedBytes {
-        coding: "",
+        encoding: "",
         raw: b"aGk=",
         decoded: b"aGk=",
     },
@@ -209,19 +209,19 @@ static DECODED_BYTES: [DecodedBytes; 18] = [
 /// The bytes that a body stands for under the name of a transfer encoding.
 fn bytes_under(alloc: Global, name: &str, raw: &[u8]) -> Result<Vec<u8>, MailParseError> {
     let ctype = ParsedContentType::default(alloc)?;
-    let encoding = coding(alloc, name)?;
+    let encoding = encoding_of(alloc, name)?;
     decoded_bytes(alloc, &Body::new(raw, &ctype, &encoding))
 }
 
 #[test]
 fn bodies_are_decoded_to_bytes(rt: HostRuntime) -> Result<(), Fail> {
     for row in &DECODED_BYTES {
-        let decoded = bytes_under(rt.alloc(), row.coding, row.raw)?;
+        let decoded = bytes_under(rt.alloc(), row.encoding, row.raw)?;
         assert_same_for(
             &rt,
             Bytes(decoded.as_slice()),
             Bytes(row.decoded),
-            (row.coding, Bytes(row.raw)),
+            (row.encoding, Bytes(row.raw)),
         );
     }
     Ok(())
@@ -240,7 +240,7 @@ static INVALID_GROUPS: [Case<&[u8], usize>; 6] = cases! {
 /// The errors of a body in Base64 that is read as bytes and as a text.
 fn base64_errors(alloc: Global, raw: &[u8]) -> Result<[String; 2], MailParseError> {
     let ctype = ParsedContentType::default(alloc)?;
-    let encoding = coding(alloc, "base64")?;
+    let encoding = encoding_of(alloc, "base64")?;
     let body = Body::new(raw, &ctype, &encoding);
     let of_bytes = shown_error(alloc, decoded_bytes(alloc, &body))?;
     let of_text = shown_error(alloc, decoded_text(alloc, &body))?;
@@ -261,7 +261,7 @@ fn base64_is_refused_at_its_first_invalid_group(rt: HostRuntime) -> Result<(), F
 
 /// The name of a transfer encoding, the label of a charset, a body, and its text.
 struct DecodedText {
-    coding: &'static str,
+    encoding: &'static str,
     label: &'static str,
     raw: &'static [u8],
     text: &'static str,
@@ -269,157 +269,157 @@ struct DecodedText {
 
 static DECODED_TEXTS: [DecodedText; 26] = [
     DecodedText {
-        coding: "",
+        encoding: "",
         label: "us-ascii",
         raw: b"\x80",
         text: "\u{20AC}",
     },
     DecodedText {
-        coding: "",
+        encoding: "",
         label: "foo",
         raw: b"\x80",
         text: "\u{FFFD}",
     },
     DecodedText {
-        coding: "",
+        encoding: "",
         label: "koi8-r",
         raw: b"\x80",
         text: "\u{FFFD}",
     },
     DecodedText {
-        coding: "",
+        encoding: "",
         label: "",
         raw: b"a\xE9b",
         text: "a\u{FFFD}b",
     },
     DecodedText {
-        coding: "",
+        encoding: "",
         label: "us-ascii",
         raw: b"\xEF\xBB\xBF\x68",
         text: "h",
     },
     DecodedText {
-        coding: "",
+        encoding: "",
         label: "foo",
         raw: b"\xEF\xBB\xBF\x68",
         text: "\u{FFFD}\u{FFFD}\u{FFFD}h",
     },
     DecodedText {
-        coding: "",
+        encoding: "",
         label: "utf-16",
         raw: b"\x41\x00\x00\xD8\x42",
         text: "A\u{FFFD}",
     },
     DecodedText {
-        coding: "",
+        encoding: "",
         label: "utf-16be",
         raw: b"\x00\x41\xD8\x3D\xDE\x00",
         text: "A\u{1F600}",
     },
     DecodedText {
-        coding: "",
+        encoding: "",
         label: "utf-16be",
         raw: b"\xFF\xFE\x41\x00",
         text: "A",
     },
     DecodedText {
-        coding: "",
+        encoding: "",
         label: "utf-16le",
         raw: b"\x3D\xD8\x41\x00",
         text: "\u{FFFD}A",
     },
     DecodedText {
-        coding: "",
+        encoding: "",
         label: "utf-16",
         raw: b"\x41",
         text: "\u{FFFD}",
     },
     DecodedText {
-        coding: "",
+        encoding: "",
         label: " \t\n\u{C}\rUTF-8 ",
         raw: b"\xC3\xA9",
         text: "\u{E9}",
     },
     DecodedText {
-        coding: "",
+        encoding: "",
         label: "utf-8\u{B}",
         raw: b"\xC3\xA9",
         text: "\u{FFFD}\u{FFFD}",
     },
     DecodedText {
-        coding: "8bit",
+        encoding: "8bit",
         label: "utf-8",
         raw: b"\xC3\xA9\xC3",
         text: "\u{E9}\u{FFFD}",
     },
     DecodedText {
-        coding: "binary",
+        encoding: "binary",
         label: "latin1",
         raw: b"\xC3\xA9\x9F",
         text: "\u{C3}\u{A9}\u{178}",
     },
     DecodedText {
-        coding: "BASE64",
+        encoding: "BASE64",
         label: "utf-8",
         raw: b"aGk=",
         text: "aGk=",
     },
     DecodedText {
-        coding: "base64",
+        encoding: "base64",
         label: "us-ascii",
         raw: b"aGVsbG 8gd\r\n29ybGQ=",
         text: "hello world",
     },
     DecodedText {
-        coding: "base64",
+        encoding: "base64",
         label: "utf-8",
         raw: b"77u/aGk=",
         text: "hi",
     },
     DecodedText {
-        coding: "base64",
+        encoding: "base64",
         label: "utf-8",
         raw: b"/v8AaABp",
         text: "hi",
     },
     DecodedText {
-        coding: "base64",
+        encoding: "base64",
         label: "utf-16",
         raw: b"PdgA3g==",
         text: "\u{1F600}",
     },
     DecodedText {
-        coding: "base64",
+        encoding: "base64",
         label: "foo",
         raw: b"gIA=",
         text: "\u{FFFD}\u{FFFD}",
     },
     DecodedText {
-        coding: "quoted-printable",
+        encoding: "quoted-printable",
         label: "utf-8",
         raw: b"=E2=82=\r\n=AC",
         text: "\u{20AC}",
     },
     DecodedText {
-        coding: "quoted-printable",
+        encoding: "quoted-printable",
         label: "us-ascii",
         raw: b"=80 \n",
         text: "\u{20AC}\n",
     },
     DecodedText {
-        coding: "quoted-printable",
+        encoding: "quoted-printable",
         label: "utf-16be",
         raw: b"=FF=FEA=00",
         text: "A",
     },
     DecodedText {
-        coding: "quoted-printable",
+        encoding: "quoted-printable",
         label: "foo",
         raw: b"a=E9",
         text: "a\u{FFFD}",
     },
     DecodedText {
-        coding: "7bit",
+        encoding: "7bit",
         label: "iso-8859-1",
         raw: b"",
         text: "",
@@ -434,19 +434,19 @@ fn text_under(
     raw: &[u8],
 ) -> Result<String, MailParseError> {
     let ctype = type_with(alloc, label)?;
-    let encoding = coding(alloc, name)?;
+    let encoding = encoding_of(alloc, name)?;
     decoded_text(alloc, &Body::new(raw, &ctype, &encoding))
 }
 
 #[test]
 fn bodies_are_decoded_to_texts(rt: HostRuntime) -> Result<(), Fail> {
     for row in &DECODED_TEXTS {
-        let text = text_under(rt.alloc(), row.coding, row.label, row.raw)?;
+        let text = text_under(rt.alloc(), row.encoding, row.label, row.raw)?;
         assert_same_for(
             &rt,
             text.as_str(),
             row.text,
-            (row.coding, row.label, Bytes(row.raw)),
+            (row.encoding, row.label, Bytes(row.raw)),
         );
     }
     Ok(())

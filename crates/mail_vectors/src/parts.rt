@@ -214,7 +214,7 @@ pub const TWO_CODINGS: &[u8] = b"Subject: This is a test email\n\
     After the final boundary stuff gets ignored.\n";
 
 #[test]
-fn two_parts_in_different_codings(rt: HostRuntime) -> Result<(), Fail> {
+fn two_parts_in_different_encodings(rt: HostRuntime) -> Result<(), Fail> {
     let mail = parse_mail(rt.alloc(), TWO_CODINGS)?;
     assert_eq!(rt; mail.subparts.len(), 2);
     assert_same(&rt, mail.get_body_raw(rt.alloc())?.len(), 0);

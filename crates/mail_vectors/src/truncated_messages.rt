@@ -69,7 +69,7 @@ fn a_message_of_two_parts_cut_short_at_every_length(rt: HostRuntime) -> Result<(
 }
 
 #[test]
-fn a_message_in_two_codings_cut_short_at_every_length(rt: HostRuntime) -> Result<(), Fail> {
+fn a_message_in_two_encodings_cut_short_at_every_length(rt: HostRuntime) -> Result<(), Fail> {
     assert_same(&rt, first_unread(rt.alloc(), TWO_CODINGS)?, None);
     Ok(())
 }

@@ -12,7 +12,7 @@ use Rattle.mailparse.specs.Refusal.{◌>>=◌, Reads, base64_fault}
 pub data BodyKind : Type 0 where
   in_base64 in_quoted_printable in_7bit in_8bit in_binary : BodyKind
 
--- the coding that a text names, exactly so and in lower case; any other text, and none, means 7bit
+-- the encoding that a text names, exactly so and in lower case; any other text, and none, means 7bit
 unfoldable pub kind_named : Option (List ℕ) → BodyKind
 kind_named None = in_7bit
 kind_named (Some name) =

@@ -47,7 +47,7 @@ impl<'a> Body<'a> {
     /// let ctype = ParsedContentType::default(alloc)?;
     /// let name = Some(String::from_str(alloc, "base64")?);
     /// let Body::Base64(body) = Body::new(b"aGk=", &ctype, &name) else {
-    ///     return Err("another coding".into());
+    ///     return Err("another encoding".into());
     /// };
     /// assert_eq!(rt; body.get_decoded_as_string(alloc)?.as_str(), "hi");
     /// ```

@@ -104,7 +104,7 @@ impl<'a> ParsedMail<'a> {
     ///
     /// let mail = parse_mail(alloc, b"Content-Transfer-Encoding: BASE64\n\naGk=")?;
     /// let Body::Base64(body) = mail.get_body_encoded(alloc)? else {
-    ///     return Err("another coding".into());
+    ///     return Err("another encoding".into());
     /// };
     /// assert_eq!(rt; body.get_raw(), b"aGk=".as_slice());
     /// assert_eq!(rt; body.get_decoded(alloc)?.as_slice(), b"hi".as_slice());

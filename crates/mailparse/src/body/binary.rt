@@ -31,7 +31,7 @@ impl<'a> BinaryBody<'a> {
     ///
     /// let mail = parse_mail(alloc, b"Content-Transfer-Encoding: binary\n\nbody")?;
     /// let Body::Binary(body) = mail.get_body_encoded(alloc)? else {
-    ///     return Err("another coding".into());
+    ///     return Err("another encoding".into());
     /// };
     /// assert_eq!(rt; body.get_content_type().charset.as_str(), "us-ascii");
     /// ```
@@ -54,7 +54,7 @@ impl<'a> BinaryBody<'a> {
     ///
     /// let mail = parse_mail(alloc, b"Content-Transfer-Encoding: binary\n\nbody")?;
     /// let Body::Binary(body) = mail.get_body_encoded(alloc)? else {
-    ///     return Err("another coding".into());
+    ///     return Err("another encoding".into());
     /// };
     /// assert_eq!(rt; body.get_raw(), b"body".as_slice());
     /// ```
@@ -81,7 +81,7 @@ impl<'a> BinaryBody<'a> {
     ///
     /// let mail = parse_mail(alloc, b"Content-Transfer-Encoding: binary\n\ncaf\xE9")?;
     /// let Body::Binary(body) = mail.get_body_encoded(alloc)? else {
-    ///     return Err("another coding".into());
+    ///     return Err("another encoding".into());
     /// };
     /// assert_eq!(rt; body.get_as_string(alloc)?.as_str(), "café");
     /// ```
@@ -113,7 +113,7 @@ impl<'a> BinaryBody<'a> {
     ///     Content-Transfer-Encoding: binary\n\n5 \x80";
     /// let mail = parse_mail(alloc, raw)?;
     /// let Body::Binary(body) = mail.get_body_encoded(alloc)? else {
-    ///     return Err("another coding".into());
+    ///     return Err("another encoding".into());
     /// };
     /// assert_eq!(rt; body.get_as_string_with(alloc, &tables)?.as_str(), "5 €");
     /// ```

@@ -40,7 +40,7 @@ impl<'a> EncodedBody<'a> {
     ///
     /// let mail = parse_mail(alloc, b"Content-Transfer-Encoding: base64\n\naGk=")?;
     /// let Body::Base64(body) = mail.get_body_encoded(alloc)? else {
-    ///     return Err("another coding".into());
+    ///     return Err("another encoding".into());
     /// };
     /// assert_eq!(rt; body.get_content_type().charset.as_str(), "us-ascii");
     /// ```
@@ -63,7 +63,7 @@ impl<'a> EncodedBody<'a> {
     ///
     /// let mail = parse_mail(alloc, b"Content-Transfer-Encoding: base64\n\naGk=")?;
     /// let Body::Base64(body) = mail.get_body_encoded(alloc)? else {
-    ///     return Err("another coding".into());
+    ///     return Err("another encoding".into());
     /// };
     /// assert_eq!(rt; body.get_raw(), b"aGk=".as_slice());
     /// ```
@@ -92,7 +92,7 @@ impl<'a> EncodedBody<'a> {
     ///
     /// let mail = parse_mail(alloc, b"Content-Transfer-Encoding: Base64\n\naG k=\n")?;
     /// let Body::Base64(body) = mail.get_body_encoded(alloc)? else {
-    ///     return Err("another coding".into());
+    ///     return Err("another encoding".into());
     /// };
     /// assert_eq!(rt; body.get_decoded(alloc)?.as_slice(), b"hi".as_slice());
     /// ```
@@ -128,7 +128,7 @@ impl<'a> EncodedBody<'a> {
     /// let raw = b"Content-Transfer-Encoding: quoted-printable\n\ncaf=E9";
     /// let mail = parse_mail(alloc, raw)?;
     /// let Body::QuotedPrintable(body) = mail.get_body_encoded(alloc)? else {
-    ///     return Err("another coding".into());
+    ///     return Err("another encoding".into());
     /// };
     /// assert_eq!(rt; body.get_decoded_as_string(alloc)?.as_str(), "café");
     /// ```
@@ -162,7 +162,7 @@ impl<'a> EncodedBody<'a> {
     ///     Content-Transfer-Encoding: quoted-printable\n\n5 =80";
     /// let mail = parse_mail(alloc, raw)?;
     /// let Body::QuotedPrintable(body) = mail.get_body_encoded(alloc)? else {
-    ///     return Err("another coding".into());
+    ///     return Err("another encoding".into());
     /// };
     /// assert_eq!(rt; body.get_decoded_as_string_with(alloc, &tables)?.as_str(), "5 €");
     /// ```

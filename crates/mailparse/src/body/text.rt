@@ -31,7 +31,7 @@ impl<'a> TextBody<'a> {
     ///
     /// let mail = parse_mail(alloc, b"Subject: Hi\n\nbody")?;
     /// let Body::SevenBit(body) = mail.get_body_encoded(alloc)? else {
-    ///     return Err("another coding".into());
+    ///     return Err("another encoding".into());
     /// };
     /// assert_eq!(rt; body.get_content_type().charset.as_str(), "us-ascii");
     /// ```
@@ -54,7 +54,7 @@ impl<'a> TextBody<'a> {
     ///
     /// let mail = parse_mail(alloc, b"Subject: Hi\n\nbody")?;
     /// let Body::SevenBit(body) = mail.get_body_encoded(alloc)? else {
-    ///     return Err("another coding".into());
+    ///     return Err("another encoding".into());
     /// };
     /// assert_eq!(rt; body.get_raw(), b"body".as_slice());
     /// ```
@@ -81,7 +81,7 @@ impl<'a> TextBody<'a> {
     ///
     /// let mail = parse_mail(alloc, b"Subject: Hi\n\ncaf\xE9")?;
     /// let Body::SevenBit(body) = mail.get_body_encoded(alloc)? else {
-    ///     return Err("another coding".into());
+    ///     return Err("another encoding".into());
     /// };
     /// assert_eq!(rt; body.get_as_string(alloc)?.as_str(), "café");
     /// ```
@@ -112,7 +112,7 @@ impl<'a> TextBody<'a> {
     /// let raw = b"Content-Type: text/plain; charset=x-euro\n\n5 \x80";
     /// let mail = parse_mail(alloc, raw)?;
     /// let Body::SevenBit(body) = mail.get_body_encoded(alloc)? else {
-    ///     return Err("another coding".into());
+    ///     return Err("another encoding".into());
     /// };
     /// assert_eq!(rt; body.get_as_string_with(alloc, &tables)?.as_str(), "5 €");
     /// ```

@@ -9,8 +9,8 @@ use Rattle.mailparse.specs.ContentType.{ContentType}
 use Rattle.mailparse.specs.Mail.{root}
 use Rattle.mailparse.specs.Views.{tree_of}
 use Rattle.mail_data.specs.Files.{is_leaf}
-use Rattle.mail_data.specs.LooseCoding.{loose_body_kind}
-use Rattle.mail_json.specs.Members.{IsTypeText, body_text, coding_text, further, headers_text, place_text}
+use Rattle.mail_data.specs.LooseEncoding.{loose_body_kind}
+use Rattle.mail_json.specs.Members.{IsTypeText, body_text, encoding_text, further, headers_text, place_text}
 use Rattle.mail_json.specs.PartTexts.{Place, IsPartText, part_text}
 use Rattle.mail_json.proofs.lemmas.Json.{appends_as, writes_one, writes_then}
 use Rattle.mail_json.proofs.lemmas.PartTexts.{bytes-out, ctype-out, headers-out}
@@ -28,9 +28,9 @@ returns g c =
     let is_body = c.in_ok-body.ensures.read in
     let end = c.saturating_add-end.ensures ∙ ap (λ (bytes : List ℕ). further c.args.start (length bytes)) (bytes-out m) in
     let places =
-    ap (λ (name : List ℕ). place_text name c.args.start c.saturating_add-end.result c.raw_length.result) (c.coding_name.ensures kind given is_body)
-    ∙ ap (λ e. place_text (coding_text kind) c.args.start e c.raw_length.result) end
-    ∙ ap (λ n. place_text (coding_text kind) c.args.start (further c.args.start (length node.bytes)) n) (c.raw_length.ensures kind given is_body) in
+    ap (λ (name : List ℕ). place_text name c.args.start c.saturating_add-end.result c.raw_length.result) (c.encoding_name.ensures kind given is_body)
+    ∙ ap (λ e. place_text (encoding_text kind) c.args.start e c.raw_length.result) end
+    ∙ ap (λ n. place_text (encoding_text kind) c.args.start (further c.args.start (length node.bytes)) n) (c.raw_length.ensures kind given is_body) in
     let headers = ap (headers_text known) (c.as_slice.ensures.value ∙ headers-out m) in
     let is_read =
     c.is_read.ensures

@@ -8,7 +8,7 @@ ghost use Rattle.mailparse.specs.Mail.{body_kind, root};
 ghost use Rattle.mailparse.specs.Map.{text_found};
 ghost use Rattle.mailparse.specs.Outcome.{IsMemory};
 ghost use Rattle.mailparse.specs.Views.{tree_of};
-ghost use Rattle.mail_data.specs.LooseCoding.{ends_name, loose_body_kind, loose_kind, name_at};
+ghost use Rattle.mail_data.specs.LooseEncoding.{ends_name, loose_body_kind, loose_kind, name_at};
 
 use crate::forwarding::raw_body;
 use mailparse::body::Body;
@@ -16,7 +16,7 @@ use mailparse::{MailHeaderMap, MailParseError, ParsedMail};
 use std::alloc::{AllocError, Global};
 
 /// Returns the body of a part in its transfer encoding, as `ParsedMail::get_body_encoded` does, but
-/// the name of the coding ends at ASCII whitespace, `(` or `;` (RFC 2045, section 6.1).
+/// the name of the encoding ends at ASCII whitespace, `(` or `;` (RFC 2045, section 6.1).
 ///
 /// So `base64 (a comment)` and `base64` with a space after it are Base64, and not `7bit`. If
 /// `get_body_encoded` finds an encoding other than `7bit`, this call finds the same one. Takes
@@ -35,7 +35,7 @@ use std::alloc::{AllocError, Global};
 ///
 /// let mail = parse_mail(alloc, b"Content-Transfer-Encoding: base64 (x)\n\naGk=")?;
 /// let Body::Base64(body) = loose_body(alloc, &mail)? else {
-///     return Err("another coding".into());
+///     return Err("another encoding".into());
 /// };
 /// assert_eq!(rt; body.get_decoded(alloc)?.as_slice(), b"hi".as_slice());
 /// ```
@@ -50,7 +50,7 @@ pub fn loose_body<'m>(alloc: Global, part: &'m ParsedMail<'_>) -> Result<Body<'m
     Ok(body)
 }
 
-/// The body of a part in that coding.
+/// The body of a part in that encoding.
 fn body_named<'m>(alloc: Global, part: &'m ParsedMail<'_>) -> Result<Body<'m>, MailParseError>
     ensures read { let node = root (tree_of part.now) in
         IfOk result (IsBody (loose_body_kind node) (content_of node)) }
@@ -64,8 +64,8 @@ fn body_named<'m>(alloc: Global, part: &'m ParsedMail<'_>) -> Result<Body<'m>, M
     Ok(Body::new(raw, &part.ctype, &name))
 }
 
-/// A name of the coding that a text names.
-#[tactic(auto, unfolding(crate::specs::LooseCoding::loose_kind))]
+/// A name of the encoding that a text names.
+#[tactic(auto, unfolding(crate::specs::LooseEncoding::loose_kind))]
 fn loose_name(alloc: Global, value: Option<String>) -> Result<Option<String>, AllocError>
     ensures { IfOk result (λ name. kind_named (name_of name) ≡ loose_kind (text_found value)) }
 {
@@ -77,7 +77,7 @@ fn loose_name(alloc: Global, value: Option<String>) -> Result<Option<String>, Al
     Ok(Some(name))
 }
 
-/// The name of the same coding.
+/// The name of the same encoding.
 #[tactic(auto, unfolding(mailparse::specs::Body::kind_named))]
 fn known_name(name: &[u8]) -> &'static str
     ensures { kind_named (Some result.now) ≡ kind_named (Some name.now) }
@@ -98,7 +98,7 @@ fn known_name(name: &[u8]) -> &'static str
 }
 
 /// The name at the front of a text, after whitespace.
-#[tactic(auto, unfolding(crate::specs::LooseCoding::name_at))]
+#[tactic(auto, unfolding(crate::specs::LooseEncoding::name_at))]
 fn name_at(text: &[u8]) -> &[u8]
     ensures { result.now ≡ name_at text.now }
 {
@@ -133,7 +133,7 @@ fn name_len(text: &[u8]) -> usize
     text.len()
 }
 
-/// Whether a byte ends the name of a coding.
+/// Whether a byte ends the name of an encoding.
 fn ends_name(byte: u8) -> bool
     ensures { result ≡ ends_name byte }
 {

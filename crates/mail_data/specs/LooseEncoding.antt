@@ -10,7 +10,7 @@ use Rattle.mailparse.specs.Body.{BodyKind, kind_named}
 use Rattle.mailparse.specs.Mail.{Node}
 use Rattle.mailparse.specs.Map.{first_value}
 
--- a byte that ends the name of a coding: whitespace, `(` or `;`
+-- a byte that ends the name of an encoding: whitespace, `(` or `;`
 abbrev pub ends_name : ℕ → Bool
 ends_name b = is_ascii_whitespace b || (b == opening_parenthesis || b == semicolon)
 
@@ -20,7 +20,7 @@ name_at text =
     let rest = trimmed_at_start is_ascii_whitespace text in
     take (prefix_len (λ b. not (ends_name b)) rest) rest
 
--- the coding that a text names so, in any case
+-- the encoding that a text names so, in any case
 unfoldable pub loose_kind : Option (List ℕ) → BodyKind
 loose_kind value = kind_named (option_map (λ text. name_at (str_to_ascii_lowercase text)) value)
 

@@ -3,8 +3,8 @@ use Rattle.mailparse.specs.Body.{BodyKind}
 use Rattle.mailparse.specs.BodyViews.{IsBody, content_of}
 use Rattle.mailparse.specs.Mail.{root}
 use Rattle.mailparse.specs.Views.{tree_of}
-use Rattle.mail_data.proofs.lemmas.LooseCoding.{loose-same}
-use Rattle.mail_data.proofs.lenient.coding.loose_body.Goals as goal
+use Rattle.mail_data.proofs.lemmas.LooseEncoding.{loose-same}
+use Rattle.mail_data.proofs.lenient.encoding.loose_body.Goals as goal
 
 pub returns-clause-same : goal.returns-clause-same
 returns-clause-same c = λ some.
