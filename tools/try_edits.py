@@ -18,6 +18,10 @@ Where a batch does not tell clearly, or an edit was not refused in it, the edit 
 is called failed. First of all a batch with an edit that changes nothing is tried, which has to be told
 as not refused.
 
+How an edit was refused is kept on this machine, by a sum of the kit, of these scripts, of the sources of the
+crate and of those below it, and of the edit. A later run, in another copy of the repository too, tries only
+what has changed, and says how many it did not try; --anew tries all.
+
 With --gentle, which is for a run beside other proofs, a batch starts only where a processor is idle, and
 then gets what the rest leaves. The first proofs do not wait, since each waits for those of the crates below.
 
@@ -28,6 +32,7 @@ and the status is 1 where an edit failed.
 import argparse
 import os
 import signal
+import subprocess
 import sys
 import tempfile
 import threading
@@ -37,6 +42,7 @@ from concurrent.futures import FIRST_COMPLETED, ThreadPoolExecutor, wait
 from edits.checker import Checker, all_below, is_proved
 from edits.edit import Change, Crate, Edit, batches_of, edits_in, texts_with
 from edits.judge import Outcome, first_words, outcome_of, unclear
+from edits.kept import Kept, folder_of_user
 
 TOP = os.path.dirname(os.path.dirname(os.path.realpath(__file__)))
 
@@ -55,7 +61,8 @@ def read_words():
     form = argparse.RawDescriptionHelpFormatter
     reader = argparse.ArgumentParser(description=title, epilog=more, formatter_class=form)
     reader.add_argument("--jobs", type=int, default=0, help="how many checks run side by side; one a processor")
-    reader.add_argument("--batch", type=int, default=16, help="how many edits are checked at once at most")
+    reader.add_argument("--batch", type=int, default=48, help="how many edits are checked at once at most")
+    reader.add_argument("--anew", action="store_true", help="try what earlier runs on this machine have tried, too")
     reader.add_argument("--gentle", action="store_true", help="leave the processors to what else runs")
     reader.add_argument("--kept", action="store_true", help="start from what `rt check` has kept in crates/*/out")
     reader.add_argument("names", nargs="*", metavar="NAME", help="a crate, or an edit as CRATE/NAME")
@@ -70,6 +77,11 @@ class Stopped(Exception):
     """Why the script cannot go on."""
 
 
+def kit():
+    """The kit that checks, as it calls itself."""
+    return subprocess.run(["rt", "version"], check=True, capture_output=True, text=True).stdout
+
+
 class Trial:
     """The edits of one crate, and what became of them."""
 
@@ -77,8 +89,17 @@ class Trial:
         self.crate = crate
         self.edits = edits
         self.bad = bad
+        self.size = size
         self.batches = batches_of(edits, size)
         self.known = set()
+        # what is tried beside an edit that changes nothing
+        self.sample = next(iter(edits), None)
+
+    def leave_out(self, refused):
+        """Takes out the edits that are known to be refused."""
+        self.sample = refused[0]
+        self.edits = [it for it in self.edits if it not in refused]
+        self.batches = batches_of(self.edits, self.size)
 
 
 def chosen(names, crate, edits):
@@ -125,10 +146,11 @@ def edit_of_nothing(crate, known, but):
 class Run:
     """One run of the script: what it counts, and where it prints."""
 
-    def __init__(self, trials, checker, jobs):
+    def __init__(self, trials, checker, jobs, kept=None):
         self.trials = trials
         self.checker = checker
         self.jobs = jobs
+        self.kept = kept
         self.passed = 0
         self.failed = 0
         self.little = []
@@ -158,6 +180,23 @@ class Run:
                 self.little += [str(it.edit)] if it.says_little else []
                 print(f"{'passed' if it.is_refused else 'FAILED'} {it.edit}: {it.text}", flush=True)
 
+    def tell_tried(self, outcomes):
+        """Tells what became of edits that were tried, and keeps how they were refused."""
+        self.tell(outcomes)
+        for it in outcomes:
+            if it.is_refused and self.kept:
+                self.kept.keep(it)
+
+    def take_kept(self):
+        """Takes the outcomes of the edits that an earlier run on this machine tried on the same files."""
+        for trial in self.trials:
+            outcomes = [it for it in map(self.kept.outcome_of, trial.edits) if it]
+            if outcomes:
+                name, few, all_of_them = trial.crate.name, len(outcomes), len(trial.edits)
+                self.say(f"{name}: {few} of its {all_of_them} edits were tried by an earlier run on this machine, on the same files")
+                self.tell(outcomes)
+                trial.leave_out([it.edit for it in outcomes])
+
     def prove(self, name, trial):
         """Proves a crate as it is, and keeps the proofs."""
         said, ran = self.checker.prove(name)
@@ -171,7 +210,7 @@ class Run:
     def show_that_it_can_fail(self, trial):
         """Tries an edit that changes nothing beside one of the crate's: the one has to be told as not
         refused, and the other as refused."""
-        real = trial.edits[0]
+        real = trial.sample
         none = edit_of_nothing(trial.crate, trial.known, real)
         both = [real, none]
         said, ran = self.checker.check_with(trial.crate.name, texts_with(trial.crate, both))
@@ -189,7 +228,7 @@ class Run:
         why = unclear(trial.known or said.names_of(trial.crate.name), batch, said)
         outcomes = [] if why else [outcome_of(edit, said) for edit in batch]
         self.say(f"{trial.crate.name}: batch {number + 1} of {len(trial.batches)}, {len(batch)} edits, {self.took(ran)}")
-        self.tell([it for it in outcomes if it.is_refused])
+        self.tell_tried([it for it in outcomes if it.is_refused])
         if why and len(batch) > 1:
             self.say(f"{trial.crate.name}: batch {number + 1} does not tell clearly, so each of its edits is tried alone: {why}")
         sure = {str(it.edit) for it in outcomes if it.is_refused}
@@ -205,7 +244,7 @@ class Run:
         why = unclear(trial.known, [edit], said)
         outcome = Outcome(edit, False, f"BAD EDIT: {why}") if why else outcome_of(edit, said)
         self.say(f"{edit}: alone, {self.took(ran)}")
-        self.tell([outcome])
+        self.tell_tried([outcome])
 
 
 def check_names(trial):
@@ -299,15 +338,20 @@ def main():
     if lost:
         reader.error(f"there is no crate with edits, and no edit, of the name {lost[0]}")
     with tempfile.TemporaryDirectory(prefix="try-edits-") as room:
-        run = Run(trials, Checker(TOP, room, words.kept, words.gentle), words.jobs or processors())
+        checker = Checker(TOP, room, words.kept, words.gentle)
+        kept = Kept(folder_of_user(), checker.base, checker.listed, kit())
+        run = Run(trials, checker, words.jobs or processors(), kept)
         has_room = Idle().is_found if words.gentle else lambda: True
         for trial in trials:
             run.tell(Outcome(name, False, f"BAD EDIT: {why}") for name, why in trial.bad)
+        if not words.anew:
+            run.take_kept()
         try:
             run_tasks(tasks_of(run), run.jobs, run.stop, has_room)
         except Stopped as why:
             run.say(f"stopped: {why}")
             run.failed += 1
+        kept.remove_old()
     took = time.monotonic() - started
     if run.little:
         print("refused only since a proof names what is gone: " + " ".join(sorted(run.little)))

@@ -16,7 +16,7 @@ import unittest
 sys.path.insert(0, os.path.dirname(os.path.dirname(os.path.realpath(__file__))))
 
 import try_edits
-from edits import checker, edit, judge, said, source
+from edits import checker, edit, judge, kept, said, source
 
 SOURCE = """//! A file { that opens a brace.
 ghost use Rattle.std.specs.Prelude.{a, b};
@@ -354,6 +354,87 @@ class RunTest(unittest.TestCase):
         checker_of_test.is_kept = True
         self.run_of(checker_of_test, trial_with("low", "wrong"), trial_with("high", "wrong"))
         self.assertEqual(checker_of_test.proved, ["low", "high"])
+
+
+class KeptTest(unittest.TestCase):
+    def setUp(self):
+        room = tempfile.TemporaryDirectory()
+        self.addCleanup(room.cleanup)
+        self.room = room.name
+        for name in ("low", "high"):
+            self.write(name, "fn a() { 1 }")
+        self.trial = trial_with("low", "wrong", "wrong + 1")
+
+    def write(self, crate, text):
+        os.makedirs(f"{self.room}/crates/{crate}/src", exist_ok=True)
+        with open(f"{self.room}/crates/{crate}/src/lib.rt", "w", encoding="utf-8") as opened:
+            opened.write(text)
+
+    def made(self, kit="a kit"):
+        return kept.Kept(f"{self.room}/kept/edits", self.room, FakeChecker.listed, kit)
+
+    def keep_first(self):
+        self.made().keep(judge.Outcome(self.trial.edits[0], True, "refused: low::a: returns", True))
+
+    def test_what_was_refused_is_known_to_a_later_run(self):
+        self.keep_first()
+        found = self.made().outcome_of(self.trial.edits[0])
+        self.assertEqual((found.edit, found.text), (self.trial.edits[0], "refused: low::a: returns"))
+        self.assertTrue(found.is_refused and found.says_little)
+
+    def test_other_edits_are_not_known(self):
+        self.keep_first()
+        self.assertIsNone(self.made().outcome_of(self.trial.edits[1]))
+        changed = trial_with("low", "wrong - 1").edits[0]
+        changed.name = self.trial.edits[0].name
+        self.assertIsNone(self.made().outcome_of(changed))
+
+    def test_what_it_stands_on_has_to_be_the_same(self):
+        self.keep_first()
+        self.assertIsNone(self.made("another kit").outcome_of(self.trial.edits[0]))
+        self.write("high", "fn a() { 2 }")
+        self.assertIsNotNone(self.made().outcome_of(self.trial.edits[0]))
+        self.write("low", "fn a() { 2 }")
+        self.assertIsNone(self.made().outcome_of(self.trial.edits[0]))
+
+    def test_an_edit_stands_on_the_crates_below_too(self):
+        high = trial_with("high", "wrong").edits[0]
+        self.made().keep(judge.Outcome(high, True, "refused"))
+        self.assertIsNotNone(self.made().outcome_of(high))
+        self.write("low", "fn a() { 2 }")
+        self.assertIsNone(self.made().outcome_of(high))
+
+    def test_what_cannot_be_read_is_not_known(self):
+        self.keep_first()
+        with open(self.made().path(self.trial.edits[0]), "w", encoding="utf-8") as opened:
+            opened.write("{")
+        self.assertIsNone(self.made().outcome_of(self.trial.edits[0]))
+
+    def run_over_kept(self, checker_of_test, trial):
+        run = try_edits.Run([trial], checker_of_test, 2, self.made())
+        with contextlib.redirect_stdout(io.StringIO()) as printed:
+            run.take_kept()
+            try_edits.run_tasks(try_edits.tasks_of(run), 2, run.stop)
+        return run, printed.getvalue()
+
+    def test_a_run_tries_only_what_no_earlier_run_saw_refused(self):
+        news = ("wrong", "right", "wrong + 1")
+        run, _ = self.run_over_kept(FakeChecker(), trial_with("low", *news))
+        self.assertEqual((run.passed, run.failed), (2, 1))
+        again = FakeChecker()
+        run, printed = self.run_over_kept(again, trial_with("low", *news))
+        self.assertEqual((run.passed, run.failed), (2, 1))
+        self.assertIn("low: 2 of its 3 edits were tried by an earlier run on this machine", printed)
+        self.assertIn("FAILED low/edit_right: NOT REFUSED", printed)
+        # the first check shows that it can fail; in the others stands what was not refused
+        self.assertEqual(["wrong" in it for it in again.checked], [True, False, False])
+
+    def test_nothing_is_checked_where_all_is_known(self):
+        self.run_over_kept(FakeChecker(), trial_with("low", "wrong"))
+        again = FakeChecker()
+        run, printed = self.run_over_kept(again, trial_with("low", "wrong"))
+        self.assertEqual((run.passed, run.failed, again.proved, again.checked), (1, 0, [], []))
+        self.assertIn("passed low/edit_wrong: refused: low::a: returns", printed)
 
 
 class OrderTest(unittest.TestCase):
