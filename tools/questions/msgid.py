@@ -16,7 +16,7 @@ MADE = 320
 MUTATED = 260
 
 PIECES = ["", "<", ">", " ", "a", "b@c", "<a>", "<b@c.d>", "<>", "\t", "\r\n ", "\u00a0", "\u3000", "\u0085", "\u200b", "\u00e9", ",", "<a b>", "<<", ">>", "\x0b", "\x00"]
-WHITE = ["", " ", "  ", "\t", "\r\n ", "\n", "\u00a0", "\u2003", "\x0b", "\x0c", "\u0085", "\u3000"]
+WHITESPACE = ["", " ", "  ", "\t", "\r\n ", "\n", "\u00a0", "\u2003", "\x0b", "\x0c", "\u0085", "\u3000"]
 IDS = ["", "a", "a@b", "one.two@three.four", "a b", " a ", "<", "<<", "a<b", "\u00e9@\u00fc", "\n", '"q"@x', "a,b", "[1.2.3.4]", "\U0001f600"]
 
 
@@ -26,16 +26,16 @@ def chosen():
         "", " ", "\u00a0\t\r\n", "<a b> <>", "<a>,<b>", "<a", "a", ">", "<", "<>", "<a><b>", "<a>\u00a0<b>", "<a<b>", "<a> <c>>", "<a>>", " <a> ", "<a> b",
         "<a> <", "<a> >", "<msg_one@foo.com>  <msg_two@bar.com>", "x<a>", "\u200b<a>", "<a>\u200b", "<a>\x00", "< a >", "<a\n>", "<\u00e9>", "\ufeff<a>",
     ]
-    for white in WHITE:
-        yield white + "<a>" + white + "<b>" + white
-        yield white + "<a>" + white + "x" + white
+    for whitespace in WHITESPACE:
+        yield whitespace + "<a>" + whitespace + "<b>" + whitespace
+        yield whitespace + "<a>" + whitespace + "x" + whitespace
 
 
 def made(rng):
     """Ids with whitespace between them, or nothing."""
-    parts = [rng.choice(WHITE)]
+    parts = [rng.choice(WHITESPACE)]
     for _ in range(rng.randrange(1, 6)):
-        parts += ["<" + rng.choice(IDS) + ">", rng.choice(WHITE)]
+        parts += ["<" + rng.choice(IDS) + ">", rng.choice(WHITESPACE)]
     return "".join(parts)
 
 

@@ -14,7 +14,7 @@ MUTATED = 220
 STARRED = 500
 STARRED_MUTATED = 250
 
-WHITE = ["", "", "", " ", "  ", "\t", "\r\n ", "\u00a0", "\x0b"]
+WHITESPACE = ["", "", "", " ", "  ", "\t", "\r\n ", "\u00a0", "\x0b"]
 PIECES = ["", "", ";", "=", "\"", "\\", " ", "\t", "a", "A", "\u00e9", "\u2003", "\x00"]
 KEYS = ["a", "A", "b", "charset", "Charset", "CHARSET", "boundary", "name", "filename", "FileName", "", "a b", "\u00c9", "\u00e9", "'x'", "%41", "x\"y;z\""]
 VALUES = [
@@ -40,11 +40,11 @@ def chosen(values):
 
 def made(rng, values):
     """A value and some pieces."""
-    text = rng.choice(WHITE) + rng.choice(values + VALUES[:6]) + rng.choice(WHITE)
+    text = rng.choice(WHITESPACE) + rng.choice(values + VALUES[:6]) + rng.choice(WHITESPACE)
     for _ in range(rng.randrange(6)):
-        text += ";" + rng.choice(WHITE) + rng.choice(KEYS)
+        text += ";" + rng.choice(WHITESPACE) + rng.choice(KEYS)
         if rng.random() < 0.93:
-            text += rng.choice(WHITE) + "=" + rng.choice(WHITE) + rng.choice(VALUES) + rng.choice(WHITE)
+            text += rng.choice(WHITESPACE) + "=" + rng.choice(WHITESPACE) + rng.choice(VALUES) + rng.choice(WHITESPACE)
     return text
 
 
@@ -60,7 +60,7 @@ def starred(rng, values):
     names = rng.sample(NAMES, rng.randrange(1, 4))
     text = rng.choice(values)
     for _ in range(rng.randrange(1, 7)):
-        text += ";" + rng.choice(WHITE) + rng.choice(names) + rng.choice(STARS) + "=" + rng.choice(EXTENDED)
+        text += ";" + rng.choice(WHITESPACE) + rng.choice(names) + rng.choice(STARS) + "=" + rng.choice(EXTENDED)
     return text
 
 

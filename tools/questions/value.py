@@ -20,11 +20,12 @@ MADE = 360
 MUTATED = 300
 
 # White space that is not ASCII, as UTF-8 and as the bytes of Latin-1.
-WIDE_WHITE = [c.encode("utf-8") for c in "\u0085\u00a0\u1680\u2003\u2028\u3000"]
-LATIN1_WHITE = [b"\xa0", b"\x85"]
-ASCII_WHITE = [b" ", b"  ", b"\t", b" \t ", b"\x0b", b"\x0c", b"\r"]
+WIDE_WHITESPACE = [c.encode("utf-8") for c in "\u0085\u00a0\u1680\u2003\u2028\u3000"]
+LATIN1_WHITESPACE = [b"\xa0", b"\x85"]
+ASCII_WHITESPACE = [b" ", b"  ", b"\t", b" \t ", b"\x0b", b"\x0c", b"\r"]
 # U+200B and U+FEFF look like whitespace and are none.
-NO_WHITE = ["\u200b".encode("utf-8"), "\ufeff".encode("utf-8"), b"\x00", b"\x1c", b"\x08"]
+NO_WHITESPACE = ["\u200b".encode("utf-8"), "\ufeff".encode("utf-8"), b"\x00", b"\x1c", b"\x08"]
+WHITESPACE_OR_NOT = ASCII_WHITESPACE + WIDE_WHITESPACE + LATIN1_WHITESPACE + NO_WHITESPACE
 FOLDS = [b"\n ", b"\r\n ", b"\n\t", b"\r\n\t", b"\n  \t", b"\n \n ", b"\r\r\n ", b"\n\r\n "]
 EDGES = [b'"', b"(", b")", b"<", b">", b","]
 NO_EDGES = [b".", b":", b";", b"[", b"]", b"'", b"/", b"@", b"-", b"_", b"=", b"?", b"a"]
@@ -74,14 +75,14 @@ def chosen_values():
     # Nothing, and nothing but whitespace.
     yield from [b"", b" ", b"  ", b"\t", b" \t", b"\n", b"\r", b"\r\n", b"\r\r\n", b"\x0b", b"\x0c"]
     yield from [b"\n ", b"\n  ", b" \n ", b"\r\n\t", b"\n \n ", b"\n b", b"\n\tb", b"\x0b\n b"]
-    yield from WIDE_WHITE + LATIN1_WHITE + NO_WHITE
+    yield from WIDE_WHITESPACE + LATIN1_WHITESPACE + NO_WHITESPACE
     # Text alone: where it ends, and what its lines lose.
     yield from [b"a", b" a", b"  a ", b"\ta", b" \ta", b"a\t", b"a \r\n", b"a\n\n", b"a\rb", b"a\r", b"a\r\r", b"a\nb"]
     yield from [b"a" + fold + b"b" for fold in FOLDS]
     yield from [b"a " + fold + b"b" for fold in FOLDS]
     yield from [b"a\n \n \n b", b"a \x0b\n \x0bb", b"a\n \xc2\xa0b", b"a\n \xe3\x80\x80b", b"\xc2\xa0a", b"\xa0a\xe9"]
     # Two words, with what stands between them.
-    yield from [A + white + B for white in ASCII_WHITE + WIDE_WHITE + LATIN1_WHITE + NO_WHITE + FOLDS + [b""]]
+    yield from [A + whitespace + B for whitespace in WHITESPACE_OR_NOT + FOLDS + [b""]]
     yield from [A + b" " + fold + b"b" for fold in FOLDS]
     yield from [A + b" " + fold + B for fold in FOLDS]
     yield from [A + fold + b"b" for fold in FOLDS]
@@ -90,14 +91,14 @@ def chosen_values():
     yield from [A + fold + NO_BASE64 for fold in FOLDS[:4]]
     yield from [b"x" + fold + A + fold + B + fold + b"y" for fold in FOLDS]
     # One word, with what stands beside it.
-    yield from [beside + A for beside in EDGES + NO_EDGES + ASCII_WHITE + WIDE_WHITE + LATIN1_WHITE + NO_WHITE]
-    yield from [A + beside for beside in EDGES + NO_EDGES + ASCII_WHITE + WIDE_WHITE + LATIN1_WHITE + NO_WHITE]
+    yield from [beside + A for beside in EDGES + NO_EDGES + WHITESPACE_OR_NOT]
+    yield from [A + beside for beside in EDGES + NO_EDGES + WHITESPACE_OR_NOT]
     yield from [edge + A + edge + B + edge for edge in EDGES]
     yield from [b"\xc3\xa9\xc3\xa9 " + A, b"\xc3\xa9" + A, A + b"\xc3\xa9", b"\xe8\xbf\x8e" + A + b" " + B]
     # The inside of a word.
     yield from [word(label, encoding) for label in LABELS + UNKNOWN_LABELS for encoding in ENCODINGS[::2]]
     yield from [word(b"utf-8", encoding, b"YQ==") for encoding in ENCODINGS + UNKNOWN_ENCODINGS]
-    yield from [word(white + b"utf-8" + white) for white in ASCII_WHITE + WIDE_WHITE[:2]]
+    yield from [word(whitespace + b"utf-8" + whitespace) for whitespace in ASCII_WHITESPACE + WIDE_WHITESPACE[:2]]
     yield from [word(rest=rest) for rest in Q_RESTS]
     yield from [word(b"windows-1252", b"q", rest) for rest in Q_RESTS]
     yield from [word(b"utf-16be", b"Q", rest) for rest in Q_RESTS[-30:]]
@@ -160,11 +161,12 @@ def made_word(rng):
 
 
 def made_value(rng):
-    """A value: words and texts with white, edges and folds between them."""
+    """A value: words and texts with whitespace, edges and folds between them."""
     value = rng.choice([b"", b" ", b" ", b"  ", b"\t", b" \t"])
     for _ in range(rng.randrange(1, 8)):
         value += made_word(rng) if rng.random() < 0.6 else rng.choice(TEXTS)
-        kinds = [[b" "], [b" "], [b" "], ASCII_WHITE, WIDE_WHITE, FOLDS, FOLDS, EDGES, NO_EDGES, [b""], LATIN1_WHITE]
+        kinds = [[b" "], [b" "], [b" "], ASCII_WHITESPACE, WIDE_WHITESPACE, FOLDS, FOLDS, EDGES, NO_EDGES]
+        kinds += [[b""], LATIN1_WHITESPACE]
         for _ in range(rng.choice([1, 1, 1, 2])):
             value += rng.choice(rng.choice(kinds))
     return value
@@ -183,7 +185,7 @@ def mutated(rng, value, other):
         elif change == 2:
             value = value[:at] + bytes([rng.randrange(256)]) + value[end:]
         elif change == 3:
-            value = value[:at] + rng.choice(ASCII_WHITE + WIDE_WHITE + FOLDS + EDGES) + value[at:]
+            value = value[:at] + rng.choice(ASCII_WHITESPACE + WIDE_WHITESPACE + FOLDS + EDGES) + value[at:]
         elif change == 4:
             value = value[:at] + value[at:end] * 2 + value[end:]
         else:
