@@ -8,15 +8,16 @@
 use crate::field::{bytes_of, push_bytes, push_refusal, push_text};
 use crate::text::{push_params, push_shown};
 use mail_tables::TABLES;
-use mailparse::{MailHeader, MailParseError, ParsedMail, parse_mail_with};
+use mailparse::{MailHeader, MailParseError, ParsedMail, SingleByteTable, parse_mail_with};
 use std::alloc::Global;
 
 /// What is read of the mail that a field writes.
 pub fn answer(alloc: Global, field: &str) -> Result<String, MailParseError> {
+    let tables = &TABLES;
     let bytes = bytes_of(alloc, field)?;
     let mut line = String::new(alloc);
-    match parse_mail_with(alloc, bytes.as_slice(), &TABLES) {
-        Ok(mail) => push_tree(alloc, &mut line, &mail)?,
+    match parse_mail_with(alloc, bytes.as_slice(), tables) {
+        Ok(mail) => push_tree(alloc, &mut line, &mail, tables)?,
         Err(refusal) => push_refusal(alloc, &mut line, refusal)?,
     }
     Ok(line)
@@ -27,12 +28,13 @@ fn push_tree(
     alloc: Global,
     line: &mut String,
     mail: &ParsedMail<'_>,
+    tables: &[SingleByteTable<'_>],
 ) -> Result<(), MailParseError> {
     for part in mail.parts(alloc)? {
         if !line.is_empty() {
             line.push_str(" ")?;
         }
-        push_part(alloc, line, part)?;
+        push_part(alloc, line, part, tables)?;
     }
     Ok(())
 }
@@ -42,6 +44,7 @@ fn push_part(
     alloc: Global,
     line: &mut String,
     part: &ParsedMail<'_>,
+    tables: &[SingleByteTable<'_>],
 ) -> Result<(), MailParseError> {
     let count = part.subparts.len();
     write!(line, "; {count} ")?;
@@ -49,14 +52,14 @@ fn push_part(
     line.push_str(" ")?;
     push_bytes(alloc, line, part.ctype.charset.as_bytes())?;
     push_params(alloc, line, &part.ctype.params)?;
-    push_headers(alloc, line, &part.headers)?;
+    push_headers(alloc, line, &part.headers, tables)?;
     push_shown(
         alloc,
         line,
-        part.get_content_disposition_with(alloc, &TABLES)?,
+        part.get_content_disposition_with(alloc, tables)?,
     )?;
     line.push_str(" ")?;
-    push_body(alloc, line, part.get_body_with(alloc, &TABLES))
+    push_body(alloc, line, part.get_body_with(alloc, tables))
 }
 
 /// Writes headers.
@@ -64,11 +67,12 @@ fn push_headers(
     alloc: Global,
     line: &mut String,
     headers: &Vec<MailHeader<'_>>,
+    tables: &[SingleByteTable<'_>],
 ) -> Result<(), MailParseError> {
     let count = headers.len();
     write!(line, " {count} ")?;
     for header in headers {
-        push_header(alloc, line, header)?;
+        push_header(alloc, line, header, tables)?;
     }
     Ok(())
 }
@@ -78,10 +82,11 @@ fn push_header(
     alloc: Global,
     line: &mut String,
     header: &MailHeader<'_>,
+    tables: &[SingleByteTable<'_>],
 ) -> Result<(), MailParseError> {
     push_text(alloc, line, header.get_key(alloc)?)?;
     line.push_str(" ")?;
-    push_text(alloc, line, header.get_value_with(alloc, &TABLES)?)?;
+    push_text(alloc, line, header.get_value_with(alloc, tables)?)?;
     line.push_str(" ")?;
     Ok(())
 }

@@ -211,7 +211,7 @@ fn first_length_not_stripped(
 ) -> Result<Option<usize>, AllocError> {
     for more in 0..=200usize {
         let length = from.saturating_add(more);
-        if !is_stripped(alloc, bytes.get(..length).unwrap_or(b""))? {
+        if !is_stripped(alloc, &bytes[..length.min(bytes.len())])? {
             return Ok(Some(length));
         }
     }
@@ -268,7 +268,7 @@ fn first_escapes_misread(
 ) -> Result<Option<usize>, AllocError> {
     let all = repeated(alloc, b"text of some letters, ", 10)?;
     for length in 0..=200usize {
-        let front = all.as_slice().get(..length).unwrap_or(b"");
+        let front = &all.as_slice()[..length.min(all.len())];
         let text = joined(alloc, &[front, b"."])?;
         let coded = escaped(alloc, text.as_slice(), by, rest)?;
         let decoded = decode_quoted_printable(alloc, coded.as_slice())?;

@@ -1,6 +1,6 @@
 //! The calls that take memory, in groups, and whether they return what is right.
 
-use crate::inputs::{ATTACHED, HEADER, Inputs, TWO_CODINGS};
+use crate::inputs::{ATTACHED, HEADER, Inputs, TWO_ENCODINGS};
 use crate::{codec, data, headers, mails, outlines, tables, texts};
 use mailparse::MailParseError;
 use std::alloc::Global;
@@ -52,7 +52,7 @@ static GROUPS: [&str; 31] = [
 /// Makes the calls of each group, again so many times at most where memory ran out, always on the
 /// same inputs.
 pub fn make(alloc: Global, again: u32) -> Result<(), Fault> {
-    let Ok(inputs) = Inputs::new(alloc, TWO_CODINGS, ATTACHED, HEADER) else {
+    let Ok(inputs) = Inputs::new(alloc, TWO_ENCODINGS, ATTACHED, HEADER) else {
         return Err(Fault {
             calls: "the inputs",
             what: "out of memory",

@@ -7,7 +7,7 @@ use mailparse::{
 use std::alloc::Global;
 
 /// A message of two parts in different transfer encodings.
-pub const TWO_CODINGS: &[u8] = b"Subject: This is a test email\n\
+pub const TWO_ENCODINGS: &[u8] = b"Subject: This is a test email\n\
     Content-Type: multipart/alternative; boundary=foobar\n\
     Date: Sun, 02 Oct 2016 07:06:22 -0700 (PDT)\n\n\
     --foobar\n\

@@ -1,7 +1,7 @@
 //! The calls on messages and their bodies.
 
 use crate::found::{are_pairs, is_bytes, is_text};
-use crate::inputs::{Inputs, TWO_CODINGS};
+use crate::inputs::{Inputs, TWO_ENCODINGS};
 use mailparse::body::{Body, EncodedBody};
 use mailparse::{
     DispositionType, MailParseError, ParsedContentType, ParsedMail, parse_mail, parse_mail_limited,
@@ -25,7 +25,7 @@ pub fn read(alloc: Global) -> Result<bool, MailParseError> {
 
 /// `parse_mail_limited`.
 pub fn read_limited(alloc: Global) -> Result<bool, MailParseError> {
-    let mail = parse_mail_limited(alloc, TWO_CODINGS, 1)?;
+    let mail = parse_mail_limited(alloc, TWO_ENCODINGS, 1)?;
     Ok(mail.subparts.len() == 2)
 }
 

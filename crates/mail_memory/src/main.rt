@@ -65,7 +65,7 @@ fn make_free_calls(alloc: Global) -> Result<(), Fault> {
 }
 
 fn are_free(alloc: Global) -> Result<bool, MailParseError> {
-    let mail = parse_mail(alloc, inputs::TWO_CODINGS)?;
+    let mail = parse_mail(alloc, inputs::TWO_ENCODINGS)?;
     let ctype = ParsedContentType::default(alloc)?;
     let parts = mail.parts(alloc)?;
     Ok(no_alloc::are_right(alloc, &mail, parts, &ctype) && no_alloc::is_memory_refused(alloc))

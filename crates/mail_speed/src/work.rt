@@ -27,13 +27,19 @@ fn lines(input: &[u8]) -> usize {
     let mut rest = input;
     let mut count = 0usize;
     for _place in input {
-        let Some(place) = find_byte(rest, b'\n') else {
+        let Some(after) = after_line(rest) else {
             break;
         };
-        rest = rest.get(place.saturating_add(1)..).unwrap_or(b"");
+        rest = after;
         count = count.saturating_add(1);
     }
     count
+}
+
+/// What follows the first LF.
+fn after_line(text: &[u8]) -> Option<&[u8]> {
+    let place = find_byte(text, b'\n')?;
+    Some(&text[place + 1..])
 }
 
 /// How many bytes Base64 stands for.

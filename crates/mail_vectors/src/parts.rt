@@ -198,7 +198,7 @@ fn a_boundary_in_sections(rt: HostRuntime) -> Result<(), Fail> {
 }
 
 /// A message of two parts in different transfer encodings.
-pub const TWO_CODINGS: &[u8] = b"Subject: This is a test email\n\
+pub const TWO_ENCODINGS: &[u8] = b"Subject: This is a test email\n\
     Content-Type: multipart/alternative; boundary=foobar\n\
     Date: Sun, 02 Oct 2016 07:06:22 -0700 (PDT)\n\n\
     --foobar\n\
@@ -215,7 +215,7 @@ pub const TWO_CODINGS: &[u8] = b"Subject: This is a test email\n\
 
 #[test]
 fn two_parts_in_different_encodings(rt: HostRuntime) -> Result<(), Fail> {
-    let mail = parse_mail(rt.alloc(), TWO_CODINGS)?;
+    let mail = parse_mail(rt.alloc(), TWO_ENCODINGS)?;
     assert_eq!(rt; mail.subparts.len(), 2);
     assert_same(&rt, mail.get_body_raw(rt.alloc())?.len(), 0);
     let plain = mail.subparts[0].get_body(rt.alloc())?;

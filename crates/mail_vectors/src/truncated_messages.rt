@@ -1,6 +1,6 @@
 //! How much a message and its parts hold together, and messages that are cut short at every length.
 use crate::bodies::raw_bytes;
-use crate::parts::{TWO_CODINGS, TWO_PARTS, message_with, nested};
+use crate::parts::{TWO_ENCODINGS, TWO_PARTS, message_with, nested};
 use crate::texts::{LONE_CR, assert_holds, assert_same, assert_same_for, refusal};
 use mailparse::{MailParseError, ParsedMail, parse_mail};
 use std::alloc::Global;
@@ -70,7 +70,7 @@ fn a_message_of_two_parts_cut_short_at_every_length(rt: HostRuntime) -> Result<(
 
 #[test]
 fn a_message_in_two_encodings_cut_short_at_every_length(rt: HostRuntime) -> Result<(), Fail> {
-    assert_same(&rt, first_unread(rt.alloc(), TWO_CODINGS)?, None);
+    assert_same(&rt, first_unread(rt.alloc(), TWO_ENCODINGS)?, None);
     Ok(())
 }
 
