@@ -7,8 +7,9 @@ which counts as a change of each function that uses it. (A body is proved agains
 calls, so edits of different functions do not touch one another. An edit of a contract, of a definition or
 of a proof goes to must-fail/, which `rt ci` tries.)
 
-The script proves each crate from nothing, in a copy of the repository. Then it checks the crate with a
-batch of edits at once, over the proofs that are kept, where no two edits of a batch change one function.
+The script proves each crate as it is, in a copy of the repository, from nothing or from what `rt check` kept
+in other clones on this machine. Then it checks the crate with a batch of edits at once, over these proofs,
+where no two edits of a batch change one function; the largest batches start first.
 (Where one batch holds all edits of a crate, and no other crate with edits depends on it, the check of that
 batch is the first check of the crate.)
 An edit passes if the function that it changes is refused, and the line says which goal became false (or
@@ -37,7 +38,9 @@ import sys
 import tempfile
 import threading
 import time
+from collections.abc import Callable
 from concurrent.futures import FIRST_COMPLETED, ThreadPoolExecutor, wait
+from dataclasses import dataclass
 
 from edits.checker import Checker, all_below, is_proved
 from edits.edit import Change, Crate, Edit, batches_of, edits_in, texts_with
@@ -80,6 +83,15 @@ class Stopped(Exception):
 def kit():
     """The kit that checks, as it calls itself."""
     return subprocess.run(["rt", "version"], check=True, capture_output=True, text=True).stdout
+
+
+@dataclass
+class Task:
+    """A task: the keys of those that it waits for, its call, and how many edits that tries."""
+
+    waits: list
+    call: Callable
+    edits: int = 0
 
 
 class Trial:
@@ -256,7 +268,7 @@ def check_names(trial):
 
 
 def tasks_of(run):
-    """The tasks by their keys: what each waits for, and its call."""
+    """The tasks by their keys."""
     listed = run.checker.listed
     trials = {it.crate.name: it for it in run.trials if it.edits}
     if not trials:
@@ -268,14 +280,14 @@ def tasks_of(run):
         trial = trials.get(name)
         if name in above or trial is lowest or run.checker.is_kept or len(trial.batches) > 1:
             below = [("prove", it) for it in listed[name]]
-            tasks["prove", name] = below, lambda name=name, trial=trial: run.prove(name, trial)
+            tasks["prove", name] = Task(below, lambda name=name, trial=trial: run.prove(name, trial))
     shown = ("nothing", lowest.crate.name)
-    tasks[shown] = [("prove", lowest.crate.name)], lambda: run.show_that_it_can_fail(lowest)
+    tasks[shown] = Task([("prove", lowest.crate.name)], lambda: run.show_that_it_can_fail(lowest))
     for name, trial in trials.items():
         proofs = [key for it in all_below(listed, name) if (key := ("prove", it)) in tasks]
-        for number in range(len(trial.batches)):
+        for number, batch in enumerate(trial.batches):
             call = lambda trial=trial, number=number: run.try_batch(trial, number)
-            tasks["batch", name, number] = [*proofs, shown], call
+            tasks["batch", name, number] = Task([*proofs, shown], call, len(batch))
     return tasks
 
 
@@ -321,12 +333,12 @@ def run_tasks(tasks, lanes, stop, has_room=lambda: True):
 
 def start_ready(pool, lanes, done, running, left, has_room):
     """Starts the tasks that wait for nothing, as far as lanes are idle: the proofs of crates first; others
-    as far as there is room for them, or where nothing runs."""
-    ready = [key for key, (waits, _) in left.items() if done.issuperset(waits)]
-    for key in sorted(ready, key=lambda it: it[0] != "prove")[: lanes - len(running)]:
+    as far as there is room for them, or where nothing runs, and of these the largest first, since the last
+    to end is then a small one."""
+    ready = [key for key, task in left.items() if done.issuperset(task.waits)]
+    for key in sorted(ready, key=lambda it: (it[0] != "prove", -left[it].edits))[: lanes - len(running)]:
         if key[0] == "prove" or not running or has_room():
-            _, call = left.pop(key)
-            running[pool.submit(call)] = key
+            running[pool.submit(left.pop(key).call)] = key
 
 
 def main():

@@ -438,10 +438,12 @@ class KeptTest(unittest.TestCase):
 
 
 class OrderTest(unittest.TestCase):
-    def order_of(self, names, waits, has_room):
-        """In which order one lane runs the tasks, each of which waits for those that are named."""
+    def order_of(self, names, waits, has_room, edits=None):
+        """In which order one lane runs the tasks, each of which waits for those that are named, and tries
+        so many edits."""
         started = []
-        tasks = {key: (waits.get(key, []), lambda key=key: started.append(key)) for key in names}
+        call = lambda key: lambda: started.append(key)
+        tasks = {key: try_edits.Task(waits.get(key, []), call(key), (edits or {}).get(key, 0)) for key in names}
         try_edits.run_tasks(tasks, 1, lambda: None, has_room)
         return started
 
@@ -451,7 +453,8 @@ class OrderTest(unittest.TestCase):
         self.assertEqual(order, [low, high, batch])
 
     def test_a_batch_waits_for_room_while_something_runs(self):
-        done, running, left = set(), {}, {("batch", "low", 0): ([], int), ("prove", "low"): ([], int)}
+        tasks = {("batch", "low", 0): try_edits.Task([], int, 1), ("prove", "low"): try_edits.Task([], int)}
+        done, running, left = set(), {}, tasks
         with try_edits.ThreadPoolExecutor(4) as pool:
             try_edits.start_ready(pool, 4, done, running, left, lambda: False)
             self.assertEqual((list(running.values()), list(left)), ([("prove", "low")], [("batch", "low", 0)]))
@@ -461,6 +464,11 @@ class OrderTest(unittest.TestCase):
     def test_a_batch_waits_for_no_room_where_nothing_runs(self):
         batches = [("batch", "low", 0), ("batch", "low", 1)]
         self.assertEqual(self.order_of(batches, {}, lambda: False), batches)
+
+    def test_the_largest_batches_start_first(self):
+        small, large, middle = [("batch", "low", number) for number in range(3)]
+        order = self.order_of([small, large, middle], {}, lambda: True, {small: 1, large: 9, middle: 4})
+        self.assertEqual(order, [large, middle, small])
 
     def test_a_processor_is_idle_once_it_was_so_for_most_of_the_time(self):
         measured = [(0.0, 5.0), (0.5, 5.5), (2.0, 6.5), (4.0, 8.3), (6.0, 10.0)]
