@@ -7,9 +7,9 @@ ghost use Rattle.std.specs.Char.{IsScalar};
 /// Written by hand, since `char::encode_utf8` promises what text it lends, but not what the buffer
 /// holds afterwards.
 pub(crate) fn put_char(buffer: &mut [u8], at: usize, character: char) -> usize
-    requires { at + 4 ≤ length buffer.old }
+    requires room { at + 4 ≤ length buffer.old }
     ensures written { take result buffer.new ≡ take at buffer.old ++ encode_utf8 character }
-    ensures length { result ≡ at + length (encode_utf8 character) }
+    ensures len { result ≡ at + length (encode_utf8 character) }
     ensures bounds { result ≤ at + 4 }
     ensures scalar { IsScalar character }
 {

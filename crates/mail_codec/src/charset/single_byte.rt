@@ -119,7 +119,7 @@ fn push_text(text: &mut String, high: &HighHalf, bytes: &[u8]) -> Result<(), All
 
 /// Writes the text of the bytes to the front of the buffer, and returns its length.
 fn encode_block(buffer: &mut [u8], high: &HighHalf, bytes: &[u8]) -> usize
-    requires { 4 * length bytes.now ≤ length buffer.old }
+    requires room { 4 * length bytes.now ≤ length buffer.old }
     ensures written { take result buffer.new
         ≡ encode_utf8_all (map (single_byte_char high.now) bytes.now) }
     ensures utf8 { IsUtf8 (take result buffer.new) }
@@ -145,7 +145,7 @@ fn encode_block(buffer: &mut [u8], high: &HighHalf, bytes: &[u8]) -> usize
 /// looked at.
 #[inline(always)]
 fn put_ascii(output: &mut [u8], bytes: &[u8]) -> usize
-    requires { length bytes.now ≤ length output.old }
+    requires room { length bytes.now ≤ length output.old }
     ensures bounds { result ≤ length bytes.now }
     ensures ascii { IsAscii (take result bytes.now) }
     ensures written { take result output.new ≡ take result bytes.now }

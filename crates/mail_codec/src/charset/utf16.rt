@@ -59,8 +59,8 @@ fn encode_front(buffer: &mut [u8], order: ByteOrder, bytes: &[u8]) -> (usize, us
         ++ encode_utf8_all (utf_16_chars (unit_of order) (drop result.0 bytes.now)) }
     ensures utf8 { IsUtf8 (take result.1 buffer.new) }
     ensures takes_some { 0 < result.0 }
-    ensures takes_within { result.0 ≤ length bytes.now }
-    ensures bounds { result.1 ≤ length buffer.old }
+    ensures bounds { result.0 ≤ length bytes.now }
+    ensures fits { result.1 ≤ length buffer.old }
 {
     let mut taken = 0;
     let mut at = 0;
@@ -78,7 +78,7 @@ fn first_char(order: ByteOrder, bytes: &[u8]) -> (char, usize)
     ensures chars { utf_16_chars (unit_of order) bytes.now
         ≡ result.0 ∷ utf_16_chars (unit_of order) (drop result.1 bytes.now) }
     ensures takes_some { 0 < result.1 }
-    ensures takes_within { result.1 ≤ length bytes.now }
+    ensures bounds { result.1 ≤ length bytes.now }
 {
     let count = bytes.len();
     if count < 2 {

@@ -150,7 +150,7 @@ fn decode_windows(
 
 /// Drops the letters before place `at`.
 fn keep_from(letters: &mut Vec<u8>, at: usize)
-    requires { at ≤ vec_len letters.old }
+    requires within { at ≤ vec_len letters.old }
     ensures { letters.new.items ≡ drop at letters.old.items }
 {
     let left = letters.len() - at;

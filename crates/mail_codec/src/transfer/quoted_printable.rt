@@ -115,9 +115,9 @@ fn push_at_once(alloc: Global, bytes: &mut Vec<u8>, text: &[u8]) -> Result<(), A
 /// line end shows that it does not stay, or where there is no room to find out.
 fn put_lines(output: &mut [u8], text: &[u8], from: usize) -> (usize, usize)
     requires within { from ≤ length text.now }
-    ensures within { result.1 ≤ length text.now }
+    ensures bounds { result.1 ≤ length text.now }
     ensures after { from ≤ result.1 }
-    ensures written { result.0 ≤ length output.old }
+    ensures fits { result.0 ≤ length output.old }
     ensures whole { length text.now - from < length output.old → result.1 ≡ length text.now }
     ensures read { take result.0 output.new ++ quoted_printable (drop result.1 text.now)
         ≡ quoted_printable (drop from text.now) }
@@ -165,7 +165,7 @@ fn put_escapes(output: &mut [u8], text: &[u8], from: usize) -> usize
     requires within { from < length text.now }
     requires sign { slice_index text.now from ≡ equals_sign }
     ensures bounds { from + 3 * result ≤ length text.now }
-    ensures written { result ≤ length output.old }
+    ensures fits { result ≤ length output.old }
     ensures first { (result ≡ 0) ↔ (first_escape (drop from text.now) ≡ None) }
     ensures read { take result output.new ++ quoted_printable (drop (from + 3 * result) text.now)
         ≡ quoted_printable (drop from text.now) }

@@ -24,9 +24,9 @@ pub(crate) fn put_groups(
 ) -> (usize, usize)
     requires within { from ≤ length text.now }
     requires letters { KeepsLetters absent }
-    ensures within { result.1 ≤ length text.now }
+    ensures bounds { result.1 ≤ length text.now }
     ensures counted { from + 4 * result.0 ≤ result.1 }
-    ensures written { 3 * result.0 ≤ length output.old }
+    ensures fits { 3 * result.0 ≤ length output.old }
     ensures read { (n : ℕ) → groups_from n (without_ends absent (drop from text.now))
         ≡ prepend (take (3 * result.0) output.new)
         (groups_from (n + result.0) (without_ends absent (drop result.1 text.now))) }
@@ -66,8 +66,8 @@ pub(crate) fn put_groups(
 fn put_block(output: &mut [u8], place: usize, text: &[u8], at: usize) -> usize
     requires room { place + 16 ≤ length output.old }
     requires within { at ≤ length text.now }
-    ensures bounds { result ≤ 16 }
-    ensures within { at + result ≤ length text.now }
+    ensures fits { result ≤ 16 }
+    ensures bounds { at + result ≤ length text.now }
     ensures letters { result ≤ prefix_len is_letter (drop at text.now) }
     ensures kept { take place output.new ≡ take place output.old }
     ensures read { (k n : ℕ) → 4 * k ≤ result → groups_from n (take (4 * k) (drop at text.now))

@@ -14,7 +14,7 @@ returns-then-from-bytes-clause-written c =
     let rest = take_rest bytes from in
     let few : run ≤ length bytes - from = omega (arith, c.put_ascii-run.ensures.bounds, ap length rest, length-drop from bytes) in
     let low : IsAscii (take run (drop from bytes)) = subst (λ xs. IsAscii (take run xs)) rest c.put_ascii-run.ensures.ascii in
-    let written = written_rest at run c.characters.buffer c.put_ascii-run.new.output (omega (arith, few, c.requires, c.characters.invariant.within, c.characters.invariant.below)) c.put_ascii-run.auto.output (take run (drop from bytes)) (c.put_ascii-run.ensures.written ∙ ap (take run) rest) in
+    let written = written_rest at run c.characters.buffer c.put_ascii-run.new.output (omega (arith, few, c.requires.room, c.characters.invariant.within, c.characters.invariant.below)) c.put_ascii-run.auto.output (take run (drop from bytes)) (c.put_ascii-run.ensures.written ∙ ap (take run) rest) in
     let text = written ∙ ap (λ xs. xs ++ take run (drop from bytes)) c.characters.invariant.text ∙ spelled_run c.args.high.now bytes from run low in
     text ∙ ap (spelled c.args.high.now) (take_all (from + run) bytes (omega (arith, c.if-from-bytes.true)))
 
@@ -27,7 +27,7 @@ returns-then-from-bytes-clause-utf8 c =
     let rest = take_rest bytes from in
     let few : run ≤ length bytes - from = omega (arith, c.put_ascii-run.ensures.bounds, ap length rest, length-drop from bytes) in
     let low : IsAscii (take run (drop from bytes)) = subst (λ xs. IsAscii (take run xs)) rest c.put_ascii-run.ensures.ascii in
-    let written = written_rest at run c.characters.buffer c.put_ascii-run.new.output (omega (arith, few, c.requires, c.characters.invariant.within, c.characters.invariant.below)) c.put_ascii-run.auto.output (take run (drop from bytes)) (c.put_ascii-run.ensures.written ∙ ap (take run) rest) in
+    let written = written_rest at run c.characters.buffer c.put_ascii-run.new.output (omega (arith, few, c.requires.room, c.characters.invariant.within, c.characters.invariant.below)) c.put_ascii-run.auto.output (take run (drop from bytes)) (c.put_ascii-run.ensures.written ∙ ap (take run) rest) in
     let text = written ∙ ap (λ xs. xs ++ take run (drop from bytes)) c.characters.invariant.text ∙ spelled_run c.args.high.now bytes from run low in
     subst IsUtf8 (sym written) (IsUtf8-append _ _ c.characters.invariant.utf8 (IsUtf8-from_ascii _ low))
 
@@ -40,9 +40,9 @@ returns-then-from-bytes-clause-bounds c =
     let rest = take_rest bytes from in
     let few : run ≤ length bytes - from = omega (arith, c.put_ascii-run.ensures.bounds, ap length rest, length-drop from bytes) in
     let low : IsAscii (take run (drop from bytes)) = subst (λ xs. IsAscii (take run xs)) rest c.put_ascii-run.ensures.ascii in
-    let written = written_rest at run c.characters.buffer c.put_ascii-run.new.output (omega (arith, few, c.requires, c.characters.invariant.within, c.characters.invariant.below)) c.put_ascii-run.auto.output (take run (drop from bytes)) (c.put_ascii-run.ensures.written ∙ ap (take run) rest) in
+    let written = written_rest at run c.characters.buffer c.put_ascii-run.new.output (omega (arith, few, c.requires.room, c.characters.invariant.within, c.characters.invariant.below)) c.put_ascii-run.auto.output (take run (drop from bytes)) (c.put_ascii-run.ensures.written ∙ ap (take run) rest) in
     let text = written ∙ ap (λ xs. xs ++ take run (drop from bytes)) c.characters.invariant.text ∙ spelled_run c.args.high.now bytes from run low in
-    omega (arith, few, c.requires, c.characters.invariant.within, c.characters.invariant.below)
+    omega (arith, few, c.requires.room, c.characters.invariant.within, c.characters.invariant.below)
 
 pub characters-preserved : goal.characters-preserved
 characters-preserved c =
@@ -53,7 +53,7 @@ characters-preserved c =
     let rest = take_rest bytes from in
     let few : run ≤ length bytes - from = omega (arith, c.put_ascii-run.ensures.bounds, ap length rest, length-drop from bytes) in
     let low : IsAscii (take run (drop from bytes)) = subst (λ xs. IsAscii (take run xs)) rest c.put_ascii-run.ensures.ascii in
-    let written = written_rest at run c.characters.buffer c.put_ascii-run.new.output (omega (arith, few, c.requires, c.characters.invariant.within, c.characters.invariant.below)) c.put_ascii-run.auto.output (take run (drop from bytes)) (c.put_ascii-run.ensures.written ∙ ap (take run) rest) in
+    let written = written_rest at run c.characters.buffer c.put_ascii-run.new.output (omega (arith, few, c.requires.room, c.characters.invariant.within, c.characters.invariant.below)) c.put_ascii-run.auto.output (take run (drop from bytes)) (c.put_ascii-run.ensures.written ∙ ap (take run) rest) in
     let text = written ∙ ap (λ xs. xs ++ take run (drop from bytes)) c.characters.invariant.text ∙ spelled_run c.args.high.now bytes from run low in
     let utf8 = subst IsUtf8 (sym written) (IsUtf8-append _ _ c.characters.invariant.utf8 (IsUtf8-from_ascii _ low)) in
     record {

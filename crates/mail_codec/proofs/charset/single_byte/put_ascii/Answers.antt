@@ -41,7 +41,7 @@ returns-then-place-ne-LANES-clause-written c =
     let is : c.first_lane-place.result ≡ first_place (begins (λ b. nat_le 128 b)) v = c.first_lane-place.ensures (λ b. nat_le 128 b) v long c.lanes_from.ensures in
     let few : c.first_lane-place.result ≤ 16 = omega (arith, is, long, first_place-≤ (begins (λ b. nat_le 128 b)) v) in
     let low : IsAscii (take c.first_lane-place.result v) = subst (λ n. IsAscii (take n v)) (sym is) (ascii_front v) in
-    stored_copy at c.first_lane-place.result c.vectors.output bytes c.vectors.invariant.written (omega (arith, within, c.requires)) within few
+    stored_copy at c.first_lane-place.result c.vectors.output bytes c.vectors.invariant.written (omega (arith, within, c.requires.room)) within few
 
 pub vectors-preserved : goal.vectors-preserved
 vectors-preserved c =
@@ -57,5 +57,5 @@ vectors-preserved c =
     record {
       within = omega (arith, within);
       ascii = ascii_more bytes at 16 (omega arith) c.vectors.invariant.ascii (subst (λ n. IsAscii (take n v)) all low);
-      written = stored_copy at 16 c.vectors.output bytes c.vectors.invariant.written (omega (arith, within, c.requires)) within (omega arith);
+      written = stored_copy at 16 c.vectors.output bytes c.vectors.invariant.written (omega (arith, within, c.requires.room)) within (omega arith);
     }

@@ -21,7 +21,7 @@ pub buffers-preserved : goal.buffers-preserved
 buffers-preserved c =
     let e = c.put_groups-count.ensures in
     record {
-      within = e.within;
+      within = e.bounds;
       counted = omega (arith, c.buffers.invariant.counted, e.counted);
       so_far = buffer_read _ c.buffers.bytes.items _ _ c.buffers.groups c.put_groups-count.result.0 _ _ c.buffers.invariant.so_far e.read
           (c.in_ok-push_one_group.ensures.kept c.if-branch.false ∙ c.in_ok-extend_from_slice.ensures.items);

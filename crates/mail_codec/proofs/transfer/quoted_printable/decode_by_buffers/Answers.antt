@@ -22,7 +22,7 @@ buffers-preserved c =
     let e = c.put_lines-len.ensures in
     let more = take c.put_lines-len.result.0 c.put_lines-len.new.output in
     record {
-      within = e.within;
+      within = e.bounds;
       so_far =
           ap (λ xs. xs ++ quoted_printable (drop c.put_lines-len.result.1 text)) c.in_ok-extend_from_slice.ensures.items
           ∙ append_assoc c.buffers.bytes.items more (quoted_printable (drop c.put_lines-len.result.1 text))

@@ -160,7 +160,7 @@ marks-preserved c =
     let output = with_part place c.marks.output c.put_run.new.output in
     let count = c.put_escapes-count.result in
     let sign = c.marks.len + (at + c.put_run.result - c.marks.plain) in
-    let enough : sign + count ≤ length output = omega (arith, run.room, c.put_escapes-count.ensures.written, length-take (length output - sign) (drop sign output), length-drop sign output) in
+    let enough : sign + count ≤ length output = omega (arith, run.room, c.put_escapes-count.ensures.fits, length-take (length output - sign) (drop sign output), length-drop sign output) in
     after_escapes text c.args.from output c.marks.len c.marks.plain (at + c.put_run.result) run count c.put_escapes-count.new.output enough c.put_escapes-count.auto.output
     (length-with_part sign output c.put_escapes-count.new.output run.room c.put_escapes-count.auto.output)
     (omega (arith, c.if-count-eq0.false)) (λ none. c.if-count-eq0.false (c.put_escapes-count.ensures.first.1 none)) c.put_escapes-count.ensures.bounds c.put_escapes-count.ensures.read
