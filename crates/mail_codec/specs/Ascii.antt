@@ -31,6 +31,9 @@ asterisk = 42
 abbrev pub comma : ℕ
 comma = 44
 
+abbrev pub slash : ℕ
+slash = 47
+
 abbrev pub digit_0 : ℕ
 digit_0 = 48
 

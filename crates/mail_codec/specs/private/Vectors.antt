@@ -2,6 +2,7 @@
 use Rattle.std.specs.Prelude.{ℕ, ◌+◌, ◌*◌, ◌/◌, ◌%◌, ◌==◌, ◌&&◌, Bool, map, List, [], ◌∷◌, Option, slice_index, bit_and, if◌then◌else◌}
 use Rattle.std.specs.Option.{is_some}
 use Rattle.std.specs.Simd.Lanes.{mask_l, zip2}
+use Rattle.mail_codec.specs.Ascii.{slash}
 use Rattle.mail_codec.specs.Base64.{letter_value, group_bytes}
 
 -- A bit for each lane, which is 1 where the lane passes the test; the lowest is that of the first.
@@ -39,7 +40,7 @@ fault_of b = bit_and (slice_index upper_faults (b / 16)) (slice_index lower_faul
 
 -- 255, which is one less than nothing, at `/`.
 abbrev pub slash_mark : ℕ → ℕ
-slash_mark b = if b == 47 then 255 else 0
+slash_mark b = if b == slash then 255 else 0
 
 -- The place in the table of what is added to a letter.
 abbrev pub roll_place : ℕ → ℕ
