@@ -1,13 +1,13 @@
 pub mod Places
 pub mod PlacesLaw
+pub mod PlacesSearches
 pub mod Runs
 pub mod Words
-pub mod WordBytes
-pub mod WordSearches
+pub mod WordsBytes
 pub mod Vectors
+pub mod VectorsLetters
 pub mod Pairs
 pub mod Blocks
-pub mod VectorLetters
 pub mod CharsetUtf8
 pub mod CharsetLabels
 pub mod CharsetMarks

@@ -4,7 +4,7 @@ pub mod Words
 pub mod Vectors
 pub mod Padded
 pub mod Utf16
-pub mod Marks
+pub mod ByteOrderMarks
 pub mod Base64
 pub mod QuotedPrintable
 pub mod SingleByte

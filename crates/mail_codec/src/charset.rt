@@ -6,7 +6,7 @@ ghost use Rattle.std.specs.Prelude.{◌≡◌, ◌↔◌, IfOk, IsOk, IsAscii, s
 ghost use Rattle.std.specs.Cow.{cow_str_bytes, IsBorrowedStr};
 ghost use Rattle.mail_codec.specs.Charset.{ascii_text, charset_of_label, marked_text_of, text_of};
 ghost use Rattle.mail_codec.specs.Latin1.{latin1_text};
-ghost use Rattle.mail_codec.specs.private.Marks.{marked, seen};
+ghost use Rattle.mail_codec.specs.private.ByteOrderMarks.{marked, seen};
 
 mod encode;
 mod labels;

@@ -6,7 +6,7 @@ use Rattle.mail_codec.specs.Places.{first_place, begins}
 use Rattle.mail_codec.specs.private.Vectors.{lane_mask}
 use Rattle.mail_codec.proofs.lemmas.Places.{PassedTo, first_place-≤}
 use Rattle.mail_codec.proofs.lemmas.Vectors.{first_lane_none}
-use Rattle.mail_codec.proofs.lemmas.WordSearches.{PassedTo-chunk, PassedTo-found, both_zero}
+use Rattle.mail_codec.proofs.lemmas.PlacesSearches.{PassedTo-chunk, PassedTo-found, both_zero}
 
 -- a mask is 0 where no lane passes
 free_mask : (test : ℕ → Bool) (v : List ℕ) → first_place (begins test) v ≡ length v → lane_mask test v ≡ 0

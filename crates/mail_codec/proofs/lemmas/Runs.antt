@@ -6,7 +6,7 @@ use lib.Lanes.{put_chunk}
 use Rattle.mail_codec.specs.Places.{first_place, begins}
 use Rattle.mail_codec.specs.private.Runs.{ends_run, without_ends}
 use Rattle.mail_codec.specs.declared.bytescan.runs.RunEnd.{RunEnd}
-use Rattle.mail_codec.proofs.lemmas.WordSearches.{found_front}
+use Rattle.mail_codec.proofs.lemmas.PlacesSearches.{found_front}
 use Rattle.mail_codec.proofs.lemmas.Written.{stored_after}
 
 -- what is kept is what stands before the first end of a run, and then what is kept of what follows it

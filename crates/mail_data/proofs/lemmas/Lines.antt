@@ -5,7 +5,7 @@ use Rattle.std.proofs.lemmas.Bool.{cases_Bool, ltb-true, ne_eqb, and_parts, and_
 use Rattle.std.proofs.lemmas.List.{drop-drop}
 use Rattle.mail_codec.specs.Places.{begins, first_place, least, byte_place}
 use Rattle.mail_codec.proofs.lemmas.Places.{least-is, least-passes, first_place-before, first_place-passes}
-use Rattle.mail_codec.proofs.lemmas.WordSearches.{place_none, place_some}
+use Rattle.mail_codec.proofs.lemmas.PlacesSearches.{place_none, place_some}
 use Rattle.mail_data.specs.Lines.{starts_line, line_place}
 
 -- a line starts at p from which on the bytes pass the test

@@ -5,7 +5,7 @@ use Rattle.std.specs.List.{flat_map}
 use Rattle.std.proofs.lemmas.Bool.{cond-true, cond-false, cases_Bool, lt-ltb, ltb-true, ne_eqb, and_parts, and_left, or_right, false≢true}
 use Rattle.std.proofs.lemmas.List.{append_assoc, drop-drop, drop_all, take_rest, take-append-drop}
 use Rattle.mail_codec.specs.Places.{stands, begins, byte_place, is_empty}
-use Rattle.mail_codec.proofs.lemmas.WordSearches.{place_none, place_some}
+use Rattle.mail_codec.proofs.lemmas.PlacesSearches.{place_none, place_some}
 use Rattle.mail_data.specs.Lines.{empty_line, after_empty_line, starts_line}
 use Rattle.mail_data.specs.Mailbox.{mark, ends_mail, mail_length, line_length, entry_bytes, after_line, after_mail, entry_at, next_entry, entries_within, entries_from, front_length, entries}
 use Rattle.mail_data.proofs.lemmas.Lines.{NoLine, line_place-found, line_place-all, line_place-≤, line_place-passes}

@@ -7,7 +7,7 @@ use Rattle.std.proofs.lemmas.Bool.{cond-true, cond-false, cases_lt, cases_eq, lt
 use Rattle.std.proofs.lemmas.List.{drop-drop, drop-append-le, drop_all, drop_at, take_at}
 use Rattle.mail_codec.specs.Places.{stands, begins, place, byte_place}
 use Rattle.mail_codec.proofs.lemmas.Places.{first_place-before}
-use Rattle.mail_codec.proofs.lemmas.WordSearches.{place_none}
+use Rattle.mail_codec.proofs.lemmas.PlacesSearches.{place_none}
 use Rattle.mailparse.specs.Ranges.{Range, slice}
 use Rattle.mailparse.specs.Delimiters.{is_delimiter, delimiter_from, line_after, part_after, is_close_delimiter, first_part, next_part, before_byte, before_line_end, end_from, part_range, cut_parts}
 use Rattle.mailparse.specs.private.Delimiters.{NoDelimiter}

@@ -9,7 +9,7 @@ use Rattle.mail_codec.proofs.lemmas.Places.{least-is, least-before, least-passes
 use Rattle.mailparse.specs.Header.{is_line_feed}
 use Rattle.mailparse.specs.Delimiters.{least_from, starts_line, is_delimiter, delimiter_from, line_after, part_after, is_close_delimiter, next_part, part_start, part_starts, part_range}
 use Rattle.mailparse.specs.private.Delimiters.{NoDelimiter}
-use Rattle.mail_codec.proofs.lemmas.WordSearches.{place_none, place_some}
+use Rattle.mail_codec.proofs.lemmas.PlacesSearches.{place_none, place_some}
 use Rattle.mailparse.specs.Ranges.{Range}
 use Rattle.mailparse.proofs.lemmas.Block.{values_below-same}
 use Rattle.mail_codec.specs.Ascii.{line_feed}

@@ -11,7 +11,7 @@ use Rattle.mail_codec.proofs.lemmas.Places.{first_place-≤, first_place-here, f
 use Rattle.mailparse.specs.Header.{ends_key, Header, is_line_end, is_line_feed, ends_header, key_end, has_colon, header_end, value_start, value_end, header_of, header_length, read_header}
 use Rattle.mailparse.specs.Refusal.{empty_string, leading_space}
 use Rattle.mailparse.proofs.lemmas.Places.{place_from_via}
-use Rattle.mail_codec.proofs.lemmas.WordSearches.{place_none, place_some}
+use Rattle.mail_codec.proofs.lemmas.PlacesSearches.{place_none, place_some}
 
 -- ---- the first LF and the first colon before it
 

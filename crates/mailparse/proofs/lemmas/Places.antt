@@ -1,7 +1,7 @@
 -- What the result of a search says of least places.
 use Rattle.std.proofs.Common.{◌≡◌, ℕ, ◌<◌, ◌≤◌, Bool, true, false, List, [], ◌∷◌, length, drop, Option, is_some, Some, None, refl, ◌∙◌, arith, length-drop}
 use Rattle.mail_codec.specs.Places.{is_empty, place, place_from}
-use Rattle.mail_codec.proofs.lemmas.WordSearches.{place_none}
+use Rattle.mail_codec.proofs.lemmas.PlacesSearches.{place_none}
 use Rattle.mail_codec.proofs.lemmas.Places.{place_from_bounds, place_from_same, place_from_weaker}
 
 -- a search that begins at a place and finds nothing

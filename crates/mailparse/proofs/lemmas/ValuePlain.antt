@@ -19,7 +19,7 @@ use Rattle.mailparse.proofs.lemmas.Value.{lenient-utf8}
 use Rattle.std.proofs.lemmas.Str.{IsUtf8-from_ascii}
 use Rattle.mailparse.specs.Value.{IsPlain, token_of, outside_token, line_tokens, tokens_of_lines, value_tokens, shown_tokens, shown_after, shown_value, lenient_value, lenient_value_in, strict_value}
 use Rattle.mail_codec.proofs.lemmas.Places.{first_place-≤, first_place-passes, first_place-before, begins-at}
-use Rattle.mail_codec.proofs.lemmas.WordSearches.{place_none}
+use Rattle.mail_codec.proofs.lemmas.PlacesSearches.{place_none}
 use Rattle.mailparse.proofs.lemmas.Shown.{token_of-outside}
 use Rattle.mailparse.proofs.lemmas.Tokens.{token_ranges_only}
 

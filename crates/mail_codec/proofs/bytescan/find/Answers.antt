@@ -2,7 +2,7 @@ use Rattle.std.proofs.Common.{sym, ◌∙◌}
 use Rattle.std.proofs.lemmas.List.{take_rest}
 use Rattle.mail_codec.specs.Places.{stands}
 use Rattle.mail_codec.proofs.lemmas.Places.{PassedTo-more}
-use Rattle.mail_codec.proofs.lemmas.WordSearches.{first_item, candidate, no_candidate, text_absent, text_found}
+use Rattle.mail_codec.proofs.lemmas.PlacesSearches.{first_item, candidate, no_candidate, text_absent, text_found}
 use Rattle.mail_codec.proofs.bytescan.find.Goals as goal
 
 pub returns-then-starts_with : goal.returns-then-starts_with

@@ -1,7 +1,7 @@
 use Rattle.std.proofs.Common.{take, drop, refl, sym, ◌∙◌, arith}
 use Rattle.std.proofs.lemmas.Bool.{eqb-true}
 use Rattle.mail_codec.specs.private.Runs.{may_end_run}
-use Rattle.mail_codec.proofs.lemmas.WordSearches.{PassedTo-chunk}
+use Rattle.mail_codec.proofs.lemmas.PlacesSearches.{PassedTo-chunk}
 use Rattle.mail_codec.proofs.bytescan.runs.blocks_len.Goals as goal
 
 pub blocks-2-preserved : goal.blocks-2-preserved

@@ -1,7 +1,7 @@
 use Rattle.std.proofs.Common.{length, get_or, [], ap, ◌∙◌, arith}
 use Rattle.std.proofs.lemmas.List.{length-take-le, length-drop}
 use Rattle.mail_codec.specs.private.Runs.{may_end_run}
-use Rattle.mail_codec.proofs.lemmas.WordSearches.{PassedTo-chunk, PassedTo-found, chunk_is, marked_first}
+use Rattle.mail_codec.proofs.lemmas.PlacesSearches.{PassedTo-chunk, PassedTo-found, chunk_is, marked_first}
 use Rattle.mail_codec.proofs.bytescan.runs.near_len.Goals as goal
 
 pub returns-then-mask-ne0-clause-least : goal.returns-then-mask-ne0-clause-least

@@ -3,7 +3,7 @@ use Rattle.std.proofs.lemmas.List.{length-drop, length-take-le}
 use Rattle.mail_codec.specs.Places.{begins, first_place}
 use Rattle.mail_codec.specs.private.Runs.{may_end_run}
 use Rattle.mail_codec.proofs.lemmas.Places.{first_place-≤}
-use Rattle.mail_codec.proofs.lemmas.WordSearches.{PassedTo-chunk, PassedTo-found, last_chunk}
+use Rattle.mail_codec.proofs.lemmas.PlacesSearches.{PassedTo-chunk, PassedTo-found, last_chunk}
 use Rattle.mail_codec.proofs.bytescan.runs.vectors_len.Goals as goal
 
 sixteen : (bytes : List ℕ) (at : ℕ) → at + 16 ≤ length bytes → length (take 16 (drop at bytes)) ≡ 16

@@ -1,6 +1,6 @@
 use Rattle.std.proofs.Common.{arith}
 use Rattle.std.specs.Prelude.{◌==◌}
-use Rattle.mail_codec.proofs.lemmas.WordBytes.{either_mask_is}
+use Rattle.mail_codec.proofs.lemmas.WordsBytes.{either_mask_is}
 use Rattle.mail_codec.proofs.bytescan.words.either_mask.Goals as goal
 
 pub returns : goal.returns

@@ -1,5 +1,5 @@
 use Rattle.std.proofs.Common.{arith, refl}
-use Rattle.mail_codec.proofs.lemmas.WordBytes.{equal_mask_is}
+use Rattle.mail_codec.proofs.lemmas.WordsBytes.{equal_mask_is}
 use Rattle.mail_codec.proofs.bytescan.words.equal_mask.Goals as goal
 
 pub returns : goal.returns

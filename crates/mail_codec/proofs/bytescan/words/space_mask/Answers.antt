@@ -1,6 +1,6 @@
 use Rattle.std.proofs.Common.{arith}
 use Rattle.std.specs.Prelude.{nat_lt}
-use Rattle.mail_codec.proofs.lemmas.WordBytes.{space_mask_is}
+use Rattle.mail_codec.proofs.lemmas.WordsBytes.{space_mask_is}
 use Rattle.mail_codec.proofs.bytescan.words.space_mask.Goals as goal
 
 pub returns : goal.returns

@@ -1,7 +1,7 @@
 use Rattle.std.proofs.Common.{refl}
 use Rattle.mail_codec.specs.private.Runs.{ends_run}
 use Rattle.mail_codec.specs.declared.bytescan.runs.RunEnd.TheVariants.{LineEnd}
-use Rattle.mail_codec.proofs.lemmas.VectorLetters.{letters_fail}
+use Rattle.mail_codec.proofs.lemmas.VectorsLetters.{letters_fail}
 use Rattle.mail_codec.proofs.transfer.base_64.decode_base64.Goals as goal
 
 pub decode_base64_without-requires : goal.decode_base64_without-requires

@@ -4,7 +4,7 @@ use Rattle.mail_codec.specs.Places.{begins, first_place}
 use Rattle.mail_codec.specs.private.QuotedPrintable.{is_mark}
 use Rattle.mail_codec.proofs.lemmas.Places.{first_place-≤}
 use Rattle.mail_codec.proofs.lemmas.Written.{stored_copy, copied_rest}
-use Rattle.mail_codec.proofs.lemmas.WordSearches.{PassedTo-chunk, PassedTo-found}
+use Rattle.mail_codec.proofs.lemmas.PlacesSearches.{PassedTo-chunk, PassedTo-found}
 use Rattle.mail_codec.proofs.transfer.quoted_printable.put_run.Goals as goal
 
 pub returns-then-place-ne-LANES-clause-written : goal.returns-then-place-ne-LANES-clause-written

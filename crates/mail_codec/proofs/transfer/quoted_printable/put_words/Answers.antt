@@ -2,7 +2,7 @@ use Rattle.std.proofs.Common.{◌≡◌, ◌*◌, ◌/◌, ◌≤◌, length, ta
 use Rattle.std.proofs.lemmas.List.{length-take-le, length-drop, take-take}
 use Rattle.mail_codec.specs.private.QuotedPrintable.{is_mark}
 use Rattle.mail_codec.proofs.lemmas.Written.{copied_after, copied_rest}
-use Rattle.mail_codec.proofs.lemmas.WordSearches.{PassedTo-chunk, PassedTo-found, chunk_is, marked_first}
+use Rattle.mail_codec.proofs.lemmas.PlacesSearches.{PassedTo-chunk, PassedTo-found, chunk_is, marked_first}
 use Rattle.mail_codec.proofs.transfer.quoted_printable.put_words.Goals as goal
 
 pub returns-then-mask-ne0-clause-written : goal.returns-then-mask-ne0-clause-written

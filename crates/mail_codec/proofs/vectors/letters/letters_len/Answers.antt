@@ -1,7 +1,7 @@
 use Rattle.std.proofs.Common.{not, ◌==◌}
 use Rattle.mail_codec.specs.private.Vectors.{fault_of, is_letter}
 use Rattle.mail_codec.proofs.lemmas.Vectors.{marks_of, none_marked, first_marked}
-use Rattle.mail_codec.proofs.lemmas.VectorLetters.{faults_agree}
+use Rattle.mail_codec.proofs.lemmas.VectorsLetters.{faults_agree}
 use Rattle.mail_codec.proofs.vectors.letters.letters_len.Goals as goal
 
 pub returns-then-mask-eq0 : goal.returns-then-mask-eq0

@@ -1,6 +1,6 @@
 use Rattle.mail_codec.specs.declared.vectors.letters.TheConstants.{FIRST_PAIR, LAST_PAIR}
 use Rattle.std.proofs.lemmas.Simd.{dot4_Fits}
-use Rattle.mail_codec.proofs.lemmas.VectorLetters.{numbers_len, numbers_fit, numbers_at}
+use Rattle.mail_codec.proofs.lemmas.VectorsLetters.{numbers_len, numbers_fit, numbers_at}
 use Rattle.mail_codec.proofs.vectors.letters.numbers.Goals as goal
 
 pub dot4-first : goal.dot4-first

@@ -1,4 +1,4 @@
-use Rattle.mail_codec.proofs.lemmas.VectorLetters.{ordered_groups}
+use Rattle.mail_codec.proofs.lemmas.VectorsLetters.{ordered_groups}
 use Rattle.mail_codec.proofs.vectors.letters.packed.Goals as goal
 
 pub returns-clause-groups : goal.returns-clause-groups

@@ -1,7 +1,7 @@
 use Rattle.mail_codec.specs.declared.vectors.letters.TheConstants.{ROLLS}
 use Rattle.mail_codec.specs.private.Vectors.{roll_place}
 use Rattle.mail_codec.proofs.lemmas.Vectors.{places_ok, looked_up}
-use Rattle.mail_codec.proofs.lemmas.VectorLetters.{roll_place_small}
+use Rattle.mail_codec.proofs.lemmas.VectorsLetters.{roll_place_small}
 use Rattle.mail_codec.proofs.vectors.letters.rolls.Goals as goal
 
 pub swizzle : goal.swizzle

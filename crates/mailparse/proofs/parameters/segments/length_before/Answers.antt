@@ -1,6 +1,6 @@
 use Rattle.std.proofs.Common.{eqb, sym, ◌∙◌}
 use Rattle.mail_codec.specs.Places.{begins}
-use Rattle.mail_codec.proofs.lemmas.WordSearches.{place_none}
+use Rattle.mail_codec.proofs.lemmas.PlacesSearches.{place_none}
 use Rattle.mailparse.proofs.parameters.segments.length_before.Goals as goal
 
 pub returns-in-None-clause-least : goal.returns-in-None-clause-least

@@ -3,7 +3,7 @@ use Rattle.std.proofs.lemmas.List.Sums.{prefix_len-le-length}
 use Rattle.std.specs.List.{prefix_len}
 use Rattle.mail_codec.specs.private.Vectors.{is_letter}
 use Rattle.mail_codec.proofs.lemmas.Vectors.{stored_before, stored_at}
-use Rattle.mail_codec.proofs.lemmas.VectorLetters.{groups_read}
+use Rattle.mail_codec.proofs.lemmas.VectorsLetters.{groups_read}
 use Rattle.mail_codec.proofs.transfer.base_64.groups.put_letters.Goals as goal
 
 pub returns-clause-bounds : goal.returns-clause-bounds
