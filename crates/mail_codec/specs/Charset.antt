@@ -10,8 +10,8 @@ use Rattle.std.specs.Char.Utf16.{is_high_surrogate, utf16_lossy_chars}
 use Rattle.std.specs.Str.{str_eq_ignore_ascii_case}
 use Rattle.std.specs.Str.Lossy.{utf8_lossy}
 use Rattle.mail_codec.specs.Places.{trimmed_at_start, trimmed_at_end}
-use Rattle.mail_codec.specs.declared.charset.Charset.{Charset}
-use Rattle.mail_codec.specs.declared.charset.Charset.TheVariants.{Utf8, Windows1252, Utf16Le, Utf16Be}
+use Rattle.mail_codec.specs.declared.charset.built_in.Charset.{Charset}
+use Rattle.mail_codec.specs.declared.charset.built_in.Charset.TheVariants.{Utf8, Windows1252, Utf16Le, Utf16Be}
 
 -- the character that stands for what is not a character
 abbrev pub replacement : ℕ

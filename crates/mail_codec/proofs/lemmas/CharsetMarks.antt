@@ -2,7 +2,7 @@
 use Rattle.std.proofs.Common.{◌≡◌, ℕ, List, length, drop, refl, sym, ap, Option, None, Some, option_map}
 use Rattle.std.specs.Option.{option_map_or}
 use Rattle.mail_codec.specs.Charset.{text_of, marked, marked_text_of, mark_at_start}
-use Rattle.mail_codec.specs.declared.charset.Charset.{Charset}
+use Rattle.mail_codec.specs.declared.charset.built_in.Charset.{Charset}
 
 -- what is kept of a mark: its charset and the bytes after it
 abbrev pub kept : List ℕ → Charset × List ℕ → Charset × List ℕ

@@ -8,7 +8,7 @@ use Rattle.std.specs.List.{position, position_or_len}
 use Rattle.std.specs.Option.{option_or}
 use Rattle.mail_codec.specs.Charset.{charset_of_label, four_charsets, is_among_labels, text_of, trimmed_label}
 use Rattle.mail_codec.specs.Tables.{charsets_with, has_label, table_of_label, table_text}
-use Rattle.mail_codec.specs.declared.charset.Charset.{Charset}
+use Rattle.mail_codec.specs.declared.charset.built_in.Charset.{Charset}
 use Rattle.mail_codec.specs.declared.charset.tables.SingleByteTable.{SingleByteTable}
 
 -- a table has a label that was trimmed

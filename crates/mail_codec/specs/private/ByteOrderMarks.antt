@@ -3,7 +3,7 @@
 use Rattle.std.specs.Prelude.{ℕ, List, length, drop, Option, option_map}
 use Rattle.std.specs.Borrow.{Bor}
 use Rattle.mail_codec.specs.Charset.{mark_at_start}
-use Rattle.mail_codec.specs.declared.charset.Charset.{Charset}
+use Rattle.mail_codec.specs.declared.charset.built_in.Charset.{Charset}
 
 -- the charset of the mark that the bytes begin with, and the bytes after it
 abbrev pub marked : List ℕ → Option (Charset × List ℕ)

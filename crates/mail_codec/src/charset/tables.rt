@@ -4,8 +4,9 @@ ghost use Rattle.std.specs.List.{position};
 ghost use Rattle.mail_codec.specs.Charset.{is_among_labels, marked};
 ghost use Rattle.mail_codec.specs.Tables.{table_of_label, table_text};
 
+use super::built_in::{Charset, marked};
 use super::labels::is_among;
-use super::{Charset, marked, single_byte};
+use super::single_byte;
 use std::alloc::{AllocError, Global};
 
 /// A charset in which each byte is one character: its labels, and the characters of its high bytes.

@@ -15,7 +15,7 @@ use Rattle.std.proofs.lemmas.Str.Ascii.{IsAscii-nil, IsAscii-cons}
 use Rattle.base64.specs.GeneralPurpose.{IsBytes}
 use Rattle.mail_codec.specs.Charset.{Charsets, four_charsets, text_of}
 use Rattle.mail_codec.specs.Tables.{charsets_with, has_label, table_text}
-use Rattle.mail_codec.specs.declared.charset.Charset.TheVariants.{Utf8}
+use Rattle.mail_codec.specs.declared.charset.built_in.Charset.TheVariants.{Utf8}
 use Rattle.mail_codec.specs.declared.charset.tables.SingleByteTable.{SingleByteTable}
 use Rattle.mail_codec.specs.Places.{first_place, stands}
 use Rattle.mail_codec.proofs.lemmas.CharsetUtf8.{encode_two, encode_three, encode_four}

@@ -14,7 +14,7 @@ use Rattle.base64.proofs.Tables.{all_below_at}
 use Rattle.base64.proofs.EngineFacts.{encode-append}
 use Rattle.mail_codec.specs.Base64.{alphabet, letter, padding, base64, groups_from, without_line_ends}
 use Rattle.mail_codec.specs.Charset.{Charsets, charset_of_label, is_among_labels, text_of}
-use Rattle.mail_codec.specs.declared.charset.Charset.TheVariants.{Utf8}
+use Rattle.mail_codec.specs.declared.charset.built_in.Charset.TheVariants.{Utf8}
 use Rattle.mail_codec.specs.Places.{first_place}
 use Rattle.mail_codec.proofs.lemmas.Base64Engine.{groups_from-encode}
 use Rattle.mail_codec.proofs.lemmas.Base64Letters.{letter_no_padding}

@@ -2,7 +2,7 @@ use Rattle.std.proofs.Common.{◌≡◌, string_bytes, subst, sym, ap, ◌∙◌
 use Rattle.std.proofs.lemmas.Str.{IsUtf8-string_bytes, utf8_lossy-IsUtf8}
 use Rattle.std.specs.Str.{IsUtf8}
 use Rattle.mail_codec.specs.Charset.{text_of}
-use Rattle.mail_codec.specs.declared.charset.Charset.TheVariants.{Utf8}
+use Rattle.mail_codec.specs.declared.charset.built_in.Charset.TheVariants.{Utf8}
 use Rattle.mailparse.specs.declared.known_charset.KnownCharset.TheVariants.{Kept}
 use Rattle.mailparse.specs.private.KnownCharset.{known_text}
 use Rattle.mailparse.proofs.known_charset.KnownCharset.into_text_without_bom_handling.Goals as goal

@@ -2,7 +2,7 @@ use Rattle.std.proofs.Common.{◌∙◌}
 use Rattle.std.proofs.lemmas.Result.{IfOk-weaker}
 use Rattle.bstr.proofs.lemmas.LossyLemmas.{lossy_chars-utf8_lossy}
 use Rattle.mail_codec.specs.Charset.{text_of}
-use Rattle.mail_codec.proofs.charset.Charset.decode_without_bom_handling.Goals as goal
+use Rattle.mail_codec.proofs.charset.built_in.Charset.decode_without_bom_handling.Goals as goal
 
 pub returns-in_ok-to_str_lossy-in-Utf8 : goal.returns-in_ok-to_str_lossy-in-Utf8
 unfolding text_of

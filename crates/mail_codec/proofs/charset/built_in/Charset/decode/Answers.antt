@@ -1,5 +1,5 @@
 use Rattle.mail_codec.proofs.lemmas.CharsetMarks.{marked_text_of-mark, marked_text_of-none}
-use Rattle.mail_codec.proofs.charset.Charset.decode.Goals as goal
+use Rattle.mail_codec.proofs.charset.built_in.Charset.decode.Goals as goal
 
 pub returns-in-Some : goal.returns-in-Some
 returns-in-Some c =

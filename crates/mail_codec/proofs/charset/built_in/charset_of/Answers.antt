@@ -1,6 +1,6 @@
 use Rattle.std.proofs.Common.{◌≡◌, true, false, sym, refl, ◌∙◌}
 use Rattle.mail_codec.specs.Charset.{is_among_labels, utf_8_labels, windows_1252_labels, utf_16be_labels, utf_16le_labels}
-use Rattle.mail_codec.proofs.charset.labels.charset_of.Goals as goal
+use Rattle.mail_codec.proofs.charset.built_in.charset_of.Goals as goal
 
 pub returns-then-is_among : goal.returns-then-is_among
 returns-then-is_among c =

@@ -1,7 +1,7 @@
 use Rattle.std.proofs.Common.{refl}
 use Rattle.std.proofs.lemmas.Str.Ascii.{trim_ascii_is}
 use Rattle.mail_codec.specs.Charset.{charset_of_label}
-use Rattle.mail_codec.proofs.charset.Charset.for_label.Goals as goal
+use Rattle.mail_codec.proofs.charset.built_in.Charset.for_label.Goals as goal
 
 pub returns : goal.returns
 unfolding charset_of_label
