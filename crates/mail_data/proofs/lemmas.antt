@@ -1,11 +1,8 @@
 pub mod Archive
-pub mod Base64Front
 pub mod Bounce
 pub mod FileNames
 pub mod Files
 pub mod Forwarding
 pub mod Lines
-pub mod LooseEncoding
-pub mod LooseDate
-pub mod LooseIds
+pub mod lenient
 pub mod Mailbox

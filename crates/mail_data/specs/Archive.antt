@@ -4,7 +4,7 @@ use Rattle.std.specs.Option.{option_map_or}
 use Rattle.std.specs.Str.{bytes_eq}
 use Rattle.mailparse.specs.Mail.{Node}
 use Rattle.mailparse.specs.Map.{first_value}
-use Rattle.mail_data.specs.LooseIds.{ids_in}
+use Rattle.mail_data.specs.lenient.Ids.{ids_in}
 
 -- the ids in the first header that has this name
 unfoldable pub ids_of : List ℕ → Node → List (List ℕ)

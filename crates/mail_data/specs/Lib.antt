@@ -4,12 +4,7 @@ pub mod FileViews
 pub mod Lines
 pub mod Mailbox
 pub mod MailboxViews
-pub mod Base64Front
-pub mod Base64FrontViews
-pub mod LooseIds
-pub mod LooseEncoding
-pub mod LooseDate
-pub mod LooseDateViews
+pub mod lenient
 pub mod Texts
 pub mod TextViews
 pub mod Forwarding

@@ -5,10 +5,10 @@ use Rattle.mail_codec.specs.QuotedPrintable.{quoted_printable}
 use Rattle.mail_codec.specs.Charset.{Charsets}
 use Rattle.mailparse.specs.Body.{BodyKind, in_base64, in_quoted_printable, in_7bit, in_8bit, in_binary}
 use Rattle.mailparse.specs.Mail.{Node, Tree, root}
-use Rattle.mail_data.specs.Base64Front.{Front, base64_front}
+use Rattle.mail_data.specs.lenient.Base64.{Front, base64_front}
 use Rattle.mail_data.specs.FileNames.{safe_name}
 use Rattle.mail_data.specs.Files.{attachments_in, file_name_in}
-use Rattle.mail_data.specs.LooseEncoding.{loose_body_kind}
+use Rattle.mail_data.specs.lenient.Encoding.{loose_body_kind}
 
 -- a file that is stored: where its part stands, its name, and as much of its bytes as can be read
 pub record Stored : Type 0 where

@@ -4,7 +4,7 @@ use Rattle.mail_codec.specs.Charset.{Charsets}
 use Rattle.mailparse.specs.Mail.{Node, Tree, body_text_in, root}
 use Rattle.mailparse.specs.Map.{first_value_in}
 use Rattle.mailparse.specs.Refusal.{Reads}
-use Rattle.mail_data.specs.LooseDate.{Dated, date_of}
+use Rattle.mail_data.specs.lenient.Date.{Dated, date_of}
 use Rattle.mail_data.specs.Texts.{text_part_in}
 
 -- what the date of a mail reads as, if it has one

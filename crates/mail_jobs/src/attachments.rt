@@ -4,7 +4,7 @@ ghost use Rattle.mail_codec.specs.Tables.{charsets_with};
 ghost use Rattle.mailparse.specs.Mail.{root};
 ghost use Rattle.mailparse.specs.Outcome.{AnswersOrMemory, GivesText};
 ghost use Rattle.mailparse.specs.Views.{tree_of};
-ghost use Rattle.mail_data.specs.Base64FrontViews.{front_of};
+ghost use Rattle.mail_data.specs.lenient.Base64Views.{front_of};
 ghost use Rattle.mail_data.specs.FileNames.{IsSafeName};
 ghost use Rattle.mail_data.specs.FileViews.{attachment_view};
 ghost use Rattle.mail_jobs.specs.Attachments.{stored, stored_content, stored_files, stored_name, whole};

@@ -20,10 +20,10 @@ use Rattle.mailparse.specs.Pairs.{Texts}
 use Rattle.mailparse.specs.Refusal.{◌>>=◌, Reads, Refusal, generic, encoding, base64_fault}
 use Rattle.mailparse.specs.Value.{lenient_value_in}
 use Rattle.mail_data.specs.Files.{filled, first_text}
-use Rattle.mail_data.specs.LooseDate.{Dated, date_of}
-use Rattle.mail_data.specs.LooseIds.{ids_in}
-use Rattle.mail_data.specs.declared.lenient.date.DateError.{DateError}
-use Rattle.mail_data.specs.declared.lenient.date.DateError.TheVariants.{Day, Month, Year, Time, Zone, TrailingText}
+use Rattle.mail_data.specs.lenient.Date.{Dated, date_of}
+use Rattle.mail_data.specs.lenient.Ids.{ids_in}
+use Rattle.mail_data.specs.declared.lenient.date.error.DateError.{DateError}
+use Rattle.mail_data.specs.declared.lenient.date.error.DateError.TheVariants.{Day, Month, Year, Time, Zone, TrailingText}
 use Rattle.mail_json.specs.Json.{json_text, json_texts, text_or_null, joined}
 
 -- why something is refused

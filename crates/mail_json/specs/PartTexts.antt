@@ -8,7 +8,7 @@ use Rattle.mailparse.specs.BodyViews.{content_of}
 use Rattle.mailparse.specs.ContentType.{ContentType}
 use Rattle.mailparse.specs.Mail.{Node, Tree, Forest, tree, no_parts, part_and, root}
 use Rattle.mail_data.specs.Files.{is_leaf, path_under, whole_path}
-use Rattle.mail_data.specs.LooseEncoding.{loose_body_kind}
+use Rattle.mail_data.specs.lenient.Encoding.{loose_body_kind}
 use Rattle.mail_json.specs.Json.{json_text}
 use Rattle.mail_json.specs.Members.{IsTypeText, body_text, encoding_text, decoded_size, disposition_of, file_text, further, headers_text, is_file, mail_text, place_text, size_text}
 

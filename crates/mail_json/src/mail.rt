@@ -3,7 +3,7 @@ ghost use Rattle.std.specs.Prelude.{◌≡◌, codes, option_map};
 ghost use Rattle.mail_codec.specs.Tables.{charsets_with};
 ghost use Rattle.mailparse.specs.Mail.{root};
 ghost use Rattle.mailparse.specs.Views.{tree_of};
-ghost use Rattle.mail_data.specs.LooseDate.{date_of};
+ghost use Rattle.mail_data.specs.lenient.Date.{date_of};
 ghost use Rattle.mail_json.specs.Members.{date_fault_text, date_text, id_list_text, ids_text};
 ghost use Rattle.mail_json.specs.Members.{value_of, value_text, values_text};
 ghost use Rattle.mail_json.specs.PartTexts.{IsMailText};

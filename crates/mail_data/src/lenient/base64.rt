@@ -2,8 +2,8 @@
 ghost use Rattle.std.specs.Prelude.{◌≡◌, ℕ, List, IfOk, Ok, Err, ◌==◌, length, slice_index, None, Some, if◌then◌else◌};
 ghost use Rattle.mail_codec.specs.Base64.{base64, groups_from, padding};
 ghost use Rattle.mail_codec.specs.Places.{without_ascii_whitespace};
-ghost use Rattle.mail_data.specs.Base64Front.{base64_front, before, front_from};
-ghost use Rattle.mail_data.specs.Base64FrontViews.{front_of};
+ghost use Rattle.mail_data.specs.lenient.Base64.{base64_front, before, front_from};
+ghost use Rattle.mail_data.specs.lenient.Base64Views.{front_of};
 
 use mail_codec::bytescan::strip_ascii_whitespace;
 use mail_codec::transfer::decode_base64_body;
@@ -67,7 +67,7 @@ fn read_front(alloc: Global, body: &[u8]) -> Result<Base64Front, AllocError>
 }
 
 /// What can be read of a text without whitespace whose first invalid group has this index.
-#[tactic(auto, using(crate::proofs::lemmas::Base64Front::cut_fits))]
+#[tactic(auto, using(crate::proofs::lemmas::lenient::Base64::cut_fits))]
 fn front_before(alloc: Global, letters: &[u8], group: usize) -> Result<Base64Front, AllocError>
     requires clean { without_ascii_whitespace letters.now ≡ letters.now }
     requires fault { groups_from 0 letters.now ≡ Err group }

@@ -1,40 +1,18 @@
 //! Dates as mail writes them (RFC 5322, sections 3.3 and 4.3).
 ghost use Rattle.std.specs.Prelude.{◌≡◌, ◌<◌, ◌^◌, neg_ℤ, pos, ◌≤ℤ◌, ◌+ℤ◌};
-ghost use Rattle.mail_data.specs.LooseDate.{date_of, since_1970};
+ghost use Rattle.mail_data.specs.lenient.Date.{date_of, since_1970};
 
 mod calendar;
+mod error;
 mod fields;
 mod numbers;
 mod whitespace;
 mod zones;
 
+pub use error::DateError;
 use fields::{day_at, time_at};
-use thiserror::Error;
 use whitespace::after_comments;
 use zones::zone_at;
-
-/// What is missing in a date, or wrong in it, as `date_of` returns it.
-#[derive(Clone, Copy, Debug, PartialEq, Eq, Error)]
-pub enum DateError {
-    /// No number of one or two digits, or one that is not a day of the month.
-    #[error("no day of the month")]
-    Day,
-    /// No name of a month.
-    #[error("no month")]
-    Month,
-    /// No number of two to nine digits, or a year before 1900.
-    #[error("no year")]
-    Year,
-    /// No time of day.
-    #[error("no time of day")]
-    Time,
-    /// Something after the time that is no zone.
-    #[error("no zone")]
-    Zone,
-    /// Something after the zone that is no comment.
-    #[error("text after the zone")]
-    TrailingText,
-}
 
 /// Returns the seconds from 1 January 1970, 00:00 UTC, to a date as written in mail: in the forms
 /// of RFC 5322, section 3.3, or the obsolete ones of section 4.3.
@@ -66,7 +44,7 @@ pub enum DateError {
 /// assert_eq!(rt; date_of("21 Nov 97 09:55:06 GMT").ok(), Some(880_106_106));
 /// assert_eq!(rt; date_of("30 Feb 2012 20:57 +0200").err(), Some(DateError::Day));
 /// ```
-#[tactic(auto, unfolding(crate::specs::LooseDate::date_of))]
+#[tactic(auto, unfolding(crate::specs::lenient::Date::date_of))]
 pub fn date_of(text: &str) -> Result<i64, DateError>
     ensures { result ≡ date_of text.now }
 {
@@ -81,7 +59,7 @@ pub fn date_of(text: &str) -> Result<i64, DateError>
 
 /// The seconds from 1 January 1970, 0 h UTC, to so many seconds after the start of 1900 in a zone
 /// that adds so many to them.
-#[tactic(auto, unfolding(crate::specs::LooseDate::day_number))]
+#[tactic(auto, unfolding(crate::specs::lenient::Date::day_number))]
 fn since_1970(seconds: u64, zone: i64) -> i64
     requires seconds { seconds < 2 ^ 60 }
     requires zone { (neg_ℤ (pos (10 ^ 11)) ≤ℤ zone) × (zone ≤ℤ pos (10 ^ 11)) }

@@ -8,7 +8,7 @@ ghost use Rattle.mailparse.specs.Mail.{body_kind, root};
 ghost use Rattle.mailparse.specs.Map.{text_found};
 ghost use Rattle.mailparse.specs.Outcome.{IsMemory};
 ghost use Rattle.mailparse.specs.Views.{tree_of};
-ghost use Rattle.mail_data.specs.LooseEncoding.{ends_name, loose_body_kind, loose_kind, name_at};
+ghost use Rattle.mail_data.specs.lenient.Encoding.{ends_name, loose_body_kind, loose_kind, name_at};
 
 use crate::forwarding::raw_body;
 use mailparse::body::Body;
@@ -65,7 +65,7 @@ fn body_named<'m>(alloc: Global, part: &'m ParsedMail<'_>) -> Result<Body<'m>, M
 }
 
 /// A name of the encoding that a text names.
-#[tactic(auto, unfolding(crate::specs::LooseEncoding::loose_kind))]
+#[tactic(auto, unfolding(crate::specs::lenient::Encoding::loose_kind))]
 fn loose_name(alloc: Global, value: Option<String>) -> Result<Option<String>, AllocError>
     ensures { IfOk result (λ name. kind_named (name_of name) ≡ loose_kind (text_found value)) }
 {
@@ -98,7 +98,7 @@ fn known_name(name: &[u8]) -> &'static str
 }
 
 /// The name at the front of a text, after whitespace.
-#[tactic(auto, unfolding(crate::specs::LooseEncoding::name_at))]
+#[tactic(auto, unfolding(crate::specs::lenient::Encoding::name_at))]
 fn name_at(text: &[u8]) -> &[u8]
     ensures { result.now ≡ name_at text.now }
 {

@@ -17,8 +17,8 @@ use Rattle.mailparse.specs.declared.error.MailParseError.{MailParseError}
 use Rattle.mailparse.specs.declared.error.MailParseError.TheVariants.{QuotedPrintableDecodeError, Base64DecodeError, EncodingError, Generic, Memory}
 use Rattle.mail_json.specs.Written.{Writes, WritesOne}
 use Rattle.mail_program.specs.declared.fault.Fault.{Fault}
-use Rattle.mail_data.specs.LooseDate.{Dated, date_of}
-use Rattle.mail_data.specs.declared.lenient.date.DateError.{DateError}
+use Rattle.mail_data.specs.lenient.Date.{Dated, date_of}
+use Rattle.mail_data.specs.declared.lenient.date.error.DateError.{DateError}
 use Rattle.mail_json.specs.Members.{date_fault_text, date_text}
 use Rattle.mail_json.specs.Json.{is_hidden, hexadecimal, character_text, json_text, shown, comma, after_commas, joined}
 

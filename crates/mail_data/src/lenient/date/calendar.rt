@@ -1,7 +1,7 @@
 //! Days of the Gregorian calendar from 1900 on, counted without a loop.
 ghost use Rattle.std.specs.Prelude.{◌≡◌, ◌+◌, ◌≤◌, ◌<◌, ◌*◌, ◌^◌, take, sum};
 ghost use Rattle.mailparse.specs.Date.{is_leap_year, month_lengths};
-ghost use Rattle.mail_data.specs.LooseDate.{day_number, days_of_years, month_length};
+ghost use Rattle.mail_data.specs.lenient.Date.{day_number, days_of_years, month_length};
 
 /// The days of the months of a common year.
 static LENGTHS: [u64; 12] = [31, 28, 31, 30, 31, 30, 31, 31, 30, 31, 30, 31];
@@ -10,7 +10,7 @@ static LENGTHS: [u64; 12] = [31, 28, 31, 30, 31, 30, 31, 31, 30, 31, 30, 31];
 static DAYS_BEFORE: [u64; 12] = [0, 31, 59, 90, 120, 151, 181, 212, 243, 273, 304, 334];
 
 /// The days from 1 January 1900 to a day; months count from 0.
-#[tactic(auto, unfolding(crate::specs::LooseDate::day_number))]
+#[tactic(auto, unfolding(crate::specs::lenient::Date::day_number))]
 pub(super) fn day_number(year: u64, month: usize, day: u64) -> u64
     requires year { (1900 ≤ year) × (year < 2 ^ 30) }
     requires month { month < 12 }
@@ -22,7 +22,7 @@ pub(super) fn day_number(year: u64, month: usize, day: u64) -> u64
 }
 
 /// The days of a month, which is counted from 0.
-#[tactic(auto, unfolding(crate::specs::LooseDate::month_length))]
+#[tactic(auto, unfolding(crate::specs::lenient::Date::month_length))]
 pub(super) fn month_length(year: u64, month: usize) -> u64
     requires { month < 12 }
     ensures value { result ≡ month_length year month }

@@ -3,12 +3,12 @@ ghost use Rattle.std.specs.Prelude.{◌≡◌, ◌≤◌, ◌<◌, ◌*◌, ◌^
 ghost use Rattle.std.specs.Str.{str_eq_ignore_ascii_case};
 ghost use Rattle.std.specs.Str.Parse.{AllDigits};
 ghost use Rattle.mailparse.specs.Date.{look_up};
-ghost use Rattle.mail_data.specs.LooseDate.{after_colon, after_day_name, day_at, month_at};
-ghost use Rattle.mail_data.specs.LooseDate.{second_at, time_at, year_at, year_of};
-ghost use Rattle.mail_data.specs.LooseDateViews.{part_read};
+ghost use Rattle.mail_data.specs.lenient.Date.{after_colon, after_day_name, day_at, month_at};
+ghost use Rattle.mail_data.specs.lenient.Date.{second_at, time_at, year_at, year_of};
+ghost use Rattle.mail_data.specs.lenient.DateViews.{part_read};
 
-use super::DateError;
 use super::calendar::{day_number, month_length};
+use super::error::DateError;
 use super::numbers::{number_of, small_number};
 use super::whitespace::{after_mark, digits_at, letters_at};
 
@@ -41,7 +41,7 @@ static MONTHS: [(&str, usize); 24] = [
 ];
 
 /// The days from 1 January 1900 to the day at the front, and what follows the year.
-#[tactic(auto, unfolding(crate::specs::LooseDate::day_at))]
+#[tactic(auto, unfolding(crate::specs::lenient::Date::day_at))]
 pub(super) fn day_at(text: &[u8]) -> Result<(u64, &[u8]), DateError>
     ensures read { part_read result ≡ day_at text.now }
     ensures bounds { IfOk result (λ p. p.0 < 367 * 2 ^ 30) }
@@ -58,7 +58,7 @@ pub(super) fn day_at(text: &[u8]) -> Result<(u64, &[u8]), DateError>
 }
 
 /// What follows the name of a day of the week and a comma, each if it is there.
-#[tactic(auto, unfolding(crate::specs::LooseDate::after_day_name))]
+#[tactic(auto, unfolding(crate::specs::lenient::Date::after_day_name))]
 fn after_day_name(text: &[u8]) -> &[u8]
     ensures { result.now ≡ after_day_name text.now }
 {
@@ -70,7 +70,7 @@ fn after_day_name(text: &[u8]) -> &[u8]
 }
 
 /// The month that the word at the front names, counted from 0, and what follows it.
-#[tactic(auto, unfolding(crate::specs::LooseDate::month_at))]
+#[tactic(auto, unfolding(crate::specs::lenient::Date::month_at))]
 fn month_at(text: &[u8]) -> Result<(usize, &[u8]), DateError>
     ensures read { part_read result ≡ month_at text.now }
     ensures bounds { IfOk result (λ p. p.0 < 12) }
@@ -102,7 +102,7 @@ fn is_same(word: &[u8], name: &str) -> bool
 }
 
 /// The year that the digits at the front write, and what follows them.
-#[tactic(auto, unfolding(crate::specs::LooseDate::year_at))]
+#[tactic(auto, unfolding(crate::specs::lenient::Date::year_at))]
 fn year_at(text: &[u8]) -> Result<(u64, &[u8]), DateError>
     ensures read { part_read result ≡ year_at text.now }
     ensures bounds { IfOk result (λ p. (1900 ≤ p.0) × (p.0 < 2 ^ 30)) }
@@ -115,7 +115,7 @@ fn year_at(text: &[u8]) -> Result<(u64, &[u8]), DateError>
 }
 
 /// The year that digits write.
-#[tactic(auto, unfolding(crate::specs::LooseDate::year_of))]
+#[tactic(auto, unfolding(crate::specs::lenient::Date::year_of))]
 fn year_of(digits: &[u8]) -> Result<u64, DateError>
     requires { AllDigits 10 digits.now }
     ensures read { result ≡ year_of digits.now }
@@ -138,7 +138,7 @@ fn year_of(digits: &[u8]) -> Result<u64, DateError>
 }
 
 /// The seconds from the start of the day to the time at the front, and what follows it.
-#[tactic(auto, unfolding(crate::specs::LooseDate::time_at))]
+#[tactic(auto, unfolding(crate::specs::lenient::Date::time_at))]
 pub(super) fn time_at(text: &[u8]) -> Result<(u64, &[u8]), DateError>
     ensures read { part_read result ≡ time_at text.now }
     ensures bounds { IfOk result (λ p. p.0 < 86401) }
@@ -152,7 +152,7 @@ pub(super) fn time_at(text: &[u8]) -> Result<(u64, &[u8]), DateError>
 }
 
 /// The number after a colon, if it is at most that, and what follows it.
-#[tactic(auto, unfolding(crate::specs::LooseDate::after_colon))]
+#[tactic(auto, unfolding(crate::specs::lenient::Date::after_colon))]
 fn after_colon(text: &[u8], most: u64) -> Result<(u64, &[u8]), DateError>
     ensures read { part_read result ≡ after_colon most text.now }
     ensures bounds { IfOk result (λ p. p.0 ≤ most) }
@@ -167,7 +167,7 @@ fn after_colon(text: &[u8], most: u64) -> Result<(u64, &[u8]), DateError>
 }
 
 /// The second, or 0 where no colon follows the minute, and what follows it.
-#[tactic(auto, unfolding(crate::specs::LooseDate::second_at))]
+#[tactic(auto, unfolding(crate::specs::lenient::Date::second_at))]
 fn second_at(text: &[u8]) -> Result<(u64, &[u8]), DateError>
     ensures read { part_read result ≡ second_at text.now }
     ensures bounds { IfOk result (λ p. p.0 ≤ 60) }

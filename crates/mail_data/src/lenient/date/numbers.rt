@@ -1,14 +1,14 @@
 //! The numbers that digits write.
 ghost use Rattle.std.specs.Prelude.{◌≡◌, ◌≤◌, ◌<◌, ◌^◌, length, option_map, IfSome};
 ghost use Rattle.std.specs.Str.Parse.{AllDigits, digits_value};
-ghost use Rattle.mail_data.specs.LooseDate.{small_number};
-ghost use Rattle.mail_data.specs.LooseDateViews.{part_and_rest};
+ghost use Rattle.mail_data.specs.lenient.Date.{small_number};
+ghost use Rattle.mail_data.specs.lenient.DateViews.{part_and_rest};
 
 use super::whitespace::digits_at;
 
 /// The number that one digit or two write, after whitespace and comments, if it is at most that,
 /// and what follows it.
-#[tactic(auto, unfolding(crate::specs::LooseDate::small_number))]
+#[tactic(auto, unfolding(crate::specs::lenient::Date::small_number))]
 pub(super) fn small_number(text: &[u8], most: u64) -> Option<(u64, &[u8])>
     ensures value { option_map part_and_rest result ≡ small_number most text.now }
     ensures bounds { IfSome result (λ p. p.0 ≤ most) }

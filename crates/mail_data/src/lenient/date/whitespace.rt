@@ -3,10 +3,10 @@ ghost use Rattle.std.specs.Prelude.{◌≡◌, ◌+◌, ◌≤◌, ◌<◌, ◌^
 ghost use Rattle.std.specs.Char.{is_ascii_alphabetic, is_ascii_digit};
 ghost use Rattle.std.specs.List.{prefix_len};
 ghost use Rattle.std.specs.Str.Parse.{AllDigits};
-ghost use Rattle.mail_data.specs.LooseDate.{after_comments, after_mark, depth_after, ends_whitespace, run_at};
+ghost use Rattle.mail_data.specs.lenient.Date.{after_comments, after_mark, depth_after, ends_whitespace, run_at};
 
 /// What follows the whitespace and the comments at the front.
-#[tactic(auto, unfolding(crate::specs::LooseDate::after_comments))]
+#[tactic(auto, unfolding(crate::specs::lenient::Date::after_comments))]
 pub(super) fn after_comments(text: &[u8]) -> &[u8]
     ensures { result.now ≡ after_comments text.now }
 {
@@ -51,7 +51,7 @@ fn depth_after(is_quoted: bool, depth: usize, byte: u8) -> usize
 }
 
 /// What follows the byte at the front, after whitespace and comments, if it is that one.
-#[tactic(auto, unfolding(crate::specs::LooseDate::after_mark))]
+#[tactic(auto, unfolding(crate::specs::lenient::Date::after_mark))]
 pub(super) fn after_mark(text: &[u8], mark: u8) -> Option<&[u8]>
     ensures { option_map (λ rest. rest.now) result ≡ after_mark mark text.now }
 {
@@ -62,7 +62,7 @@ pub(super) fn after_mark(text: &[u8], mark: u8) -> Option<&[u8]>
 }
 
 /// The letters at the front, after whitespace and comments, and what follows them.
-#[tactic(auto, unfolding(crate::specs::LooseDate::run_at))]
+#[tactic(auto, unfolding(crate::specs::lenient::Date::run_at))]
 pub(super) fn letters_at(text: &[u8]) -> (&[u8], &[u8])
     ensures { (result.0.now, result.1.now) ≡ run_at is_ascii_alphabetic text.now }
 {
@@ -84,7 +84,7 @@ fn letters_len(text: &[u8]) -> usize
 }
 
 /// The digits at the front, after whitespace and comments, and what follows them.
-#[tactic(auto, unfolding(crate::specs::LooseDate::run_at))]
+#[tactic(auto, unfolding(crate::specs::lenient::Date::run_at))]
 pub(super) fn digits_at(text: &[u8]) -> (&[u8], &[u8])
     ensures run { (result.0.now, result.1.now) ≡ run_at is_ascii_digit text.now }
     ensures digits { AllDigits 10 result.0.now }

@@ -1,9 +1,9 @@
 //! The zone of a date.
 ghost use Rattle.std.specs.Prelude.{◌≡◌, ◌≤◌, ◌<◌, ◌^◌, neg_ℤ, pos, ◌≤ℤ◌, IfOk};
-ghost use Rattle.mail_data.specs.LooseDate.{named_zone_at, offset_at, zone_at};
-ghost use Rattle.mail_data.specs.LooseDateViews.{part_read};
+ghost use Rattle.mail_data.specs.lenient.Date.{named_zone_at, offset_at, zone_at};
+ghost use Rattle.mail_data.specs.lenient.DateViews.{part_read};
 
-use super::DateError;
+use super::error::DateError;
 use super::fields::look_up;
 use super::numbers::number_of;
 use super::whitespace::{after_mark, digits_at, letters_at};
@@ -21,7 +21,7 @@ static ZONES: [(&str, u64); 8] = [
 ];
 
 /// The seconds that the zone at the front adds, and what follows it.
-#[tactic(auto, unfolding(crate::specs::LooseDate::zone_at))]
+#[tactic(auto, unfolding(crate::specs::lenient::Date::zone_at))]
 pub(super) fn zone_at(text: &[u8]) -> Result<(i64, &[u8]), DateError>
     ensures read { part_read result ≡ zone_at text.now }
     ensures bounds { IfOk result (λ p. (neg_ℤ (pos (10 ^ 11)) ≤ℤ p.0) × (p.0 ≤ℤ pos (10 ^ 11))) }
@@ -39,7 +39,7 @@ pub(super) fn zone_at(text: &[u8]) -> Result<(i64, &[u8]), DateError>
 }
 
 /// The seconds that the four digits at the front write, and what follows them.
-#[tactic(auto, unfolding(crate::specs::LooseDate::offset_at))]
+#[tactic(auto, unfolding(crate::specs::lenient::Date::offset_at))]
 fn offset_at(text: &[u8]) -> Result<(u64, &[u8]), DateError>
     ensures read { part_read result ≡ offset_at text.now }
     ensures bounds { IfOk result (λ p. p.0 ≤ 10 ^ 11) }
@@ -57,7 +57,7 @@ fn offset_at(text: &[u8]) -> Result<(u64, &[u8]), DateError>
 
 /// The seconds that the zone whose name stands at the front is west of Greenwich, and what follows
 /// it; none without a zone.
-#[tactic(auto, unfolding(crate::specs::LooseDate::named_zone_at))]
+#[tactic(auto, unfolding(crate::specs::lenient::Date::named_zone_at))]
 fn named_zone_at(text: &[u8]) -> Result<(u64, &[u8]), DateError>
     ensures read { part_read result ≡ named_zone_at text.now }
     ensures bounds { IfOk result (λ p. p.0 ≤ 10 ^ 11) }

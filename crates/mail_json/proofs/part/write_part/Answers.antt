@@ -9,7 +9,7 @@ use Rattle.mailparse.specs.ContentType.{ContentType}
 use Rattle.mailparse.specs.Mail.{root}
 use Rattle.mailparse.specs.Views.{tree_of}
 use Rattle.mail_data.specs.Files.{is_leaf}
-use Rattle.mail_data.specs.LooseEncoding.{loose_body_kind}
+use Rattle.mail_data.specs.lenient.Encoding.{loose_body_kind}
 use Rattle.mail_json.specs.Members.{IsTypeText, body_text, encoding_text, further, headers_text, place_text}
 use Rattle.mail_json.specs.PartTexts.{Place, IsPartText, part_text}
 use Rattle.mail_json.proofs.lemmas.Json.{appends_as, writes_one, writes_then}

@@ -1,5 +1,5 @@
 use Rattle.std.proofs.Common.{◌∙◌}
-use Rattle.mail_data.proofs.lemmas.Base64Front.{base64_front-ok}
+use Rattle.mail_data.proofs.lemmas.lenient.Base64.{base64_front-ok}
 use Rattle.mail_data.proofs.lenient.base64.base64_front.Goals as goal
 
 pub returns-clause-same : goal.returns-clause-same

@@ -1,8 +1,8 @@
 use Rattle.std.proofs.Common.{◌*◌, List, ℕ, sym, ap, ◌∙◌}
 use Rattle.mail_codec.specs.Base64.{base64, groups_from, items_or_fault}
 use Rattle.mail_codec.specs.Places.{without_ascii_whitespace}
-use Rattle.mail_data.specs.Base64Front.{before, front_from}
-use Rattle.mail_data.proofs.lemmas.Base64Front.{branch-read, branch-left, clean-drop, cut-fault, front-cut, front-no_err}
+use Rattle.mail_data.specs.lenient.Base64.{before, front_from}
+use Rattle.mail_data.proofs.lemmas.lenient.Base64.{branch-read, branch-left, clean-drop, cut-fault, front-cut, front-no_err}
 use Rattle.mail_data.proofs.lenient.base64.front_before.Goals as goal
 
 pub returns-in_default : goal.returns-in_default

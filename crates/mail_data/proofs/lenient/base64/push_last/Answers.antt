@@ -1,7 +1,7 @@
 use Rattle.std.proofs.Common.{◌∷◌, ◌++◌, [], List, ℕ, get_or, sym, ap, ◌∙◌, arith}
 use Rattle.mail_codec.specs.Base64.{base64, items_or_fault}
 use Rattle.mail_codec.specs.Places.{without_ascii_whitespace}
-use Rattle.mail_data.proofs.lemmas.Base64Front.{last-fault, last-none, last-some}
+use Rattle.mail_data.proofs.lemmas.lenient.Base64.{last-fault, last-none, last-some}
 use Rattle.mail_data.proofs.lenient.base64.push_last.Goals as goal
 
 pub returns-then-rest-lt2 : goal.returns-then-rest-lt2

@@ -1,6 +1,6 @@
 use Rattle.std.proofs.Common.{sym, ap, ◌∙◌}
 use Rattle.mail_codec.specs.Base64.{items_or_fault}
-use Rattle.mail_data.proofs.lemmas.Base64Front.{base64_front-ok, clean-is, letters-front, strict-err}
+use Rattle.mail_data.proofs.lemmas.lenient.Base64.{base64_front-ok, clean-is, letters-front, strict-err}
 use Rattle.mail_data.proofs.lenient.base64.read_front.Goals as goal
 
 pub front_before-requires-clause-clean : goal.front_before-requires-clause-clean

@@ -3,7 +3,7 @@ use Rattle.mailparse.specs.Body.{BodyKind}
 use Rattle.mailparse.specs.BodyViews.{IsBody, content_of}
 use Rattle.mailparse.specs.Mail.{root}
 use Rattle.mailparse.specs.Views.{tree_of}
-use Rattle.mail_data.proofs.lemmas.LooseEncoding.{loose-same}
+use Rattle.mail_data.proofs.lemmas.lenient.Encoding.{loose-same}
 use Rattle.mail_data.proofs.lenient.encoding.loose_body.Goals as goal
 
 pub returns-clause-same : goal.returns-clause-same

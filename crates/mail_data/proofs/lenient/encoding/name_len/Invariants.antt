@@ -1,7 +1,7 @@
 -- No byte up to the place ends a name.
 use Rattle.std.proofs.Common.{◌≡◌, ◌+◌, drop, not}
 use Rattle.std.specs.List.{prefix_len}
-use Rattle.mail_data.specs.LooseEncoding.{ends_name}
+use Rattle.mail_data.specs.lenient.Encoding.{ends_name}
 use Rattle.mail_data.proofs.lenient.encoding.name_len.Given as goal
 
 abbrev pub invariant-loop-place : goal.invariant-loop-place

@@ -1,6 +1,6 @@
 use Rattle.std.proofs.Common.{None, lit<}
 use Rattle.std.proofs.lemmas.Str.Pattern.{split_once_first}
-use Rattle.mail_data.proofs.lemmas.LooseIds.{closing-none}
+use Rattle.mail_data.proofs.lemmas.lenient.Ids.{closing-none}
 use Rattle.mail_data.proofs.lenient.ids.before_closing.Goals as goal
 
 pub returns-in_default-clause-closed : goal.returns-in_default-clause-closed

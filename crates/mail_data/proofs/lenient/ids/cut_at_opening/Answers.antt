@@ -1,6 +1,6 @@
 use Rattle.std.proofs.Common.{lit<}
 use Rattle.std.proofs.lemmas.Str.Pattern.{split_once_first}
-use Rattle.mail_data.proofs.lemmas.LooseIds.{opening-pieces, opening-shorter}
+use Rattle.mail_data.proofs.lemmas.lenient.Ids.{opening-pieces, opening-shorter}
 use Rattle.mail_data.proofs.lenient.ids.cut_at_opening.Goals as goal
 
 pub returns-clause-pieces : goal.returns-clause-pieces

@@ -1,6 +1,6 @@
 use Rattle.std.proofs.Common.{rules, map, ap, ◌∙◌}
 use Rattle.std.specs.String.{string_bytes}
-use Rattle.mail_data.proofs.lemmas.LooseIds.{ids-none, ids-start}
+use Rattle.mail_data.proofs.lemmas.lenient.Ids.{ids-none, ids-start}
 use Rattle.mail_data.proofs.lenient.ids.ids_in.Goals as goal
 
 pub returns-in_default : goal.returns-in_default

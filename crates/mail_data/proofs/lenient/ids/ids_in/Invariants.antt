@@ -2,8 +2,8 @@
 use Rattle.std.proofs.Common.{◌≡◌, map, length}
 use Rattle.std.specs.Str.{IsUtf8}
 use Rattle.std.specs.String.{string_bytes}
-use Rattle.mail_data.specs.LooseIds.{ids_in}
-use Rattle.mail_data.proofs.lemmas.LooseIds.{ids_with}
+use Rattle.mail_data.specs.lenient.Ids.{ids_in}
+use Rattle.mail_data.proofs.lemmas.lenient.Ids.{ids_with}
 use Rattle.mail_data.proofs.lenient.ids.ids_in.Given as goal
 
 abbrev pub invariant-pieces : goal.invariant-pieces

@@ -1,5 +1,5 @@
 use Rattle.std.proofs.Common.{arith}
-use Rattle.mail_data.proofs.lemmas.LooseDate.{days_of_years-closed}
+use Rattle.mail_data.proofs.lemmas.lenient.Date.{days_of_years-closed}
 use Rattle.mail_data.proofs.lenient.date.calendar.days_of_years.Goals as goal
 
 pub returns-clause-value : goal.returns-clause-value

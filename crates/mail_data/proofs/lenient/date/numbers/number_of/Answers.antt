@@ -1,7 +1,7 @@
 use Rattle.std.proofs.Common.{◌≡◌, ◌+◌, ◌*◌, ◌-◌, ℕ, get_or, take, sym, ap, ◌∙◌, subst, ◌<◌, ◌^◌, arith}
 use Rattle.std.specs.Str.Parse.{digits_value}
 use Rattle.std.proofs.lemmas.Str.Parse.{digit_at}
-use Rattle.mail_data.proofs.lemmas.LooseDate.{value-next, value-small}
+use Rattle.mail_data.proofs.lemmas.lenient.Date.{value-next, value-small}
 use Rattle.mail_data.proofs.lenient.date.numbers.number_of.Goals as goal
 
 pub overflow_sub-digit : goal.overflow_sub-digit

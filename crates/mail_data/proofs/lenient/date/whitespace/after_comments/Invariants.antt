@@ -1,6 +1,6 @@
 -- What follows the whitespace and comments of the rest follows those of the text.
 use Rattle.std.proofs.Common.{◌≡◌, ◌≤◌, false, drop}
-use Rattle.mail_data.specs.LooseDate.{after_whitespace}
+use Rattle.mail_data.specs.lenient.Date.{after_whitespace}
 use Rattle.mail_data.proofs.lenient.date.whitespace.after_comments.Given as goal
 
 abbrev pub invariant-loop-place : goal.invariant-loop-place

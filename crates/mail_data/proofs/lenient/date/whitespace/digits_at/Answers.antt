@@ -1,6 +1,6 @@
 use Rattle.std.proofs.Common.{List, ℕ, sym, ap, ◌∙◌, subst, take}
 use Rattle.std.specs.Str.Parse.{AllDigits}
-use Rattle.mail_data.proofs.lemmas.LooseDate.{run-digits}
+use Rattle.mail_data.proofs.lemmas.lenient.Date.{run-digits}
 use Rattle.mail_data.proofs.lenient.date.whitespace.digits_at.Goals as goal
 
 pub returns-clause-digits : goal.returns-clause-digits

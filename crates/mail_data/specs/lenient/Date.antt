@@ -9,8 +9,8 @@ use Rattle.std.specs.Str.Parse.{digits_value}
 use Rattle.mail_codec.specs.Ascii.{opening_parenthesis, closing_parenthesis, backslash, comma, colon}
 use Rattle.mail_codec.specs.Places.{is_empty}
 use Rattle.mailparse.specs.Date.{look_up, month_lengths, months, year_length, zone_size}
-use Rattle.mail_data.specs.declared.lenient.date.DateError.{DateError}
-use Rattle.mail_data.specs.declared.lenient.date.DateError.TheVariants.{Day, Month, Year, Time, Zone, TrailingText}
+use Rattle.mail_data.specs.declared.lenient.date.error.DateError.{DateError}
+use Rattle.mail_data.specs.declared.lenient.date.error.DateError.TheVariants.{Day, Month, Year, Time, Zone, TrailingText}
 
 -- what is read, or what was found missing or wrong first
 abbrev pub Dated : Type 0 → Type 0
@@ -175,11 +175,18 @@ west offset = Ok (pos offset.0, offset.1)
 abbrev pub east : ℕ × List ℕ → Dated (ℤ × List ℕ)
 east offset = Ok (neg_ℤ (pos offset.0), offset.1)
 
+-- the signs of a zone
+abbrev pub plus_sign : ℕ
+plus_sign = 43
+
+abbrev pub minus_sign : ℕ
+minus_sign = 45
+
 -- what a zone adds to the seconds: after `+` it is in the east, after `-` and with a name in the west
 unfoldable pub zone_at : List ℕ → Dated (ℤ × List ℕ)
 zone_at bytes =
-    option_map_or (λ rest. offset_at rest >>= east) (after_mark 43 bytes)
-    (option_map_or (λ rest. offset_at rest >>= west) (after_mark 45 bytes)
+    option_map_or (λ rest. offset_at rest >>= east) (after_mark plus_sign bytes)
+    (option_map_or (λ rest. offset_at rest >>= west) (after_mark minus_sign bytes)
     (named_zone_at bytes >>= west))
 
 -- The date.

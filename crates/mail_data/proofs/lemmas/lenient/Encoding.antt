@@ -7,7 +7,7 @@ use Rattle.std.proofs.lemmas.Slice.Eq.{bytes_eq-Decides}
 use Rattle.mailparse.specs.Body.{in_7bit, kind_named}
 use Rattle.mailparse.specs.Map.{first_value}
 use Rattle.mailparse.specs.Mail.{Node, body_kind}
-use Rattle.mail_data.specs.LooseEncoding.{name_at, loose_kind, loose_body_kind}
+use Rattle.mail_data.specs.lenient.Encoding.{name_at, loose_kind, loose_body_kind}
 
 -- a text that is one of the names is that name
 stays : (l w : List ℕ) → bytes_eq l w ≡ true → name_at w ≡ w → kind_named (Some (name_at l)) ≡ kind_named (Some l)

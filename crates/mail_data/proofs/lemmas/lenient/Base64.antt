@@ -8,7 +8,7 @@ use Rattle.std.proofs.lemmas.List.Elements.{filter-append}
 use Rattle.mail_codec.specs.Base64.{base64, group_bytes, groups_from, after_group, prepend, padding}
 use Rattle.mail_codec.specs.Places.{without_ascii_whitespace}
 use Rattle.mail_codec.proofs.lemmas.Base64Groups.{after_group_ok, prepend_err, base64_without_whitespace}
-use Rattle.mail_data.specs.Base64Front.{Front, all_read, before, group_then, front_from, base64_front}
+use Rattle.mail_data.specs.lenient.Base64.{Front, all_read, before, group_then, front_from, base64_front}
 
 -- ---- texts without whitespace
 

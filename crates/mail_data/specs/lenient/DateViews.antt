@@ -1,7 +1,7 @@
 -- What a contract sees of a part of a date and of the text after it.
 use Rattle.std.specs.Prelude.{List, ℕ, Ok, Err}
 use Rattle.std.specs.Borrow.{Bor}
-use Rattle.mail_data.specs.LooseDate.{Dated}
+use Rattle.mail_data.specs.lenient.Date.{Dated}
 
 -- the part, and the text after it
 abbrev pub part_and_rest : {A : Type 0} → A × Bor (List ℕ) → A × List ℕ

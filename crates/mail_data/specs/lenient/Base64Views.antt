@@ -1,5 +1,5 @@
 -- What a contract sees of the front of a Base64 body.
-use Rattle.mail_data.specs.Base64Front.{Front}
+use Rattle.mail_data.specs.lenient.Base64.{Front}
 use Rattle.mail_data.specs.declared.lenient.base64.Base64Front.{Base64Front}
 
 -- what was read, and the number of the first invalid group

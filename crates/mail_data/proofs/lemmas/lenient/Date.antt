@@ -9,7 +9,7 @@ use Rattle.std.proofs.lemmas.Bool.{lt-ltb, le-ltb, leb-true, eqb-true, eqb-false
 use Rattle.std.proofs.lemmas.Int.Digits.{digits_value-lt, digits_value_more}
 use Rattle.std.proofs.lemmas.Str.Parse.{digit_at, digits_value-take-le}
 use Rattle.mailparse.specs.Date.{year_length}
-use Rattle.mail_data.specs.LooseDate.{days_of_years}
+use Rattle.mail_data.specs.lenient.Date.{days_of_years}
 
 -- ---- digits
 

@@ -11,9 +11,12 @@ is_opening b = b == less_than
 abbrev pub is_closing : ℕ → Bool
 is_closing b = b == greater_than
 
+abbrev pub at_sign : ℕ
+at_sign = 64
+
 -- a `@`
 abbrev pub is_at : ℕ → Bool
-is_at b = b == 64
+is_at b = b == at_sign
 
 -- the id that stands at the front of a text without `<`: up to the first `>`, if there is one and an `@` before it
 abbrev pub id_at : List ℕ → List (List ℕ)

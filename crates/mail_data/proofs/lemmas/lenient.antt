@@ -1,0 +1,4 @@
+pub mod Base64
+pub mod Encoding
+pub mod Date
+pub mod Ids

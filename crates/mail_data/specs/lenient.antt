@@ -1,0 +1,7 @@
+-- Words of the lenient readings.
+pub mod Base64
+pub mod Base64Views
+pub mod Ids
+pub mod Encoding
+pub mod Date
+pub mod DateViews

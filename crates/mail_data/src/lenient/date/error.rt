@@ -1,0 +1,25 @@
+//! What is wrong in a date.
+use thiserror::Error;
+
+/// What is missing in a date, or wrong in it, as `date_of` returns it.
+#[derive(Clone, Copy, Debug, PartialEq, Eq, Error)]
+pub enum DateError {
+    /// No number of one or two digits, or one that is not a day of the month.
+    #[error("no day of the month")]
+    Day,
+    /// No name of a month.
+    #[error("no month")]
+    Month,
+    /// No number of two to nine digits, or a year before 1900.
+    #[error("no year")]
+    Year,
+    /// No time of day.
+    #[error("no time of day")]
+    Time,
+    /// Something after the time that is no zone.
+    #[error("no zone")]
+    Zone,
+    /// Something after the zone that is no comment.
+    #[error("text after the zone")]
+    TrailingText,
+}
