@@ -23,7 +23,7 @@ pub use Rattle.mailparse.specs.Disposition
 pub mod Ids
 pub mod CharsetSources
 pub mod Escapes
-pub mod EncodedValues
+pub mod Encode
 pub mod IdGrammar
 pub use Rattle.mailparse.specs.Delimiters
 pub use Rattle.mailparse.specs.Mail
@@ -34,5 +34,5 @@ pub use Rattle.mailparse.specs.Views
 pub use Rattle.mail_codec.specs.Ascii
 pub use Rattle.mail_codec.specs.Charset
 pub use Rattle.mail_codec.specs.Places
-pub mod Outlines
-pub mod OutlineViews
+pub mod Render
+pub mod RenderViews

@@ -29,12 +29,12 @@ ghost use Rattle.mailparse.specs.contracts.disposition.DispositionTypePartialEq.
 ghost use Rattle.mailparse.specs.declared.disposition.DispositionType.{DispositionType};
 ghost use Rattle.mailparse.specs.Views.{kind};
 ghost use Rattle.mail_laws.specs.Boundaries.{IsAlphanumeric, boundary_type, one_text};
-ghost use Rattle.mail_laws.specs.Outlines.{IsWellFormed, OutlineTree, Show, depth, headers_within, is_well_formed_within, rendered, shown_header, stands_for};
+ghost use Rattle.mail_laws.specs.Render.{IsWellFormed, OutlineTree, Show, depth, headers_within, is_well_formed_within, rendered, shown_header, stands_for};
 ghost use Rattle.mail_laws.specs.StarFree.{AreStarFree};
 ghost use Rattle.mailparse.specs.Value.{IsPlain, Token, lenient_value, newline, shown_tokens, strict_value, lenient_value_in};
 ghost use Rattle.mail_codec.specs.Places.{begins, least, values_below};
 ghost use Rattle.mail_laws.specs.Least.{IsLeast};
-ghost use Rattle.mail_laws.specs.EncodedValues.{AreWords, KnowUtf8, words_of, written_value};
+ghost use Rattle.mail_laws.specs.Encode.{AreWords, KnowUtf8, words_of, written_value};
 ghost use Rattle.mail_laws.specs.WordTokens.{whitespace_token, word};
 ghost use Rattle.mail_laws.specs.Spans.{StandBefore, blank_span, header_at, header_spans, key_range, value_range};
 ghost use Rattle.mailparse.specs.Date.{day_number, days_of_years, month_lengths};
@@ -66,7 +66,7 @@ pub fn keys_and_values_stand_apart()
         block.headers ≡ values_below (header_count raw) (header_at raw) }
     ensures apart { (raw : List ℕ) (j : ℕ) →
         StandBefore (key_range raw j) (value_range raw j) (key_range raw (suc j)).start }
-    ensures within { (raw : List ℕ) (block : HeaderList) (j : ℕ) → read_headers raw ≡ Ok block →
+    ensures bounds { (raw : List ℕ) (block : HeaderList) (j : ℕ) → read_headers raw ≡ Ok block →
         j < header_count raw → (value_range raw j).end ≤ block.index }
 {}
 

@@ -6,8 +6,8 @@
 //! which may be any text. `encode_value` writes a single value.
 ghost use Rattle.std.specs.Prelude.{◌≡◌, ◌++◌, ◌&&◌, OnOk, Ok, nat_le, not};
 ghost use Rattle.mailparse.specs.Outcome.{AnswersOrMemory, ReadsBytes};
-ghost use Rattle.mail_laws.specs.Outlines.{dash_boundary, depth, header_block, header_line, holds_delimiter, is_well_formed_within, rendered, well_formed, written_bytes, written_headers};
-ghost use Rattle.mail_laws.specs.OutlineViews.{headers_seen, outline_tree};
+ghost use Rattle.mail_laws.specs.Render.{dash_boundary, depth, header_block, header_line, holds_delimiter, is_well_formed_within, rendered, well_formed, written_bytes, written_headers};
+ghost use Rattle.mail_laws.specs.RenderViews.{headers_seen, outline_tree};
 
 mod conditions;
 mod encode;

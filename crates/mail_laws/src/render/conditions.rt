@@ -8,8 +8,8 @@ ghost use Rattle.mail_codec.specs.Ascii.{line_feed};
 ghost use Rattle.mail_codec.specs.Places.{is_empty, stands, text_place};
 ghost use Rattle.mailparse.specs.Outcome.{AnswersOrMemory};
 ghost use Rattle.mail_laws.specs.Boundaries.{boundary_type};
-ghost use Rattle.mail_laws.specs.Outlines.{dash_boundary, holds_delimiter, is_key, mimetype_of, type_header};
-ghost use Rattle.mail_laws.specs.OutlineViews.{headers_seen};
+ghost use Rattle.mail_laws.specs.Render.{dash_boundary, holds_delimiter, is_key, mimetype_of, type_header};
+ghost use Rattle.mail_laws.specs.RenderViews.{headers_seen};
 
 use mail_codec::bytescan::find;
 use mailparse::{MailParseError, parse_content_type};

@@ -3,8 +3,8 @@ ghost use Rattle.std.specs.Prelude.{◌≡◌, ◌<◌, ◌++◌, IfOk, OnOk, co
 ghost use Rattle.std.specs.Str.{chars};
 ghost use Rattle.std.specs.String.{string_bytes};
 ghost use Rattle.mailparse.specs.Outcome.{GivesText};
-ghost use Rattle.mail_laws.specs.EncodedValues.{is_plain_value, letters, word_lines, words_of, written_value};
-ghost use Rattle.mail_laws.specs.Outlines.{written_bytes};
+ghost use Rattle.mail_laws.specs.Encode.{is_plain_value, letters, word_lines, words_of, written_value};
+ghost use Rattle.mail_laws.specs.Render.{written_bytes};
 
 use base64::engine::general_purpose::STANDARD;
 use mail_codec::bytescan::find;
@@ -43,7 +43,7 @@ pub fn encode_value(alloc: Global, text: &str) -> Result<String, MailParseError>
 }
 
 /// What a text is written as.
-#[tactic(auto, unfolding(crate::specs::EncodedValues::written_value))]
+#[tactic(auto, unfolding(crate::specs::Encode::written_value))]
 fn encoded(alloc: Global, text: &str) -> Result<String, AllocError>
     ensures { IfOk result (λ written. string_bytes written ≡ written_value text.now) }
 {

@@ -1,4 +1,4 @@
-use Rattle.mail_laws.proofs.lemmas.Days.{in_month, to_next_month, to_next_year}
+use Rattle.mail_laws.proofs.lemmas.Date.{in_month, to_next_month, to_next_year}
 use Rattle.mail_laws.proofs.laws.days_follow_each_other.Goals as goal
 
 pub returns-clause-in_month : goal.returns-clause-in_month

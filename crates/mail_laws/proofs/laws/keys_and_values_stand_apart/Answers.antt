@@ -8,8 +8,8 @@ returns-clause-bytes c = headers-at_ranges
 pub returns-clause-apart : goal.returns-clause-apart
 returns-clause-apart c = ranges-in_order
 
-pub returns-clause-within : goal.returns-clause-within
-returns-clause-within c = λ raw block j e low.
+pub returns-clause-bounds : goal.returns-clause-bounds
+returns-clause-bounds c = λ raw block j e low.
     let order = ranges-in_order raw j in
     let within = place-within raw block j e low in
     omega (arith, order.ends)

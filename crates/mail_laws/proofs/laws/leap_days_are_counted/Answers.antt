@@ -1,4 +1,4 @@
-use Rattle.mail_laws.proofs.lemmas.Days.{leap_days}
+use Rattle.mail_laws.proofs.lemmas.Date.{leap_days}
 use Rattle.mail_laws.proofs.laws.leap_days_are_counted.Goals as goal
 
 pub returns : goal.returns

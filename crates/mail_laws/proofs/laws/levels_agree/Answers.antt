@@ -1,4 +1,4 @@
-use Rattle.mail_laws.proofs.lemmas.Levels.{read_mail_in-agrees, read_mail_in-limited}
+use Rattle.mail_laws.proofs.lemmas.Mail.{read_mail_in-agrees, read_mail_in-limited}
 use Rattle.mail_laws.proofs.laws.levels_agree.Goals as goal
 
 pub returns-clause-read : goal.returns-clause-read

@@ -1,4 +1,4 @@
-use Rattle.mail_laws.proofs.lemmas.EncodedValues.{words_fit, words_only}
+use Rattle.mail_laws.proofs.lemmas.Encode.{words_fit, words_only}
 use Rattle.mail_laws.proofs.laws.one_list_of_words_fits.Goals as goal
 
 pub returns-clause-fits : goal.returns-clause-fits

@@ -1,5 +1,5 @@
-use Rattle.mail_laws.proofs.lemmas.EncodedValuesRead.{caller_knows}
-use Rattle.mail_laws.proofs.lemmas.OutlineReadings.{outline_is_read, outline_is_refused, outline_is_mail, headers_show, outlines_are_one}
+use Rattle.mail_laws.proofs.lemmas.EncodeRead.{caller_knows}
+use Rattle.mail_laws.proofs.lemmas.RenderReadings.{outline_is_read, outline_is_refused, outline_is_mail, headers_show, outlines_are_one}
 use Rattle.mail_laws.proofs.laws.outline_reads_back.Goals as goal
 
 pub returns-clause-read : goal.returns-clause-read

@@ -2,11 +2,11 @@ use Rattle.std.proofs.Common.{◌≡◌, ◌+◌, ◌<◌, not, List, ◌∷◌,
 use Rattle.std.specs.Prelude.{vec_len}
 use Rattle.std.proofs.lemmas.Bool.{eqb-false}
 use Rattle.std.proofs.lemmas.List.{drop_more, length-map}
-use Rattle.mail_laws.specs.Outlines.{forest_of, holds_delimiter, rendered}
-use Rattle.mail_laws.specs.OutlineViews.{headers_seen, outline_tree}
+use Rattle.mail_laws.specs.Render.{forest_of, holds_delimiter, rendered}
+use Rattle.mail_laws.specs.RenderViews.{headers_seen, outline_tree}
 use Rattle.mail_laws.specs.declared.render.Outline.{Outline}
-use Rattle.mail_laws.proofs.lemmas.OutlineViews.{tree_branch}
-use Rattle.mail_laws.proofs.lemmas.OutlineConditions.{boundary_fails, good_boundary, levels_fail, ok_bool, part_fails, parts_start, parts_well, well_within}
+use Rattle.mail_laws.proofs.lemmas.RenderViews.{tree_branch}
+use Rattle.mail_laws.proofs.lemmas.RenderConditions.{boundary_fails, good_boundary, levels_fail, ok_bool, part_fails, parts_start, parts_well, well_within}
 use Rattle.mail_laws.proofs.render.+is_well_formed_within.Goals as goal
 
 pub returns-then-levels-eq0 : goal.returns-then-levels-eq0

@@ -1,7 +1,7 @@
 -- The parts that are left decide.
 use Rattle.std.proofs.Common.{◌≡◌, drop, map}
-use Rattle.mail_laws.specs.OutlineViews.{outline_tree}
-use Rattle.mail_laws.proofs.lemmas.OutlineConditions.{parts_well, well_within}
+use Rattle.mail_laws.specs.RenderViews.{outline_tree}
+use Rattle.mail_laws.proofs.lemmas.RenderConditions.{parts_well, well_within}
 use Rattle.mail_laws.proofs.render.+is_well_formed_within.Given as goal
 
 abbrev pub invariant-loop-part : goal.invariant-loop-part

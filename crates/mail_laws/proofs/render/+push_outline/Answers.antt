@@ -1,9 +1,9 @@
 use Rattle.std.proofs.Common.{ℕ, ◌++◌, List, ap, sym, ◌∙◌, arith, take_all}
 use Rattle.std.specs.Prelude.{codes, flat_map}
-use Rattle.mail_laws.specs.Outlines.{crlf, dash_boundary, header_block, rendered, written_headers}
-use Rattle.mail_laws.specs.OutlineViews.{headers_seen, outline_tree}
+use Rattle.mail_laws.specs.Render.{crlf, dash_boundary, header_block, rendered, written_headers}
+use Rattle.mail_laws.specs.RenderViews.{headers_seen, outline_tree}
 use Rattle.mail_laws.specs.declared.render.Outline.{Outline}
-use Rattle.mail_laws.proofs.lemmas.OutlineViews.{on_ok_then, part_text, parts_written, tree_branch}
+use Rattle.mail_laws.proofs.lemmas.RenderViews.{on_ok_then, part_text, parts_written, tree_branch}
 use Rattle.mail_laws.proofs.render.+push_outline.Goals as goal
 
 pub returns-after-loop-part : goal.returns-after-loop-part

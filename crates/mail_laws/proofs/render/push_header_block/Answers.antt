@@ -1,9 +1,9 @@
 use Rattle.std.proofs.Common.{ℕ, ◌++◌, List, ap, ◌∙◌, arith, take_all}
 use Rattle.std.specs.Global.{Vec}
 use Rattle.std.specs.Prelude.{flat_map}
-use Rattle.mail_laws.specs.Outlines.{header_line, written_header}
-use Rattle.mail_laws.specs.OutlineViews.{header_seen}
-use Rattle.mail_laws.proofs.lemmas.OutlineViews.{on_ok, block_written}
+use Rattle.mail_laws.specs.Render.{header_line, written_header}
+use Rattle.mail_laws.specs.RenderViews.{header_seen}
+use Rattle.mail_laws.proofs.lemmas.RenderViews.{on_ok, block_written}
 use Rattle.mail_laws.proofs.render.push_header_block.Goals as goal
 
 pub returns : goal.returns

@@ -1,8 +1,8 @@
 -- The headers that are left decide.
 use Rattle.std.proofs.Common.{◌≡◌, drop, map}
 use Rattle.std.specs.List.{list_all}
-use Rattle.mail_laws.specs.Outlines.{is_key}
-use Rattle.mail_laws.specs.OutlineViews.{header_seen}
+use Rattle.mail_laws.specs.Render.{is_key}
+use Rattle.mail_laws.specs.RenderViews.{header_seen}
 use Rattle.mail_laws.proofs.render.conditions.has_keys.Given as goal
 
 abbrev pub invariant-loop-header : goal.invariant-loop-header

@@ -2,7 +2,7 @@
 use Rattle.std.proofs.Common.{◌≡◌, drop, map}
 use Rattle.std.specs.List.{list_all}
 use Rattle.std.specs.Str.{is_utf8}
-use Rattle.mail_laws.specs.OutlineViews.{header_seen}
+use Rattle.mail_laws.specs.RenderViews.{header_seen}
 use Rattle.mail_laws.proofs.render.conditions.has_texts.Given as goal
 
 abbrev pub invariant-loop-header : goal.invariant-loop-header

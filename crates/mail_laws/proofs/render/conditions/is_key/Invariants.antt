@@ -1,7 +1,7 @@
 -- The bytes that are left decide.
 use Rattle.std.proofs.Common.{◌≡◌, drop}
 use Rattle.std.specs.List.{list_all}
-use Rattle.mail_laws.specs.Outlines.{is_key_byte}
+use Rattle.mail_laws.specs.Render.{is_key_byte}
 use Rattle.mail_laws.proofs.render.conditions.is_key.Given as goal
 
 abbrev pub invariant-loop-byte : goal.invariant-loop-byte

@@ -2,9 +2,9 @@ use Rattle.std.proofs.Common.{rules, ◌≡◌, ℕ, true, not, List, Bor, Ok, a
 use Rattle.std.specs.Prelude.{codes, option_map, string_bytes}
 use Rattle.std.specs.Option.{option_map_or}
 use Rattle.mail_codec.specs.Places.{stands}
-use Rattle.mail_laws.specs.Outlines.{mimetype_of, type_header}
-use Rattle.mail_laws.specs.OutlineViews.{headers_seen}
-use Rattle.mail_laws.proofs.lemmas.OutlineConditions.{by_value, found_text, mimetype_named, mimetype_read}
+use Rattle.mail_laws.specs.Render.{mimetype_of, type_header}
+use Rattle.mail_laws.specs.RenderViews.{headers_seen}
+use Rattle.mail_laws.proofs.lemmas.RenderConditions.{by_value, found_text, mimetype_named, mimetype_read}
 use Rattle.mail_laws.proofs.render.conditions.is_not_multipart.Goals as goal
 
 pub returns-in_default-from_utf8 : goal.returns-in_default-from_utf8

@@ -1,5 +1,5 @@
 use Rattle.std.proofs.Common.{◌∙◌}
-use Rattle.mail_laws.proofs.lemmas.OutlineConditions.{utf8_told}
+use Rattle.mail_laws.proofs.lemmas.RenderConditions.{utf8_told}
 use Rattle.mail_laws.proofs.render.conditions.is_text.Goals as goal
 
 pub returns : goal.returns

@@ -3,9 +3,9 @@ use Rattle.std.specs.Prelude.{codes, option_map}
 use Rattle.std.specs.Option.{option_map_or}
 use Rattle.std.specs.Str.{bytes_eq}
 use Rattle.mail_laws.specs.Boundaries.{boundary_type}
-use Rattle.mail_laws.specs.Outlines.{type_header}
-use Rattle.mail_laws.specs.OutlineViews.{headers_seen}
-use Rattle.mail_laws.proofs.lemmas.OutlineConditions.{by_value, prefixed, not_prefixed}
+use Rattle.mail_laws.specs.Render.{type_header}
+use Rattle.mail_laws.specs.RenderViews.{headers_seen}
+use Rattle.mail_laws.proofs.lemmas.RenderConditions.{by_value, prefixed, not_prefixed}
 use Rattle.mail_laws.proofs.render.conditions.names_boundary.Goals as goal
 
 pub returns-in_default-strip_prefix : goal.returns-in_default-strip_prefix

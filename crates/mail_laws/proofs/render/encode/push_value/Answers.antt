@@ -1,6 +1,6 @@
 use Rattle.std.proofs.Common.{◌++◌, ap, ◌∙◌}
-use Rattle.mail_laws.proofs.lemmas.OutlineValues.{bytes_written, text_written}
-use Rattle.mail_laws.proofs.lemmas.OutlineViews.{on_ok}
+use Rattle.mail_laws.proofs.lemmas.RenderValues.{bytes_written, text_written}
+use Rattle.mail_laws.proofs.lemmas.RenderViews.{on_ok}
 use Rattle.mail_laws.proofs.render.encode.push_value.Goals as goal
 
 pub returns-in_default : goal.returns-in_default

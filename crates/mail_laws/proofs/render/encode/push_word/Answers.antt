@@ -1,4 +1,4 @@
-use Rattle.mail_laws.proofs.lemmas.EncodedValuesCut.{word_pushed}
+use Rattle.mail_laws.proofs.lemmas.EncodeCut.{word_pushed}
 use Rattle.mail_laws.proofs.render.encode.push_word.Goals as goal
 
 pub returns : goal.returns

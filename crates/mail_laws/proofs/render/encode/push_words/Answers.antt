@@ -1,7 +1,7 @@
 use Rattle.std.proofs.Common.{ap, ◌∙◌, arith}
 use Rattle.std.specs.String.{string_bytes}
 use Rattle.std.proofs.lemmas.List.{nil_from_length}
-use Rattle.mail_laws.proofs.lemmas.EncodedValuesCut.{cutting_starts, cutting_goes_on, cutting_cuts, cutting_ends, on_ok, word_at}
+use Rattle.mail_laws.proofs.lemmas.EncodeCut.{cutting_starts, cutting_goes_on, cutting_cuts, cutting_ends, on_ok, word_at}
 use Rattle.mail_laws.proofs.render.encode.push_words.Goals as goal
 
 pub loop-c-init : goal.loop-c-init

@@ -2,7 +2,7 @@
 use Rattle.std.specs.Prelude.{ℕ, List, map}
 use Rattle.std.specs.Global.{Vec}
 use Rattle.mailparse.specs.Header.{Header}
-use Rattle.mail_laws.specs.Outlines.{OutlineTree, leaf, branch, forest_of}
+use Rattle.mail_laws.specs.Render.{OutlineTree, leaf, branch, forest_of}
 use Rattle.mail_laws.specs.declared.render.Outline.{Outline}
 use Rattle.mail_laws.specs.declared.render.OutlineKind.TheOpen.{Outline-F, OutlineKind-F}
 use Rattle.mail_laws.specs.declared.render.OutlineKind.TheFolds.{fold-Outline}

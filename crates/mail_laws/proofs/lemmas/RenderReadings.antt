@@ -17,12 +17,12 @@ use Rattle.mailparse.specs.Ranges.{slice}
 use Rattle.mailparse.specs.Delimiters.{Cut, cut_parts}
 use Rattle.mailparse.specs.Mail.{Node, Tree, tree, Forest, no_parts, part_and, root, parts_of, nodes, trees_in, trees_within, is_digest, cut_of, node_with, read_each, read_parts, node_type, read_levels, read_mail_in, read_mail}
 use Rattle.mail_laws.specs.Boundaries.{boundary_type}
-use Rattle.mail_laws.specs.EncodedValues.{KnowUtf8}
-use Rattle.mail_laws.specs.Outlines.{OutlineTree, OutlineForest, leaf, branch, no_outlines, outline_and, header_block, dash_boundary, rendered, rendered_parts, is_key, has_keys, has_texts, type_header, names_its_boundary, has_plain_boundary, is_not_multipart, has_some_part, holds_delimiter, hold_no_delimiter, has_clear_parts, depth, depth_of_parts, is_well_formed_here, is_well_formed_within, are_well_formed_within, type_of, node_of, stands_for, stand_for, is_within_levels, IsWellFormed, written_headers, has_plain_values, is_plain_within, are_plain_within, Show, shown_header, headers_within, headers_in}
-use Rattle.mail_laws.proofs.lemmas.OutlineHeaders.{from_not, list_all-weaker, read_headers-written}
-use Rattle.mail_laws.proofs.lemmas.OutlineValues.{AreShown, headers_again, same_headers, written_are_shown, written_are_values, written_keys}
-use Rattle.mail_laws.proofs.lemmas.OutlineParts.{no_return, stands-nowhere, written, IsClear, AreClear, body-written, parts-written}
-use Rattle.mail_laws.proofs.lemmas.OutlineTypes.{node_type-written, no_parts-leaf, type-branch}
+use Rattle.mail_laws.specs.Encode.{KnowUtf8}
+use Rattle.mail_laws.specs.Render.{OutlineTree, OutlineForest, leaf, branch, no_outlines, outline_and, header_block, dash_boundary, rendered, rendered_parts, is_key, has_keys, has_texts, type_header, names_its_boundary, has_plain_boundary, is_not_multipart, has_some_part, holds_delimiter, hold_no_delimiter, has_clear_parts, depth, depth_of_parts, is_well_formed_here, is_well_formed_within, are_well_formed_within, type_of, node_of, stands_for, stand_for, is_within_levels, IsWellFormed, written_headers, has_plain_values, is_plain_within, are_plain_within, Show, shown_header, headers_within, headers_in}
+use Rattle.mail_laws.proofs.lemmas.RenderHeaders.{from_not, list_all-weaker, read_headers-written}
+use Rattle.mail_laws.proofs.lemmas.RenderValues.{AreShown, headers_again, same_headers, written_are_shown, written_are_values, written_keys}
+use Rattle.mail_laws.proofs.lemmas.RenderParts.{no_return, stands-nowhere, written, IsClear, AreClear, body-written, parts-written}
+use Rattle.mail_laws.proofs.lemmas.RenderTypes.{node_type-written, no_parts-leaf, type-branch}
 
 -- ---- the parts of an outline, as they are written
 

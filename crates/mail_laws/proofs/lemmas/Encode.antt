@@ -5,7 +5,7 @@ use Rattle.std.specs.Char.{encode_utf8}
 use Rattle.std.proofs.lemmas.Bool.{cond-true, cond-false, leb-true, leb-false, le-leb, lt-leb}
 use Rattle.std.proofs.lemmas.List.{append-nil}
 use Rattle.std.proofs.lemmas.Str.{encodes-append, length-encode, len_utf8_bounds}
-use Rattle.mail_laws.specs.EncodedValues.{most, size, IsFull, AreWords, no_word, next_word, words_after, words_of}
+use Rattle.mail_laws.specs.Encode.{most, size, IsFull, AreWords, no_word, next_word, words_after, words_of}
 
 -- ---- sizes
 

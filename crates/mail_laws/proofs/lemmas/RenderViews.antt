@@ -3,8 +3,8 @@ use Rattle.std.proofs.Common.{◌≡◌, ℕ, List, [], ◌∷◌, ◌++◌, map
 use Rattle.std.specs.Global.{Vec}
 use Rattle.std.specs.Prelude.{codes, flat_map, if◌then◌else◌}
 use Rattle.mailparse.specs.Header.{Header}
-use Rattle.mail_laws.specs.Outlines.{OutlineTree, leaf, branch, forest_of, headers_of, crlf, header_line, header_block, dash_boundary, rendered, rendered_parts, written_header, written_headers}
-use Rattle.mail_laws.specs.OutlineViews.{header_seen, headers_seen, kind_step, outline_step, outline_tree}
+use Rattle.mail_laws.specs.Render.{OutlineTree, leaf, branch, forest_of, headers_of, crlf, header_line, header_block, dash_boundary, rendered, rendered_parts, written_header, written_headers}
+use Rattle.mail_laws.specs.RenderViews.{header_seen, headers_seen, kind_step, outline_step, outline_tree}
 use Rattle.mail_laws.specs.declared.render.Outline.{Outline}
 use Rattle.mail_laws.specs.declared.render.OutlineKind.{OutlineKind}
 use Rattle.mail_laws.specs.declared.render.OutlineKind.TheVariants.{Leaf, Branch, rolls-Leaf, rolls-Branch}

@@ -12,7 +12,7 @@ use Rattle.mailparse.specs.Header.{Header}
 use Rattle.mailparse.specs.ContentType.{ContentType, content_type_in, content_type_of}
 use Rattle.mailparse.specs.Refusal.{Refusal}
 use Rattle.mail_laws.specs.Boundaries.{boundary_type}
-use Rattle.mail_laws.specs.Outlines.{OutlineTree, leaf, branch, OutlineForest, no_outlines, outline_and, forest_of, headers_of, rendered, is_key, has_keys, has_texts, has_type_key, type_header, names_its_boundary, has_plain_boundary, mimetype_of, is_not_multipart, holds_delimiter, hold_no_delimiter, depth, depth_of_parts, is_well_formed_within, are_well_formed_within}
+use Rattle.mail_laws.specs.Render.{OutlineTree, leaf, branch, OutlineForest, no_outlines, outline_and, forest_of, headers_of, rendered, is_key, has_keys, has_texts, has_type_key, type_header, names_its_boundary, has_plain_boundary, mimetype_of, is_not_multipart, holds_delimiter, hold_no_delimiter, depth, depth_of_parts, is_well_formed_within, are_well_formed_within}
 use lib.Pointwise.{pointwise}
 
 -- ---- the first `Content-Type`

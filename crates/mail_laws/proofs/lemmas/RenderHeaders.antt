@@ -11,8 +11,8 @@ use Rattle.mailparse.specs.Header.{Header, ends_key, ends_header, is_line_end, k
 use Rattle.mailparse.specs.Block.{blank_line, headers_end, has_header, read_headers}
 use Rattle.mailparse.proofs.lemmas.Header.{header_of-value, is_line_end-false}
 use Rattle.mailparse.proofs.lemmas.Block.{with_front, read_headers-more, read_headers-none}
-use Rattle.mail_laws.specs.EncodedValues.{is_plain_byte, is_plain_value}
-use Rattle.mail_laws.specs.Outlines.{crlf, header_line, header_block, is_key_byte, is_key}
+use Rattle.mail_laws.specs.Encode.{is_plain_byte, is_plain_value}
+use Rattle.mail_laws.specs.Render.{crlf, header_line, header_block, is_key_byte, is_key}
 
 -- ---- lists of bytes that pass a test
 

@@ -15,10 +15,10 @@ use Rattle.mailparse.specs.Value.{lenient_value_in}
 use Rattle.mailparse.specs.ContentType.{ContentType, content_type_in, default_type}
 use Rattle.mailparse.specs.Mail.{node_type, dash_boundary_of, is_digest}
 use Rattle.mail_laws.specs.Boundaries.{IsAlphanumeric, boundary_type}
-use Rattle.mail_laws.specs.Outlines.{dash_boundary, is_key_byte, is_key, has_type_key, type_header, mimetype_of, type_of, written_bytes, written_header, written_headers}
+use Rattle.mail_laws.specs.Render.{dash_boundary, is_key_byte, is_key, has_type_key, type_header, mimetype_of, type_of, written_bytes, written_header, written_headers}
 use Rattle.mail_laws.proofs.lemmas.Boundaries.{boundary_content_type}
-use Rattle.mail_laws.proofs.lemmas.OutlineHeaders.{from_not, key_byte}
-use Rattle.mail_laws.proofs.lemmas.OutlineValues.{AreShown}
+use Rattle.mail_laws.proofs.lemmas.RenderHeaders.{from_not, key_byte}
+use Rattle.mail_laws.proofs.lemmas.RenderValues.{AreShown}
 
 -- ---- ASCII
 

@@ -13,7 +13,7 @@ use Rattle.mailparse.specs.Delimiters.{is_delimiter, delimiter_from, line_after,
 use Rattle.mailparse.specs.private.Delimiters.{NoDelimiter}
 use Rattle.mailparse.proofs.lemmas.Delimiters.{is_delimiter-line, is_delimiter-start, delimiter_from-some, starts_delimiter, part_ranges, part_ranges-none, part_ranges-some}
 use Rattle.mailparse.proofs.lemmas.Places.{not_some}
-use Rattle.mail_laws.proofs.lemmas.OutlineHeaders.{from_not, drop_past}
+use Rattle.mail_laws.proofs.lemmas.RenderHeaders.{from_not, drop_past}
 
 -- ---- a text that stands
 

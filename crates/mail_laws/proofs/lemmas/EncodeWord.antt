@@ -25,7 +25,7 @@ use Rattle.mailparse.specs.Value.{Token, line_tokens, outside_token, token_of}
 use Rattle.mailparse.proofs.lemmas.EncodedWord.{word_whole}
 use Rattle.mailparse.proofs.lemmas.Shown.{token_of-outside}
 use Rattle.mailparse.proofs.lemmas.Tokens.{token_ranges_only}
-use Rattle.mail_laws.specs.EncodedValues.{KnowUtf8, letters}
+use Rattle.mail_laws.specs.Encode.{KnowUtf8, letters}
 use Rattle.mail_laws.specs.WordTokens.{word, whitespace_token}
 
 -- ---- the letters

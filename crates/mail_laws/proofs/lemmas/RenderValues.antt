@@ -12,10 +12,10 @@ use Rattle.mail_codec.proofs.lemmas.Places.{first_place-past}
 use Rattle.mailparse.specs.Header.{Header, ends_header, is_line_end}
 use Rattle.mailparse.specs.Value.{lenient_value_in}
 use Rattle.mailparse.proofs.lemmas.Header.{is_line_end-false}
-use Rattle.mail_laws.specs.EncodedValues.{KnowUtf8, encoded_word, is_plain_value, word_lines, words_of, written_value}
-use Rattle.mail_laws.specs.Outlines.{is_key, shown_header, written_bytes, written_headers}
-use Rattle.mail_laws.proofs.lemmas.EncodedValuesRead.{AreTexts, AreVisible, text_words, word_visible, written_reads}
-use Rattle.mail_laws.proofs.lemmas.OutlineHeaders.{IsValue, AreValues, last_feed, plain_is_value}
+use Rattle.mail_laws.specs.Encode.{KnowUtf8, encoded_word, is_plain_value, word_lines, words_of, written_value}
+use Rattle.mail_laws.specs.Render.{is_key, shown_header, written_bytes, written_headers}
+use Rattle.mail_laws.proofs.lemmas.EncodeRead.{AreTexts, AreVisible, text_words, word_visible, written_reads}
+use Rattle.mail_laws.proofs.lemmas.RenderHeaders.{IsValue, AreValues, last_feed, plain_is_value}
 
 -- ---- the lines of encoded words
 

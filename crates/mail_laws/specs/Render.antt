@@ -15,7 +15,7 @@ use Rattle.mailparse.specs.Mail.{Node, Tree, tree, Forest, no_parts, part_and}
 use Rattle.mailparse.specs.Pairs.{value_of}
 use Rattle.mailparse.specs.Value.{lenient_value_in}
 use Rattle.mail_laws.specs.Boundaries.{boundary_type}
-use Rattle.mail_laws.specs.EncodedValues.{KnowUtf8, is_plain_value, written_value}
+use Rattle.mail_laws.specs.Encode.{KnowUtf8, is_plain_value, written_value}
 
 -- an outline of a message: its headers, each a key and the text of a value, and its body; or its headers, the boundary of its parts, and the
 -- parts, each an outline of its own

@@ -6,8 +6,8 @@ use Rattle.std.specs.Str.{chars, IsUtf8, IsCharBoundary}
 use Rattle.std.proofs.lemmas.Bool.{cond-true, cond-false, le-leb, lt-leb}
 use Rattle.std.proofs.lemmas.List.{append-nil, take_all, take-append-le, drop-drop, length-take-le}
 use Rattle.std.proofs.lemmas.Str.{chars-nil, chars_past_char, encodes-append, encodes-chars, IsCharBoundary-start, length-encode, IsUtf8-past_char, IsCharBoundary-past_char, drop_past_char}
-use Rattle.mail_laws.specs.EncodedValues.{most, size, letters, encoded_word, word_lines, words_after, words_of}
-use Rattle.mail_laws.proofs.lemmas.EncodedValues.{size-one}
+use Rattle.mail_laws.specs.Encode.{most, size, letters, encoded_word, word_lines, words_after, words_of}
+use Rattle.mail_laws.proofs.lemmas.Encode.{size-one}
 
 -- what was written, the place where the word that has begun starts, the place up to which it goes, and what follows
 pub record Cutting (text old written : List ℕ) (start end : ℕ) (rest : List ℕ) : Type 0 where

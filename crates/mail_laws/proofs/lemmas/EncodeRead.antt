@@ -25,10 +25,10 @@ use Rattle.mailparse.specs.Value.{IsPlain, Token, is_released, kinds, lenient_va
 use Rattle.mailparse.proofs.lemmas.EncodedWord.{split_some}
 use Rattle.mailparse.proofs.lemmas.Value.{lenient-utf8}
 use Rattle.mailparse.proofs.lemmas.ValuePlain.{shown_value-plain}
-use Rattle.mail_laws.specs.EncodedValues.{KnowUtf8, AreWords, no_word, next_word, encoded_word, is_plain_byte, is_plain_value, letters, word_lines, words_of, written_value}
+use Rattle.mail_laws.specs.Encode.{KnowUtf8, AreWords, no_word, next_word, encoded_word, is_plain_byte, is_plain_value, letters, word_lines, words_of, written_value}
 use Rattle.mail_laws.specs.WordTokens.{word, whitespace_token}
-use Rattle.mail_laws.proofs.lemmas.EncodedValues.{words_fit, words_join}
-use Rattle.mail_laws.proofs.lemmas.EncodedValuesWord.{AreLetters, around, encoded_word-tokens, letters_are, utf_8_known}
+use Rattle.mail_laws.proofs.lemmas.Encode.{words_fit, words_join}
+use Rattle.mail_laws.proofs.lemmas.EncodeWord.{AreLetters, around, encoded_word-tokens, letters_are, utf_8_known}
 use lib.Utf8.{scalar, scalars, scalar_cases}
 
 -- ---- the bytes of characters
