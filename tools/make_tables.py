@@ -140,6 +140,18 @@ def table_source(name, codes, all_labels):
     return "\n".join(lines)
 
 
+def struct_source(name, fields):
+    """The lines of a struct of a test's row, with the types of its fields."""
+    lines = ["#[derive(Debug)]", "pub(crate) struct %s {" % name]
+    lines += ["    pub(crate) %s: %s," % field for field in fields]
+    return lines + ["}", ""]
+
+
+def row_source(name, fields):
+    """The lines of one such row, with the values of its fields."""
+    return ["    %s {" % name] + ["        %s: %s," % field for field in fields] + ["    },"]
+
+
 def sources_of(sources):
     """The files of the crate that are made, by name."""
     characters, known = indexes(sources), labels(sources)
@@ -158,18 +170,22 @@ def sources_of(sources):
     made += ["    %s," % name for name in names]
     made += ["];", "", "\n\n".join(constants), ""]
     listed = ["//! What other sources give, made by `tools/make_tables.py`; do not edit it.", ""]
-    listed += ["/// Each table's number, and the bytes 80 to FF as Python's codecs read them. Where these have none"]
-    listed += ["/// or another character than the standard, which the script names, it is that of the standard."]
-    listed += ["pub(crate) static TEXTS: [(usize, &str); %d] = [" % len(tests)]
+    listed += ["/// The number of a table, and the characters of the bytes 80 to FF in it."]
+    listed += struct_source("TableText", [("table", "usize"), ("high", "&'static str")])
+    listed += ["/// Each table as Python's codecs read it. Where these have no character or another than the"]
+    listed += ["/// standard, which the script names, it is that of the standard."]
+    listed += ["pub(crate) static TEXTS: [TableText; %d] = [" % len(tests)]
     for number, codes in enumerate(tests):
         rows = ["".join("\\u{%04X}" % code for code in codes[at:at + 8]) for at in range(0, 128, 8)]
-        text = "\\\n         ".join(rows)
-        listed += ["    (", "        %d," % number, '        "%s",' % text, "    ),"]
+        listed += row_source("TableText", [("table", number), ("high", '"%s"' % "\\\n            ".join(rows))])
     listed += ["];", ""]
     rows = tested_labels(sources)
-    listed += ["/// Each label with the number of its table, as the tests of encoding_rs list them."]
-    listed += ["pub(crate) static LABELS: [(&str, usize); %d] = [" % len(rows)]
-    listed += ['    ("%s", %d),' % row for row in rows]
+    listed += ["/// A label, and the number of its table."]
+    listed += struct_source("LabelRow", [("label", "&'static str"), ("table", "usize")])
+    listed += ["/// Each label, as the tests of encoding_rs list them."]
+    listed += ["pub(crate) static LABELS: [LabelRow; %d] = [" % len(rows)]
+    for label, number in rows:
+        listed += row_source("LabelRow", [("label", '"%s"' % label), ("table", number)])
     listed += ["];", ""]
     return {"tables.rt": "\n".join(made), "expected.rt": "\n".join(listed)}
 

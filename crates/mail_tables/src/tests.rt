@@ -42,19 +42,20 @@ fn assert_table(
 fn all_bytes_of_all_tables(rt: HostRuntime) -> Result<(), Fail> {
     let tables = TABLES;
     assert_eq!(rt; TEXTS.len(), tables.len());
-    for (number, high) in &TEXTS {
-        let table = tables.get(*number).ok_or("no table")?;
-        assert_table(&rt, rt.alloc(), table, high)?;
+    for row in &TEXTS {
+        let table = tables.get(row.table).ok_or("no table")?;
+        assert_table(&rt, rt.alloc(), table, row.high)?;
     }
     Ok(())
 }
 
 #[test]
 fn all_labels_of_all_tables(rt: HostRuntime) -> Result<(), Fail> {
-    for (label, number) in &LABELS {
+    for row in &LABELS {
+        let label = row.label;
         assert_eq!(rt;
             table_for_label(label.as_bytes(), &TABLES),
-            Some(*number),
+            Some(row.table),
             "{label}"
         );
         assert_eq!(rt; Charset::for_label(label.as_bytes()), None, "{label}");
