@@ -16,7 +16,7 @@ static PLAIN: [Case; 9] = cases! {
 };
 
 #[test]
-fn plain_texts(rt: HostRuntime) -> Result<(), Fail> {
+fn plain_texts_are_written_as_they_are(rt: HostRuntime) -> Result<(), Fail> {
     Ok(assert_written(&rt, rt.alloc(), &PLAIN)?)
 }
 

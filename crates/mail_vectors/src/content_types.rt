@@ -305,7 +305,7 @@ fn count_of_params(alloc: Global, piece: &str, times: usize) -> Result<usize, Fa
 }
 
 #[test]
-fn long_texts(rt: HostRuntime) -> Result<(), Fail> {
+fn parameters_in_a_mebibyte_of_one_piece(rt: HostRuntime) -> Result<(), Fail> {
     let mib = 1 << 20;
     assert_same(&rt, count_of_params(rt.alloc(), ";", mib)?, 0);
     assert_same(&rt, count_of_params(rt.alloc(), "\"", mib)?, 0);
@@ -324,7 +324,7 @@ fn type_of_many_names(alloc: Global, count: u32) -> Result<ParsedContentType, Ma
 }
 
 #[test]
-fn many_names(rt: HostRuntime) -> Result<(), Fail> {
+fn a_hundred_thousand_parameters(rt: HostRuntime) -> Result<(), Fail> {
     let found = type_of_many_names(rt.alloc(), 100_000)?;
     assert_same(&rt, found.params.len(), 100_000);
     let last = found.params.get("n99999").ok_or("no last name")?;

@@ -33,7 +33,8 @@ pub fn text_after_colon(alloc: Global, raw: &[u8]) -> Result<String, AllocError>
     text_or_error(alloc, value_after_colon(alloc, raw))
 }
 
-static WORKED: [TextCase; 22] = cases! {
+/// Values of one line, most of them with encoded words.
+static ONE_LINE: [TextCase; 26] = cases! {
     b"=?utf-8?B?4oKs?=" => "\u{20AC}",
     b"a=?utf-8?Q?b?=" => "a=?utf-8?Q?b?=",
     b"(=?utf-8?Q?a?=)" => "(a)",
@@ -41,30 +42,13 @@ static WORKED: [TextCase; 22] = cases! {
     b"=?utf-8?Q?a?" => "=?utf-8?Q?a?",
     b"=?utf-8?X?a?=" => "=?utf-8?X?a?=",
     b"=?utf-8?Q?=EF=BB=BFa?=" => "\u{FEFF}a",
-    b"\n b" => " b",
-    b"a \n b" => "a  b",
-    b"=?utf-8?Q?a?= \n =?utf-8?Q?b?=" => "ab",
     b"=?utf-8?Q?a?= =?x?Q?b?=" => "a =?x?Q?b?=",
-    b"=?utf-8?Q?a?= \n b" => "a  b",
-    b"b \r\n\tc" => "b  c",
     b"=?iso-8859-1?Q?=A1Hola,_se=F1or!?=" => "\u{A1}Hola, se\u{F1}or!",
     b"=?utf-8?Q?a?= =?utf-8?Q?b?=" => "ab",
-    b"=?utf-8?Q?a?=\n b" => "a b",
-    b"=?utf-8?Q?a?=\n =?x?Q?b?=" => "a=?x?Q?b?=",
     b"\xC3\xA9\xC3\xA9 =?utf-8?Q?a?=" => "\u{E9}\u{E9} a",
-    b"Hello, sir,\n   I am multiline" => "Hello, sir, I am multiline",
     b"=?utf-8?Q?a?=," => "a,",
     b",=?utf-8?Q?a?=" => ",a",
     b"x,=?utf-8?Q?a?=,y" => "x,a,y",
-};
-
-#[test]
-fn worked_values(rt: HostRuntime) -> Result<(), Fail> {
-    Ok(assert_texts(&rt, rt.alloc(), &WORKED, text_after_colon)?)
-}
-
-/// Further values, each with its own edge.
-static FURTHER: [TextCase; 17] = cases! {
     b"=?windows-1252?Q?=80?=" => "\u{20AC}",
     b"=?utf-16be?B?AEEA6Q==?=" => "A\u{E9}",
     b"=?utf-8?q?=C3=A9__?= x" => "\u{E9}   x",
@@ -76,17 +60,34 @@ static FURTHER: [TextCase; 17] = cases! {
     b"=?utf-8?Q?a?=x?= y" => "a?=x y",
     b",=?utf-8?Q?a?=," => ",a,",
     b"\"=?utf-8?Q?a?=\" <=?utf-8?Q?b?=>" => "\"a\" <b>",
+    b"\tx" => "x",
+};
+
+#[test]
+fn values_of_one_line(rt: HostRuntime) -> Result<(), Fail> {
+    Ok(assert_texts(&rt, rt.alloc(), &ONE_LINE, text_after_colon)?)
+}
+
+/// Values with line ends in them.
+static LINE_ENDS: [TextCase; 13] = cases! {
+    b"\n b" => " b",
+    b"a \n b" => "a  b",
+    b"=?utf-8?Q?a?= \n =?utf-8?Q?b?=" => "ab",
+    b"=?utf-8?Q?a?= \n b" => "a  b",
+    b"b \r\n\tc" => "b  c",
+    b"=?utf-8?Q?a?=\n b" => "a b",
+    b"=?utf-8?Q?a?=\n =?x?Q?b?=" => "a=?x?Q?b?=",
+    b"Hello, sir,\n   I am multiline" => "Hello, sir, I am multiline",
     b"a\n \n =?utf-8?Q?a?=\n \n b" => "a  a b",
     b"a\n \n b" => "a  b",
-    b"\tx" => "x",
     b"a\r" => "a",
     b"a\r\n \r" => "a ",
     b" =?utf-8?Q?a?= \n\t=?utf-8?Q?b?= \n\t c" => "ab  c",
 };
 
 #[test]
-fn further_values(rt: HostRuntime) -> Result<(), Fail> {
-    Ok(assert_texts(&rt, rt.alloc(), &FURTHER, text_after_colon)?)
+fn values_with_line_ends(rt: HostRuntime) -> Result<(), Fail> {
+    Ok(assert_texts(&rt, rt.alloc(), &LINE_ENDS, text_after_colon)?)
 }
 
 /// Bytes that are UTF-8 or not.
