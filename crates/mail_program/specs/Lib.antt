@@ -1,2 +1,2 @@
-pub mod Faults
+pub mod Fault
 pub mod Streams

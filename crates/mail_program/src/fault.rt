@@ -9,7 +9,7 @@ use thiserror::Error;
 /// Why a program did not do, or did not wholly do, what it was asked.
 #[derive(Debug, Drop, Error)]
 pub enum Fault {
-    /// The mail is refused, or memory ran out.
+    /// The mail is refused, or memory runs out.
     #[error("{0}")]
     Mail(MailParseError),
     /// A read failed.

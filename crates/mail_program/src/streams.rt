@@ -1,7 +1,7 @@
 //! Reading to the end, and writing, over any reader and writer.
 ghost use Rattle.std.specs.Io.KnownBytes.{Appends};
 ghost use Rattle.std.specs.Prelude.{◌<◌, IfErr, IfOk, OnOk, vec_len};
-ghost use Rattle.mail_program.specs.Faults.{IsOutput};
+ghost use Rattle.mail_program.specs.Fault.{IsOutput};
 ghost use Rattle.mail_program.specs.Streams.{IsRead};
 
 use crate::fault::Fault;
@@ -11,11 +11,25 @@ use std::io::{self, ErrorKind, Read, Write};
 /// How many bytes a read may give.
 const READ_SIZE: usize = 64 * 1024;
 
-/// All that the reader has left. An interrupted read is tried again. Takes memory for the bytes.
+/// Returns all that the reader has left. An interrupted read is tried again.
+///
+/// Takes memory for the bytes.
 ///
 /// # Errors
 ///
-/// `Fault::Input` if a read failed, and `Fault::Mail` if memory ran out.
+/// `Fault::Input` where a read fails, and `Fault::Mail` with `MailParseError::Memory` where it runs
+/// out of memory.
+///
+/// # Examples
+///
+/// ```rust
+/// use mail_program::read_input;
+///
+/// let mut reader = b"Subject: Hi\n\nHello\n".as_slice();
+/// let input = read_input(alloc, &mut reader)?;
+/// assert_eq!(rt; input.as_slice(), b"Subject: Hi\n\nHello\n".as_slice());
+/// assert!(rt; reader.is_empty());
+/// ```
 pub fn read_input<R: Read>(alloc: Global, reader: &mut R) -> Result<Vec<u8>, Fault>
     ensures { IsRead (R.remaining reader.old) (R.remaining reader.new) result }
 {
@@ -46,7 +60,18 @@ fn read_buffer(alloc: Global) -> Result<Vec<u8>, AllocError>
 ///
 /// # Errors
 ///
-/// `Fault::Output` where a write or the flush failed.
+/// `Fault::Output` where a write or the flush fails.
+///
+/// # Examples
+///
+/// ```rust
+/// use mail_program::write_output;
+///
+/// let mut written = Vec::new(alloc);
+/// write_output(&mut written, b"part 0")?;
+/// write_output(&mut written, b": text/plain")?;
+/// assert_eq!(rt; written.as_slice(), b"part 0: text/plain".as_slice());
+/// ```
 pub fn write_output<W: Write>(writer: &mut W, bytes: &[u8]) -> Result<(), Fault>
     ensures written { OnOk result
         (Appends (W.contents writer.old) (W.contents writer.new) bytes.now) }

@@ -1,4 +1,4 @@
-pub mod Shown
+pub mod Text
 pub mod Run
 pub use Rattle.mailparse.specs.Refusal
 pub use Rattle.mailparse.specs.Outcome

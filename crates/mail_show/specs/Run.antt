@@ -4,7 +4,7 @@ use Rattle.std.specs.Io.KnownBytes.{Appends, IsAtEnd}
 use Rattle.mailparse.specs.Outcome.{IsRefusal}
 use Rattle.mailparse.specs.declared.error.MailParseError.{MailParseError}
 use Rattle.mailparse.specs.declared.error.MailParseError.TheVariants.{Memory}
-use Rattle.mail_show.specs.Shown.{shown}
+use Rattle.mail_show.specs.Text.{shown}
 
 -- all was read, and the text of the input was written and nothing else
 pub record HasShown (left_before left held_before held : Option (List ℕ)) : Type 0 where

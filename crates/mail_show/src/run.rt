@@ -1,7 +1,7 @@
 //! A run of the program over any reader and writer.
 ghost use Rattle.std.specs.Io.KnownBytes.{Keeps};
 ghost use Rattle.std.specs.Prelude.{IfErr, IfOk};
-ghost use Rattle.mail_program.specs.Faults.{IfInput, IfMail};
+ghost use Rattle.mail_program.specs.Fault.{IfInput, IfMail};
 ghost use Rattle.mail_show.specs.Run.{HasShown, RefusesInput};
 
 use crate::text::text_of;
@@ -16,6 +16,13 @@ use std::io::{Read, Write};
 /// Nothing is written before the whole text stands: after `Mail` and `Input` the writer holds what
 /// it held. An interrupted read or write is tried again; a failed flush is not. Takes memory for
 /// the input, its headers and the text.
+///
+/// # Errors
+///
+/// - `ShowFault::Mail` where `parse_mail` refuses the input, with its refusal, and where it runs out
+///   of memory,
+/// - `ShowFault::Input` where a read fails,
+/// - `ShowFault::Output` where a write or the flush fails.
 pub fn run<R: Read, W: Write>(
     alloc: Global,
     reader: &mut R,

@@ -1,6 +1,6 @@
 //! The text that shows a message.
 ghost use Rattle.std.specs.Prelude.{◌≡◌, ◌++◌, length, string_bytes, IfErr, IfOk, OnOk};
-ghost use Rattle.mail_show.specs.Shown.{header_line, mail_text, part_line, part_text};
+ghost use Rattle.mail_show.specs.Text.{header_line, mail_text, part_line, part_text};
 ghost use Rattle.mailparse.specs.Mail.{root};
 ghost use Rattle.mailparse.specs.Outcome.{GivesText, IsMemory};
 ghost use Rattle.mailparse.specs.Views.{tree_of};
@@ -10,7 +10,11 @@ use mailparse::{MailHeader, MailParseError, ParsedMail};
 use std::alloc::{AllocError, Global};
 
 /// The text of a message and its parts, each before its own parts: a line for each, and one for
-/// each of its headers.
+/// each of its headers. Takes memory for the text.
+///
+/// # Errors
+///
+/// `MailParseError::Memory` where it runs out of memory.
 pub fn text_of(alloc: Global, parsed: &ParsedMail<'_>) -> Result<String, MailParseError>
     ensures { GivesText result (mail_text (tree_of parsed.now)) }
 {
@@ -43,7 +47,7 @@ fn push_part(
 
 /// Writes the line of the part with this number, by its type, how many headers it has, and how many
 /// bytes its body has.
-#[tactic(auto, unfolding(crate::specs::Shown::part_line))]
+#[tactic(auto, unfolding(crate::specs::Text::part_line))]
 fn push_part_line(
     text: &mut String,
     number: usize,
@@ -75,7 +79,7 @@ fn body_length(alloc: Global, part: &ParsedMail<'_>) -> Result<usize, MailParseE
 }
 
 /// Writes the line of a header: the texts of its key and of its value.
-#[tactic(auto, unfolding(crate::specs::Shown::header_line))]
+#[tactic(auto, unfolding(crate::specs::Text::header_line))]
 fn push_header_line(
     alloc: Global,
     text: &mut String,

@@ -8,7 +8,7 @@ use Rattle.mailparse.specs.Outcome.{IsRefusal, IsRefusalOrMemory}
 use Rattle.mailparse.proofs.lemmas.Outcome.{IsRefusal-along}
 use Rattle.mailparse.specs.declared.error.MailParseError.{MailParseError}
 use Rattle.mailparse.specs.declared.error.MailParseError.TheVariants.{QuotedPrintableDecodeError, Base64DecodeError, EncodingError, Generic, Memory}
-use Rattle.mail_show.specs.Shown.{mail_text, shown}
+use Rattle.mail_show.specs.Text.{mail_text, shown}
 use Rattle.mail_show.specs.Run.{HasShown, RefusesInput}
 
 -- what is shown of an input that is a message, and of one that is refused

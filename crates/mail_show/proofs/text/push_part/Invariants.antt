@@ -4,7 +4,7 @@ use Rattle.std.specs.String.{string_bytes}
 use Rattle.std.proofs.Common.{length}
 use Rattle.mailparse.specs.Mail.{Node, root}
 use Rattle.mailparse.specs.Views.{tree_of}
-use Rattle.mail_show.specs.Shown.{header_line, part_line}
+use Rattle.mail_show.specs.Text.{header_line, part_line}
 use Rattle.mail_show.proofs.text.push_part.Given as goal
 
 -- the line of a part

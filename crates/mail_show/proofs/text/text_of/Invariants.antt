@@ -2,7 +2,7 @@ use Rattle.std.proofs.Common.{◌≡◌, ◌++◌}
 use Rattle.std.specs.Iterator.Adapters.{enumerate_count, enumerate_source}
 use Rattle.std.specs.String.{string_bytes}
 use Rattle.mailparse.specs.Views.{tree_of, trees_left}
-use Rattle.mail_show.specs.Shown.{mail_text, parts_text}
+use Rattle.mail_show.specs.Text.{mail_text, parts_text}
 use Rattle.mail_show.proofs.text.text_of.Given as goal
 
 -- what is written, and then the texts of the parts that are left, is the text of the message
