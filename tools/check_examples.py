@@ -1,12 +1,12 @@
 #!/usr/bin/env python3
 """Runs the examples of the doc comments and compares the README's program with the crate page's.
 
-Each fence ```rust in a doc comment of mail_codec, mail_tables, mailparse, mail_laws and mail_data becomes a test of its
-own: the lines as they stand, in a function that has the runtime `rt` and its allocator `alloc`, and in which `?` passes
-every error on. `rt try --test` builds and runs them, without a proof, in a folder that is deleted
-afterwards. A fence with `fn main` is a program: it has to be the README's, which tools/try_outside.sh
-builds and runs. Each public call has to have an example, and the heading `# Errors` exactly where it
-returns a `Result`. There may be no other fences.
+Each fence ```rust in a doc comment of mail_codec, mail_tables, mailparse, mail_laws, mail_data and
+mail_program becomes a test of its own: the lines as they stand, in a function that has the runtime `rt`
+and its allocator `alloc`, and in which `?` passes every error on. `rt try --test` builds and runs them,
+without a proof, in a folder that is deleted afterwards. A fence with `fn main` is a program: it has to
+be the README's, which tools/try_outside.sh builds and runs. Each public call has to have an example, and
+the heading `# Errors` exactly where it returns a `Result`. There may be no other fences.
 
 It prints what failed; the last line is `N passed, N failed`, where each example and each heading of a
 public call counts for one, and the status is 1 where one failed.
@@ -22,7 +22,7 @@ import tempfile
 from make_api import crate_modules
 
 TOP = os.path.dirname(os.path.dirname(os.path.abspath(__file__)))
-CRATES = ("mail_codec", "mail_tables", "mailparse", "mail_laws", "mail_data")
+CRATES = ("mail_codec", "mail_tables", "mailparse", "mail_laws", "mail_data", "mail_program")
 DOC = re.compile(r"^\s*//[/!] ?(.*)$")
 
 
@@ -105,7 +105,7 @@ def check_comments(counts):
             if module.endswith("::laws"):
                 continue
             for name, call in calls(module, items):
-                has_errors = "-> Result<" in call.signature
+                has_errors = re.search(r"-> (io::)?Result<", call.signature) is not None
                 judge("```rust" in call.doc, f"{name} has no example", counts)
                 judge(("# Errors" in call.doc) == has_errors, f"{name}: `# Errors` or none", counts)
 

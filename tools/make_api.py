@@ -14,7 +14,7 @@ import textwrap
 
 TOP = os.path.dirname(os.path.dirname(os.path.abspath(__file__)))
 PAGE = os.path.join(TOP, "docs", "API.md")
-CRATES = ["mailparse", "mail_codec", "mail_tables", "mail_data", "mail_laws"]
+CRATES = ["mailparse", "mail_codec", "mail_tables", "mail_data", "mail_laws", "mail_program"]
 INTRODUCTION = """\
 # Public types and calls
 
