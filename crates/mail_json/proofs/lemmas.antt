@@ -1,4 +1,6 @@
-pub mod Json
-pub mod Lines
-pub mod Parameters
-pub mod PartTexts
+pub mod Strings
+pub mod Written
+pub mod Fields
+pub mod Part
+pub mod Mail
+pub mod Run

@@ -1,5 +1,7 @@
-pub mod Json
+pub mod Strings
 pub mod Written
-pub mod Members
-pub mod PartTexts
-pub mod Lines
+pub mod Fields
+pub mod Body
+pub mod Part
+pub mod Mail
+pub mod Run

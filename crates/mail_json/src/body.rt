@@ -4,7 +4,7 @@ ghost use Rattle.mail_codec.specs.Tables.{charsets_with};
 ghost use Rattle.mailparse.specs.Body.{BodyKind, decoded_text_in};
 ghost use Rattle.mailparse.specs.BodyViews.{Content, IsBody};
 ghost use Rattle.mailparse.specs.Outcome.{AnswersOrMemory, ReadsText};
-ghost use Rattle.mail_json.specs.Members.{encoding_text, decoded_size};
+ghost use Rattle.mail_json.specs.Body.{encoding_text, decoded_size};
 
 use mailparse::body::Body;
 use mailparse::{MailParseError, SingleByteTable};
@@ -39,6 +39,11 @@ pub fn raw_length(body: &Body<'_>) -> usize
 }
 
 /// How many bytes a body stands for.
+///
+/// # Errors
+///
+/// `MailParseError::Base64DecodeError` where a body in Base64 is not Base64, and
+/// `MailParseError::Memory` where it runs out of memory.
 #[tactic(auto, unfolding(mailparse::specs::Body::decoded))]
 pub fn decoded_length(alloc: Global, body: &Body<'_>) -> Result<usize, MailParseError>
     ensures { (kind : BodyKind) (given : Content) → IsBody kind given body.now →
@@ -54,6 +59,11 @@ pub fn decoded_length(alloc: Global, body: &Body<'_>) -> Result<usize, MailParse
 }
 
 /// The text that a body stands for, where texts may also be in the charsets of some tables.
+///
+/// # Errors
+///
+/// `MailParseError::Base64DecodeError` where a body in Base64 is not Base64, and
+/// `MailParseError::Memory` where it runs out of memory.
 #[tactic(auto, unfolding(mailparse::specs::Body::decoded_text_in, mailparse::specs::Body::decoded))]
 pub fn text_of(
     alloc: Global,

@@ -1,16 +1,14 @@
 //! What headers say, in the charsets of some tables too.
-ghost use Rattle.std.specs.Prelude.{◌≡◌, Some, option_map, string_bytes, IfErr, IfOk, Ok};
+ghost use Rattle.std.specs.Prelude.{◌≡◌, Some, option_map, string_bytes, IfOk, Ok};
 ghost use Rattle.mail_codec.specs.Tables.{charsets_with};
 ghost use Rattle.mailparse.specs.Mail.{root};
 ghost use Rattle.mailparse.specs.Map.{text_found};
 ghost use Rattle.mailparse.specs.Outcome.{AnswersOrMemory, GivesTexts, IsMemory, refusal_of};
 ghost use Rattle.mailparse.specs.Refusal.{Refusal};
 ghost use Rattle.mailparse.specs.Views.{content_type, disposition, kind, tree_of};
-ghost use Rattle.mail_json.specs.Members.{disposition_of, ids_of, is_kept_apart, kind_text};
-ghost use Rattle.mail_json.specs.Members.{name_in, refusal_text, value_of};
-ghost use Rattle.mail_json.specs.Written.{IsEnd};
+ghost use Rattle.mail_json.specs.Fields.{disposition_of, ids_of, is_kept_apart, kind_text, name_in};
+ghost use Rattle.mail_json.specs.Fields.{refusal_text, value_of};
 
-use crate::fault::Fault;
 use mail_data::files::filled_parameter;
 use mail_data::lenient::ids_in;
 use mailparse::{
@@ -20,6 +18,10 @@ use mailparse::{
 use std::alloc::{AllocError, Global};
 
 /// The value of the first header with this name.
+///
+/// # Errors
+///
+/// `MailParseError::Memory` where it runs out of memory.
 pub fn value_of(
     alloc: Global,
     mail: &ParsedMail<'_>,
@@ -36,6 +38,10 @@ pub fn value_of(
 }
 
 /// The message ids in the value of the first header with this name.
+///
+/// # Errors
+///
+/// `MailParseError::Memory` where it runs out of memory.
 pub fn ids_of(
     alloc: Global,
     mail: &ParsedMail<'_>,
@@ -52,6 +58,10 @@ pub fn ids_of(
 }
 
 /// The disposition of a part, or `None` where it has no such header.
+///
+/// # Errors
+///
+/// `MailParseError::Memory` where it runs out of memory.
 pub fn disposition_of(
     alloc: Global,
     part: &ParsedMail<'_>,
@@ -118,28 +128,30 @@ pub fn is_kept_apart(shown: &Option<ParsedContentDisposition>) -> bool
     }
 }
 
-/// Why something is refused, in the words in which the error shows itself; an error that says that
-/// memory ran out is passed on.
-#[tactic(auto, unfolding(crate::specs::Members::refusal_text))]
-pub fn refusal_text(alloc: Global, error: &MailParseError) -> Result<String, Fault>
+/// Why something is refused, in the words in which the error shows itself.
+///
+/// # Errors
+///
+/// Where it runs out of memory, and for `MailParseError::Memory`, which is no refusal.
+#[tactic(auto, unfolding(crate::specs::Fields::refusal_text))]
+pub fn refusal_text(alloc: Global, error: &MailParseError) -> Result<String, AllocError>
     ensures read { IfOk result (λ text. (refusal : Refusal) →
         refusal_of error.now ≡ Some refusal → string_bytes text ≡ refusal_text refusal) }
-    ensures not_memory { IfOk result (λ text. IsMemory error.now → ⊥) }
-    ensures only_memory { IfErr result IsEnd }
+    ensures passed_on { IfOk result (λ text. IsMemory error.now → ⊥) }
 {
     match error {
         MailParseError::Base64DecodeError(fault) => {
             let group = fault.group;
-            Ok(format!(in alloc; "Base64 decode error: group {group} is no Base64 group")?)
+            format!(in alloc; "Base64 decode error: group {group} is no Base64 group")
         }
         MailParseError::EncodingError(text) => {
             let text = text.as_str();
-            Ok(format!(in alloc; "Encoding error: {text}")?)
+            format!(in alloc; "Encoding error: {text}")
         }
-        MailParseError::Generic(text) => Ok(String::from_str(alloc, text)?),
+        MailParseError::Generic(text) => String::from_str(alloc, text),
         MailParseError::QuotedPrintableDecodeError(fault) => {
-            Ok(format!(in alloc; "QuotedPrintable decode error: {fault}")?)
+            format!(in alloc; "QuotedPrintable decode error: {fault}")
         }
-        MailParseError::Memory(_) => Err(Fault::Mail(MailParseError::Memory(AllocError))),
+        MailParseError::Memory(_) => Err(AllocError),
     }
 }

@@ -4,9 +4,9 @@ ghost use Rattle.mail_codec.specs.Tables.{charsets_with};
 ghost use Rattle.mailparse.specs.Mail.{root};
 ghost use Rattle.mailparse.specs.Views.{tree_of};
 ghost use Rattle.mail_data.specs.lenient.Date.{date_of};
-ghost use Rattle.mail_json.specs.Members.{date_fault_text, date_text, id_list_text, ids_text};
-ghost use Rattle.mail_json.specs.Members.{value_of, value_text, values_text};
-ghost use Rattle.mail_json.specs.PartTexts.{IsMailText};
+ghost use Rattle.mail_json.specs.Fields.{value_of};
+ghost use Rattle.mail_json.specs.Mail.{date_fault_text, date_text, id_list_text, ids_text};
+ghost use Rattle.mail_json.specs.Mail.{value_text, values_text, IsMailText};
 ghost use Rattle.mail_json.specs.Written.{Writes, WritesOne};
 
 use crate::fault::Fault;
@@ -20,6 +20,11 @@ use std::io::Write;
 
 /// Writes the object of a mail that begins at this offset of the input, where texts may also be in
 /// the charsets of some tables.
+///
+/// # Errors
+///
+/// `Fault::Output` where a write fails, and `Fault::Mail` with `MailParseError::Memory` where it runs
+/// out of memory.
 pub fn write_mail<W: Write>(
     alloc: Global,
     out: &mut W,

@@ -8,12 +8,12 @@ ghost use Rattle.mailparse.specs.Mail.{root};
 ghost use Rattle.mailparse.specs.Outcome.{IsMemory};
 ghost use Rattle.mailparse.specs.Views.{content_type, disposition, tree_of};
 ghost use Rattle.mail_data.specs.Files.{is_leaf, path_under, whole_path};
-ghost use Rattle.mail_json.specs.Members.{IsTypeText, body_text, decoded_size, disposition_of};
-ghost use Rattle.mail_json.specs.Members.{file_text, header_text, headers_text, is_file};
-ghost use Rattle.mail_json.specs.Members.{flag_text, parameter_text, place_text, size_text};
-ghost use Rattle.mail_json.specs.PartTexts.{AreAfterCommas, IsPartText, delimiter_length};
-ghost use Rattle.mail_json.specs.PartTexts.{line_after, line_end_length, part_start, places};
-ghost use Rattle.mail_json.specs.PartTexts.{preamble_end};
+ghost use Rattle.mail_json.specs.Body.{decoded_size};
+ghost use Rattle.mail_json.specs.Fields.{disposition_of};
+ghost use Rattle.mail_json.specs.Part.{IsTypeText, body_text, file_text, header_text, headers_text};
+ghost use Rattle.mail_json.specs.Part.{is_file, flag_text, parameter_text, place_text, size_text};
+ghost use Rattle.mail_json.specs.Part.{AreAfterCommas, IsPartText, delimiter_length, line_after};
+ghost use Rattle.mail_json.specs.Part.{line_end_length, part_start, places, preamble_end};
 ghost use Rattle.mail_json.specs.Written.{Writes, WritesOne};
 
 use crate::body::{decoded_length, encoding_name, raw_length, text_of};
@@ -46,6 +46,11 @@ fn is_leaf(part: &ParsedMail<'_>) -> bool
 
 /// Writes the object of a part that has this path and begins at this offset of the input, and then
 /// those of its own parts, each after a comma.
+///
+/// # Errors
+///
+/// `Fault::Output` where a write fails, and `Fault::Mail` with `MailParseError::Memory` where it runs
+/// out of memory.
 pub fn write_parts<W: Write>(
     alloc: Global,
     out: &mut W,
@@ -108,7 +113,7 @@ fn preamble_end(alloc: Global, part: &ParsedMail<'_>) -> Result<usize, MailParse
 
 /// Where the part begins that follows a part or the preamble that ends here: a line end comes
 /// first, unless what ends here is empty, and then the line of the delimiter.
-#[tactic(auto, unfolding(crate::specs::PartTexts::part_start))]
+#[tactic(auto, unfolding(crate::specs::Part::part_start))]
 fn part_start(raw: &[u8], end: usize, delimiter: usize) -> usize
     ensures { result ≡ part_start raw.now end delimiter }
 {

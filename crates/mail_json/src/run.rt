@@ -4,8 +4,8 @@ ghost use Rattle.std.specs.Char.{is_ascii_whitespace};
 ghost use Rattle.std.specs.List.{list_all};
 ghost use Rattle.mail_codec.specs.Tables.{charsets_with};
 ghost use Rattle.mail_data.specs.MailboxViews.{entries_left};
-ghost use Rattle.mail_json.specs.Lines.{AreInputLines, AreLines, AreMailboxLines, IsFront, IsLine};
-ghost use Rattle.mail_json.specs.Lines.{WritesLines, error_line};
+ghost use Rattle.mail_json.specs.Run.{AreInputLines, AreLines, AreMailboxLines, IsFront, IsLine};
+ghost use Rattle.mail_json.specs.Run.{WritesLines, error_line};
 ghost use Rattle.mail_json.specs.Written.{Writes};
 
 use crate::fault::Fault;
@@ -95,6 +95,11 @@ fn run_input<W: Write>(
 /// Writes the mails of an input, whose texts may also be in the charsets of some tables. Returns
 /// whether it wrote no error: no mail was refused, and nothing but whitespace stands before the
 /// first mail of a mailbox.
+///
+/// # Errors
+///
+/// `Fault::Output` where a write fails, and `Fault::Mail` with `MailParseError::Memory` where it runs
+/// out of memory.
 pub fn write_input<W: Write>(
     alloc: Global,
     input: &[u8],
@@ -125,9 +130,9 @@ fn write_mailbox<W: Write>(
 {
     let mails = read_mailbox(input);
     let front = mails.front();
-    let is_blank = write_front(alloc, front, out)?;
+    let is_all_whitespace = write_front(alloc, front, out)?;
     let are_read = write_mails(alloc, mails, front.len(), out, tables)?;
-    Ok(is_blank & are_read)
+    Ok(is_all_whitespace & are_read)
 }
 
 /// Writes an error for what stands before the first mail of a mailbox, unless it is whitespace.
@@ -135,7 +140,7 @@ fn write_mailbox<W: Write>(
 fn write_front<W: Write>(alloc: Global, front: &[u8], out: &mut W) -> Result<bool, Fault>
     ensures { WritesLines (W.contents out.old) (W.contents out.new) result (IsFront front.now) }
 {
-    if is_blank(front) {
+    if is_all_whitespace(front) {
         return Ok(true);
     }
     write_error(alloc, out, "The mailbox does not begin with a line `From `")?;
@@ -143,7 +148,7 @@ fn write_front<W: Write>(alloc: Global, front: &[u8], out: &mut W) -> Result<boo
 }
 
 /// Whether all bytes are whitespace.
-fn is_blank(bytes: &[u8]) -> bool
+fn is_all_whitespace(bytes: &[u8]) -> bool
     ensures { result ≡ list_all is_ascii_whitespace bytes.now }
 {
     bytes.iter().all(|byte| byte.is_ascii_whitespace())

@@ -1,7 +1,7 @@
 //! JSON text of strings and of members of an object (RFC 8259, sections 4, 5 and 7).
 ghost use Rattle.std.specs.Prelude.{◌≡◌, ◌++◌, false, map, option_map, string_bytes, IfOk, OnOk};
-ghost use Rattle.mail_json.specs.Json.{character_text, comma, is_hidden, json_text, json_texts};
-ghost use Rattle.mail_json.specs.Json.{shown, text_or_null};
+ghost use Rattle.mail_json.specs.Strings.{character_text, comma, is_hidden, json_text, json_texts};
+ghost use Rattle.mail_json.specs.Strings.{shown, text_or_null};
 ghost use Rattle.mail_json.specs.Written.{Writes};
 ghost use Rattle.mailparse.specs.Map.{text_found};
 
@@ -11,6 +11,11 @@ use std::alloc::{AllocError, Global};
 use std::io::Write;
 
 /// Writes a string.
+///
+/// # Errors
+///
+/// `Fault::Output` where a write fails, and `Fault::Mail` with `MailParseError::Memory` where it runs
+/// out of memory.
 pub fn write_text<W: Write>(alloc: Global, out: &mut W, text: &str) -> Result<(), Fault>
     ensures { Writes (W.contents out.old) (W.contents out.new) result (json_text text.now) }
 {
@@ -18,7 +23,12 @@ pub fn write_text<W: Write>(alloc: Global, out: &mut W, text: &str) -> Result<()
 }
 
 /// Writes a string, which is not copied first.
-#[tactic(auto, unfolding(crate::specs::Json::json_text))]
+///
+/// # Errors
+///
+/// `Fault::Output` where a write fails, and `Fault::Mail` with `MailParseError::Memory` where it runs
+/// out of memory.
+#[tactic(auto, unfolding(crate::specs::Strings::json_text))]
 pub fn write_owned<W: Write>(alloc: Global, out: &mut W, text: String) -> Result<(), Fault>
     ensures { Writes (W.contents out.old) (W.contents out.new) result
         (json_text (string_bytes text)) }
@@ -32,6 +42,11 @@ pub fn write_owned<W: Write>(alloc: Global, out: &mut W, text: String) -> Result
 }
 
 /// Writes a string, or `null` where there is none.
+///
+/// # Errors
+///
+/// `Fault::Output` where a write fails, and `Fault::Mail` with `MailParseError::Memory` where it runs
+/// out of memory.
 pub fn write_optional<W: Write>(
     alloc: Global,
     out: &mut W,
@@ -47,6 +62,11 @@ pub fn write_optional<W: Write>(
 }
 
 /// Writes a name as a string, or `null` where there is none.
+///
+/// # Errors
+///
+/// `Fault::Output` where a write fails, and `Fault::Mail` with `MailParseError::Memory` where it runs
+/// out of memory.
 pub fn write_name<W: Write>(alloc: Global, out: &mut W, name: Option<&str>) -> Result<(), Fault>
     ensures { Writes (W.contents out.old) (W.contents out.new) result
         (text_or_null (option_map (λ text. text.now) name.entry)) }
@@ -58,6 +78,11 @@ pub fn write_name<W: Write>(alloc: Global, out: &mut W, name: Option<&str>) -> R
 }
 
 /// Writes a list of strings.
+///
+/// # Errors
+///
+/// `Fault::Output` where a write fails, and `Fault::Mail` with `MailParseError::Memory` where it runs
+/// out of memory.
 pub fn write_texts<W: Write>(alloc: Global, out: &mut W, texts: &[String]) -> Result<(), Fault>
     ensures { Writes (W.contents out.old) (W.contents out.new) result
         (json_texts (map (λ t. string_bytes t) texts.now)) }
@@ -73,6 +98,10 @@ pub fn write_texts<W: Write>(alloc: Global, out: &mut W, texts: &[String]) -> Re
 }
 
 /// Writes the comma before an item or a member that is not the first.
+///
+/// # Errors
+///
+/// `Fault::Output` where a write fails.
 pub fn write_comma<W: Write>(out: &mut W, is_first: bool) -> Result<(), Fault>
     ensures { Writes (W.contents out.old) (W.contents out.new) result (comma is_first) }
 {
@@ -83,6 +112,10 @@ pub fn write_comma<W: Write>(out: &mut W, is_first: bool) -> Result<(), Fault>
 }
 
 /// Writes text as it stands.
+///
+/// # Errors
+///
+/// `Fault::Output` where a write fails.
 pub fn write_word<W: Write>(out: &mut W, word: &str) -> Result<(), Fault>
     ensures { Writes (W.contents out.old) (W.contents out.new) result word.now }
 {
@@ -104,7 +137,7 @@ fn has_hidden(text: &str) -> bool
 
 /// Whether a character, which JSON lets stand, moves a terminal or ends a line for some readers:
 /// DEL, the controls from U+0080 to U+009F, and the separators U+2028 and U+2029.
-#[tactic(auto, unfolding(crate::specs::Json::is_hidden))]
+#[tactic(auto, unfolding(crate::specs::Strings::is_hidden))]
 fn is_hidden(c: char) -> bool
     ensures { result ≡ is_hidden c }
 {

@@ -1,8 +1,10 @@
 use Rattle.std.proofs.Common.{◌++◌, Some, sym, ap, ◌∙◌}
 use Rattle.std.specs.Prelude.{codes}
 use Rattle.mailparse.specs.Map.{text_found}
-use Rattle.mail_json.specs.Json.{json_text}
-use Rattle.mail_json.proofs.lemmas.Json.{date_refused, ok_same, writes_as, writes_then}
+use Rattle.mail_json.specs.Strings.{json_text}
+use Rattle.mail_json.proofs.lemmas.Mail.{date_refused}
+use Rattle.mail_json.proofs.lemmas.Fields.{ok_same}
+use Rattle.mail_json.proofs.lemmas.Written.{writes_as, writes_then}
 use Rattle.mail_json.proofs.mail.write_date.Goals as goal
 
 pub returns : goal.returns

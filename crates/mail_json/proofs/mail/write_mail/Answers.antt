@@ -3,9 +3,9 @@ use Rattle.std.proofs.KnownBytes.{Appends-trans}
 use Rattle.mail_codec.specs.Tables.{charsets_with}
 use Rattle.mailparse.specs.Mail.{root}
 use Rattle.mailparse.specs.Views.{tree_of}
-use Rattle.mail_json.specs.Members.{mail_text}
-use Rattle.mail_json.specs.PartTexts.{AreJoined, IsMailText, IsPartText, places}
-use Rattle.mail_json.proofs.lemmas.Json.{writes_one, writes_then}
+use Rattle.mail_json.specs.Mail.{mail_text, IsMailText}
+use Rattle.mail_json.specs.Part.{AreJoined, IsPartText, places}
+use Rattle.mail_json.proofs.lemmas.Written.{writes_one, writes_then}
 use Rattle.mail_json.proofs.mail.write_mail.Goals as goal
 
 pub returns : goal.returns

@@ -1,5 +1,5 @@
 use Rattle.std.proofs.KnownBytes.{Appends-trans}
-use Rattle.mail_json.proofs.lemmas.Json.{writes_then}
+use Rattle.mail_json.proofs.lemmas.Written.{writes_then}
 use Rattle.mail_json.proofs.mail.write_values.Goals as goal
 
 pub returns : goal.returns

@@ -6,9 +6,8 @@ use Rattle.mailparse.specs.Mail.{forest, root}
 use Rattle.mailparse.specs.Views.{tree_of}
 use Rattle.mailparse.specs.declared.mail.ParsedMail.{ParsedMail}
 use Rattle.mail_data.specs.Files.{path_under}
-use Rattle.mail_json.specs.Members.{further}
-use Rattle.mail_json.specs.PartTexts.{Place, IsPartText, delimiter_length, part_start, places, places_in, preamble_end}
-use Rattle.mail_json.proofs.lemmas.PartTexts.{bytes-out, ctype-out, completes_start, completes_end, parts_end, parts_step, places-out}
+use Rattle.mail_json.specs.Part.{further, Place, IsPartText, delimiter_length, part_start, places, places_in, preamble_end}
+use Rattle.mail_json.proofs.lemmas.Part.{bytes-out, ctype-out, completes_start, completes_end, parts_end, parts_step, places-out}
 use Rattle.mail_json.proofs.part.«+write_parts».Goals as goal
 
 pub loop-subpart-init : goal.loop-subpart-init

@@ -4,8 +4,8 @@ use Rattle.std.specs.Io.KnownBytes.{Appends}
 use Rattle.mail_codec.specs.Tables.{charsets_with}
 use Rattle.mailparse.specs.Mail.{forest, root}
 use Rattle.mailparse.specs.Views.{tree_of}
-use Rattle.mail_json.specs.PartTexts.{IsPartText, places, places_in}
-use Rattle.mail_json.proofs.lemmas.PartTexts.{Completes}
+use Rattle.mail_json.specs.Part.{IsPartText, places, places_in}
+use Rattle.mail_json.proofs.lemmas.Part.{Completes}
 use Rattle.mail_json.proofs.part.«+write_parts».Given as goal
 
 abbrev pub invariant-loop-subpart : goal.invariant-loop-subpart

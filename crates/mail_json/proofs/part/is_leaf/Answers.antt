@@ -1,6 +1,6 @@
 use Rattle.std.proofs.Common.{eqb, List, length, sym, ap, ◌∙◌}
 use Rattle.mailparse.specs.declared.mail.ParsedMail.{ParsedMail}
-use Rattle.mail_json.proofs.lemmas.PartTexts.{is_leaf-out}
+use Rattle.mail_json.proofs.lemmas.Part.{is_leaf-out}
 use Rattle.mail_json.proofs.part.is_leaf.Goals as goal
 
 pub returns : goal.returns

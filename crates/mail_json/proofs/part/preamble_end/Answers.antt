@@ -2,7 +2,7 @@ use Rattle.std.proofs.Common.{length, ap, ◌∙◌}
 use Rattle.mailparse.specs.BodyViews.{content_of}
 use Rattle.mailparse.specs.Mail.{HeaderBlock, body_kind, root}
 use Rattle.mailparse.specs.Views.{tree_of}
-use Rattle.mail_json.specs.Members.{further}
+use Rattle.mail_json.specs.Part.{further}
 use Rattle.mail_json.proofs.part.preamble_end.Goals as goal
 
 pub returns-clause-read : goal.returns-clause-read

@@ -7,10 +7,12 @@ use Rattle.mailparse.specs.Disposition.{Disposition}
 use Rattle.mailparse.specs.Mail.{root}
 use Rattle.mailparse.specs.Views.{disposition, tree_of}
 use Rattle.mail_data.specs.Files.{is_leaf}
-use Rattle.mail_json.specs.Json.{text_or_null}
-use Rattle.mail_json.specs.Members.{disposition_of, file_text, flag_text, name_in}
-use Rattle.mail_json.proofs.lemmas.Json.{appends_as, ok_same}
-use Rattle.mail_json.proofs.lemmas.PartTexts.{ctype-out}
+use Rattle.mail_json.specs.Strings.{text_or_null}
+use Rattle.mail_json.specs.Fields.{disposition_of, name_in}
+use Rattle.mail_json.specs.Part.{file_text, flag_text}
+use Rattle.mail_json.proofs.lemmas.Written.{appends_as}
+use Rattle.mail_json.proofs.lemmas.Fields.{ok_same}
+use Rattle.mail_json.proofs.lemmas.Part.{ctype-out}
 use Rattle.mail_json.proofs.part.write_file.Goals as goal
 
 pub returns-clause-written : goal.returns-clause-written

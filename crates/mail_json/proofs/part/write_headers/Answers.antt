@@ -2,8 +2,9 @@ use Rattle.std.proofs.Common.{◌+◌, drop, arith}
 use Rattle.std.proofs.KnownBytes.{Appends-trans}
 use Rattle.std.proofs.lemmas.List.{drop_all}
 use Rattle.mail_codec.specs.Tables.{charsets_with}
-use Rattle.mail_json.specs.Members.{header_text}
-use Rattle.mail_json.proofs.lemmas.Json.{drop_next, wrote_all, wrote_more, writes_then}
+use Rattle.mail_json.specs.Part.{header_text}
+use Rattle.mail_json.proofs.lemmas.Strings.{drop_next, wrote_all, wrote_more}
+use Rattle.mail_json.proofs.lemmas.Written.{writes_then}
 use Rattle.mail_json.proofs.part.write_headers.Goals as goal
 
 pub loop-header-preserved : goal.loop-header-preserved

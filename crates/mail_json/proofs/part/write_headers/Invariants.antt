@@ -1,8 +1,8 @@
 -- What was written after the bracket is completed by the headers that are left.
 use Rattle.std.proofs.Common.{drop}
 use Rattle.mail_codec.specs.Tables.{charsets_with}
-use Rattle.mail_json.specs.Members.{header_text}
-use Rattle.mail_json.proofs.lemmas.Json.{Wrote}
+use Rattle.mail_json.specs.Part.{header_text}
+use Rattle.mail_json.proofs.lemmas.Strings.{Wrote}
 use Rattle.mail_json.proofs.part.write_headers.Given as goal
 
 abbrev pub invariant-loop-header : goal.invariant-loop-header

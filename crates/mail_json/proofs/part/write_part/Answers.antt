@@ -10,10 +10,10 @@ use Rattle.mailparse.specs.Mail.{root}
 use Rattle.mailparse.specs.Views.{tree_of}
 use Rattle.mail_data.specs.Files.{is_leaf}
 use Rattle.mail_data.specs.lenient.Encoding.{loose_body_kind}
-use Rattle.mail_json.specs.Members.{IsTypeText, body_text, encoding_text, further, headers_text, place_text}
-use Rattle.mail_json.specs.PartTexts.{Place, IsPartText, part_text}
-use Rattle.mail_json.proofs.lemmas.Json.{appends_as, writes_one, writes_then}
-use Rattle.mail_json.proofs.lemmas.PartTexts.{bytes-out, ctype-out, headers-out}
+use Rattle.mail_json.specs.Part.{IsTypeText, body_text, further, headers_text, place_text, Place, IsPartText, part_text}
+use Rattle.mail_json.specs.Body.{encoding_text}
+use Rattle.mail_json.proofs.lemmas.Written.{appends_as, writes_one, writes_then}
+use Rattle.mail_json.proofs.lemmas.Part.{bytes-out, ctype-out, headers-out}
 use Rattle.mail_json.proofs.part.write_part.Goals as goal
 
 pub returns : goal.returns

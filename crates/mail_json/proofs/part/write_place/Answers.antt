@@ -1,5 +1,5 @@
 use Rattle.std.specs.Prelude.{codes, decimal}
-use Rattle.mail_json.proofs.lemmas.Json.{appends_as, grouped}
+use Rattle.mail_json.proofs.lemmas.Written.{appends_as, grouped}
 use Rattle.mail_json.proofs.part.write_place.Goals as goal
 
 pub returns : goal.returns

@@ -2,10 +2,11 @@ use Rattle.std.proofs.Common.{◌∷◌, map, refl, sym, ap, ◌∙◌}
 use Rattle.std.proofs.KnownBytes.{Appends-trans}
 use Rattle.std.specs.String.{string_bytes}
 use Rattle.mailparse.specs.Views.{content_type}
-use Rattle.mail_json.specs.Json.{json_text}
-use Rattle.mail_json.specs.Members.{IsTypeText, parameter_text, type_text}
-use Rattle.mail_json.proofs.lemmas.Json.{appends_as, wrote_all, wrote_more, writes_one, writes_then}
-use Rattle.mail_json.proofs.lemmas.Parameters.{lists-entries, pair_of}
+use Rattle.mail_json.specs.Strings.{json_text}
+use Rattle.mail_json.specs.Part.{IsTypeText, parameter_text, type_text}
+use Rattle.mail_json.proofs.lemmas.Written.{appends_as, writes_one, writes_then}
+use Rattle.mail_json.proofs.lemmas.Strings.{wrote_all, wrote_more}
+use Rattle.mail_json.proofs.lemmas.Part.{lists-entries, pair_of}
 use Rattle.mail_json.proofs.part.write_type.Goals as goal
 
 pub loop-name-preserved : goal.loop-name-preserved

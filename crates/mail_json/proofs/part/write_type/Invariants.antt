@@ -1,8 +1,8 @@
 -- What was written after the brace is completed by the parameters that are left.
 use Rattle.std.proofs.Common.{map}
-use Rattle.mail_json.specs.Members.{parameter_text}
-use Rattle.mail_json.proofs.lemmas.Json.{Wrote}
-use Rattle.mail_json.proofs.lemmas.Parameters.{pair_of}
+use Rattle.mail_json.specs.Part.{parameter_text}
+use Rattle.mail_json.proofs.lemmas.Strings.{Wrote}
+use Rattle.mail_json.proofs.lemmas.Part.{pair_of}
 use Rattle.mail_json.proofs.part.write_type.Given as goal
 
 abbrev pub invariant-loop-name : goal.invariant-loop-name

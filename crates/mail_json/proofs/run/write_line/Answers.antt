@@ -4,8 +4,8 @@ use Rattle.std.specs.Prelude.{codes}
 use Rattle.mail_codec.specs.Tables.{charsets_with}
 use Rattle.mailparse.specs.Mail.{Tree, read_mail_in}
 use Rattle.mailparse.specs.Refusal.{Reads}
-use Rattle.mail_json.specs.Lines.{IsLineOf, error_line}
-use Rattle.mail_json.proofs.lemmas.Json.{refused_or_memory}
+use Rattle.mail_json.specs.Run.{IsLineOf, error_line}
+use Rattle.mail_json.proofs.lemmas.Fields.{refused_or_memory}
 use Rattle.mail_json.proofs.run.write_line.Goals as goal
 
 pub returns-in_ok-write_word-in-Ok : goal.returns-in_ok-write_word-in-Ok
@@ -21,7 +21,7 @@ returns-in_ok-write_word-in-Ok g c =
 pub returns-in_ok-write_error-in-Err : goal.returns-in_ok-write_error-in-Err
 returns-in_ok-write_error-in-Err g c =
     let known = charsets_with c.args.tables.now in
-    let refusal = refused_or_memory c.in-Err.error (read_mail_in known 100 c.args.raw.now) c.in_ok-text-in-Err.ensures.not_memory c.in-Err.ensures.read in
+    let refusal = refused_or_memory c.in-Err.error (read_mail_in known 100 c.args.raw.now) c.in_ok-text-in-Err.ensures.passed_on c.in-Err.ensures.read in
     let why = c.as_str.ensures.value ∙ c.in_ok-text-in-Err.ensures.read refusal.0 refusal.1 in
     let line = error_line c.as_str.result.now in
     (line, subst (λ (r : Reads Tree). IsLineOf known c.args.start r false line) (sym refusal.2) (refl, ap error_line why), c.in_ok-write_error-in-Err.ensures)

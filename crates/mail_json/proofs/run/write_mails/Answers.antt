@@ -2,8 +2,8 @@ use Rattle.std.proofs.Common.{◌++◌, List, ℕ, length, ap, ◌∙◌}
 use Rattle.std.proofs.KnownBytes.{Appends-trans}
 use Rattle.mail_codec.specs.Tables.{charsets_with}
 use Rattle.mail_data.specs.MailboxViews.{entries_left}
-use Rattle.mail_json.specs.Members.{further}
-use Rattle.mail_json.proofs.lemmas.Lines.{lines_end, lines_more}
+use Rattle.mail_json.specs.Part.{further}
+use Rattle.mail_json.proofs.lemmas.Run.{lines_end, lines_more}
 use Rattle.mail_json.proofs.run.write_mails.Goals as goal
 
 pub loop-entry-preserved : goal.loop-entry-preserved

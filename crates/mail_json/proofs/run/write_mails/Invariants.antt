@@ -3,7 +3,7 @@ use Rattle.std.proofs.Common.{ℕ, List}
 use Rattle.std.specs.Io.KnownBytes.{Appends}
 use Rattle.mail_codec.specs.Tables.{charsets_with}
 use Rattle.mail_data.specs.MailboxViews.{entries_left}
-use Rattle.mail_json.proofs.lemmas.Lines.{Continues}
+use Rattle.mail_json.proofs.lemmas.Run.{Continues}
 use Rattle.mail_json.proofs.run.write_mails.Given as goal
 
 abbrev pub invariant-loop-entry : goal.invariant-loop-entry

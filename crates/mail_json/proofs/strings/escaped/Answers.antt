@@ -3,8 +3,8 @@ use Rattle.std.proofs.lemmas.List.{nil_from_length}
 use Rattle.std.proofs.lemmas.Str.{IsUtf8-past_char}
 use Rattle.std.specs.Str.{IsUtf8}
 use Rattle.std.specs.String.{string_bytes}
-use Rattle.mail_json.proofs.lemmas.Json.{escaped_past, escaped_end}
-use Rattle.mail_json.specs.Json.{shown}
+use Rattle.mail_json.proofs.lemmas.Strings.{escaped_past, escaped_end}
+use Rattle.mail_json.specs.Strings.{shown}
 use Rattle.mail_json.proofs.strings.escaped.Goals as goal
 
 pub loop-c-init : goal.loop-c-init

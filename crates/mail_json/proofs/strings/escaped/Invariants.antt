@@ -2,7 +2,7 @@
 use Rattle.std.proofs.Common.{◌≡◌, ◌++◌}
 use Rattle.std.specs.Str.{IsUtf8}
 use Rattle.std.specs.String.{string_bytes}
-use Rattle.mail_json.specs.Json.{shown}
+use Rattle.mail_json.specs.Strings.{shown}
 use Rattle.mail_json.proofs.strings.escaped.Given as goal
 
 abbrev pub invariant-loop-c : goal.invariant-loop-c

@@ -2,8 +2,8 @@ use Rattle.std.proofs.Common.{sym, ap, subst, ◌∙◌}
 use Rattle.std.proofs.lemmas.List.{nil_from_length}
 use Rattle.std.proofs.lemmas.Str.{IsUtf8-past_char}
 use Rattle.std.specs.Str.{IsUtf8}
-use Rattle.mail_json.proofs.lemmas.Json.{same_past, shown_nil}
-use Rattle.mail_json.specs.Json.{shown}
+use Rattle.mail_json.proofs.lemmas.Strings.{same_past, shown_nil}
+use Rattle.mail_json.specs.Strings.{shown}
 use Rattle.mail_json.proofs.strings.has_hidden.Goals as goal
 
 pub loop-c-init : goal.loop-c-init

@@ -1,7 +1,7 @@
 -- If the rest shows as it stands, so does all.
 use Rattle.std.proofs.Common.{◌≡◌}
 use Rattle.std.specs.Str.{IsUtf8}
-use Rattle.mail_json.specs.Json.{shown}
+use Rattle.mail_json.specs.Strings.{shown}
 use Rattle.mail_json.proofs.strings.has_hidden.Given as goal
 
 abbrev pub invariant-loop-c : goal.invariant-loop-c

@@ -1,8 +1,8 @@
 use Rattle.std.proofs.Common.{◌≡◌, ◌++◌, ℕ, List, [], ◌∷◌, Option, Some, OnOk, sym, ap, subst, ◌∙◌}
 use Rattle.std.specs.Fmt.{AppendsText, ◌++?◌, styled_digits_output}
 use Rattle.std.specs.String.{string_bytes}
-use Rattle.mail_json.proofs.lemmas.Json.{character_plain, character_hidden, hexadecimal_output}
-use Rattle.mail_json.specs.Json.{hexadecimal}
+use Rattle.mail_json.proofs.lemmas.Strings.{character_plain, character_hidden, hexadecimal_output}
+use Rattle.mail_json.specs.Strings.{hexadecimal}
 use Rattle.mail_json.proofs.strings.push_escaped.Goals as goal
 
 pub returns-then-is_hidden : goal.returns-then-is_hidden

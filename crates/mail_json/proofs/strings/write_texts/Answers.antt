@@ -1,7 +1,7 @@
 use Rattle.std.proofs.Common.{◌+◌, ◌∷◌, map, drop, sym, ap, ◌∙◌, arith}
 use Rattle.std.specs.String.{string_bytes}
-use Rattle.mail_json.specs.Json.{json_text}
-use Rattle.mail_json.proofs.lemmas.Json.{drop_next, wrote_more}
+use Rattle.mail_json.specs.Strings.{json_text}
+use Rattle.mail_json.proofs.lemmas.Strings.{drop_next, wrote_more}
 use Rattle.mail_json.proofs.strings.write_texts.Goals as goal
 
 pub loop-text-preserved : goal.loop-text-preserved

@@ -1,8 +1,8 @@
 -- What was written after the bracket is completed by the texts that are left.
 use Rattle.std.proofs.Common.{map, drop}
 use Rattle.std.specs.String.{string_bytes}
-use Rattle.mail_json.specs.Json.{json_text}
-use Rattle.mail_json.proofs.lemmas.Json.{Wrote}
+use Rattle.mail_json.specs.Strings.{json_text}
+use Rattle.mail_json.proofs.lemmas.Strings.{Wrote}
 use Rattle.mail_json.proofs.strings.write_texts.Given as goal
 
 abbrev pub invariant-loop-text : goal.invariant-loop-text

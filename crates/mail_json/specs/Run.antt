@@ -6,12 +6,13 @@ use Rattle.std.specs.List.{list_all}
 use Rattle.mail_codec.specs.Charset.{Charsets}
 use Rattle.mailparse.specs.Mail.{Tree, read_mail_in}
 use Rattle.mailparse.specs.Refusal.{Reads}
-use Rattle.mail_data.specs.Mailbox.{Entry, entries, front_length}
-use Rattle.mail_json.specs.Json.{json_text}
-use Rattle.mail_json.specs.Members.{further, refusal_text}
-use Rattle.mail_json.specs.PartTexts.{IsMailText}
-use Rattle.mail_json.specs.Written.{IsEnd}
 use Rattle.mail_program.specs.declared.fault.Fault.{Fault}
+use Rattle.mail_data.specs.Mailbox.{Entry, entries, front_length}
+use Rattle.mail_json.specs.Fields.{refusal_text}
+use Rattle.mail_json.specs.Mail.{IsMailText}
+use Rattle.mail_json.specs.Part.{further}
+use Rattle.mail_json.specs.Strings.{json_text}
+use Rattle.mail_json.specs.Written.{IsEnd}
 
 -- the line of an error
 abbrev pub error_line : List ℕ → List ℕ
@@ -23,9 +24,9 @@ Lines = Bool → List ℕ → Type 0
 
 -- what stands before the first mail of a mailbox: an error, unless it is whitespace
 abbrev pub IsFront : List ℕ → Lines
-IsFront front is_blank text =
-    (is_blank ≡ list_all is_ascii_whitespace front)
-    × (text ≡ (if is_blank then [] else error_line (codes "The mailbox does not begin with a line `From `")))
+IsFront front is_all_whitespace text =
+    (is_all_whitespace ≡ list_all is_ascii_whitespace front)
+    × (text ≡ (if is_all_whitespace then [] else error_line (codes "The mailbox does not begin with a line `From `")))
 
 -- Under the charsets that are known.
 module _ (known : Charsets) where
@@ -51,8 +52,8 @@ module _ (known : Charsets) where
   abbrev pub AreMailboxLines : List ℕ → Lines
   AreMailboxLines bytes is_whole text =
       let front = take (front_length bytes) bytes in
-      (is_blank : Bool) × (are_read : Bool) × (error : List ℕ) × (lines : List ℕ) × IsFront front is_blank error
-      × AreLines (length front) (entries bytes) are_read lines × (is_whole ≡ (is_blank && are_read)) × (text ≡ error ++ lines)
+      (is_all_whitespace : Bool) × (are_read : Bool) × (error : List ℕ) × (lines : List ℕ) × IsFront front is_all_whitespace error
+      × AreLines (length front) (entries bytes) are_read lines × (is_whole ≡ (is_all_whitespace && are_read)) × (text ≡ error ++ lines)
 
   -- what is written of an input that is a mailbox or one mail
   abbrev pub AreInputLines : Bool → List ℕ → Lines

@@ -1,30 +1,16 @@
--- Lemmas on JSON text.
-use Rattle.std.proofs.Common.{◌≡◌, ℕ, suc, ◌+◌, ◌<◌, Bool, true, false, List, [], ◌∷◌, ◌++◌, length, drop, get_or, Option, Some, None, Result, Ok, Err, refl, sym, ap, subst, ◌∙◌, append_assoc, add-one, drop-cons}
+-- Lemmas on JSON text, and on items with commas.
+use Rattle.std.proofs.Common.{◌≡◌, ℕ, suc, ◌+◌, ◌<◌, Bool, true, false, List, [], ◌∷◌, ◌++◌, length, drop, get_or, Option, sym, ap, subst, ◌∙◌, append_assoc, add-one, drop-cons}
 use Rattle.std.proofs.KnownBytes.{Appends-nil, Appends-trans}
 use Rattle.std.proofs.lemmas.Bool.{cond-true, cond-false}
 use Rattle.std.proofs.lemmas.List.{append-nil}
 use Rattle.std.proofs.lemmas.Str.{chars-nil, chars_past_char}
+use Rattle.std.specs.Prelude.{◌^◌, ◌-◌, option_map, codes}
 use Rattle.std.specs.Char.{encode_utf8}
+use Rattle.std.specs.Fmt.{padded_integral, format_spec}
 use Rattle.std.specs.Io.KnownBytes.{Appends}
 use Rattle.std.specs.List.{flat_map}
-use Rattle.std.specs.Fmt.{padded_integral, format_spec}
-use Rattle.std.specs.Prelude.{ℤ, codes, option_map, ◌^◌, ◌-◌}
 use Rattle.std.specs.Str.{chars, IsUtf8}
-use Rattle.std.specs.Cow.{cow_str_bytes}
-use Rattle.mailparse.specs.Refusal.{Reads, Refusal, generic, encoding, base64_fault}
-use Rattle.mailparse.specs.Outcome.{IsMemory, IsRefusal, IsRefusalOrMemory, Refuses, refusal_of}
-use Rattle.mailparse.specs.declared.error.MailParseError.{MailParseError}
-use Rattle.mailparse.specs.declared.error.MailParseError.TheVariants.{QuotedPrintableDecodeError, Base64DecodeError, EncodingError, Generic, Memory}
-use Rattle.mail_json.specs.Written.{Writes, WritesOne}
-use Rattle.mail_program.specs.declared.fault.Fault.{Fault}
-use Rattle.mail_data.specs.lenient.Date.{Dated, date_of}
-use Rattle.mail_data.specs.declared.lenient.date.error.DateError.{DateError}
-use Rattle.mail_json.specs.Members.{date_fault_text, date_text}
-use Rattle.mail_json.specs.Json.{is_hidden, hexadecimal, character_text, json_text, shown, comma, after_commas, joined}
-
--- two writes, one after the other
-pub appends_then : (a b c : Option (List ℕ)) (bs cs : List ℕ) → Appends a b bs → Appends b c cs → Appends a c (bs ++ cs)
-appends_then a b c bs cs p q = Appends-trans a b c bs cs p q
+use Rattle.mail_json.specs.Strings.{is_hidden, hexadecimal, character_text, shown, comma, after_commas, joined}
 
 -- a character that is shown as it is, and one that is not
 pub character_plain : (c : ℕ) → is_hidden c ≡ false → character_text c ≡ encode_utf8 c
@@ -62,60 +48,6 @@ escaped_past all written rest next new c utf8 e push here =
 
 pub escaped_end : (all written rest : List ℕ) → rest ≡ [] → written ++ shown rest ≡ all → written ≡ all
 escaped_end all written rest none here = sym (append-nil written) ∙ ap (λ t. written ++ t) (sym (shown_nil rest none)) ∙ here
-
--- ---- one write after another
-
-pub writes_then : {T : Type 0} (old mid new : Option (List ℕ)) (r : Result T Fault) (a b : List ℕ) → Appends old mid a → Writes mid new r b
-    → Writes old new r (a ++ b)
-writes_then old mid new (Ok done) a b p q = Appends-trans old mid new a b p q
-writes_then old mid new (Err fault) a b p q = q
-
--- a text that is one of these was written
-pub writes_one : {T : Type 0} (Is : List ℕ → Type 0) (old new : Option (List ℕ)) (r : Result T Fault) (text : List ℕ) → Is text → Writes old new r text
-    → WritesOne old new r Is
-writes_one Is old new (Ok done) text h p = (text, h, p)
-writes_one Is old new (Err fault) text h p = p
-
--- the same text by another name
-pub writes_as : {T : Type 0} (old new : Option (List ℕ)) (r : Result T Fault) (a b : List ℕ) → a ≡ b → Writes old new r a → Writes old new r b
-writes_as old new r a b e p = subst (λ t. Writes old new r t) e p
-
-pub appends_as : (old new : Option (List ℕ)) (a b : List ℕ) → a ≡ b → Appends old new a → Appends old new b
-appends_as old new a b e p = subst (λ t. Appends old new t) e p
-
--- eight texts one after another
-pub grouped : (a b c d e f g h : List ℕ) → a ++ (b ++ (c ++ (d ++ (e ++ (f ++ (g ++ h)))))) ≡ a ++ b ++ c ++ d ++ e ++ f ++ g ++ h
-grouped a b c d e f g h =
-    sym (append_assoc (a ++ b ++ c ++ d ++ e ++ f) g h ∙ append_assoc (a ++ b ++ c ++ d ++ e) f (g ++ h)
-    ∙ append_assoc (a ++ b ++ c ++ d) e (f ++ (g ++ h)) ∙ append_assoc (a ++ b ++ c) d (e ++ (f ++ (g ++ h)))
-    ∙ append_assoc (a ++ b) c (d ++ (e ++ (f ++ (g ++ h)))) ∙ append_assoc a b (c ++ (d ++ (e ++ (f ++ (g ++ h))))))
-
--- ---- refusals
-
-refuses_at : {Y : Type 0} (o : Option Refusal) (given : Reads Y) → Refuses o given → (r : Refusal) × (o ≡ Some r) × (given ≡ Err r)
-refuses_at None given h = absurd h
-refuses_at (Some r) given h = (r, refl, h)
-
--- the refusal that an error is
-pub refused : {Y : Type 0} (e : MailParseError) (given : Reads Y) → IsRefusal e given → (r : Refusal) × (refusal_of e ≡ Some r) × (given ≡ Err r)
-refused e given h = refuses_at (refusal_of e) given h
-
--- the same of an error that does not say that memory ran out
-pub refused_or_memory : {Y : Type 0} (e : MailParseError) (given : Reads Y) → (IsMemory e → ⊥) → IsRefusalOrMemory e given
-    → (r : Refusal) × (refusal_of e ≡ Some r) × (given ≡ Err r)
-refused_or_memory (QuotedPrintableDecodeError fault) given n h = absurd h
-refused_or_memory (Base64DecodeError fault) given n h = (base64_fault fault.group, refl, h)
-refused_or_memory (EncodingError text) given n h = (encoding (cow_str_bytes text), refl, h)
-refused_or_memory (Generic text) given n h = (generic text.now, refl, h)
-refused_or_memory (Memory e) given n h = absurd (n tt)
-
-pub ok_same : {T E : Type 0} (a b : T) → ◌≡◌ {A = Result T E} (Ok a) (Ok b) → a ≡ b
-ok_same a b e = cc
-
--- a date that is refused
-pub date_refused : (found : Option (List ℕ)) (date : List ℕ) (fault : DateError) → found ≡ Some date → date_of date ≡ Err fault
-    → date_text (option_map date_of found) ≡ codes ",\"date\":null,\"date_error\":" ++ json_text (date_fault_text fault)
-date_refused found date fault e f = ap (λ (o : Option (List ℕ)). date_text (option_map date_of o)) e ∙ ap (λ (d : Dated ℤ). date_text (Some d)) f
 
 -- ---- items with commas
 

@@ -3,8 +3,8 @@ use Rattle.std.proofs.Common.{◌≡◌, ℕ, Bool, true, false, ◌&&◌, List,
 use Rattle.std.proofs.lemmas.List.{append-nil}
 use Rattle.mail_codec.specs.Charset.{Charsets}
 use Rattle.mail_data.specs.Mailbox.{Entry, entries, front_length}
-use Rattle.mail_json.specs.Lines.{AreLines, AreMailboxLines, IsFront, IsLine}
-use Rattle.mail_json.specs.Members.{further}
+use Rattle.mail_json.specs.Part.{further}
+use Rattle.mail_json.specs.Run.{AreLines, AreMailboxLines, IsFront, IsLine}
 
 and_grouped : (a b c : Bool) → (a && (b && c)) ≡ ((a && b) && c)
 and_grouped true b c = refl
@@ -47,16 +47,16 @@ lines_end known start at all left is_whole done e here =
     (here true [] (subst (λ (es : List Entry). AreLines known at es true []) (sym e) (refl, refl))))
 
 -- the error for what stands before the first mail, and the lines of the mails
-pub mailbox_lines : (known : Charsets) (bytes front : List ℕ) (left : List Entry) (is_blank are_read : Bool) (error lines : List ℕ)
-    → front ≡ take (front_length bytes) bytes → left ≡ entries bytes → IsFront front is_blank error → AreLines known (length front) left are_read lines
-    → AreMailboxLines known bytes (is_blank && are_read) (error ++ lines)
-mailbox_lines known bytes front left is_blank are_read error lines e f p q =
+pub mailbox_lines : (known : Charsets) (bytes front : List ℕ) (left : List Entry) (is_all_whitespace are_read : Bool) (error lines : List ℕ)
+    → front ≡ take (front_length bytes) bytes → left ≡ entries bytes → IsFront front is_all_whitespace error → AreLines known (length front) left are_read lines
+    → AreMailboxLines known bytes (is_all_whitespace && are_read) (error ++ lines)
+mailbox_lines known bytes front left is_all_whitespace are_read error lines e f p q =
     let mails = subst (λ (es : List Entry). AreLines known (length front) es are_read lines) f q in (
-      is_blank,
+      is_all_whitespace,
       are_read,
       error,
       lines,
-      subst (λ (bs : List ℕ). IsFront bs is_blank error) e p,
+      subst (λ (bs : List ℕ). IsFront bs is_all_whitespace error) e p,
       subst (λ (bs : List ℕ). AreLines known (length bs) (entries bytes) are_read lines) e mails,
       refl,
       refl,

@@ -1,0 +1,48 @@
+-- What headers say, under the charsets that are known, and why something is refused; the program's own form.
+use Rattle.std.specs.Prelude.{ℕ, Bool, false, List, [], ◌++◌, Option, Some, None, option_map, codes, decimal}
+use Rattle.std.specs.Option.{option_map_or}
+use Rattle.mail_codec.specs.Charset.{Charsets}
+use Rattle.mailparse.specs.ContentType.{ContentType}
+use Rattle.mailparse.specs.Disposition.{Disposition, Kind, inline, attachment, form_data, extension, disposition_in}
+use Rattle.mailparse.specs.Mail.{Node}
+use Rattle.mailparse.specs.Map.{first_value_in}
+use Rattle.mailparse.specs.Options.{◌>>=◌}
+use Rattle.mailparse.specs.Refusal.{Refusal, generic, encoding, base64_fault}
+use Rattle.mail_data.specs.Files.{filled, first_text}
+use Rattle.mail_data.specs.lenient.Ids.{ids_in}
+
+-- why something is refused
+unfoldable pub refusal_text : Refusal → List ℕ
+refusal_text (generic text) = text
+refusal_text (encoding text) = codes "Encoding error: " ++ text
+refusal_text (base64_fault group) = codes "Base64 decode error: group " ++ decimal group ++ codes " is no Base64 group"
+
+-- the name of a disposition
+abbrev pub kind_text : Kind → List ℕ
+kind_text inline = codes "inline"
+kind_text attachment = codes "attachment"
+kind_text form_data = codes "form-data"
+kind_text (extension name) = name
+
+-- the name of the file that a disposition, if there is one, or else a type has; an empty one counts as none
+abbrev pub name_in : Option Disposition → ContentType → Option (List ℕ)
+name_in shown ctype = first_text (filled (shown >>= λ d. d.params (codes "filename"))) (filled (ctype.params (codes "name")))
+
+-- the disposition is `attachment`
+abbrev pub is_kept_apart : Option Disposition → Bool
+is_kept_apart None = false
+is_kept_apart (Some shown) = Rattle.mail_data.specs.Files.is_kept_apart shown.kind
+
+-- Under the charsets that are known.
+module _ (known : Charsets) where
+  -- the value of the first header with a name
+  abbrev pub value_of : List ℕ → Node → Option (List ℕ)
+  value_of key node = first_value_in known key node.headers
+
+  -- the ids in it
+  abbrev pub ids_of : List ℕ → Node → List (List ℕ)
+  ids_of key node = option_map_or ids_in (value_of key node) []
+
+  -- the disposition of a part, if it has such a header
+  abbrev pub disposition_of : Node → Option Disposition
+  disposition_of node = option_map (disposition_in known) (value_of (codes "Content-Disposition") node)

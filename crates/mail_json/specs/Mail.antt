@@ -1,0 +1,60 @@
+-- The object of a mail; the program's own form.
+use Rattle.std.specs.Prelude.{◌≡◌, ℕ, ℤ, List, ◌++◌, Option, Some, None, option_map, Ok, Err, codes}
+use Rattle.std.specs.Fmt.{signed_decimal}
+use Rattle.mail_codec.specs.Charset.{Charsets}
+use Rattle.mailparse.specs.Mail.{Node, Tree, root}
+use Rattle.mail_data.specs.Files.{whole_path}
+use Rattle.mail_data.specs.lenient.Date.{Dated, date_of}
+use Rattle.mail_data.specs.declared.lenient.date.error.DateError.{DateError}
+use Rattle.mail_data.specs.declared.lenient.date.error.DateError.TheVariants.{Day, Month, Year, Time, Zone, TrailingText}
+use Rattle.mail_json.specs.Fields.{value_of, ids_of}
+use Rattle.mail_json.specs.Part.{places, IsPartText, AreJoined}
+use Rattle.mail_json.specs.Strings.{json_text, text_or_null, json_texts}
+
+-- what is missing in a date, or wrong in it
+abbrev pub date_fault_text : DateError → List ℕ
+date_fault_text Day = codes "no day of the month"
+date_fault_text Month = codes "no month"
+date_fault_text Year = codes "no year"
+date_fault_text Time = codes "no time of day"
+date_fault_text Zone = codes "no zone"
+date_fault_text TrailingText = codes "text after the zone"
+
+-- the member of a date: its seconds, or `null` where there is none or it is refused, and then why
+abbrev pub date_text : Option (Dated ℤ) → List ℕ
+date_text None = codes ",\"date\":null"
+date_text (Some (Ok seconds)) = codes ",\"date\":" ++ signed_decimal seconds
+date_text (Some (Err fault)) = codes ",\"date\":null,\"date_error\":" ++ json_text (date_fault_text fault)
+
+-- Under the charsets that are known.
+module _ (known : Charsets) where
+  -- the value of the first header with a name, after these words
+  abbrev pub value_text : List ℕ → List ℕ → Node → List ℕ
+  value_text before key node = before ++ text_or_null (value_of known key node)
+
+  -- the members that are values of headers
+  abbrev pub values_text : Node → List ℕ
+  values_text node =
+      value_text (codes "{\"subject\":") (codes "Subject") node ++ value_text (codes ",\"from\":") (codes "From") node
+      ++ value_text (codes ",\"to\":") (codes "To") node ++ value_text (codes ",\"cc\":") (codes "Cc") node
+
+  -- the ids in the first header with a name, after these words
+  abbrev pub id_list_text : List ℕ → List ℕ → Node → List ℕ
+  id_list_text before key node = before ++ json_texts (ids_of known key node)
+
+  -- the members that are ids of headers
+  abbrev pub ids_text : Node → List ℕ
+  ids_text node =
+      id_list_text (codes ",\"message_id\":") (codes "Message-ID") node ++ id_list_text (codes ",\"in_reply_to\":") (codes "In-Reply-To") node
+      ++ id_list_text (codes ",\"references\":") (codes "References") node
+
+  -- the object of a mail, whose parts have this text
+  abbrev pub mail_text : Node → List ℕ → List ℕ
+  mail_text node parts =
+      values_text node ++ date_text (option_map date_of (value_of known (codes "Date") node)) ++ ids_text node ++ codes ",\"parts\":[" ++ parts
+      ++ codes "]}"
+
+-- a text is that of the object of a mail that begins there
+abbrev pub IsMailText : Charsets → ℕ → Tree → List ℕ → Type 0
+IsMailText known start mail text =
+    (parts : List ℕ) × AreJoined (IsPartText known) (places (whole_path mail) start mail) parts × (text ≡ mail_text known (root mail) parts)

@@ -1,0 +1,161 @@
+-- The parts of a mail, where each stands in the input, and the text that is written of each; the program's own form.
+use Rattle.std.specs.Prelude.{◌≡◌, ℕ, suc, ◌+◌, ◌^◌, ◌-◌, min, Bool, true, false, not, ◌&&◌, ◌||◌, List, [], ◌∷◌, ◌++◌, length, drop, map, Option, option_map, is_some, Ok, Err, codes, decimal, if◌then◌else◌}
+use Rattle.std.specs.Cmp.Lexicographic.{slice_cmp}
+use Rattle.std.specs.List.Sorted.{IsStrictlySortedBy}
+use Rattle.std.specs.Map.{lookup}
+use Rattle.std.specs.Option.{option_map_or}
+use Rattle.std.specs.Ordering.{nat_cmp}
+use Rattle.std.specs.Str.{bytes_eq}
+use Rattle.mail_codec.specs.Ascii.{line_feed}
+use Rattle.mail_codec.specs.Charset.{Charsets}
+use Rattle.mail_codec.specs.Places.{byte_place, stands}
+use Rattle.mailparse.specs.Body.{BodyKind, decoded_text_in}
+use Rattle.mailparse.specs.BodyViews.{Content, content_of}
+use Rattle.mailparse.specs.ContentType.{ContentType}
+use Rattle.mailparse.specs.Disposition.{Disposition}
+use Rattle.mailparse.specs.Header.{Header, key_text}
+use Rattle.mailparse.specs.Mail.{Node, Tree, Forest, tree, no_parts, part_and, root}
+use Rattle.mailparse.specs.Pairs.{Texts}
+use Rattle.mailparse.specs.Refusal.{Reads}
+use Rattle.mailparse.specs.Value.{lenient_value_in}
+use Rattle.mail_data.specs.Files.{is_leaf, path_under}
+use Rattle.mail_data.specs.lenient.Encoding.{loose_body_kind}
+use Rattle.mail_json.specs.Body.{encoding_text, decoded_size}
+use Rattle.mail_json.specs.Fields.{refusal_text, kind_text, name_in, is_kept_apart, disposition_of}
+use Rattle.mail_json.specs.Strings.{json_text, text_or_null, joined}
+
+-- a place so many bytes further on; places stop at the greatest number of 64 bits, where no file ends
+abbrev pub further : ℕ → ℕ → ℕ
+further place count = min (place + count) (2 ^ 64 - 1)
+
+-- a part: its path, where it begins in the input, and the message that it is
+pub record Place : Type 0 where
+  pub path : List ℕ
+  pub start : ℕ
+  pub part : Tree
+
+-- how many bytes the dash-boundary of a type's parts has: `--` and the boundary (RFC 2046, section 5.1.1)
+abbrev pub delimiter_length : ContentType → ℕ
+delimiter_length ctype = option_map_or (λ boundary. further (length boundary) 2) (ctype.params (codes "boundary")) 0
+
+-- where the preamble of a part ends, counted from where the part begins: its body is the preamble where it has parts
+abbrev pub preamble_end : Node → ℕ
+preamble_end node = further (length node.block) (length node.body)
+
+-- how many bytes the line end at the front has, or 0 where none is
+abbrev pub line_end_length : List ℕ → ℕ
+line_end_length bytes = if stands (codes "\n") bytes then 1 else (if stands (codes "\r\n") bytes then 2 else 0)
+
+-- the place just after the first LF from there on, or the end where there is none
+abbrev pub line_after : List ℕ → ℕ → ℕ
+line_after bytes place = option_map_or (λ count. further (further place count) 1) (byte_place (drop place bytes) line_feed) (length bytes)
+
+-- where the part begins that follows a part or the preamble that ends here: a line end comes first, unless what ends here is empty, and then
+-- the line of the delimiter
+unfoldable pub part_start : List ℕ → ℕ → ℕ → ℕ
+part_start bytes end delimiter = line_after bytes (further (further end (line_end_length (drop end bytes))) delimiter)
+
+-- a message that begins there, and then its parts, each before its own parts: their paths, and where each begins
+abbrev mutual
+  pub places : List ℕ → ℕ → Tree → List Place
+  places path start (tree node parts) =
+      record { path = path; start = start; part = tree node parts } ∷ places_in path start node 1 (preamble_end node) parts
+
+  -- the same of the parts of a message, which are numbered from there on; what comes before them ends at this place of it
+  pub places_in : List ℕ → ℕ → Node → ℕ → ℕ → Forest → List Place
+  places_in path start node number end no_parts = []
+  places_in path start node number end (part_and t ts) =
+      let begin = part_start node.bytes end (delimiter_length node.ctype) in
+      places (path_under path number) (further start begin) t
+      ++ places_in path start node (suc number) (further begin (length (root t).bytes)) ts
+
+-- pairs list texts: each name once, the names in the order of their bytes, and with each what stands under it
+pub record Lists (texts : Texts) (pairs : List (List ℕ × List ℕ)) : Type 0 where
+  pub ordered : IsStrictlySortedBy (slice_cmp nat_cmp) (map (λ p. p.0) pairs)
+  pub same : (name : List ℕ) → lookup (bytes_eq name) pairs ≡ texts name
+
+-- a parameter: its name and its value
+abbrev pub parameter_text : List ℕ × List ℕ → List ℕ
+parameter_text pair = json_text pair.0 ++ codes ":" ++ json_text pair.1
+
+-- the members of a type with these parameters
+abbrev pub type_text : List ℕ → List ℕ → List (List ℕ × List ℕ) → List ℕ
+type_text mimetype charset pairs =
+    codes ",\"type\":" ++ json_text mimetype ++ codes ",\"charset\":" ++ json_text charset ++ codes ",\"params\":{" ++ joined parameter_text pairs
+    ++ codes "}"
+
+-- a text is that of the members of a type
+abbrev pub IsTypeText : ContentType → List ℕ → Type 0
+IsTypeText ctype text =
+    (pairs : List (List ℕ × List ℕ)) × Lists ctype.params pairs × (text ≡ type_text ctype.mimetype ctype.charset pairs)
+
+-- `true` or `false`
+abbrev pub flag_text : Bool → List ℕ
+flag_text true = codes "true"
+flag_text false = codes "false"
+
+-- a part without parts is an attachment: its disposition is `attachment`, or there is a file name
+abbrev pub is_file : Bool → Option Disposition → ContentType → Bool
+is_file leaf shown ctype = leaf && (is_kept_apart shown || is_some (name_in shown ctype))
+
+-- the members of a disposition, of a file's name, and of whether the part is an attachment
+abbrev pub file_text : Bool → Option Disposition → ContentType → List ℕ
+file_text leaf shown ctype =
+    codes ",\"disposition\":" ++ text_or_null (option_map (λ d. kind_text d.kind) shown) ++ codes ",\"file_name\":" ++ text_or_null (name_in shown ctype)
+    ++ codes ",\"attachment\":" ++ flag_text (is_file leaf shown ctype)
+
+-- the members of an encoding by its name, of where a part stands, and of how many bytes its body has
+abbrev pub place_text : List ℕ → ℕ → ℕ → ℕ → List ℕ
+place_text name start end size =
+    codes ",\"encoding\":\"" ++ name ++ codes "\",\"start\":" ++ decimal start ++ codes ",\"end\":" ++ decimal end ++ codes ",\"size\":" ++ decimal size
+
+-- the member of how many bytes a body stands for, or of why it is refused
+abbrev pub size_text : Reads ℕ → List ℕ
+size_text (Ok size) = codes ",\"decoded_size\":" ++ decimal size
+size_text (Err refusal) = codes ",\"decoded_size\":null,\"error\":" ++ json_text (refusal_text refusal)
+
+-- the text of a body, or `null` where it is refused
+abbrev pub read_text : Reads (List ℕ) → List ℕ
+read_text (Ok text) = json_text text
+read_text (Err refusal) = codes "null"
+
+-- Under the charsets that are known.
+module _ (known : Charsets) where
+  -- a header: a pair of its name and its value
+  abbrev pub header_text : Header → List ℕ
+  header_text header = codes "[" ++ json_text (key_text header) ++ codes "," ++ json_text (lenient_value_in known header.value) ++ codes "]"
+
+  -- the member of the headers
+  abbrev pub headers_text : List Header → List ℕ
+  headers_text headers = codes ",\"headers\":[" ++ joined header_text headers ++ codes "]"
+
+  -- the text of a body that is to be read; otherwise `null`
+  abbrev pub body_text : Bool → BodyKind → Content → List ℕ
+  body_text false kind body = codes "null"
+  body_text true kind body = read_text (decoded_text_in known kind body.ctype.charset body.raw)
+
+  -- the object of a part, whose type has this text
+  abbrev pub part_text : Place → List ℕ → List ℕ
+  part_text place type =
+      let node = root place.part in
+      let leaf = is_leaf place.part in
+      let kind = loose_body_kind node in
+      let shown = disposition_of known node in
+      codes "{\"path\":" ++ json_text place.path ++ type ++ file_text leaf shown node.ctype
+      ++ place_text (encoding_text kind) place.start (further place.start (length node.bytes)) (length node.body)
+      ++ size_text (decoded_size kind node.body) ++ headers_text node.headers ++ codes ",\"text\":"
+      ++ body_text (not (is_file leaf shown node.ctype) && leaf && stands (codes "text/") node.ctype.mimetype) kind (content_of node) ++ codes "}"
+
+  -- a text is that of the object of a part
+  abbrev pub IsPartText : Place → List ℕ → Type 0
+  IsPartText place text = (type : List ℕ) × IsTypeText (root place.part).ctype type × (text ≡ part_text place type)
+
+-- a text is that of items, each after a comma
+abbrev pub AreAfterCommas : {A : Type 0} → (A → List ℕ → Type 0) → List A → List ℕ → Type 0
+AreAfterCommas Is [] text = text ≡ []
+AreAfterCommas Is (x ∷ xs) text =
+    (first : List ℕ) × (others : List ℕ) × Is x first × AreAfterCommas Is xs others × (text ≡ codes "," ++ (first ++ others))
+
+-- a text is that of items, a comma between two
+abbrev pub AreJoined : {A : Type 0} → (A → List ℕ → Type 0) → List A → List ℕ → Type 0
+AreJoined Is xs text = AreAfterCommas Is xs (codes "," ++ text)
