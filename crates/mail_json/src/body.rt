@@ -4,7 +4,7 @@ ghost use Rattle.mail_codec.specs.Tables.{charsets_with};
 ghost use Rattle.mailparse.specs.Body.{BodyKind, decoded_text_in};
 ghost use Rattle.mailparse.specs.BodyViews.{Content, IsBody};
 ghost use Rattle.mailparse.specs.Outcome.{AnswersOrMemory, ReadsText};
-ghost use Rattle.mail_json.specs.Body.{encoding_text, decoded_size};
+ghost use Rattle.mail_json.specs.Body.{decoded_size, encoding_text};
 
 use mailparse::body::Body;
 use mailparse::{MailParseError, SingleByteTable};

@@ -5,8 +5,8 @@ ghost use Rattle.mailparse.specs.Mail.{root};
 ghost use Rattle.mailparse.specs.Views.{tree_of};
 ghost use Rattle.mail_data.specs.lenient.Date.{date_of};
 ghost use Rattle.mail_json.specs.Fields.{value_of};
-ghost use Rattle.mail_json.specs.Mail.{date_fault_text, date_text, id_list_text, ids_text};
-ghost use Rattle.mail_json.specs.Mail.{value_text, values_text, IsMailText};
+ghost use Rattle.mail_json.specs.Mail.{IsMailText, date_fault_text, date_text, id_list_text};
+ghost use Rattle.mail_json.specs.Mail.{ids_text, value_text, values_text};
 ghost use Rattle.mail_json.specs.Written.{Writes, WritesOne};
 
 use crate::fault::Fault;

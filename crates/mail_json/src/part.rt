@@ -10,10 +10,11 @@ ghost use Rattle.mailparse.specs.Views.{content_type, disposition, tree_of};
 ghost use Rattle.mail_data.specs.Files.{is_leaf, path_under, whole_path};
 ghost use Rattle.mail_json.specs.Body.{decoded_size};
 ghost use Rattle.mail_json.specs.Fields.{disposition_of};
-ghost use Rattle.mail_json.specs.Part.{IsTypeText, body_text, file_text, header_text, headers_text};
-ghost use Rattle.mail_json.specs.Part.{is_file, flag_text, parameter_text, place_text, size_text};
-ghost use Rattle.mail_json.specs.Part.{AreAfterCommas, IsPartText, delimiter_length, line_after};
-ghost use Rattle.mail_json.specs.Part.{line_end_length, part_start, places, preamble_end};
+ghost use Rattle.mail_json.specs.Part.{AreAfterCommas, IsPartText, IsTypeText, body_text};
+ghost use Rattle.mail_json.specs.Part.{delimiter_length, file_text, flag_text, header_text};
+ghost use Rattle.mail_json.specs.Part.{headers_text, is_file, line_after, line_end_length};
+ghost use Rattle.mail_json.specs.Part.{parameter_text, part_start, place_text, places};
+ghost use Rattle.mail_json.specs.Part.{preamble_end, size_text};
 ghost use Rattle.mail_json.specs.Written.{Writes, WritesOne};
 
 use crate::body::{decoded_length, encoding_name, raw_length, text_of};
