@@ -52,7 +52,7 @@ in_folder() {
 # runs_program: what the program prints, into the file `printed`
 runs_program() {
     fence rust > "$work/mine/crates/first_mail/src/main.rt"
-    in_folder crates/first_mail "$(fence console | sed -n 's/^\$ //p')" > "$work/printed" 2> "$work/said"
+    in_folder . "$(fence console | sed -n 's/^\$ //p')" > "$work/printed" 2> "$work/said"
 }
 
 # prints_that: does the program print what stands in the README?
