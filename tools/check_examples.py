@@ -1,5 +1,5 @@
 #!/usr/bin/env python3
-"""Runs the examples of the doc comments and compares the README's program with the crate page's.
+"""Runs the examples of the doc comments; the program on the page of a crate has to be the README's.
 
 Each fence ```rust in a doc comment of mail_codec, mail_tables, mailparse, mail_laws, mail_data and
 mail_program becomes a test of its own: the lines as they stand, in a function that has the runtime `rt`

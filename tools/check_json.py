@@ -3,7 +3,8 @@
 
 The mails are those of samples/, and made ones: with control characters, with surrogates in UTF-8, with a
 refused body, of 100 levels and of 101, of 100,000 parts, of parts at places that are known, and mailboxes.
-Python's json reads each line, which has to be ASCII control free, its members in their order.
+Python's json reads each line, which may hold no control character (U+0000 to U+001F, U+007F to U+009F) and
+no U+2028 or U+2029, and whose members stand in their order.
 
 The last line is `N passed, N failed`; the status is 1 where a comparison failed.
 """

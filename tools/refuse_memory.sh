@@ -12,10 +12,10 @@
 #                  to return: once, and again on the same inputs where memory ran out
 #
 # A run passes that gives what it gives with ample memory, or that ends with status 1 and says
-# nothing but that memory ran out; where each call is made once, no run with a refusal passes but
-# the latter. What mail_json has written until then has to be the front of what it writes with ample
-# memory; the other programs may have written nothing. After that mail_memory makes the calls that take no memory, while each call for
-# memory is refused once what they work on is there.
+# nothing but that memory ran out. In a program that makes each call once, a run that meets a refusal
+# passes only by the latter. What mail_json has written by then has to be the front of what it writes
+# with ample memory; the others may have written nothing. At the end mail_memory makes the calls that
+# take no memory, with each call for memory refused once their inputs are there.
 #
 # It prints for each input how many calls for memory there were, how many runs met a refusal, and
 # how these ended; and each run that failed. The last line is `N passed, N failed`; the status is

@@ -19,7 +19,11 @@ fn main(rt: HostRuntime) -> anyhow::Result<()> {
     let alloc = rt.alloc();
     let mut mailbox = Vec::new(alloc);
     rt.reader().read_to_end(&mut mailbox)?;
-    for entry in read_mailbox(mailbox.as_slice()) {
+    let mails = read_mailbox(mailbox.as_slice());
+    if !mails.front().trim_ascii().is_empty() {
+        println!(rt; "refused: The mailbox does not begin with a line `From `\n")?;
+    }
+    for entry in mails {
         print!(rt; "{}", report(alloc, entry.mail())?)?;
     }
     Ok(())
