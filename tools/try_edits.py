@@ -64,7 +64,7 @@ def read_words():
     form = argparse.RawDescriptionHelpFormatter
     reader = argparse.ArgumentParser(description=title, epilog=more, formatter_class=form)
     reader.add_argument("--jobs", type=int, default=0, help="how many checks run side by side; one a processor")
-    reader.add_argument("--batch", type=int, default=48, help="how many edits are checked at once at most")
+    reader.add_argument("--batch", type=int, default=48, help="how many edits a batch aims at; a quarter more at most")
     reader.add_argument("--anew", action="store_true", help="try what earlier runs on this machine have tried, too")
     reader.add_argument("--gentle", action="store_true", help="leave the processors to what else runs")
     reader.add_argument("--kept", action="store_true", help="start from what `rt check` has kept in crates/*/out")
