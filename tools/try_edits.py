@@ -14,9 +14,9 @@ where no two edits of a batch change one function; the largest batches start fir
 batch is the first check of the crate.)
 An edit passes if the function that it changes is refused, and the line says which goal became false (or
 that its proof only names what is gone, which says little: such edits are listed at the end); each
-function that no edit changes has to be told as proved, or as waiting only for those that are refused.
-Where a batch does not tell clearly, or an edit was not refused in it, the edit is tried alone before it
-is called failed. First of all a batch with an edit that changes nothing is tried, which has to be told
+function that no edit changes has to be reported as proved, or as waiting only for those that are refused.
+Where a batch does not say clearly, or an edit was not refused in it, the edit is tried alone before it
+is called failed. First of all a batch with an edit that changes nothing is tried, which has to be reported
 as not refused.
 
 How an edit was refused is kept on this machine, by a sum of the kit, of these scripts, of the sources of the
@@ -183,7 +183,7 @@ class Run:
             self.processor += ran.processor
         return f"{ran.took:.0f} s, {ran.processor:.0f} processor seconds"
 
-    def tell(self, outcomes):
+    def report(self, outcomes):
         """Counts what became of some edits, and prints it."""
         with self.printing:
             for it in outcomes:
@@ -192,9 +192,9 @@ class Run:
                 self.little += [str(it.edit)] if it.says_little else []
                 print(f"{'passed' if it.is_refused else 'FAILED'} {it.edit}: {it.text}", flush=True)
 
-    def tell_tried(self, outcomes):
+    def report_tried(self, outcomes):
         """Tells what became of edits that were tried, and keeps how they were refused."""
-        self.tell(outcomes)
+        self.report(outcomes)
         for it in outcomes:
             if it.is_refused and self.kept:
                 self.kept.keep(it)
@@ -206,7 +206,7 @@ class Run:
             if outcomes:
                 name, few, all_of_them = trial.crate.name, len(outcomes), len(trial.edits)
                 self.say(f"{name}: {few} of its {all_of_them} edits were tried by an earlier run on this machine, on the same files")
-                self.tell(outcomes)
+                self.report(outcomes)
                 trial.leave_out([it.edit for it in outcomes])
 
     def prove(self, name, trial):
@@ -220,7 +220,7 @@ class Run:
             check_names(trial)
 
     def show_that_it_can_fail(self, trial):
-        """Tries an edit that changes nothing beside one of the crate's: the one has to be told as not
+        """Tries an edit that changes nothing beside one of the crate's: the one has to be reported as not
         refused, and the other as refused."""
         real = trial.sample
         none = edit_of_nothing(trial.crate, trial.known, real)
@@ -228,10 +228,10 @@ class Run:
         said, ran = self.checker.check_with(trial.crate.name, texts_with(trial.crate, both))
         why = unclear(trial.known, [real], said)
         if why or outcome_of(none, said).is_refused:
-            raise Stopped(f"an edit that changes nothing was not told as such: {why or outcome_of(none, said).text}")
+            raise Stopped(f"an edit that changes nothing was not reported as such: {why or outcome_of(none, said).text}")
         if not outcome_of(real, said).is_refused:
             raise Stopped(f"beside an edit that changes nothing, {real} is not refused")
-        self.say(f"{trial.crate.name}: an edit that changes nothing is told as not refused, {self.took(ran)}")
+        self.say(f"{trial.crate.name}: an edit that changes nothing is reported as not refused, {self.took(ran)}")
 
     def try_batch(self, trial, number):
         """Checks a batch, and each of its edits alone that it does not show to be refused."""
@@ -240,9 +240,9 @@ class Run:
         why = unclear(trial.known or said.names_of(trial.crate.name), batch, said)
         outcomes = [] if why else [outcome_of(edit, said) for edit in batch]
         self.say(f"{trial.crate.name}: batch {number + 1} of {len(trial.batches)}, {len(batch)} edits, {self.took(ran)}")
-        self.tell_tried([it for it in outcomes if it.is_refused])
+        self.report_tried([it for it in outcomes if it.is_refused])
         if why and len(batch) > 1:
-            self.say(f"{trial.crate.name}: batch {number + 1} does not tell clearly, so each of its edits is tried alone: {why}")
+            self.say(f"{trial.crate.name}: batch {number + 1} does not say clearly, so each of its edits is tried alone: {why}")
         sure = {str(it.edit) for it in outcomes if it.is_refused}
         for edit in batch:
             if str(edit) not in sure and not self.is_stopped:
@@ -256,15 +256,15 @@ class Run:
         why = unclear(trial.known, [edit], said)
         outcome = Outcome(edit, False, f"BAD EDIT: {why}") if why else outcome_of(edit, said)
         self.say(f"{edit}: alone, {self.took(ran)}")
-        self.tell_tried([outcome])
+        self.report_tried([outcome])
 
 
 def check_names(trial):
-    """Stops where an edit changes a function that the check does not tell of."""
+    """Stops where an edit changes a function that the check does not name."""
     for edit in trial.edits:
         lost = sorted(edit.functions - trial.known)
         if lost:
-            raise Stopped(f"{edit}: the check of the crate tells of no function {lost[0]}")
+            raise Stopped(f"{edit}: the check of the crate names no function {lost[0]}")
 
 
 def tasks_of(run):
@@ -355,7 +355,7 @@ def main():
         run = Run(trials, checker, words.jobs or processors(), kept)
         has_room = Idle().is_found if words.gentle else lambda: True
         for trial in trials:
-            run.tell(Outcome(name, False, f"BAD EDIT: {why}") for name, why in trial.bad)
+            run.report(Outcome(name, False, f"BAD EDIT: {why}") for name, why in trial.bad)
         if not words.anew:
             run.take_kept()
         try:

@@ -9,7 +9,7 @@ import threading
 import time
 from dataclasses import dataclass
 
-from .said import read_output
+from .output import read_output
 
 PARTS = ("src", "specs", "proofs")
 # A check that takes longer than this, in seconds, is stopped, and says nothing.

@@ -17,7 +17,7 @@ class Outcome:
 
 def unclear(known, edits, said):
     """Why a check does not say clearly what became of the edits, or ''. `known` are the functions of
-    the crate: those that no edit changes have to be told, and as proved."""
+    the crate: those that no edit changes have to be reported, and as proved."""
     if not said.is_verdict:
         return "the check gave no verdict: " + first_words(said)
     changed = set().union(*(it.functions for it in edits))
@@ -25,7 +25,7 @@ def unclear(known, edits, said):
         if is_part_of(name, changed):
             continue
         if name not in said.functions:
-            return f"the check does not tell of {name}, which no edit changes"
+            return f"the check does not name {name}, which no edit changes"
         if not said.functions[name].is_fine:
             return f"{name}, which no edit changes, is not proved: {said.functions[name].why()}"
     others = [it for it in said.errors if not any(lemmas_of(edit, [it]) for edit in edits)]
@@ -52,15 +52,15 @@ def first_words(said):
 
 
 def outcome_of(edit, said):
-    """What a check that tells clearly says of one of its edits."""
-    parts = {name: told for name, told in said.functions.items() if is_part_of(name, edit.functions)}
-    refused = {name: told for name, told in parts.items() if told.is_refused}
+    """What a check that is clear says of one of its edits."""
+    parts = {name: verdict for name, verdict in said.functions.items() if is_part_of(name, edit.functions)}
+    refused = {name: verdict for name, verdict in parts.items() if verdict.is_refused}
     if not refused:
         return Outcome(edit, False, "NOT REFUSED: " + ", ".join(sorted(edit.functions)) + " is still proved")
     # a goal says more than a name that is gone
-    name, told = min(refused.items(), key=lambda it: (it[1].is_told_by_names, not it[1].goals, it[0]))
+    name, verdict = min(refused.items(), key=lambda it: (it[1].is_refused_by_names_alone, not it[1].goals, it[0]))
     lemmas = lemmas_of(edit, said.errors)
-    if told.is_told_by_names and not lemmas:
-        why = f"only its proof names what is gone, which says little: {told.why()}"
+    if verdict.is_refused_by_names_alone and not lemmas:
+        why = f"only its proof names what is gone, which says little: {verdict.why()}"
         return Outcome(edit, True, f"refused: {name}: {why}", True)
-    return Outcome(edit, True, f"refused: {name}: {(told.goals or lemmas or [told.why()])[0]}")
+    return Outcome(edit, True, f"refused: {name}: {(verdict.goals or lemmas or [verdict.why()])[0]}")

@@ -21,7 +21,7 @@ def folder_of_user():
 
 
 def sum_of(*texts):
-    """A sum of texts, which tells where each ends."""
+    """A sum of texts, in which the end of each counts."""
     found = hashlib.sha256()
     for it in texts:
         encoded = it.encode()
@@ -68,9 +68,9 @@ class Kept:
         with contextlib.suppress(OSError, ValueError, KeyError, TypeError):
             if os.lstat(self.folder).st_uid == os.geteuid():
                 with open(self.path(edit), encoding="utf-8") as opened:
-                    told = json.load(opened)
+                    kept = json.load(opened)
                 os.utime(self.path(edit))
-                return Outcome(edit, True, str(told["text"]), bool(told["says_little"]))
+                return Outcome(edit, True, str(kept["text"]), bool(kept["says_little"]))
         return None
 
     def keep(self, outcome):

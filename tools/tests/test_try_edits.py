@@ -16,7 +16,7 @@ import unittest
 sys.path.insert(0, os.path.dirname(os.path.dirname(os.path.realpath(__file__))))
 
 import try_edits
-from edits import checker, edit, judge, kept, said, source
+from edits import checker, edit, judge, kept, output, source
 
 SOURCE = """//! A file { that opens a brace.
 ghost use Rattle.std.specs.Prelude.{a, b};
@@ -177,9 +177,9 @@ def names(*names):
     return [edit.Edit("low", name, [], {f"low::{name}"}) for name in names]
 
 
-class SaidTest(unittest.TestCase):
+class OutputTest(unittest.TestCase):
     def setUp(self):
-        self.said = said.read_output(PRINTED)
+        self.said = output.read_output(PRINTED)
         self.known = set(self.said.functions)
 
     def test_a_caller_of_what_is_refused_is_fine(self):
@@ -187,7 +187,7 @@ class SaidTest(unittest.TestCase):
         self.assertEqual(fine, ["impl low::PairFrom", "low::plain", "low::caller"])
 
     def test_what_is_told_of_a_library_is_not_of_the_crate(self):
-        both = said.read_output("enum below::Kind: proved\nfn below::low: proved\n" + PRINTED)
+        both = output.read_output("enum below::Kind: proved\nfn below::low: proved\n" + PRINTED)
         self.assertEqual(both.names_of("low"), self.known)
         self.assertEqual(both.names_of("below"), {"enum below::Kind", "below::low"})
 
@@ -208,14 +208,14 @@ class SaidTest(unittest.TestCase):
 
     def test_closures_belong_to_their_function(self):
         text = "fn low::fn::f::map+FnMut::call_mut: not proved\nfn low::f: no proof: it calls `x`, which is not proved\nlogic=not-proved"
-        self.assertTrue(judge.outcome_of(names("f")[0], said.read_output(text)).is_refused)
+        self.assertTrue(judge.outcome_of(names("f")[0], output.read_output(text)).is_refused)
 
     def test_a_clear_batch(self):
         self.assertEqual(judge.unclear(self.known, names("first", "second", "third"), self.said), "")
 
     def test_what_nothing_changes_has_to_be_told_as_proved(self):
         self.assertIn("low::third, which no edit changes, is not proved", judge.unclear(self.known, names("first", "second"), self.said))
-        self.assertIn("does not tell of low::gone", judge.unclear({*self.known, "low::gone"}, names("first", "second", "third"), self.said))
+        self.assertIn("does not name low::gone", judge.unclear({*self.known, "low::gone"}, names("first", "second", "third"), self.said))
 
     def test_a_lemma_on_a_constant_that_is_changed_is_its_goal(self):
         text = """./proofs/lemmas/Low.antt:3:9: error: `TABLE-is`: the two types differ
@@ -223,7 +223,7 @@ class SaidTest(unittest.TestCase):
 ./proofs/first/Answers.antt:6:5: error: 1 declaration that depends on `low`, which was not admitted, was not checked: returns
 fn low::first: not proved
 logic=not-proved"""
-        lemma, first = said.read_output(text), names("first")
+        lemma, first = output.read_output(text), names("first")
         self.assertIn("outside the proofs of what was changed: TABLE-is", judge.unclear({"low::first"}, first, lemma))
         first[0].constants = {"TABLE"}
         self.assertEqual(judge.unclear({"low::first"}, first, lemma), "")
@@ -232,13 +232,13 @@ logic=not-proved"""
         self.assertFalse(outcome.says_little)
 
     def test_the_laws_of_an_impl_have_to_hold(self):
-        lawless = said.read_output("impl low::PairEq: not proved\nlogic=not-proved")
+        lawless = output.read_output("impl low::PairEq: not proved\nlogic=not-proved")
         self.assertIn("impl low::PairEq, which no edit changes", judge.unclear({"impl low::PairEq"}, names("first"), lawless))
 
     def test_a_check_that_stops_tells_nothing(self):
-        stopped = said.read_output("src/lib.rt:1:2: error: no such name\n")
+        stopped = output.read_output("src/lib.rt:1:2: error: no such name\n")
         self.assertIn("no verdict: src/lib.rt:1:2", judge.unclear(set(), names("first"), stopped))
-        lemma = said.read_output(PRINTED + "./proofs/lemmas/Low.antt:1:2: error: `a`: no\n")
+        lemma = output.read_output(PRINTED + "./proofs/lemmas/Low.antt:1:2: error: `a`: no\n")
         self.assertIn("outside the proofs", judge.unclear(self.known, names("first", "second", "third"), lemma))
 
 
@@ -269,7 +269,7 @@ class FakeChecker:
             wrong = {path for path, body in bodies.items() if "wrong" in body}
             lines = [self.line(f"{crate}::{name}", (name,) in wrong) for name in "abc"]
             printed = "\n".join([*lines, f"logic={'not-proved' if wrong else 'proved'}"])
-        return said.read_output(printed), checker.Ran(printed, 1.0, 2.0)
+        return output.read_output(printed), checker.Ran(printed, 1.0, 2.0)
 
     def line(self, name, is_wrong):
         return f"fn {name}: {'no proof: `search` did not prove `returns`' if is_wrong else 'proved'}"
@@ -324,7 +324,7 @@ class RunTest(unittest.TestCase):
         self.assertIn("FAILED low/edit_unread: BAD EDIT: the check gave no verdict", printed)
 
     def test_nothing_goes_on_where_an_edit_of_nothing_is_told_as_refused(self):
-        with self.assertRaisesRegex(try_edits.Stopped, "changes nothing was not told as such"):
+        with self.assertRaisesRegex(try_edits.Stopped, "changes nothing was not reported as such"):
             self.run_with(StrictChecker(), "wrong", "wrong + 1")
 
     def test_nothing_goes_on_where_nothing_is_refused(self):

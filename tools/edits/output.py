@@ -18,7 +18,7 @@ IS_GONE = re.compile(r"has no field|is not in scope|has no `|was not admitted")
 
 
 @dataclass
-class Told:
+class FunctionVerdict:
     """What a check says of one function."""
 
     status: str
@@ -35,7 +35,7 @@ class Told:
         return bool(self.goals or self.gone) or self.status == "refused"
 
     @property
-    def is_told_by_names(self):
+    def is_refused_by_names_alone(self):
         """Whether it is refused only since its proof names what is gone, which says little."""
         return bool(self.gone) and not self.goals
 
@@ -45,7 +45,7 @@ class Told:
 
 
 @dataclass
-class Said:
+class CheckOutput:
     """What a check says: of each function, and the errors that belong to none."""
 
     is_verdict: bool
@@ -54,7 +54,7 @@ class Said:
     text: str
 
     def names_of(self, crate):
-        """What it says something of in that crate: a first check also tells of the libraries that it builds."""
+        """What it says something of in that crate: a first check also names those of the libraries that it builds."""
         return {name for name in self.functions if name.rpartition(" ")[2].startswith(f"{crate}::")}
 
 
@@ -68,23 +68,23 @@ def read_output(text):
         told = LINE.match(line)
         if told:
             name = told[2] if told[1] == "fn" else f"{told[1]} {told[2]}"
-            functions[name] = told_of(told[1], told[3], told[4], notes)
+            functions[name] = verdict_of(told[1], told[3], told[4], notes)
             notes = []
     errors = [it for it in map(MESSAGE.match, text.split("\n")) if it]
     others = give_errors(functions, errors)
     is_verdict = re.search(r"^logic=(proved|not-proved)\b", text, re.M) is not None
-    return Said(is_verdict, functions, others, text)
+    return CheckOutput(is_verdict, functions, others, text)
 
 
-def told_of(kind, status, rest, notes):
+def verdict_of(kind, status, rest, notes):
     """What a line says, with the notes above it on open goals."""
     own = WAITS.sub("", rest).strip(" :;")
     if status == "proved":
-        return Told("proved")
+        return FunctionVerdict("proved")
     if WAITS.search(rest) and not own and (status == "no proof" or kind != "fn"):
-        return Told("waits")
+        return FunctionVerdict("waits")
     goals = [goal for found in UNPROVED.findall(own) for goal in re.findall(r"`([^`]+)`", found)]
-    return Told("refused", [placed(goal, notes) for goal in goals])
+    return FunctionVerdict("refused", [placed(goal, notes) for goal in goals])
 
 
 def placed(goal, notes):
@@ -99,15 +99,15 @@ def placed(goal, notes):
 def give_errors(functions, errors):
     """Gives each error in a function's own proof to the function, and returns the others, but for those
     that only follow from one."""
-    folders = {name.partition("::")[2].replace("::", "/"): told for name, told in functions.items()}
+    folders = {name.partition("::")[2].replace("::", "/"): verdict for name, verdict in functions.items()}
     others = []
     for error in errors:
         folder = error[1].removeprefix("proofs/").rpartition("/")[0].replace("+", "")
-        told = folders.get(folder) if error[1].startswith("proofs/") else None
+        verdict = folders.get(folder) if error[1].startswith("proofs/") else None
         goal, what = GOAL_FIRST.match(error[3]).groups()
         text = f"{goal or 'a proof'}, {error[1]}:{error[2]}: {what[:150]}"
-        if told:
-            (told.gone if IS_GONE.search(what) else told.goals).append(text)
+        if verdict:
+            (verdict.gone if IS_GONE.search(what) else verdict.goals).append(text)
         elif not FOLLOWS.search(what):
             others.append(text)
     return others
