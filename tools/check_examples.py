@@ -20,6 +20,7 @@ import sys
 import tempfile
 
 from make_api import crate_modules
+from shared.fences import fences, fences_of
 
 TOP = os.path.dirname(os.path.dirname(os.path.abspath(__file__)))
 CRATES = ("mail_codec", "mail_tables", "mailparse", "mail_laws", "mail_data", "mail_program")
@@ -27,15 +28,13 @@ DOC = re.compile(r"^\s*//[/!] ?(.*)$")
 
 
 class Example:
-    """A fence: where it stands, and its lines."""
+    """A fence of a file: where it stands, and its lines."""
 
-    def __init__(self, path, line):
+    def __init__(self, path, fence):
         self.path = path
-        self.line = line
-        self.lines = []
-
-    def is_program(self):
-        return any(line.startswith("fn main(") for line in self.lines)
+        self.line = fence.number
+        self.lines = fence.lines
+        self.is_program = fence.is_program()
 
     def module(self):
         """The name of the module that the example becomes."""
@@ -57,22 +56,15 @@ class Example:
         )
 
 
-def fences(path, lines, words=("rust",)):
-    """The fences of numbered lines; one with another word than these, or without an end, is an error."""
-    found, example = [], None
-    for number, text in lines:
-        if example is None and text.startswith("```"):
-            if text[3:] not in words:
-                raise SystemExit(f"{path}:{number}: a fence that begins with {text}")
-            example = Example(path, number)
-        elif example is not None and text == "```":
-            found.append(example)
-            example = None
-        elif example is not None:
-            example.lines.append(text)
-    if example is not None:
-        raise SystemExit(f"{path}:{example.line}: a fence without an end")
-    return found
+def examples_in(path, lines):
+    """The fences of numbered lines; one with another word than `rust`, or without an end, is an error."""
+    found = fences(lines)
+    for fence in found:
+        if fence.words != ["rust"]:
+            raise SystemExit(f"{path}:{fence.number}: a fence that begins with {' '.join(fence.words)}")
+        if not fence.is_ended:
+            raise SystemExit(f"{path}:{fence.number}: a fence without an end")
+    return [Example(path, fence) for fence in found]
 
 
 def sources():
@@ -88,7 +80,7 @@ def doc_examples(path):
     """The fences of the doc comments of a source file."""
     with open(os.path.join(TOP, path), encoding="utf-8") as file:
         lines = [(number, DOC.match(line)) for number, line in enumerate(file, 1)]
-    return fences(path, [(number, match.group(1).rstrip()) for number, match in lines if match])
+    return examples_in(path, [(number, match.group(1).rstrip()) for number, match in lines if match])
 
 
 def judge(is_well, what, counts):
@@ -121,11 +113,9 @@ def calls(module, items):
 
 
 def check_programs(programs, counts):
-    """Whether each whole program is the README's."""
+    """Whether each whole program is the README's. (That the README has one is for check_pages.py.)"""
     with open(os.path.join(TOP, "README.md"), encoding="utf-8") as file:
-        lines = [(number, line.rstrip("\n")) for number, line in enumerate(file, 1)]
-    kept = [example.lines for example in fences("README.md", lines, ("rust", "sh", "console")) if example.is_program()]
-    judge(len(kept) == 1, "README.md does not have one program", counts)
+        kept = [fence.lines for fence in fences_of(file.read()) if fence.is_program()]
     for example in programs:
         judge([example.lines] == kept, f"{example.path}:{example.line} is not the README's program", counts)
 
@@ -174,8 +164,8 @@ def main():
     counts = [0, 0]
     examples = [example for path in sources() for example in doc_examples(path)]
     check_comments(counts)
-    check_programs([example for example in examples if example.is_program()], counts)
-    run_examples([example for example in examples if not example.is_program()], counts)
+    check_programs([example for example in examples if example.is_program], counts)
+    run_examples([example for example in examples if not example.is_program], counts)
     print(f"{counts[0]} passed, {counts[1]} failed")
     return 0 if counts[1] == 0 else 1
 

@@ -11,12 +11,15 @@ import shutil
 import subprocess
 import sys
 
+from shared.fences import fences_of
+
 TOP = os.path.dirname(os.path.dirname(os.path.abspath(__file__)))
 
 
 def commands(page):
     """The commands of a page, each with what it writes."""
-    for block in re.findall(r"^```console\n(.*?)^```$", page, re.M | re.S):
+    for fence in fences_of(page):
+        block = "".join(f"{line}\n" for line in fence.lines if fence.words == ["console"])
         for command in re.split(r"^\$ ", block, flags=re.M)[1:]:
             yield command.split("\n", 1)
 

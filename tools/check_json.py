@@ -20,9 +20,9 @@ import sys
 import tempfile
 
 from read_by_email import mail_object, part_object, parts_of
+from shared.programs import built_program
 
-HERE = os.path.dirname(os.path.abspath(__file__))
-TOP = os.path.dirname(HERE)
+TOP = os.path.dirname(os.path.dirname(os.path.abspath(__file__)))
 MEMBERS = [
     "subject", "from", "to", "cc", "date", "date_error", "message_id", "in_reply_to", "references", "parts",
 ]
@@ -291,11 +291,7 @@ def main():
     global PROGRAM
     parser = argparse.ArgumentParser(description=__doc__, formatter_class=argparse.RawDescriptionHelpFormatter)
     parser.parse_args()
-    built = subprocess.run([os.path.join(HERE, "program.sh"), "mail_json"], stdout=subprocess.PIPE)
-    if built.returncode != 0:
-        print("0 passed, 1 failed")
-        return 1
-    PROGRAM = built.stdout.decode().strip()
+    PROGRAM = built_program("mail_json")
     for check in (
         check_samples,
         check_characters,

@@ -16,6 +16,8 @@ import re
 import sys
 import textwrap
 
+from shared.fences import fences_of
+
 TOP = os.path.dirname(os.path.dirname(os.path.abspath(__file__)))
 PAGE = os.path.join("docs", "CALLING.md")
 README = "README.md"
@@ -23,33 +25,6 @@ PROGRAM = os.path.join("crates", "first_mail", "src", "main.rt")
 GAP = "// .."
 CLAUSE = re.compile(r"\s*(requires|ensures)\b")
 BRACKETS = (("{", "}"), ("(", ")"))
-
-
-class Fence:
-    """A fence of a page: the line where it begins, what stands beside it, and its lines."""
-
-    def __init__(self, number, words):
-        self.number = number
-        self.words = words
-        self.lines = []
-
-    def source(self):
-        """The path that it names, or None."""
-        return self.words[1] if len(self.words) == 2 else None
-
-
-def fences(text):
-    """The fences of a page. One without an end goes on to the end of the page."""
-    found, is_open = [], False
-    for number, line in enumerate(text.split("\n"), 1):
-        if not is_open and line.startswith("```"):
-            found.append(Fence(number, line[3:].split()))
-            is_open = True
-        elif is_open and line == "```":
-            is_open = False
-        elif is_open:
-            found[-1].lines.append(line)
-    return found
 
 
 def pieces(lines):
@@ -110,8 +85,8 @@ def lines_of(path):
 
 def page_faults(text, read=lines_of):
     """For each fence of the page with quotes the line where it stands, and its fault or None."""
-    for fence in fences(text):
-        path = fence.source()
+    for fence in fences_of(text):
+        path = fence.words[1] if len(fence.words) == 2 else None
         source = read(path) if path else None
         if path is None:
             yield fence.number, "a fence that names no source"
@@ -124,7 +99,7 @@ def page_faults(text, read=lines_of):
 
 def program_fault(text, source):
     """What is wrong with the program of the README, beside the lines of its crate, or None."""
-    programs = [fence for fence in fences(text) if any(line.startswith("fn main(") for line in fence.lines)]
+    programs = [fence for fence in fences_of(text) if fence.is_program()]
     if len(programs) != 1:
         return f"{len(programs)} programs, and not one"
     if source is None:

@@ -17,7 +17,6 @@ is 1 where one failed, or where a program did not run or the oracle's answers ha
 """
 import argparse
 import itertools
-import os
 import re
 import subprocess
 import sys
@@ -26,8 +25,8 @@ from make_mails import mails
 from questions import ctype, date, dispo, mail, msgid, value
 from questions.body import ALL_LABELS
 from questions.oracle import Unusable, answers, field, matched, oracle_named, unhex
+from shared.programs import built_program
 
-HERE = os.path.dirname(os.path.abspath(__file__))
 CHUNK = 500
 SHOWN = 5
 
@@ -47,14 +46,6 @@ class Counts:
             self.failed += 1
             if self.failed <= SHOWN:
                 print(f"FAILED {what}")
-
-
-def program(name):
-    """Where the program is; it is built first where it has to be."""
-    run = subprocess.run([os.path.join(HERE, "program.sh"), name], stdout=subprocess.PIPE)
-    if run.returncode != 0:
-        raise Unusable(f"there is no program {name}")
-    return run.stdout.decode().strip()
 
 
 def shown(mail_show, data):
@@ -165,7 +156,7 @@ class Comparison:
 
     def __init__(self, oracle):
         self.oracle = oracle
-        self.mail_show, self.replayer = program("mail_show"), program("answers")
+        self.mail_show, self.replayer = built_program("mail_show"), built_program("answers")
         self.shows, self.lines, self.bounds = Counts(), Counts(), Counts()
 
     def compare(self, named, skips):

@@ -21,8 +21,8 @@ import subprocess
 import sys
 
 from read_by_email import ids, is_file, body_of, mails_of, parts_of, raw_value, seconds, value_of
+from shared.programs import built_program
 
-HERE = os.path.dirname(os.path.abspath(__file__))
 BATCH = 1000
 ITEMS = ("mail", "subject", "from", "date", "id", "attachments", "not reached", "parents")
 ESCAPE = re.compile(r"\\(u\{([0-9a-f]+)\}|.)")
@@ -68,14 +68,6 @@ def quoted(mail):
     """A mail as it stands in a mailbox."""
     mail = re.sub(rb"(?m)^From ", b">From ", mail)
     return mail if mail.endswith(b"\n") else mail + b"\n"
-
-
-def program(name):
-    """Where a built program is."""
-    built = subprocess.run([os.path.join(HERE, "program.sh"), name], stdout=subprocess.PIPE, check=False)
-    if built.returncode != 0:
-        sys.exit(1)
-    return built.stdout.decode().strip()
 
 
 def ran(words, data):
@@ -219,7 +211,7 @@ def main():
     missing = [place for place in asked.places if not os.path.exists(place)]
     if missing:
         parser.error(f"{missing[0]} is not there")
-    programs = {name: program(name) for name in ("mail_json", "mail_jobs")}
+    programs = {name: built_program(name) for name in ("mail_json", "mail_jobs")}
     counts = Counts(asked.show)
     batch = []
     for name, mail in mails_at(asked.places):

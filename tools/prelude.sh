@@ -107,6 +107,16 @@ make_mail() {
     python3 "$here/make_benchmark_mail.py" "$@" > "$work/input"
 }
 
+# microseconds: the microseconds since a fixed time
+microseconds() {
+    echo $(($(date +%s%N) / 1000))
+}
+
+# least: the least of the numbers on standard input
+least() {
+    sort -n | head -n 1
+}
+
 # seconds TURNS LIMIT COMMAND..: the least time of so many runs on the file `input`, each of which
 # gets so many seconds at most; or in words that a run took longer, or failed
 seconds() {
@@ -114,15 +124,15 @@ seconds() {
     limit=$2
     shift 2
     for _turn in $(seq "$turns"); do
-        start=$(date +%s%N)
+        start=$(microseconds)
         status=0
         timeout "$limit" "$@" < "$work/input" > /dev/null 2>&1 || status=$?
         case $status in
-            0) echo $((($(date +%s%N) - start) / 1000)) ;;
+            0) echo $(($(microseconds) - start)) ;;
             124) echo 'late'; break ;;
             *) echo 'failed'; break ;;
         esac
-    done | sort -n | head -n 1 |
+    done | least |
         awk -v limit="$limit" '
             /^[0-9]/ { printf "%.4f s", $1 / 1000000 }
             /^late/ { printf "more than %d s", limit }

@@ -61,20 +61,20 @@ boxes_by_parallel() {
     parallel -j 4 "$json" --mbox ::: "$work"/boxes/*
 }
 
-# least NAME: the least time of three runs in seconds; the lines of the last one, sorted, are the file NAME
-least() {
+# time_runs NAME: the least time of three runs in seconds, which leave their lines, sorted, in the file NAME
+time_runs() {
     for _turn in 1 2 3; do
-        start=$(date +%s%N)
+        start=$(microseconds)
         "$1" > "$work/lines" || echo "$1" >> "$work/failed"
-        echo $((($(date +%s%N) - start) / 1000))
-    done | sort -n | head -n 1 | awk '{ printf "%.3f", $1 / 1000000 }'
-    LC_ALL=C sort "$work/lines" > "$work/$1"
+        echo $(($(microseconds) - start))
+        LC_ALL=C sort "$work/lines" > "$work/$1"
+    done | least | awk '{ printf "%.3f", $1 / 1000000 }'
 }
 
 # alone NAME: the time of one process, and whether it writes a line for each mail
 alone() {
     one=$1
-    before=$(least "$1")
+    before=$(time_runs "$1")
     echo "$1: $before s, $(wc -l < "$work/$1") mails"
     if [ "$(wc -l < "$work/$1")" = "$2" ]; then
         pass
@@ -85,7 +85,7 @@ alone() {
 
 # compared NAME: its time beside that of one process, and whether its lines are the same
 compared() {
-    time=$(least "$1")
+    time=$(time_runs "$1")
     awk -v what="$1" -v time="$time" -v before="$before" 'BEGIN {
         printf "%s: %.3f s, %.2f times the time of one process\n", what, time, time / before
     }'

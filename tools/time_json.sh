@@ -15,17 +15,12 @@ make_work
 timed() {
     times=$1
     shift
-    start=$(date +%s%N)
+    start=$(microseconds)
     if "$@" < "$work/input" > "$work/out"; then
-        echo $((($(date +%s%N) - start) / 1000)) >> "$times"
+        echo $(($(microseconds) - start)) >> "$times"
     else
         fail "$* on $kind"
     fi
-}
-
-# least FILE: the least of its numbers
-least() {
-    sort -n "$1" | head -n 1
 }
 
 # row KIND SCALE [OPTION]: the times on such a mail
@@ -40,7 +35,7 @@ row() {
         timed "$work/theirs" python3 "$here/read_by_email.py" "$@"
     done
     awk -v kind="$kind" -v bytes="$(wc -c < "$work/input")" -v most="$(memory 600 "$json" "$@")" \
-        -v ours="$(least "$work/ours")" -v theirs="$(least "$work/theirs")" 'BEGIN {
+        -v ours="$(least < "$work/ours")" -v theirs="$(least < "$work/theirs")" 'BEGIN {
         printf "%-11s %6.1f MB: mail_json %6.3f s, Python %7.3f s, ratio %5.1f; at most %.0f MB\n",
             kind, bytes / 1e6, ours / 1e6, theirs / 1e6, theirs / ours, most / 1e3
     }'

@@ -17,15 +17,15 @@ make_work
 each=4
 turns=$(((${ROUNDS:-16} + each - 1) / each))
 
-# least PATTERN FILE: the least of the numbers that stand where the pattern has its group
-least() {
-    sed -n "s/$1/\\1/p" "$2" | sort -n | head -n 1
+# least_of PATTERN FILE: the least of the numbers that stand where the pattern has its group
+least_of() {
+    sed -n "s/$1/\\1/p" "$2" | least
 }
 
 # row MAIL WORK LINE: our time of a work on a mail, and the oracle's on its line of that name
 row() {
-    ours=$(least "^$2: least \([0-9.]*\),.*\$" "$work/ours")
-    theirs=$(least "^$3 min \([0-9.]*\) .*\$" "$work/theirs")
+    ours=$(least_of "^$2: least \([0-9.]*\),.*\$" "$work/ours")
+    theirs=$(least_of "^$3 min \([0-9.]*\) .*\$" "$work/theirs")
     awk -v mail="$1" -v name="$2" -v ours="$ours" -v theirs="$theirs" 'BEGIN {
         printf "%-14s %-6s %8.3f ns a byte", mail, name, ours
         if (theirs > 0) printf ", oracle %8.3f, ratio %.2f", theirs, ours / theirs
