@@ -1,7 +1,7 @@
 //! The four charsets that are known without a table.
 ghost use Rattle.std.specs.Prelude.{◌≡◌, find, option_map, IfOk, string_bytes};
 ghost use Rattle.mail_codec.specs.Charset.{charset_of_label, is_among_labels, labels_by_charset, marked_text_of, text_of};
-ghost use Rattle.mail_codec.specs.private.ByteOrderMarks.{marked, seen};
+ghost use Rattle.mail_codec.specs.private.ByteOrderMarks.{split_mark, split_view};
 
 use super::labels::is_among;
 use super::utf16::ByteOrder;
@@ -67,7 +67,7 @@ impl Charset {
     pub fn decode(self, alloc: Global, bytes: &[u8]) -> Result<String, AllocError>
         ensures { IfOk result (λ t. string_bytes t ≡ marked_text_of self bytes.now) }
     {
-        match marked(bytes) {
+        match split_mark(bytes) {
             Some((charset, rest)) => charset.decode_without_bom_handling(alloc, rest),
             None => self.decode_without_bom_handling(alloc, bytes),
         }
@@ -127,8 +127,8 @@ fn charset_of(label: &[u8]) -> Option<Charset>
 }
 
 /// The charset whose byte order mark the bytes begin with, and the bytes after the mark.
-pub(super) fn marked(bytes: &[u8]) -> Option<(Charset, &[u8])>
-    ensures { seen result ≡ marked bytes.now }
+pub(super) fn split_mark(bytes: &[u8]) -> Option<(Charset, &[u8])>
+    ensures { split_view result ≡ split_mark bytes.now }
 {
     if let Some(rest) = bytes.strip_prefix(b"\xEF\xBB\xBF") {
         return Some((Charset::Utf8, rest));

@@ -4,7 +4,7 @@ ghost use Rattle.std.specs.List.{position};
 ghost use Rattle.mail_codec.specs.Charset.{is_among_labels, marked};
 ghost use Rattle.mail_codec.specs.Tables.{table_of_label, table_text};
 
-use super::built_in::{Charset, marked};
+use super::built_in::{Charset, split_mark};
 use super::labels::is_among;
 use super::single_byte;
 use std::alloc::{AllocError, Global};
@@ -43,7 +43,7 @@ impl<'t> SingleByteTable<'t> {
     pub fn decode(&self, alloc: Global, bytes: &[u8]) -> Result<String, AllocError>
         ensures { IfOk result (λ t. string_bytes t ≡ marked (table_text self.now) bytes.now) }
     {
-        match marked(bytes) {
+        match split_mark(bytes) {
             Some((charset, rest)) => charset.decode_without_bom_handling(alloc, rest),
             None => self.decode_without_bom_handling(alloc, bytes),
         }
