@@ -1,6 +1,6 @@
 //! Vectors of sixteen bytes, all of which are tested or mapped at once.
 //!
-//! Each operation is a small function with the contract of its own, and is inlined.
+//! Each operation is a small function with a contract of its own, and is inlined.
 
 pub(crate) mod letters;
 pub(crate) mod marks;

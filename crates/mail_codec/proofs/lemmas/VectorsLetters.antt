@@ -10,7 +10,7 @@ use Rattle.std.specs.List.{prefix_len}
 use Rattle.std.specs.Option.{is_some}
 use lib.Lanes.{Each1, zip2, dots, digits_l, number_l, pick_l}
 use Rattle.mail_codec.specs.Base64.{letter, letter_value, padding, group_bytes, group_number, groups_from, after_group, prepend, three_bytes}
-use Rattle.mail_codec.specs.private.Vectors.{fault_of, group_of, is_letter, roll_place, three_at, value_of}
+use Rattle.mail_codec.specs.private.Vectors.{fault_of, group_of, is_letter, addition_place, three_at, value_of}
 use Rattle.mail_codec.proofs.lemmas.Vectors.{IsLanes, lane_fits}
 use Rattle.mail_codec.proofs.lemmas.Base64Letters.{is_value, is_value_true, letter-letter_value}
 use Rattle.mail_codec.proofs.lemmas.Base64Groups.{drop_four, groups_from-append}
@@ -174,8 +174,8 @@ groups_read v bytes (suc m) long room each n =
     ∙ ap Ok (sym bytes_split)
 
 -- each place in the table of what is added is one of sixteen
-pub roll_place_small : (b : ℕ) → b < 256 → roll_place b < 16
-roll_place_small b h = ltb-true _ _ (agree_below_at (λ x. nat_lt (roll_place x) 16) (λ _. true) 256 b refl h)
+pub addition_place_small : (b : ℕ) → b < 256 → addition_place b < 16
+addition_place_small b h = ltb-true _ _ (agree_below_at (λ x. nat_lt (addition_place x) 16) (λ _. true) 256 b refl h)
 
 -- the groups of a vector of letters, with their values, numbers and bytes
 module _ (v vs ns : List ℕ) (fits : IsLanes v) (vs_is : vs ≡ map value_of v) (ns_len : length ns ≡ 4) (ns_small : (k : ℕ) → k < 4 → get_or ns k 0 < 2 ^ 32)

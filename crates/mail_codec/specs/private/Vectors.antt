@@ -1,4 +1,4 @@
--- What is told of vectors of sixteen bytes, each seen as the list of its lanes; this crate's own words.
+-- What contracts say of vectors of sixteen bytes, each seen as the list of its lanes; this crate's own words.
 use Rattle.std.specs.Prelude.{ℕ, ◌+◌, ◌*◌, ◌/◌, ◌%◌, ◌==◌, ◌&&◌, Bool, map, List, [], ◌∷◌, Option, slice_index, bit_and, if◌then◌else◌}
 use Rattle.std.specs.Option.{is_some}
 use Rattle.std.specs.Simd.Lanes.{mask_l, zip2}
@@ -38,24 +38,25 @@ lower_faults = 21 ∷ 17 ∷ 17 ∷ 17 ∷ 17 ∷ 17 ∷ 17 ∷ 17 ∷ 17 ∷ 17
 abbrev pub fault_of : ℕ → ℕ
 fault_of b = bit_and (slice_index upper_faults (b / 16)) (slice_index lower_faults (bit_and b 15))
 
--- 255, which is one less than nothing, at `/`.
+-- 255, which is -1 modulo 256, at `/`; 0 at every other byte.
 abbrev pub slash_mark : ℕ → ℕ
 slash_mark b = if b == slash then 255 else 0
 
 -- The place in the table of what is added to a letter.
-abbrev pub roll_place : ℕ → ℕ
-roll_place b = (b / 16 + slash_mark b) % 256
+abbrev pub addition_place : ℕ → ℕ
+addition_place b = (b / 16 + slash_mark b) % 256
 
 -- What is added to a letter, by its place.
 abbrev pub additions : List ℕ
 additions = 0 ∷ 16 ∷ 19 ∷ 4 ∷ 191 ∷ 191 ∷ 185 ∷ 185 ∷ 0 ∷ 0 ∷ 0 ∷ 0 ∷ 0 ∷ 0 ∷ 0 ∷ 0 ∷ []
 
-abbrev pub roll_of : ℕ → ℕ
-roll_of b = slice_index additions (roll_place b)
+-- What is added to this letter.
+abbrev pub addition_of : ℕ → ℕ
+addition_of b = slice_index additions (addition_place b)
 
 -- The value of a letter.
 abbrev pub value_of : ℕ → ℕ
-value_of b = (b + roll_of b) % 256
+value_of b = (b + addition_of b) % 256
 
 -- The bytes of group k of some letters, if it is a group.
 abbrev pub group_of : List ℕ → ℕ → Option (List ℕ)

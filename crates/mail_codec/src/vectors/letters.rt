@@ -2,24 +2,25 @@
 ghost use Rattle.std.specs.Prelude.{◌≡◌, ℕ, Some, ◌+◌, ◌*◌, ◌/◌, ◌^◌, ◌<◌, ◌≤◌, length, map, slice_index, bit_and};
 ghost use Rattle.std.specs.List.{prefix_len};
 ghost use Rattle.mail_codec.specs.Base64.{group_number};
-ghost use Rattle.mail_codec.specs.private.Vectors.{fault_of, group_of, is_letter, lower_faults, roll_of, roll_place, slash_mark, three_at, upper_faults, value_of};
+ghost use Rattle.mail_codec.specs.private.Vectors.{addition_of, addition_place, fault_of, group_of, is_letter, lower_faults, slash_mark, three_at, upper_faults, value_of};
 
 use super::LANES;
 use std::simd::prelude::*;
 
-/// What may be wrong with a byte, by its upper half. Where a bit stands here and in `LOW_FAULTS`,
-/// the byte is no letter.
-const HIGH_FAULTS: [u8; 16] = [
+/// What may be wrong with a byte, by its upper half. Where a bit stands here and in `LOWER_FAULTS`,
+/// the byte is not a letter.
+const UPPER_FAULTS: [u8; 16] = [
     0x10, 0x10, 0x01, 0x02, 0x04, 0x08, 0x04, 0x08, 0x10, 0x10, 0x10, 0x10, 0x10, 0x10, 0x10, 0x10,
 ];
 
 /// What may be wrong with a byte, by its lower half.
-const LOW_FAULTS: [u8; 16] = [
+const LOWER_FAULTS: [u8; 16] = [
     0x15, 0x11, 0x11, 0x11, 0x11, 0x11, 0x11, 0x11, 0x11, 0x11, 0x13, 0x1A, 0x1B, 0x1B, 0x1B, 0x1A,
 ];
 
-/// What has to be added to a letter for its value, by the letter's upper half; of `/` by 1.
-const ROLLS: [u8; 16] = [0, 16, 19, 4, 191, 191, 185, 185, 0, 0, 0, 0, 0, 0, 0, 0];
+/// What is added to a letter to get its value, indexed by the letter's upper half; the index of `/`
+/// is 1.
+const ADDITIONS: [u8; 16] = [0, 16, 19, 4, 191, 191, 185, 185, 0, 0, 0, 0, 0, 0, 0, 0];
 
 /// Weights that put the first two values of a group together.
 const FIRST_PAIR: [u8; 16] = [64, 1, 0, 0, 64, 1, 0, 0, 64, 1, 0, 0, 64, 1, 0, 0];
@@ -27,7 +28,7 @@ const FIRST_PAIR: [u8; 16] = [64, 1, 0, 0, 64, 1, 0, 0, 64, 1, 0, 0, 64, 1, 0, 0
 /// Weights that put the last two values of a group together.
 const LAST_PAIR: [u8; 16] = [0, 0, 64, 1, 0, 0, 64, 1, 0, 0, 64, 1, 0, 0, 64, 1];
 
-/// How many bytes come before the first that is no letter.
+/// How many bytes come before the first that is not a letter.
 #[inline(always)]
 pub(crate) fn letters_len(bytes: u8x16) -> usize
     ensures { result ≡ prefix_len is_letter bytes }
@@ -58,21 +59,21 @@ pub(crate) fn packed(letters: u8x16) -> u8x16
 fn faults(bytes: u8x16) -> u8x16
     ensures { result ≡ map fault_of bytes }
 {
-    high_faults(bytes) & low_faults(bytes)
+    upper_faults_of(bytes) & lower_faults_of(bytes)
 }
 
 #[inline(always)]
-fn high_faults(bytes: u8x16) -> u8x16
+fn upper_faults_of(bytes: u8x16) -> u8x16
     ensures { result ≡ map (λ b. slice_index upper_faults (b / 16)) bytes }
 {
-    u8x16::from_array(HIGH_FAULTS).swizzle_dyn(bytes >> u8x16::splat(4))
+    u8x16::from_array(UPPER_FAULTS).swizzle_dyn(bytes >> u8x16::splat(4))
 }
 
 #[inline(always)]
-fn low_faults(bytes: u8x16) -> u8x16
+fn lower_faults_of(bytes: u8x16) -> u8x16
     ensures { result ≡ map (λ b. slice_index lower_faults (bit_and b 15)) bytes }
 {
-    u8x16::from_array(LOW_FAULTS).swizzle_dyn(bytes & u8x16::splat(15))
+    u8x16::from_array(LOWER_FAULTS).swizzle_dyn(bytes & u8x16::splat(15))
 }
 
 /// The value of each letter.
@@ -80,19 +81,19 @@ fn low_faults(bytes: u8x16) -> u8x16
 fn values(letters: u8x16) -> u8x16
     ensures { result ≡ map value_of letters }
 {
-    letters + rolls(letters)
+    letters + additions_of(letters)
 }
 
 #[inline(always)]
-fn rolls(letters: u8x16) -> u8x16
-    ensures { result ≡ map roll_of letters }
+fn additions_of(letters: u8x16) -> u8x16
+    ensures { result ≡ map addition_of letters }
 {
-    u8x16::from_array(ROLLS).swizzle_dyn(roll_places(letters))
+    u8x16::from_array(ADDITIONS).swizzle_dyn(addition_places(letters))
 }
 
 #[inline(always)]
-fn roll_places(letters: u8x16) -> u8x16
-    ensures { result ≡ map roll_place letters }
+fn addition_places(letters: u8x16) -> u8x16
+    ensures { result ≡ map addition_place letters }
 {
     (letters >> u8x16::splat(4)) + slash_marks(letters)
 }

@@ -3,4 +3,4 @@ use Rattle.std.proofs.lemmas.Simd.{zip2_of_maps}
 use Rattle.mail_codec.proofs.vectors.letters.faults.Goals as goal
 
 pub returns : goal.returns
-returns c = zip2_of_maps bit_and _ _ c.args.bytes c.high_faults.ensures c.low_faults.ensures
+returns c = zip2_of_maps bit_and _ _ c.args.bytes c.upper_faults_of.ensures c.lower_faults_of.ensures

@@ -4,4 +4,4 @@ use Rattle.mail_codec.proofs.lemmas.Vectors.{itself}
 use Rattle.mail_codec.proofs.vectors.letters.values.Goals as goal
 
 pub returns : goal.returns
-returns c = zip2_of_maps (λ a b. (a + b) % 2 ^ 8) _ _ c.args.letters (itself c.args.letters) c.rolls.ensures
+returns c = zip2_of_maps (λ a b. (a + b) % 2 ^ 8) _ _ c.args.letters (itself c.args.letters) c.additions_of.ensures

@@ -1,6 +1,6 @@
 use Rattle.std.proofs.Common.{◌+◌, ◌/◌, ◌%◌, ◌^◌}
 use Rattle.std.proofs.lemmas.Simd.{zip2_of_maps, zip2_splat}
-use Rattle.mail_codec.proofs.vectors.letters.roll_places.Goals as goal
+use Rattle.mail_codec.proofs.vectors.letters.addition_places.Goals as goal
 
 pub returns : goal.returns
 returns c =
