@@ -62,6 +62,11 @@ charset_of_label label =
 
 -- One byte, one character (section 9.1).
 
+-- the character of a byte in a charset with these characters for the bytes 80 to FF: a byte below
+-- 80 is the character of its number
+abbrev pub single_byte_char : List ℕ → ℕ → ℕ
+single_byte_char high byte = if nat_lt byte 0x80 then byte else slice_index high (byte - 0x80)
+
 -- the characters of the bytes 80 to 9F in windows-1252
 abbrev pub windows_1252_row : List ℕ
 windows_1252_row =

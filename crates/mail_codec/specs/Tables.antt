@@ -1,13 +1,13 @@
 -- The charsets of a caller: tables in which each byte is one character, and the charsets that a reader knows with them.
-use Rattle.std.specs.Prelude.{ℕ, ◌-◌, Bool, List, map, nat_lt, slice_index, Option, None, is_some, option_map, find, encode_utf8_all, if◌then◌else◌}
+use Rattle.std.specs.Prelude.{ℕ, Bool, List, map, Option, None, is_some, option_map, find, encode_utf8_all, if◌then◌else◌}
 use Rattle.std.specs.List.{position}
 use Rattle.std.specs.Option.{option_or}
-use Rattle.mail_codec.specs.Charset.{Charsets, charset_of_label, four_charsets, is_among_labels, trimmed_label}
+use Rattle.mail_codec.specs.Charset.{Charsets, charset_of_label, four_charsets, is_among_labels, single_byte_char, trimmed_label}
 use Rattle.mail_codec.specs.declared.charset.tables.SingleByteTable.{SingleByteTable}
 
 -- the character of a byte under a table: a byte below 0x80 is the character of its number, and 0x80 + n the one at n
 abbrev pub table_char : SingleByteTable → ℕ → ℕ
-table_char table byte = if nat_lt byte 0x80 then byte else slice_index table.high.now (byte - 0x80)
+table_char table = single_byte_char table.high.now
 
 -- the text of bytes under a table; a byte order mark is read as any other bytes are
 unfoldable pub table_text : SingleByteTable → List ℕ → List ℕ

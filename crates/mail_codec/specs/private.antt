@@ -7,4 +7,3 @@ pub mod Utf16
 pub mod ByteOrderMarks
 pub mod Base64
 pub mod QuotedPrintable
-pub mod SingleByte

@@ -6,8 +6,7 @@ use Rattle.std.proofs.lemmas.Str.{IsAscii-append, encodes-IsAscii, encodes-appen
 use Rattle.std.proofs.lemmas.List.{map-append, take_more, take-take}
 use Rattle.std.specs.Prelude.{nat_le}
 use Rattle.mail_codec.specs.Places.{begins, first_place}
-use Rattle.mail_codec.specs.Charset.{windows_1252_char, ascii_char, ascii_text}
-use Rattle.mail_codec.specs.private.SingleByte.{single_byte_char}
+use Rattle.mail_codec.specs.Charset.{single_byte_char, windows_1252_char, ascii_char, ascii_text}
 use Rattle.mail_codec.specs.Latin1.{latin1_text}
 use Rattle.mail_codec.specs.declared.charset.single_byte.TheConstants.{LATIN_1, WINDOWS_1252, ASCII}
 

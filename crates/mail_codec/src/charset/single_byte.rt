@@ -1,8 +1,7 @@
 //! Charsets in which each byte is one character.
 ghost use Rattle.std.specs.Prelude.{◌≡◌, ◌*◌, ◌≤◌, ◌↔◌, ◌++◌, length, take, map, IfOk, OnOk, IsOk, IsAscii, IsUtf8, encode_utf8_all, string_bytes};
 ghost use Rattle.std.specs.Cow.{cow_str_bytes, IsBorrowedStr};
-ghost use Rattle.mail_codec.specs.Charset.{windows_1252_char};
-ghost use Rattle.mail_codec.specs.private.SingleByte.{single_byte_char};
+ghost use Rattle.mail_codec.specs.Charset.{single_byte_char, windows_1252_char};
 
 use super::encode::put_char;
 use crate::vectors::LANES;
