@@ -87,8 +87,8 @@ impl<'t> SingleByteTable<'t> {
 }
 
 /// Returns the index, counted from 0, of the table that is used for the label: the first that has
-/// it. Returns `None` if no table has it, or if one of the four charsets has it, which wins (the
-/// WHATWG Encoding Standard, section 4.2).
+/// it. Returns `None` if no table has it, or if one of the four charsets has it: these come first,
+/// by this crate's own rule. Labels are matched as in the WHATWG Encoding Standard, section 4.2.
 ///
 /// ASCII whitespace around the label (space, tab, LF, FF, CR) and ASCII case do not count; the
 /// labels of the tables are not trimmed. Takes no memory.

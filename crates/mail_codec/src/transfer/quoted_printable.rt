@@ -15,7 +15,7 @@ use std::simd::prelude::*;
 /// How many bytes are read before they are appended; more than a line has by the rules of mail.
 const BUFFER: usize = 4096;
 
-/// What stands in the table for a byte that is no digit.
+/// What stands in the table for a byte that is not a digit.
 const NO_DIGIT: u8 = 0xFF;
 
 /// The value of each byte that is a hexadecimal digit, of either case.
@@ -43,8 +43,8 @@ static DIGIT_VALUES: [u8; 256] = [
 /// On each line, the spaces and tabs at its end are removed, then a final `=` together with the
 /// line end, which is LF or CR LF. Then, from the left, each `=` with two hexadecimal digits of
 /// either case becomes one byte. Every other byte stays, so no text is refused. Takes memory for
-/// the bytes, which is reserved at once; if a line is longer than four kilobytes, as much again
-/// temporarily.
+/// the bytes, which is reserved at once; where four kilobytes or more stand without a line end or an
+/// escape, up to as much again temporarily.
 ///
 /// # Errors
 ///
