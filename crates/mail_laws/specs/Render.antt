@@ -6,9 +6,10 @@ use Rattle.std.specs.Char.{is_ascii_alphanumeric, is_ascii_graphic}
 use Rattle.std.specs.List.{list_all}
 use Rattle.std.specs.Option.{option_map_or}
 use Rattle.std.specs.Str.{bytes_eq, is_utf8, str_eq_ignore_ascii_case, str_to_ascii_lowercase}
-use Rattle.mail_codec.specs.Ascii.{carriage_return, line_feed, colon}
+use Rattle.mail_codec.specs.Ascii.{line_feed, colon}
 use Rattle.mail_codec.specs.Charset.{Charsets}
 use Rattle.mail_codec.specs.Places.{is_empty, stands, text_place}
+use Rattle.mail_codec.specs.QuotedPrintable.{cr_lf}
 use Rattle.mailparse.specs.Header.{Header}
 use Rattle.mailparse.specs.ContentType.{ContentType, content_type_in, default_type}
 use Rattle.mailparse.specs.Mail.{Node, Tree, tree, Forest, no_parts, part_and}
@@ -40,10 +41,6 @@ headers_of (branch headers boundary parts) = headers
 
 -- ---- what an outline is written as
 
--- CR LF
-abbrev pub crlf : List ℕ
-crlf = carriage_return ∷ line_feed ∷ []
-
 -- a value: a text as `written_value` says, and bytes that are not UTF-8 as they are
 abbrev pub written_bytes : List ℕ → List ℕ
 written_bytes value = if is_utf8 value then written_value value else value
@@ -58,11 +55,11 @@ written_headers headers = map written_header headers
 
 -- a header whose value is written: its key, `: `, its value and CR LF
 abbrev pub header_line : Header → List ℕ
-header_line h = h.key ++ (codes ": " ++ (h.value ++ crlf))
+header_line h = h.key ++ (codes ": " ++ (h.value ++ cr_lf))
 
 -- the header block of such headers: each in order, and then the blank line
 abbrev pub header_block : List Header → List ℕ
-header_block headers = flat_map header_line headers ++ crlf
+header_block headers = flat_map header_line headers ++ cr_lf
 
 -- the dash-boundary: `--` and the boundary
 abbrev pub dash_boundary : List ℕ → List ℕ
@@ -76,9 +73,9 @@ abbrev mutual
 
   -- for each part the dash-boundary, CR LF, the part and CR LF; at the end the dash-boundary, `--` and CR LF
   pub rendered_parts : List ℕ → OutlineForest → List ℕ
-  rendered_parts boundary no_outlines = dash_boundary boundary ++ (codes "--" ++ crlf)
+  rendered_parts boundary no_outlines = dash_boundary boundary ++ (codes "--" ++ cr_lf)
   rendered_parts boundary (outline_and part parts) =
-      dash_boundary boundary ++ (crlf ++ (rendered part ++ (crlf ++ rendered_parts boundary parts)))
+      dash_boundary boundary ++ (cr_lf ++ (rendered part ++ (cr_lf ++ rendered_parts boundary parts)))
 
 -- ---- the eight conditions of a well-formed outline
 

@@ -7,12 +7,13 @@ use Rattle.std.proofs.lemmas.List.{drop_at, take_at}
 use Rattle.mail_codec.specs.Ascii.{is_blank}
 use Rattle.mail_codec.specs.Places.{first_place, begins, stands, is_empty}
 use Rattle.mail_codec.proofs.lemmas.Places.{first_place-here, first_place-past}
+use Rattle.mail_codec.specs.QuotedPrintable.{cr_lf}
 use Rattle.mailparse.specs.Header.{Header, ends_key, ends_header, is_line_end, key_end, has_colon, header_end, header_length, header_of}
 use Rattle.mailparse.specs.Block.{blank_line, headers_end, has_header, read_headers}
 use Rattle.mailparse.proofs.lemmas.Header.{header_of-value, is_line_end-false}
 use Rattle.mailparse.proofs.lemmas.Block.{with_front, read_headers-more, read_headers-none}
 use Rattle.mail_laws.specs.Encode.{is_plain_byte, is_plain_value}
-use Rattle.mail_laws.specs.Render.{crlf, header_line, header_block, is_key_byte, is_key}
+use Rattle.mail_laws.specs.Render.{header_line, header_block, is_key_byte, is_key}
 
 -- ---- lists of bytes that pass a test
 
@@ -221,26 +222,26 @@ no_blank-key (b ∷ key) rest h =
 -- a header as it is written, with what follows
 header_line-rest : (h : Header) (rest : List ℕ) → header_line h ++ rest ≡ line h.key h.value rest
 header_line-rest h rest =
-    append_assoc h.key (codes ": " ++ (h.value ++ crlf)) rest
-    ∙ ap (λ (x : List ℕ). h.key ++ 58 ∷ 32 ∷ x) (append_assoc h.value crlf rest)
+    append_assoc h.key (codes ": " ++ (h.value ++ cr_lf)) rest
+    ∙ ap (λ (x : List ℕ). h.key ++ 58 ∷ 32 ∷ x) (append_assoc h.value cr_lf rest)
 
 -- the first header as it is written, and then the block of the others
 header_block-more : (h : Header) (headers : List Header) (body : List ℕ) → header_block (h ∷ headers) ++ body ≡ header_line h ++ (header_block headers ++ body)
 header_block-more h headers body =
     let lines = flat_map header_line headers in
-    append_assoc (header_line h ++ lines) crlf body
-    ∙ append_assoc (header_line h) lines (crlf ++ body)
-    ∙ ap (λ (x : List ℕ). header_line h ++ x) (sym (append_assoc lines crlf body))
+    append_assoc (header_line h ++ lines) cr_lf body
+    ∙ append_assoc (header_line h) lines (cr_lf ++ body)
+    ∙ ap (λ (x : List ℕ). header_line h ++ x) (sym (append_assoc lines cr_lf body))
 
 length-header_line : (h : Header) → length (header_line h) ≡ length h.key + length h.value + 4
 length-header_line h =
-    let a = length-append h.key (codes ": " ++ (h.value ++ crlf)) in
-    let b = length-append h.value crlf in
+    let a = length-append h.key (codes ": " ++ (h.value ++ cr_lf)) in
+    let b = length-append h.value cr_lf in
     omega arith
 
 length-header_block : (h : Header) (headers : List Header) → length (header_block (h ∷ headers)) ≡ length (header_line h) + length (header_block headers)
 length-header_block h headers =
-    ap length (append_assoc (header_line h) (flat_map header_line headers) crlf)
+    ap length (append_assoc (header_line h) (flat_map header_line headers) cr_lf)
     ∙ length-append (header_line h) (header_block headers)
 
 no_blank-block : (headers : List Header) (body : List ℕ) → list_all (λ h. is_key h.key) headers ≡ true → begins is_blank (header_block headers ++ body) ≡ false

@@ -1,6 +1,7 @@
 use Rattle.std.proofs.Common.{ℕ, ◌++◌, List, ap, sym, ◌∙◌, arith, take_all}
 use Rattle.std.specs.Prelude.{codes, flat_map}
-use Rattle.mail_laws.specs.Render.{crlf, dash_boundary, header_block, rendered, written_headers}
+use Rattle.mail_codec.specs.QuotedPrintable.{cr_lf}
+use Rattle.mail_laws.specs.Render.{dash_boundary, header_block, rendered, written_headers}
 use Rattle.mail_laws.specs.RenderViews.{headers_seen, outline_tree}
 use Rattle.mail_laws.specs.declared.render.Outline.{Outline}
 use Rattle.mail_laws.proofs.lemmas.RenderViews.{on_ok_then, part_text, parts_written, tree_branch}
@@ -17,6 +18,6 @@ returns-after-loop-part t c =
     record {
       written = on_ok_then c.push_delimiter-in-Branch.result c.push_delimiter-in-Branch.ensures.written (λ n.
           parts_written old _ _ (header_block (written_headers (headers_seen outline.headers))) boundary parts before
-          (n ∙ ap (λ (b : List ℕ). c.loop-part.bytes.items ++ (dash_boundary b ++ (codes "--" ++ crlf))) c.as_slice-in-Branch.ensures.value)
+          (n ∙ ap (λ (b : List ℕ). c.loop-part.bytes.items ++ (dash_boundary b ++ (codes "--" ++ cr_lf))) c.as_slice-in-Branch.ensures.value)
           ∙ ap (λ t. old ++ rendered t) (sym (tree_branch outline c.in-Branch.boundary c.in-Branch.parts c.in-Branch.is)));
     }
