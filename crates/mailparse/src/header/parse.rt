@@ -66,7 +66,7 @@ fn cut_header(raw: &[u8]) -> (MailHeader<'_>, usize)
 
 /// The least place of an LF at or after `from`, or the length if there is none.
 fn line_feed_from(raw: &[u8], from: usize) -> usize
-    requires { from ≤ length raw.now }
+    requires within { from ≤ length raw.now }
     ensures least { result ≡ place_from (begins is_line_feed) raw.now from }
     ensures bounds { result ≤ length raw.now }
 {
@@ -100,7 +100,7 @@ fn is_continued(raw: &[u8], place: usize) -> bool
 
 /// How many bytes a header takes that ends at `end`, its LF among them.
 fn length_to(raw: &[u8], end: usize) -> usize
-    requires { end ≤ length raw.now }
+    requires within { end ≤ length raw.now }
     ensures { result ≡ min (suc end) (length raw.now) }
 {
     if end < raw.len() { end + 1 } else { end }

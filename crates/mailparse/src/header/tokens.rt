@@ -54,7 +54,7 @@ fn outside_token(text: &str) -> HeaderToken<'_>
 
 /// The least place at or after `from` where these two bytes stand, or the length if they do not.
 fn find_pair(bytes: &[u8], from: usize, first: u8, second: u8) -> usize
-    requires { from ≤ length bytes.now }
+    requires within { from ≤ length bytes.now }
     ensures { result ≡ place_from (stands (first ∷ second ∷ [])) bytes.now from }
 {
     match bytescan::find_pair(&bytes[from..], first, second) {
@@ -65,7 +65,7 @@ fn find_pair(bytes: &[u8], from: usize, first: u8, second: u8) -> usize
 
 /// The least place at or after `from` where `=?` stands.
 fn find_opening(line: &str, from: usize) -> Option<usize>
-    requires { from ≤ length line.now }
+    requires within { from ≤ length line.now }
     ensures { MatchOption result (opening line.now from ≡ length line.now)
         (λ v. IsOpening line.now from v) }
 {
@@ -80,7 +80,7 @@ fn find_opening(line: &str, from: usize) -> Option<usize>
 
 /// The least place at or after `from` where `?=` stands with a boundary after it, or the length.
 fn find_closing(line: &str, from: usize) -> usize
-    requires { from ≤ length line.now }
+    requires within { from ≤ length line.now }
     ensures { result ≡ closing line.now from }
 {
     let bytes = line.as_bytes();

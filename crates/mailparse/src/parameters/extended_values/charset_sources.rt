@@ -29,7 +29,7 @@ fn shared_lens(alloc: Global, extended: &[ExtendedName<'_, '_>]) -> Result<Vec<u
 
 /// The first place from which on, up to a place, each name shares so many bytes with the next.
 fn first_with(shared: &[usize], place: usize, len: usize) -> usize
-    requires { place ≤ length shared.now }
+    requires within { place ≤ length shared.now }
     ensures bounds { result ≤ place }
     ensures all { (k : ℕ) → result ≤ k → k < place → len ≤ slice_index_or shared.now k 0 }
     ensures first { 0 < result → slice_index_or shared.now (result - 1) 0 < len }
@@ -43,7 +43,7 @@ fn first_with(shared: &[usize], place: usize, len: usize) -> usize
 
 /// The last place up to which, from a place on, each name shares so many bytes with the next.
 fn last_with(shared: &[usize], place: usize, len: usize) -> usize
-    requires { place ≤ length shared.now }
+    requires within { place ≤ length shared.now }
     ensures bounds { (place ≤ result) × (result ≤ length shared.now) }
     ensures all { (k : ℕ) → place ≤ k → k < result → len ≤ slice_index_or shared.now k 0 }
     ensures last { result < length shared.now → slice_index_or shared.now result 0 < len }
@@ -57,7 +57,7 @@ fn last_with(shared: &[usize], place: usize, len: usize) -> usize
 
 /// For each of some places the place itself.
 fn own_places(alloc: Global, count: usize) -> Result<Vec<usize>, AllocError>
-    ensures long { IfOk result (λ places. length places.items ≡ count) }
+    ensures len { IfOk result (λ places. length places.items ≡ count) }
     ensures own { IfOk result (λ places. (k : ℕ) → k < count → slice_index_or places.items k 0
         ≡ k) }
 {
@@ -74,7 +74,7 @@ fn own_places(alloc: Global, count: usize) -> Result<Vec<usize>, AllocError>
 fn write_range(places: &mut Vec<usize>, first: usize, end: usize, place: usize)
     requires order { first ≤ end }
     requires within { end ≤ length places.old.items }
-    ensures long { length places.new.items ≡ length places.old.items }
+    ensures len { length places.new.items ≡ length places.old.items }
     ensures before { (k : ℕ) → k < first → slice_index_or places.new.items k 0
         ≡ slice_index_or places.old.items k 0 }
     ensures inside { (k : ℕ) → first ≤ k → k < end → slice_index_or places.new.items k 0 ≡ place }
@@ -93,8 +93,8 @@ fn write_range(places: &mut Vec<usize>, first: usize, end: usize, place: usize)
 fn offer(extended: &[ExtendedName<'_, '_>], shared: &[usize], place: usize, places: &mut Vec<usize>)
     requires within { place < length extended.now }
     requires shared { shared.now ≡ shared_lens extended.now }
-    requires long { length places.old.items ≡ length extended.now }
-    ensures long { length places.new.items ≡ length places.old.items }
+    requires room { length places.old.items ≡ length extended.now }
+    ensures len { length places.new.items ≡ length places.old.items }
     ensures offered { AreInOrder (names_of extended.now) → (k : ℕ) → k < length extended.now →
         slice_index_or places.new.items k 0
         ≡ (if is_candidate_for (name_at (names_of extended.now) place)
@@ -116,7 +116,7 @@ pub(super) fn charset_sources(
     alloc: Global,
     extended: &[ExtendedName<'_, '_>],
 ) -> Result<Vec<usize>, AllocError>
-    ensures long { IfOk result (λ places. length places.items ≡ length extended.now) }
+    ensures len { IfOk result (λ places. length places.items ≡ length extended.now) }
     ensures sources { AreInOrder (names_of extended.now) → IfOk result (λ places. (k : ℕ) →
         k < length extended.now →
         slice_index_or places.items k 0

@@ -7,5 +7,5 @@ use Rattle.mailparse.proofs.header.parse.line_feed_from.Goals as goal
 
 pub returns-in-None-clause-least : goal.returns-in-None-clause-least
 returns-in-None-clause-least c =
-    sym (place_from_none (begins is_line_feed) c.args.raw.now c.args.from c.requires
+    sym (place_from_none (begins is_line_feed) c.args.raw.now c.args.from c.requires.within
     (c.in-None.ensures ∙ ap (place (begins is_line_feed)) (take_rest c.args.raw.now c.args.from)))

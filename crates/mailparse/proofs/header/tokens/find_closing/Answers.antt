@@ -9,7 +9,7 @@ use Rattle.mailparse.proofs.header.tokens.find_closing.Goals as goal
 pub loop-at-init : goal.loop-at-init
 loop-at-init c =
     let found : place_from (stands (63 ∷ 61 ∷ [])) c.args.line.now c.args.from ≡ c.find_pair-at.result = cc in
-    let p = closing_from_pair c.args.line.now c.args.from c.find_pair-at.result c.requires found in
+    let p = closing_from_pair c.args.line.now c.args.from c.find_pair-at.result c.requires.within found in
     record { in_line = p.0; found = p.1; same = p.2 }
 
 pub range_from-requires : goal.range_from-requires

@@ -6,4 +6,4 @@ use Rattle.mailparse.proofs.header.tokens.find_pair.Goals as goal
 
 pub returns-in-None : goal.returns-in-None
 returns-in-None c =
-    sym (place_from_none (stands (c.args.first ∷ c.args.second ∷ [])) c.args.bytes.now c.args.from c.requires (c.in-None.ensures ∙ ap (place (stands (c.args.first ∷ c.args.second ∷ []))) (take_rest c.args.bytes.now c.args.from)))
+    sym (place_from_none (stands (c.args.first ∷ c.args.second ∷ [])) c.args.bytes.now c.args.from c.requires.within (c.in-None.ensures ∙ ap (place (stands (c.args.first ∷ c.args.second ∷ []))) (take_rest c.args.bytes.now c.args.from)))

@@ -23,7 +23,7 @@ reading_at-requires-clause-source c =
     let all = extended_found (charsets_with c.args.tables.now) _ _ extended map_of c.in_ok-extended.ensures.read in
     let below = c.loop-place-test.true in
     let at = place_read extended c.as_slice.result.now c.in_ok-sources.sources.items c.loop-place.place c.index.result.now c.as_slice.ensures.value all.order
-    c.in_ok-sources.ensures.long c.in_ok-sources.ensures.sources (omega (arith, below, c.len.ensures)) c.index.ensures in
+    c.in_ok-sources.ensures.len c.in_ok-sources.ensures.sources (omega (arith, below, c.len.ensures)) c.index.ensures in
     let within = place_within extended c.loop-place.place (omega (arith, below, c.len.ensures)) in
     omega (arith, at, within, ap length c.as_slice-in-loop-place.ensures.value)
 
@@ -43,7 +43,7 @@ loop-place-preserved c =
     let long = long_names extended in
     let within : place < length names = omega (arith, below, long) in
     let at = place_read extended c.as_slice.result.now c.in_ok-sources.sources.items place last c.as_slice.ensures.value all.order
-    c.in_ok-sources.ensures.long c.in_ok-sources.ensures.sources below c.index.ensures in
+    c.in_ok-sources.ensures.len c.in_ok-sources.ensures.sources below c.index.ensures in
     let given : option_map reading_view c.in_ok-reading.field-0 ≡ reading_by (map extended_view extended) place last =
     c.in_ok-reading.ensures ∙ ap (λ ws. reading_by (map extended_view ws) place last) c.as_slice-in-loop-place.ensures.value in
     record {

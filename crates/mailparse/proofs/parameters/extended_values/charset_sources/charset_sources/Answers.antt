@@ -10,7 +10,7 @@ loop-place-preserved c =
     let next : c.loop-place.place + 1 ≡ suc c.loop-place.place = omega arith in
     record {
       bound = omega (arith, c.loop-place-test.true);
-      long = c.offer.ensures.long ∙ c.loop-place.invariant.long;
+      long = c.offer.ensures.len ∙ c.loop-place.invariant.long;
       source_place = λ order k below.
           c.offer.ensures.offered order k below
           ∙ ap (λ old. if is_candidate_for (name_at names c.loop-place.place) (name_at names k) then c.loop-place.place else old) (c.loop-place.invariant.source_place order k below)

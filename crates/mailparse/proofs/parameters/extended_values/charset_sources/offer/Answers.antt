@@ -24,13 +24,13 @@ returns-clause-offered c = λ order k below.
     _ _ write.before write.inside write.after k (omega arith)
 
 pub first_with-first-requires : goal.first_with-first-requires
-first_with-first-requires c = within_shared c.args.extended.now c.args.shared.now c.args.place c.requires.shared c.requires.within
+first_with-first-requires c = record { within = within_shared c.args.extended.now c.args.shared.now c.args.place c.requires.shared c.requires.within }
 
 pub last_with-last-requires : goal.last_with-last-requires
-last_with-last-requires c = within_shared c.args.extended.now c.args.shared.now c.args.place c.requires.shared c.requires.within
+last_with-last-requires c = record { within = within_shared c.args.extended.now c.args.shared.now c.args.place c.requires.shared c.requires.within }
 
 pub write_range-requires-clause-within : goal.write_range-requires-clause-within
 write_range-requires-clause-within c =
     let same = ap length c.requires.shared in
     let long = long_shared c.args.extended.now in
-    omega (arith, c.last_with-last.ensures.bounds.1, same, long, c.requires.long, c.requires.within)
+    omega (arith, c.last_with-last.ensures.bounds.1, same, long, c.requires.room, c.requires.within)
