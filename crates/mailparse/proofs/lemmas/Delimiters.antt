@@ -92,12 +92,6 @@ reads_stands (x ∷ text) [] fits h = absurd (omega arith)
 reads_stands (x ∷ text) (b ∷ rest) fits h =
     and_from (eqb x b) (stands text rest) (eq-eqb x b (sym (h 0 (omega arith)))) (reads_stands text rest (omega arith) (λ j low. h (suc j) (omega arith)))
 
--- a text stands only where its first byte does
-pub stands_first : (key rest : List ℕ) → 0 < length key → begins (λ b. b == get_or key 0 0) rest ≡ false → stands key rest ≡ false
-stands_first [] rest some h = absurd (omega arith)
-stands_first (x ∷ key) [] some h = refl
-stands_first (x ∷ key) (b ∷ rest) some h = ap (λ t. t && stands key rest) (eqb_swap x b ∙ h)
-
 -- where a delimiter stands, all of it stands within the bytes
 pub is_delimiter-fits : (dash_boundary bytes : List ℕ) (start p : ℕ) → p ≤ length bytes → is_delimiter dash_boundary bytes start p ≡ true → p + length dash_boundary ≤ length bytes
 is_delimiter-fits dash_boundary bytes start p within h =
@@ -183,7 +177,7 @@ none_to dash_boundary bytes start to within fits first none k low high =
     by_test i low true e = absurd (none i (omega arith) low (stands_occurs (10 ∷ dash_boundary) (drop start bytes) i (omega arith) e))
     by_test i low false e = refl
 
--- ---- a search from one line that begins with the key's first byte to the next
+-- ---- a search from one line that begins with the dash-boundary's first byte to the next
 
 both_and : (s t u : Bool) → s && (t && true) ≡ false → s && (t && u) ≡ false
 both_and true true u h = absurd (false≢true (sym h))
@@ -194,12 +188,12 @@ no_and : (s : Bool) → s && false ≡ false
 no_and true = refl
 no_and false = refl
 
--- a LF and the key stand only where the LF and the key's first byte do
-pub stands_pair : (key rest : List ℕ) → 0 < length key → stands (10 ∷ get_or key 0 0 ∷ []) rest ≡ false → stands (10 ∷ key) rest ≡ false
+-- a LF and the dash-boundary stand only where the LF and the dash-boundary's first byte do
+pub stands_pair : (dash_boundary rest : List ℕ) → 0 < length dash_boundary → stands (10 ∷ get_or dash_boundary 0 0 ∷ []) rest ≡ false → stands (10 ∷ dash_boundary) rest ≡ false
 stands_pair [] rest some h = absurd (omega arith)
-stands_pair (x ∷ key) [] some h = refl
-stands_pair (x ∷ key) (b ∷ []) some h = no_and (eqb 10 b)
-stands_pair (x ∷ key) (b ∷ c ∷ rest) some h = both_and (eqb 10 b) (eqb x c) (stands key rest) h
+stands_pair (x ∷ dash_boundary) [] some h = refl
+stands_pair (x ∷ dash_boundary) (b ∷ []) some h = no_and (eqb 10 b)
+stands_pair (x ∷ dash_boundary) (b ∷ c ∷ rest) some h = both_and (eqb 10 b) (eqb x c) (stands dash_boundary rest) h
 
 -- where the two bytes are found, both stand within the bytes
 pub pair_within : (a b p : ℕ) (bytes : List ℕ) → Some p ≡ text_place bytes (a ∷ b ∷ []) → p + 2 ≤ length bytes
@@ -210,40 +204,40 @@ pair_within a b p bytes e =
     let len = length-drop p bytes in
     omega (arith, reads.0)
 
--- none stands at a place, nor up to the next LF with the key's first byte
-no_delimiter_past : (key bytes : List ℕ) (start at j : ℕ) → 0 < length key → start ≤ at → NoDelimiter key bytes start at → is_delimiter key bytes start at ≡ false
-    → first_place (stands (10 ∷ get_or key 0 0 ∷ [])) (drop at bytes) ≡ j → NoDelimiter key bytes start (suc (at + j))
-no_delimiter_past key bytes start at j some after none here first k low high =
+-- none stands at a place, nor up to the next LF with the dash-boundary's first byte
+no_delimiter_past : (dash_boundary bytes : List ℕ) (start at j : ℕ) → 0 < length dash_boundary → start ≤ at → NoDelimiter dash_boundary bytes start at → is_delimiter dash_boundary bytes start at ≡ false
+    → first_place (stands (10 ∷ get_or dash_boundary 0 0 ∷ [])) (drop at bytes) ≡ j → NoDelimiter dash_boundary bytes start (suc (at + j))
+no_delimiter_past dash_boundary bytes start at j some after none here first k low high =
     ⊎_elim (λ below. none k low below)
-    (λ above. ⊎_elim (λ same. subst (λ p. is_delimiter key bytes start p ≡ false) (sym same) here)
+    (λ above. ⊎_elim (λ same. subst (λ p. is_delimiter dash_boundary bytes start p ≡ false) (sym same) here)
     (λ other.
-    let pair = stands (10 ∷ get_or key 0 0 ∷ []) in
+    let pair = stands (10 ∷ get_or dash_boundary 0 0 ∷ []) in
     let i = k - 1 - at in
     let there : drop i (drop at bytes) ≡ drop (k - 1) bytes = drop-drop i at bytes ∙ ap (λ n. drop n bytes) (omega (arith, other)) in
     let fails : pair (drop i (drop at bytes)) ≡ false = first_place-before pair (drop at bytes) i (omega (arith, first, other)) in
-    is_delimiter-line key bytes start k (omega (arith, other)) ∙ stands_pair key (drop (k - 1) bytes) some (ap pair (sym there) ∙ fails))
+    is_delimiter-line dash_boundary bytes start k (omega (arith, other)) ∙ stands_pair dash_boundary (drop (k - 1) bytes) some (ap pair (sym there) ∙ fails))
     (cases_eq k at))
     (cases_lt k at)
 
 -- no such line is left
-pub no_delimiter_left : (key bytes : List ℕ) (start at : ℕ) → 0 < length key → start ≤ at → at ≤ length bytes → NoDelimiter key bytes start at
-    → is_delimiter key bytes start at ≡ false → None ≡ option_map (λ k. suc (at + k)) (text_place (drop at bytes) (10 ∷ get_or key 0 0 ∷ []))
-    → NoDelimiter key bytes start (length bytes)
-no_delimiter_left key bytes start at some after within none here e k low high =
-    let pair = 10 ∷ get_or key 0 0 ∷ [] in
+pub no_delimiter_left : (dash_boundary bytes : List ℕ) (start at : ℕ) → 0 < length dash_boundary → start ≤ at → at ≤ length bytes → NoDelimiter dash_boundary bytes start at
+    → is_delimiter dash_boundary bytes start at ≡ false → None ≡ option_map (λ k. suc (at + k)) (text_place (drop at bytes) (10 ∷ get_or dash_boundary 0 0 ∷ []))
+    → NoDelimiter dash_boundary bytes start (length bytes)
+no_delimiter_left dash_boundary bytes start at some after within none here e k low high =
+    let pair = 10 ∷ get_or dash_boundary 0 0 ∷ [] in
     let len = length-drop at bytes in
-    no_delimiter_past key bytes start at (length (drop at bytes)) some after none here
+    no_delimiter_past dash_boundary bytes start at (length (drop at bytes)) some after none here
     (place_none (stands pair) (drop at bytes) (nowhere (λ k. suc (at + k)) (text_place (drop at bytes) pair) e)) k low (omega arith)
 
 -- the next such line
-pub no_delimiter_to_line : (key bytes : List ℕ) (start at next : ℕ) → 0 < length key → start ≤ at → NoDelimiter key bytes start at
-    → is_delimiter key bytes start at ≡ false → Some next ≡ option_map (λ k. suc (at + k)) (text_place (drop at bytes) (10 ∷ get_or key 0 0 ∷ []))
-    → NoDelimiter key bytes start next
-no_delimiter_to_line key bytes start at next some after none here e =
-    let pair = 10 ∷ get_or key 0 0 ∷ [] in
+pub no_delimiter_to_line : (dash_boundary bytes : List ℕ) (start at next : ℕ) → 0 < length dash_boundary → start ≤ at → NoDelimiter dash_boundary bytes start at
+    → is_delimiter dash_boundary bytes start at ≡ false → Some next ≡ option_map (λ k. suc (at + k)) (text_place (drop at bytes) (10 ∷ get_or dash_boundary 0 0 ∷ []))
+    → NoDelimiter dash_boundary bytes start next
+no_delimiter_to_line dash_boundary bytes start at next some after none here e =
+    let pair = 10 ∷ get_or dash_boundary 0 0 ∷ [] in
     let there = somewhere (λ k. suc (at + k)) next (text_place (drop at bytes) pair) e in
-    subst (NoDelimiter key bytes start) (sym there.2)
-    (no_delimiter_past key bytes start at there.0 some after none here (sym (place_some (stands pair) (drop at bytes) there.0 there.1).0))
+    subst (NoDelimiter dash_boundary bytes start) (sym there.2)
+    (no_delimiter_past dash_boundary bytes start at there.0 some after none here (sym (place_some (stands pair) (drop at bytes) there.0 there.1).0))
 
 -- ---- a search for the LF and the delimiter after it, by the kit's search
 
@@ -395,8 +389,8 @@ part_starts-some dash_boundary bytes s =
 pub part_ranges-some : (dash_boundary bytes : List ℕ) (s : ℕ) → part_ranges dash_boundary bytes (Some s) ≡ part_range dash_boundary bytes s ∷ part_ranges dash_boundary bytes (next_part dash_boundary bytes s)
 part_ranges-some dash_boundary bytes s = ap (map (part_range dash_boundary bytes)) (part_starts-some dash_boundary bytes s)
 
--- ---- searches with keys that no delimiter has: by their contracts, what the searches for a byte, for
--- a line with that first byte and for a line that begins with a key return on short texts
+-- ---- searches for texts that no delimiter has: by their contracts, what the searches for a byte, for a line
+-- that begins with it and for a line that begins with a text return on short texts
 
 -- the first `o` in `hello world` from 5 on, and from 8 on
 pub byte_after_a_place : option_map (λ k. 5 + k) (byte_place (drop 5 (codes "hello world")) 111) ≡ Some 7
@@ -412,15 +406,15 @@ line_after_a_place = refl
 pub no_line_after_a_place : option_map (λ k. suc (6 + k)) (text_place (drop 6 (codes "hello" ++ line_feed ∷ codes "hello")) (line_feed ∷ 104 ∷ [])) ≡ None
 no_line_after_a_place = refl
 
--- the first line from a place on that begins with a key
-pub key_on_the_next_line : delimiter_from (codes "he") (codes "hello" ++ line_feed ∷ codes "hello") 1 ≡ Some 6
+-- the first line from a place on that begins with a text
+pub prefix_on_the_next_line : delimiter_from (codes "he") (codes "hello" ++ line_feed ∷ codes "hello") 1 ≡ Some 6
 unfolding delimiter_from
-key_on_the_next_line = refl
+prefix_on_the_next_line = refl
 
-pub key_where_a_line_starts : delimiter_from (codes "wo") (codes "hello" ++ line_feed ∷ codes "world") 6 ≡ Some 6
+pub prefix_where_a_line_starts : delimiter_from (codes "wo") (codes "hello" ++ line_feed ∷ codes "world") 6 ≡ Some 6
 unfolding delimiter_from
-key_where_a_line_starts = refl
+prefix_where_a_line_starts = refl
 
-pub no_key_in_the_line : delimiter_from (codes "wo") (codes "hello" ++ line_feed ∷ codes "world") 7 ≡ None
+pub no_line_with_the_prefix : delimiter_from (codes "wo") (codes "hello" ++ line_feed ∷ codes "world") 7 ≡ None
 unfolding delimiter_from
-no_key_in_the_line = refl
+no_line_with_the_prefix = refl

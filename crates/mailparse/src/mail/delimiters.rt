@@ -51,7 +51,7 @@ pub(super) fn cut_part(raw: &[u8], start: usize, delimiter: &[u8]) -> (usize, Op
 /// Whether the delimiter whose dash-boundary ends at `after` is the close-delimiter: fewer than two
 /// bytes follow it, or `--` does.
 fn is_close_delimiter(raw: &[u8], after: usize) -> bool
-    requires { after ≤ length raw.now }
+    requires within { after ≤ length raw.now }
     ensures { (at : ℕ) (dash_boundary : List ℕ) → at + length dash_boundary ≡ after →
         result ≡ is_close_delimiter dash_boundary raw.now at }
 {
@@ -75,7 +75,7 @@ fn find_delimiter(raw: &[u8], start: usize, delimiter: &[u8]) -> Option<usize>
 {
     let dash_boundary = &delimiter[1..];
     if find_byte(dash_boundary, b'\n').is_none() {
-        return find_from_u8_line_prefix(raw, start, dash_boundary);
+        return find_delimiter_line(raw, start, dash_boundary);
     }
     let rest = &raw[start..];
     if rest.starts_with(dash_boundary) {
@@ -87,21 +87,21 @@ fn find_delimiter(raw: &[u8], start: usize, delimiter: &[u8]) -> Option<usize>
     Some(start + place + 1)
 }
 
-/// The first place at or after `start` where a line begins with `key`, where `start` counts as the
-/// start of a line.
+/// The place of the first line at or after `start` that begins with the dash-boundary, where `start`
+/// counts as the start of a line.
 ///
-/// It goes from one line that begins with the first byte of `key` to the next: all others are
-/// passed over.
-fn find_from_u8_line_prefix(raw: &[u8], start: usize, key: &[u8]) -> Option<usize>
-    requires some { 0 < length key.now }
+/// It goes from one line that begins with the first byte of the dash-boundary to the next: all
+/// others are passed over.
+fn find_delimiter_line(raw: &[u8], start: usize, dash_boundary: &[u8]) -> Option<usize>
+    requires some { 0 < length dash_boundary.now }
     requires within { start ≤ length raw.now }
-    ensures least { result ≡ delimiter_from key.now raw.now start }
+    ensures least { result ≡ delimiter_from dash_boundary.now raw.now start }
     ensures bounds { IfSome result (λ at.
-        (start ≤ at) × (at + length key.now ≤ length raw.now)) }
+        (start ≤ at) × (at + length dash_boundary.now ≤ length raw.now)) }
 {
     let mut at = start;
-    'lines: while !is_line_prefix(raw, start, at, key) {
-        let Some(next) = find_from_u8(raw, at, key[0]) else {
+    'lines: while !is_delimiter(raw, start, at, dash_boundary) {
+        let Some(next) = find_line_starting_with(raw, at, dash_boundary[0]) else {
             return None;
         };
         at = next;
@@ -110,7 +110,7 @@ fn find_from_u8_line_prefix(raw: &[u8], start: usize, key: &[u8]) -> Option<usiz
 }
 
 /// The first place after `start` where a line starts with that byte.
-fn find_from_u8(raw: &[u8], start: usize, byte: u8) -> Option<usize>
+fn find_line_starting_with(raw: &[u8], start: usize, byte: u8) -> Option<usize>
     requires within { start ≤ length raw.now }
     ensures least { result ≡ option_map (λ k. suc (start + k))
         (text_place (drop start raw.now) (line_feed ∷ byte ∷ [])) }
@@ -120,17 +120,17 @@ fn find_from_u8(raw: &[u8], start: usize, byte: u8) -> Option<usize>
     Some(start + place + 1)
 }
 
-/// Whether a line starts at `at` and begins with `key`, where `start` counts as the start of a
-/// line.
-fn is_line_prefix(raw: &[u8], start: usize, at: usize, key: &[u8]) -> bool
+/// Whether a line starts at `at` and begins with the dash-boundary, where `start` counts as the
+/// start of a line.
+fn is_delimiter(raw: &[u8], start: usize, at: usize, dash_boundary: &[u8]) -> bool
     requires low { start ≤ at }
     requires within { at ≤ length raw.now }
-    ensures { result ≡ is_delimiter key.now raw.now start at }
+    ensures { result ≡ is_delimiter dash_boundary.now raw.now start at }
 {
     if !starts_line(raw, start, at) {
         return false;
     }
-    raw[at..].starts_with(key)
+    raw[at..].starts_with(dash_boundary)
 }
 
 /// Whether a line starts at `at`: it is `start`, or a LF stands before it.
@@ -147,7 +147,7 @@ fn starts_line(raw: &[u8], start: usize, at: usize) -> bool
 
 /// The place after the next LF at or after `at`.
 fn line_after(raw: &[u8], at: usize) -> Option<usize>
-    requires { at ≤ length raw.now }
+    requires within { at ≤ length raw.now }
     ensures value { result ≡ line_after raw.now at }
     ensures bounds { IfSome result (λ next. (at < next) × (next ≤ length raw.now)) }
 {

@@ -1,13 +1,13 @@
 -- No delimiter stands before the place that the search has come to.
 use Rattle.std.proofs.Common.{◌≤◌, ◌-◌, length}
 use Rattle.mailparse.specs.private.Delimiters.{NoDelimiter}
-use Rattle.mailparse.proofs.mail.delimiters.find_from_u8_line_prefix.Given as goal
+use Rattle.mailparse.proofs.mail.delimiters.find_delimiter_line.Given as goal
 
 abbrev pub invariant-lines : goal.invariant-lines
 invariant-lines l = record {
   low : l.start ≤ l.at;
   within : l.at ≤ length l.raw;
-  none : NoDelimiter l.key l.raw l.start l.at;
+  none : NoDelimiter l.dash_boundary l.raw l.start l.at;
 }
 
 abbrev pub decreases-lines : goal.decreases-lines

@@ -2,7 +2,7 @@ use Rattle.std.proofs.Common.{◌≡◌, ◌∷◌, [], Some, List, ℕ, drop, s
 use Rattle.std.proofs.lemmas.List.{length-drop, take_rest}
 use Rattle.mail_codec.specs.Places.{text_place}
 use Rattle.mailparse.proofs.lemmas.Delimiters.{pair_within}
-use Rattle.mailparse.proofs.mail.delimiters.find_from_u8.Goals as goal
+use Rattle.mailparse.proofs.mail.delimiters.find_line_starting_with.Goals as goal
 
 pub returns-clause-bounds : goal.returns-clause-bounds
 returns-clause-bounds c =
