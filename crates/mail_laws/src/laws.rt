@@ -16,7 +16,7 @@ ghost use Rattle.mail_laws.specs.RangeTree.{AreNested, Holds, RangeTree, blocks_
 ghost use Rattle.mail_codec.specs.Charset.{Charsets, four_charsets};
 ghost use Rattle.mail_codec.specs.Tables.{charsets_with};
 ghost use Rattle.mail_codec.specs.declared.charset.tables.SingleByteTable.{SingleByteTable};
-ghost use Rattle.mailparse.specs.Continuations.{joined, names_of, parameters_in, walked_after};
+ghost use Rattle.mailparse.specs.Continuations.{joined, parameters_in, possible_names, walked_after};
 ghost use Rattle.mailparse.specs.ExtendedValues.{candidates, charset_source, section_at, starred};
 ghost use Rattle.mailparse.specs.Sections.{Section};
 ghost use Rattle.mail_laws.specs.CharsetSources.{IsCandidate};
@@ -31,11 +31,11 @@ ghost use Rattle.mailparse.specs.Views.{kind};
 ghost use Rattle.mail_laws.specs.Boundaries.{IsAlphanumeric, boundary_type, one_text};
 ghost use Rattle.mail_laws.specs.Render.{IsWellFormed, OutlineTree, Show, depth, headers_within, is_well_formed_within, rendered, shown_header, stands_for};
 ghost use Rattle.mail_laws.specs.StarFree.{AreStarFree};
-ghost use Rattle.mailparse.specs.Value.{IsPlain, Token, lenient_value, newline, shown_tokens, strict_value, lenient_value_in};
+ghost use Rattle.mailparse.specs.Value.{IsPlain, Token, lenient_value, newline, shown_tokens, strict_value, lenient_value_in, whitespace_token};
 ghost use Rattle.mail_codec.specs.Places.{begins, least, values_below};
 ghost use Rattle.mail_laws.specs.Least.{IsLeast};
 ghost use Rattle.mail_laws.specs.Encode.{AreWords, KnowUtf8, words_of, written_value};
-ghost use Rattle.mail_laws.specs.WordTokens.{whitespace_token, word};
+ghost use Rattle.mail_laws.specs.WordTokens.{word};
 ghost use Rattle.mail_laws.specs.Spans.{StandBefore, blank_span, header_at, header_spans, key_range, value_range};
 ghost use Rattle.mailparse.specs.Date.{day_number, days_of_years, month_lengths};
 ghost use Rattle.mailparse.specs.MessageIds.{message_ids, written_ids};
@@ -271,7 +271,7 @@ pub fn charset_source_is_the_greatest()
 pub fn nothing_stands_elsewhere()
     ensures { (known : Charsets) (pairs : List (List ℕ × List ℕ)) (name : List ℕ) →
         IsSome (section_at known (last_of pairs) name) →
-        Contains (names_of (map (λ pair. pair.0) pairs)) name }
+        Contains (possible_names (map (λ pair. pair.0) pairs)) name }
 {}
 
 /// A text of exactly `multipart/mixed; boundary=B`, where B is letters and digits, has one pair,

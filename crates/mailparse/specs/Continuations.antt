@@ -4,7 +4,7 @@ use Rattle.std.specs.Prelude.{ℕ, Bool, false, not, ◌&&◌, ◌==◌, ◌^◌
 use Rattle.std.specs.List.{flat_map, list_any}
 use Rattle.std.specs.Option.{is_some, option_map_or, option_or}
 use Rattle.std.specs.Str.{bytes_eq}
-use Rattle.mail_codec.specs.Charset.{Charsets, four_charsets}
+use Rattle.mail_codec.specs.Charset.{Charsets}
 use Rattle.mail_codec.specs.Places.{least, values_below}
 use Rattle.mailparse.specs.Pairs.{Texts, last_of}
 use Rattle.mailparse.specs.ExtendedValues.{name_under, section_at}
@@ -100,15 +100,11 @@ unfoldable pub joined_at : (List ℕ → Option Section) → List (List ℕ) →
 joined_at at names name = option_or (left_at at names name) (base_text at names name)
 
 -- the names at which something may stand: the keys, and the keys without their last byte
-abbrev pub names_of : List (List ℕ) → List (List ℕ)
-names_of keys = flat_map (λ key. key ∷ name_under key ∷ []) keys
+abbrev pub possible_names : List (List ℕ) → List (List ℕ)
+possible_names keys = flat_map (λ key. key ∷ name_under key ∷ []) keys
 
 -- Under the charsets that are known.
 module _ (known : Charsets) where
   -- the parameters that pairs of a key and a value give
   abbrev pub parameters_in : List (List ℕ × List ℕ) → Texts
-  parameters_in pairs = joined_at (section_at known (last_of pairs)) (names_of (map (λ pair. pair.0) pairs))
-
--- the same under the four charsets
-abbrev pub parameters_of : List (List ℕ × List ℕ) → Texts
-parameters_of = parameters_in four_charsets
+  parameters_in pairs = joined_at (section_at known (last_of pairs)) (possible_names (map (λ pair. pair.0) pairs))

@@ -55,7 +55,7 @@ encoded_bytes encoding encoded =
 
 -- bytes that hold a question mark, and what stands before and after their first
 pub record IsCutAtMark (bytes front rest : List ℕ) : Type 0 where
-  pub marked : has_question_mark bytes ≡ true
+  pub has_mark : has_question_mark bytes ≡ true
   pub before : front ≡ before_first is_question_mark bytes
   pub after : rest ≡ after_first is_question_mark bytes
 

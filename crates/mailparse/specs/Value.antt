@@ -20,6 +20,10 @@ pub record Token : Type 0 where
 abbrev pub outside_token : List ℕ → Token
 outside_token bytes = record { kind = if is_all_whitespace bytes then whitespace else plain_text; shown = bytes }
 
+-- the token of whitespace with this text
+abbrev pub whitespace_token : List ℕ → Token
+whitespace_token text = record { kind = whitespace; shown = text }
+
 -- the token of a line's end: where it shows, it shows one space
 abbrev pub newline : Token
 newline = record { kind = line_end; shown = space ∷ [] }

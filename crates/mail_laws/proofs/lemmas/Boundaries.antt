@@ -19,7 +19,7 @@ use Rattle.mail_laws.specs.Boundaries.{IsAlphanumeric, boundary_type, one_text}
 use Rattle.mailparse.specs.ContentType.{content_type_in, type_with}
 use Rattle.mailparse.specs.Continuations.{parameters_in}
 use Rattle.mail_laws.specs.StarFree.{AreStarFree}
-use Rattle.mail_laws.proofs.lemmas.StarFree.{parameters_are_pairs}
+use Rattle.mail_laws.proofs.lemmas.StarFree.{star_free_pairs_are_parameters}
 
 -- ---- graphic bytes
 
@@ -148,7 +148,7 @@ pub boundary_content_type : (known : Charsets) (boundary : List ℕ) → IsAlpha
 unfolding content_type_in
 boundary_content_type known boundary h =
     let params : parameters_in known ((codes "boundary", boundary) ∷ []) ≡ one_text (codes "boundary") boundary =
-    λ i name. parameters_are_pairs known ((codes "boundary", boundary) ∷ []) (no_star boundary) name i in
+    λ i name. star_free_pairs_are_parameters known ((codes "boundary", boundary) ∷ []) (no_star boundary) name i in
     ap (λ value. type_with (str_to_ascii_lowercase value) (parameters_in known (pairs_of (boundary_type boundary)))) (boundary_value boundary h)
     ∙ ap (λ pairs. type_with (codes "multipart/mixed") (parameters_in known pairs)) (boundary_pairs boundary h)
     ∙ ap (λ texts. type_with (codes "multipart/mixed") texts) params

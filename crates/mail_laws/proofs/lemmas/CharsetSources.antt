@@ -9,7 +9,7 @@ use Rattle.std.specs.Str.{bytes_eq}
 use Rattle.std.specs.declared.cmp.Ordering.{Ordering}
 use Rattle.std.specs.declared.cmp.Ordering.TheVariants.{Less, Equal, Greater}
 use Rattle.mail_codec.specs.Charset.{Charsets}
-use Rattle.mailparse.specs.Continuations.{names_of}
+use Rattle.mailparse.specs.Continuations.{possible_names}
 use Rattle.mailparse.specs.ExtendedValues.{candidates, charset_source, is_extended, last_starred, later, section_at, starred}
 use Rattle.mailparse.specs.Pairs.{Texts, last_of}
 use Rattle.mailparse.specs.private.CharsetSources.{is_candidate_for}
@@ -127,5 +127,5 @@ contained (n ∷ names) q h =
     (or_either (bytes_eq n q) (holds_name names q) h)
 
 pub looked_at : (known : Charsets) (pairs : List (List ℕ × List ℕ)) (name : List ℕ) → is_some (section_at known (last_of pairs) name) ≡ true
-    → Contains (names_of (map (λ pair. pair.0) pairs)) name
-looked_at known pairs name h = contained (names_of (map (λ pair. pair.0) pairs)) name (section_named known pairs name h)
+    → Contains (possible_names (map (λ pair. pair.0) pairs)) name
+looked_at known pairs name h = contained (possible_names (map (λ pair. pair.0) pairs)) name (section_named known pairs name h)

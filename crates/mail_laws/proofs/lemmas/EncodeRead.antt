@@ -21,12 +21,12 @@ use Rattle.mail_codec.specs.Places.{first_place, stands}
 use Rattle.mail_codec.proofs.lemmas.CharsetUtf8.{encode_two, encode_three, encode_four}
 use Rattle.mail_codec.proofs.lemmas.Places.{first_place-before}
 use Rattle.mailparse.specs.Tokens.{whitespace, decoded_word}
-use Rattle.mailparse.specs.Value.{IsPlain, Token, is_released, kinds, lenient_value, lenient_value_in, line_tokens, newline, shown_after, shown_tokens, shown_value, tokens_of_lines, value_tokens}
+use Rattle.mailparse.specs.Value.{IsPlain, Token, is_released, kinds, lenient_value, lenient_value_in, line_tokens, newline, shown_after, shown_tokens, shown_value, tokens_of_lines, value_tokens, whitespace_token}
 use Rattle.mailparse.proofs.lemmas.EncodedWord.{split_some}
 use Rattle.mailparse.proofs.lemmas.Value.{lenient-utf8}
 use Rattle.mailparse.proofs.lemmas.ValuePlain.{shown_value-plain}
 use Rattle.mail_laws.specs.Encode.{KnowUtf8, AreWords, no_word, next_word, encoded_word, is_plain_byte, is_plain_value, letters, word_lines, words_of, written_value}
-use Rattle.mail_laws.specs.WordTokens.{word, whitespace_token}
+use Rattle.mail_laws.specs.WordTokens.{word}
 use Rattle.mail_laws.proofs.lemmas.Encode.{words_fit, words_join}
 use Rattle.mail_laws.proofs.lemmas.EncodeWord.{AreLetters, around, encoded_word-tokens, letters_are, utf_8_known}
 use lib.Utf8.{scalar, scalars, scalar_cases}

@@ -21,12 +21,12 @@ use Rattle.mail_codec.proofs.lemmas.Base64Letters.{letter_no_padding}
 use Rattle.mail_codec.proofs.lemmas.Places.{first_place-past}
 use Rattle.mailparse.specs.EncodedWord.{encoded_bytes, word_text}
 use Rattle.mailparse.specs.Tokens.{begins_opening, begins_closing, boundary_before, closing, decodes, inside, last_group, next_group, no_opening, opening, outside_range, word_range, AreTokens}
-use Rattle.mailparse.specs.Value.{Token, line_tokens, outside_token, token_of}
+use Rattle.mailparse.specs.Value.{Token, line_tokens, outside_token, token_of, whitespace_token}
 use Rattle.mailparse.proofs.lemmas.EncodedWord.{word_whole}
 use Rattle.mailparse.proofs.lemmas.Shown.{token_of-outside}
 use Rattle.mailparse.proofs.lemmas.Tokens.{token_ranges_only}
 use Rattle.mail_laws.specs.Encode.{KnowUtf8, letters}
-use Rattle.mail_laws.specs.WordTokens.{word, whitespace_token}
+use Rattle.mail_laws.specs.WordTokens.{word}
 
 -- ---- the letters
 
@@ -130,7 +130,7 @@ inside_decodes : (known : Charsets) → KnowUtf8 known → (bytes : List ℕ) �
     → word_text known (codes "utf-8?B?" ++ letters bytes) ≡ Some bytes
 inside_decodes known knows bytes utf8 h =
     sym (word_whole known (codes "utf-8?B?" ++ letters bytes) (codes "utf-8") (codes "B?" ++ letters bytes) (codes "B") (letters bytes) bytes bytes (text_of Utf8)
-    (record { marked = refl; before = refl; after = refl }) (record { marked = refl; before = refl; after = refl })
+    (record { has_mark = refl; before = refl; after = refl }) (record { has_mark = refl; before = refl; after = refl })
     (knows ∙ ap (option_map text_of) utf_8_known) (reads_back bytes h) (same_text bytes utf8))
 
 -- ---- where the word's ends stand

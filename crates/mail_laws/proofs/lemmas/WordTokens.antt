@@ -1,8 +1,8 @@
 -- Lemmas on what shows between two adjacent decoded words.
 use Rattle.std.proofs.Common.{◌≡◌, ℕ, cond, not, ◌||◌, List, [], ◌∷◌, ◌++◌, Option, Some, None, refl, sym, ap, ◌∙◌}
 use Rattle.mailparse.specs.Tokens.{TokenKind, plain_text, whitespace, line_end, decoded_word}
-use Rattle.mailparse.specs.Value.{Token, is_released, is_held, kinds, newline, shown_after, shown_tokens, shows}
-use Rattle.mail_laws.specs.WordTokens.{word, whitespace_token}
+use Rattle.mailparse.specs.Value.{Token, is_released, is_held, kinds, newline, shown_after, shown_tokens, shows, whitespace_token}
+use Rattle.mail_laws.specs.WordTokens.{word}
 
 -- what stands after a decoded word releases nothing that stands before it
 released-same : (kind : TokenKind) (front a b : List TokenKind) → is_released kind (front ++ decoded_word ∷ a) ≡ is_released kind (front ++ decoded_word ∷ b)

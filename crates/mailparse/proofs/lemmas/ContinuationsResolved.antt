@@ -11,7 +11,7 @@ use Rattle.std.specs.Str.{bytes_eq}
 use Rattle.mail_codec.specs.Charset.{Charsets}
 use Rattle.mailparse.specs.Continuations as joined
 use Rattle.mailparse.specs.Sections as words
-use Rattle.mailparse.specs.Continuations.{is_base, is_first_of, joined_at, names_of, parameters_in}
+use Rattle.mailparse.specs.Continuations.{is_base, is_first_of, joined_at, parameters_in, possible_names}
 use Rattle.mailparse.specs.ExtendedValues.{section_at, is_extended, name_under, starred}
 use Rattle.mailparse.specs.Sections.{is_text}
 use Rattle.mailparse.specs.private.Continuations.{names_in, names_of_sections}
@@ -102,13 +102,13 @@ last_holds (p ∷ pairs) start q h =
 key_held : (pairs : List (List ℕ × List ℕ)) (q : List ℕ) → is_some (last_of pairs q) ≡ true → holds_name (map (λ p. p.0) pairs) q ≡ true
 key_held pairs q h = ⊎_elim (λ none. let clash : false ≡ true = none in absurd (cc)) (λ held. held) (last_holds pairs (λ _. None) q h)
 
-names_key : (keys : List (List ℕ)) (q : List ℕ) → holds_name keys q ≡ true → holds_name (names_of keys) q ≡ true
+names_key : (keys : List (List ℕ)) (q : List ℕ) → holds_name keys q ≡ true → holds_name (possible_names keys) q ≡ true
 names_key [] q h = absurd (cc)
 names_key (k ∷ keys) q h =
     ⊎_elim (λ here. or_left (bytes_eq k q) _ here) (λ rest. or_right (bytes_eq k q) _ (or_right (bytes_eq (name_under k) q) _ (names_key keys q rest)))
     (or_either (bytes_eq k q) (holds_name keys q) h)
 
-names_under : (keys : List (List ℕ)) (q : List ℕ) → holds_name keys (starred q) ≡ true → holds_name (names_of keys) q ≡ true
+names_under : (keys : List (List ℕ)) (q : List ℕ) → holds_name keys (starred q) ≡ true → holds_name (possible_names keys) q ≡ true
 names_under [] q h = absurd (cc)
 names_under (k ∷ keys) q h =
     ⊎_elim
@@ -116,14 +116,14 @@ names_under (k ∷ keys) q h =
     (λ rest. or_right (bytes_eq k q) _ (or_right (bytes_eq (name_under k) q) _ (names_under keys q rest)))
     (or_either (bytes_eq k (starred q)) (holds_name keys (starred q)) h)
 
-pub section_named : (known : Charsets) (pairs : List (List ℕ × List ℕ)) (q : List ℕ) → is_some (section_at known (last_of pairs) q) ≡ true → holds_name (names_of (map (λ p. p.0) pairs)) q ≡ true
+pub section_named : (known : Charsets) (pairs : List (List ℕ × List ℕ)) (q : List ℕ) → is_some (section_at known (last_of pairs) q) ≡ true → holds_name (possible_names (map (λ p. p.0) pairs)) q ≡ true
 section_named known pairs q h = go (last_of pairs q) refl
   where
-    without_key : last_of pairs q ≡ None → (b : Bool) → is_extended (last_of pairs) q ≡ b → holds_name (names_of (map (λ p. p.0) pairs)) q ≡ true
+    without_key : last_of pairs q ≡ None → (b : Bool) → is_extended (last_of pairs) q ≡ b → holds_name (possible_names (map (λ p. p.0) pairs)) q ≡ true
     without_key none true is = names_under (map (λ p. p.0) pairs) q (key_held pairs (starred q) (and_parts _ _ is).0)
     without_key none false is = absurd (some_of _ (section_none known (last_of pairs) q none ∙ extended_none known (last_of pairs) q is) h)
 
-    go : (o : Option (List ℕ)) → last_of pairs q ≡ o → holds_name (names_of (map (λ p. p.0) pairs)) q ≡ true
+    go : (o : Option (List ℕ)) → last_of pairs q ≡ o → holds_name (possible_names (map (λ p. p.0) pairs)) q ≡ true
     go (Some v) is = names_key (map (λ p. p.0) pairs) q (key_held pairs q (ap is_some is))
     go None is = without_key is (is_extended (last_of pairs) q) refl
 
@@ -171,5 +171,5 @@ resolved known keys at names given q read have made pairs holds =
     let same_keys : keys ≡ last_of pairs = λ i z. holds z i in
     let same : at ≡ section_at known (last_of pairs) = λ i z. (read z ∙ ap (λ k. section_at known k z) same_keys) i in
     made
-    ∙ joined_same at names (names_of (map (λ p. p.0) pairs)) have (λ z h. section_named known pairs z (sym (ap (λ a. is_some (a z)) same) ∙ h)) q
-    ∙ ap (λ a. joined_at a (names_of (map (λ p. p.0) pairs)) q) same
+    ∙ joined_same at names (possible_names (map (λ p. p.0) pairs)) have (λ z h. section_named known pairs z (sym (ap (λ a. is_some (a z)) same) ∙ h)) q
+    ∙ ap (λ a. joined_at a (possible_names (map (λ p. p.0) pairs)) q) same

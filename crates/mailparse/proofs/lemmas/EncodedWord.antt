@@ -83,7 +83,7 @@ pub cut_from_split : (bytes : List ℕ) (r : Option (Bor (List ℕ) × Bor (List
     → MatchOption r (has_question_mark bytes ≡ false) (λ p. IsCutAtMark bytes p.0.now p.1.now)
 cut_from_split bytes None h = any_from_place is_question_mark bytes ∙ le-ltb _ _ (omega arith)
 cut_from_split bytes (Some x) h = record {
-  marked = any_from_place is_question_mark bytes ∙ lt-ltb _ _ h.0;
+  has_mark = any_from_place is_question_mark bytes ∙ lt-ltb _ _ h.0;
   before = h.1;
   after = h.2;
 }
@@ -111,7 +111,7 @@ module _ (known : Charsets) where
       → word_text known inside ≡ text_of_word known (record { charset = label; encoding = encoding; encoded_text = encoded })
   unfolding word_text
   word_parts inside label rest encoding encoded first second =
-      let marked : has_question_mark (after_first is_question_mark inside) ≡ true = ap has_question_mark (sym first.after) ∙ second.marked in
+      let marked : has_question_mark (after_first is_question_mark inside) ≡ true = ap has_question_mark (sym first.after) ∙ second.has_mark in
       ap (option_and_then (text_of_word known)) (cond-true _ _ _ marked)
       ∙ cc
 

@@ -8,11 +8,11 @@ use Rattle.std.specs.String.{string_bytes}
 use Rattle.mail_codec.specs.Charset.{Charsets}
 use Rattle.mailparse.specs.EncodedWord.{word_text}
 use Rattle.mailparse.specs.Tokens.{TokenKind, plain_text, whitespace, line_end, decoded_word, TokenRange, IsGroup, AreTokensFrom, no_opening, no_boundary, no_closing, decodes, stays_text, last_group, next_group, opening, closing, begins_with_boundary, boundary_before, is_all_whitespace, outside_range, text_range, word_range, inside}
-use Rattle.mailparse.specs.Value.{Token, is_word, is_whitespace_token, is_held, is_released, kinds, newline, shown_after, shown_tokens, token_of, token_text, line_tokens, outside_token}
+use Rattle.mailparse.specs.Value.{Token, is_word, is_whitespace_token, is_held, is_released, kinds, newline, shown_after, shown_tokens, token_of, token_text, line_tokens, outside_token, whitespace_token}
 use Rattle.mailparse.specs.declared.header.shown.Held.{Held}
 use Rattle.mailparse.specs.declared.header.shown.Held.TheVariants as held
 use Rattle.mailparse.specs.declared.header.shown.ShownValue.{ShownValue}
-use Rattle.mailparse.specs.private.Shown.{Shows, released, shown_held, shown_with, whitespace_token}
+use Rattle.mailparse.specs.private.Shown.{Shows, released, shown_held, shown_with}
 use Rattle.mailparse.proofs.lemmas.Tokens.{token_ranges_only}
 
 pub boundary_of_front : (line front : List ℕ) (v : ℕ) (b : Bool) → front ≡ slice_range line 0 v → b ≡ begins_with_boundary (reverse (chars front)) → boundary_before line v ≡ b

@@ -11,7 +11,7 @@ use Rattle.std.specs.Str.{bytes_eq}
 use Rattle.mail_codec.specs.Charset.{Charsets}
 use Rattle.mail_codec.specs.Places.{begins, byte_place, first_place}
 use Rattle.mail_codec.proofs.lemmas.Places.{first_place-here, first_place-past}
-use Rattle.mailparse.specs.Continuations.{is_first_of, is_base, is_used, sections_of, joined, joined_at, names_of, parameters_in}
+use Rattle.mailparse.specs.Continuations.{is_first_of, is_base, is_used, sections_of, joined, joined_at, parameters_in, possible_names}
 use Rattle.mailparse.specs.ExtendedValues.{has_left, section_at, starred, is_starred, name_under, is_extended, octets_of, reading_of}
 use Rattle.mailparse.specs.Sections.{text, octets, alone, is_star, numbered, section_name}
 use Rattle.mailparse.specs.Pairs.{Texts, last_of, text_at}
@@ -157,7 +157,7 @@ module _ (known : Charsets) (pairs : List (List ℕ × List ℕ)) (none_starred 
   pub parameters_are_pairs : (name : List ℕ) → parameters_in known pairs name ≡ last_of pairs name
   unfolding joined_at
   parameters_are_pairs name =
-      let names = names_of (map (λ pair. pair.0) pairs) in
+      let names = possible_names (map (λ pair. pair.0) pairs) in
       let at = section_at known (last_of pairs) in
       ap (λ t. option_or (cond t None (option_map alone (at name))) (cond (is_base at names name) (Some (joined (sections_of at name))) None)) (none_used names name)
       ∙ ap (λ t. option_or (option_map alone (at name)) (cond t (Some (joined (sections_of at name))) None)) (no_bases names name)

@@ -1,10 +1,11 @@
 -- What those that join sections hold; private to them.
-use Rattle.std.specs.Prelude.{ℕ, zero, suc, Bool, false, not, ◌&&◌, ◌==◌, nat_lt, List, [], ◌∷◌, ◌++◌, map, flat_map, Option, Some, None, option_and_then, option_map, option_to_list, String, string_bytes, if◌then◌else◌}
+use Rattle.std.specs.Prelude.{ℕ, zero, suc, Bool, false, not, ◌&&◌, ◌==◌, nat_lt, List, [], ◌∷◌, ◌++◌, map, flat_map, Option, Some, None, option_map, option_to_list, String, string_bytes, if◌then◌else◌}
 use Rattle.std.specs.BTreeMap.{BTreeMap}
 use Rattle.std.specs.List.{list_any}
 use Rattle.std.specs.Option.{option_map_or}
 use Rattle.std.specs.Str.{bytes_eq}
 use Rattle.mailparse.specs.Continuations.{is_section, joined, sections_of, walked_after}
+use Rattle.mailparse.specs.Options.{◌>>=◌}
 use Rattle.mailparse.specs.Sections.{Section, is_star, is_text, numbered, section_name}
 use Rattle.mailparse.specs.private.Filled.{holds_name}
 use Rattle.mailparse.specs.private.KnownCharset.{known_text}
@@ -35,7 +36,9 @@ has_star name = list_any is_star name
 
 -- the base of a name with the number 0, where no text stands
 abbrev pub first_base_of : (List ℕ → Option Section) → List ℕ → Option (List ℕ)
-first_base_of at name = option_and_then (λ n. if n.1 == 0 && not (is_text (at n.0)) then Some n.0 else None) (numbered name)
+first_base_of at name = do
+  n ← numbered name
+  if n.1 == 0 && not (is_text (at n.0)) then Some n.0 else None
 
 -- the bases of some names
 abbrev pub first_bases : (List ℕ → Option Section) → List (List ℕ) → List (List ℕ)

@@ -3,16 +3,12 @@
 use Rattle.std.specs.Prelude.{◌≡◌, ℕ, List, [], ◌∷◌, ◌++◌, Some, None, string_bytes, if◌then◌else◌}
 use Rattle.mail_codec.specs.Ascii.{space}
 use Rattle.mailparse.specs.Tokens.{plain_text, whitespace, line_end, decoded_word}
-use Rattle.mailparse.specs.Value.{Token, kinds, is_released, newline, shown_after}
+use Rattle.mailparse.specs.Value.{Token, kinds, is_released, newline, shown_after, whitespace_token}
 use Rattle.mailparse.specs.declared.header.shown.Held.{Held}
 use Rattle.mailparse.specs.declared.header.shown.Held.TheVariants as held
 use Rattle.mailparse.specs.declared.header.shown.HeaderToken.{HeaderToken}
 use Rattle.mailparse.specs.declared.header.shown.HeaderToken.TheVariants as code
 use Rattle.mailparse.specs.declared.header.shown.ShownValue.{ShownValue}
-
--- a token that is whitespace
-abbrev pub whitespace_token : List ℕ → Token
-whitespace_token gap = record { kind = whitespace; shown = gap }
 
 -- a token of the code, as the definitions have it
 abbrev pub token_view : HeaderToken → Token

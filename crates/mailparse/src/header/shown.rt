@@ -2,8 +2,8 @@
 //! after a decoded word shows only where text comes next.
 ghost use Rattle.std.specs.Prelude.{◌≡◌, ◌++◌, ◌∷◌, [], List, IfOk, OnOk};
 ghost use Rattle.std.specs.String.{string_bytes};
-ghost use Rattle.mailparse.specs.Value.{Token, newline, shown_tokens};
-ghost use Rattle.mailparse.specs.private.Shown.{Shows, released, shown_with, token_view, whitespace_token};
+ghost use Rattle.mailparse.specs.Value.{Token, newline, shown_tokens, whitespace_token};
+ghost use Rattle.mailparse.specs.private.Shown.{Shows, released, shown_with, token_view};
 
 use std::alloc::{AllocError, Global};
 
