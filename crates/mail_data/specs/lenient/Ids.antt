@@ -1,15 +1,12 @@
 -- Message ids in any text (RFC 5322, section 3.6.4): whatever stands within angle brackets and has an `@`.
 use Rattle.std.specs.Prelude.{ℕ, Bool, ◌&&◌, ◌==◌, List, [], ◌∷◌, drop, flat_map, if◌then◌else◌}
 use Rattle.std.specs.List.{slice_split, list_any, before_first}
-use Rattle.mail_codec.specs.Ascii.{less_than, greater_than}
+use Rattle.mail_codec.specs.Ascii.{less_than}
+use Rattle.mailparse.specs.MessageIds.{is_closing}
 
 -- a `<` opens an id
 abbrev pub is_opening : ℕ → Bool
 is_opening b = b == less_than
-
--- a `>` closes it
-abbrev pub is_closing : ℕ → Bool
-is_closing b = b == greater_than
 
 abbrev pub at_sign : ℕ
 at_sign = 64

@@ -1,7 +1,8 @@
 //! Message ids in any text.
 ghost use Rattle.std.specs.Prelude.{◌≡◌, ◌++◌, ◌<◌, true, false, [], ◌∷◌, length, map, string_bytes, IfOk, IfSome, MatchOption, OnOk};
 ghost use Rattle.std.specs.List.{before_first, list_any, slice_split};
-ghost use Rattle.mail_data.specs.lenient.Ids.{id_at, ids_in, is_at, is_closing, is_opening};
+ghost use Rattle.mailparse.specs.MessageIds.{is_closing};
+ghost use Rattle.mail_data.specs.lenient.Ids.{id_at, ids_in, is_at, is_opening};
 
 use std::alloc::{AllocError, Global};
 

@@ -7,7 +7,8 @@ use Rattle.std.specs.Option.{MatchOption, IfSome}
 use Rattle.std.proofs.lemmas.Bool.{lt-ltb, le-ltb, cond-true, cond-false, and_from, and_left, and_right}
 use Rattle.std.proofs.lemmas.List.{append-nil}
 use Rattle.mailparse.proofs.lemmas.EncodedWord.{any_from_place}
-use Rattle.mail_data.specs.lenient.Ids.{id_at, ids_in, is_at, is_closing, is_opening}
+use Rattle.mailparse.specs.MessageIds.{is_closing}
+use Rattle.mail_data.specs.lenient.Ids.{id_at, ids_in, is_at, is_opening}
 
 -- ---- a text cut at a byte
 
