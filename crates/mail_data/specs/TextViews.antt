@@ -3,7 +3,7 @@ use Rattle.std.specs.Prelude.{Option, option_map}
 use Rattle.std.specs.Borrow.{Bor}
 use Rattle.mailparse.specs.Mail.{Tree}
 use Rattle.mailparse.specs.Views.{tree_of}
-use Rattle.mailparse.specs.declared.mail.ParsedMail.{ParsedMail}
+use Rattle.mailparse.specs.declared.mail.message.ParsedMail.{ParsedMail}
 
 -- the part that was found, if one was
 abbrev pub tree_found : Option (Bor ParsedMail) → Option Tree

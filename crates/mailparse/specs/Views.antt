@@ -11,10 +11,10 @@ use Rattle.mailparse.specs.declared.content_type.ParsedContentType.{ParsedConten
 use Rattle.mailparse.specs.declared.disposition.DispositionType.{DispositionType}
 use Rattle.mailparse.specs.declared.disposition.DispositionType.TheVariants as code
 use Rattle.mailparse.specs.declared.disposition.ParsedContentDisposition.{ParsedContentDisposition}
-use Rattle.mailparse.specs.declared.mail.ParsedMail.{ParsedMail}
-use Rattle.mailparse.specs.declared.mail.parts.PartsIterator.{PartsIterator}
-use Rattle.mailparse.specs.declared.mail.ParsedMail.TheOpen.{ParsedMail-F}
-use Rattle.mailparse.specs.declared.mail.ParsedMail.TheFolds.{fold-ParsedMail}
+use Rattle.mailparse.specs.declared.mail.message.ParsedMail.{ParsedMail}
+use Rattle.mailparse.specs.declared.mail.message.PartsIterator.{PartsIterator}
+use Rattle.mailparse.specs.declared.mail.message.ParsedMail.TheOpen.{ParsedMail-F}
+use Rattle.mailparse.specs.declared.mail.message.ParsedMail.TheFolds.{fold-ParsedMail}
 
 -- the headers of a list and the offset just after their blank line
 abbrev pub header_list : Vec Header × ℕ → HeaderList

@@ -6,9 +6,9 @@ use Rattle.std.proofs.lemmas.List.Elements.{filter-append}
 use Rattle.mail_codec.specs.Charset.{Charsets}
 use Rattle.mailparse.specs.Mail.{Node, Tree, Forest, tree, part_and, root, forest, shown_as_in}
 use Rattle.mailparse.specs.Views.{content_type, tree_of, tree_step}
-use Rattle.mailparse.specs.declared.mail.ParsedMail.{ParsedMail}
-use Rattle.mailparse.specs.declared.mail.ParsedMail.TheViews.{out-ParsedMail}
-use Rattle.mailparse.specs.declared.mail.ParsedMail.TheFolds.{fold_out-ParsedMail}
+use Rattle.mailparse.specs.declared.mail.message.ParsedMail.{ParsedMail}
+use Rattle.mailparse.specs.declared.mail.message.ParsedMail.TheViews.{out-ParsedMail}
+use Rattle.mailparse.specs.declared.mail.message.ParsedMail.TheFolds.{fold_out-ParsedMail}
 use Rattle.mailparse.specs.ContentType.{ContentType}
 use Rattle.mailparse.specs.Disposition.{Disposition}
 use Rattle.mailparse.specs.Refusal.{Reads}

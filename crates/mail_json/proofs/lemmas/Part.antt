@@ -16,9 +16,9 @@ use Rattle.std.specs.String.{string_bytes, string_cmp}
 use Rattle.mailparse.specs.Mail.{Node, Tree, Forest, tree, root, forest}
 use Rattle.mailparse.specs.Pairs.{text_at}
 use Rattle.mailparse.specs.Views.{content_type, tree_of, tree_step}
-use Rattle.mailparse.specs.declared.mail.ParsedMail.{ParsedMail}
-use Rattle.mailparse.specs.declared.mail.ParsedMail.TheFolds.{fold_out-ParsedMail}
-use Rattle.mailparse.specs.declared.mail.ParsedMail.TheViews.{out-ParsedMail}
+use Rattle.mailparse.specs.declared.mail.message.ParsedMail.{ParsedMail}
+use Rattle.mailparse.specs.declared.mail.message.ParsedMail.TheFolds.{fold_out-ParsedMail}
+use Rattle.mailparse.specs.declared.mail.message.ParsedMail.TheViews.{out-ParsedMail}
 use Rattle.mail_data.specs.Files.{is_leaf, path_under}
 use Rattle.mail_json.specs.Part.{Lists, further, Place, AreAfterCommas, delimiter_length, part_start, places, places_in, preamble_end}
 use Rattle.mail_json.proofs.lemmas.Strings.{drop_next}

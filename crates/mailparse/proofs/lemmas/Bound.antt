@@ -13,7 +13,7 @@ use Rattle.mailparse.specs.Mail.{Node, Tree, tree, Forest, no_parts, part_and, r
 use Rattle.mailparse.specs.Bound.{IsBounded}
 use Rattle.mailparse.specs.Views.{tree_of}
 use Rattle.mailparse.specs.declared.error.MailParseError.{MailParseError}
-use Rattle.mailparse.specs.declared.mail.ParsedMail.{ParsedMail}
+use Rattle.mailparse.specs.declared.mail.message.ParsedMail.{ParsedMail}
 use Rattle.mailparse.proofs.lemmas.Refusal.{read_map}
 use Rattle.mailparse.proofs.lemmas.Ranges.{cut_of-apart, Apart-sum}
 use Rattle.mailparse.proofs.lemmas.Block.{Bounded, read_headers-bounded}

@@ -16,9 +16,9 @@ use Rattle.std.specs.Option.{option_map_or}
 use Rattle.mailparse.specs.Map.{first_with_key}
 use Rattle.mailparse.specs.Value.{lenient_value_in}
 use Rattle.mailparse.specs.Views.{tree_step, tree_of}
-use Rattle.mailparse.specs.declared.mail.ParsedMail.{ParsedMail}
-use Rattle.mailparse.specs.declared.mail.ParsedMail.TheViews.{out-ParsedMail}
-use Rattle.mailparse.specs.declared.mail.ParsedMail.TheFolds.{fold_out-ParsedMail}
+use Rattle.mailparse.specs.declared.mail.message.ParsedMail.{ParsedMail}
+use Rattle.mailparse.specs.declared.mail.message.ParsedMail.TheViews.{out-ParsedMail}
+use Rattle.mailparse.specs.declared.mail.message.ParsedMail.TheFolds.{fold_out-ParsedMail}
 use Rattle.mailparse.proofs.lemmas.Delimiters.{part_ranges-none, part_ranges-some, part_ranges}
 
 -- ---- the type of a message

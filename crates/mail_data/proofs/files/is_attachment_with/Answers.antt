@@ -1,7 +1,7 @@
 use Rattle.std.proofs.Common.{Ok, sym, ap, ◌∙◌}
 use Rattle.mail_codec.specs.Tables.{charsets_with}
 use Rattle.mailparse.specs.Views.{content_type, disposition, tree_of}
-use Rattle.mailparse.specs.declared.mail.ParsedMail.TheViews.{out-ParsedMail}
+use Rattle.mailparse.specs.declared.mail.message.ParsedMail.TheViews.{out-ParsedMail}
 use Rattle.mail_data.proofs.lemmas.Files.{ctype-out, is_attachment-parts, is_attachment-leaf}
 use Rattle.mail_data.proofs.files.is_attachment_with.Goals as goal
 

@@ -1,5 +1,5 @@
 use Rattle.std.proofs.Common.{eqb, List, length, sym, ap, ◌∙◌}
-use Rattle.mailparse.specs.declared.mail.ParsedMail.{ParsedMail}
+use Rattle.mailparse.specs.declared.mail.message.ParsedMail.{ParsedMail}
 use Rattle.mail_data.proofs.lemmas.Files.{is_leaf-out}
 use Rattle.mail_data.proofs.files.is_leaf.Goals as goal
 

@@ -4,7 +4,7 @@ use Rattle.std.proofs.KnownBytes.{Appends-trans}
 use Rattle.mail_codec.specs.Tables.{charsets_with}
 use Rattle.mailparse.specs.Mail.{forest, root}
 use Rattle.mailparse.specs.Views.{tree_of}
-use Rattle.mailparse.specs.declared.mail.ParsedMail.{ParsedMail}
+use Rattle.mailparse.specs.declared.mail.message.ParsedMail.{ParsedMail}
 use Rattle.mail_data.specs.Files.{path_under}
 use Rattle.mail_json.specs.Part.{further, Place, IsPartText, delimiter_length, part_start, places, places_in, preamble_end}
 use Rattle.mail_json.proofs.lemmas.Part.{bytes-out, ctype-out, completes_start, completes_end, parts_end, parts_step, places-out}

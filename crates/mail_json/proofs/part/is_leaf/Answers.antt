@@ -1,5 +1,5 @@
 use Rattle.std.proofs.Common.{eqb, List, length, sym, ap, ◌∙◌}
-use Rattle.mailparse.specs.declared.mail.ParsedMail.{ParsedMail}
+use Rattle.mailparse.specs.declared.mail.message.ParsedMail.{ParsedMail}
 use Rattle.mail_json.proofs.lemmas.Part.{is_leaf-out}
 use Rattle.mail_json.proofs.part.is_leaf.Goals as goal
 

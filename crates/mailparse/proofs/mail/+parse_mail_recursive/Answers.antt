@@ -8,8 +8,8 @@ use Rattle.mailparse.specs.Block.{read_headers}
 use Rattle.mailparse.specs.Delimiters.{end_from, first_part, next_part}
 use Rattle.mailparse.specs.Mail.{Tree, tree, Forest, no_parts, forest, dash_boundary_of, read_levels}
 use Rattle.mailparse.specs.Views.{content_type, tree_step, tree_of}
-use Rattle.mailparse.specs.declared.mail.ParsedMail.{ParsedMail}
-use Rattle.mailparse.specs.declared.mail.ParsedMail.TheFolds.{fold-roll-ParsedMail}
+use Rattle.mailparse.specs.declared.mail.message.ParsedMail.{ParsedMail}
+use Rattle.mailparse.specs.declared.mail.message.ParsedMail.TheFolds.{fold-roll-ParsedMail}
 use Rattle.mailparse.proofs.lemmas.Refusal.{read_map}
 use Rattle.mailparse.proofs.lemmas.Outcome.{IsRefusal-along, IsRefusalOrMemory-along}
 use Rattle.mailparse.proofs.lemmas.Mail.{with_trees, parts_from, parts_step, parts_refused, parts_end, read_levels-none, read_levels-refused, read_levels-leaf, read_levels-whole, delimiter_none, IsDelimiter-of}

@@ -2,7 +2,7 @@
 use Rattle.std.proofs.Common.{◌≡◌, ◌++◌, map, drop}
 use Rattle.mailparse.specs.Mail.{forest, trees_within, trees_in}
 use Rattle.mailparse.specs.Views.{tree_of}
-use Rattle.mailparse.proofs.mail.parts.+push_parts.Given as goal
+use Rattle.mailparse.proofs.mail.message.+push_parts.Given as goal
 
 abbrev pub invariant-loop-part : goal.invariant-loop-part
 invariant-loop-part l =

@@ -3,7 +3,7 @@ use Rattle.mail_codec.proofs.lemmas.Tables.{charsets-four}
 use Rattle.mailparse.specs.Mail.{root, shown_as_in}
 use Rattle.mailparse.specs.Outcome.{AnswersOrMemory}
 use Rattle.mailparse.specs.Views.{disposition, tree_of}
-use Rattle.mailparse.proofs.mail.ParsedMail.get_content_disposition.Goals as goal
+use Rattle.mailparse.proofs.mail.message.ParsedMail.get_content_disposition.Goals as goal
 
 pub returns : goal.returns
 returns c =

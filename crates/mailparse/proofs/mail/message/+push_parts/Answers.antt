@@ -2,9 +2,9 @@ use Rattle.std.proofs.Common.{◌≡◌, ◌++◌, ◌∷◌, [], Bor, List, map
 use Rattle.std.proofs.lemmas.List.{map-append, append-nil, drop_all}
 use Rattle.mailparse.specs.Mail.{Tree, forest, trees_in}
 use Rattle.mailparse.specs.Views.{tree_of}
-use Rattle.mailparse.specs.declared.mail.ParsedMail.{ParsedMail}
+use Rattle.mailparse.specs.declared.mail.message.ParsedMail.{ParsedMail}
 use Rattle.mailparse.proofs.lemmas.Mail.{trees_within-out}
-use Rattle.mailparse.proofs.mail.parts.+push_parts.Goals as goal
+use Rattle.mailparse.proofs.mail.message.+push_parts.Goals as goal
 
 abbrev trees : List (Bor ParsedMail) → List Tree
 trees ms = map (λ m. tree_of m.now) ms
