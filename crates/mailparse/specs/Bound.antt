@@ -15,6 +15,6 @@ body_bytes_within t = sum_by (λ node. length node.body) (nodes t)
 abbrev pub nodes_within : Tree → ℕ
 nodes_within t = length (nodes t)
 
--- one byte for each header, the bytes of the bodies, and three for each part are together at most so many: no byte serves two of them
+-- one byte for each header, the bytes of the bodies, and three for each part are together at most so many
 abbrev pub IsBounded : Tree → ℕ → Type 0
 IsBounded t bytes = headers_within t + body_bytes_within t + 3 * (nodes_within t - 1) ≤ bytes

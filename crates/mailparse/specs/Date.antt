@@ -11,15 +11,15 @@ use Rattle.mailparse.specs.Refusal.{◌>>=◌, Reads, Refusal, generic}
 
 -- Refusals.
 
--- a day that is no number from 1 to 31
+-- a day that is not a number from 1 to 31
 abbrev pub invalid_day : Refusal
 invalid_day = generic (codes "Invalid day")
 
--- a month that is no name of one
+-- a word that names no month
 abbrev pub unrecognized_month : Refusal
 unrecognized_month = generic (codes "Unrecognized month")
 
--- a year that is no number below 2 ^ 32
+-- a year that is not a number below 2 ^ 32
 abbrev pub invalid_year : Refusal
 invalid_year = generic (codes "Invalid year")
 
@@ -27,15 +27,15 @@ invalid_year = generic (codes "Invalid year")
 abbrev pub disallowed_year : Refusal
 disallowed_year = generic (codes "Disallowed year")
 
--- an hour that is no number below 256
+-- an hour that is not a number below 256
 abbrev pub invalid_hour : Refusal
 invalid_hour = generic (codes "Invalid hour")
 
--- a minute that is no number below 256
+-- a minute that is not a number below 256
 abbrev pub invalid_minute : Refusal
 invalid_minute = generic (codes "Invalid minute")
 
--- a second that is no number below 256
+-- a second that is not a number below 256
 abbrev pub invalid_second : Refusal
 invalid_second = generic (codes "Invalid second")
 

@@ -23,7 +23,7 @@ lone_carriage_return = generic (codes "Headers were followed by an unexpected lo
 abbrev pub value_not_utf8 : Refusal
 value_not_utf8 = encoding (codes "Invalid UTF-8 in header value")
 
--- a part below the greatest level
+-- a part at a level above the greatest allowed
 abbrev pub recursion_limit : Refusal
 recursion_limit = generic (codes "Recursion limit reached")
 

@@ -22,11 +22,13 @@ pub enum Body<'a> {
     Base64(EncodedBody<'a>),
     /// A body in quoted-printable (RFC 2045, section 6.7).
     QuotedPrintable(EncodedBody<'a>),
-    /// Text of 7-bit bytes in short lines, not encoded (RFC 2045, section 2.7).
+    /// A body taken as it is: its encoding is `7bit` (RFC 2045, section 2.7), absent or unknown;
+    /// its bytes and line lengths are not checked.
     SevenBit(TextBody<'a>),
-    /// Text of bytes in short lines, not encoded (RFC 2045, section 2.8).
+    /// A body whose encoding is `8bit`, taken as it is (RFC 2045, section 2.8); its line lengths
+    /// are not checked.
     EightBit(TextBody<'a>),
-    /// Bytes that are not encoded (RFC 2045, section 2.9).
+    /// A body whose encoding is `binary`, taken as it is (RFC 2045, section 2.9).
     Binary(BinaryBody<'a>),
 }
 

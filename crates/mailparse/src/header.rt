@@ -232,8 +232,9 @@ impl<'a> MailHeader<'a> {
         self.key
     }
 
-    /// Returns the bytes of the value as they appear in the message: without the leading spaces and
-    /// the final line end, but with the line ends inside it (RFC 5322, section 2.2).
+    /// Returns the bytes of the value as they appear in the message: without the spaces at its
+    /// front and all CR and LF at its end, but with the line ends inside it (RFC 5322, section
+    /// 2.2).
     ///
     /// Takes no memory.
     ///

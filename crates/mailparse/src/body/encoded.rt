@@ -76,7 +76,8 @@ impl<'a> EncodedBody<'a> {
     /// Returns the decoded bytes of the body (RFC 2045, sections 6.7 and 6.8).
     ///
     /// In Base64, ASCII whitespace is ignored; in quoted-printable, any text is accepted. Takes
-    /// memory for the bytes and, in Base64, a few kilobytes more.
+    /// memory for the bytes, and more on the way, as `decode_base64_body` or
+    /// `decode_quoted_printable` of `mail_codec` does.
     ///
     /// # Errors
     ///

@@ -86,7 +86,8 @@ pub(super) fn month_number(word: &str) -> Result<usize, MailParseError>
     }
 }
 
-/// The year that a word writes, with two digits or more.
+/// The year that a word writes: below 70 it is in the years from 2000, from 70 to 99 in those from
+/// 1900.
 pub(super) fn year_number(word: &str) -> Result<u32, MailParseError>
     ensures read { Answers (λ year. year) result (year_of word.now) }
     ensures bounds { IfOk result (λ year. (1970 ≤ year) × (year < 2 ^ 32)) }

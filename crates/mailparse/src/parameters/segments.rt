@@ -57,7 +57,7 @@ impl QuoteState {
     }
 }
 
-/// How many bytes stand before the first one like this, or how many there are.
+/// How many bytes stand before the first `byte`, or the length if it is absent.
 fn length_before(bytes: &[u8], byte: u8) -> usize
     ensures least { result ≡ first_place (begins (λ b. b == byte)) bytes.now }
     ensures bounds { result ≤ length bytes.now }

@@ -55,7 +55,7 @@ fn last_with(shared: &[usize], place: usize, len: usize) -> usize
     last
 }
 
-/// For each of some places the place itself.
+/// The list 0, 1 and so on up to `count - 1`: at first each name is its own source.
 fn own_places(alloc: Global, count: usize) -> Result<Vec<usize>, AllocError>
     ensures len { IfOk result (λ places. length places.items ≡ count) }
     ensures own { IfOk result (λ places. (k : ℕ) → k < count → slice_index_or places.items k 0
@@ -70,7 +70,7 @@ fn own_places(alloc: Global, count: usize) -> Result<Vec<usize>, AllocError>
     Ok(places)
 }
 
-/// Writes a place at those from one up to another.
+/// Sets `places` from index `first` up to, but not including, `end` to `place`.
 fn write_range(places: &mut Vec<usize>, first: usize, end: usize, place: usize)
     requires order { first ≤ end }
     requires within { end ≤ length places.old.items }

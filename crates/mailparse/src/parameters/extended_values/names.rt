@@ -1,4 +1,4 @@
-//! The extended names: those that are no keys, and with a star after them are.
+//! The extended names: names that are not keys themselves, but are keys with a star after them.
 ghost use Rattle.std.specs.Prelude.{◌≡◌, map, option_map, IfOk};
 ghost use Rattle.std.specs.BTreeMap.{IsOrdered};
 ghost use Rattle.std.specs.String.{string_cmp};
@@ -14,7 +14,7 @@ use mail_codec::charset::SingleByteTable;
 use std::alloc::{AllocError, Global};
 use std::collections::BTreeMap;
 
-/// A name that is no key, and with a star after it is one.
+/// A name that is not a key itself, but is a key with a star after it.
 #[derive(Clone, Copy)]
 pub(super) struct ExtendedName<'a, 't> {
     /// The name, without the star.
