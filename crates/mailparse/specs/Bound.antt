@@ -4,8 +4,8 @@ use Rattle.std.specs.List.{sum_by}
 use Rattle.mailparse.specs.Mail.{Tree, nodes}
 
 -- how many headers they have
-abbrev pub headers_within : Tree → ℕ
-headers_within t = sum_by (λ node. length node.headers) (nodes t)
+abbrev pub header_count_within : Tree → ℕ
+header_count_within t = sum_by (λ node. length node.headers) (nodes t)
 
 -- how many bytes their bodies have
 abbrev pub body_bytes_within : Tree → ℕ
@@ -17,4 +17,4 @@ nodes_within t = length (nodes t)
 
 -- one byte for each header, the bytes of the bodies, and three for each part are together at most so many
 abbrev pub IsBounded : Tree → ℕ → Type 0
-IsBounded t bytes = headers_within t + body_bytes_within t + 3 * (nodes_within t - 1) ≤ bytes
+IsBounded t bytes = header_count_within t + body_bytes_within t + 3 * (nodes_within t - 1) ≤ bytes

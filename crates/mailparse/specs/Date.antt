@@ -171,11 +171,11 @@ zone_seconds (negsuc n) = pos (zone_size (suc n))
 
 -- The date: each word has its meaning by its place, and words that are not there add nothing. The first refusal refuses all.
 
--- the seconds of a number below 256 of units
-abbrev pub units : ℕ → Refusal → List ℕ → Reads ℤ
-units seconds refusal word = do
+-- the seconds of a word that is a number below 256 of units, each of so many seconds
+abbrev pub seconds_of : ℕ → Refusal → List ℕ → Reads ℤ
+seconds_of unit refusal word = do
   n ← ok_or (number_below 256 word) refusal
-  Ok (pos (seconds * n))
+  Ok (pos (unit * n))
 
 -- the seconds that the words say from the zone on
 abbrev pub from_zone : List (List ℕ) → Reads ℤ
@@ -188,7 +188,7 @@ from_zone (word ∷ after) = do
 abbrev pub from_second : List (List ℕ) → Reads ℤ
 from_second [] = Ok (pos 0)
 from_second (word ∷ after) = do
-  seconds ← units 1 invalid_second word
+  seconds ← seconds_of 1 invalid_second word
   more ← from_zone after
   Ok (seconds +ℤ more)
 
@@ -196,7 +196,7 @@ from_second (word ∷ after) = do
 abbrev pub from_minute : List (List ℕ) → Reads ℤ
 from_minute [] = Ok (pos 0)
 from_minute (word ∷ after) = do
-  seconds ← units 60 invalid_minute word
+  seconds ← seconds_of 60 invalid_minute word
   more ← from_second after
   Ok (seconds +ℤ more)
 
@@ -204,7 +204,7 @@ from_minute (word ∷ after) = do
 abbrev pub from_hour : List (List ℕ) → Reads ℤ
 from_hour [] = Ok (pos 0)
 from_hour (word ∷ after) = do
-  seconds ← units 3600 invalid_hour word
+  seconds ← seconds_of 3600 invalid_hour word
   more ← from_minute after
   Ok (seconds +ℤ more)
 

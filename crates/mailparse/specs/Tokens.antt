@@ -88,29 +88,29 @@ pub record TokenGroup : Type 0 where
 module _ (known : Charsets) where
   -- one group of tokens of a line, at the place s where it starts, and the place where the next group starts, if there is one.
   -- The cases:
-  pub data IsGroup (line : List ℕ) (s : ℕ) : List TokenRange → Option ℕ → Type 0 where
+  pub data IsTokenGroup (line : List ℕ) (s : ℕ) : List TokenRange → Option ℕ → Type 0 where
     -- no `=?` stands at or after s: the rest of the line is the last token
-    no_opening : opening line s ≡ length line → IsGroup line s (outside_range line s (length line) ∷ []) None
+    no_opening : opening line s ≡ length line → IsTokenGroup line s (outside_range line s (length line) ∷ []) None
     -- the least `=?` has a character before it that is not a boundary: text, up to the end of that `=?`
     no_boundary : {v : ℕ} → opening line s ≡ v → v ≢ length line → boundary_before line v ≡ false
-        → IsGroup line s (text_range s (v + 2) ∷ []) (Some (v + 2))
+        → IsTokenGroup line s (text_range s (v + 2) ∷ []) (Some (v + 2))
     -- the least `=?` may begin a word, and no `?=` after it may end one: what stands before it, and that `=?` alone as text
     no_closing : {v : ℕ} → opening line s ≡ v → v ≢ length line → boundary_before line v ≡ true
         → closing line (v + 2) ≡ length line
-        → IsGroup line s (outside_range line s v ∷ text_range v (v + 2) ∷ []) (Some (v + 2))
+        → IsTokenGroup line s (outside_range line s v ∷ text_range v (v + 2) ∷ []) (Some (v + 2))
     -- the least `=?` and the least `?=` after it with a boundary after that have a word between them that decodes
     decodes : {v e : ℕ} → opening line s ≡ v → v ≢ length line → boundary_before line v ≡ true
         → closing line (v + 2) ≡ e → e ≢ length line → is_some (word_text known (inside line v e)) ≡ true
-        → IsGroup line s (outside_range line s v ∷ word_range v e ∷ []) (Some (e + 2))
+        → IsTokenGroup line s (outside_range line s v ∷ word_range v e ∷ []) (Some (e + 2))
     -- the same, where what stands between them does not decode: it is text with both its ends
     stays_text : {v e : ℕ} → opening line s ≡ v → v ≢ length line → boundary_before line v ≡ true
         → closing line (v + 2) ≡ e → e ≢ length line → is_some (word_text known (inside line v e)) ≡ false
-        → IsGroup line s (outside_range line s v ∷ text_range v (e + 2) ∷ []) (Some (e + 2))
+        → IsTokenGroup line s (outside_range line s v ∷ text_range v (e + 2) ∷ []) (Some (e + 2))
 
   -- the tokens of a line from the place s on: groups one after another, each starting where the one before says, up to the last
   pub data AreTokensFrom (line : List ℕ) : ℕ → List TokenRange → Type 0 where
-    last_group : {s : ℕ} {group : List TokenRange} → IsGroup line s group None → AreTokensFrom line s group
-    next_group : {s t : ℕ} {group rest tokens : List TokenRange} → IsGroup line s group (Some t) → AreTokensFrom line t rest
+    last_group : {s : ℕ} {group : List TokenRange} → IsTokenGroup line s group None → AreTokensFrom line s group
+    next_group : {s t : ℕ} {group rest tokens : List TokenRange} → IsTokenGroup line s group (Some t) → AreTokensFrom line t rest
         → tokens ≡ group ++ rest → AreTokensFrom line s tokens
 
   -- the tokens of a whole line
@@ -132,8 +132,8 @@ module _ (known : Charsets) where
       else record { tokens = text_range s (v + 2) ∷ []; next = Some (v + 2) }
 
   -- the group at s, computed
-  unfoldable pub group_at : List ℕ → ℕ → TokenGroup
-  group_at line s =
+  unfoldable pub token_group_at : List ℕ → ℕ → TokenGroup
+  token_group_at line s =
       let v = opening line s in
       if v == length line
       then record { tokens = outside_range line s (length line) ∷ []; next = None }
@@ -143,7 +143,7 @@ module _ (known : Charsets) where
   unfoldable pub tokens_within : ℕ → List ℕ → ℕ → List TokenRange
   tokens_within zero line s = []
   tokens_within (suc n) line s =
-      let group = group_at line s in
+      let group = token_group_at line s in
       group.tokens ++ option_map_or (λ t. tokens_within n line t) group.next []
 
   -- the tokens of a line, computed: a line has fewer groups than bytes, but for the last

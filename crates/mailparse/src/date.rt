@@ -2,7 +2,7 @@
 ghost use Rattle.std.specs.Prelude.{◌≡◌, [], IfOk, MatchOption};
 ghost use Rattle.mailparse.specs.Date.{date_seconds, date_words, from_hour, words};
 ghost use Rattle.mailparse.specs.Outcome.{Answers};
-ghost use Rattle.mailparse.specs.private.Date.{IsFirstNumber, IsNear};
+ghost use Rattle.mailparse.specs.private.Date.{IsFirstNumber, HasSizeAtMost};
 
 mod calendar;
 mod fields;
@@ -82,7 +82,7 @@ fn first_number(date: &str) -> Option<(u8, &str)>
 /// they are there.
 fn time_of_day(text: &str) -> Result<i64, MailParseError>
     ensures read { Answers (λ seconds. seconds) result (from_hour (words text.now)) }
-    ensures bounds { IfOk result (IsNear 1100000) }
+    ensures bounds { IfOk result (HasSizeAtMost 1100000) }
 {
     let Some((hour, rest)) = next_number(text, "Invalid hour")? else {
         return Ok(0);

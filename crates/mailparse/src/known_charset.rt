@@ -10,8 +10,8 @@ use std::alloc::{AllocError, Global};
 /// A charset that is known under some tables.
 #[derive(Clone, Copy)]
 pub(crate) enum KnownCharset<'t> {
-    /// One of the four.
-    Kept(Charset),
+    /// One of the four built-in charsets.
+    BuiltIn(Charset),
     /// That of a table.
     Table(&'t SingleByteTable<'t>),
 }
@@ -25,7 +25,7 @@ impl<'t> KnownCharset<'t> {
         ensures { option_map known_text result ≡ charsets_with tables.now label.now }
     {
         if let Some(charset) = Charset::for_label(label) {
-            return Some(KnownCharset::Kept(charset));
+            return Some(KnownCharset::BuiltIn(charset));
         }
         match table_for_label(label, tables) {
             Some(number) => Some(KnownCharset::Table(&tables[number])),
@@ -39,7 +39,7 @@ impl<'t> KnownCharset<'t> {
         ensures { IfOk result (λ t. string_bytes t ≡ marked (known_text self.entry) bytes.now) }
     {
         match self {
-            KnownCharset::Kept(charset) => charset.decode(alloc, bytes),
+            KnownCharset::BuiltIn(charset) => charset.decode(alloc, bytes),
             KnownCharset::Table(table) => table.decode(alloc, bytes),
         }
     }
@@ -53,7 +53,7 @@ impl<'t> KnownCharset<'t> {
         ensures { IfOk result (λ t. string_bytes t ≡ known_text self.entry bytes.now) }
     {
         match self {
-            KnownCharset::Kept(charset) => charset.decode_without_bom_handling(alloc, bytes),
+            KnownCharset::BuiltIn(charset) => charset.decode_without_bom_handling(alloc, bytes),
             KnownCharset::Table(table) => table.decode_without_bom_handling(alloc, bytes),
         }
     }
@@ -67,7 +67,7 @@ impl<'t> KnownCharset<'t> {
     ) -> Result<String, AllocError>
         ensures { IfOk result (λ t. string_bytes t ≡ known_text self.entry bytes.items) }
     {
-        let KnownCharset::Kept(Charset::Utf8) = self else {
+        let KnownCharset::BuiltIn(Charset::Utf8) = self else {
             return self.decode_without_bom_handling(alloc, bytes.as_slice());
         };
         match String::from_utf8(bytes) {

@@ -18,7 +18,7 @@ use delimiters::{cut_part, cut_preamble};
 use mail_codec::charset::SingleByteTable;
 pub use message::{ParsedMail, PartsIterator};
 use std::alloc::Global;
-use types::{delimiter_of, is_digest, node_type};
+use types::{feed_and_dash_boundary_of, is_digest, node_type};
 
 /// How many levels of parts `parse_mail` reads below a message, and the greatest limit that
 /// `parse_mail_limited` takes.
@@ -199,7 +199,7 @@ fn parse_mail_recursive<'a>(
     }
     let (headers, index) = parse_headers(alloc, raw)?;
     let ctype = node_type(alloc, &headers, in_digest, tables)?;
-    let Some(delimiter) = delimiter_of(alloc, &ctype)? else {
+    let Some(feed_and_dash_boundary) = feed_and_dash_boundary_of(alloc, &ctype)? else {
         return Ok(ParsedMail {
             raw_bytes: raw,
             header_bytes: &raw[..index],
@@ -210,11 +210,11 @@ fn parse_mail_recursive<'a>(
         });
     };
     let is_digest = is_digest(&ctype);
-    let (end, first) = cut_preamble(raw, index, delimiter.as_slice());
+    let (end, first) = cut_preamble(raw, index, feed_and_dash_boundary.as_slice());
     let mut subparts = Vec::new(alloc);
     let mut next = first;
     while let Some(start) = next {
-        let (part_end, after) = cut_part(raw, start, delimiter.as_slice());
+        let (part_end, after) = cut_part(raw, start, feed_and_dash_boundary.as_slice());
         let part = &raw[start..part_end];
         subparts.push(parse_mail_recursive(alloc, part, is_digest, levels - 1, tables)?)?;
         next = after;

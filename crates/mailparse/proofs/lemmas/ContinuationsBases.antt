@@ -7,7 +7,7 @@ use Rattle.std.specs.Str.{bytes_eq}
 use Rattle.mailparse.specs.Sections as words
 use Rattle.mailparse.specs.Continuations.{is_base, is_first_of, is_used, joined, joined_at, sections_of}
 use Rattle.mailparse.specs.Sections.{Section, alone, is_text, numbered, section_name}
-use Rattle.mailparse.specs.private.Continuations.{first_base_of, first_bases, is_taken, joined_text, left_by}
+use Rattle.mailparse.specs.private.Continuations.{base_of_section_0, bases_of_sections_0, is_taken, joined_text, left_by}
 use Rattle.mailparse.specs.private.Filled.{filled, holds_name}
 use Rattle.mailparse.proofs.lemmas.Filled.{filled_again, filled_skip, or_true}
 use Rattle.mailparse.proofs.lemmas.ExtendedValues.{equal_bytes, same_bytes}
@@ -17,7 +17,7 @@ use Rattle.mailparse.proofs.lemmas.ExtendedValues.{equal_bytes, same_bytes}
 abbrev hit : Option (List ℕ) → List ℕ → Bool
 hit base q = option_map_or (λ b. bytes_eq b q) base false
 
-hit_is : (at : List ℕ → Option Section) (q name : List ℕ) → (not (is_text (at q)) && is_first_of q name) ≡ hit (first_base_of at name) q
+hit_is : (at : List ℕ → Option Section) (q name : List ℕ) → (not (is_text (at q)) && is_first_of q name) ≡ hit (base_of_section_0 at name) q
 hit_is at q name = go (numbered name)
   where
     taken : (n : List ℕ × ℕ) (t : Bool) → bytes_eq n.0 q ≡ true → hit (cond t (Some n.0) None) q ≡ t
@@ -50,17 +50,17 @@ hit_is at q name = go (numbered name)
 
 -- the bases of names where something stands
 pub holds_first : (at : List ℕ → Option Section) (names : List (List ℕ)) (q : List ℕ) → ((z : List ℕ) → holds_name names z ≡ true → is_some (at z) ≡ true)
-    → holds_name (first_bases at names) q ≡ is_base at names q
+    → holds_name (bases_of_sections_0 at names) q ≡ is_base at names q
 holds_first at [] q some = sym (and_right _ _ refl)
 holds_first at (name ∷ names) q some =
-    one (first_base_of at name)
-    ∙ ap (λ b. hit (first_base_of at name) q || b) (holds_first at names q (λ z held. some z (ap (λ b. bytes_eq name z || b) held ∙ or_true (bytes_eq name z))))
+    one (base_of_section_0 at name)
+    ∙ ap (λ b. hit (base_of_section_0 at name) q || b) (holds_first at names q (λ z held. some z (ap (λ b. bytes_eq name z || b) held ∙ or_true (bytes_eq name z))))
     ∙ ap (λ b. b || is_base at names q) (sym (hit_is at q name))
     ∙ sym (split (not (is_text (at q))) (is_first_of q name) (list_any (λ n. is_some (at n) && is_first_of q n) names))
     ∙ ap (λ b. not (is_text (at q)) && ((b && is_first_of q name) || list_any (λ n. is_some (at n) && is_first_of q n) names))
     (sym (some name (ap (λ b. b || holds_name names name) (same_bytes name name refl))))
   where
-    one : (o : Option (List ℕ)) → holds_name (option_to_list o ++ first_bases at names) q ≡ (hit o q || holds_name (first_bases at names) q)
+    one : (o : Option (List ℕ)) → holds_name (option_to_list o ++ bases_of_sections_0 at names) q ≡ (hit o q || holds_name (bases_of_sections_0 at names) q)
     one None = refl
     one (Some b) = refl
 
@@ -83,14 +83,14 @@ taken_used at names bases same q = go (numbered q)
 -- the texts in the end: those of the other sections, those that were left, those of the bases
 pub in_the_end : (at : List ℕ → Option Section) (names : List (List ℕ)) (q : List ℕ) (extended : Option Section) (text base given : Option (List ℕ))
     → ((z : List ℕ) → holds_name names z ≡ true → is_some (at z) ≡ true)
-    → option_or extended (option_map words.text text) ≡ left_by at (first_bases at names) q → base ≡ joined_text at (first_bases at names) q
+    → option_or extended (option_map words.text text) ≡ left_by at (bases_of_sections_0 at names) q → base ≡ joined_text at (bases_of_sections_0 at names) q
     → given ≡ option_or (option_map alone extended) (option_or text base) → given ≡ joined_at at names q
 unfolding joined_at
 in_the_end at names q extended text base given some left joined_is made =
-    let bases : (z : List ℕ) → holds_name (first_bases at names) z ≡ is_base at names z = λ z. holds_first at names z some in
+    let bases : (z : List ℕ) → holds_name (bases_of_sections_0 at names) z ≡ is_base at names z = λ z. holds_first at names z some in
     made ∙ over extended text
     ∙ ap (λ o. option_or (option_map alone o) base) left
-    ∙ ap (λ b. option_or (option_map alone (cond b None (at q))) base) (taken_used at names (first_bases at names) bases q)
+    ∙ ap (λ b. option_or (option_map alone (cond b None (at q))) base) (taken_used at names (bases_of_sections_0 at names) bases q)
     ∙ ap (λ o. option_or o base) (inner (is_used at names q))
     ∙ ap (option_or (cond (is_used at names q) None (option_map alone (at q)))) (joined_is ∙ ap (λ b. cond b (Some (joined (sections_of at q))) None) (bases q))
   where

@@ -4,7 +4,7 @@ use Rattle.std.proofs.lemmas.Bool.{cond-false, cond-true}
 use Rattle.std.specs.Option.{option_to_list}
 use Rattle.mail_codec.specs.Places.{least, values_below}
 use Rattle.mailparse.specs.Continuations.{Group, group_text, groups, is_missing, joined, most_sections, onto_run, run, sections_of, text_alone, walked_after}
-use Rattle.mailparse.specs.private.Continuations.{as_far, sections_from}
+use Rattle.mailparse.specs.private.Continuations.{cons_if_some, sections_from}
 use Rattle.mailparse.specs.Sections.{Section, octets, section_name, text}
 
 pub most : most_sections ≡ 18446744073709551615
@@ -14,7 +14,7 @@ most = refl
 -- no section stands at the next number
 pub sections_none : (at : List ℕ → Option Section) (base : List ℕ) (n number : ℕ) → at (section_name base number) ≡ None → sections_from at base n number ≡ []
 sections_none at base zero number e = refl
-sections_none at base (suc n) number e = ap (λ o. as_far o (sections_from at base n (suc number))) e
+sections_none at base (suc n) number e = ap (λ o. cons_if_some o (sections_from at base n (suc number))) e
 
 -- one does
 pub sections_some : (at : List ℕ → Option Section) (base : List ℕ) (most number : ℕ) (section : Section) → number < most → at (section_name base number) ≡ Some section
@@ -23,7 +23,7 @@ sections_some at base most number section below e =
     let left : most - number ≡ suc (most - (number + 1)) = omega arith in
     let next : suc number ≡ number + 1 = omega arith in
     ap (λ n. sections_from at base n number) left
-    ∙ ap (λ o. as_far o (sections_from at base (most - (number + 1)) (suc number))) e
+    ∙ ap (λ o. cons_if_some o (sections_from at base (most - (number + 1)) (suc number))) e
     ∙ ap (λ j. section ∷ sections_from at base (most - (number + 1)) j) next
 
 -- all numbers are used up
@@ -54,17 +54,17 @@ from_number at base (suc most) number test f missing stands =
 
     go : (o : Option Section) → at (section_name base number) ≡ o
         → flat_map option_to_list (values_below (least (λ k. test (suc k)) most) (λ k. f (suc k))) ≡ sections_from at base most (suc number)
-        → flat_map option_to_list (values_below (least test (suc most)) f) ≡ as_far (at (section_name base number)) (sections_from at base most (suc number))
+        → flat_map option_to_list (values_below (least test (suc most)) f) ≡ cons_if_some (at (section_name base number)) (sections_from at base most (suc number))
     go None e more =
         let yes : test 0 ≡ true = tested ∙ ap (λ o. not (is_some o)) e in
         ap (λ n. flat_map option_to_list (values_below n f)) (cond-true (test 0) 0 (suc (least (λ k. test (suc k)) most)) yes)
-        ∙ sym (ap (λ o. as_far o (sections_from at base most (suc number))) e)
+        ∙ sym (ap (λ o. cons_if_some o (sections_from at base most (suc number))) e)
     go (Some section) e more =
         let no : test 0 ≡ false = tested ∙ ap (λ o. not (is_some o)) e in
         ap (λ n. flat_map option_to_list (values_below n f)) (cond-false (test 0) 0 (suc (least (λ k. test (suc k)) most)) no)
         ∙ ap (λ o. option_to_list o ++ flat_map option_to_list (values_below (least (λ k. test (suc k)) most) (λ k. f (suc k)))) (first ∙ e)
         ∙ ap (λ rest. section ∷ rest) more
-        ∙ sym (ap (λ o. as_far o (sections_from at base most (suc number))) e)
+        ∙ sym (ap (λ o. cons_if_some o (sections_from at base most (suc number))) e)
 
 pub sections_are : (at : List ℕ → Option Section) (base : List ℕ) → sections_of at base ≡ sections_from at base most_sections 0
 sections_are at base = from_number at base most_sections 0 (is_missing at base) (λ number. at (section_name base number)) (λ k. ap (is_missing at base) (zero_more k)) (λ k. ap (λ n. at (section_name base n)) (zero_more k))

@@ -5,7 +5,7 @@ use Rattle.std.specs.Option.{option_map_or}
 use Rattle.std.specs.Str.{bytes_eq}
 use Rattle.mailparse.specs.Continuations.{joined, most_sections, sections_of}
 use Rattle.mailparse.specs.Sections.{Section, numbered, section_name}
-use Rattle.mailparse.specs.private.Continuations.{as_far, sections_from, is_section_below, is_taken, joined_text, left_by, without_sections}
+use Rattle.mailparse.specs.private.Continuations.{cons_if_some, sections_from, is_section_below, is_taken, joined_text, left_by, without_sections}
 use Rattle.mailparse.specs.private.Filled.{holds_name}
 use Rattle.mailparse.proofs.lemmas.Filled.{filled_again, filled_push, holds_again, holds_push, or_false, or_true}
 use Rattle.mailparse.proofs.lemmas.ContinuationsJoining.{most, sections_are}
@@ -110,8 +110,8 @@ sections_same : (at : List ℕ → Option Section) (bases : List (List ℕ)) (ba
     → sections_from (left_by at bases) base n number ≡ sections_from at base n number
 sections_same at bases base zero number other below = refl
 sections_same at bases base (suc n) number other below =
-    ap (λ o. as_far o (sections_from (left_by at bases) base n (suc number))) (left_here at bases base number other (omega arith))
-    ∙ ap (as_far (at (section_name base number))) (sections_same at bases base n (suc number) other (omega arith))
+    ap (λ o. cons_if_some o (sections_from (left_by at bases) base n (suc number))) (left_here at bases base number other (omega arith))
+    ∙ ap (cons_if_some (at (section_name base number))) (sections_same at bases base n (suc number) other (omega arith))
 
 -- a base that was not yet joined has all its sections
 pub all_sections : (at now : List ℕ → Option Section) (bases : List (List ℕ)) (base : List ℕ) → holds_name bases base ≡ false → ((q : List ℕ) → now q ≡ left_by at bases q)

@@ -13,8 +13,8 @@ use Rattle.std.specs.Str.Parse.{ParsesUnsigned, ParsesSigned, digits_value, sign
 use Rattle.std.proofs.lemmas.Bool.{lt-ltb, ltb-true, leb-true, eqb-true, eqb-false}
 use Rattle.std.proofs.lemmas.Str.Parse.{IsNumeralModel, numerals_by_value, tells_all_ascii_digits}
 use Rattle.mail_codec.specs.Places.{is_empty}
-use Rattle.mailparse.specs.Date.{fits_32_bits, is_separator, look_up, words, zones, date_words, from_hour, from_minute, from_second, from_zone, units, invalid_hour, invalid_minute, invalid_second, invalid_year, signed_number, number_below, days_of_years, year_length, year_of, year_of_number}
-use Rattle.mailparse.specs.private.Date.{IsNear, next_number}
+use Rattle.mailparse.specs.Date.{fits_32_bits, is_separator, look_up, words, zones, date_words, from_hour, from_minute, from_second, from_zone, seconds_of, invalid_hour, invalid_minute, invalid_second, invalid_year, signed_number, number_below, days_of_years, year_length, year_of, year_of_number}
+use Rattle.mailparse.specs.private.Date.{HasSizeAtMost, next_number}
 use Rattle.mailparse.specs.Refusal.{◌>>=◌, Reads, Refusal}
 use Rattle.mailparse.proofs.lemmas.Places.{not_empty}
 
@@ -194,35 +194,35 @@ abbrev pub row_view : {A : Type 0} → Bor (List ℕ) × A → List ℕ × A
 row_view row = (row.0.now, row.1)
 
 -- a zone that has a name is at most 24 hours from Greenwich
-abbrev is_near : ℤ → Bool
-is_near (pos n) = leb n 2400
-is_near (negsuc n) = ltb n 2400
+abbrev is_zone_size : ℤ → Bool
+is_zone_size (pos n) = leb n 2400
+is_zone_size (negsuc n) = ltb n 2400
 
-near : (z : ℤ) → is_near z ≡ true → IsNear 2400 z
-near (pos n) h = let le = leb-true _ _ h in (omega (arith, ints), omega (arith, ints))
-near (negsuc n) h = let lt = ltb-true _ _ h in (omega (arith, ints), omega (arith, ints))
+zone_size_at_most : (z : ℤ) → is_zone_size z ≡ true → HasSizeAtMost 2400 z
+zone_size_at_most (pos n) h = let le = leb-true _ _ h in (omega (arith, ints), omega (arith, ints))
+zone_size_at_most (negsuc n) h = let lt = ltb-true _ _ h in (omega (arith, ints), omega (arith, ints))
 
-look_up-near : (table : List (List ℕ × ℤ)) (word : List ℕ) (z : ℤ) → list_all (λ row. is_near row.1) table ≡ true → look_up table word ≡ Some z → IsNear 2400 z
-look_up-near [] word z all h = absurd (clash h)
+look_up-size : (table : List (List ℕ × ℤ)) (word : List ℕ) (z : ℤ) → list_all (λ row. is_zone_size row.1) table ≡ true → look_up table word ≡ Some z → HasSizeAtMost 2400 z
+look_up-size [] word z all h = absurd (clash h)
   where
     clash : None ≡ Some z → ⊥
     clash e = cc
-look_up-near (row ∷ table) word z all h = go (look_up-near table word z) (str_eq_ignore_ascii_case word row.0) (is_near row.1) refl all h
+look_up-size (row ∷ table) word z all h = go (look_up-size table word z) (str_eq_ignore_ascii_case word row.0) (is_zone_size row.1) refl all h
   where
-    go : (list_all (λ row. is_near row.1) table ≡ true → look_up table word ≡ Some z → IsNear 2400 z) → (t n : Bool) → is_near row.1 ≡ n
-        → n && list_all (λ row. is_near row.1) table ≡ true
-        → option_map (λ row. row.1) (cond t (Some row) (find (λ row. str_eq_ignore_ascii_case word row.0) table)) ≡ Some z → IsNear 2400 z
+    go : (list_all (λ row. is_zone_size row.1) table ≡ true → look_up table word ≡ Some z → HasSizeAtMost 2400 z) → (t n : Bool) → is_zone_size row.1 ≡ n
+        → n && list_all (λ row. is_zone_size row.1) table ≡ true
+        → option_map (λ row. row.1) (cond t (Some row) (find (λ row. str_eq_ignore_ascii_case word row.0) table)) ≡ Some z → HasSizeAtMost 2400 z
     go later t false e all h = absurd (cc)
-    go later true true e all h = let same : row.1 ≡ z = cc in near z (ap is_near (sym same) ∙ e)
+    go later true true e all h = let same : row.1 ≡ z = cc in zone_size_at_most z (ap is_zone_size (sym same) ∙ e)
     go later false true e all h = later all h
 
-pub zones-near : (word : List ℕ) (z : ℤ) → look_up zones word ≡ Some z → IsNear 2400 z
-zones-near word z h = look_up-near zones word z refl h
+pub zones-size : (word : List ℕ) (z : ℤ) → look_up zones word ≡ Some z → HasSizeAtMost 2400 z
+zones-size word z h = look_up-size zones word z refl h
 
--- a zone of that size is near, and a number of 32 bits
-pub near_fits : (most : ℕ) (z : ℤ) → most < 2 ^ 31 → IsNear most z → FitsSigned w32 z
-near_fits most (pos n) lt h = record { sfits = omega (arith, ints, h.0, h.1) }
-near_fits most (negsuc n) lt h = record { sfits = omega (arith, ints, h.0, h.1) }
+-- a number of such a size is one of 32 bits
+pub size_fits : (most : ℕ) (z : ℤ) → most < 2 ^ 31 → HasSizeAtMost most z → FitsSigned w32 z
+size_fits most (pos n) lt h = record { sfits = omega (arith, ints, h.0, h.1) }
+size_fits most (negsuc n) lt h = record { sfits = omega (arith, ints, h.0, h.1) }
 
 -- what `parse` reads as a zone
 pub signed_number-parse : {E : Type 0} (word : List ℕ) (r : Result ℤ E) → ParsesSigned w32 10 word r → signed_number word ≡ result_ok r
@@ -283,7 +283,7 @@ plus front later = do
 
 -- a unit of time, and what follows it
 unit_then : (seconds : ℕ) (refusal : Refusal) (later : List (List ℕ) → Reads ℤ) (word : List ℕ) (n : ℕ) (after : List (List ℕ))
-    → number_below 256 word ≡ Some n → plus (units seconds refusal word) (later after) ≡ plus (Ok (pos (seconds * n))) (later after)
+    → number_below 256 word ≡ Some n → plus (seconds_of seconds refusal word) (later after) ≡ plus (Ok (pos (seconds * n))) (later after)
 unit_then seconds refusal later word n after h = rw h refl
 
 from_hour-next : (ws after : List (List ℕ)) (n : ℕ) → next_number invalid_hour ws ≡ Ok (Some (n, after))

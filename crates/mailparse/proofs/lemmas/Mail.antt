@@ -10,7 +10,7 @@ use Rattle.mailparse.specs.ContentType.{ContentType, content_type_in}
 use Rattle.mailparse.specs.Ranges.{Range, slice}
 use Rattle.mailparse.specs.Delimiters.{first_part, next_part, end_from, Cut, cut_parts}
 use Rattle.mailparse.specs.Mail.{Node, Tree, tree, Forest, no_parts, part_and, forest, is_digest, dash_boundary_of, cut_of, node_with, read_each, read_parts, node_type, read_levels, part_type, trees_within, trees_in}
-use Rattle.mailparse.specs.private.Delimiters.{IsDelimiter}
+use Rattle.mailparse.specs.private.Delimiters.{IsFeedAndDashBoundary}
 use Rattle.mailparse.proofs.lemmas.Refusal.{read_map}
 use Rattle.std.specs.Option.{option_map_or}
 use Rattle.mailparse.specs.Map.{first_with_key}
@@ -178,28 +178,28 @@ module _ (known : Charsets) where
         ∙ ap (λ (cut : Cut). read_map (tree (node_with raw (record { headers = headers; index = index }) ctype cut))
         (read_each (read_levels known (levels - 1) (is_digest ctype)) (map (slice raw) cut.parts))) (cut_at dash_boundary delimiter)
 
--- ---- the delimiter of a type, and the LF before it
+-- ---- the dash-boundary of a type, and the LF before it
 
-pub delimiter_some : (delimiter : List ℕ) (o : Option (List ℕ)) → Some delimiter ≡ option_map (λ dash_boundary. 10 ∷ dash_boundary) o → (o ≡ Some (drop 1 delimiter)) × (delimiter ≡ 10 ∷ drop 1 delimiter)
-delimiter_some delimiter None e = absurd (clash e)
+pub feed_and_dash_boundary_some : (feed_and_dash_boundary : List ℕ) (o : Option (List ℕ)) → Some feed_and_dash_boundary ≡ option_map (λ dash_boundary. 10 ∷ dash_boundary) o → (o ≡ Some (drop 1 feed_and_dash_boundary)) × (feed_and_dash_boundary ≡ 10 ∷ drop 1 feed_and_dash_boundary)
+feed_and_dash_boundary_some feed_and_dash_boundary None e = absurd (clash e)
   where
-    clash : Some delimiter ≡ None → ⊥
+    clash : Some feed_and_dash_boundary ≡ None → ⊥
     clash h = cc
-delimiter_some delimiter (Some dash_boundary) e =
+feed_and_dash_boundary_some feed_and_dash_boundary (Some dash_boundary) e =
     let same = unwrap e in
     (ap (λ (l : List ℕ). Some (drop 1 l)) (sym same), same ∙ ap (λ (l : List ℕ). 10 ∷ drop 1 l) (sym same))
   where
-    unwrap : Some delimiter ≡ Some (10 ∷ dash_boundary) → delimiter ≡ 10 ∷ dash_boundary
+    unwrap : Some feed_and_dash_boundary ≡ Some (10 ∷ dash_boundary) → feed_and_dash_boundary ≡ 10 ∷ dash_boundary
     unwrap h = cc
 
-pub delimiter_none : (o : Option (List ℕ)) → None ≡ option_map (λ dash_boundary. 10 ∷ dash_boundary) o → o ≡ None
-delimiter_none None e = refl
-delimiter_none (Some dash_boundary) e = absurd (clash e)
+pub feed_and_dash_boundary_none : (o : Option (List ℕ)) → None ≡ option_map (λ dash_boundary. 10 ∷ dash_boundary) o → o ≡ None
+feed_and_dash_boundary_none None e = refl
+feed_and_dash_boundary_none (Some dash_boundary) e = absurd (clash e)
   where
     clash : None ≡ Some (10 ∷ dash_boundary) → ⊥
     clash h = cc
 
--- a delimiter has at least the two bytes in front of the boundary
+-- a dash-boundary has at least the two bytes in front of the boundary
 pub dash_boundary_of-length : (ctype : ContentType) (dash_boundary : List ℕ) → dash_boundary_of ctype ≡ Some dash_boundary → 2 ≤ length dash_boundary
 dash_boundary_of-length ctype dash_boundary e = by_tests (stands (codes "multipart") ctype.mimetype) (ctype.params (codes "boundary")) e
   where
@@ -214,24 +214,24 @@ dash_boundary_of-length ctype dash_boundary e = by_tests (stands (codes "multipa
     by_tests true None h = absurd (clash h)
     by_tests true (Some b) h = subst (λ (x : List ℕ). 2 ≤ length x) (unwrap b h) (omega arith)
 
-pub IsDelimiter-of : (delimiter : List ℕ) (ctype : ContentType) → Some delimiter ≡ option_map (λ dash_boundary. 10 ∷ dash_boundary) (dash_boundary_of ctype) → IsDelimiter delimiter
-IsDelimiter-of delimiter ctype e =
-    let parts = delimiter_some delimiter (dash_boundary_of ctype) e in
-    let long = dash_boundary_of-length ctype (drop 1 delimiter) parts.0 in
+pub IsFeedAndDashBoundary-of : (feed_and_dash_boundary : List ℕ) (ctype : ContentType) → Some feed_and_dash_boundary ≡ option_map (λ dash_boundary. 10 ∷ dash_boundary) (dash_boundary_of ctype) → IsFeedAndDashBoundary feed_and_dash_boundary
+IsFeedAndDashBoundary-of feed_and_dash_boundary ctype e =
+    let parts = feed_and_dash_boundary_some feed_and_dash_boundary (dash_boundary_of ctype) e in
+    let long = dash_boundary_of-length ctype (drop 1 feed_and_dash_boundary) parts.0 in
     record { feed = parts.1; some = omega arith }
 
 -- Under the charsets that are known.
 module _ (known : Charsets) where
   -- the reading of a message that may have parts, by what the code has of it
-  pub read_levels-whole : (levels : ℕ) (in_digest : Bool) (raw : List ℕ) (headers : List Header) (index : ℕ) (ctype : ContentType) (delimiter : List ℕ) (digest : Bool) (end : ℕ)
+  pub read_levels-whole : (levels : ℕ) (in_digest : Bool) (raw : List ℕ) (headers : List Header) (index : ℕ) (ctype : ContentType) (feed_and_dash_boundary : List ℕ) (digest : Bool) (end : ℕ)
       → 0 < levels → read_headers raw ≡ Ok (record { headers = headers; index = index }) → node_type known in_digest headers ≡ ctype
-      → Some delimiter ≡ option_map (λ dash_boundary. 10 ∷ dash_boundary) (dash_boundary_of ctype) → digest ≡ is_digest ctype → end ≡ end_from (drop 1 delimiter) raw index index
+      → Some feed_and_dash_boundary ≡ option_map (λ dash_boundary. 10 ∷ dash_boundary) (dash_boundary_of ctype) → digest ≡ is_digest ctype → end ≡ end_from (drop 1 feed_and_dash_boundary) raw index index
       → read_levels known levels in_digest raw
       ≡ read_map (tree (record { bytes = raw; block = take index raw; headers = headers; ctype = ctype; body = slice_range raw index end }))
-      (parts_from known (levels - 1) digest (drop 1 delimiter) raw (first_part (drop 1 delimiter) raw index))
-  read_levels-whole levels in_digest raw headers index ctype delimiter digest end some read type made is ends =
-      let dash_boundary = drop 1 delimiter in
-      read_levels-parts known levels in_digest raw headers index ctype dash_boundary some read type (delimiter_some delimiter (dash_boundary_of ctype) made).0
+      (parts_from known (levels - 1) digest (drop 1 feed_and_dash_boundary) raw (first_part (drop 1 feed_and_dash_boundary) raw index))
+  read_levels-whole levels in_digest raw headers index ctype feed_and_dash_boundary digest end some read type made is ends =
+      let dash_boundary = drop 1 feed_and_dash_boundary in
+      read_levels-parts known levels in_digest raw headers index ctype dash_boundary some read type (feed_and_dash_boundary_some feed_and_dash_boundary (dash_boundary_of ctype) made).0
       ∙ ap (λ (b : Bool). read_map (tree (record { bytes = raw; block = take index raw; headers = headers; ctype = ctype; body = slice_range raw index (end_from dash_boundary raw index index) }))
       (parts_from known (levels - 1) b dash_boundary raw (first_part dash_boundary raw index))) (sym is)
       ∙ ap (λ (n : ℕ). read_map (tree (record { bytes = raw; block = take index raw; headers = headers; ctype = ctype; body = slice_range raw index n }))

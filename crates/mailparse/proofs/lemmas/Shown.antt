@@ -7,7 +7,7 @@ use Rattle.std.specs.Str.{chars}
 use Rattle.std.specs.String.{string_bytes}
 use Rattle.mail_codec.specs.Charset.{Charsets}
 use Rattle.mailparse.specs.EncodedWord.{word_text}
-use Rattle.mailparse.specs.Tokens.{TokenKind, plain_text, whitespace, line_end, decoded_word, TokenRange, IsGroup, AreTokensFrom, no_opening, no_boundary, no_closing, decodes, stays_text, last_group, next_group, opening, closing, begins_with_boundary, boundary_before, is_all_whitespace, outside_range, text_range, word_range, inside}
+use Rattle.mailparse.specs.Tokens.{TokenKind, plain_text, whitespace, line_end, decoded_word, TokenRange, IsTokenGroup, AreTokensFrom, no_opening, no_boundary, no_closing, decodes, stays_text, last_group, next_group, opening, closing, begins_with_boundary, boundary_before, is_all_whitespace, outside_range, text_range, word_range, inside}
 use Rattle.mailparse.specs.Value.{Token, is_word, is_whitespace_token, is_held, is_released, kinds, newline, shown_after, shown_tokens, token_of, token_text, line_tokens, outside_token, whitespace_token}
 use Rattle.mailparse.specs.declared.header.shown.Held.{Held}
 use Rattle.mailparse.specs.declared.header.shown.Held.TheVariants as held
@@ -196,7 +196,7 @@ module _ (known : Charsets) where
   Completes_first line before ranges fits rest =
       sym (ap (λ rs. shown_with before (map (token_of known line) rs ++ rest)) (token_ranges_only known line ranges fits))
 
-  pub Completes_next : (line : List ℕ) (s t : ℕ) (group : List TokenRange) (before value new : ShownValue) → IsGroup known line s group (Some t)
+  pub Completes_next : (line : List ℕ) (s t : ℕ) (group : List TokenRange) (before value new : ShownValue) → IsTokenGroup known line s group (Some t)
       → Shows value (map (token_of known line) group) new → Completes line s before value → Completes line t before new
   Completes_next line s t group before value new g shows all ranges fits rest =
       let tokens : List TokenRange → List Token = map (token_of known line) in
@@ -205,7 +205,7 @@ module _ (known : Charsets) where
       ∙ ap (shown_with value) (append_assoc (tokens group) (tokens ranges) rest)
       ∙ shows (tokens ranges ++ rest)
 
-  pub Completes_last : (line : List ℕ) (s : ℕ) (group : List TokenRange) (before value new : ShownValue) → IsGroup known line s group None
+  pub Completes_last : (line : List ℕ) (s : ℕ) (group : List TokenRange) (before value new : ShownValue) → IsTokenGroup known line s group None
       → Shows value (map (token_of known line) group) new → Completes line s before value → Shows before (line_tokens known line) new
   Completes_last line s group before value new g shows all rest = all group (last_group g) rest ∙ shows rest
 

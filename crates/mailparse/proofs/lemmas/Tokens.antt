@@ -9,7 +9,7 @@ use Rattle.std.proofs.Math.Nat.{sub-zero}
 use Rattle.mailparse.specs.EncodedWord.{word_text}
 use Rattle.mail_codec.specs.Charset.{Charsets}
 use Rattle.mail_codec.specs.Places.{stands, place_from}
-use Rattle.mailparse.specs.Tokens.{TokenRange, TokenGroup, IsGroup, no_opening, no_boundary, no_closing, decodes, stays_text, AreTokensFrom, last_group, next_group, AreTokens, begins_closing, opening, closing, boundary_before, outside_range, text_range, inside, group_at, group_of_opening, group_of_word, tokens_within, token_ranges, Adjoin, token_source}
+use Rattle.mailparse.specs.Tokens.{TokenRange, TokenGroup, IsTokenGroup, no_opening, no_boundary, no_closing, decodes, stays_text, AreTokensFrom, last_group, next_group, AreTokens, begins_closing, opening, closing, boundary_before, outside_range, text_range, inside, token_group_at, group_of_opening, group_of_word, tokens_within, token_ranges, Adjoin, token_source}
 use Rattle.mail_codec.proofs.lemmas.Places.{place_from_bounds, place_from_passes}
 
 -- ---- how far a group goes
@@ -88,50 +88,50 @@ sources_join line s e (p ∷ tokens) h fits =
 module _ (known : Charsets) where
   -- ---- the computed group
 
-  group_at-none : (line : List ℕ) (s : ℕ) → opening line s ≡ length line
-      → group_at known line s ≡ record { tokens = outside_range line s (length line) ∷ []; next = None }
-  unfolding group_at
-  group_at-none line s e = cond-true _ _ _ (eq-eqb _ _ e)
+  token_group_at-none : (line : List ℕ) (s : ℕ) → opening line s ≡ length line
+      → token_group_at known line s ≡ record { tokens = outside_range line s (length line) ∷ []; next = None }
+  unfolding token_group_at
+  token_group_at-none line s e = cond-true _ _ _ (eq-eqb _ _ e)
 
-  group_at-some : (line : List ℕ) (s v : ℕ) → opening line s ≡ v → v ≢ length line
-      → group_at known line s ≡ group_of_opening known line s v (closing line (v + 2))
-  unfolding group_at
-  group_at-some line s v e some =
+  token_group_at-some : (line : List ℕ) (s v : ℕ) → opening line s ≡ v → v ≢ length line
+      → token_group_at known line s ≡ group_of_opening known line s v (closing line (v + 2))
+  unfolding token_group_at
+  token_group_at-some line s v e some =
       cond-false _ _ _ (ne_eqb _ _ (λ h. some (sym e ∙ h)))
       ∙ ap (λ v. group_of_opening known line s v (closing line (v + 2))) e
 
-  group_at-no_boundary : (line : List ℕ) (s v : ℕ) → opening line s ≡ v → v ≢ length line → boundary_before line v ≡ false
-      → group_at known line s ≡ record { tokens = text_range s (v + 2) ∷ []; next = Some (v + 2) }
-  group_at-no_boundary line s v e some out = group_at-some line s v e some ∙ cond-false _ _ _ out
+  token_group_at-no_boundary : (line : List ℕ) (s v : ℕ) → opening line s ≡ v → v ≢ length line → boundary_before line v ≡ false
+      → token_group_at known line s ≡ record { tokens = text_range s (v + 2) ∷ []; next = Some (v + 2) }
+  token_group_at-no_boundary line s v e some out = token_group_at-some line s v e some ∙ cond-false _ _ _ out
 
-  group_at-boundary : (line : List ℕ) (s v e : ℕ) → opening line s ≡ v → v ≢ length line → boundary_before line v ≡ true
+  token_group_at-boundary : (line : List ℕ) (s v e : ℕ) → opening line s ≡ v → v ≢ length line → boundary_before line v ≡ true
       → closing line (v + 2) ≡ e
-      → group_at known line s ≡ cond (eqb e (length line)) (record { tokens = outside_range line s v ∷ text_range v (v + 2) ∷ []; next = Some (v + 2) }) (group_of_word known line s v e)
-  group_at-boundary line s v e at some beside close =
-      group_at-some line s v at some ∙ cond-true _ _ _ beside
+      → token_group_at known line s ≡ cond (eqb e (length line)) (record { tokens = outside_range line s v ∷ text_range v (v + 2) ∷ []; next = Some (v + 2) }) (group_of_word known line s v e)
+  token_group_at-boundary line s v e at some beside close =
+      token_group_at-some line s v at some ∙ cond-true _ _ _ beside
       ∙ ap (λ e. cond (eqb e (length line)) (record { tokens = outside_range line s v ∷ text_range v (v + 2) ∷ []; next = Some (v + 2) }) (group_of_word known line s v e)) close
 
-  pub group_is : {line : List ℕ} {s : ℕ} {group : List TokenRange} {next : Option ℕ} → IsGroup known line s group next
-      → group_at known line s ≡ record { tokens = group; next = next }
-  group_is {line} {s} (no_opening e) = group_at-none line s e
-  group_is {line} {s} (no_boundary {v = v} e some out) = group_at-no_boundary line s v e some out
+  pub group_is : {line : List ℕ} {s : ℕ} {group : List TokenRange} {next : Option ℕ} → IsTokenGroup known line s group next
+      → token_group_at known line s ≡ record { tokens = group; next = next }
+  group_is {line} {s} (no_opening e) = token_group_at-none line s e
+  group_is {line} {s} (no_boundary {v = v} e some out) = token_group_at-no_boundary line s v e some out
   group_is {line} {s} (no_closing {v = v} e some beside close) =
-      group_at-boundary line s v (length line) e some beside close ∙ cond-true (eqb (length line) (length line)) _ (group_of_word known line s v (length line)) (eq-eqb _ _ refl)
+      token_group_at-boundary line s v (length line) e some beside close ∙ cond-true (eqb (length line) (length line)) _ (group_of_word known line s v (length line)) (eq-eqb _ _ refl)
   group_is {line} {s} (decodes {v = v} {e = e} at some beside close more read) =
-      group_at-boundary line s v e at some beside close ∙ cond-false _ _ _ (ne_eqb _ _ more)
+      token_group_at-boundary line s v e at some beside close ∙ cond-false _ _ _ (ne_eqb _ _ more)
       ∙ ap (λ p. record { tokens = outside_range line s v ∷ p ∷ []; next = Some (e + 2) }) (cond-true _ _ _ read)
   group_is {line} {s} (stays_text {v = v} {e = e} at some beside close more fails) =
-      group_at-boundary line s v e at some beside close ∙ cond-false _ _ _ (ne_eqb _ _ more)
+      token_group_at-boundary line s v e at some beside close ∙ cond-false _ _ _ (ne_eqb _ _ more)
       ∙ ap (λ p. record { tokens = outside_range line s v ∷ p ∷ []; next = Some (e + 2) }) (cond-false _ _ _ fails)
 
   IsComputed : List ℕ → ℕ → TokenGroup → Type 0
-  IsComputed line s g = IsGroup known line s g.tokens g.next
+  IsComputed line s g = IsTokenGroup known line s g.tokens g.next
 
-  pub is_group : (line : List ℕ) (s : ℕ) → IsGroup known line s (group_at known line s).tokens (group_at known line s).next
+  pub is_group : (line : List ℕ) (s : ℕ) → IsTokenGroup known line s (token_group_at known line s).tokens (token_group_at known line s).next
   unfolding IsComputed
   is_group line s = by_opening (eqb_tells (opening line s) (length line))
     where
-      back : (g : TokenGroup) → group_at known line s ≡ g → IsComputed line s g → IsComputed line s (group_at known line s)
+      back : (g : TokenGroup) → token_group_at known line s ≡ g → IsComputed line s g → IsComputed line s (token_group_at known line s)
       back g e h = subst (IsComputed line s) (sym e) h
 
       v : ℕ
@@ -140,22 +140,22 @@ module _ (known : Charsets) where
       e : ℕ
       e = closing line (v + 2)
 
-      by_word : v ≢ length line → boundary_before line v ≡ true → e ≢ length line → (t : Bool) → is_some (word_text known (inside line v e)) ≡ t → IsComputed line s (group_at known line s)
+      by_word : v ≢ length line → boundary_before line v ≡ true → e ≢ length line → (t : Bool) → is_some (word_text known (inside line v e)) ≡ t → IsComputed line s (token_group_at known line s)
       by_word some beside more true read = let g = decodes refl some beside refl more read in back _ (group_is g) g
       by_word some beside more false fails = let g = stays_text refl some beside refl more fails in back _ (group_is g) g
 
-      by_boundary : v ≢ length line → (t : Bool) → boundary_before line v ≡ t → IsComputed line s (group_at known line s)
+      by_boundary : v ≢ length line → (t : Bool) → boundary_before line v ≡ t → IsComputed line s (token_group_at known line s)
       by_boundary some false out = let g = no_boundary refl some out in back _ (group_is g) g
       by_boundary some true beside =
           ⊎_elim (λ h. let g = no_closing refl some beside h.1 in back _ (group_is g) g)
           (λ h. by_word some beside h.1 (is_some (word_text known (inside line v e))) refl)
           (eqb_tells e (length line))
 
-      by_opening : ((eqb v (length line) ≡ true) × (v ≡ length line)) ⊎ ((eqb v (length line) ≡ false) × (v ≢ length line)) → IsComputed line s (group_at known line s)
+      by_opening : ((eqb v (length line) ≡ true) × (v ≡ length line)) ⊎ ((eqb v (length line) ≡ false) × (v ≢ length line)) → IsComputed line s (token_group_at known line s)
       by_opening = ⊎_elim (λ h. let g = no_opening h.1 in back _ (group_is g) g) (λ h. by_boundary h.1 (boundary_before line v) refl)
 
   -- the next group starts at least two bytes on, and within the line
-  pub next_ahead : {line : List ℕ} {s t : ℕ} {group : List TokenRange} → IsGroup known line s group (Some t) → s ≤ length line
+  pub next_ahead : {line : List ℕ} {s t : ℕ} {group : List TokenRange} → IsTokenGroup known line s group (Some t) → s ≤ length line
       → (s + 2 ≤ t) × (t ≤ length line)
   next_ahead {line} {s} (no_boundary {v = v} e some out) h = let at = opening_stands line s v h e some in (omega arith, omega arith)
   next_ahead {line} {s} (no_closing {v = v} e some beside close) h = let at = opening_stands line s v h e some in (omega arith, omega arith)
@@ -173,7 +173,7 @@ module _ (known : Charsets) where
   abbrev join : ℕ → List ℕ → TokenGroup → List TokenRange
   join n line g = g.tokens ++ option_map_or (λ t. tokens_within known n line t) g.next []
 
-  tokens_within-suc : (n : ℕ) (line : List ℕ) (s : ℕ) → tokens_within known (suc n) line s ≡ join n line (group_at known line s)
+  tokens_within-suc : (n : ℕ) (line : List ℕ) (s : ℕ) → tokens_within known (suc n) line s ≡ join n line (token_group_at known line s)
   unfolding tokens_within
   tokens_within-suc n line s = refl
 
@@ -192,9 +192,9 @@ module _ (known : Charsets) where
   are_tokens zero line s more h = absurd (omega arith)
   are_tokens (suc n) line s more h =
       subst (AreTokensFrom known line s) (sym (tokens_within-suc n line s))
-      (by_next (group_at known line s).tokens (group_at known line s).next (is_group line s) (λ t low high. are_tokens n line t (omega arith) high))
+      (by_next (token_group_at known line s).tokens (token_group_at known line s).next (is_group line s) (λ t low high. are_tokens n line t (omega arith) high))
     where
-      by_next : (group : List TokenRange) (next : Option ℕ) → IsGroup known line s group next
+      by_next : (group : List TokenRange) (next : Option ℕ) → IsTokenGroup known line s group next
           → ((t : ℕ) → s + 2 ≤ t → t ≤ length line → AreTokensFrom known line t (tokens_within known n line t))
           → AreTokensFrom known line s (group ++ option_map_or (λ t. tokens_within known n line t) next [])
       by_next group None g later = subst (AreTokensFrom known line s) (sym (append-nil group)) (last_group g)
@@ -211,7 +211,7 @@ module _ (known : Charsets) where
 
   -- ---- the ranges adjoin
 
-  group_adjoins : {line : List ℕ} {s : ℕ} {group : List TokenRange} {next : Option ℕ} → IsGroup known line s group next → s ≤ length line
+  group_adjoins : {line : List ℕ} {s : ℕ} {group : List TokenRange} {next : Option ℕ} → IsTokenGroup known line s group next → s ≤ length line
       → Adjoin s group (option_map_or (λ t. t) next (length line))
   group_adjoins (no_opening e) h = (refl, h, refl)
   group_adjoins {line} {s} (no_boundary {v = v} e some out) h = let at = opening_stands line s v h e some in (refl, omega arith, refl)

@@ -13,14 +13,14 @@ use Rattle.mailparse.specs.declared.parameters.continuations.joining.Joining.{Jo
 use Rattle.mailparse.specs.declared.parameters.sections.Sections.{Sections}
 
 -- a section before others, as far as there is one
-abbrev pub as_far : Option Section → List Section → List Section
-as_far None rest = []
-as_far (Some section) rest = section ∷ rest
+abbrev pub cons_if_some : Option Section → List Section → List Section
+cons_if_some None rest = []
+cons_if_some (Some section) rest = section ∷ rest
 
 -- the sections of a base at the numbers from one on, as far as there are any, and at most so many
 abbrev pub sections_from : (List ℕ → Option Section) → List ℕ → ℕ → ℕ → List Section
 sections_from at base zero number = []
-sections_from at base (suc most) number = as_far (at (section_name base number)) (sections_from at base most (suc number))
+sections_from at base (suc most) number = cons_if_some (at (section_name base number)) (sections_from at base most (suc number))
 
 -- the text that is made when these sections follow
 abbrev pub joined_with : Joining → List Section → List ℕ
@@ -35,14 +35,14 @@ abbrev pub has_star : List ℕ → Bool
 has_star name = list_any is_star name
 
 -- the base of a name with the number 0, where no text stands
-abbrev pub first_base_of : (List ℕ → Option Section) → List ℕ → Option (List ℕ)
-first_base_of at name = do
+abbrev pub base_of_section_0 : (List ℕ → Option Section) → List ℕ → Option (List ℕ)
+base_of_section_0 at name = do
   n ← numbered name
   if n.1 == 0 && not (is_text (at n.0)) then Some n.0 else None
 
 -- the bases of some names
-abbrev pub first_bases : (List ℕ → Option Section) → List (List ℕ) → List (List ℕ)
-first_bases at names = flat_map (λ name. option_to_list (first_base_of at name)) names
+abbrev pub bases_of_sections_0 : (List ℕ → Option Section) → List (List ℕ) → List (List ℕ)
+bases_of_sections_0 at names = flat_map (λ name. option_to_list (base_of_section_0 at name)) names
 
 -- the names at which something stands
 abbrev pub names_of_sections : Sections → List (List ℕ)

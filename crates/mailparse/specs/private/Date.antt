@@ -4,8 +4,8 @@ use Rattle.mailparse.specs.Date.{date_words, number_below, words}
 use Rattle.mailparse.specs.Refusal.{◌>>=◌, Reads, Refusal}
 
 -- a number whose size is at most this
-abbrev pub IsNear : ℕ → ℤ → Type 0
-IsNear most z = (neg_ℤ (pos most) ≤ℤ z) × (z ≤ℤ pos most)
+abbrev pub HasSizeAtMost : ℕ → ℤ → Type 0
+HasSizeAtMost most z = (neg_ℤ (pos most) ≤ℤ z) × (z ≤ℤ pos most)
 
 -- a number that is the first word of a date, and the text after it
 pub record IsFirstNumber (date : List ℕ) (number : ℕ) (rest : List ℕ) : Type 0 where

@@ -4,9 +4,9 @@ use Rattle.mail_codec.specs.Ascii.{line_feed}
 use Rattle.mailparse.specs.Delimiters.{is_delimiter}
 
 -- a LF and then the dash-boundary, which is not empty
-pub record IsDelimiter (delimiter : List ℕ) : Type 0 where
-  pub feed : delimiter ≡ line_feed ∷ drop 1 delimiter
-  pub some : 0 < length (drop 1 delimiter)
+pub record IsFeedAndDashBoundary (feed_and_dash_boundary : List ℕ) : Type 0 where
+  pub feed : feed_and_dash_boundary ≡ line_feed ∷ drop 1 feed_and_dash_boundary
+  pub some : 0 < length (drop 1 feed_and_dash_boundary)
 
 -- no delimiter stands from a start up to a place
 abbrev pub NoDelimiter : List ℕ → List ℕ → ℕ → ℕ → Type 0

@@ -7,5 +7,5 @@ use Rattle.mailparse.specs.declared.known_charset.KnownCharset.TheVariants as co
 
 -- the text of bytes in a charset of the code; no byte order mark is looked for
 abbrev pub known_text : KnownCharset → List ℕ → List ℕ
-known_text (code.Kept charset) = text_of charset
+known_text (code.BuiltIn charset) = text_of charset
 known_text (code.Table table) = table_text table.now

@@ -3,7 +3,7 @@ ghost use Rattle.std.specs.Prelude.{◌≡◌, ◌≤◌, ◌<◌, ◌^◌, IfOk
 ghost use Rattle.mailparse.specs.Date.{from_zone, month_of, words, year_of, zone_of};
 ghost use Rattle.mailparse.specs.Outcome.{Answers};
 ghost use Rattle.mailparse.specs.Refusal.{generic};
-ghost use Rattle.mailparse.specs.private.Date.{IsNear, next_number};
+ghost use Rattle.mailparse.specs.private.Date.{HasSizeAtMost, next_number};
 
 use super::words::{look_up, next_word};
 use crate::error::MailParseError;
@@ -129,7 +129,7 @@ pub(super) fn next_number<'t>(
 /// The seconds that the zone at the front of a text adds.
 pub(super) fn zone_seconds(text: &str) -> Result<i64, MailParseError>
     ensures read { Answers (λ seconds. seconds) result (from_zone (words text.now)) }
-    ensures bounds { IfOk result (IsNear 100000) }
+    ensures bounds { IfOk result (HasSizeAtMost 100000) }
 {
     let Some((word, _)) = next_word(text) else {
         return Ok(0);
@@ -143,7 +143,7 @@ pub(super) fn zone_seconds(text: &str) -> Result<i64, MailParseError>
 /// The zone that a word writes, hours times 100 and minutes: a number, or a name.
 fn zone_number(word: &str) -> Result<i32, MailParseError>
     ensures read { Answers (λ zone. zone) result (zone_of word.now) }
-    ensures bounds { IfOk result (IsNear 2400) }
+    ensures bounds { IfOk result (HasSizeAtMost 2400) }
 {
     let Ok(zone) = word.parse::<i32>() else {
         return match look_up(&ZONES, word) {

@@ -1,47 +1,57 @@
 //! The delimiters that cut a body into parts, and where the parts stand (RFC 2046, section 5.1.1).
 //!
-//! A delimiter is handed in as a LF and the dash-boundary, which is `--` and the boundary.
+//! The dash-boundary, which is `--` and the boundary, is handed in with a LF before it.
 ghost use Rattle.std.specs.Prelude.{◌≡◌, ℕ, suc, ◌+◌, ◌<◌, ◌≤◌, List, [], ◌∷◌, length, drop, option_map, IfSome};
 ghost use Rattle.mail_codec.specs.Ascii.{line_feed};
 ghost use Rattle.mail_codec.specs.Places.{text_place};
 ghost use Rattle.mailparse.specs.Delimiters.{starts_line, is_delimiter, delimiter_from, line_after, is_close_delimiter};
 ghost use Rattle.mailparse.specs.Delimiters.{before_byte, before_line_end, end_from, first_part, next_part};
-ghost use Rattle.mailparse.specs.private.Delimiters.{IsDelimiter};
+ghost use Rattle.mailparse.specs.private.Delimiters.{IsFeedAndDashBoundary};
 
 use bstr::ByteSlice;
 use mail_codec::bytescan::{find_byte, find_pair};
 
 /// Where the preamble ends that starts at `start`, and where the first part starts, if there is
 /// one.
-pub(super) fn cut_preamble(raw: &[u8], start: usize, delimiter: &[u8]) -> (usize, Option<usize>)
-    requires delimiter { IsDelimiter delimiter.now }
+pub(super) fn cut_preamble(
+    raw: &[u8],
+    start: usize,
+    feed_and_dash_boundary: &[u8],
+) -> (usize, Option<usize>)
+    requires feed_and_dash_boundary { IsFeedAndDashBoundary feed_and_dash_boundary.now }
     requires within { start ≤ length raw.now }
-    ensures end { result.0 ≡ end_from (drop 1 delimiter.now) raw.now start start }
-    ensures first { result.1 ≡ first_part (drop 1 delimiter.now) raw.now start }
+    ensures end { result.0 ≡ end_from (drop 1 feed_and_dash_boundary.now) raw.now start start }
+    ensures first { result.1 ≡ first_part (drop 1 feed_and_dash_boundary.now) raw.now start }
     ensures bounds { (start ≤ result.0) × (result.0 ≤ length raw.now)
         × IfSome result.1 (λ next. (start < next) × (next ≤ length raw.now)) }
 {
-    let Some(at) = find_delimiter(raw, start, delimiter) else {
+    let Some(at) = find_delimiter(raw, start, feed_and_dash_boundary) else {
         return (start, None);
     };
     let end = before_line_end(raw, start, at);
-    (end, line_after(raw, at + (delimiter.len() - 1)))
+    let first = line_after(raw, at + (feed_and_dash_boundary.len() - 1));
+    (end, first)
 }
 
 /// Where the part ends that starts at `start`, and where the next part starts, if there is one.
-pub(super) fn cut_part(raw: &[u8], start: usize, delimiter: &[u8]) -> (usize, Option<usize>)
-    requires delimiter { IsDelimiter delimiter.now }
+pub(super) fn cut_part(
+    raw: &[u8],
+    start: usize,
+    feed_and_dash_boundary: &[u8],
+) -> (usize, Option<usize>)
+    requires feed_and_dash_boundary { IsFeedAndDashBoundary feed_and_dash_boundary.now }
     requires within { start ≤ length raw.now }
-    ensures end { result.0 ≡ end_from (drop 1 delimiter.now) raw.now start (length raw.now) }
-    ensures next { result.1 ≡ next_part (drop 1 delimiter.now) raw.now start }
+    ensures end { result.0
+        ≡ end_from (drop 1 feed_and_dash_boundary.now) raw.now start (length raw.now) }
+    ensures next { result.1 ≡ next_part (drop 1 feed_and_dash_boundary.now) raw.now start }
     ensures bounds { (start ≤ result.0) × (result.0 ≤ length raw.now)
         × IfSome result.1 (λ next. (start < next) × (next ≤ length raw.now)) }
 {
-    let Some(at) = find_delimiter(raw, start, delimiter) else {
+    let Some(at) = find_delimiter(raw, start, feed_and_dash_boundary) else {
         return (raw.len(), None);
     };
     let end = before_line_end(raw, start, at);
-    let after = at + (delimiter.len() - 1);
+    let after = at + (feed_and_dash_boundary.len() - 1);
     if is_close_delimiter(raw, after) {
         return (end, None);
     }
@@ -66,14 +76,14 @@ fn is_close_delimiter(raw: &[u8], after: usize) -> bool
 ///
 /// A dash-boundary that holds a LF is sought with the LF before it, and not line by line: that
 /// takes no more time than the two are long together.
-fn find_delimiter(raw: &[u8], start: usize, delimiter: &[u8]) -> Option<usize>
-    requires delimiter { IsDelimiter delimiter.now }
+fn find_delimiter(raw: &[u8], start: usize, feed_and_dash_boundary: &[u8]) -> Option<usize>
+    requires feed_and_dash_boundary { IsFeedAndDashBoundary feed_and_dash_boundary.now }
     requires within { start ≤ length raw.now }
-    ensures least { result ≡ delimiter_from (drop 1 delimiter.now) raw.now start }
+    ensures least { result ≡ delimiter_from (drop 1 feed_and_dash_boundary.now) raw.now start }
     ensures bounds { IfSome result (λ at.
-        (start ≤ at) × (at + length (drop 1 delimiter.now) ≤ length raw.now)) }
+        (start ≤ at) × (at + length (drop 1 feed_and_dash_boundary.now) ≤ length raw.now)) }
 {
-    let dash_boundary = &delimiter[1..];
+    let dash_boundary = &feed_and_dash_boundary[1..];
     if find_byte(dash_boundary, b'\n').is_none() {
         return find_delimiter_line(raw, start, dash_boundary);
     }
@@ -81,7 +91,7 @@ fn find_delimiter(raw: &[u8], start: usize, delimiter: &[u8]) -> Option<usize>
     if rest.starts_with(dash_boundary) {
         return Some(start);
     }
-    let Some(place) = rest.find(delimiter) else {
+    let Some(place) = rest.find(feed_and_dash_boundary) else {
         return None;
     };
     Some(start + place + 1)

@@ -55,13 +55,13 @@ pub(super) fn is_digest(ctype: &ParsedContentType) -> bool
     ctype.mimetype.as_str() == "multipart/digest"
 }
 
-/// The delimiter between the parts of this type, if there may be parts: a LF and the dash-boundary,
-/// which is `--` and the boundary.
-pub(super) fn delimiter_of(
+/// A LF and the dash-boundary of this type's parts, if there may be parts. The dash-boundary is
+/// `--` and the boundary.
+pub(super) fn feed_and_dash_boundary_of(
     alloc: Global,
     ctype: &ParsedContentType,
 ) -> Result<Option<Vec<u8>>, AllocError>
-    ensures { IfOk result (λ delimiter. option_map (λ d. d.items) delimiter
+    ensures { IfOk result (λ made. option_map (λ bytes. bytes.items) made
         ≡ option_map (λ dash_boundary. line_feed ∷ dash_boundary)
         (dash_boundary_of (content_type ctype.now))) }
 {
@@ -71,8 +71,8 @@ pub(super) fn delimiter_of(
     let Some(boundary) = ctype.params.get("boundary") else {
         return Ok(None);
     };
-    let mut delimiter = Vec::with_capacity(alloc, 3 + boundary.len())?;
-    delimiter.extend_from_slice(b"\n--")?;
-    delimiter.extend_from_slice(boundary.as_bytes())?;
-    Ok(Some(delimiter))
+    let mut feed_and_dash_boundary = Vec::with_capacity(alloc, 3 + boundary.len())?;
+    feed_and_dash_boundary.extend_from_slice(b"\n--")?;
+    feed_and_dash_boundary.extend_from_slice(boundary.as_bytes())?;
+    Ok(Some(feed_and_dash_boundary))
 }

@@ -6,7 +6,7 @@ ghost use Rattle.mail_codec.specs.Tables.{charsets_with};
 ghost use Rattle.mailparse.specs.Continuations.{joined, joined_at, parameters_in, sections_of};
 ghost use Rattle.mailparse.specs.Pairs.{last_of, text_at};
 ghost use Rattle.mailparse.specs.Sections.{alone};
-ghost use Rattle.mailparse.specs.private.Continuations.{first_base_of, first_bases, has_star, joined_text, left_by, names_in, names_of_sections, without_sections};
+ghost use Rattle.mailparse.specs.private.Continuations.{base_of_section_0, bases_of_sections_0, has_star, joined_text, left_by, names_in, names_of_sections, without_sections};
 ghost use Rattle.mailparse.specs.private.Sections.{section_view, sections_at, stands_at};
 
 mod joining;
@@ -41,9 +41,9 @@ fn join(alloc: Global, sections: &mut Sections<'_>, base: &str) -> Result<String
 }
 
 /// The base of a name with the number 0, if no text stands there.
-fn first_base<'n>(sections: &Sections<'_>, name: &'n str) -> Option<&'n str>
+fn base_of_section_0<'n>(sections: &Sections<'_>, name: &'n str) -> Option<&'n str>
     ensures { option_map (λ base. base.now) result
-        ≡ first_base_of (stands_at sections.now) name.now }
+        ≡ base_of_section_0 (stands_at sections.now) name.now }
 {
     let (base, number) = numbered(name)?;
     if number != 0 {
@@ -63,10 +63,10 @@ fn add_bases<X>(
     bases: &mut Vec<String>,
 ) -> Result<(), AllocError>
     ensures { OnOk result (map string_bytes bases.new.items ≡ map string_bytes bases.old.items
-        ++ first_bases (stands_at sections.now) (names_in named.now)) }
+        ++ bases_of_sections_0 (stands_at sections.now) (names_in named.now)) }
 {
     for (name, _) in named {
-        if let Some(base) = first_base(sections, name.as_str()) {
+        if let Some(base) = base_of_section_0(sections, name.as_str()) {
             bases.push(String::from_str(alloc, base)?)?;
         }
     }
@@ -76,7 +76,7 @@ fn add_bases<X>(
 /// The bases, some more than once.
 fn bases_of(alloc: Global, sections: &Sections<'_>) -> Result<Vec<String>, AllocError>
     ensures { IfOk result (λ bases. map string_bytes bases.items
-        ≡ first_bases (stands_at sections.now) (names_of_sections sections.now)) }
+        ≡ bases_of_sections_0 (stands_at sections.now) (names_of_sections sections.now)) }
 {
     let mut bases = Vec::new(alloc);
     add_bases(alloc, sections, &sections.texts, &mut bases)?;

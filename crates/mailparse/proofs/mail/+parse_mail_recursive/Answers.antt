@@ -12,12 +12,12 @@ use Rattle.mailparse.specs.declared.mail.message.ParsedMail.{ParsedMail}
 use Rattle.mailparse.specs.declared.mail.message.ParsedMail.TheFolds.{fold-roll-ParsedMail}
 use Rattle.mailparse.proofs.lemmas.Refusal.{read_map}
 use Rattle.mailparse.proofs.lemmas.Outcome.{IsRefusal-along, IsRefusalOrMemory-along}
-use Rattle.mailparse.proofs.lemmas.Mail.{with_trees, parts_from, parts_step, parts_refused, parts_end, read_levels-none, read_levels-refused, read_levels-leaf, read_levels-whole, delimiter_none, IsDelimiter-of}
+use Rattle.mailparse.proofs.lemmas.Mail.{with_trees, parts_from, parts_step, parts_refused, parts_end, read_levels-none, read_levels-refused, read_levels-leaf, read_levels-whole, feed_and_dash_boundary_none, IsFeedAndDashBoundary-of}
 use Rattle.mailparse.proofs.mail.+parse_mail_recursive.Goals as goal
 
--- the delimiter that was made
-made : (o : Option (Vec ℕ)) (delimiter : Vec ℕ) (r : Option (List ℕ)) → o ≡ Some delimiter → option_map (λ l. l.items) o ≡ r → Some delimiter.items ≡ r
-made o delimiter r e h = sym (ap (option_map (λ (l : Vec ℕ). l.items)) e) ∙ h
+-- the LF and the dash-boundary that were made
+made : (o : Option (Vec ℕ)) (feed_and_dash_boundary : Vec ℕ) (r : Option (List ℕ)) → o ≡ Some feed_and_dash_boundary → option_map (λ l. l.items) o ≡ r → Some feed_and_dash_boundary.items ≡ r
+made o feed_and_dash_boundary r e h = sym (ap (option_map (λ (l : Vec ℕ). l.items)) e) ∙ h
 
 pub returns-then-levels-eq0-clause-read : goal.returns-then-levels-eq0-clause-read
 returns-then-levels-eq0-clause-read t c = read_levels-none (charsets_with c.args.tables.now) c.args.levels c.args.in_digest c.args.raw.now c.if-levels-eq0.true
@@ -45,19 +45,19 @@ returns-in_default-clause-read t c =
     let ctype = content_type c.in_ok-ctype.ctype in
     let some : 0 < c.args.levels = omega (arith, c.if-levels-eq0.false) in
     let type = sym c.in_ok-ctype.ensures in
-    let nothing : None ≡ option_map (λ dash_boundary. 10 ∷ dash_boundary) (dash_boundary_of ctype) = sym (ap (option_map (λ (l : Vec ℕ). l.items)) c.in_default.is) ∙ c.in_ok-delimiter.ensures in
+    let nothing : None ≡ option_map (λ dash_boundary. 10 ∷ dash_boundary) (dash_boundary_of ctype) = sym (ap (option_map (λ (l : Vec ℕ). l.items)) c.in_default.is) ∙ c.in_ok-feed_and_dash_boundary.ensures in
     let parts : forest (map tree_of c.new.result.items) ≡ no_parts = ap (λ (ms : List ParsedMail). forest (map tree_of ms)) c.new.ensures.items in
-    read_levels-leaf (charsets_with c.args.tables.now) c.args.levels c.args.in_digest raw headers index ctype some c.in_ok-headers.ensures.read type (delimiter_none (dash_boundary_of ctype) nothing)
+    read_levels-leaf (charsets_with c.args.tables.now) c.args.levels c.args.in_digest raw headers index ctype some c.in_ok-headers.ensures.read type (feed_and_dash_boundary_none (dash_boundary_of ctype) nothing)
     ∙ ap (λ (f : Forest). Ok (tree (record { bytes = raw; block = take index raw; headers = headers; ctype = ctype; body = slice_range raw index (length raw) }) f)) (sym parts)
     ∙ ap Ok (sym (fold-roll-ParsedMail Tree tree_step _))
 
-pub cut_preamble-end-requires-clause-delimiter : goal.cut_preamble-end-requires-clause-delimiter
-cut_preamble-end-requires-clause-delimiter t c =
-    rw c.as_slice.ensures.value (IsDelimiter-of c.in-Some.delimiter.items (content_type c.in_ok-ctype.ctype) (made c.in_ok-delimiter.field-0 c.in-Some.delimiter _ c.in-Some.is c.in_ok-delimiter.ensures))
+pub cut_preamble-end-requires-clause-feed_and_dash_boundary : goal.cut_preamble-end-requires-clause-feed_and_dash_boundary
+cut_preamble-end-requires-clause-feed_and_dash_boundary t c =
+    rw c.as_slice.ensures.value (IsFeedAndDashBoundary-of c.in-Some.feed_and_dash_boundary.items (content_type c.in_ok-ctype.ctype) (made c.in_ok-feed_and_dash_boundary.field-0 c.in-Some.feed_and_dash_boundary _ c.in-Some.is c.in_ok-feed_and_dash_boundary.ensures))
 
-pub cut_part-part_end-requires-clause-delimiter : goal.cut_part-part_end-requires-clause-delimiter
-cut_part-part_end-requires-clause-delimiter t c =
-    rw c.as_slice-in-Some-next.ensures.value (IsDelimiter-of c.in-Some.delimiter.items (content_type c.in_ok-ctype.ctype) (made c.in_ok-delimiter.field-0 c.in-Some.delimiter _ c.in-Some.is c.in_ok-delimiter.ensures))
+pub cut_part-part_end-requires-clause-feed_and_dash_boundary : goal.cut_part-part_end-requires-clause-feed_and_dash_boundary
+cut_part-part_end-requires-clause-feed_and_dash_boundary t c =
+    rw c.as_slice-in-Some-next.ensures.value (IsFeedAndDashBoundary-of c.in-Some.feed_and_dash_boundary.items (content_type c.in_ok-ctype.ctype) (made c.in_ok-feed_and_dash_boundary.field-0 c.in-Some.feed_and_dash_boundary _ c.in-Some.is c.in_ok-feed_and_dash_boundary.ensures))
 
 pub returns-in_err-parse_mail_recursive-clause-read : goal.returns-in_err-parse_mail_recursive-clause-read
 returns-in_err-parse_mail_recursive-clause-read t c =
@@ -66,45 +66,45 @@ returns-in_err-parse_mail_recursive-clause-read t c =
     let headers = c.in_ok-headers.headers.items in
     let index = c.in_ok-headers.index in
     let ctype = content_type c.in_ok-ctype.ctype in
-    let delimiter = c.in-Some.delimiter.items in
+    let feed_and_dash_boundary = c.in-Some.feed_and_dash_boundary.items in
     let digest = c.is_digest-is_digest.result in
     let levels = c.args.levels - 1 in
     let some : 0 < c.args.levels = omega (arith, c.if-levels-eq0.false) in
     let type = sym c.in_ok-ctype.ensures in
-    let whole = read_levels-whole (charsets_with c.args.tables.now) c.args.levels c.args.in_digest raw headers index ctype delimiter digest (end_from (drop 1 delimiter) raw index index) some c.in_ok-headers.ensures.read type
-    (made c.in_ok-delimiter.field-0 c.in-Some.delimiter _ c.in-Some.is c.in_ok-delimiter.ensures) c.is_digest-is_digest.ensures refl in
+    let whole = read_levels-whole (charsets_with c.args.tables.now) c.args.levels c.args.in_digest raw headers index ctype feed_and_dash_boundary digest (end_from (drop 1 feed_and_dash_boundary) raw index index) some c.in_ok-headers.ensures.read type
+    (made c.in_ok-feed_and_dash_boundary.field-0 c.in-Some.feed_and_dash_boundary _ c.in-Some.is c.in_ok-feed_and_dash_boundary.ensures) c.is_digest-is_digest.ensures refl in
     let start = c.in-Some-next.start in
     let part_end = c.cut_part-part_end.result.0 in
-    let ends : part_end ≡ end_from (drop 1 delimiter) raw start (length raw) = c.cut_part-part_end.ensures.end ∙ ap (λ (l : List ℕ). end_from (drop 1 l) raw start (length raw)) c.as_slice-in-Some-next.ensures.value in
-    let all = parts_from (charsets_with c.args.tables.now) levels digest (drop 1 delimiter) raw (first_part (drop 1 delimiter) raw index) in
-    let before = subst (λ (o : Option ℕ). with_trees (map tree_of c.loop-next.subparts.items) (parts_from (charsets_with c.args.tables.now) levels digest (drop 1 delimiter) raw o) ≡ all) c.in-Some-next.is c.loop-next.invariant.all in
+    let ends : part_end ≡ end_from (drop 1 feed_and_dash_boundary) raw start (length raw) = c.cut_part-part_end.ensures.end ∙ ap (λ (l : List ℕ). end_from (drop 1 l) raw start (length raw)) c.as_slice-in-Some-next.ensures.value in
+    let all = parts_from (charsets_with c.args.tables.now) levels digest (drop 1 feed_and_dash_boundary) raw (first_part (drop 1 feed_and_dash_boundary) raw index) in
+    let before = subst (λ (o : Option ℕ). with_trees (map tree_of c.loop-next.subparts.items) (parts_from (charsets_with c.args.tables.now) levels digest (drop 1 feed_and_dash_boundary) raw o) ≡ all) c.in-Some-next.is c.loop-next.invariant.all in
     rw (p.1, p.2) (IsRefusalOrMemory-along c.in_err-parse_mail_recursive.field-0.0 (read_levels (charsets_with c.args.tables.now) levels digest (slice_range raw start part_end))
     (read_levels (charsets_with c.args.tables.now) c.args.levels c.args.in_digest raw)
-    (λ r e. whole ∙ ap (read_map (tree (record { bytes = raw; block = take index raw; headers = headers; ctype = ctype; body = slice_range raw index (end_from (drop 1 delimiter) raw index index) })))
-    (parts_refused (charsets_with c.args.tables.now) levels digest (drop 1 delimiter) raw (map tree_of c.loop-next.subparts.items) all start part_end r ends e before))
+    (λ r e. whole ∙ ap (read_map (tree (record { bytes = raw; block = take index raw; headers = headers; ctype = ctype; body = slice_range raw index (end_from (drop 1 feed_and_dash_boundary) raw index index) })))
+    (parts_refused (charsets_with c.args.tables.now) levels digest (drop 1 feed_and_dash_boundary) raw (map tree_of c.loop-next.subparts.items) all start part_end r ends e before))
     c.in_err-parse_mail_recursive.ensures.read)
 
 pub loop-next-preserved : goal.loop-next-preserved
 loop-next-preserved t c =
     let raw = c.args.raw.now in
     let index = c.in_ok-headers.index in
-    let delimiter = c.in-Some.delimiter.items in
+    let feed_and_dash_boundary = c.in-Some.feed_and_dash_boundary.items in
     let digest = c.is_digest-is_digest.result in
     let levels = c.args.levels - 1 in
     let start = c.in-Some-next.start in
     let part_end = c.cut_part-part_end.result.0 in
     let after = c.cut_part-part_end.result.1 in
-    let ends : part_end ≡ end_from (drop 1 delimiter) raw start (length raw) = c.cut_part-part_end.ensures.end ∙ ap (λ (l : List ℕ). end_from (drop 1 l) raw start (length raw)) c.as_slice-in-Some-next.ensures.value in
-    let next : after ≡ next_part (drop 1 delimiter) raw start = c.cut_part-part_end.ensures.next ∙ ap (λ (l : List ℕ). next_part (drop 1 l) raw start) c.as_slice-in-Some-next.ensures.value in
-    let all = parts_from (charsets_with c.args.tables.now) levels digest (drop 1 delimiter) raw (first_part (drop 1 delimiter) raw index) in
-    let before = subst (λ (o : Option ℕ). with_trees (map tree_of c.loop-next.subparts.items) (parts_from (charsets_with c.args.tables.now) levels digest (drop 1 delimiter) raw o) ≡ all) c.in-Some-next.is c.loop-next.invariant.all in
+    let ends : part_end ≡ end_from (drop 1 feed_and_dash_boundary) raw start (length raw) = c.cut_part-part_end.ensures.end ∙ ap (λ (l : List ℕ). end_from (drop 1 l) raw start (length raw)) c.as_slice-in-Some-next.ensures.value in
+    let next : after ≡ next_part (drop 1 feed_and_dash_boundary) raw start = c.cut_part-part_end.ensures.next ∙ ap (λ (l : List ℕ). next_part (drop 1 l) raw start) c.as_slice-in-Some-next.ensures.value in
+    let all = parts_from (charsets_with c.args.tables.now) levels digest (drop 1 feed_and_dash_boundary) raw (first_part (drop 1 feed_and_dash_boundary) raw index) in
+    let before = subst (λ (o : Option ℕ). with_trees (map tree_of c.loop-next.subparts.items) (parts_from (charsets_with c.args.tables.now) levels digest (drop 1 feed_and_dash_boundary) raw o) ≡ all) c.in-Some-next.is c.loop-next.invariant.all in
     let part = c.in_ok-parse_mail_recursive.field-0 in
     let pushed : map tree_of c.push.new.self.items ≡ map tree_of c.loop-next.subparts.items ++ tree_of part ∷ [] =
     ap (map tree_of) c.in_ok-push.ensures.items ∙ map-append tree_of c.loop-next.subparts.items (part ∷ []) in
     record {
       within = IfSome_then after c.cut_part-part_end.ensures.bounds.2 (λ x bounds. bounds.1);
-      all = ap (λ (ts : List Tree). with_trees ts (parts_from (charsets_with c.args.tables.now) levels digest (drop 1 delimiter) raw after)) pushed
-          ∙ parts_step (charsets_with c.args.tables.now) levels digest (drop 1 delimiter) raw (map tree_of c.loop-next.subparts.items) all start part_end after (tree_of part) ends next
+      all = ap (λ (ts : List Tree). with_trees ts (parts_from (charsets_with c.args.tables.now) levels digest (drop 1 feed_and_dash_boundary) raw after)) pushed
+          ∙ parts_step (charsets_with c.args.tables.now) levels digest (drop 1 feed_and_dash_boundary) raw (map tree_of c.loop-next.subparts.items) all start part_end after (tree_of part) ends next
           c.in_ok-parse_mail_recursive.ensures.read before;
     }
 
@@ -114,17 +114,17 @@ returns-clause-read t c =
     let headers = c.in_ok-headers.headers.items in
     let index = c.in_ok-headers.index in
     let ctype = content_type c.in_ok-ctype.ctype in
-    let delimiter = c.in-Some.delimiter.items in
+    let feed_and_dash_boundary = c.in-Some.feed_and_dash_boundary.items in
     let digest = c.is_digest-is_digest.result in
     let levels = c.args.levels - 1 in
     let some : 0 < c.args.levels = omega (arith, c.if-levels-eq0.false) in
     let type = sym c.in_ok-ctype.ensures in
     let end = c.cut_preamble-end.result.0 in
-    let ends : end ≡ end_from (drop 1 delimiter) raw index index = c.cut_preamble-end.ensures.end ∙ ap (λ (l : List ℕ). end_from (drop 1 l) raw index index) c.as_slice.ensures.value in
-    let whole = read_levels-whole (charsets_with c.args.tables.now) c.args.levels c.args.in_digest raw headers index ctype delimiter digest end some c.in_ok-headers.ensures.read type
-    (made c.in_ok-delimiter.field-0 c.in-Some.delimiter _ c.in-Some.is c.in_ok-delimiter.ensures) c.is_digest-is_digest.ensures ends in
-    let all = parts_from (charsets_with c.args.tables.now) levels digest (drop 1 delimiter) raw (first_part (drop 1 delimiter) raw index) in
-    let done = subst (λ (o : Option ℕ). with_trees (map tree_of c.loop-next.subparts.items) (parts_from (charsets_with c.args.tables.now) levels digest (drop 1 delimiter) raw o) ≡ all) c.in_default-next.is c.loop-next.invariant.all in
+    let ends : end ≡ end_from (drop 1 feed_and_dash_boundary) raw index index = c.cut_preamble-end.ensures.end ∙ ap (λ (l : List ℕ). end_from (drop 1 l) raw index index) c.as_slice.ensures.value in
+    let whole = read_levels-whole (charsets_with c.args.tables.now) c.args.levels c.args.in_digest raw headers index ctype feed_and_dash_boundary digest end some c.in_ok-headers.ensures.read type
+    (made c.in_ok-feed_and_dash_boundary.field-0 c.in-Some.feed_and_dash_boundary _ c.in-Some.is c.in_ok-feed_and_dash_boundary.ensures) c.is_digest-is_digest.ensures ends in
+    let all = parts_from (charsets_with c.args.tables.now) levels digest (drop 1 feed_and_dash_boundary) raw (first_part (drop 1 feed_and_dash_boundary) raw index) in
+    let done = subst (λ (o : Option ℕ). with_trees (map tree_of c.loop-next.subparts.items) (parts_from (charsets_with c.args.tables.now) levels digest (drop 1 feed_and_dash_boundary) raw o) ≡ all) c.in_default-next.is c.loop-next.invariant.all in
     whole ∙ ap (read_map (tree (record { bytes = raw; block = take index raw; headers = headers; ctype = ctype; body = slice_range raw index end })))
-    (parts_end (charsets_with c.args.tables.now) levels digest (drop 1 delimiter) raw (map tree_of c.loop-next.subparts.items) all done)
+    (parts_end (charsets_with c.args.tables.now) levels digest (drop 1 feed_and_dash_boundary) raw (map tree_of c.loop-next.subparts.items) all done)
     ∙ ap Ok (sym (fold-roll-ParsedMail Tree tree_step _))

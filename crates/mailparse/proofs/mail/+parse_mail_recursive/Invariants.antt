@@ -17,8 +17,8 @@ left size (Some start) = suc (size - start)
 abbrev pub invariant-loop-next : goal.invariant-loop-next
 invariant-loop-next l = record {
   within : IfSome l.next (λ s. s ≤ length l.raw);
-  all : with_trees (map tree_of l.subparts.items) (parts_from (charsets_with l.tables) (l.levels - 1) l.is_digest (drop 1 l.delimiter.items) l.raw l.next)
-      ≡ parts_from (charsets_with l.tables) (l.levels - 1) l.is_digest (drop 1 l.delimiter.items) l.raw (first_part (drop 1 l.delimiter.items) l.raw l.index);
+  all : with_trees (map tree_of l.subparts.items) (parts_from (charsets_with l.tables) (l.levels - 1) l.is_digest (drop 1 l.feed_and_dash_boundary.items) l.raw l.next)
+      ≡ parts_from (charsets_with l.tables) (l.levels - 1) l.is_digest (drop 1 l.feed_and_dash_boundary.items) l.raw (first_part (drop 1 l.feed_and_dash_boundary.items) l.raw l.index);
 }
 
 abbrev pub decreases-loop-next : goal.decreases-loop-next

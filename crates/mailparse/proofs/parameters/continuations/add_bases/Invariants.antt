@@ -1,10 +1,10 @@
 -- The bases of the names so far were added.
 use Rattle.std.proofs.Common.{◌≡◌, ◌++◌, map}
 use Rattle.std.specs.String.{string_bytes}
-use Rattle.mailparse.specs.private.Continuations.{first_bases}
+use Rattle.mailparse.specs.private.Continuations.{bases_of_sections_0}
 use Rattle.mailparse.specs.private.Sections.{stands_at}
 use Rattle.mailparse.specs.private.Filled.{shown_name}
 use Rattle.mailparse.proofs.parameters.continuations.add_bases.Given as goal
 
 abbrev pub invariant-loop-name : goal.invariant-loop-name
-invariant-loop-name g l = map string_bytes l.bases.items ≡ map string_bytes l.initial.bases.items ++ first_bases (stands_at l.sections) (map shown_name l.yielded)
+invariant-loop-name g l = map string_bytes l.bases.items ≡ map string_bytes l.initial.bases.items ++ bases_of_sections_0 (stands_at l.sections) (map shown_name l.yielded)
