@@ -10,8 +10,7 @@ use Rattle.mail_codec.proofs.lemmas.Places.{first_place-before}
 use Rattle.mail_codec.proofs.lemmas.PlacesSearches.{place_none}
 use Rattle.mailparse.specs.Ranges.{Range, slice}
 use Rattle.mailparse.specs.Delimiters.{is_delimiter, delimiter_from, line_after, part_after, is_close_delimiter, first_part, next_part, before_byte, before_line_end, end_from, part_range, cut_parts}
-use Rattle.mailparse.specs.private.Delimiters.{NoDelimiter}
-use Rattle.mailparse.proofs.lemmas.Delimiters.{is_delimiter-line, is_delimiter-start, delimiter_from-some, starts_delimiter, part_ranges, part_ranges-none, part_ranges-some}
+use Rattle.mailparse.proofs.lemmas.Delimiters.{NoDelimiter, is_delimiter-line, is_delimiter-start, delimiter_from-some, starts_delimiter, part_ranges, part_ranges-none, part_ranges-some}
 use Rattle.mailparse.proofs.lemmas.Places.{not_some}
 use Rattle.mail_laws.proofs.lemmas.RenderHeaders.{from_not, drop_past}
 

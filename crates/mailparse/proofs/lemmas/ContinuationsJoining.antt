@@ -4,8 +4,17 @@ use Rattle.std.proofs.lemmas.Bool.{cond-false, cond-true}
 use Rattle.std.specs.Option.{option_to_list}
 use Rattle.mail_codec.specs.Places.{least, values_below}
 use Rattle.mailparse.specs.Continuations.{Group, group_text, groups, is_missing, joined, most_sections, onto_run, run, sections_of, text_alone, walked_after}
-use Rattle.mailparse.specs.private.Continuations.{cons_if_some, sections_from}
 use Rattle.mailparse.specs.Sections.{Section, octets, section_name, text}
+
+-- a section before others; without a section nothing
+abbrev pub cons_if_some : Option Section → List Section → List Section
+cons_if_some None rest = []
+cons_if_some (Some section) rest = section ∷ rest
+
+-- the sections of a base at the numbers from one on, as far as there are any, and at most so many
+abbrev pub sections_from : (List ℕ → Option Section) → List ℕ → ℕ → ℕ → List Section
+sections_from at base zero number = []
+sections_from at base (suc most) number = cons_if_some (at (section_name base number)) (sections_from at base most (suc number))
 
 pub most : most_sections ≡ 18446744073709551615
 unfolding most_sections

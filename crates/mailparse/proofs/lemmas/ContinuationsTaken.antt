@@ -5,10 +5,10 @@ use Rattle.std.specs.Option.{option_map_or}
 use Rattle.std.specs.Str.{bytes_eq}
 use Rattle.mailparse.specs.Continuations.{joined, most_sections, sections_of}
 use Rattle.mailparse.specs.Sections.{Section, numbered, section_name}
-use Rattle.mailparse.specs.private.Continuations.{cons_if_some, sections_from, is_section_below, is_taken, joined_text, left_by, without_sections}
+use Rattle.mailparse.specs.private.Continuations.{is_section_below, is_taken, joined_text, left_by, without_sections}
 use Rattle.mailparse.specs.private.Filled.{holds_name}
 use Rattle.mailparse.proofs.lemmas.Filled.{filled_again, filled_push, holds_again, holds_push, or_false, or_true}
-use Rattle.mailparse.proofs.lemmas.ContinuationsJoining.{most, sections_are}
+use Rattle.mailparse.proofs.lemmas.ContinuationsJoining.{cons_if_some, most, sections_are, sections_from}
 use Rattle.mailparse.proofs.lemmas.SectionsNumbers.{numbered_section}
 use Rattle.mailparse.proofs.lemmas.Sections.{cond_none}
 use Rattle.mailparse.proofs.lemmas.ExtendedValues.{equal_bytes, same_bytes}

@@ -1,18 +1,21 @@
 -- Lemmas on delimiters: where the first one stands, and the ranges of the parts.
 use Rattle.std.proofs.Common.{◌≡◌, ℕ, zero, suc, ◌+◌, ◌-◌, ◌<◌, ◌≤◌, Bool, true, false, cond, eqb, List, [], ◌∷◌, ◌&&◌, ◌||◌, length, drop, get_or, Option, Some, None, option_map, refl, sym, ap, ◌∙◌, subst, ⊎_elim, arith, length-drop, get_or-drop, ◌++◌, map}
-use Rattle.std.specs.Prelude.{nat_lt, ◌==◌, filter_map, option_and_then, codes, if◌then◌else◌}
-use Rattle.std.proofs.lemmas.Bool.{cond-true, cond-false, cases_lt, cases_eq, lt-ltb, le-ltb, eq-eqb, eqb-true, ne_eqb, and_parts, and_from, and_left, and_right, false≢true}
+use Rattle.std.specs.Prelude.{nat_lt, filter_map, option_and_then, codes, if◌then◌else◌}
+use Rattle.std.proofs.lemmas.Bool.{cond-true, cond-false, cases_lt, cases_eq, lt-ltb, le-ltb, eq-eqb, eqb-true, ne_eqb, and_parts, and_from, false≢true}
 use Rattle.std.proofs.lemmas.List.{drop-drop}
 use Rattle.bstr.specs.Find.{OccursAt, FindsNeedle}
 use Rattle.mail_codec.specs.Places.{stands, begins, first_place, least, byte_place, text_place, values_below}
 use Rattle.mail_codec.proofs.lemmas.Places.{least-is, least-before, least-passes, first_place-before, first_place-passes}
 use Rattle.mailparse.specs.Header.{is_line_feed}
 use Rattle.mailparse.specs.Delimiters.{least_from, starts_line, is_delimiter, delimiter_from, line_after, part_after, is_close_delimiter, next_part, part_start, part_starts, part_range}
-use Rattle.mailparse.specs.private.Delimiters.{NoDelimiter}
 use Rattle.mail_codec.proofs.lemmas.PlacesSearches.{place_none, place_some}
 use Rattle.mailparse.specs.Ranges.{Range}
 use Rattle.mailparse.proofs.lemmas.Block.{values_below-same}
 use Rattle.mail_codec.specs.Ascii.{line_feed}
+
+-- no delimiter stands from a start up to a place
+abbrev pub NoDelimiter : List ℕ → List ℕ → ℕ → ℕ → Type 0
+NoDelimiter dash_boundary bytes start to = (k : ℕ) → start ≤ k → k < to → is_delimiter dash_boundary bytes start k ≡ false
 
 -- ---- the least place from a start on
 

@@ -1,5 +1,5 @@
 -- Extended values: keys that end in a star, and their names.
-use Rattle.std.proofs.Common.{◌≡◌, ◌≢◌, ℕ, ◌-◌, Bool, true, false, not, cond, List, [], ◌∷◌, ◌++◌, length, map, take, drop, Option, Some, None, String, is_some, option_map, refl, sym, ap, ◌∙◌, arith}
+use Rattle.std.proofs.Common.{◌≡◌, ◌≢◌, ℕ, ◌-◌, Bool, true, false, not, cond, List, [], ◌∷◌, ◌++◌, length, map, take, drop, Option, Some, None, String, string_bytes, is_some, option_map, refl, sym, ap, ◌∙◌, arith}
 use Rattle.std.proofs.lemmas.Bool.{and_from, and_left, and_right, cond-true, cond-false}
 use Rattle.std.proofs.lemmas.List.{append-nil, drop_all, flat_map_more, map_push, take-append-drop}
 use Rattle.std.proofs.lemmas.Slice.Eq.{bytes_eq-Decides}
@@ -11,10 +11,14 @@ use Rattle.std.specs.Global.{Global}
 use Rattle.mail_codec.specs.Charset.{Charsets}
 use Rattle.mailparse.specs.Pairs.{Texts}
 use Rattle.mailparse.specs.ExtendedValues.{is_starred, label_in, name_under, starred}
-use Rattle.mailparse.specs.private.ExtendedValues.{Found, found_at, shown_view, star_taken, extended_entries, extended_view}
+use Rattle.mailparse.specs.private.ExtendedValues.{Found, found_at, star_taken, extended_entries, extended_view}
 use Rattle.mailparse.specs.private.KnownCharset.{known_text}
 use Rattle.mailparse.specs.private.Pairs.{pair_view}
 use Rattle.mailparse.specs.declared.parameters.extended_values.names.ExtendedName.{ExtendedName}
+
+-- an entry that a walk showed, by its bytes
+abbrev pub shown_view : Bor (String Global) × Bor (String Global) → List ℕ × List ℕ
+shown_view e = (string_bytes e.0.now, string_bytes e.1.now)
 
 pub is_some_map : {A B : Type 0} (f : A → B) (o : Option A) → is_some (option_map f o) ≡ is_some o
 is_some_map f None = refl

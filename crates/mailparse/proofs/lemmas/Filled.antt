@@ -2,6 +2,8 @@
 use Rattle.std.proofs.Common.{◌≡◌, ℕ, Bool, true, false, ◌||◌, cond, List, [], ◌∷◌, ◌++◌, Option, Some, None, option_map, BTreeMap, String, string_bytes, refl, sym, ap, ◌∙◌}
 use Rattle.std.proofs.lemmas.Bool.{cond-false, cond-true}
 use Rattle.std.proofs.lemmas.Map.Text.{btree_map_updates_text}
+use Rattle.std.specs.Borrow.{Bor}
+use Rattle.std.specs.Global.{Global}
 use Rattle.std.specs.BTreeMap.{UpdatesBy, get_by_text}
 use Rattle.std.specs.Cmp.Lexicographic.{slice_cmp}
 use Rattle.std.specs.List.{list_any}
@@ -11,6 +13,14 @@ use Rattle.std.specs.Str.{bytes_eq}
 use Rattle.mailparse.specs.private.Filled.{filled, holds_name}
 use Rattle.mailparse.proofs.lemmas.Pairs.{mapped}
 use Rattle.mailparse.proofs.lemmas.ExtendedValues.{equal_bytes}
+
+-- the name of an entry that a walk showed
+abbrev pub shown_name : {X : Type 0} → Bor (String Global) × Bor X → List ℕ
+shown_name e = string_bytes e.0.now
+
+-- the name of an entry that a walk took
+abbrev pub taken_name : {X : Type 0} → String Global × X → List ℕ
+taken_name e = string_bytes e.0
 
 pub any_push : (test : List ℕ → Bool) (names : List (List ℕ)) (name : List ℕ) → list_any test (names ++ name ∷ []) ≡ (list_any test names || test name)
 any_push test [] name = go (test name)

@@ -3,6 +3,7 @@ use Rattle.std.proofs.Common.{◌≡◌, ℕ, Bool, true, false, ◌&&◌, ◌||
 use Rattle.std.proofs.lemmas.Bool.{and_from, and_left, cond-false, cond-true}
 use Rattle.std.proofs.lemmas.Map.Text.{is_eq-slice_cmp}
 use Rattle.std.specs.BTreeMap.{get_by_text}
+use Rattle.std.specs.Prelude.{if◌then◌else◌}
 use Rattle.std.specs.Borrow.{Bor}
 use Rattle.std.specs.Global.{Global}
 use Rattle.std.specs.Cmp.Lexicographic.{slice_cmp}
@@ -13,12 +14,15 @@ use Rattle.std.specs.Str.{bytes_eq}
 use Rattle.mail_codec.specs.Charset.{Charsets}
 use Rattle.mailparse.specs.Sections as words
 use Rattle.mailparse.specs.ExtendedValues.{extended_at, has_left, section_at, extended_value, is_starred, name_under, reading_of, starred}
-use Rattle.mailparse.specs.private.ExtendedValues.{without_starred}
 use Rattle.mailparse.specs.Pairs.{Texts}
-use Rattle.mailparse.specs.private.Filled.{filled, holds_name, shown_name, taken_name}
-use Rattle.mailparse.proofs.lemmas.Filled.{filled_all, holds_push, or_false, or_true}
+use Rattle.mailparse.specs.private.Filled.{filled, holds_name}
+use Rattle.mailparse.proofs.lemmas.Filled.{filled_all, holds_push, or_false, or_true, shown_name, taken_name}
 use Rattle.mailparse.proofs.lemmas.CharsetSources.{name_under_starred}
 use Rattle.mailparse.proofs.lemmas.ExtendedValues.{equal_bytes, is_some_map, same_bytes}
+
+-- the texts of keys, less the starred keys of some names
+abbrev pub without_starred : Texts → List (List ℕ) → Texts
+without_starred keys names key = if is_starred key && holds_name names (name_under key) then None else keys key
 
 pub or_none : {A : Type 0} (o : Option A) → option_or o None ≡ o
 or_none None = refl

@@ -14,9 +14,10 @@ use Rattle.mail_codec.proofs.lemmas.Places.{first_place-here, first_place-past}
 use Rattle.mailparse.specs.Continuations.{is_first_of, is_base, is_used, sections_of, joined, joined_at, parameters_in, possible_names}
 use Rattle.mailparse.specs.ExtendedValues.{has_left, section_at, starred, is_starred, name_under, is_extended, octets_of, reading_of}
 use Rattle.mailparse.specs.Sections.{text, octets, alone, is_star, numbered, section_name}
-use Rattle.mailparse.specs.Pairs.{Texts, last_of, text_at}
+use Rattle.mailparse.specs.Pairs.{last_of, text_at}
 use Rattle.mailparse.specs.private.Continuations.{has_star, names_in}
-use Rattle.mailparse.specs.private.Filled.{holds_name, shown_name}
+use Rattle.mailparse.specs.private.Filled.{holds_name}
+use Rattle.mailparse.proofs.lemmas.Filled.{shown_name}
 use Rattle.mailparse.proofs.lemmas.Sections.{unnamed}
 
 -- ---- the search for a star

@@ -1,5 +1,5 @@
 -- What those that join sections hold; private to them.
-use Rattle.std.specs.Prelude.{ℕ, zero, suc, Bool, false, not, ◌&&◌, ◌==◌, nat_lt, List, [], ◌∷◌, ◌++◌, map, flat_map, Option, Some, None, option_map, option_to_list, String, string_bytes, if◌then◌else◌}
+use Rattle.std.specs.Prelude.{ℕ, Bool, false, not, ◌&&◌, ◌==◌, nat_lt, List, ◌++◌, map, flat_map, Option, Some, None, option_map, option_to_list, String, string_bytes, if◌then◌else◌}
 use Rattle.std.specs.BTreeMap.{BTreeMap}
 use Rattle.std.specs.List.{list_any}
 use Rattle.std.specs.Option.{option_map_or}
@@ -11,16 +11,6 @@ use Rattle.mailparse.specs.private.Filled.{holds_name}
 use Rattle.mailparse.specs.private.KnownCharset.{known_text}
 use Rattle.mailparse.specs.declared.parameters.continuations.joining.Joining.{Joining}
 use Rattle.mailparse.specs.declared.parameters.sections.Sections.{Sections}
-
--- a section before others, as far as there is one
-abbrev pub cons_if_some : Option Section → List Section → List Section
-cons_if_some None rest = []
-cons_if_some (Some section) rest = section ∷ rest
-
--- the sections of a base at the numbers from one on, as far as there are any, and at most so many
-abbrev pub sections_from : (List ℕ → Option Section) → List ℕ → ℕ → ℕ → List Section
-sections_from at base zero number = []
-sections_from at base (suc most) number = cons_if_some (at (section_name base number)) (sections_from at base most (suc number))
 
 -- the text that is made when these sections follow
 abbrev pub joined_with : Joining → List Section → List ℕ

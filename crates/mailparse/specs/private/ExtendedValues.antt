@@ -1,14 +1,11 @@
 -- What the readers of extended values hold; private to them.
-use Rattle.std.specs.Prelude.{◌≡◌, ℕ, true, Bool, not, ◌&&◌, ◌==◌, List, [], ◌∷◌, map, slice_index_or, Option, Some, None, option_map, String, string_bytes, if◌then◌else◌}
-use Rattle.std.specs.Borrow.{Bor}
-use Rattle.std.specs.Global.{Global}
+use Rattle.std.specs.Prelude.{◌≡◌, ℕ, true, Bool, not, ◌&&◌, ◌==◌, List, [], ◌∷◌, map, slice_index_or, Option, Some, None, option_map, string_bytes, if◌then◌else◌}
 use Rattle.std.specs.List.{flat_map}
 use Rattle.std.specs.Option.{is_some}
 use Rattle.mail_codec.specs.Charset.{Charsets}
 use Rattle.mailparse.specs.ExtendedValues.{extended_at, extended_value, is_starred, label_in, name_under, starred, text_in}
 use Rattle.mailparse.specs.Pairs.{Texts}
 use Rattle.mailparse.specs.Sections.{Section, text, octets, numbered}
-use Rattle.mailparse.specs.private.Filled.{holds_name}
 use Rattle.mailparse.specs.private.KnownCharset.{known_text}
 use Rattle.mailparse.specs.declared.parameters.extended_values.Reading.{Reading}
 use Rattle.mailparse.specs.declared.parameters.extended_values.names.ExtendedName.{ExtendedName}
@@ -17,10 +14,6 @@ use Rattle.percent_encoding.specs.Percent.{percent_decode}
 -- what stands at a name whose extended value has these bytes
 abbrev pub extended_section : List ℕ → (List ℕ → List ℕ) → List ℕ → Section
 extended_section name reading bytes = if is_some (numbered name) then octets reading bytes else text (reading bytes)
-
--- an entry that a walk showed, by its bytes
-abbrev pub shown_view : Bor (String Global) × Bor (String Global) → List ℕ × List ℕ
-shown_view e = (string_bytes e.0.now, string_bytes e.1.now)
 
 -- an extended name, by its bytes: the name, its extended value and how the charset that this names is read
 abbrev pub Found : Type 0
@@ -79,7 +72,3 @@ reading_by found place source = option_map (λ reading. ((found_by_place found p
 pub record IsReading (known : Charsets) (keys : Texts) (r : Read) : Type 0 where
   pub valued : is_some (keys (starred r.0)) ≡ true
   pub gives : extended_at known keys r.0 ≡ Some (read_section r (extended_value keys r.0))
-
--- the texts of keys, less the starred keys of some names
-abbrev pub without_starred : Texts → List (List ℕ) → Texts
-without_starred keys names key = if is_starred key && holds_name names (name_under key) then None else keys key

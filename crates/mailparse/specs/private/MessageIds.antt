@@ -1,9 +1,8 @@
 -- What the private functions of message ids tell each other.
-use Rattle.std.specs.Prelude.{◌≡◌, ◌<◌, ℕ, true, List, ◌∷◌, ◌++◌, length, Option, Some, None, Ok}
+use Rattle.std.specs.Prelude.{◌≡◌, ◌<◌, ℕ, true, List, ◌∷◌, length, Option, Some, None}
 use Rattle.std.specs.List.{slice_split, list_any, before_first}
 use Rattle.std.specs.Borrow.{Bor}
 use Rattle.mailparse.specs.MessageIds.{begins_with_id, id_of_piece, ids_at_end, is_closing, message_ids, opens_id, with_id}
-use Rattle.mailparse.specs.Refusal.{◌>>=◌, Reads}
 
 -- a text that holds a `>`, and what stands before and after the first
 pub record IsCutAtClosing (text piece after : List ℕ) : Type 0 where
@@ -27,9 +26,3 @@ pub record IsNextId (text id after : List ℕ) : Type 0 where
 abbrev pub IsNextIdOrNone : List ℕ → Option (Bor (List ℕ) × Bor (List ℕ)) → Type 0
 IsNextIdOrNone text None = message_ids text ≡ ids_at_end text
 IsNextIdOrNone text (Some p) = IsNextId text p.0.now p.1.now
-
--- ids before those of a text
-abbrev pub with_ids : List (List ℕ) → Reads (List (List ℕ)) → Reads (List (List ℕ))
-with_ids front ids = do
-  others ← ids
-  Ok (front ++ others)

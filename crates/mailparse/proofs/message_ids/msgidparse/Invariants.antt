@@ -3,7 +3,7 @@ use Rattle.std.proofs.Common.{◌≡◌, ◌⊎◌, true, map, length}
 use Rattle.std.specs.Str.{IsUtf8}
 use Rattle.std.specs.String.{string_bytes}
 use Rattle.mailparse.specs.MessageIds.{begins_with_id, message_ids}
-use Rattle.mailparse.specs.private.MessageIds.{with_ids}
+use Rattle.mailparse.proofs.lemmas.MessageIds.{with_ids}
 use Rattle.mailparse.proofs.message_ids.msgidparse.Given as goal
 
 abbrev pub invariant-loop-found : goal.invariant-loop-found

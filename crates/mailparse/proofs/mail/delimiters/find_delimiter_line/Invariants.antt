@@ -1,6 +1,6 @@
 -- No delimiter stands before the place that the search has come to.
 use Rattle.std.proofs.Common.{◌≤◌, ◌-◌, length}
-use Rattle.mailparse.specs.private.Delimiters.{NoDelimiter}
+use Rattle.mailparse.proofs.lemmas.Delimiters.{NoDelimiter}
 use Rattle.mailparse.proofs.mail.delimiters.find_delimiter_line.Given as goal
 
 abbrev pub invariant-lines : goal.invariant-lines

@@ -3,7 +3,7 @@ use Rattle.std.proofs.Common.{◌≡◌, ◌++◌, map}
 use Rattle.std.specs.String.{string_bytes}
 use Rattle.mailparse.specs.private.Continuations.{bases_of_sections_0}
 use Rattle.mailparse.specs.private.Sections.{stands_at}
-use Rattle.mailparse.specs.private.Filled.{shown_name}
+use Rattle.mailparse.proofs.lemmas.Filled.{shown_name}
 use Rattle.mailparse.proofs.parameters.continuations.add_bases.Given as goal
 
 abbrev pub invariant-loop-name : goal.invariant-loop-name

@@ -1,8 +1,9 @@
 -- The sections so far and those from the number on are all, and those so far were taken.
 use Rattle.std.proofs.Common.{◌≡◌, ◌≤◌, ◌-◌, ◌+◌, ℕ, List, length}
 use Rattle.mailparse.specs.Continuations.{joined, most_sections}
-use Rattle.mailparse.specs.private.Continuations.{sections_from, joined_with, without_sections}
+use Rattle.mailparse.specs.private.Continuations.{joined_with, without_sections}
 use Rattle.mailparse.specs.private.Sections.{stands_at}
+use Rattle.mailparse.proofs.lemmas.ContinuationsJoining.{sections_from}
 use Rattle.mailparse.proofs.parameters.continuations.join.Given as goal
 
 abbrev pub invariant-loop-count : goal.invariant-loop-count

@@ -10,9 +10,9 @@ use Rattle.std.specs.String.{string_bytes, string_cmp, string_cmp_total}
 use Rattle.mailparse.specs.Sections.{alone}
 use Rattle.mailparse.specs.private.Sections.{section_view, sections_at}
 use Rattle.mailparse.specs.Pairs.{text_at}
-use Rattle.mailparse.specs.private.Filled.{filled, holds_name, taken_name}
+use Rattle.mailparse.specs.private.Filled.{filled, holds_name}
 use Rattle.mailparse.specs.declared.parameters.sections.Section.{Section}
-use Rattle.mailparse.proofs.lemmas.Filled.{filled_all, filled_push, stored}
+use Rattle.mailparse.proofs.lemmas.Filled.{filled_all, filled_push, stored, taken_name}
 use Rattle.mailparse.proofs.lemmas.Sections.{names_taken, unnamed}
 use Rattle.mailparse.proofs.parameters.continuations.put_extended.Goals as goal
 

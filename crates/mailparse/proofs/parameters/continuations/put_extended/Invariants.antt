@@ -4,7 +4,8 @@ use Rattle.std.specs.Option.{option_or}
 use Rattle.mailparse.specs.Sections.{alone}
 use Rattle.mailparse.specs.private.Sections.{sections_at}
 use Rattle.mailparse.specs.Pairs.{text_at}
-use Rattle.mailparse.specs.private.Filled.{filled, taken_name}
+use Rattle.mailparse.specs.private.Filled.{filled}
+use Rattle.mailparse.proofs.lemmas.Filled.{taken_name}
 use Rattle.mailparse.proofs.parameters.continuations.put_extended.Given as goal
 
 abbrev pub invariant-loop-name : goal.invariant-loop-name

@@ -8,9 +8,9 @@ use Rattle.std.specs.Option.{option_or}
 use Rattle.std.specs.Str.{bytes_eq}
 use Rattle.std.specs.String.{string_bytes, string_cmp, string_cmp_total}
 use Rattle.mailparse.specs.Pairs.{text_at}
-use Rattle.mailparse.specs.private.Filled.{filled, holds_name, taken_name}
+use Rattle.mailparse.specs.private.Filled.{filled, holds_name}
 use Rattle.mailparse.proofs.lemmas.ContinuationsBases.{base_kept, base_put}
-use Rattle.mailparse.proofs.lemmas.Filled.{filled_all, filled_push, stored}
+use Rattle.mailparse.proofs.lemmas.Filled.{filled_all, filled_push, stored, taken_name}
 use Rattle.mailparse.proofs.lemmas.Sections.{names_taken, or_none, unnamed}
 use Rattle.mailparse.proofs.lemmas.ExtendedValues.{is_some_map}
 use Rattle.mailparse.proofs.parameters.continuations.put_joined.Goals as goal

@@ -2,7 +2,8 @@
 use Rattle.std.proofs.Common.{◌≡◌, ℕ, List, map}
 use Rattle.std.specs.Option.{option_or}
 use Rattle.mailparse.specs.Pairs.{text_at}
-use Rattle.mailparse.specs.private.Filled.{filled, taken_name}
+use Rattle.mailparse.specs.private.Filled.{filled}
+use Rattle.mailparse.proofs.lemmas.Filled.{taken_name}
 use Rattle.mailparse.proofs.parameters.continuations.put_joined.Given as goal
 
 abbrev pub invariant-loop-base : goal.invariant-loop-base

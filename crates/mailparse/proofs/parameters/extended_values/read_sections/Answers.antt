@@ -6,7 +6,7 @@ use Rattle.std.specs.Str.{bytes_eq}
 use Rattle.std.specs.String.{string_bytes}
 use Rattle.mail_codec.specs.Tables.{charsets_with}
 use Rattle.mailparse.specs.ExtendedValues.{extended_at, starred}
-use Rattle.mailparse.specs.private.ExtendedValues.{IsReading, names_read, read_section, reading_view, without_starred}
+use Rattle.mailparse.specs.private.ExtendedValues.{IsReading, names_read, read_section, reading_view}
 use Rattle.mailparse.specs.private.Sections.{section_view, sections_at}
 use Rattle.mailparse.specs.Pairs.{text_at}
 use Rattle.mailparse.specs.private.Filled.{filled, holds_name}
@@ -14,7 +14,7 @@ use Rattle.mailparse.specs.private.KnownCharset.{known_text}
 use Rattle.mailparse.specs.declared.parameters.extended_values.Reading.{Reading}
 use Rattle.mailparse.proofs.lemmas.ExtendedValuesSections.{names_of_all, reading_turn}
 use Rattle.mailparse.proofs.lemmas.Filled.{filled_again, filled_push, removed, stored}
-use Rattle.mailparse.proofs.lemmas.Sections.{sections_read, starred_leaves, value_gone, value_there}
+use Rattle.mailparse.proofs.lemmas.Sections.{sections_read, starred_leaves, value_gone, value_there, without_starred}
 use Rattle.mailparse.proofs.parameters.extended_values.read_sections.Goals as goal
 
 pub loop-reading-preserved-in-Some-remove : goal.loop-reading-preserved-in-Some-remove

@@ -2,10 +2,11 @@
 use Rattle.std.proofs.Common.{◌≡◌, ℕ, List, None}
 use Rattle.mail_codec.specs.Tables.{charsets_with}
 use Rattle.mailparse.specs.ExtendedValues.{extended_at}
-use Rattle.mailparse.specs.private.ExtendedValues.{names_read, without_starred}
+use Rattle.mailparse.specs.private.ExtendedValues.{names_read}
 use Rattle.mailparse.specs.private.Sections.{sections_at}
 use Rattle.mailparse.specs.Pairs.{text_at}
 use Rattle.mailparse.specs.private.Filled.{filled}
+use Rattle.mailparse.proofs.lemmas.Sections.{without_starred}
 use Rattle.mailparse.proofs.parameters.extended_values.read_sections.Given as goal
 
 abbrev pub invariant-loop-reading : goal.invariant-loop-reading

@@ -5,8 +5,8 @@ use Rattle.std.specs.Global.{Global}
 use Rattle.std.specs.String.{string_bytes}
 use Rattle.mail_codec.specs.Tables.{charsets_with}
 use Rattle.mailparse.specs.Pairs.{text_at}
-use Rattle.mailparse.specs.private.ExtendedValues.{shown_view, star_taken, extended_entries, extended_view}
-use Rattle.mailparse.proofs.lemmas.ExtendedValues.{is_some_map, found_unstarred, found_key, found_name, found_more, found_push, found_same, shown_all}
+use Rattle.mailparse.specs.private.ExtendedValues.{star_taken, extended_entries, extended_view}
+use Rattle.mailparse.proofs.lemmas.ExtendedValues.{shown_view, is_some_map, found_unstarred, found_key, found_name, found_more, found_push, found_same, shown_all}
 use Rattle.mailparse.proofs.parameters.extended_values.names.extended_names.Goals as goal
 
 pub loop-key-preserved-in-Continue-1 : goal.loop-key-preserved-in-Continue-1

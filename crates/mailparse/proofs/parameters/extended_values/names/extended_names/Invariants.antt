@@ -2,7 +2,8 @@
 use Rattle.std.proofs.Common.{◌≡◌, map}
 use Rattle.mail_codec.specs.Tables.{charsets_with}
 use Rattle.mailparse.specs.Pairs.{text_at}
-use Rattle.mailparse.specs.private.ExtendedValues.{shown_view, extended_entries, extended_view}
+use Rattle.mailparse.specs.private.ExtendedValues.{extended_entries, extended_view}
+use Rattle.mailparse.proofs.lemmas.ExtendedValues.{shown_view}
 use Rattle.mailparse.proofs.parameters.extended_values.names.extended_names.Given as goal
 
 abbrev pub invariant-loop-key : goal.invariant-loop-key
