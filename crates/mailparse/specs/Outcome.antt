@@ -26,10 +26,7 @@ IsRefusal e given = Refuses (refusal_of e) given
 -- the same, or memory ran out
 abbrev pub IsRefusalOrMemory : {Y : Type 0} → MailParseError → Result Y Refusal → Type 0
 IsRefusalOrMemory (Memory e) given = Unit {0}
-IsRefusalOrMemory (QuotedPrintableDecodeError fault) given = ⊥
-IsRefusalOrMemory (Base64DecodeError fault) given = given ≡ Err (base64_fault fault.group)
-IsRefusalOrMemory (EncodingError text) given = given ≡ Err (encoding (cow_str_bytes text))
-IsRefusalOrMemory (Generic text) given = given ≡ Err (generic text.now)
+IsRefusalOrMemory e given = IsRefusal e given
 
 -- the call returned, seen by the view, exactly what the definition gives
 abbrev pub Answers : {X Y : Type 0} → (X → Y) → Result X MailParseError → Result Y Refusal → Type 0
