@@ -13,8 +13,11 @@ use mail_codec::charset::SingleByteTable;
 use std::alloc::{AllocError, Global};
 use std::collections::BTreeMap;
 
+/// The type of a message that names none.
+pub(crate) const DEFAULT_MIMETYPE: &str = "text/plain";
+
 /// The charset of a type that does not say it.
-const DEFAULT_CHARSET: &str = "us-ascii";
+pub(crate) const DEFAULT_CHARSET: &str = "us-ascii";
 
 /// The type of a message's content, its charset and its parameters (RFC 2045, section 5).
 #[derive(Debug, Drop)]
@@ -51,7 +54,7 @@ impl ParsedContentType {
         ensures { AnswersOrMemory content_type result (Ok default_type) }
     {
         Ok(ParsedContentType {
-            mimetype: String::from_str(alloc, "text/plain")?,
+            mimetype: String::from_str(alloc, DEFAULT_MIMETYPE)?,
             charset: String::from_str(alloc, DEFAULT_CHARSET)?,
             params: BTreeMap::new(alloc),
         })

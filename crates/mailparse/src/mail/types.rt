@@ -5,7 +5,9 @@ ghost use Rattle.mail_codec.specs.Tables.{charsets_with};
 ghost use Rattle.mailparse.specs.Mail.{dash_boundary_of, is_digest, node_type, part_type};
 ghost use Rattle.mailparse.specs.Views.{content_type};
 
-use crate::content_type::{ParsedContentType, read_content_type};
+use crate::content_type::{
+    DEFAULT_CHARSET, DEFAULT_MIMETYPE, ParsedContentType, read_content_type,
+};
 use crate::header::MailHeader;
 use crate::headers::map::MailHeaderMap;
 use mail_codec::charset::SingleByteTable;
@@ -39,11 +41,11 @@ fn part_type(alloc: Global, in_digest: bool) -> Result<ParsedContentType, AllocE
     let mimetype = if in_digest {
         "message/rfc822"
     } else {
-        "text/plain"
+        DEFAULT_MIMETYPE
     };
     Ok(ParsedContentType {
         mimetype: String::from_str(alloc, mimetype)?,
-        charset: String::from_str(alloc, "us-ascii")?,
+        charset: String::from_str(alloc, DEFAULT_CHARSET)?,
         params: BTreeMap::new(alloc),
     })
 }
