@@ -79,7 +79,7 @@ abbrev mutual
 
 -- ---- the eight conditions of a well-formed outline
 
--- a printable byte of ASCII that is no space and no colon (RFC 5322, section 2.2)
+-- a printable byte of ASCII other than a space or a colon (RFC 5322, section 2.2)
 abbrev pub is_key_byte : ℕ → Bool
 is_key_byte b = is_ascii_graphic b && not (b == colon)
 
@@ -157,7 +157,7 @@ abbrev mutual
   depth_of_parts no_outlines = 0
   depth_of_parts (outline_and part parts) = max (suc (depth part)) (depth_of_parts parts)
 
--- 8. no outline stands below level 100
+-- 8. no outline stands at a level above 100
 abbrev pub is_within_levels : OutlineTree → Bool
 is_within_levels outline = nat_le (depth outline) 100
 
@@ -231,9 +231,9 @@ abbrev mutual
   are_plain_within no_outlines = true
   are_plain_within (outline_and part parts) = is_plain_within part && are_plain_within parts
 
--- the charsets show the values of an outline: they know UTF-8 by its label, or no value is written as encoded words
-abbrev pub Show : Charsets → OutlineTree → Type 0
-Show known outline = KnowUtf8 known ⊎ (is_plain_within outline ≡ true)
+-- the charsets know the words that an outline is written with: they know UTF-8 by its label, or no value is written as encoded words
+abbrev pub KnowItsWords : Charsets → OutlineTree → Type 0
+KnowItsWords known outline = KnowUtf8 known ⊎ (is_plain_within outline ≡ true)
 
 -- a header with the text that its value shows
 abbrev pub shown_header : Charsets → Header → Header

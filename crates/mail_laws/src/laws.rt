@@ -29,7 +29,7 @@ ghost use Rattle.mailparse.specs.contracts.disposition.DispositionTypePartialEq.
 ghost use Rattle.mailparse.specs.declared.disposition.DispositionType.{DispositionType};
 ghost use Rattle.mailparse.specs.Views.{kind};
 ghost use Rattle.mail_laws.specs.Boundaries.{IsAlphanumeric, boundary_type, one_text};
-ghost use Rattle.mail_laws.specs.Render.{IsWellFormed, OutlineTree, Show, depth, headers_within, is_well_formed_within, rendered, shown_header, stands_for};
+ghost use Rattle.mail_laws.specs.Render.{IsWellFormed, KnowItsWords, OutlineTree, depth, headers_within, is_well_formed_within, rendered, shown_header, stands_for};
 ghost use Rattle.mail_laws.specs.StarFree.{AreStarFree};
 ghost use Rattle.mailparse.specs.Value.{IsPlain, Token, lenient_value, newline, shown_tokens, strict_value, lenient_value_in, whitespace_token};
 ghost use Rattle.mail_codec.specs.Places.{begins, least, values_below};
@@ -88,9 +88,10 @@ pub fn tokens_make_up_line()
         → flat_map (token_source line) (token_ranges known line) ≡ line }
 {}
 
-/// Between two adjacent decoded words neither whitespace nor the end of a line ever shows: a value
-/// shows what it would show if the second word stood directly after the first. (Whitespace at the
-/// start of a line is not part of it, so the token before a word there is empty.)
+/// Between two decoded words with only whitespace between them, or whitespace and one line end,
+/// nothing shows: a value shows what it would show if the second word stood directly after the
+/// first. (Whitespace at the start of a line is not part of it, so the token before a word there is
+/// empty. Each further line end shows as a space.)
 pub fn adjacent_words_join()
     ensures whitespace_between { (before rest : List Token) (first gap second : List ℕ) →
         shown_tokens (before ++ word first ∷ whitespace_token gap ∷ word second ∷ rest)
@@ -164,8 +165,8 @@ pub fn ranges_apart()
 {}
 
 /// The headers of a message and of all its parts, the bytes of all their bodies, and three for each
-/// part are together at most the bytes of the message, so that no byte serves two of them: whatever
-/// charsets are known, and under every limit on levels.
+/// part are together at most the bytes of the message, whatever charsets are known and under every
+/// limit on levels.
 pub fn nodes_bounded()
     ensures { (known : Charsets) (greatest : ℕ) (bytes : List ℕ) (mail : Tree) →
         read_mail_in known greatest bytes ≡ Ok mail → IsBounded mail (length bytes) }
@@ -340,15 +341,17 @@ pub fn percent_free()
 /// its label, as those with the tables of a caller do. Two such outlines that are written as the
 /// same bytes are the same.
 pub fn outline_reads_back()
-    ensures read { (known : Charsets) (greatest : ℕ) (outline : OutlineTree) → Show known outline →
-        is_well_formed_within outline ≡ true → depth outline ≤ greatest →
+    ensures read { (known : Charsets) (greatest : ℕ) (outline : OutlineTree) →
+        KnowItsWords known outline → is_well_formed_within outline ≡ true →
+        depth outline ≤ greatest →
         read_mail_in known greatest (rendered outline) ≡ Ok (stands_for known outline) }
-    ensures refused { (known : Charsets) (greatest : ℕ) (outline : OutlineTree) → Show known outline →
-        is_well_formed_within outline ≡ true → greatest < depth outline →
+    ensures refused { (known : Charsets) (greatest : ℕ) (outline : OutlineTree) →
+        KnowItsWords known outline → is_well_formed_within outline ≡ true →
+        greatest < depth outline →
         read_mail_in known greatest (rendered outline) ≡ Err recursion_limit }
     ensures mail { (outline : OutlineTree) → IsWellFormed outline →
         read_mail (rendered outline) ≡ Ok (stands_for four_charsets outline) }
-    ensures shown { (known : Charsets) (outline : OutlineTree) → Show known outline →
+    ensures shown { (known : Charsets) (outline : OutlineTree) → KnowItsWords known outline →
         is_well_formed_within outline ≡ true →
         map (λ (n : Node). map (shown_header known) n.headers) (nodes (stands_for known outline))
         ≡ headers_within outline }

@@ -18,7 +18,7 @@ use Rattle.mailparse.specs.Delimiters.{Cut, cut_parts}
 use Rattle.mailparse.specs.Mail.{Node, Tree, tree, Forest, no_parts, part_and, root, parts_of, nodes, trees_in, trees_within, is_digest, cut_of, node_with, read_each, read_parts, node_type, read_levels, read_mail_in, read_mail}
 use Rattle.mail_laws.specs.Boundaries.{boundary_type}
 use Rattle.mail_laws.specs.Encode.{KnowUtf8}
-use Rattle.mail_laws.specs.Render.{OutlineTree, OutlineForest, leaf, branch, no_outlines, outline_and, header_block, dash_boundary, rendered, rendered_parts, is_key, has_keys, has_texts, type_header, names_its_boundary, has_plain_boundary, is_not_multipart, has_some_part, holds_delimiter, hold_no_delimiter, has_clear_parts, depth, depth_of_parts, is_well_formed_here, is_well_formed_within, are_well_formed_within, type_of, node_of, stands_for, stand_for, is_within_levels, IsWellFormed, written_headers, has_plain_values, is_plain_within, are_plain_within, Show, shown_header, headers_within, headers_in}
+use Rattle.mail_laws.specs.Render.{OutlineTree, OutlineForest, leaf, branch, no_outlines, outline_and, header_block, dash_boundary, rendered, rendered_parts, is_key, has_keys, has_texts, type_header, names_its_boundary, has_plain_boundary, is_not_multipart, has_some_part, holds_delimiter, hold_no_delimiter, has_clear_parts, depth, depth_of_parts, is_well_formed_here, is_well_formed_within, are_well_formed_within, type_of, node_of, stands_for, stand_for, is_within_levels, IsWellFormed, written_headers, has_plain_values, is_plain_within, are_plain_within, KnowItsWords, shown_header, headers_within, headers_in}
 use Rattle.mail_laws.proofs.lemmas.RenderHeaders.{from_not, list_all-weaker, read_headers-written}
 use Rattle.mail_laws.proofs.lemmas.RenderValues.{AreShown, headers_again, same_headers, written_are_shown, written_are_values, written_keys}
 use Rattle.mail_laws.proofs.lemmas.RenderParts.{no_return, stands-nowhere, written, IsClear, AreClear, body-written, parts-written}
@@ -180,36 +180,36 @@ module _ (known : Charsets) where
       formed.keys formed.values shown formed.names (and_parts (list_all is_ascii_alphanumeric boundary) (not (is_empty boundary)) formed.plain).0
       (AreClear-from boundary (outline_and part parts) formed.clear) (rendered_parts-written boundary (outline_and part parts))
 
-  -- ---- the charsets show the values of outlines with their parts
+  -- ---- the charsets know the words of outlines with their parts
 
-  abbrev ShowParts : OutlineForest → Type 0
-  ShowParts parts = KnowUtf8 known ⊎ (are_plain_within parts ≡ true)
+  abbrev KnowTheirWords : OutlineForest → Type 0
+  KnowTheirWords parts = KnowUtf8 known ⊎ (are_plain_within parts ≡ true)
 
-  shown-leaf : (headers : List Header) (body : List ℕ) → Show known (leaf headers body) → IsFormed (leaf headers body) → AreShown known headers
+  shown-leaf : (headers : List Header) (body : List ℕ) → KnowItsWords known (leaf headers body) → IsFormed (leaf headers body) → AreShown known headers
   shown-leaf headers body able formed = written_are_shown known headers able formed.values
 
-  shown-branch : (headers : List Header) (boundary : List ℕ) (parts : OutlineForest) → Show known (branch headers boundary parts)
+  shown-branch : (headers : List Header) (boundary : List ℕ) (parts : OutlineForest) → KnowItsWords known (branch headers boundary parts)
       → IsFormed (branch headers boundary parts) → AreShown known headers
   shown-branch headers boundary parts (inl knows) formed = written_are_shown known headers (inl knows) formed.values
   shown-branch headers boundary parts (inr plain) formed =
       written_are_shown known headers (inr (and_parts (has_plain_values (branch headers boundary parts)) (are_plain_within parts) plain).0) formed.values
 
-  shown-parts : (headers : List Header) (boundary : List ℕ) (parts : OutlineForest) → Show known (branch headers boundary parts) → ShowParts parts
+  shown-parts : (headers : List Header) (boundary : List ℕ) (parts : OutlineForest) → KnowItsWords known (branch headers boundary parts) → KnowTheirWords parts
   shown-parts headers boundary parts (inl knows) = inl knows
   shown-parts headers boundary parts (inr plain) = inr (and_parts (has_plain_values (branch headers boundary parts)) (are_plain_within parts) plain).1
 
-  shown-first : (part : OutlineTree) (parts : OutlineForest) → ShowParts (outline_and part parts) → Show known part
+  shown-first : (part : OutlineTree) (parts : OutlineForest) → KnowTheirWords (outline_and part parts) → KnowItsWords known part
   shown-first part parts (inl knows) = inl knows
   shown-first part parts (inr plain) = inr (and_parts (is_plain_within part) (are_plain_within parts) plain).0
 
-  shown-others : (part : OutlineTree) (parts : OutlineForest) → ShowParts (outline_and part parts) → ShowParts parts
+  shown-others : (part : OutlineTree) (parts : OutlineForest) → KnowTheirWords (outline_and part parts) → KnowTheirWords parts
   shown-others part parts (inl knows) = inl knows
   shown-others part parts (inr plain) = inr (and_parts (is_plain_within part) (are_plain_within parts) plain).1
 
   -- ---- outlines with their parts
 
   mutual
-    reads : (outline : OutlineTree) (n : ℕ) → Show known outline → is_well_formed_within outline ≡ true → depth outline ≤ n
+    reads : (outline : OutlineTree) (n : ℕ) → KnowItsWords known outline → is_well_formed_within outline ≡ true → depth outline ≤ n
         → read_levels known (suc n) false (rendered outline) ≡ Ok (stands_for known outline)
     reads (leaf headers body) n able formed within =
         let is = IsFormed-from (leaf headers body) formed in
@@ -221,7 +221,7 @@ module _ (known : Charsets) where
         ∙ ap (λ (r : Reads Forest). ◌>>=◌ r (λ found. Ok (tree (node_of known (rendered (branch headers boundary parts)) headers []) found)))
         (reads_parts parts n (shown-parts headers boundary parts able) both.1 within)
 
-    reads_parts : (parts : OutlineForest) (n : ℕ) → ShowParts parts → are_well_formed_within parts ≡ true → depth_of_parts parts ≤ n
+    reads_parts : (parts : OutlineForest) (n : ℕ) → KnowTheirWords parts → are_well_formed_within parts ≡ true → depth_of_parts parts ≤ n
         → read_each (read_levels known n false) (renderings parts) ≡ Ok (stand_for known parts)
     reads_parts no_outlines n able formed within = refl
     reads_parts (outline_and part parts) zero able formed within = absurd (omega (arith, within))
@@ -231,7 +231,7 @@ module _ (known : Charsets) where
         (reads part n (shown-first part parts able) both.0 (omega (arith, within))) (reads_parts parts (suc n) (shown-others part parts able) both.1 (omega (arith, within)))
 
   mutual
-    refuses : (outline : OutlineTree) (n : ℕ) → Show known outline → is_well_formed_within outline ≡ true → n < depth outline
+    refuses : (outline : OutlineTree) (n : ℕ) → KnowItsWords known outline → is_well_formed_within outline ≡ true → n < depth outline
         → read_levels known (suc n) false (rendered outline) ≡ Err recursion_limit
     refuses (leaf headers body) n able formed deep = absurd (omega (arith, deep))
     refuses (branch headers boundary parts) n able formed deep =
@@ -241,7 +241,7 @@ module _ (known : Charsets) where
         ∙ ap (λ (r : Reads Forest). ◌>>=◌ r (λ found. Ok (tree (node_of known (rendered (branch headers boundary parts)) headers []) found)))
         (refuses_parts parts n (shown-parts headers boundary parts able) both.1 deep)
 
-    refuses_parts : (parts : OutlineForest) (n : ℕ) → ShowParts parts → are_well_formed_within parts ≡ true → n < depth_of_parts parts
+    refuses_parts : (parts : OutlineForest) (n : ℕ) → KnowTheirWords parts → are_well_formed_within parts ≡ true → n < depth_of_parts parts
         → read_each (read_levels known n false) (renderings parts) ≡ Err recursion_limit
     refuses_parts no_outlines n able formed deep = absurd (omega (arith, deep))
     refuses_parts (outline_and part parts) zero able formed deep =
@@ -254,13 +254,13 @@ module _ (known : Charsets) where
         (cases_lt n (depth part))
 
   -- an outline no deeper than the limit is read
-  pub outline_is_read : (greatest : ℕ) (outline : OutlineTree) → Show known outline → is_well_formed_within outline ≡ true → depth outline ≤ greatest
+  pub outline_is_read : (greatest : ℕ) (outline : OutlineTree) → KnowItsWords known outline → is_well_formed_within outline ≡ true → depth outline ≤ greatest
       → read_mail_in known greatest (rendered outline) ≡ Ok (stands_for known outline)
   unfolding read_mail_in
   outline_is_read greatest outline able formed within = reads outline greatest able formed within
 
   -- and a deeper one is refused for the limit
-  pub outline_is_refused : (greatest : ℕ) (outline : OutlineTree) → Show known outline → is_well_formed_within outline ≡ true → greatest < depth outline
+  pub outline_is_refused : (greatest : ℕ) (outline : OutlineTree) → KnowItsWords known outline → is_well_formed_within outline ≡ true → greatest < depth outline
       → read_mail_in known greatest (rendered outline) ≡ Err recursion_limit
   unfolding read_mail_in
   outline_is_refused greatest outline able formed deep = refuses outline greatest able formed deep
@@ -353,7 +353,7 @@ shown_headers known node = map (shown_header known) node.headers
 
 module _ (known : Charsets) where
   mutual
-    pub headers_show : (outline : OutlineTree) → Show known outline → is_well_formed_within outline ≡ true
+    pub headers_show : (outline : OutlineTree) → KnowItsWords known outline → is_well_formed_within outline ≡ true
         → map (shown_headers known) (nodes (stands_for known outline)) ≡ headers_within outline
     headers_show (leaf headers body) able formed =
         ap (λ (hs : List Header). hs ∷ []) (headers_again known headers (shown-leaf known headers body able (IsFormed-from (leaf headers body) formed)))
@@ -363,7 +363,7 @@ module _ (known : Charsets) where
         (headers_again known headers (shown-branch known headers boundary parts able (IsFormed-from (branch headers boundary parts) both.0)))
         ∙ ap (λ (rest : List (List Header)). headers ∷ rest) (headers_of_parts_show parts (shown-parts known headers boundary parts able) both.1)
 
-    headers_of_parts_show : (parts : OutlineForest) → ShowParts known parts → are_well_formed_within parts ≡ true
+    headers_of_parts_show : (parts : OutlineForest) → KnowTheirWords known parts → are_well_formed_within parts ≡ true
         → map (shown_headers known) (map root (trees_in (stand_for known parts))) ≡ headers_in parts
     headers_of_parts_show no_outlines able formed = refl
     headers_of_parts_show (outline_and part parts) able formed =

@@ -1,4 +1,4 @@
--- Lemmas on what shows between two adjacent decoded words.
+-- Lemmas on what shows between two decoded words.
 use Rattle.std.proofs.Common.{◌≡◌, ℕ, cond, not, ◌||◌, List, [], ◌∷◌, ◌++◌, Option, Some, None, refl, sym, ap, ◌∙◌}
 use Rattle.mailparse.specs.Tokens.{TokenKind, plain_text, whitespace, line_end, decoded_word}
 use Rattle.mailparse.specs.Value.{Token, is_released, is_held, kinds, newline, shown_after, shown_tokens, shows, whitespace_token}
