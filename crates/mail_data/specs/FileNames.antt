@@ -1,10 +1,10 @@
 -- Names of files that are safe in any folder; the crate's own rule. A text is the list of its bytes in UTF-8.
-use Rattle.std.specs.Prelude.{◌≡◌, ◌≢◌, ℕ, ◌-◌, ◌≤◌, Bool, true, not, ◌||◌, ◌==◌, nat_le, List, [], ◌∷◌, length, map, chars, encode_utf8_all, codes, if◌then◌else◌}
-use Rattle.std.specs.Char.{is_control, len_utf8}
+use Rattle.std.specs.Prelude.{◌≡◌, ◌≢◌, ℕ, suc, ◌≤◌, Bool, true, not, ◌||◌, ◌==◌, nat_lt, List, [], length, take, map, chars, encode_utf8_all, codes, if◌then◌else◌}
+use Rattle.std.specs.Char.{is_control}
 use Rattle.std.specs.List.{list_all}
 use Rattle.std.specs.Str.{bytes_eq}
 use Rattle.mail_codec.specs.Ascii.{backslash, underscore}
-use Rattle.mail_codec.specs.Places.{is_empty}
+use Rattle.mail_codec.specs.Places.{is_empty, least}
 
 -- `/`
 abbrev pub slash : ℕ
@@ -30,14 +30,15 @@ pub record IsSafeName (name : List ℕ) : Type 0 where
 abbrev pub made_safe : ℕ → ℕ
 made_safe c = if is_unsafe c then underscore else c
 
--- the most characters from the front that take no more than so many bytes
-abbrev pub front_within : ℕ → List ℕ → List ℕ
-front_within room [] = []
-front_within room (c ∷ cs) = if nat_le (len_utf8 c) room then c ∷ front_within (room - len_utf8 c) cs else []
+-- how many characters from the front have at most 255 bytes: the least number for which one more has more, or all of them
+abbrev pub front_length : List ℕ → ℕ
+front_length cs = least (λ n. nat_lt 255 (length (encode_utf8_all (take (suc n) cs)))) (length cs)
 
--- the characters made safe, as many from the front as 255 bytes hold
+-- the characters made safe, as many from the front as have at most 255 bytes
 unfoldable pub front_name : List ℕ → List ℕ
-front_name name = encode_utf8_all (front_within 255 (map made_safe (chars name)))
+front_name name =
+    let safe = map made_safe (chars name) in
+    encode_utf8_all (take (front_length safe) safe)
 
 -- the name made safe: that, or `_` where it is no name of a file
 unfoldable pub safe_name : List ℕ → List ℕ

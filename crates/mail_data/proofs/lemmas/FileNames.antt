@@ -1,24 +1,75 @@
 -- Lemmas on safe names of files.
-use Rattle.std.proofs.Common.{◌≡◌, ◌≢◌, ℕ, ◌+◌, ◌-◌, ◌<◌, ◌≤◌, Bool, true, false, not, List, [], ◌∷◌, ◌++◌, ◌||◌, length, get_or, map, refl, sym, ap, ◌∙◌, subst, arith, append_assoc, length-append, inl, inr}
-use Rattle.std.specs.Prelude.{nat_le, codes}
+use Rattle.std.proofs.Common.{◌≡◌, ◌≢◌, ℕ, zero, suc, ◌+◌, ◌-◌, ◌<◌, ◌≤◌, Bool, true, false, not, List, [], ◌∷◌, ◌++◌, ◌||◌, length, take, get_or, map, if◌then◌else◌, refl, sym, ap, ◌∙◌, subst, arith, append_assoc, length-append, inl, inr}
+use Rattle.std.specs.Prelude.{nat_le, nat_lt, codes}
 use Rattle.std.specs.Char.{encode_utf8, len_utf8}
 use Rattle.std.specs.List.{list_all}
 use Rattle.std.specs.Str.{chars, encode_utf8_all, IsUtf8, bytes_eq}
-use Rattle.std.proofs.lemmas.Bool.{cond-true, cond-false, cases_Bool, le-leb, lt-leb, leb-true, and_parts, and_from, or_parts, or_cases, false≢true}
+use Rattle.std.proofs.lemmas.Bool.{cond-true, cond-false, cases_Bool, le-leb, lt-leb, leb-true, leb-false, le-ltb, lt-ltb, ltb-true, ltb-false, and_parts, and_from, or_parts, or_cases, false≢true}
 use Rattle.std.proofs.lemmas.List.{append-nil}
 use Rattle.std.proofs.lemmas.Slice.Eq.{bytes_eq-Decides}
 use Rattle.std.proofs.lemmas.Str.{chars-nil, chars-encodes, chars_past_char, encodes-chars, scalars-chars, length-encode}
 use lib.Utf8.{scalar, scalars}
-use Rattle.mail_codec.specs.Places.{is_empty}
-use Rattle.mail_data.specs.FileNames.{front_name, front_within, is_reserved, is_unsafe, made_safe, safe_name, IsSafeName}
+use Rattle.mail_codec.specs.Places.{is_empty, least}
+use Rattle.mail_data.specs.FileNames.{front_name, is_reserved, is_unsafe, made_safe, safe_name, IsSafeName}
+
+-- ---- as many characters as fit, one after another
+
+-- the characters from the front that fit in so many bytes
+abbrev front_within : ℕ → List ℕ → List ℕ
+front_within room [] = []
+front_within room (c ∷ cs) = if nat_le (len_utf8 c) room then c ∷ front_within (room - len_utf8 c) cs else []
+
+-- how many these are: the least number for which one more does not fit, or all of them
+abbrev fitting : ℕ → List ℕ → ℕ
+fitting room cs = least (λ n. nat_lt room (length (encode_utf8_all (take (suc n) cs)))) (length cs)
+
+-- tests that agree pass first at the same number
+least-agrees : (f g : ℕ → Bool) → ((n : ℕ) → f n ≡ g n) → (bound : ℕ) → least f bound ≡ least g bound
+least-agrees f g same zero = refl
+least-agrees f g same (suc bound) =
+    ap (λ (b : Bool). if b then 0 else suc (least (λ n. f (suc n)) bound)) (same 0)
+    ∙ ap (λ (n : ℕ). if g 0 then 0 else suc n) (least-agrees (λ n. f (suc n)) (λ n. g (suc n)) (λ n. same (suc n)) bound)
+
+-- what does not fit beside a character does not fit in what is left after it
+more_than_left : (room width all rest : ℕ) → width ≤ room → all ≡ width + rest → nat_lt room all ≡ nat_lt (room - width) rest
+more_than_left room width all rest fits sum = elim (cases_Bool (nat_lt (room - width) rest)) [
+  | inl more ↦ let big = ltb-true (room - width) rest more in lt-ltb room all (omega (arith, big, fits, sum)) ∙ sym more
+  | inr none ↦ let small = ltb-false (room - width) rest none in le-ltb room all (omega (arith, small, fits, sum)) ∙ sym none
+]
+
+front_within-takes : (room : ℕ) (cs : List ℕ) → front_within room cs ≡ take (fitting room cs) cs
+front_within-takes room [] = refl
+front_within-takes room (c ∷ cs) =
+    let width = len_utf8 c in
+    let len : (n : ℕ) → length (encode_utf8_all (c ∷ take n cs)) ≡ width + length (encode_utf8_all (take n cs)) =
+    λ n. length-append (encode_utf8 c) (encode_utf8_all (take n cs)) ∙ ap (λ k. k + length (encode_utf8_all (take n cs))) (length-encode c) in
+    elim (cases_Bool (nat_le width room)) [
+      | inl f ↦
+          let fits = leb-true width room f in
+          let first = le-ltb room (length (encode_utf8_all (c ∷ take 0 cs))) (omega (arith, fits, len 0)) in
+          let step : fitting room (c ∷ cs) ≡ suc (fitting (room - width) cs) =
+          cond-false (nat_lt room (length (encode_utf8_all (c ∷ take 0 cs)))) 0 _ first
+          ∙ ap suc (least-agrees (λ n. nat_lt room (length (encode_utf8_all (c ∷ take (suc n) cs)))) (λ n. nat_lt (room - width) (length (encode_utf8_all (take (suc n) cs))))
+          (λ n. more_than_left room width _ _ fits (len (suc n))) (length cs)) in
+          cond-true (nat_le width room) _ _ f ∙ ap (λ (ds : List ℕ). c ∷ ds) (front_within-takes (room - width) cs)
+          ∙ ap (λ (n : ℕ). take n (c ∷ cs)) (sym step)
+      | inr n ↦
+          let big = leb-false width room n in
+          let first = lt-ltb room (length (encode_utf8_all (c ∷ take 0 cs))) (omega (arith, big, len 0)) in
+          cond-false (nat_le width room) _ _ n
+          ∙ ap (λ (k : ℕ). take k (c ∷ cs)) (sym (cond-true (nat_lt room (length (encode_utf8_all (c ∷ take 0 cs)))) 0 _ first))
+    ]
+
+front_name-within : (name : List ℕ) → front_name name ≡ encode_utf8_all (front_within 255 (map made_safe (chars name)))
+unfolding front_name
+front_name-within name = ap encode_utf8_all (sym (front_within-takes 255 (map made_safe (chars name))))
 
 -- what was written, and then what still fits of the rest
 abbrev pub filled : List ℕ → List ℕ → List ℕ
 filled out rest = out ++ encode_utf8_all (front_within (255 - length out) (map made_safe (chars rest)))
 
 pub filled-start : (name out rest : List ℕ) → out ≡ [] → rest ≡ name → filled out rest ≡ front_name name
-unfolding front_name
-filled-start name out rest none all = ap (λ (o : List ℕ). filled o rest) none ∙ ap (filled []) all
+filled-start name out rest none all = ap (λ (o : List ℕ). filled o rest) none ∙ ap (filled []) all ∙ sym (front_name-within name)
 
 pub filled-end : (out rest : List ℕ) → rest ≡ [] → filled out rest ≡ out
 filled-end out rest none = ap (filled out) none ∙ ap (λ (cs : List ℕ). out ++ encode_utf8_all (front_within (255 - length out) (map made_safe cs))) chars-nil ∙ append-nil out
@@ -134,14 +185,17 @@ single = record {
 }
 
 front_name-safe : (name : List ℕ) → IsUtf8 name → list_all (λ c. not (is_unsafe c)) (chars (front_name name)) ≡ true
-unfolding front_name all_safe
+unfolding all_safe
 front_name-safe name utf8 =
-    ap all_safe (chars-encodes (front_within 255 (map made_safe (chars name))) (front_within-scalars 255 (chars name) (scalars-chars name utf8)))
+    ap (λ (safe : List ℕ). all_safe (chars safe)) (front_name-within name)
+    ∙ ap all_safe (chars-encodes (front_within 255 (map made_safe (chars name))) (front_within-scalars 255 (chars name) (scalars-chars name utf8)))
     ∙ front_within-safe 255 (chars name)
 
 front_name-short : (name : List ℕ) → length (front_name name) ≤ 255
-unfolding front_name
-front_name-short name = front_within-short 255 (map made_safe (chars name))
+front_name-short name =
+    let same = ap length (front_name-within name) in
+    let short = front_within-short 255 (map made_safe (chars name)) in
+    omega (arith, same, short)
 
 not_reserved : (name : List ℕ) → is_reserved name ≡ false → (name ≢ []) × (name ≢ codes ".") × (name ≢ codes "..")
 not_reserved name h =
@@ -166,11 +220,12 @@ safe_name-safe name utf8 = elim (cases_Bool (is_reserved (front_name name))) [
 ]
 
 front_name-same : (name : List ℕ) → IsUtf8 name → IsSafeName name → front_name name ≡ name
-unfolding front_name all_safe
+unfolding all_safe
 front_name-same name utf8 h =
     let short = h.short in
     let len = ap length (encodes-chars name utf8) in
-    ap (λ (cs : List ℕ). encode_utf8_all (front_within 255 cs)) (made_safe-same (chars name) h.characters)
+    front_name-within name
+    ∙ ap (λ (cs : List ℕ). encode_utf8_all (front_within 255 cs)) (made_safe-same (chars name) h.characters)
     ∙ ap encode_utf8_all (front_within-all 255 (chars name) (omega arith)) ∙ encodes-chars name utf8
 
 bytes_eq-true : (a b : List ℕ) → bytes_eq a b ≡ true → a ≡ b
