@@ -1,4 +1,4 @@
-//! The recipients of reports on delivery. The first four statuses are the examples of RFC 3464,
+//! The recipients of delivery reports. The first four statuses are the examples of RFC 3464,
 //! appendix E; what is expected is what Python's `email` gives, where no comment says otherwise.
 use crate::texts::{Case, assert_texts, cases};
 use mail_data::bounce::recipients;

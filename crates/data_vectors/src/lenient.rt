@@ -1,6 +1,6 @@
 //! Readings that take what can be taken. The bytes are those that RFC 4648 gives to the groups.
 use crate::texts::{Case, assert_texts, cases};
-use mail_data::lenient::{base64_front, ids_in, loose_body};
+use mail_data::lenient::{base64_front, ids_in, lenient_body};
 use mailparse::body::Body;
 use mailparse::{MailParseError, parse_mail};
 use std::alloc::{AllocError, Global};
@@ -79,7 +79,7 @@ fn encoding_of(alloc: Global, value: &[u8]) -> Result<String, MailParseError> {
     raw.extend_from_slice(value)?;
     raw.extend_from_slice(b"\n\naGk=")?;
     let mail = parse_mail(alloc, raw.as_slice())?;
-    let name = match loose_body(alloc, &mail)? {
+    let name = match lenient_body(alloc, &mail)? {
         Body::Base64(_) => "base64",
         Body::QuotedPrintable(_) => "quoted-printable",
         Body::SevenBit(_) => "7bit",

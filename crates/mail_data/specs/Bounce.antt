@@ -1,4 +1,4 @@
--- The recipients of a report on delivery (RFC 3464, sections 2.1 to 2.3): the fields that its part
+-- The recipients of a delivery status notification (RFC 3464, sections 2.1 to 2.3): the fields that its part
 -- `message/delivery-status` has on each of them.
 use Rattle.std.specs.Prelude.{ℕ, zero, suc, Bool, not, ◌==◌, List, [], ◌∷◌, length, take, drop, map, filter, Option, Some, None, option_map, Result, Ok, Err, codes, if◌then◌else◌}
 use Rattle.std.specs.List.{list_any, after_first}

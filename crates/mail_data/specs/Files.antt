@@ -19,7 +19,7 @@ filled (Some text) = if is_empty text then None else Some text
 
 -- the name of a file that a disposition or else a type has: the one's `filename`, otherwise the other's `name`; an empty one counts as none
 abbrev pub name_in : Disposition → ContentType → Option (List ℕ)
-name_in shown ctype = first_text (filled (shown.params (codes "filename"))) (filled (ctype.params (codes "name")))
+name_in disposition ctype = first_text (filled (disposition.params (codes "filename"))) (filled (ctype.params (codes "name")))
 
 -- the disposition is `attachment`
 abbrev pub is_kept_apart : Kind → Bool
@@ -33,7 +33,7 @@ is_leaf (tree node (part_and t ts)) = false
 
 -- a disposition and a type are those of a file: the disposition is `attachment`, or there is a file name
 abbrev pub are_of_file : Disposition → ContentType → Bool
-are_of_file shown ctype = is_kept_apart shown.kind || is_some (name_in shown ctype)
+are_of_file disposition ctype = is_kept_apart disposition.kind || is_some (name_in disposition ctype)
 
 -- the path of the part with this number, by the path of the message that it is a part of: the numbers from the outside on, a dot between two
 unfoldable pub path_under : List ℕ → ℕ → List ℕ

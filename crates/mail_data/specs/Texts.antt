@@ -13,16 +13,16 @@ first_tree None other = other
 -- Under the charsets that are known.
 module _ (known : Charsets) where
   -- a part has this type and is no file
-  unfoldable pub is_shown : List ℕ → Tree → Bool
-  is_shown mimetype t = bytes_eq (root t).ctype.mimetype mimetype && not (is_attachment_in known t)
+  unfoldable pub is_text_of_type : List ℕ → Tree → Bool
+  is_text_of_type mimetype t = bytes_eq (root t).ctype.mimetype mimetype && not (is_attachment_in known t)
 
   -- the first part of a mail that has this type and is no file; the mail itself comes first, and each part before its own parts
-  unfoldable pub first_shown : List ℕ → Tree → Option Tree
-  first_shown mimetype t = find (is_shown mimetype) (trees_within t)
+  unfoldable pub first_text_of_type : List ℕ → Tree → Option Tree
+  first_text_of_type mimetype t = find (is_text_of_type mimetype) (trees_within t)
 
   -- the part that is to be read: the first `text/plain` that is no file, otherwise the first `text/html`
   unfoldable pub text_part_in : Tree → Option Tree
-  text_part_in t = first_tree (first_shown (codes "text/plain") t) (first_shown (codes "text/html") t)
+  text_part_in t = first_tree (first_text_of_type (codes "text/plain") t) (first_text_of_type (codes "text/html") t)
 
 -- the same under the four charsets
 abbrev pub text_part : Tree → Option Tree

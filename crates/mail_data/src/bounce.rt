@@ -1,4 +1,4 @@
-//! The recipients of a report on delivery.
+//! The recipients that a delivery status notification (RFC 3464), or delivery report, names.
 ghost use Rattle.std.specs.Prelude.{◌≡◌, ◌≤◌, codes, drop, length, map, IfErr, IfOk, Ok};
 ghost use Rattle.mailparse.specs.Map.{text_found};
 ghost use Rattle.mailparse.specs.Outcome.{AnswersOrMemory, IsMemory};

@@ -5,7 +5,8 @@ ghost use Rattle.mailparse.specs.Mail.{root};
 ghost use Rattle.mailparse.specs.Map.{text_found};
 ghost use Rattle.mailparse.specs.Outcome.{AnswersOrMemory, IsMemory};
 ghost use Rattle.mailparse.specs.Pairs.{text_at};
-ghost use Rattle.mailparse.specs.Views.{content_type, disposition, kind, tree_of};
+ghost use Rattle.mailparse.specs.Views as views;
+ghost use Rattle.mailparse.specs.Views.{content_type, kind, tree_of};
 ghost use Rattle.mail_data.specs.Files.{are_of_file, attachments, attachments_in, attachments_under};
 ghost use Rattle.mail_data.specs.Files.{file_name, file_name_in, files_among, filled};
 ghost use Rattle.mail_data.specs.Files.{is_attachment, is_attachment_in};
@@ -29,7 +30,7 @@ pub struct Attachment<'m, 'a> {
     /// the first part of the second part, and `1` the body of a mail without parts.
     pub path: String,
     /// The part: `get_body_raw` returns the bytes of the file. Where its Base64 is damaged or the
-    /// name of its transfer encoding has a comment, `lenient::loose_body` and `base64_front` read
+    /// name of its transfer encoding has a comment, `lenient::lenient_body` and `base64_front` read
     /// it.
     pub part: &'m ParsedMail<'a>,
 }
@@ -92,8 +93,8 @@ pub fn file_name_with(
     ensures { AnswersOrMemory text_found result
         (Ok (file_name_in (charsets_with tables.now) (root (tree_of part.now)))) }
 {
-    let shown = part.get_content_disposition_with(alloc, tables)?;
-    match named_file(&shown, &part.ctype) {
+    let disposition = part.get_content_disposition_with(alloc, tables)?;
+    match named_file(&disposition, &part.ctype) {
         Some(name) => Ok(Some(String::from_str(alloc, name)?)),
         None => Ok(None),
     }
@@ -101,13 +102,13 @@ pub fn file_name_with(
 
 /// The name of a file that a disposition or else a type has; an empty one counts as none.
 fn named_file<'n>(
-    shown: &'n ParsedContentDisposition,
+    disposition: &'n ParsedContentDisposition,
     ctype: &'n ParsedContentType,
 ) -> Option<&'n str>
     ensures { option_map (λ name. name.now) result
-        ≡ name_in (disposition shown.now) (content_type ctype.now) }
+        ≡ name_in (views.disposition disposition.now) (content_type ctype.now) }
 {
-    match filled_parameter(&shown.params, "filename") {
+    match filled_parameter(&disposition.params, "filename") {
         Some(name) => Some(name),
         None => filled_parameter(&ctype.params, "name"),
     }
@@ -194,8 +195,8 @@ pub fn is_attachment_with(
     if !is_leaf(part) {
         return Ok(false);
     }
-    let shown = part.get_content_disposition_with(alloc, tables)?;
-    Ok(are_of_file(&shown, &part.ctype))
+    let disposition = part.get_content_disposition_with(alloc, tables)?;
+    Ok(are_of_file(&disposition, &part.ctype))
 }
 
 /// Whether a message has no parts.
@@ -206,17 +207,17 @@ fn is_leaf(part: &ParsedMail<'_>) -> bool
 }
 
 /// Whether a disposition and a type are those of a file.
-fn are_of_file(shown: &ParsedContentDisposition, ctype: &ParsedContentType) -> bool
-    ensures { result ≡ are_of_file (disposition shown.now) (content_type ctype.now) }
+fn are_of_file(disposition: &ParsedContentDisposition, ctype: &ParsedContentType) -> bool
+    ensures { result ≡ are_of_file (views.disposition disposition.now) (content_type ctype.now) }
 {
-    is_kept_apart(&shown.disposition) || named_file(shown, ctype).is_some()
+    is_kept_apart(&disposition.disposition) || named_file(disposition, ctype).is_some()
 }
 
 /// Whether a disposition is `attachment`.
-fn is_kept_apart(shown: &DispositionType) -> bool
-    ensures { result ≡ is_kept_apart (kind shown.now) }
+fn is_kept_apart(disposition: &DispositionType) -> bool
+    ensures { result ≡ is_kept_apart (kind disposition.now) }
 {
-    match shown {
+    match disposition {
         DispositionType::Attachment => true,
         _ => false,
     }

@@ -6,5 +6,5 @@ mod ids;
 
 pub use base64::{Base64Front, base64_front};
 pub use date::{DateError, date_of};
-pub use encoding::loose_body;
+pub use encoding::lenient_body;
 pub use ids::ids_in;

@@ -3,7 +3,7 @@ ghost use Rattle.std.specs.Prelude.{◌≡◌, Ok};
 ghost use Rattle.mail_codec.specs.Tables.{charsets_with};
 ghost use Rattle.mailparse.specs.Outcome.{AnswersOrMemory};
 ghost use Rattle.mailparse.specs.Views.{tree_of};
-ghost use Rattle.mail_data.specs.Texts.{first_shown, is_shown, text_part, text_part_in};
+ghost use Rattle.mail_data.specs.Texts.{first_text_of_type, is_text_of_type, text_part, text_part_in};
 ghost use Rattle.mail_data.specs.TextViews.{tree_found};
 
 use crate::files::is_attachment_with;
@@ -76,26 +76,26 @@ pub fn text_part_with<'m, 'a>(
     ensures { AnswersOrMemory tree_found result
         (Ok (text_part_in (charsets_with tables.now) (tree_of mail.now))) }
 {
-    if let Some(part) = first_shown(alloc, mail, "text/plain", tables)? {
+    if let Some(part) = first_text_of_type(alloc, mail, "text/plain", tables)? {
         return Ok(Some(part));
     }
-    let part = first_shown(alloc, mail, "text/html", tables)?;
+    let part = first_text_of_type(alloc, mail, "text/html", tables)?;
     Ok(part)
 }
 
 /// The first part that has this type and is no file.
-#[tactic(auto, unfolding(crate::specs::Texts::first_shown))]
-fn first_shown<'m, 'a>(
+#[tactic(auto, unfolding(crate::specs::Texts::first_text_of_type))]
+fn first_text_of_type<'m, 'a>(
     alloc: Global,
     mail: &'m ParsedMail<'a>,
     mimetype: &str,
     tables: &[SingleByteTable<'_>],
 ) -> Result<Option<&'m ParsedMail<'a>>, MailParseError>
     ensures { AnswersOrMemory tree_found result
-        (Ok (first_shown (charsets_with tables.now) mimetype.now (tree_of mail.now))) }
+        (Ok (first_text_of_type (charsets_with tables.now) mimetype.now (tree_of mail.now))) }
 {
     for part in mail.parts(alloc)? {
-        if is_shown(alloc, part, mimetype, tables)? {
+        if is_text_of_type(alloc, part, mimetype, tables)? {
             return Ok(Some(part));
         }
     }
@@ -103,15 +103,15 @@ fn first_shown<'m, 'a>(
 }
 
 /// Whether a part has this type and is no file.
-#[tactic(auto, unfolding(crate::specs::Texts::is_shown))]
-fn is_shown(
+#[tactic(auto, unfolding(crate::specs::Texts::is_text_of_type))]
+fn is_text_of_type(
     alloc: Global,
     part: &ParsedMail<'_>,
     mimetype: &str,
     tables: &[SingleByteTable<'_>],
 ) -> Result<bool, MailParseError>
     ensures { AnswersOrMemory (λ is. is) result
-        (Ok (is_shown (charsets_with tables.now) mimetype.now (tree_of part.now))) }
+        (Ok (is_text_of_type (charsets_with tables.now) mimetype.now (tree_of part.now))) }
 {
     if part.ctype.mimetype.as_str() != mimetype {
         return Ok(false);

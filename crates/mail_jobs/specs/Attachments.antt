@@ -8,7 +8,7 @@ use Rattle.mailparse.specs.Mail.{Node, Tree, root}
 use Rattle.mail_data.specs.lenient.Base64.{Front, base64_front}
 use Rattle.mail_data.specs.FileNames.{safe_name}
 use Rattle.mail_data.specs.Files.{attachments_in, file_name_in}
-use Rattle.mail_data.specs.lenient.Encoding.{loose_body_kind}
+use Rattle.mail_data.specs.lenient.Encoding.{lenient_body_kind}
 
 -- a file that is stored: where its part stands, its name, and as much of its bytes as can be read
 pub record Stored : Type 0 where
@@ -34,7 +34,7 @@ readable in_binary body = whole body
 
 -- the bytes of a part that are stored
 abbrev pub stored_content : Node → Front
-stored_content node = readable (loose_body_kind node) node.body
+stored_content node = readable (lenient_body_kind node) node.body
 
 -- a part that has this path, as it is stored
 abbrev pub stored : Charsets → List ℕ × Tree → Stored

@@ -11,7 +11,7 @@ ghost use Rattle.mail_jobs.specs.Attachments.{stored, stored_content, stored_fil
 ghost use Rattle.mail_jobs.specs.AttachmentViews.{stored_view};
 
 use mail_data::files::{Attachment, attachments_with, file_name_with, safe_file_name};
-use mail_data::lenient::{Base64Front, base64_front, loose_body};
+use mail_data::lenient::{Base64Front, base64_front, lenient_body};
 use mailparse::body::Body;
 use mailparse::{MailParseError, ParsedMail, SingleByteTable};
 use std::alloc::Global;
@@ -86,7 +86,7 @@ fn stored_name(
 fn stored_content(alloc: Global, part: &ParsedMail<'_>) -> Result<Base64Front, MailParseError>
     ensures { AnswersOrMemory front_of result (Ok (stored_content (root (tree_of part.now)))) }
 {
-    match loose_body(alloc, part)? {
+    match lenient_body(alloc, part)? {
         Body::Base64(body) => Ok(base64_front(alloc, body.get_raw())?),
         Body::QuotedPrintable(body) => Ok(whole(body.get_decoded(alloc)?)),
         Body::SevenBit(body) => Ok(whole(body.get_raw().to_vec(alloc)?)),

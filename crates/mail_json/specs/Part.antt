@@ -19,7 +19,7 @@ use Rattle.mailparse.specs.Pairs.{Texts}
 use Rattle.mailparse.specs.Refusal.{Reads}
 use Rattle.mailparse.specs.Value.{lenient_value_in}
 use Rattle.mail_data.specs.Files.{is_leaf, path_under}
-use Rattle.mail_data.specs.lenient.Encoding.{loose_body_kind}
+use Rattle.mail_data.specs.lenient.Encoding.{lenient_body_kind}
 use Rattle.mail_json.specs.Body.{encoding_text, decoded_size}
 use Rattle.mail_json.specs.Fields.{refusal_text, kind_text, name_in, is_kept_apart, disposition_of}
 use Rattle.mail_json.specs.Strings.{json_text, text_or_null, joined}
@@ -139,7 +139,7 @@ module _ (known : Charsets) where
   part_text place type =
       let node = root place.part in
       let leaf = is_leaf place.part in
-      let kind = loose_body_kind node in
+      let kind = lenient_body_kind node in
       let shown = disposition_of known node in
       codes "{\"path\":" ++ json_text place.path ++ type ++ file_text leaf shown node.ctype
       ++ place_text (encoding_text kind) place.start (further place.start (length node.bytes)) (length node.body)

@@ -22,7 +22,7 @@ use crate::fault::Fault;
 use crate::fields::{disposition_name, disposition_of, file_name, is_kept_apart, refusal_text};
 use crate::strings::{write_comma, write_name, write_owned, write_text, write_word};
 use mail_codec::bytescan::find_byte;
-use mail_data::lenient::loose_body;
+use mail_data::lenient::lenient_body;
 use mailparse::body::Body;
 use mailparse::{
     MailHeader, MailParseError, ParsedContentDisposition, ParsedContentType, ParsedMail,
@@ -174,7 +174,7 @@ fn write_part<W: Write>(
     write_type(alloc, out, &part.ctype)?;
     let is_file = write_file(alloc, out, part, tables)?;
     let end = start.saturating_add(part.raw_bytes.len());
-    let body = loose_body(alloc, part)?;
+    let body = lenient_body(alloc, part)?;
     write_place(out, encoding_name(&body), start, end, raw_length(&body))?;
     write_decoded_size(alloc, out, &body)?;
     write_headers(alloc, out, part.headers.as_slice(), tables)?;

@@ -9,7 +9,7 @@ use mail_data::files::{
     safe_file_name,
 };
 use mail_data::forwarding::{forwarded, mails_inside};
-use mail_data::lenient::{base64_front, ids_in, loose_body};
+use mail_data::lenient::{base64_front, ids_in, lenient_body};
 use mail_data::mailbox::read_mailbox;
 use mail_data::texts::{text_part, text_part_with};
 use mailparse::body::Body;
@@ -61,7 +61,7 @@ pub fn find_named_files(alloc: Global) -> Result<bool, MailParseError> {
     )
 }
 
-/// `base64_front`, `loose_body` and `ids_in`.
+/// `base64_front`, `lenient_body` and `ids_in`.
 pub fn read_leniently(alloc: Global) -> Result<bool, MailParseError> {
     let mail = parse_mail(alloc, WITH_FILE)?;
     let [_, file] = mail.subparts.as_slice() else {
@@ -88,7 +88,7 @@ fn is_front(
 
 /// Whether a part's body is in Base64, and stands for `hi`.
 fn is_base64(alloc: Global, part: &ParsedMail<'_>) -> Result<bool, MailParseError> {
-    match loose_body(alloc, part)? {
+    match lenient_body(alloc, part)? {
         Body::Base64(body) => Ok(is_bytes(body.get_decoded(alloc)?, b"hi")),
         _ => Ok(false),
     }

@@ -1,4 +1,4 @@
--- Lemmas on reports of delivery.
+-- Lemmas on delivery status notifications.
 use Rattle.std.proofs.Common.{◌≡◌, ℕ, zero, suc, ◌<◌, ◌≤◌, Bool, true, false, not, List, [], ◌∷◌, ◌++◌, length, map, drop, Bor, Option, None, refl, sym, ap, ◌∙◌, arith, append_assoc, length-drop, inl, inr}
 use Rattle.std.specs.Prelude.{codes, nat_lt, nat_eq, filter}
 use Rattle.std.proofs.lemmas.Bool.{cond-true, cond-false, cases_Bool, lt-ltb, le-ltb, ltb-true, ne_eqb, false≢true}

@@ -21,9 +21,9 @@ name_at text =
     take (prefix_len (λ b. not (ends_name b)) rest) rest
 
 -- the encoding that a text names so, in any case
-unfoldable pub loose_kind : Option (List ℕ) → BodyKind
-loose_kind value = kind_named (option_map (λ text. name_at (str_to_ascii_lowercase text)) value)
+unfoldable pub lenient_kind : Option (List ℕ) → BodyKind
+lenient_kind value = kind_named (option_map (λ text. name_at (str_to_ascii_lowercase text)) value)
 
 -- the transfer encoding of a message's body, by its first `Content-Transfer-Encoding`
-abbrev pub loose_body_kind : Node → BodyKind
-loose_body_kind node = loose_kind (first_value (codes "Content-Transfer-Encoding") node.headers)
+abbrev pub lenient_body_kind : Node → BodyKind
+lenient_body_kind node = lenient_kind (first_value (codes "Content-Transfer-Encoding") node.headers)

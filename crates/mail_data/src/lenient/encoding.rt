@@ -8,7 +8,7 @@ ghost use Rattle.mailparse.specs.Mail.{body_kind, root};
 ghost use Rattle.mailparse.specs.Map.{text_found};
 ghost use Rattle.mailparse.specs.Outcome.{IsMemory};
 ghost use Rattle.mailparse.specs.Views.{tree_of};
-ghost use Rattle.mail_data.specs.lenient.Encoding.{ends_name, loose_body_kind, loose_kind, name_at};
+ghost use Rattle.mail_data.specs.lenient.Encoding.{ends_name, lenient_body_kind, lenient_kind, name_at};
 
 use crate::forwarding::raw_body;
 use mailparse::body::Body;
@@ -29,19 +29,19 @@ use std::alloc::{AllocError, Global};
 /// # Examples
 ///
 /// ```rust
-/// use mail_data::lenient::loose_body;
+/// use mail_data::lenient::lenient_body;
 /// use mailparse::body::Body;
 /// use mailparse::parse_mail;
 ///
 /// let mail = parse_mail(alloc, b"Content-Transfer-Encoding: base64 (x)\n\naGk=")?;
-/// let Body::Base64(body) = loose_body(alloc, &mail)? else {
+/// let Body::Base64(body) = lenient_body(alloc, &mail)? else {
 ///     return Err("another encoding".into());
 /// };
 /// assert_eq!(rt; body.get_decoded(alloc)?.as_slice(), b"hi".as_slice());
 /// ```
-pub fn loose_body<'m>(alloc: Global, part: &'m ParsedMail<'_>) -> Result<Body<'m>, MailParseError>
+pub fn lenient_body<'m>(alloc: Global, part: &'m ParsedMail<'_>) -> Result<Body<'m>, MailParseError>
     ensures read { let node = root (tree_of part.now) in
-        IfOk result (IsBody (loose_body_kind node) (content_of node)) }
+        IfOk result (IsBody (lenient_body_kind node) (content_of node)) }
     ensures same { let node = root (tree_of part.now) in body_kind node ≢ in_7bit →
         IfOk result (IsBody (body_kind node) (content_of node)) }
     ensures only_memory { IfErr result IsMemory }
@@ -53,21 +53,21 @@ pub fn loose_body<'m>(alloc: Global, part: &'m ParsedMail<'_>) -> Result<Body<'m
 /// The body of a part in that encoding.
 fn body_named<'m>(alloc: Global, part: &'m ParsedMail<'_>) -> Result<Body<'m>, MailParseError>
     ensures read { let node = root (tree_of part.now) in
-        IfOk result (IsBody (loose_body_kind node) (content_of node)) }
+        IfOk result (IsBody (lenient_body_kind node) (content_of node)) }
     ensures only_memory { IfErr result IsMemory }
 {
     let raw = raw_body(alloc, part)?;
     let value = part
         .headers
         .get_first_value(alloc, "Content-Transfer-Encoding")?;
-    let name = loose_name(alloc, value)?;
+    let name = lenient_name(alloc, value)?;
     Ok(Body::new(raw, &part.ctype, &name))
 }
 
 /// A name of the encoding that a text names.
-#[tactic(auto, unfolding(crate::specs::lenient::Encoding::loose_kind))]
-fn loose_name(alloc: Global, value: Option<String>) -> Result<Option<String>, AllocError>
-    ensures { IfOk result (λ name. kind_named (name_of name) ≡ loose_kind (text_found value)) }
+#[tactic(auto, unfolding(crate::specs::lenient::Encoding::lenient_kind))]
+fn lenient_name(alloc: Global, value: Option<String>) -> Result<Option<String>, AllocError>
+    ensures { IfOk result (λ name. kind_named (name_of name) ≡ lenient_kind (text_found value)) }
 {
     let Some(mut text) = value else {
         return Ok(None);

@@ -11,5 +11,5 @@ returns-then-not-is_leaf c = ap Ok (is_attachment-parts (charsets_with c.args.ta
 pub returns : goal.returns
 returns c =
     let m = c.args.part.now in
-    ap Ok (is_attachment-leaf (charsets_with c.args.tables.now) (tree_of m) (disposition c.in_ok-shown.shown) (content_type (out-ParsedMail m).ctype) _
-    (sym c.if-not-is_leaf.false ∙ c.is_leaf.ensures) c.in_ok-shown.ensures (ctype-out m) c.are_of_file.ensures)
+    ap Ok (is_attachment-leaf (charsets_with c.args.tables.now) (tree_of m) (disposition c.in_ok-disposition.disposition) (content_type (out-ParsedMail m).ctype) _
+    (sym c.if-not-is_leaf.false ∙ c.is_leaf.ensures) c.in_ok-disposition.ensures (ctype-out m) c.are_of_file.ensures)

@@ -7,7 +7,7 @@ use Rattle.std.proofs.lemmas.Slice.Eq.{bytes_eq-Decides}
 use Rattle.mailparse.specs.Body.{in_7bit, kind_named}
 use Rattle.mailparse.specs.Map.{first_value}
 use Rattle.mailparse.specs.Mail.{Node, body_kind}
-use Rattle.mail_data.specs.lenient.Encoding.{name_at, loose_kind, loose_body_kind}
+use Rattle.mail_data.specs.lenient.Encoding.{name_at, lenient_kind, lenient_body_kind}
 
 -- a text that is one of the names is that name
 stays : (l w : List ℕ) → bytes_eq l w ≡ true → name_at w ≡ w → kind_named (Some (name_at l)) ≡ kind_named (Some l)
@@ -36,11 +36,11 @@ word-same l h = elim (cases_Bool (bytes_eq l (codes "base64"))) [
 ]
 
 value-same : (value : Option (List ℕ)) → (kind_named (option_map str_to_ascii_lowercase value) ≡ in_7bit → ⊥)
-    → loose_kind value ≡ kind_named (option_map str_to_ascii_lowercase value)
-unfolding kind_named loose_kind
+    → lenient_kind value ≡ kind_named (option_map str_to_ascii_lowercase value)
+unfolding kind_named lenient_kind
 value-same None h = absurd (h refl)
 value-same (Some text) h = word-same (str_to_ascii_lowercase text) h
 
 -- an encoding that the strict reading finds is found
-pub loose-same : (node : Node) → (body_kind node ≡ in_7bit → ⊥) → loose_body_kind node ≡ body_kind node
-loose-same node h = value-same (first_value (codes "Content-Transfer-Encoding") node.headers) h
+pub lenient-same : (node : Node) → (body_kind node ≡ in_7bit → ⊥) → lenient_body_kind node ≡ body_kind node
+lenient-same node h = value-same (first_value (codes "Content-Transfer-Encoding") node.headers) h

@@ -9,7 +9,7 @@ use Rattle.mailparse.specs.ContentType.{ContentType}
 use Rattle.mailparse.specs.Mail.{root}
 use Rattle.mailparse.specs.Views.{tree_of}
 use Rattle.mail_data.specs.Files.{is_leaf}
-use Rattle.mail_data.specs.lenient.Encoding.{loose_body_kind}
+use Rattle.mail_data.specs.lenient.Encoding.{lenient_body_kind}
 use Rattle.mail_json.specs.Part.{IsTypeText, body_text, further, headers_text, place_text, Place, IsPartText, part_text}
 use Rattle.mail_json.specs.Body.{encoding_text}
 use Rattle.mail_json.proofs.lemmas.Written.{appends_as, writes_one, writes_then}
@@ -21,7 +21,7 @@ returns g c =
     let known = charsets_with c.args.tables.now in
     let m = c.args.part.now in
     let node = root (tree_of m) in
-    let kind = loose_body_kind node in
+    let kind = lenient_body_kind node in
     let given = content_of node in
     let place : Place = record { path = c.args.path.now; start = c.args.start; part = tree_of m } in
     let type = c.in_ok-write_type.ensures in
@@ -52,10 +52,10 @@ pub returns-in_err-write_decoded_size : goal.returns-in_err-write_decoded_size
 returns-in_err-write_decoded_size g c =
     let node = root (tree_of c.args.part.now) in
     let p = err_from_is_err_and c.from_residual-in_err-write_decoded_size.result c.from_residual-in_err-write_decoded_size.ensures.1 in
-    rw (p.1, p.2) (c.in_err-write_decoded_size.ensures (loose_body_kind node) (content_of node) c.in_ok-body.ensures.read)
+    rw (p.1, p.2) (c.in_err-write_decoded_size.ensures (lenient_body_kind node) (content_of node) c.in_ok-body.ensures.read)
 
 pub returns-in_err-write_body_text : goal.returns-in_err-write_body_text
 returns-in_err-write_body_text g c =
     let node = root (tree_of c.args.part.now) in
     let p = err_from_is_err_and c.from_residual-in_err-write_body_text.result c.from_residual-in_err-write_body_text.ensures.1 in
-    rw (p.1, p.2) (c.in_err-write_body_text.ensures (loose_body_kind node) (content_of node) c.in_ok-body.ensures.read)
+    rw (p.1, p.2) (c.in_err-write_body_text.ensures (lenient_body_kind node) (content_of node) c.in_ok-body.ensures.read)
