@@ -22,9 +22,9 @@ abbrev pub name_in : Disposition → ContentType → Option (List ℕ)
 name_in disposition ctype = first_text (filled (disposition.params (codes "filename"))) (filled (ctype.params (codes "name")))
 
 -- the disposition is `attachment`
-abbrev pub is_kept_apart : Kind → Bool
-is_kept_apart attachment = true
-is_kept_apart _ = false
+abbrev pub is_attachment_disposition : Kind → Bool
+is_attachment_disposition attachment = true
+is_attachment_disposition _ = false
 
 -- a message has no parts; a forwarded message has none, since it is not read into
 abbrev pub is_leaf : Tree → Bool
@@ -32,8 +32,8 @@ is_leaf (tree node no_parts) = true
 is_leaf (tree node (part_and t ts)) = false
 
 -- a disposition and a type are those of a file: the disposition is `attachment`, or there is a file name
-abbrev pub are_of_file : Disposition → ContentType → Bool
-are_of_file disposition ctype = is_kept_apart disposition.kind || is_some (name_in disposition ctype)
+abbrev pub describes_attachment : Disposition → ContentType → Bool
+describes_attachment disposition ctype = is_attachment_disposition disposition.kind || is_some (name_in disposition ctype)
 
 -- the path of the part with this number, by the path of the message that it is a part of: the numbers from the outside on, a dot between two
 unfoldable pub path_under : List ℕ → ℕ → List ℕ
@@ -62,7 +62,7 @@ module _ (known : Charsets) where
 
   -- a message is a file: it has no parts, and its disposition and its type are those of a file
   unfoldable pub is_attachment_in : Tree → Bool
-  is_attachment_in t = is_leaf t && are_of_file (shown_as_in known (root t)) (root t).ctype
+  is_attachment_in t = is_leaf t && describes_attachment (shown_as_in known (root t)) (root t).ctype
 
   -- the files among messages with paths
   abbrev pub files_among : List (List ℕ × Tree) → List (List ℕ × Tree)

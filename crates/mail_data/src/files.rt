@@ -7,10 +7,10 @@ ghost use Rattle.mailparse.specs.Outcome.{AnswersOrMemory, IsMemory};
 ghost use Rattle.mailparse.specs.Pairs.{text_at};
 ghost use Rattle.mailparse.specs.Views as views;
 ghost use Rattle.mailparse.specs.Views.{content_type, kind, tree_of};
-ghost use Rattle.mail_data.specs.Files.{are_of_file, attachments, attachments_in, attachments_under};
-ghost use Rattle.mail_data.specs.Files.{file_name, file_name_in, files_among, filled};
-ghost use Rattle.mail_data.specs.Files.{is_attachment, is_attachment_in};
-ghost use Rattle.mail_data.specs.Files.{is_kept_apart, is_leaf, name_in, path_under, whole_path};
+ghost use Rattle.mail_data.specs.Files.{attachments, attachments_in, attachments_under};
+ghost use Rattle.mail_data.specs.Files.{describes_attachment, file_name, file_name_in, files_among};
+ghost use Rattle.mail_data.specs.Files.{filled, is_attachment, is_attachment_disposition};
+ghost use Rattle.mail_data.specs.Files.{is_attachment_in, is_leaf, name_in, path_under, whole_path};
 ghost use Rattle.mail_data.specs.FileViews.{attachment_view};
 
 mod names;
@@ -100,8 +100,23 @@ pub fn file_name_with(
     }
 }
 
-/// The name of a file that a disposition or else a type has; an empty one counts as none.
-fn named_file<'n>(
+/// Returns the name of a file that a disposition or else a type has: the one's parameter `filename`,
+/// otherwise the other's parameter `name`, or `None` if there is neither (RFC 2183, section 2.3). An
+/// empty parameter counts as none. Takes no memory.
+///
+/// # Examples
+///
+/// ```rust
+/// use mail_data::files::named_file;
+/// use mailparse::{parse_content_disposition, parse_content_type};
+///
+/// let ctype = parse_content_type(alloc, "image/png; name=a.png")?;
+/// let disposition = parse_content_disposition(alloc, "inline")?;
+/// assert_eq!(rt; named_file(&disposition, &ctype), Some("a.png"));
+/// let disposition = parse_content_disposition(alloc, "inline; filename=b.png")?;
+/// assert_eq!(rt; named_file(&disposition, &ctype), Some("b.png"));
+/// ```
+pub fn named_file<'n>(
     disposition: &'n ParsedContentDisposition,
     ctype: &'n ParsedContentType,
 ) -> Option<&'n str>
@@ -196,26 +211,57 @@ pub fn is_attachment_with(
         return Ok(false);
     }
     let disposition = part.get_content_disposition_with(alloc, tables)?;
-    Ok(are_of_file(&disposition, &part.ctype))
+    Ok(describes_attachment(&disposition, &part.ctype))
 }
 
-/// Whether a message has no parts.
-fn is_leaf(part: &ParsedMail<'_>) -> bool
+/// Returns whether a message has no parts (RFC 2046, section 5.1). A forwarded message
+/// (`message/rfc822`) has none, since its content is not parsed. Takes no memory.
+///
+/// # Examples
+///
+/// ```rust
+/// use mail_data::files::is_leaf;
+/// use mailparse::parse_mail;
+///
+/// let mail = parse_mail(alloc, b"Content-Type: multipart/mixed; boundary=b\n\n--b\n\nHi\n--b--")?;
+/// assert!(rt; !is_leaf(&mail));
+/// assert!(rt; is_leaf(&mail.subparts[0]));
+/// ```
+pub fn is_leaf(part: &ParsedMail<'_>) -> bool
     ensures { result ≡ is_leaf (tree_of part.now) }
 {
     part.subparts.as_slice().is_empty()
 }
 
-/// Whether a disposition and a type are those of a file.
-fn are_of_file(disposition: &ParsedContentDisposition, ctype: &ParsedContentType) -> bool
-    ensures { result ≡ are_of_file (views.disposition disposition.now) (content_type ctype.now) }
+/// Returns whether a disposition and a type are those of a file, if the part has no parts of its
+/// own: the disposition is `attachment`, or there is a file name (RFC 2183, sections 2.2 and 2.3).
+/// Takes no memory.
+///
+/// # Examples
+///
+/// ```rust
+/// use mail_data::files::describes_attachment;
+/// use mailparse::{parse_content_disposition, parse_content_type};
+///
+/// let ctype = parse_content_type(alloc, "text/plain")?;
+/// let disposition = parse_content_disposition(alloc, "attachment")?;
+/// assert!(rt; describes_attachment(&disposition, &ctype));
+/// let disposition = parse_content_disposition(alloc, "inline")?;
+/// assert!(rt; !describes_attachment(&disposition, &ctype));
+/// ```
+pub fn describes_attachment(
+    disposition: &ParsedContentDisposition,
+    ctype: &ParsedContentType,
+) -> bool
+    ensures { result
+        ≡ describes_attachment (views.disposition disposition.now) (content_type ctype.now) }
 {
-    is_kept_apart(&disposition.disposition) || named_file(disposition, ctype).is_some()
+    is_attachment_disposition(&disposition.disposition) || named_file(disposition, ctype).is_some()
 }
 
 /// Whether a disposition is `attachment`.
-fn is_kept_apart(disposition: &DispositionType) -> bool
-    ensures { result ≡ is_kept_apart (kind disposition.now) }
+fn is_attachment_disposition(disposition: &DispositionType) -> bool
+    ensures { result ≡ is_attachment_disposition (kind disposition.now) }
 {
     match disposition {
         DispositionType::Attachment => true,
@@ -288,8 +334,20 @@ pub fn attachments_with<'m, 'a>(
     Ok(files)
 }
 
-/// The path of a whole message.
-fn whole_path(mail: &ParsedMail<'_>) -> &'static str
+/// Returns the path of a whole mail, as IMAP numbers parts (RFC 3501, section 6.4.5): `1`, that of
+/// its body, where it has no parts, and otherwise the empty text. Takes no memory.
+///
+/// # Examples
+///
+/// ```rust
+/// use mail_data::files::whole_path;
+/// use mailparse::parse_mail;
+///
+/// assert_eq!(rt; whole_path(&parse_mail(alloc, b"Subject: Hi\n\nHello")?), "1");
+/// let raw = b"Content-Type: multipart/mixed; boundary=b\n\n--b\n\nHi\n--b--";
+/// assert_eq!(rt; whole_path(&parse_mail(alloc, raw)?), "");
+/// ```
+pub fn whole_path(mail: &ParsedMail<'_>) -> &'static str
     ensures { result.now ≡ whole_path (tree_of mail.now) }
 {
     if is_leaf(mail) { "1" } else { "" }
@@ -339,9 +397,25 @@ fn push_own<'m, 'a>(
     Ok(())
 }
 
-/// The path of the part with this number, by the path of the message that it is a part of.
+/// Returns the path of the part with this number, counted from 1, by the path of the message that it
+/// is a part of (RFC 3501, section 6.4.5).
+///
+/// Takes memory for the path.
+///
+/// # Errors
+///
+/// `AllocError` where it runs out of memory.
+///
+/// # Examples
+///
+/// ```rust
+/// use mail_data::files::path_under;
+///
+/// assert_eq!(rt; path_under(alloc, "", 2)?.as_str(), "2");
+/// assert_eq!(rt; path_under(alloc, "2", 1)?.as_str(), "2.1");
+/// ```
 #[tactic(auto, unfolding(crate::specs::Files::path_under))]
-fn path_under(alloc: Global, path: &str, number: usize) -> Result<String, AllocError>
+pub fn path_under(alloc: Global, path: &str, number: usize) -> Result<String, AllocError>
     ensures { IfOk result (λ text. string_bytes text ≡ path_under path.now number) }
 {
     if path.is_empty() {

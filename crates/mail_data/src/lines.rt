@@ -2,9 +2,21 @@
 ghost use Rattle.std.specs.Prelude.{◌≡◌, ◌≤◌, length};
 ghost use Rattle.mail_data.specs.Lines.{empty_line};
 
-/// How many bytes the empty line at the front has, or 0 where none is.
+/// Returns how many bytes the empty line at the front has, LF or CR LF, or 0 where none is there.
+///
+/// Takes no memory.
+///
+/// # Examples
+///
+/// ```rust
+/// use mail_data::lines::empty_line;
+///
+/// assert_eq!(rt; empty_line(b"\nHello"), 1);
+/// assert_eq!(rt; empty_line(b"\r\nHello"), 2);
+/// assert_eq!(rt; empty_line(b"\rHello"), 0);
+/// ```
 #[tactic(auto, unfolding(crate::specs::Lines::empty_line))]
-pub(crate) fn empty_line(bytes: &[u8]) -> usize
+pub fn empty_line(bytes: &[u8]) -> usize
     ensures value { result ≡ empty_line bytes.now }
     ensures bounds { result ≤ length bytes.now }
 {

@@ -12,7 +12,7 @@ use Rattle.mailparse.specs.declared.mail.message.ParsedMail.TheFolds.{fold_out-P
 use Rattle.mailparse.specs.ContentType.{ContentType}
 use Rattle.mailparse.specs.Disposition.{Disposition}
 use Rattle.mailparse.specs.Refusal.{Reads}
-use Rattle.mail_data.specs.Files.{are_of_file, files_among, is_leaf, is_attachment_in, path_under, with_paths, parts_with_paths, attachments_under}
+use Rattle.mail_data.specs.Files.{describes_attachment, files_among, is_leaf, is_attachment_in, path_under, with_paths, parts_with_paths, attachments_under}
 
 leaf-forest : (node : Node) (ts : List Tree) → is_leaf (tree node (forest ts)) ≡ eqb (length ts) 0
 leaf-forest node [] = refl
@@ -33,18 +33,18 @@ ctype-out m = ap (λ (t : Tree). (root t).ctype) (sym (fold_out-ParsedMail Tree 
 
 pub is_attachment-parts : (known : Charsets) (t : Tree) → false ≡ is_leaf t → is_attachment_in known t ≡ false
 unfolding is_attachment_in
-is_attachment-parts known t e = and_left (is_leaf t) (are_of_file (shown_as_in known (root t)) (root t).ctype) (sym e)
+is_attachment-parts known t e = and_left (is_leaf t) (describes_attachment (shown_as_in known (root t)) (root t).ctype) (sym e)
 
 shown-is : (d e : Disposition) → ◌≡◌ {A = Reads Disposition} (Ok d) (Ok e) → d ≡ e
 shown-is d e h = cc
 
 -- where there are no parts, the disposition and the type tell
 pub is_attachment-leaf : (known : Charsets) (t : Tree) (d : Disposition) (ctype : ContentType) (r : Bool) → true ≡ is_leaf t
-    → ◌≡◌ {A = Reads Disposition} (Ok (shown_as_in known (root t))) (Ok d) → ctype ≡ (root t).ctype → r ≡ are_of_file d ctype → is_attachment_in known t ≡ r
+    → ◌≡◌ {A = Reads Disposition} (Ok (shown_as_in known (root t))) (Ok d) → ctype ≡ (root t).ctype → r ≡ describes_attachment d ctype → is_attachment_in known t ≡ r
 unfolding is_attachment_in
 is_attachment-leaf known t d ctype r leaf shown same e =
-    ap (λ b. b && are_of_file (shown_as_in known (root t)) (root t).ctype) (sym leaf)
-    ∙ ap (λ (x : Disposition). are_of_file x (root t).ctype) (shown-is (shown_as_in known (root t)) d shown) ∙ ap (are_of_file d) (sym same) ∙ sym e
+    ap (λ b. b && describes_attachment (shown_as_in known (root t)) (root t).ctype) (sym leaf)
+    ∙ ap (λ (x : Disposition). describes_attachment x (root t).ctype) (shown-is (shown_as_in known (root t)) d shown) ∙ ap (describes_attachment d) (sym same) ∙ sym e
 
 -- ---- the files of a message and its parts
 
