@@ -1,14 +1,11 @@
 -- What headers say, under the charsets that are known, and why something is refused; the program's own form.
-use Rattle.std.specs.Prelude.{ℕ, Bool, false, List, [], ◌++◌, Option, Some, None, option_map, codes, decimal}
+use Rattle.std.specs.Prelude.{ℕ, List, [], ◌++◌, Option, option_map, codes, decimal}
 use Rattle.std.specs.Option.{option_map_or}
 use Rattle.mail_codec.specs.Charset.{Charsets}
-use Rattle.mailparse.specs.ContentType.{ContentType}
-use Rattle.mailparse.specs.Disposition.{Disposition, Kind, inline, attachment, form_data, extension, disposition_in}
+use Rattle.mailparse.specs.Disposition.{Disposition, Kind, inline, attachment, form_data, extension}
 use Rattle.mailparse.specs.Mail.{Node}
-use Rattle.mailparse.specs.Map.{first_value_in}
-use Rattle.mailparse.specs.Options.{◌>>=◌}
+use Rattle.mailparse.specs.Map.{first_value_in, first_with_key}
 use Rattle.mailparse.specs.Refusal.{Refusal, generic, encoding, base64_fault}
-use Rattle.mail_data.specs.Files.{filled, first_text}
 use Rattle.mail_data.specs.lenient.Ids.{ids_in}
 
 -- why something is refused
@@ -24,14 +21,9 @@ kind_text attachment = codes "attachment"
 kind_text form_data = codes "form-data"
 kind_text (extension name) = name
 
--- the name of the file that a disposition, if there is one, or else a type has; an empty one counts as none
-abbrev pub name_in : Option Disposition → ContentType → Option (List ℕ)
-name_in shown ctype = first_text (filled (shown >>= λ d. d.params (codes "filename"))) (filled (ctype.params (codes "name")))
-
--- the disposition is `attachment`
-abbrev pub is_kept_apart : Option Disposition → Bool
-is_kept_apart None = false
-is_kept_apart (Some shown) = Rattle.mail_data.specs.Files.is_kept_apart shown.kind
+-- the name of a part's disposition, or none where the part has no such header
+abbrev pub disposition_name : Disposition → Node → Option (List ℕ)
+disposition_name disposition node = option_map (λ header. kind_text disposition.kind) (first_with_key (codes "Content-Disposition") node.headers)
 
 -- Under the charsets that are known.
 module _ (known : Charsets) where
@@ -42,7 +34,3 @@ module _ (known : Charsets) where
   -- the ids in it
   abbrev pub ids_of : List ℕ → Node → List (List ℕ)
   ids_of key node = option_map_or ids_in (value_of key node) []
-
-  -- the disposition of a part, if it has such a header
-  abbrev pub disposition_of : Node → Option Disposition
-  disposition_of node = option_map (disposition_in known) (value_of (codes "Content-Disposition") node)

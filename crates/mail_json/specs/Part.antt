@@ -1,5 +1,5 @@
 -- The parts of a mail, where each stands in the input, and the text that is written of each; the program's own form.
-use Rattle.std.specs.Prelude.{◌≡◌, ℕ, suc, ◌+◌, ◌^◌, ◌-◌, min, Bool, true, false, not, ◌&&◌, ◌||◌, List, [], ◌∷◌, ◌++◌, length, drop, map, Option, option_map, is_some, Ok, Err, codes, decimal, if◌then◌else◌}
+use Rattle.std.specs.Prelude.{◌≡◌, ℕ, suc, ◌+◌, ◌^◌, ◌-◌, min, Bool, true, false, not, ◌&&◌, List, [], ◌∷◌, ◌++◌, length, drop, map, Ok, Err, codes, decimal}
 use Rattle.std.specs.Cmp.Lexicographic.{slice_cmp}
 use Rattle.std.specs.List.Sorted.{IsStrictlySortedBy}
 use Rattle.std.specs.Map.{lookup}
@@ -14,19 +14,20 @@ use Rattle.mailparse.specs.BodyViews.{Content, content_of}
 use Rattle.mailparse.specs.ContentType.{ContentType}
 use Rattle.mailparse.specs.Disposition.{Disposition}
 use Rattle.mailparse.specs.Header.{Header, key_text}
-use Rattle.mailparse.specs.Mail.{Node, Tree, Forest, tree, no_parts, part_and, root}
+use Rattle.mailparse.specs.Mail.{Node, Tree, Forest, tree, no_parts, part_and, root, shown_as_in}
 use Rattle.mailparse.specs.Pairs.{Texts}
 use Rattle.mailparse.specs.Refusal.{Reads}
 use Rattle.mailparse.specs.Value.{lenient_value_in}
-use Rattle.mail_data.specs.Files.{is_leaf, path_under}
+use Rattle.mail_data.specs.Files.{describes_attachment, is_leaf, name_in, path_under}
+use Rattle.mail_data.specs.Lines.{empty_line}
 use Rattle.mail_data.specs.lenient.Encoding.{lenient_body_kind}
 use Rattle.mail_json.specs.Body.{encoding_text, decoded_size}
-use Rattle.mail_json.specs.Fields.{refusal_text, kind_text, name_in, is_kept_apart, disposition_of}
+use Rattle.mail_json.specs.Fields.{refusal_text, disposition_name}
 use Rattle.mail_json.specs.Strings.{json_text, text_or_null, joined}
 
--- a place so many bytes further on; places stop at the greatest number of 64 bits, where no file ends
-abbrev pub further : ℕ → ℕ → ℕ
-further place count = min (place + count) (2 ^ 64 - 1)
+-- a sum, or the greatest number of 64 bits, where no file ends
+abbrev pub saturating_add : ℕ → ℕ → ℕ
+saturating_add a b = min (a + b) (2 ^ 64 - 1)
 
 -- a part: its path, where it begins in the input, and the message that it is
 pub record Place : Type 0 where
@@ -35,25 +36,21 @@ pub record Place : Type 0 where
   pub part : Tree
 
 -- how many bytes the dash-boundary of a type's parts has: `--` and the boundary (RFC 2046, section 5.1.1)
-abbrev pub delimiter_length : ContentType → ℕ
-delimiter_length ctype = option_map_or (λ boundary. further (length boundary) 2) (ctype.params (codes "boundary")) 0
+abbrev pub dash_boundary_length : ContentType → ℕ
+dash_boundary_length ctype = option_map_or (λ boundary. saturating_add (length boundary) 2) (ctype.params (codes "boundary")) 0
 
 -- where the preamble of a part ends, counted from where the part begins: its body is the preamble where it has parts
 abbrev pub preamble_end : Node → ℕ
-preamble_end node = further (length node.block) (length node.body)
-
--- how many bytes the line end at the front has, or 0 where none is
-abbrev pub line_end_length : List ℕ → ℕ
-line_end_length bytes = if stands (codes "\n") bytes then 1 else (if stands (codes "\r\n") bytes then 2 else 0)
+preamble_end node = saturating_add (length node.block) (length node.body)
 
 -- the place just after the first LF from there on, or the end where there is none
 abbrev pub line_after : List ℕ → ℕ → ℕ
-line_after bytes place = option_map_or (λ count. further (further place count) 1) (byte_place (drop place bytes) line_feed) (length bytes)
+line_after bytes place = option_map_or (λ count. saturating_add (saturating_add place count) 1) (byte_place (drop place bytes) line_feed) (length bytes)
 
 -- where the part begins that follows a part or the preamble that ends here: a line end comes first, unless what ends here is empty, and then
--- the line of the delimiter
+-- the line of the dash-boundary
 unfoldable pub part_start : List ℕ → ℕ → ℕ → ℕ
-part_start bytes end delimiter = line_after bytes (further (further end (line_end_length (drop end bytes))) delimiter)
+part_start bytes end dash_boundary = line_after bytes (saturating_add (saturating_add end (empty_line (drop end bytes))) dash_boundary)
 
 -- a message that begins there, and then its parts, each before its own parts: their paths, and where each begins
 abbrev mutual
@@ -65,9 +62,9 @@ abbrev mutual
   pub places_in : List ℕ → ℕ → Node → ℕ → ℕ → Forest → List Place
   places_in path start node number end no_parts = []
   places_in path start node number end (part_and t ts) =
-      let begin = part_start node.bytes end (delimiter_length node.ctype) in
-      places (path_under path number) (further start begin) t
-      ++ places_in path start node (suc number) (further begin (length (root t).bytes)) ts
+      let begin = part_start node.bytes end (dash_boundary_length node.ctype) in
+      places (path_under path number) (saturating_add start begin) t
+      ++ places_in path start node (suc number) (saturating_add begin (length (root t).bytes)) ts
 
 -- pairs list texts: each name once, the names in the order of their bytes, and with each what stands under it
 pub record Lists (texts : Texts) (pairs : List (List ℕ × List ℕ)) : Type 0 where
@@ -94,15 +91,15 @@ abbrev pub flag_text : Bool → List ℕ
 flag_text true = codes "true"
 flag_text false = codes "false"
 
--- a part without parts is an attachment: its disposition is `attachment`, or there is a file name
-abbrev pub is_file : Bool → Option Disposition → ContentType → Bool
-is_file leaf shown ctype = leaf && (is_kept_apart shown || is_some (name_in shown ctype))
+-- a part of this disposition is an attachment: it has no parts, and its disposition and its type are those of one
+abbrev pub is_attachment : Tree → Disposition → Bool
+is_attachment part disposition = is_leaf part && describes_attachment disposition (root part).ctype
 
 -- the members of a disposition, of a file's name, and of whether the part is an attachment
-abbrev pub file_text : Bool → Option Disposition → ContentType → List ℕ
-file_text leaf shown ctype =
-    codes ",\"disposition\":" ++ text_or_null (option_map (λ d. kind_text d.kind) shown) ++ codes ",\"file_name\":" ++ text_or_null (name_in shown ctype)
-    ++ codes ",\"attachment\":" ++ flag_text (is_file leaf shown ctype)
+abbrev pub disposition_text : Disposition → Node → Bool → List ℕ
+disposition_text disposition node is_attachment =
+    codes ",\"disposition\":" ++ text_or_null (disposition_name disposition node) ++ codes ",\"file_name\":" ++ text_or_null (name_in disposition node.ctype)
+    ++ codes ",\"attachment\":" ++ flag_text is_attachment
 
 -- the members of an encoding by its name, of where a part stands, and of how many bytes its body has
 abbrev pub place_text : List ℕ → ℕ → ℕ → ℕ → List ℕ
@@ -138,13 +135,13 @@ module _ (known : Charsets) where
   abbrev pub part_text : Place → List ℕ → List ℕ
   part_text place type =
       let node = root place.part in
-      let leaf = is_leaf place.part in
       let kind = lenient_body_kind node in
-      let shown = disposition_of known node in
-      codes "{\"path\":" ++ json_text place.path ++ type ++ file_text leaf shown node.ctype
-      ++ place_text (encoding_text kind) place.start (further place.start (length node.bytes)) (length node.body)
+      let disposition = shown_as_in known node in
+      let attached = is_attachment place.part disposition in
+      codes "{\"path\":" ++ json_text place.path ++ type ++ disposition_text disposition node attached
+      ++ place_text (encoding_text kind) place.start (saturating_add place.start (length node.bytes)) (length node.body)
       ++ size_text (decoded_size kind node.body) ++ headers_text node.headers ++ codes ",\"text\":"
-      ++ body_text (not (is_file leaf shown node.ctype) && leaf && stands (codes "text/") node.ctype.mimetype) kind (content_of node) ++ codes "}"
+      ++ body_text (not attached && is_leaf place.part && stands (codes "text/") node.ctype.mimetype) kind (content_of node) ++ codes "}"
 
   -- a text is that of the object of a part
   abbrev pub IsPartText : Place → List ℕ → Type 0

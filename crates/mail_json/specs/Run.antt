@@ -10,7 +10,7 @@ use Rattle.mail_program.specs.declared.fault.Fault.{Fault}
 use Rattle.mail_data.specs.Mailbox.{Entry, entries, front_length}
 use Rattle.mail_json.specs.Fields.{refusal_text}
 use Rattle.mail_json.specs.Mail.{IsMailText}
-use Rattle.mail_json.specs.Part.{further}
+use Rattle.mail_json.specs.Part.{saturating_add}
 use Rattle.mail_json.specs.Strings.{json_text}
 use Rattle.mail_json.specs.Written.{IsEnd}
 
@@ -32,8 +32,8 @@ IsFront front is_all_whitespace text =
 module _ (known : Charsets) where
   -- the line of a mail that begins there, or of its refusal alone
   abbrev pub IsLineOf : ℕ → Reads Tree → Lines
-  IsLineOf start (Ok mail) is_whole text = (is_whole ≡ true) × (object : List ℕ) × IsMailText known start mail object × (text ≡ object ++ codes "\n")
-  IsLineOf start (Err refusal) is_whole text = (is_whole ≡ false) × (text ≡ error_line (refusal_text refusal))
+  IsLineOf start (Ok mail) is_clean text = (is_clean ≡ true) × (object : List ℕ) × IsMailText known start mail object × (text ≡ object ++ codes "\n")
+  IsLineOf start (Err refusal) is_clean text = (is_clean ≡ false) × (text ≡ error_line (refusal_text refusal))
 
   -- the line of the bytes of a mail that begins there
   abbrev pub IsLine : ℕ → List ℕ → Lines
@@ -41,19 +41,19 @@ module _ (known : Charsets) where
 
   -- the lines of the mails of a mailbox, in order, the first of which begins there with its separator
   abbrev pub AreLines : ℕ → List Entry → Lines
-  AreLines at [] is_whole text = (is_whole ≡ true) × (text ≡ [])
-  AreLines at (entry ∷ entries) is_whole text =
-      let start = further at (length entry.separator) in
-      let next = further (further start (length entry.mail)) (length entry.ending) in
+  AreLines at [] is_clean text = (is_clean ≡ true) × (text ≡ [])
+  AreLines at (entry ∷ entries) is_clean text =
+      let start = saturating_add at (length entry.separator) in
+      let next = saturating_add (saturating_add start (length entry.mail)) (length entry.ending) in
       (first : Bool) × (others : Bool) × (line : List ℕ) × (lines : List ℕ) × IsLine start entry.mail first line × AreLines next entries others lines
-      × (is_whole ≡ (first && others)) × (text ≡ line ++ lines)
+      × (is_clean ≡ (first && others)) × (text ≡ line ++ lines)
 
   -- the lines of a mailbox: the error for what stands before the first mail, and then those of its mails
   abbrev pub AreMailboxLines : List ℕ → Lines
-  AreMailboxLines bytes is_whole text =
+  AreMailboxLines bytes is_clean text =
       let front = take (front_length bytes) bytes in
       (is_all_whitespace : Bool) × (are_read : Bool) × (error : List ℕ) × (lines : List ℕ) × IsFront front is_all_whitespace error
-      × AreLines (length front) (entries bytes) are_read lines × (is_whole ≡ (is_all_whitespace && are_read)) × (text ≡ error ++ lines)
+      × AreLines (length front) (entries bytes) are_read lines × (is_clean ≡ (is_all_whitespace && are_read)) × (text ≡ error ++ lines)
 
   -- what is written of an input that is a mailbox or one mail
   abbrev pub AreInputLines : Bool → List ℕ → Lines
@@ -62,5 +62,5 @@ module _ (known : Charsets) where
 
 -- such lines were written, and nothing else, and the call returned whether no error is among them; otherwise memory ran out or a write failed
 abbrev pub WritesLines : Option (List ℕ) → Option (List ℕ) → Result Bool Fault → Lines → Type 0
-WritesLines old new (Ok is_whole) Are = (text : List ℕ) × Are is_whole text × Appends old new text
+WritesLines old new (Ok is_clean) Are = (text : List ℕ) × Are is_clean text × Appends old new text
 WritesLines old new (Err fault) Are = IsEnd fault

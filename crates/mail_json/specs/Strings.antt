@@ -18,12 +18,12 @@ unfoldable pub character_text : ℕ → List ℕ
 character_text c = if is_hidden c then codes "\\u" ++ hexadecimal c else encode_utf8 c
 
 -- a JSON text whose hidden characters are escaped
-unfoldable pub shown : List ℕ → List ℕ
-shown json = flat_map character_text (chars json)
+unfoldable pub escaped : List ℕ → List ℕ
+escaped json = flat_map character_text (chars json)
 
 -- a string: within quotation marks, with `"`, `\` and controls escaped, each by the shortest escape; and hidden characters
 unfoldable pub json_text : List ℕ → List ℕ
-json_text text = shown (quoted text)
+json_text text = escaped (quoted text)
 
 -- a string, or `null` where there is none
 abbrev pub text_or_null : Option (List ℕ) → List ℕ

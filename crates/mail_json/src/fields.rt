@@ -5,15 +5,15 @@ ghost use Rattle.mailparse.specs.Mail.{root};
 ghost use Rattle.mailparse.specs.Map.{text_found};
 ghost use Rattle.mailparse.specs.Outcome.{AnswersOrMemory, GivesTexts, IsMemory, refusal_of};
 ghost use Rattle.mailparse.specs.Refusal.{Refusal};
-ghost use Rattle.mailparse.specs.Views.{content_type, disposition, kind, tree_of};
-ghost use Rattle.mail_json.specs.Fields.{disposition_of, ids_of, is_kept_apart, kind_text, name_in};
-ghost use Rattle.mail_json.specs.Fields.{refusal_text, value_of};
+ghost use Rattle.mailparse.specs.Views as views;
+ghost use Rattle.mailparse.specs.Views.{kind, tree_of};
+ghost use Rattle.mail_json.specs.Fields.{disposition_name, ids_of, kind_text, refusal_text};
+ghost use Rattle.mail_json.specs.Fields.{value_of};
 
-use mail_data::files::filled_parameter;
 use mail_data::lenient::ids_in;
 use mailparse::{
-    DispositionType, MailHeaderMap, MailParseError, ParsedContentDisposition, ParsedContentType,
-    ParsedMail, SingleByteTable, parse_content_disposition_with,
+    DispositionType, MailHeaderMap, MailParseError, ParsedContentDisposition, ParsedMail,
+    SingleByteTable,
 };
 use std::alloc::{AllocError, Global};
 
@@ -57,74 +57,29 @@ pub fn ids_of(
     }
 }
 
-/// The disposition of a part, or `None` where it has no such header.
-///
-/// # Errors
-///
-/// `MailParseError::Memory` where it runs out of memory.
-pub fn disposition_of(
-    alloc: Global,
+/// The name of the disposition of a part, or `None` where the part has no such header.
+pub fn disposition_name<'d>(
     part: &ParsedMail<'_>,
-    tables: &[SingleByteTable<'_>],
-) -> Result<Option<ParsedContentDisposition>, MailParseError>
-    ensures { AnswersOrMemory (λ shown. option_map disposition shown) result
-        (Ok (disposition_of (charsets_with tables.now) (root (tree_of part.now)))) }
-{
-    match value_of(alloc, part, "Content-Disposition", tables)? {
-        Some(value) => {
-            let shown = parse_content_disposition_with(alloc, value.as_str(), tables)?;
-            Ok(Some(shown))
-        }
-        None => Ok(None),
-    }
-}
-
-/// The name of a disposition, if there is one.
-pub fn disposition_name(shown: &Option<ParsedContentDisposition>) -> Option<&str>
+    disposition: &'d ParsedContentDisposition,
+) -> Option<&'d str>
     ensures { option_map (λ name. name.now) result
-        ≡ option_map (λ d. kind_text d.kind) (option_map disposition shown.now) }
+        ≡ disposition_name (views.disposition disposition.now) (root (tree_of part.now)) }
 {
-    match shown {
-        Some(shown) => Some(kind_name(&shown.disposition)),
+    match part.headers.get_first_header("Content-Disposition") {
+        Some(_) => Some(kind_name(&disposition.disposition)),
         None => None,
     }
 }
 
 /// The name of a kind of disposition.
-fn kind_name(shown: &DispositionType) -> &str
-    ensures { result.now ≡ kind_text (kind shown.now) }
+fn kind_name(disposition: &DispositionType) -> &str
+    ensures { result.now ≡ kind_text (kind disposition.now) }
 {
-    match shown {
+    match disposition {
         DispositionType::Inline => "inline",
         DispositionType::Attachment => "attachment",
         DispositionType::FormData => "form-data",
         DispositionType::Extension(name) => name.as_str(),
-    }
-}
-
-/// The name of a file that a disposition or else a type has; an empty one counts as none.
-pub fn file_name<'n>(
-    shown: &'n Option<ParsedContentDisposition>,
-    ctype: &'n ParsedContentType,
-) -> Option<&'n str>
-    ensures { option_map (λ name. name.now) result
-        ≡ name_in (option_map disposition shown.now) (content_type ctype.now) }
-{
-    if let Some(shown) = shown {
-        if let Some(name) = filled_parameter(&shown.params, "filename") {
-            return Some(name);
-        }
-    }
-    filled_parameter(&ctype.params, "name")
-}
-
-/// Whether a disposition is `attachment`.
-pub fn is_kept_apart(shown: &Option<ParsedContentDisposition>) -> bool
-    ensures { result ≡ is_kept_apart (option_map disposition shown.now) }
-{
-    match shown {
-        Some(shown) => matches!(shown.disposition, DispositionType::Attachment),
-        None => false,
     }
 }
 

@@ -9,11 +9,12 @@ ghost use Rattle.mail_json.specs.Mail.{IsMailText, date_fault_text, date_text, i
 ghost use Rattle.mail_json.specs.Mail.{ids_text, value_text, values_text};
 ghost use Rattle.mail_json.specs.Written.{Writes, WritesOne};
 
-use crate::fault::Fault;
 use crate::fields::{ids_of, value_of};
-use crate::part::{whole_path, write_parts};
+use crate::part::write_parts;
 use crate::strings::{write_optional, write_text, write_texts, write_word};
+use mail_data::files::whole_path;
 use mail_data::lenient::{DateError, date_of};
+use mail_program::Fault;
 use mailparse::{ParsedMail, SingleByteTable};
 use std::alloc::Global;
 use std::io::Write;

@@ -2,7 +2,6 @@
 #![tactic(auto)]
 
 mod body;
-mod fault;
 mod fields;
 mod mail;
 mod part;
@@ -10,8 +9,7 @@ mod request;
 mod run;
 mod strings;
 
-use fault::Fault;
-use mail_program::arguments;
+use mail_program::{Fault, arguments};
 use request::{HELP, Mode, USAGE, mode_of};
 use run::run;
 use std::process::ExitCode;
@@ -24,7 +22,7 @@ fn main(rt: HostRuntime) -> ExitCode {
             return ExitCode::FAILURE;
         }
     };
-    let is_whole = match mode_of(words.as_slice()) {
+    let is_clean = match mode_of(words.as_slice()) {
         Mode::Help => help(&rt),
         Mode::Wrong => {
             let _ = eprintln!(rt; "{USAGE}");
@@ -33,7 +31,7 @@ fn main(rt: HostRuntime) -> ExitCode {
         Mode::Mail => run(&rt, words.as_slice(), false),
         Mode::Mailbox => run(&rt, words.as_slice(), true),
     };
-    if is_whole {
+    if is_clean {
         ExitCode::SUCCESS
     } else {
         ExitCode::FAILURE

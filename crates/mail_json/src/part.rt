@@ -1,49 +1,36 @@
 //! The objects of the parts.
-ghost use Rattle.std.specs.Prelude.{◌≡◌, ◌++◌, ◌∷◌, ◌&&◌, codes, drop, length, not, option_map, IfErr, IfOk, Ok, string_bytes};
+ghost use Rattle.std.specs.Prelude.{◌≡◌, ◌++◌, ◌∷◌, ◌&&◌, codes, drop, length, not, IfErr, IfOk, Ok};
 ghost use Rattle.mail_codec.specs.Places.{stands};
 ghost use Rattle.mail_codec.specs.Tables.{charsets_with};
 ghost use Rattle.mailparse.specs.Body.{BodyKind};
 ghost use Rattle.mailparse.specs.BodyViews.{Content, IsBody};
 ghost use Rattle.mailparse.specs.Mail.{root};
 ghost use Rattle.mailparse.specs.Outcome.{IsMemory};
-ghost use Rattle.mailparse.specs.Views.{content_type, disposition, tree_of};
-ghost use Rattle.mail_data.specs.Files.{is_leaf, path_under, whole_path};
+ghost use Rattle.mailparse.specs.Views as views;
+ghost use Rattle.mailparse.specs.Views.{content_type, tree_of};
+ghost use Rattle.mail_data.specs.Files.{is_leaf};
 ghost use Rattle.mail_json.specs.Body.{decoded_size};
-ghost use Rattle.mail_json.specs.Fields.{disposition_of};
 ghost use Rattle.mail_json.specs.Part.{AreAfterCommas, IsPartText, IsTypeText, body_text};
-ghost use Rattle.mail_json.specs.Part.{delimiter_length, file_text, flag_text, header_text};
-ghost use Rattle.mail_json.specs.Part.{headers_text, is_file, line_after, line_end_length};
-ghost use Rattle.mail_json.specs.Part.{parameter_text, part_start, place_text, places};
-ghost use Rattle.mail_json.specs.Part.{preamble_end, size_text};
+ghost use Rattle.mail_json.specs.Part.{dash_boundary_length, disposition_text, flag_text, header_text};
+ghost use Rattle.mail_json.specs.Part.{headers_text, is_attachment, line_after, parameter_text};
+ghost use Rattle.mail_json.specs.Part.{part_start, place_text, places, preamble_end, size_text};
 ghost use Rattle.mail_json.specs.Written.{Writes, WritesOne};
 
 use crate::body::{decoded_length, encoding_name, raw_length, text_of};
-use crate::fault::Fault;
-use crate::fields::{disposition_name, disposition_of, file_name, is_kept_apart, refusal_text};
+use crate::fields::{disposition_name, refusal_text};
 use crate::strings::{write_comma, write_name, write_owned, write_text, write_word};
 use mail_codec::bytescan::find_byte;
+use mail_data::files::{describes_attachment, is_leaf, named_file, path_under};
 use mail_data::lenient::lenient_body;
+use mail_data::lines::empty_line;
+use mail_program::Fault;
 use mailparse::body::Body;
 use mailparse::{
     MailHeader, MailParseError, ParsedContentDisposition, ParsedContentType, ParsedMail,
     SingleByteTable,
 };
-use std::alloc::{AllocError, Global};
+use std::alloc::Global;
 use std::io::Write;
-
-/// The path of a whole mail.
-pub fn whole_path(mail: &ParsedMail<'_>) -> &'static str
-    ensures { result.now ≡ whole_path (tree_of mail.now) }
-{
-    if is_leaf(mail) { "1" } else { "" }
-}
-
-/// Whether a message has no parts.
-fn is_leaf(part: &ParsedMail<'_>) -> bool
-    ensures { result ≡ is_leaf (tree_of part.now) }
-{
-    part.subparts.as_slice().is_empty()
-}
 
 /// Writes the object of a part that has this path and begins at this offset of the input, and then
 /// those of its own parts, each after a comma.
@@ -65,13 +52,13 @@ pub fn write_parts<W: Write>(
         (places path.now start (tree_of part.now)) (codes "," ++ text)) }
 {
     write_part(alloc, out, part, path, start, tables)?;
-    let delimiter = delimiter_length(&part.ctype);
+    let dash_boundary = dash_boundary_length(&part.ctype);
     let mut at = preamble_end(alloc, part)?;
     let mut number = 0;
     for subpart in &part.subparts {
         write_word(out, ",")?;
         number += 1;
-        at = part_start(part.raw_bytes, at, delimiter);
+        at = part_start(part.raw_bytes, at, dash_boundary);
         let under = path_under(alloc, path, number)?;
         let begin = start.saturating_add(at);
         write_parts(alloc, out, subpart, under.as_str(), begin, tables)?;
@@ -80,21 +67,9 @@ pub fn write_parts<W: Write>(
     Ok(())
 }
 
-/// The path of the part with this number, by the path of the message that it is a part of.
-#[tactic(auto, unfolding(mail_data::specs::Files::path_under))]
-fn path_under(alloc: Global, path: &str, number: usize) -> Result<String, AllocError>
-    ensures { IfOk result (λ text. string_bytes text ≡ path_under path.now number) }
-{
-    if path.is_empty() {
-        format!(in alloc; "{number}")
-    } else {
-        format!(in alloc; "{path}.{number}")
-    }
-}
-
 /// How many bytes the dash-boundary has: `--` and the boundary (RFC 2046, section 5.1.1).
-fn delimiter_length(ctype: &ParsedContentType) -> usize
-    ensures { result ≡ delimiter_length (content_type ctype.now) }
+fn dash_boundary_length(ctype: &ParsedContentType) -> usize
+    ensures { result ≡ dash_boundary_length (content_type ctype.now) }
 {
     match ctype.params.get("boundary") {
         Some(boundary) => boundary.len().saturating_add(2),
@@ -113,13 +88,13 @@ fn preamble_end(alloc: Global, part: &ParsedMail<'_>) -> Result<usize, MailParse
 }
 
 /// Where the part begins that follows a part or the preamble that ends here: a line end comes
-/// first, unless what ends here is empty, and then the line of the delimiter.
+/// first, unless what ends here is empty, and then the line of the dash-boundary.
 #[tactic(auto, unfolding(crate::specs::Part::part_start))]
-fn part_start(raw: &[u8], end: usize, delimiter: usize) -> usize
-    ensures { result ≡ part_start raw.now end delimiter }
+fn part_start(raw: &[u8], end: usize, dash_boundary: usize) -> usize
+    ensures { result ≡ part_start raw.now end dash_boundary }
 {
-    let after = end.saturating_add(line_end_length(rest_at(raw, end)));
-    line_after(raw, after.saturating_add(delimiter))
+    let after = end.saturating_add(empty_line(rest_at(raw, end)));
+    line_after(raw, after.saturating_add(dash_boundary))
 }
 
 /// The place just after the first LF from there on, or the end where there is none.
@@ -143,19 +118,6 @@ fn rest_at(raw: &[u8], place: usize) -> &[u8]
     }
 }
 
-/// How many bytes the line end at the front has, or 0 where none is.
-fn line_end_length(bytes: &[u8]) -> usize
-    ensures { result ≡ line_end_length bytes.now }
-{
-    if bytes.starts_with(b"\n") {
-        1
-    } else if bytes.starts_with(b"\r\n") {
-        2
-    } else {
-        0
-    }
-}
-
 /// Writes the object of a part, without its parts.
 fn write_part<W: Write>(
     alloc: Global,
@@ -172,23 +134,25 @@ fn write_part<W: Write>(
     write_word(out, "{\"path\":")?;
     write_text(alloc, out, path)?;
     write_type(alloc, out, &part.ctype)?;
-    let is_file = write_file(alloc, out, part, tables)?;
+    let disposition = part.get_content_disposition_with(alloc, tables)?;
+    let is_attachment = is_attachment(part, &disposition);
+    write_disposition(alloc, out, part, &disposition, is_attachment)?;
     let end = start.saturating_add(part.raw_bytes.len());
     let body = lenient_body(alloc, part)?;
     write_place(out, encoding_name(&body), start, end, raw_length(&body))?;
     write_decoded_size(alloc, out, &body)?;
     write_headers(alloc, out, part.headers.as_slice(), tables)?;
     write_word(out, ",\"text\":")?;
-    write_body_text(alloc, out, &body, is_read(part, is_file), tables)?;
+    write_body_text(alloc, out, &body, is_read(part, is_attachment), tables)?;
     write_word(out, "}")
 }
 
 /// Whether the body of a part is a text that is to be read.
-fn is_read(part: &ParsedMail<'_>, is_file: bool) -> bool
-    ensures { result ≡ (not is_file && is_leaf (tree_of part.now)
+fn is_read(part: &ParsedMail<'_>, is_attachment: bool) -> bool
+    ensures { result ≡ (not is_attachment && is_leaf (tree_of part.now)
         && stands (codes "text/") (root (tree_of part.now)).ctype.mimetype) }
 {
-    !is_file && is_leaf(part) && part.ctype.mimetype.as_str().starts_with("text/")
+    !is_attachment && is_leaf(part) && part.ctype.mimetype.as_str().starts_with("text/")
 }
 
 /// Writes the name of an encoding, where a part stands, and how many bytes its body has.
@@ -243,40 +207,31 @@ fn write_parameter<W: Write>(
     write_text(alloc, out, value)
 }
 
-/// Writes the disposition, the name of the file and whether the part is an attachment, and returns
-/// the last.
-fn write_file<W: Write>(
+/// Whether a part of this disposition is an attachment: it has no parts of its own, and its
+/// disposition and its type are those of one.
+fn is_attachment(part: &ParsedMail<'_>, disposition: &ParsedContentDisposition) -> bool
+    ensures { result ≡ is_attachment (tree_of part.now) (views.disposition disposition.now) }
+{
+    is_leaf(part) && describes_attachment(disposition, &part.ctype)
+}
+
+/// Writes the disposition, the name of the file and whether the part is an attachment.
+fn write_disposition<W: Write>(
     alloc: Global,
     out: &mut W,
     part: &ParsedMail<'_>,
-    tables: &[SingleByteTable<'_>],
-) -> Result<bool, Fault>
-    ensures written { let node = root (tree_of part.now) in
-        Writes (W.contents out.old) (W.contents out.new) result
-        (file_text (is_leaf (tree_of part.now))
-        (disposition_of (charsets_with tables.now) node) node.ctype) }
-    ensures value { let node = root (tree_of part.now) in
-        IfOk result (λ is. is ≡ is_file (is_leaf (tree_of part.now))
-        (disposition_of (charsets_with tables.now) node) node.ctype) }
+    disposition: &ParsedContentDisposition,
+    is_attachment: bool,
+) -> Result<(), Fault>
+    ensures { Writes (W.contents out.old) (W.contents out.new) result (disposition_text
+        (views.disposition disposition.now) (root (tree_of part.now)) is_attachment) }
 {
-    let shown = disposition_of(alloc, part, tables)?;
-    let is_file = is_file(part, &shown);
     write_word(out, ",\"disposition\":")?;
-    write_name(alloc, out, disposition_name(&shown))?;
+    write_name(alloc, out, disposition_name(part, disposition))?;
     write_word(out, ",\"file_name\":")?;
-    write_name(alloc, out, file_name(&shown, &part.ctype))?;
+    write_name(alloc, out, named_file(disposition, &part.ctype))?;
     write_word(out, ",\"attachment\":")?;
-    write_word(out, flag_text(is_file))?;
-    Ok(is_file)
-}
-
-/// Whether a part of this disposition is an attachment: it has no parts of its own, and its
-/// disposition is `attachment` or it has a file name.
-fn is_file(part: &ParsedMail<'_>, shown: &Option<ParsedContentDisposition>) -> bool
-    ensures { result ≡ is_file (is_leaf (tree_of part.now)) (option_map disposition shown.now)
-        (root (tree_of part.now)).ctype }
-{
-    is_leaf(part) && (is_kept_apart(shown) || file_name(shown, &part.ctype).is_some())
+    write_word(out, flag_text(is_attachment))
 }
 
 /// `true` or `false`.

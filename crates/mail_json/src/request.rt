@@ -1,6 +1,6 @@
 //! What the arguments ask for.
 
-pub use mail_program::is_option;
+use mail_program::names_no_file;
 
 /// What `--help` prints.
 pub const HELP: &str = "Writes mails as JSON, one object to a line.
@@ -40,7 +40,7 @@ pub fn mode_of(words: &[String]) -> Mode {
             "-h" => return Mode::Help,
             "--mbox" => mode = Mode::Mailbox,
             word => {
-                if is_option(word) {
+                if names_no_file(word) {
                     return Mode::Wrong;
                 }
             }

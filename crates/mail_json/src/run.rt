@@ -8,13 +8,11 @@ ghost use Rattle.mail_json.specs.Run.{AreInputLines, AreLines, AreMailboxLines, 
 ghost use Rattle.mail_json.specs.Run.{WritesLines, error_line};
 ghost use Rattle.mail_json.specs.Written.{Writes};
 
-use crate::fault::Fault;
 use crate::fields::refusal_text;
 use crate::mail::write_mail;
-use crate::request::is_option;
 use crate::strings::{write_text, write_word};
 use mail_data::mailbox::{Mailbox, read_mailbox};
-use mail_program::read_input;
+use mail_program::{Fault, names_no_file, read_input};
 use mail_tables::TABLES;
 use mailparse::{SingleByteTable, parse_mail_with};
 use std::alloc::Global;
@@ -31,7 +29,7 @@ pub fn run(
     is_mailbox: bool,
 ) -> bool {
     match run_all(rt, words, is_mailbox) {
-        Ok(is_whole) => is_whole,
+        Ok(is_clean) => is_clean,
         Err(fault) => {
             let _ = eprintln!(rt; "mail_json: {fault}");
             false
@@ -39,26 +37,26 @@ pub fn run(
     }
 }
 
-/// The same; a write that fails, or running out of memory, ends the run.
+/// Does what `run` does, but returns the fault that ends the run: a write failed, or memory ran out.
 fn run_all(
     rt: &(impl Files + Input + Print + Eprint + AllocGlobal),
     words: &[String],
     is_mailbox: bool,
 ) -> Result<bool, Fault> {
     let mut out = BufWriter::new(rt.alloc(), io::writer(rt))?;
-    let mut is_whole = true;
+    let mut is_clean = true;
     let mut is_named = false;
     for word in words {
-        if !is_option(word.as_str()) {
+        if !names_no_file(word.as_str()) {
             is_named = true;
-            is_whole &= run_file(rt, word.as_str(), is_mailbox, &mut out)?;
+            is_clean &= run_file(rt, word.as_str(), is_mailbox, &mut out)?;
         }
     }
     if !is_named {
-        is_whole = run_input(rt, is_mailbox, &mut out)?;
+        is_clean = run_input(rt, is_mailbox, &mut out)?;
     }
     out.flush()?;
-    Ok(is_whole)
+    Ok(is_clean)
 }
 
 /// Writes the mails of a file. Returns whether it could be read and no mail was refused.
@@ -167,15 +165,15 @@ fn write_mails<W: Write>(
         (AreLines (charsets_with tables.now) start (entries_left mails.entry)) }
 {
     let mut at = start;
-    let mut is_whole = true;
+    let mut is_clean = true;
     for entry in mails {
         at = at.saturating_add(entry.separator().len());
         let is_read = write_line(alloc, entry.mail(), at, out, tables)?;
-        is_whole &= is_read;
+        is_clean &= is_read;
         at = at.saturating_add(entry.mail().len());
         at = at.saturating_add(entry.ending().len());
     }
-    Ok(is_whole)
+    Ok(is_clean)
 }
 
 /// Writes the line of a mail that begins at this offset of the input. Returns whether it is not

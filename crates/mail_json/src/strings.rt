@@ -1,11 +1,11 @@
 //! JSON text of strings and of members of an object (RFC 8259, sections 4, 5 and 7).
 ghost use Rattle.std.specs.Prelude.{◌≡◌, ◌++◌, false, map, option_map, string_bytes, IfOk, OnOk};
-ghost use Rattle.mail_json.specs.Strings.{character_text, comma, is_hidden, json_text, json_texts};
-ghost use Rattle.mail_json.specs.Strings.{shown, text_or_null};
+ghost use Rattle.mail_json.specs.Strings.{character_text, comma, escaped, is_hidden, json_text};
+ghost use Rattle.mail_json.specs.Strings.{json_texts, text_or_null};
 ghost use Rattle.mail_json.specs.Written.{Writes};
 ghost use Rattle.mailparse.specs.Map.{text_found};
 
-use crate::fault::Fault;
+use mail_program::Fault;
 use serde_json::Value;
 use std::alloc::{AllocError, Global};
 use std::io::Write;
@@ -125,7 +125,7 @@ pub fn write_word<W: Write>(out: &mut W, word: &str) -> Result<(), Fault>
 
 /// Whether a text may have a character that `escaped` writes as an escape.
 fn has_hidden(text: &str) -> bool
-    ensures { result ≡ false → shown text.now ≡ text.now }
+    ensures { result ≡ false → escaped text.now ≡ text.now }
 {
     for c in text.chars() {
         if is_hidden(c) {
@@ -147,7 +147,7 @@ fn is_hidden(c: char) -> bool
 
 /// A JSON text with escapes in place of such characters, which stand only within its strings.
 fn escaped(alloc: Global, json: &str) -> Result<String, AllocError>
-    ensures { IfOk result (λ text. string_bytes text ≡ shown json.now) }
+    ensures { IfOk result (λ text. string_bytes text ≡ escaped json.now) }
 {
     let mut text = String::with_capacity(alloc, json.len())?;
     for c in json.chars() {

@@ -15,10 +15,10 @@ use std::io;
 /// # Examples
 ///
 /// ```rust
-/// use mail_program::{arguments, is_option};
+/// use mail_program::{arguments, names_no_file};
 ///
 /// let words = arguments(&rt)?;
-/// let names = words.iter().filter(|word| !is_option(word.as_str())).count();
+/// let names = words.iter().filter(|word| !names_no_file(word.as_str())).count();
 /// assert!(rt; names <= words.len());
 /// ```
 pub fn arguments(rt: &(impl Env + AllocGlobal)) -> io::Result<Vec<String>> {
@@ -29,19 +29,19 @@ pub fn arguments(rt: &(impl Env + AllocGlobal)) -> io::Result<Vec<String>> {
     Ok(words)
 }
 
-/// Whether an argument is an option, or empty, and so no name of a file.
+/// Returns whether an argument names no file: it is an option, or empty.
 ///
 /// Takes no memory.
 ///
 /// # Examples
 ///
 /// ```rust
-/// use mail_program::is_option;
+/// use mail_program::names_no_file;
 ///
-/// assert!(rt; is_option("--help"));
-/// assert!(rt; is_option(""));
-/// assert!(rt; !is_option("mail.eml"));
+/// assert!(rt; names_no_file("--help"));
+/// assert!(rt; names_no_file(""));
+/// assert!(rt; !names_no_file("mail.eml"));
 /// ```
-pub fn is_option(word: &str) -> bool {
+pub fn names_no_file(word: &str) -> bool {
     word.starts_with('-') || word.is_empty()
 }

@@ -30,7 +30,7 @@ abbrev pub mail_text : Tree → List ℕ
 mail_text message = parts_text 0 (trees_within message)
 
 -- what the program shows of its input, or the refusal that it names
-unfoldable pub shown : List ℕ → Reads (List ℕ)
-shown input = do
+unfoldable pub output_text : List ℕ → Reads (List ℕ)
+output_text input = do
   mail ← read_mail input
   Ok (mail_text mail)

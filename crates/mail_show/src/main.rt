@@ -7,9 +7,9 @@ mod run;
 mod tests;
 mod text;
 
-use mail_program::arguments;
+use mail_program::{Fault, arguments};
 use request::{HELP, Request, USAGE, request_of};
-use run::{ShowFault, run};
+use run::run;
 use std::process::ExitCode;
 use std::rt::Files;
 use std::{fs, io};
@@ -23,7 +23,7 @@ fn main(rt: HostRuntime) -> ExitCode {
         }
     };
     match request_of(words.as_slice()) {
-        Request::Help => ended(&rt, rt.print(HELP).map_err(ShowFault::Output)),
+        Request::Help => ended(&rt, rt.print(HELP).map_err(Fault::Output)),
         Request::Wrong => {
             let _ = eprintln!(rt; "{USAGE}");
             ExitCode::from(2)
@@ -34,7 +34,7 @@ fn main(rt: HostRuntime) -> ExitCode {
 }
 
 /// The status of a run; says on standard error why it failed.
-fn ended(rt: &impl Eprint, outcome: Result<(), ShowFault>) -> ExitCode {
+fn ended(rt: &impl Eprint, outcome: Result<(), Fault>) -> ExitCode {
     match outcome {
         Ok(()) => ExitCode::SUCCESS,
         Err(fault) => {

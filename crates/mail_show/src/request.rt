@@ -1,6 +1,6 @@
 //! What the arguments ask for.
 
-use mail_program::is_option;
+use mail_program::names_no_file;
 
 /// What `--help` prints.
 pub const HELP: &str = "Shows a mail: its parts, the headers of each, and the sizes of their bodies.
@@ -36,7 +36,7 @@ pub fn request_of(words: &[String]) -> Request<'_> {
         match (word.as_str(), request) {
             ("--help", _) => return Request::Help,
             ("-h", _) => return Request::Help,
-            (name, Request::Input) if !is_option(name) => request = Request::File(name),
+            (name, Request::Input) if !names_no_file(name) => request = Request::File(name),
             _ => request = Request::Wrong,
         }
     }

@@ -2,11 +2,10 @@
 ghost use Rattle.std.specs.Io.KnownBytes.{Keeps};
 ghost use Rattle.std.specs.Prelude.{IfErr, IfOk};
 ghost use Rattle.mail_program.specs.Fault.{IfInput, IfMail};
-ghost use Rattle.mail_show.specs.Run.{HasShown, RefusesInput};
+ghost use Rattle.mail_show.specs.Run.{HasWritten, RefusesInput};
 
 use crate::text::text_of;
-pub use mail_program::Fault as ShowFault;
-use mail_program::{read_input, write_output};
+use mail_program::{Fault, read_input, write_output};
 use mailparse::parse_mail;
 use std::alloc::Global;
 use std::io::{Read, Write};
@@ -19,16 +18,12 @@ use std::io::{Read, Write};
 ///
 /// # Errors
 ///
-/// - `ShowFault::Mail` where `parse_mail` refuses the input, with its refusal, and where it runs out
+/// - `Fault::Mail` where `parse_mail` refuses the input, with its refusal, and where it runs out
 ///   of memory,
-/// - `ShowFault::Input` where a read fails,
-/// - `ShowFault::Output` where a write or the flush fails.
-pub fn run<R: Read, W: Write>(
-    alloc: Global,
-    reader: &mut R,
-    writer: &mut W,
-) -> Result<(), ShowFault>
-    ensures shown { IfOk result (λ done. HasShown (R.remaining reader.old) (R.remaining reader.new)
+/// - `Fault::Input` where a read fails,
+/// - `Fault::Output` where a write or the flush fails.
+pub fn run<R: Read, W: Write>(alloc: Global, reader: &mut R, writer: &mut W) -> Result<(), Fault>
+    ensures written { IfOk result (λ done. HasWritten (R.remaining reader.old) (R.remaining reader.new)
         (W.contents writer.old) (W.contents writer.new)) }
     ensures refused { IfErr result (IfMail (λ e.
         Keeps (W.contents writer.old) (W.contents writer.new)

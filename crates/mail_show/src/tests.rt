@@ -1,5 +1,6 @@
 //! Runs over readers and writers that give and take little at a time, and that fail.
-use crate::run::{ShowFault, run};
+use crate::run::run;
+use mail_program::Fault;
 use mailparse::MailParseError;
 use std::alloc::{AllocError, Global};
 use std::io;
@@ -286,9 +287,9 @@ static REFUSED: [Refused; 7] = [
 ];
 
 /// The text of a refusal by rule, or `no refusal`.
-fn refusal(outcome: Result<(), ShowFault>) -> &'static str {
+fn refusal(outcome: Result<(), Fault>) -> &'static str {
     match outcome {
-        Err(ShowFault::Mail(MailParseError::Generic(text))) => text,
+        Err(Fault::Mail(MailParseError::Generic(text))) => text,
         _ => "no refusal",
     }
 }
@@ -319,7 +320,7 @@ fn assert_read_failing(rt: &impl Abort, alloc: Global, row: &Shown, place: usize
         }
         Err(fault) => {
             assert!(*rt;
-                matches!(fault, ShowFault::Input(e) if e.kind() == ErrorKind::TimedOut),
+                matches!(fault, Fault::Input(e) if e.kind() == ErrorKind::TimedOut),
                 "{place} of {}",
                 row.text
             );
@@ -356,7 +357,7 @@ fn a_read_that_would_have_to_wait_fails(rt: HostRuntime) {
         let mut reader = TestReader::new(INPUT, 1, Trouble::BlocksAt(place));
         let mut writer = TestWriter::new(rt.alloc(), 1, Trouble::Never);
         let outcome = run(rt.alloc(), &mut reader, &mut writer);
-        assert!(rt; matches!(outcome, Err(ShowFault::Input(_))), "{place}");
+        assert!(rt; matches!(outcome, Err(Fault::Input(_))), "{place}");
         assert_eq!(rt; reader.calls, place);
         assert_eq!(rt; (writer.calls, writer.flushes), (0, 0));
     }
@@ -368,7 +369,7 @@ fn a_read_failing_after_what_would_be_refused(rt: HostRuntime) {
         let mut reader = TestReader::new(b" x", 1, Trouble::FailsAt(place));
         let mut writer = TestWriter::new(rt.alloc(), 1, Trouble::Never);
         let outcome = run(rt.alloc(), &mut reader, &mut writer);
-        assert!(rt; matches!(outcome, Err(ShowFault::Input(_))), "{place}");
+        assert!(rt; matches!(outcome, Err(Fault::Input(_))), "{place}");
         assert_eq!(rt; writer.calls, 0, "{place}");
     }
 }
@@ -378,7 +379,7 @@ fn run_with_trouble(
     alloc: Global,
     input: &[u8],
     trouble: Trouble,
-) -> (Result<(), ShowFault>, TestWriter) {
+) -> (Result<(), Fault>, TestWriter) {
     let mut reader = TestReader::new(input, usize::MAX, Trouble::Never);
     let mut writer = TestWriter::new(alloc, 1, trouble);
     let outcome = run(alloc, &mut reader, &mut writer);
@@ -395,7 +396,7 @@ fn assert_write_failing(
 ) {
     let (outcome, writer) = run_with_trouble(alloc, row.message, trouble);
     assert!(*rt;
-        matches!(outcome, Err(ShowFault::Output(_))),
+        matches!(outcome, Err(Fault::Output(_))),
         "{place} of {}",
         row.text
     );
@@ -438,7 +439,7 @@ fn a_flush_that_fails_is_not_tried_again(rt: HostRuntime) -> Result<(), Fail> {
         let mut writer = TestWriter::new(rt.alloc(), 7, Trouble::Never);
         writer.flush_fault = Some(kind);
         let outcome = run(rt.alloc(), &mut reader, &mut writer);
-        assert!(rt; matches!(outcome, Err(ShowFault::Output(_))), "{kind:?}");
+        assert!(rt; matches!(outcome, Err(Fault::Output(_))), "{kind:?}");
         assert_eq!(rt; writer.flushes, 1);
         assert_eq!(rt; writer.held.as_slice(), TEXT);
     }
@@ -448,7 +449,7 @@ fn a_flush_that_fails_is_not_tried_again(rt: HostRuntime) -> Result<(), Fail> {
 /// A fault, and its text.
 #[derive(Drop)]
 struct FaultRow {
-    fault: ShowFault,
+    fault: Fault,
     text: &'static str,
 }
 
@@ -456,15 +457,15 @@ struct FaultRow {
 fn display_texts_of_the_faults(rt: HostRuntime) -> Result<(), Fail> {
     let rows = [
         FaultRow {
-            fault: ShowFault::Mail(MailParseError::Generic(LONE_CR)),
+            fault: Fault::Mail(MailParseError::Generic(LONE_CR)),
             text: LONE_CR,
         },
         FaultRow {
-            fault: ShowFault::Input(io::Error::from_raw_os_error(21)),
+            fault: Fault::Input(io::Error::from_raw_os_error(21)),
             text: "input failed: Is a directory (os error 21)",
         },
         FaultRow {
-            fault: ShowFault::Output(io::Error::from_raw_os_error(28)),
+            fault: Fault::Output(io::Error::from_raw_os_error(28)),
             text: "output failed: No space left on device (os error 28)",
         },
     ];

@@ -1,7 +1,6 @@
 -- Lemmas on the texts of parts, and on the parameters of a type.
-use Rattle.std.proofs.Common.{◌≡◌, ℕ, suc, ◌+◌, ◌<◌, ◌≤◌, Bool, true, false, List, [], ◌∷◌, ◌++◌, length, drop, get_or, map, Some, option_map, cond, String, refl, sym, ap, subst, ◌∙◌, append_assoc, add-one, eqb, arith}
-use Rattle.std.proofs.lemmas.Bool.{ne_eqb}
-use Rattle.std.proofs.lemmas.List.{append-nil, drop_all, length-map}
+use Rattle.std.proofs.Common.{◌≡◌, ℕ, suc, ◌+◌, ◌<◌, ◌≤◌, Bool, true, false, List, [], ◌∷◌, ◌++◌, length, drop, get_or, map, Some, option_map, cond, String, refl, sym, ap, subst, ◌∙◌, append_assoc, add-one}
+use Rattle.std.proofs.lemmas.List.{append-nil, drop_all}
 use Rattle.std.proofs.lemmas.Map.Text.{is_eq-slice_cmp}
 use Rattle.std.specs.Prelude.{codes}
 use Rattle.std.specs.BTreeMap.{BTreeMap, IsOrdered}
@@ -19,8 +18,8 @@ use Rattle.mailparse.specs.Views.{content_type, tree_of, tree_step}
 use Rattle.mailparse.specs.declared.mail.message.ParsedMail.{ParsedMail}
 use Rattle.mailparse.specs.declared.mail.message.ParsedMail.TheFolds.{fold_out-ParsedMail}
 use Rattle.mailparse.specs.declared.mail.message.ParsedMail.TheViews.{out-ParsedMail}
-use Rattle.mail_data.specs.Files.{is_leaf, path_under}
-use Rattle.mail_json.specs.Part.{Lists, further, Place, AreAfterCommas, delimiter_length, part_start, places, places_in, preamble_end}
+use Rattle.mail_data.specs.Files.{path_under}
+use Rattle.mail_json.specs.Part.{Lists, saturating_add, Place, AreAfterCommas, dash_boundary_length, part_start, places, places_in, preamble_end}
 use Rattle.mail_json.proofs.lemmas.Strings.{drop_next}
 
 -- one after the other
@@ -69,19 +68,6 @@ ctype-out m = ap (λ (t : Tree). (root t).ctype) (sym (fold_out-ParsedMail Tree 
 pub headers-out : (m : ParsedMail) → (out-ParsedMail m).headers.items ≡ (root (tree_of m)).headers
 headers-out m = ap (λ (t : Tree). (root t).headers) (sym (fold_out-ParsedMail Tree tree_step m))
 
-leaf-forest : (node : Node) (ts : List Tree) → is_leaf (tree node (forest ts)) ≡ eqb (length ts) 0
-leaf-forest node [] = refl
-leaf-forest node (t ∷ ts) = sym (ne_eqb (length (t ∷ ts)) 0 (λ e. absurd (omega arith)))
-
-leaf-at : (t : Tree) (node : Node) (ts : List Tree) → t ≡ tree node (forest ts) → is_leaf t ≡ eqb (length ts) 0
-leaf-at t node ts e = ap is_leaf e ∙ leaf-forest node ts
-
--- a message has no parts exactly where its list of parts is empty
-pub is_leaf-out : (m : ParsedMail) → is_leaf (tree_of m) ≡ eqb (length (out-ParsedMail m).subparts.items) 0
-is_leaf-out m =
-    leaf-at (tree_of m) _ (map tree_of (out-ParsedMail m).subparts.items) (fold_out-ParsedMail Tree tree_step m)
-    ∙ ap (λ n. eqb n 0) (length-map (out-ParsedMail m).subparts.items tree_of)
-
 -- the places of a message that has these parts
 places-at : (path : List ℕ) (start : ℕ) (t : Tree) (node : Node) (parts : Forest) → t ≡ tree node parts
     → places path start t ≡ record { path = path; start = start; part = t } ∷ places_in path start (root t) 1 (preamble_end (root t)) parts
@@ -97,28 +83,28 @@ places-out path start m = places-at path start (tree_of m) _ (forest (map tree_o
 
 -- the places of the first part that is left, and then those of the others
 pub places-more : (path : List ℕ) (start : ℕ) (node : Node) (number end begin : ℕ) (parts : List Tree) (t : Tree) (ts : List Tree) → parts ≡ t ∷ ts
-    → begin ≡ part_start node.bytes end (delimiter_length node.ctype)
+    → begin ≡ part_start node.bytes end (dash_boundary_length node.ctype)
     → places_in path start node number end (forest parts)
-    ≡ places (path_under path number) (further start begin) t ++ places_in path start node (suc number) (further begin (length (root t).bytes)) (forest ts)
+    ≡ places (path_under path number) (saturating_add start begin) t ++ places_in path start node (suc number) (saturating_add begin (length (root t).bytes)) (forest ts)
 places-more path start node number end begin parts t ts e at =
     ap (λ (ps : List Tree). places_in path start node number end (forest ps)) e
-    ∙ ap (λ b. places (path_under path number) (further start b) t ++ places_in path start node (suc number) (further b (length (root t).bytes)) (forest ts)) (sym at)
+    ∙ ap (λ b. places (path_under path number) (saturating_add start b) t ++ places_in path start node (suc number) (saturating_add b (length (root t).bytes)) (forest ts)) (sym at)
 
 -- one part more was written, which begins there; what follows it is what is left
 pub parts_step : (Is : Place → List ℕ → Type 0) (path : List ℕ) (start : ℕ) (node : Node) (i end begin begun after : ℕ) (under : List ℕ)
     (parts : List ParsedMail) (m : ParsedMail) (all : List Place) (done text : List ℕ)
-    → i < length parts → m ≡ get_or parts i m → begin ≡ part_start node.bytes end (delimiter_length node.ctype) → under ≡ path_under path (suc i)
-    → begun ≡ further start begin → after ≡ further begin (length (root (tree_of m)).bytes)
+    → i < length parts → m ≡ get_or parts i m → begin ≡ part_start node.bytes end (dash_boundary_length node.ctype) → under ≡ path_under path (suc i)
+    → begun ≡ saturating_add start begin → after ≡ saturating_add begin (length (root (tree_of m)).bytes)
     → Completes Is (places_in path start node (suc i) end (forest (map tree_of (drop i parts)))) all done
     → AreAfterCommas Is (places under begun (tree_of m)) (codes "," ++ text)
     → Completes Is (places_in path start node (suc (i + 1)) after (forest (map tree_of (drop (i + 1) parts)))) all (done ++ (codes "," ++ text))
 parts_step Is path start node i end begin begun after under parts m all done text h item at is_under is_begun is_after here p =
     let rest = drop (i + 1) parts in
-    let mine = places (path_under path (suc i)) (further start begin) (tree_of m) in
+    let mine = places (path_under path (suc i)) (saturating_add start begin) (tree_of m) in
     let left : map tree_of (drop i parts) ≡ tree_of m ∷ map tree_of rest = ap (map tree_of) (drop_next parts i m h item) in
     let cut = places-more path start node (suc i) end begin (map tree_of (drop i parts)) (tree_of m) (map tree_of rest) left at in
     let next =
-    ap (λ n. places_in path start node (suc n) (further begin (length (root (tree_of m)).bytes)) (forest (map tree_of rest))) (sym (add-one i))
+    ap (λ n. places_in path start node (suc n) (saturating_add begin (length (root (tree_of m)).bytes)) (forest (map tree_of rest))) (sym (add-one i))
     ∙ ap (λ a. places_in path start node (suc (i + 1)) a (forest (map tree_of rest))) (sym is_after) in
     let own : places under begun (tree_of m) ≡ mine =
     ap (λ u. places u begun (tree_of m)) is_under ∙ ap (λ b. places (path_under path (suc i)) b (tree_of m)) is_begun in

@@ -10,9 +10,9 @@ use Rattle.std.specs.Fmt.{padded_integral, format_spec}
 use Rattle.std.specs.Io.KnownBytes.{Appends}
 use Rattle.std.specs.List.{flat_map}
 use Rattle.std.specs.Str.{chars, IsUtf8}
-use Rattle.mail_json.specs.Strings.{is_hidden, hexadecimal, character_text, shown, comma, after_commas, joined}
+use Rattle.mail_json.specs.Strings.{is_hidden, hexadecimal, character_text, escaped, comma, after_commas, joined}
 
--- a character that is shown as it is, and one that is not
+-- a character that stands as it is, and one that is escaped
 pub character_plain : (c : ℕ) → is_hidden c ≡ false → character_text c ≡ encode_utf8 c
 unfolding character_text
 character_plain c e = cond-false (is_hidden c) (codes "\\u" ++ hexadecimal c) (encode_utf8 c) e
@@ -26,28 +26,28 @@ abbrev pub hexadecimal_output : Option (List ℕ) → Option (List ℕ)
 hexadecimal_output digits = option_map (padded_integral (format_spec 32 0 4 4 (2 ^ 64 - 1)) false []) digits
 
 -- the first character, and what follows it
-pub shown_past : (rest next : List ℕ) (c : ℕ) → IsUtf8 rest → rest ≡ encode_utf8 c ++ next → shown rest ≡ character_text c ++ shown next
-unfolding shown
-shown_past rest next c utf8 e = ap (λ cs. flat_map character_text cs) (chars_past_char rest next c utf8 e)
+pub escaped_first : (rest next : List ℕ) (c : ℕ) → IsUtf8 rest → rest ≡ encode_utf8 c ++ next → escaped rest ≡ character_text c ++ escaped next
+unfolding escaped
+escaped_first rest next c utf8 e = ap (λ cs. flat_map character_text cs) (chars_past_char rest next c utf8 e)
 
-pub shown_nil : (rest : List ℕ) → rest ≡ [] → shown rest ≡ []
-unfolding shown
-shown_nil rest e = ap (λ cs. flat_map character_text cs) (ap chars e ∙ chars-nil)
+pub escaped_nil : (rest : List ℕ) → rest ≡ [] → escaped rest ≡ []
+unfolding escaped
+escaped_nil rest e = ap (λ cs. flat_map character_text cs) (ap chars e ∙ chars-nil)
 
--- if what follows a plain character shows as it stands, so does the whole
-pub same_past : (rest next : List ℕ) (c : ℕ) → IsUtf8 rest → rest ≡ encode_utf8 c ++ next → is_hidden c ≡ false → shown next ≡ next → shown rest ≡ rest
+-- if what follows a plain character stays as it stands, so does the whole
+pub same_past : (rest next : List ℕ) (c : ℕ) → IsUtf8 rest → rest ≡ encode_utf8 c ++ next → is_hidden c ≡ false → escaped next ≡ next → escaped rest ≡ rest
 same_past rest next c utf8 e plain same =
-    shown_past rest next c utf8 e ∙ ap (λ t. t ++ shown next) (character_plain c plain) ∙ ap (λ t. encode_utf8 c ++ t) same ∙ sym e
+    escaped_first rest next c utf8 e ∙ ap (λ t. t ++ escaped next) (character_plain c plain) ∙ ap (λ t. encode_utf8 c ++ t) same ∙ sym e
 
--- what was written, and then the rest shown, is all shown
+-- what was written, and then the rest escaped, is all escaped
 pub escaped_past : (all written rest next new : List ℕ) (c : ℕ) → IsUtf8 rest → rest ≡ encode_utf8 c ++ next → new ≡ written ++ character_text c
-    → written ++ shown rest ≡ all → new ++ shown next ≡ all
+    → written ++ escaped rest ≡ all → new ++ escaped next ≡ all
 escaped_past all written rest next new c utf8 e push here =
-    ap (λ w. w ++ shown next) push ∙ append_assoc written (character_text c) (shown next)
-    ∙ ap (λ t. written ++ t) (sym (shown_past rest next c utf8 e)) ∙ here
+    ap (λ w. w ++ escaped next) push ∙ append_assoc written (character_text c) (escaped next)
+    ∙ ap (λ t. written ++ t) (sym (escaped_first rest next c utf8 e)) ∙ here
 
-pub escaped_end : (all written rest : List ℕ) → rest ≡ [] → written ++ shown rest ≡ all → written ≡ all
-escaped_end all written rest none here = sym (append-nil written) ∙ ap (λ t. written ++ t) (sym (shown_nil rest none)) ∙ here
+pub escaped_end : (all written rest : List ℕ) → rest ≡ [] → written ++ escaped rest ≡ all → written ≡ all
+escaped_end all written rest none here = sym (append-nil written) ∙ ap (λ t. written ++ t) (sym (escaped_nil rest none)) ∙ here
 
 -- ---- items with commas
 

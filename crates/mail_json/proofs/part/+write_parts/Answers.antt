@@ -6,7 +6,7 @@ use Rattle.mailparse.specs.Mail.{forest, root}
 use Rattle.mailparse.specs.Views.{tree_of}
 use Rattle.mailparse.specs.declared.mail.message.ParsedMail.{ParsedMail}
 use Rattle.mail_data.specs.Files.{path_under}
-use Rattle.mail_json.specs.Part.{further, Place, IsPartText, delimiter_length, part_start, places, places_in, preamble_end}
+use Rattle.mail_json.specs.Part.{saturating_add, Place, IsPartText, dash_boundary_length, part_start, places, places_in, preamble_end}
 use Rattle.mail_json.proofs.lemmas.Part.{bytes-out, ctype-out, completes_start, completes_end, parts_end, parts_step, places-out}
 use Rattle.mail_json.proofs.part.«+write_parts».Goals as goal
 
@@ -42,12 +42,12 @@ loop-subpart-preserved g t c =
     let count = c.loop-subpart.invariant.count in
     let part = c.in_ok-write_parts.ensures {u = tt} in
     let begin =
-    c.part_start-at.ensures ∙ ap (λ b. part_start b c.loop-subpart.at c.delimiter_length-delimiter.result) (bytes-out m)
-    ∙ ap (λ d. part_start node.bytes c.loop-subpart.at d) (c.delimiter_length-delimiter.ensures ∙ ap delimiter_length (ctype-out m)) in
+    c.part_start-at.ensures ∙ ap (λ b. part_start b c.loop-subpart.at c.dash_boundary_length-dash_boundary.result) (bytes-out m)
+    ∙ ap (λ d. part_start node.bytes c.loop-subpart.at d) (c.dash_boundary_length-dash_boundary.ensures ∙ ap dash_boundary_length (ctype-out m)) in
     let number : c.loop-subpart.number + 1 ≡ suc c.loop-subpart.subpart-index = omega (arith, count) in
     let under = c.as_str.ensures.value ∙ c.in_ok-under.ensures ∙ ap (path_under path) number in
     let after =
-    c.saturating_add-at.ensures ∙ ap (λ (bytes : List ℕ). further c.part_start-at.result (length bytes)) (bytes-out c.subpart-item.result) in
+    c.saturating_add-at.ensures ∙ ap (λ (bytes : List ℕ). saturating_add c.part_start-at.result (length bytes)) (bytes-out c.subpart-item.result) in
     record {
       count = omega (arith, count);
       wrote = (

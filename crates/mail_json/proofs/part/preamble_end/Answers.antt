@@ -2,12 +2,12 @@ use Rattle.std.proofs.Common.{length, ap, ◌∙◌}
 use Rattle.mailparse.specs.BodyViews.{content_of}
 use Rattle.mailparse.specs.Mail.{HeaderBlock, body_kind, root}
 use Rattle.mailparse.specs.Views.{tree_of}
-use Rattle.mail_json.specs.Part.{further}
+use Rattle.mail_json.specs.Part.{saturating_add}
 use Rattle.mail_json.proofs.part.preamble_end.Goals as goal
 
 pub returns-clause-read : goal.returns-clause-read
 returns-clause-read c =
     let node = root (tree_of c.args.part.now) in
     c.saturating_add.ensures
-    ∙ ap (λ n. further n c.raw_length.result) (ap length (c.get_raw_bytes-headers.ensures ∙ ap (λ (b : HeaderBlock). b.bytes) c.get_headers.ensures))
-    ∙ ap (λ n. further (length node.block) n) (c.raw_length.ensures (body_kind node) (content_of node) c.in_ok-body.ensures.read)
+    ∙ ap (λ n. saturating_add n c.raw_length.result) (ap length (c.get_raw_bytes-headers.ensures ∙ ap (λ (b : HeaderBlock). b.bytes) c.get_headers.ensures))
+    ∙ ap (λ n. saturating_add (length node.block) n) (c.raw_length.ensures (body_kind node) (content_of node) c.in_ok-body.ensures.read)

@@ -1,4 +1,4 @@
-use Rattle.std.proofs.Common.{not, ◌&&◌, List, ℕ, length, refl, ap, subst, ◌∙◌}
+use Rattle.std.proofs.Common.{◌≡◌, not, ◌&&◌, List, ℕ, length, refl, sym, ap, subst, ◌∙◌}
 use Rattle.std.proofs.lemmas.Result.{err_from_is_err_and}
 use Rattle.std.specs.Prelude.{codes}
 use Rattle.std.proofs.KnownBytes.{Appends-trans}
@@ -6,12 +6,14 @@ use Rattle.mail_codec.specs.Places.{stands}
 use Rattle.mail_codec.specs.Tables.{charsets_with}
 use Rattle.mailparse.specs.BodyViews.{content_of}
 use Rattle.mailparse.specs.ContentType.{ContentType}
-use Rattle.mailparse.specs.Mail.{root}
-use Rattle.mailparse.specs.Views.{tree_of}
+use Rattle.mailparse.specs.Disposition.{Disposition}
+use Rattle.mailparse.specs.Mail.{root, shown_as_in}
+use Rattle.mailparse.specs.Views.{disposition, tree_of}
 use Rattle.mail_data.specs.Files.{is_leaf}
 use Rattle.mail_data.specs.lenient.Encoding.{lenient_body_kind}
-use Rattle.mail_json.specs.Part.{IsTypeText, body_text, further, headers_text, place_text, Place, IsPartText, part_text}
+use Rattle.mail_json.specs.Part.{IsTypeText, body_text, disposition_text, saturating_add, headers_text, is_attachment, place_text, Place, IsPartText, part_text}
 use Rattle.mail_json.specs.Body.{encoding_text}
+use Rattle.mail_json.proofs.lemmas.Fields.{ok_same}
 use Rattle.mail_json.proofs.lemmas.Written.{appends_as, writes_one, writes_then}
 use Rattle.mail_json.proofs.lemmas.Part.{bytes-out, ctype-out, headers-out}
 use Rattle.mail_json.proofs.part.write_part.Goals as goal
@@ -26,19 +28,22 @@ returns g c =
     let place : Place = record { path = c.args.path.now; start = c.args.start; part = tree_of m } in
     let type = c.in_ok-write_type.ensures in
     let is_body = c.in_ok-body.ensures.read in
-    let end = c.saturating_add-end.ensures ∙ ap (λ (bytes : List ℕ). further c.args.start (length bytes)) (bytes-out m) in
+    let end = c.saturating_add-end.ensures ∙ ap (λ (bytes : List ℕ). saturating_add c.args.start (length bytes)) (bytes-out m) in
     let places =
     ap (λ (name : List ℕ). place_text name c.args.start c.saturating_add-end.result c.raw_length.result) (c.encoding_name.ensures kind given is_body)
     ∙ ap (λ e. place_text (encoding_text kind) c.args.start e c.raw_length.result) end
-    ∙ ap (λ n. place_text (encoding_text kind) c.args.start (further c.args.start (length node.bytes)) n) (c.raw_length.ensures kind given is_body) in
+    ∙ ap (λ n. place_text (encoding_text kind) c.args.start (saturating_add c.args.start (length node.bytes)) n) (c.raw_length.ensures kind given is_body) in
     let headers = ap (headers_text known) (c.as_slice.ensures.value ∙ headers-out m) in
-    let is_read =
-    c.is_read.ensures
-    ∙ ap (λ is. not is && is_leaf (tree_of m) && stands (codes "text/") node.ctype.mimetype) c.in_ok-is_file.ensures.value in
+    let same : shown_as_in known node ≡ disposition c.in_ok-disposition.disposition = ok_same _ _ c.in_ok-disposition.ensures in
+    let attached = c.is_attachment-is_attachment.ensures ∙ ap (is_attachment (tree_of m)) (sym same) in
+    let members =
+    ap (λ (d : Disposition). disposition_text d node c.is_attachment-is_attachment.result) (sym same)
+    ∙ ap (disposition_text (shown_as_in known node) node) attached in
+    let is_read = c.is_read.ensures ∙ ap (λ is. not is && is_leaf (tree_of m) && stands (codes "text/") node.ctype.mimetype) attached in
     let body = ap (λ is. body_text known is kind given) is_read in
     let one = Appends-trans _ _ _ _ _ c.in_ok-write_word.ensures c.in_ok-write_text.ensures in
     let two = Appends-trans _ _ _ _ _ one type.2 in
-    let three = Appends-trans _ _ _ _ _ two c.in_ok-is_file.ensures.written in
+    let three = Appends-trans _ _ _ _ _ two (appends_as _ _ _ _ members c.in_ok-write_disposition.ensures) in
     let four = Appends-trans _ _ _ _ _ three (appends_as _ _ _ _ places c.in_ok-write_place.ensures) in
     let five = Appends-trans _ _ _ _ _ four (c.in_ok-write_decoded_size.ensures kind given is_body) in
     let six = Appends-trans _ _ _ _ _ five (appends_as _ _ _ _ headers c.in_ok-write_headers.ensures) in

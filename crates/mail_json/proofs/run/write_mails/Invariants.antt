@@ -9,4 +9,4 @@ use Rattle.mail_json.proofs.run.write_mails.Given as goal
 abbrev pub invariant-loop-entry : goal.invariant-loop-entry
 invariant-loop-entry g l =
     (done : List ℕ) × Appends (g.W.Write.contents l.fn.out) (g.W.Write.contents l.out) done
-    × Continues (charsets_with l.tables) l.start (entries_left l.fn.mails) l.at (entries_left l.entry-iterator) l.is_whole done
+    × Continues (charsets_with l.tables) l.start (entries_left l.fn.mails) l.at (entries_left l.entry-iterator) l.is_clean done

@@ -2,8 +2,8 @@ use Rattle.std.proofs.Common.{sym, ap, subst, ◌∙◌}
 use Rattle.std.proofs.lemmas.List.{nil_from_length}
 use Rattle.std.proofs.lemmas.Str.{IsUtf8-past_char}
 use Rattle.std.specs.Str.{IsUtf8}
-use Rattle.mail_json.proofs.lemmas.Strings.{same_past, shown_nil}
-use Rattle.mail_json.specs.Strings.{shown}
+use Rattle.mail_json.proofs.lemmas.Strings.{same_past, escaped_nil}
+use Rattle.mail_json.specs.Strings.{escaped}
 use Rattle.mail_json.proofs.strings.has_hidden.Goals as goal
 
 pub loop-c-init : goal.loop-c-init
@@ -11,7 +11,7 @@ loop-c-init c =
     let all = ap (λ i. i.rest.now) c.into_iter-c-iterator.ensures.into_iter_gives ∙ c.chars-c-items.ensures.rest in
     record {
       utf8 = subst IsUtf8 (sym all) c.utf8.text;
-      same = λ h. sym (ap shown all) ∙ h ∙ all;
+      same = λ h. sym (ap escaped all) ∙ h ∙ all;
     }
 
 pub loop-c-preserved : goal.loop-c-preserved
@@ -27,4 +27,4 @@ loop-c-preserved c =
 pub returns : goal.returns
 returns c = λ _.
     let none = nil_from_length _ c.in-None.ensures.steps.0.0 in
-    c.loop-c.invariant.same (shown_nil c.loop-c.c-iterator.rest.now none ∙ sym none)
+    c.loop-c.invariant.same (escaped_nil c.loop-c.c-iterator.rest.now none ∙ sym none)

@@ -1,3 +1,0 @@
-//! Why a line could not be written whole.
-
-pub use mail_program::Fault;
