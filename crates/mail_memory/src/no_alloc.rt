@@ -11,7 +11,7 @@ use mailparse::body::Body;
 use mailparse::{
     DispositionType, MailHeader, MailHeaderMap, MailParseError, ParsedContentDisposition,
     ParsedContentType, ParsedMail, PartsIterator, dateparse, msgidparse, parse_header,
-    parse_headers,
+    parse_headers, parse_mail, parse_mail_limited, parse_mail_with,
 };
 use std::alloc::Global;
 
@@ -24,6 +24,7 @@ pub fn are_right(
     ctype: &ParsedContentType,
 ) -> bool {
     is_true(parse_blocks(alloc))
+        && are_mails_refused(alloc)
         && is_true(get_fields(alloc))
         && is_true(find_headers(alloc, &mail.headers))
         && is_true(find_headers(alloc, &mail.get_headers()))
@@ -74,6 +75,15 @@ fn parse_blocks(alloc: Global) -> Result<bool, MailParseError> {
                 "Header cannot start with a space",
             ),
     )
+}
+
+/// `parse_mail`, `parse_mail_limited` and `parse_mail_with` of a mail that is refused before its
+/// first header.
+fn are_mails_refused(alloc: Global) -> bool {
+    let start = "Header cannot start with a space";
+    is_refused(&parse_mail(alloc, b" x"), start)
+        && is_refused(&parse_mail_limited(alloc, b" x", 1), start)
+        && is_refused(&parse_mail_with(alloc, b" x", &TABLES), start)
 }
 
 /// `get_key_ref` of an ASCII key, and `get_value_utf8` of a value that is not UTF-8.
