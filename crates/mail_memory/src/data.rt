@@ -5,15 +5,18 @@ use crate::tables::TABLES;
 use mail_data::archive::{message_id, parents};
 use mail_data::bounce::{Recipient, recipients};
 use mail_data::files::{
-    attachments, attachments_with, file_name, file_name_with, is_attachment, is_attachment_with,
-    safe_file_name,
+    attachments, attachments_with, describes_attachment, file_name, file_name_with, is_attachment,
+    is_attachment_with, is_leaf, named_file, path_under, safe_file_name, whole_path,
 };
 use mail_data::forwarding::{forwarded, mails_inside};
 use mail_data::lenient::{base64_front, ids_in, lenient_body};
+use mail_data::lines::empty_line;
 use mail_data::mailbox::read_mailbox;
 use mail_data::texts::{text_part, text_part_with};
 use mailparse::body::Body;
-use mailparse::{MailParseError, ParsedMail, parse_mail};
+use mailparse::{
+    MailParseError, ParsedContentDisposition, ParsedContentType, ParsedMail, parse_mail,
+};
 use std::alloc::Global;
 
 /// A mail with a text and a file.
@@ -27,7 +30,7 @@ const REPORT: &[u8] = b"Content-Type: multipart/report; boundary=b\n\n\
     Final-Recipient: rfc822; a@x\nOriginal-Recipient: rfc822; b@x\nAction: failed\n\
     Status: 5.1.1\nDiagnostic-Code: smtp; 550 no\n\n--b--\n";
 
-/// `file_name`, `is_attachment`, `attachments` and `safe_file_name`.
+/// `file_name`, `is_attachment`, `attachments`, `path_under` and `safe_file_name`.
 pub fn find_files(alloc: Global) -> Result<bool, MailParseError> {
     let mail = parse_mail(alloc, WITH_FILE)?;
     let files = attachments(alloc, &mail)?;
@@ -39,6 +42,7 @@ pub fn find_files(alloc: Global) -> Result<bool, MailParseError> {
             && is_some_text(file_name(alloc, file.part)?, "a.png")
             && is_attachment(alloc, file.part)?
             && !is_attachment(alloc, &mail)?
+            && is_text(path_under(alloc, "2", 1)?, "2.1")
             && is_text(safe_file_name(alloc, "../a")?, ".._a"),
     )
 }
@@ -161,6 +165,17 @@ pub fn read_thread(alloc: Global) -> Result<bool, MailParseError> {
             && second.as_str() == "b@x"
             && is_some_text(message_id(alloc, &mail)?, "c@x"),
     )
+}
+
+/// `named_file`, `describes_attachment`, `is_leaf` and `whole_path` on a mail with parts and a type
+/// without a name, and `empty_line`, which take no memory.
+pub fn are_of_no_file(alloc: Global, mail: &ParsedMail<'_>, ctype: &ParsedContentType) -> bool {
+    let disposition = ParsedContentDisposition::default(alloc);
+    named_file(&disposition, ctype).is_none()
+        && !describes_attachment(&disposition, ctype)
+        && !is_leaf(mail)
+        && whole_path(mail).is_empty()
+        && empty_line(b"\r\nHi") == 2
 }
 
 /// `read_mailbox`, which takes no memory.

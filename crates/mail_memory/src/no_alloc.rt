@@ -36,6 +36,7 @@ pub fn are_right(
         && is_true(decode_ascii_bytes(alloc))
         && are_places()
         && data::is_one_mail()
+        && data::are_of_no_file(alloc, mail, ctype)
         && filled_parameter(&ctype.params, "name").is_none()
 }
 
