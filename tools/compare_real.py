@@ -3,7 +3,7 @@
 
 Each PLACE is a mail, a mailbox (a file that begins with `From `) or a folder of such files. The mails are read
 for four jobs: the index (subject, from, date, id), the attachments (names and sizes), the recipients that a
-report on delivery says were not reached, and the threads (the ids of the mails before it). Both sides read
+delivery report says were not reached, and the threads (the ids of the mails before it). Both sides read
 the same mailbox, into which all are put; so a line that begins with `From ` begins with `>From ` there.
 
 For each item it prints in how many mails it differs, in how many of these it is refused here and in how many
