@@ -3,12 +3,8 @@ use Rattle.std.specs.Prelude.{◌≡◌, ◌≢◌, ℕ, suc, ◌≤◌, Bool, t
 use Rattle.std.specs.Char.{is_control}
 use Rattle.std.specs.List.{list_all}
 use Rattle.std.specs.Str.{bytes_eq}
-use Rattle.mail_codec.specs.Ascii.{backslash, underscore}
+use Rattle.mail_codec.specs.Ascii.{backslash, slash, underscore}
 use Rattle.mail_codec.specs.Places.{is_empty, least}
-
--- `/`
-abbrev pub slash : ℕ
-slash = 47
 
 -- a character that no safe name holds: `/`, `\` or a control character, NUL among them
 abbrev pub is_unsafe : ℕ → Bool

@@ -8,10 +8,11 @@ use Rattle.mailparse.specs.MessageIds.{is_closing}
 abbrev pub is_opening : ℕ → Bool
 is_opening b = b == less_than
 
+-- `@`
 abbrev pub at_sign : ℕ
 at_sign = 64
 
--- a `@`
+-- an `@` stands within an id
 abbrev pub is_at : ℕ → Bool
 is_at b = b == at_sign
 
