@@ -52,6 +52,10 @@ line_after bytes place = option_map_or (λ count. saturating_add (saturating_add
 unfoldable pub part_start : List ℕ → ℕ → ℕ → ℕ
 part_start bytes end dash_boundary = line_after bytes (saturating_add (saturating_add end (empty_line (drop end bytes))) dash_boundary)
 
+-- where a part ends that begins at this offset
+abbrev pub part_end : ℕ → Node → ℕ
+part_end start node = saturating_add start (length node.bytes)
+
 -- a message that begins there, and then its parts, each before its own parts: their paths, and where each begins
 abbrev mutual
   pub places : List ℕ → ℕ → Tree → List Place
@@ -64,7 +68,7 @@ abbrev mutual
   places_in path start node number end (part_and t ts) =
       let begin = part_start node.bytes end (dash_boundary_length node.ctype) in
       places (path_under path number) (saturating_add start begin) t
-      ++ places_in path start node (suc number) (saturating_add begin (length (root t).bytes)) ts
+      ++ places_in path start node (suc number) (part_end begin (root t)) ts
 
 -- pairs list texts: each name once, the names in the order of their bytes, and with each what stands under it
 pub record Lists (texts : Texts) (pairs : List (List ℕ × List ℕ)) : Type 0 where
@@ -139,7 +143,7 @@ module _ (known : Charsets) where
       let disposition = shown_as_in known node in
       let attached = is_attachment place.part disposition in
       codes "{\"path\":" ++ json_text place.path ++ type ++ disposition_text disposition node attached
-      ++ place_text (encoding_text kind) place.start (saturating_add place.start (length node.bytes)) (length node.body)
+      ++ place_text (encoding_text kind) place.start (part_end place.start node) (length node.body)
       ++ size_text (decoded_size kind node.body) ++ headers_text node.headers ++ codes ",\"text\":"
       ++ body_text (not attached && is_leaf place.part && stands (codes "text/") node.ctype.mimetype) kind (content_of node) ++ codes "}"
 

@@ -13,7 +13,8 @@ ghost use Rattle.mail_json.specs.Body.{decoded_size};
 ghost use Rattle.mail_json.specs.Part.{AreAfterCommas, IsPartText, IsTypeText, body_text};
 ghost use Rattle.mail_json.specs.Part.{dash_boundary_length, disposition_text, flag_text, header_text};
 ghost use Rattle.mail_json.specs.Part.{headers_text, is_attachment, line_after, parameter_text};
-ghost use Rattle.mail_json.specs.Part.{part_start, place_text, places, preamble_end, size_text};
+ghost use Rattle.mail_json.specs.Part.{part_end, part_start, place_text, places, preamble_end};
+ghost use Rattle.mail_json.specs.Part.{size_text};
 ghost use Rattle.mail_json.specs.Written.{Writes, WritesOne};
 
 use crate::body::{decoded_length, encoding_name, raw_length, text_of};
@@ -62,7 +63,7 @@ pub fn write_parts<W: Write>(
         let under = path_under(alloc, path, number)?;
         let begin = start.saturating_add(at);
         write_parts(alloc, out, subpart, under.as_str(), begin, tables)?;
-        at = at.saturating_add(subpart.raw_bytes.len());
+        at = part_end(at, subpart);
     }
     Ok(())
 }
@@ -95,6 +96,13 @@ fn part_start(raw: &[u8], end: usize, dash_boundary: usize) -> usize
 {
     let after = end.saturating_add(empty_line(rest_at(raw, end)));
     line_after(raw, after.saturating_add(dash_boundary))
+}
+
+/// Where a part ends that begins at this offset.
+fn part_end(start: usize, part: &ParsedMail<'_>) -> usize
+    ensures { result ≡ part_end start (root (tree_of part.now)) }
+{
+    start.saturating_add(part.raw_bytes.len())
 }
 
 /// The place just after the first LF from there on, or the end where there is none.
@@ -137,8 +145,8 @@ fn write_part<W: Write>(
     let disposition = part.get_content_disposition_with(alloc, tables)?;
     let is_attachment = is_attachment(part, &disposition);
     write_disposition(alloc, out, part, &disposition, is_attachment)?;
-    let end = start.saturating_add(part.raw_bytes.len());
     let body = lenient_body(alloc, part)?;
+    let end = part_end(start, part);
     write_place(out, encoding_name(&body), start, end, raw_length(&body))?;
     write_decoded_size(alloc, out, &body)?;
     write_headers(alloc, out, part.headers.as_slice(), tables)?;

@@ -19,7 +19,7 @@ use Rattle.mailparse.specs.declared.mail.message.ParsedMail.{ParsedMail}
 use Rattle.mailparse.specs.declared.mail.message.ParsedMail.TheFolds.{fold_out-ParsedMail}
 use Rattle.mailparse.specs.declared.mail.message.ParsedMail.TheViews.{out-ParsedMail}
 use Rattle.mail_data.specs.Files.{path_under}
-use Rattle.mail_json.specs.Part.{Lists, saturating_add, Place, AreAfterCommas, dash_boundary_length, part_start, places, places_in, preamble_end}
+use Rattle.mail_json.specs.Part.{Lists, saturating_add, Place, AreAfterCommas, dash_boundary_length, part_end, part_start, places, places_in, preamble_end}
 use Rattle.mail_json.proofs.lemmas.Strings.{drop_next}
 
 -- one after the other
@@ -85,16 +85,16 @@ places-out path start m = places-at path start (tree_of m) _ (forest (map tree_o
 pub places-more : (path : List ℕ) (start : ℕ) (node : Node) (number end begin : ℕ) (parts : List Tree) (t : Tree) (ts : List Tree) → parts ≡ t ∷ ts
     → begin ≡ part_start node.bytes end (dash_boundary_length node.ctype)
     → places_in path start node number end (forest parts)
-    ≡ places (path_under path number) (saturating_add start begin) t ++ places_in path start node (suc number) (saturating_add begin (length (root t).bytes)) (forest ts)
+    ≡ places (path_under path number) (saturating_add start begin) t ++ places_in path start node (suc number) (part_end begin (root t)) (forest ts)
 places-more path start node number end begin parts t ts e at =
     ap (λ (ps : List Tree). places_in path start node number end (forest ps)) e
-    ∙ ap (λ b. places (path_under path number) (saturating_add start b) t ++ places_in path start node (suc number) (saturating_add b (length (root t).bytes)) (forest ts)) (sym at)
+    ∙ ap (λ b. places (path_under path number) (saturating_add start b) t ++ places_in path start node (suc number) (part_end b (root t)) (forest ts)) (sym at)
 
 -- one part more was written, which begins there; what follows it is what is left
 pub parts_step : (Is : Place → List ℕ → Type 0) (path : List ℕ) (start : ℕ) (node : Node) (i end begin begun after : ℕ) (under : List ℕ)
     (parts : List ParsedMail) (m : ParsedMail) (all : List Place) (done text : List ℕ)
     → i < length parts → m ≡ get_or parts i m → begin ≡ part_start node.bytes end (dash_boundary_length node.ctype) → under ≡ path_under path (suc i)
-    → begun ≡ saturating_add start begin → after ≡ saturating_add begin (length (root (tree_of m)).bytes)
+    → begun ≡ saturating_add start begin → after ≡ part_end begin (root (tree_of m))
     → Completes Is (places_in path start node (suc i) end (forest (map tree_of (drop i parts)))) all done
     → AreAfterCommas Is (places under begun (tree_of m)) (codes "," ++ text)
     → Completes Is (places_in path start node (suc (i + 1)) after (forest (map tree_of (drop (i + 1) parts)))) all (done ++ (codes "," ++ text))
@@ -104,7 +104,7 @@ parts_step Is path start node i end begin begun after under parts m all done tex
     let left : map tree_of (drop i parts) ≡ tree_of m ∷ map tree_of rest = ap (map tree_of) (drop_next parts i m h item) in
     let cut = places-more path start node (suc i) end begin (map tree_of (drop i parts)) (tree_of m) (map tree_of rest) left at in
     let next =
-    ap (λ n. places_in path start node (suc n) (saturating_add begin (length (root (tree_of m)).bytes)) (forest (map tree_of rest))) (sym (add-one i))
+    ap (λ n. places_in path start node (suc n) (part_end begin (root (tree_of m))) (forest (map tree_of rest))) (sym (add-one i))
     ∙ ap (λ a. places_in path start node (suc (i + 1)) a (forest (map tree_of rest))) (sym is_after) in
     let own : places under begun (tree_of m) ≡ mine =
     ap (λ u. places u begun (tree_of m)) is_under ∙ ap (λ b. places (path_under path (suc i)) b (tree_of m)) is_begun in

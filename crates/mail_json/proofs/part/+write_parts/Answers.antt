@@ -1,4 +1,4 @@
-use Rattle.std.proofs.Common.{◌≡◌, ◌+◌, suc, List, ℕ, ◌++◌, ◌∷◌, map, length, refl, sym, ap, ◌∙◌, arith}
+use Rattle.std.proofs.Common.{◌≡◌, ◌+◌, suc, List, ℕ, ◌++◌, ◌∷◌, map, refl, sym, ap, ◌∙◌, arith}
 use Rattle.std.specs.Prelude.{codes}
 use Rattle.std.proofs.KnownBytes.{Appends-trans}
 use Rattle.mail_codec.specs.Tables.{charsets_with}
@@ -6,7 +6,7 @@ use Rattle.mailparse.specs.Mail.{forest, root}
 use Rattle.mailparse.specs.Views.{tree_of}
 use Rattle.mailparse.specs.declared.mail.message.ParsedMail.{ParsedMail}
 use Rattle.mail_data.specs.Files.{path_under}
-use Rattle.mail_json.specs.Part.{saturating_add, Place, IsPartText, dash_boundary_length, part_start, places, places_in, preamble_end}
+use Rattle.mail_json.specs.Part.{Place, IsPartText, dash_boundary_length, part_start, places, places_in, preamble_end}
 use Rattle.mail_json.proofs.lemmas.Part.{bytes-out, ctype-out, completes_start, completes_end, parts_end, parts_step, places-out}
 use Rattle.mail_json.proofs.part.«+write_parts».Goals as goal
 
@@ -46,16 +46,14 @@ loop-subpart-preserved g t c =
     ∙ ap (λ d. part_start node.bytes c.loop-subpart.at d) (c.dash_boundary_length-dash_boundary.ensures ∙ ap dash_boundary_length (ctype-out m)) in
     let number : c.loop-subpart.number + 1 ≡ suc c.loop-subpart.subpart-index = omega (arith, count) in
     let under = c.as_str.ensures.value ∙ c.in_ok-under.ensures ∙ ap (path_under path) number in
-    let after =
-    c.saturating_add-at.ensures ∙ ap (λ (bytes : List ℕ). saturating_add c.part_start-at.result (length bytes)) (bytes-out c.subpart-item.result) in
     record {
       count = omega (arith, count);
       wrote = (
         here.0 ++ (codes "," ++ part.0),
         Appends-trans _ _ _ here.0 (codes "," ++ part.0) here.1 (Appends-trans _ _ _ (codes ",") part.0 c.in_ok-write_word.ensures part.2),
         parts_step (IsPartText (charsets_with c.args.tables.now)) path c.args.start node c.loop-subpart.subpart-index c.loop-subpart.at c.part_start-at.result
-            c.saturating_add-begin.result c.saturating_add-at.result c.as_str.result.now c.deref-subpart-items.result.now c.subpart-item.result
-            (places path c.args.start (tree_of m)) here.0 part.0 (omega arith) c.subpart-item.is begin under c.saturating_add-begin.ensures after here.2 part.1,
+            c.saturating_add-begin.result c.part_end-at.result c.as_str.result.now c.deref-subpart-items.result.now c.subpart-item.result
+            (places path c.args.start (tree_of m)) here.0 part.0 (omega arith) c.subpart-item.is begin under c.saturating_add-begin.ensures c.part_end-at.ensures here.2 part.1,
       );
     }
 

@@ -1,4 +1,4 @@
-use Rattle.std.proofs.Common.{◌≡◌, not, ◌&&◌, List, ℕ, length, refl, sym, ap, subst, ◌∙◌}
+use Rattle.std.proofs.Common.{◌≡◌, not, ◌&&◌, List, ℕ, refl, sym, ap, subst, ◌∙◌}
 use Rattle.std.proofs.lemmas.Result.{err_from_is_err_and}
 use Rattle.std.specs.Prelude.{codes}
 use Rattle.std.proofs.KnownBytes.{Appends-trans}
@@ -11,11 +11,11 @@ use Rattle.mailparse.specs.Mail.{root, shown_as_in}
 use Rattle.mailparse.specs.Views.{disposition, tree_of}
 use Rattle.mail_data.specs.Files.{is_leaf}
 use Rattle.mail_data.specs.lenient.Encoding.{lenient_body_kind}
-use Rattle.mail_json.specs.Part.{IsTypeText, body_text, disposition_text, saturating_add, headers_text, is_attachment, place_text, Place, IsPartText, part_text}
+use Rattle.mail_json.specs.Part.{IsTypeText, body_text, disposition_text, headers_text, is_attachment, part_end, place_text, Place, IsPartText, part_text}
 use Rattle.mail_json.specs.Body.{encoding_text}
 use Rattle.mail_json.proofs.lemmas.Fields.{ok_same}
 use Rattle.mail_json.proofs.lemmas.Written.{appends_as, writes_one, writes_then}
-use Rattle.mail_json.proofs.lemmas.Part.{bytes-out, ctype-out, headers-out}
+use Rattle.mail_json.proofs.lemmas.Part.{ctype-out, headers-out}
 use Rattle.mail_json.proofs.part.write_part.Goals as goal
 
 pub returns : goal.returns
@@ -28,11 +28,10 @@ returns g c =
     let place : Place = record { path = c.args.path.now; start = c.args.start; part = tree_of m } in
     let type = c.in_ok-write_type.ensures in
     let is_body = c.in_ok-body.ensures.read in
-    let end = c.saturating_add-end.ensures ∙ ap (λ (bytes : List ℕ). saturating_add c.args.start (length bytes)) (bytes-out m) in
     let places =
-    ap (λ (name : List ℕ). place_text name c.args.start c.saturating_add-end.result c.raw_length.result) (c.encoding_name.ensures kind given is_body)
-    ∙ ap (λ e. place_text (encoding_text kind) c.args.start e c.raw_length.result) end
-    ∙ ap (λ n. place_text (encoding_text kind) c.args.start (saturating_add c.args.start (length node.bytes)) n) (c.raw_length.ensures kind given is_body) in
+    ap (λ (name : List ℕ). place_text name c.args.start c.part_end-end.result c.raw_length.result) (c.encoding_name.ensures kind given is_body)
+    ∙ ap (λ e. place_text (encoding_text kind) c.args.start e c.raw_length.result) c.part_end-end.ensures
+    ∙ ap (λ n. place_text (encoding_text kind) c.args.start (part_end c.args.start node) n) (c.raw_length.ensures kind given is_body) in
     let headers = ap (headers_text known) (c.as_slice.ensures.value ∙ headers-out m) in
     let same : shown_as_in known node ≡ disposition c.in_ok-disposition.disposition = ok_same _ _ c.in_ok-disposition.ensures in
     let attached = c.is_attachment-is_attachment.ensures ∙ ap (is_attachment (tree_of m)) (sym same) in
