@@ -152,7 +152,7 @@ def check_faults():
     """A refused body, dates and mails."""
     found = objects([], b"Content-Transfer-Encoding: base64\n\naGVs**8=", 0, "a refused body")[0]["parts"][0]
     same((found["size"], found["decoded_size"], found["text"]), (8, None, None), "a refused body")
-    same(found["error"], "Base64 decode error: group 1 is not valid Base64", "a refused body")
+    same(found["error"], "Base64 decode error: group 1 is no Base64 group", "a refused body")
     found = objects([], b"Date: 32 x\n\n", 0, "a refused date")[0]
     same((found["date"], found["date_error"]), (None, "no day of the month"), "a refused date")
     found = objects([], b"Date: soon\n\n", 0, "a date without a number")[0]

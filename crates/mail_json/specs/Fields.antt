@@ -12,7 +12,7 @@ use Rattle.mail_data.specs.lenient.Ids.{ids_in}
 unfoldable pub refusal_text : Refusal → List ℕ
 refusal_text (generic text) = text
 refusal_text (encoding text) = codes "Encoding error: " ++ text
-refusal_text (base64_fault group) = codes "Base64 decode error: group " ++ decimal group ++ codes " is not valid Base64"
+refusal_text (base64_fault group) = codes "Base64 decode error: group " ++ decimal group ++ codes " is no Base64 group"
 
 -- the name of a disposition
 abbrev pub kind_text : Kind → List ℕ

@@ -97,7 +97,7 @@ pub fn refusal_text(alloc: Global, error: &MailParseError) -> Result<String, All
     match error {
         MailParseError::Base64DecodeError(fault) => {
             let group = fault.group;
-            format!(in alloc; "Base64 decode error: group {group} is not valid Base64")
+            format!(in alloc; "Base64 decode error: group {group} is no Base64 group")
         }
         MailParseError::EncodingError(text) => {
             let text = text.as_str();

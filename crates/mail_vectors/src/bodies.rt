@@ -251,9 +251,7 @@ fn base64_errors(alloc: Global, raw: &[u8]) -> Result<[String; 2], MailParseErro
 fn base64_is_refused_at_its_first_invalid_group(rt: HostRuntime) -> Result<(), Fail> {
     for case in &INVALID_GROUPS {
         let group = case.expected;
-        let text = format!(in rt.alloc();
-            "Base64 decode error: group {group} is not valid Base64"
-        )?;
+        let text = format!(in rt.alloc(); "Base64 decode error: group {group} is no Base64 group")?;
         let [of_bytes, of_text] = base64_errors(rt.alloc(), case.input)?;
         assert_same_for(&rt, of_bytes.as_str(), text.as_str(), Bytes(case.input));
         assert_same_for(&rt, of_text.as_str(), text.as_str(), Bytes(case.input));

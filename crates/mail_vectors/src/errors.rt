@@ -16,9 +16,9 @@ fn display_texts(rt: HostRuntime) -> Result<(), Fail> {
         MailParseError::Memory(AllocError) => "out of memory",
         MailParseError::from(AllocError) => "out of memory",
         MailParseError::from(QuotedPrintableFault)
-            => "QuotedPrintable decode error: not quoted-printable text",
+            => "QuotedPrintable decode error: no quoted-printable text",
         MailParseError::from(fault)
-            => "Base64 decode error: group 18446744073709551615 is not valid Base64",
+            => "Base64 decode error: group 18446744073709551615 is no Base64 group",
         MailParseError::from(CowStr::Borrowed("a text")) => "Encoding error: a text",
         MailParseError::EncodingError(CowStr::Owned(owned)) => "Encoding error: an owned text",
     };
@@ -54,7 +54,7 @@ fn the_faults_alone(rt: HostRuntime) -> Result<(), Fail> {
     assert_same(
         &rt,
         text.as_str(),
-        "group 3 is not valid Base64, not quoted-printable text",
+        "group 3 is no Base64 group, no quoted-printable text",
     );
     let text = format!(in rt.alloc(); "{fault:?}, {QuotedPrintableFault:?}")?;
     assert_same(

@@ -28,12 +28,12 @@ pub enum MailParseError {
 
 /// The fault of a text that is not quoted-printable. No call returns it.
 #[derive(Clone, Copy, Debug, PartialEq, Eq, Error)]
-#[error("not quoted-printable text")]
+#[error("no quoted-printable text")]
 pub struct QuotedPrintableFault;
 
 /// The fault of a text that is not Base64.
 #[derive(Clone, Copy, Debug, PartialEq, Eq, Error)]
-#[error("group {group} is not valid Base64")]
+#[error("group {group} is no Base64 group")]
 pub struct Base64Fault {
     /// The index, counted from 0, of the first invalid group of four.
     pub group: usize,

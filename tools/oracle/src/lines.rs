@@ -26,7 +26,7 @@ pub fn shown(e: &MailParseError) -> String {
     match e {
         MailParseError::Base64DecodeError(fault) => {
             let group = fault.position / 4;
-            format!("Base64 decode error: group {group} is not valid Base64")
+            format!("Base64 decode error: group {group} is no Base64 group")
         }
         e => e.to_string(),
     }
