@@ -1,0 +1,130 @@
+//! A replay of the rows of a file.
+
+use crate::calls;
+use crate::notation::{Answer, Row};
+use mailparse::MailParseError;
+use std::alloc::{AllocError, Global};
+
+/// What came of a replay.
+#[derive(Drop)]
+pub struct Tally {
+    /// How many rows returned what they want.
+    pub passed: u64,
+    /// How many did not.
+    pub failed: u64,
+    /// How often memory ran out in a row.
+    pub refused: u64,
+    /// The rows that failed, with what was returned.
+    pub differences: String,
+    /// The group that the rows belong to, and how many of its rows came so far.
+    group: String,
+    number: u64,
+}
+
+impl Tally {
+    /// A replay without rows.
+    pub fn new(alloc: Global) -> Tally {
+        Tally {
+            passed: 0,
+            failed: 0,
+            refused: 0,
+            differences: String::new(alloc),
+            group: String::new(alloc),
+            number: 0,
+        }
+    }
+
+    /// Replays the rows of a file. A row begins where a line does not begin with a space, and goes on
+    /// over the lines that do. A row for which memory ran out is tried again, so often at most.
+    pub fn replay(&mut self, alloc: Global, suite: &str, times: u32) -> Result<(), AllocError> {
+        let mut row = String::new(alloc);
+        for line in suite.lines() {
+            if line.starts_with(' ') {
+                row.push_str(line)?;
+            } else {
+                self.try_row(alloc, row.as_str(), times)?;
+                row.clear();
+                if let Some(title) = line.strip_prefix("== ") {
+                    self.group = String::from_str(alloc, title)?;
+                    self.number = 0;
+                } else if !line.starts_with('#') && !line.starts_with("source: ") {
+                    row.push_str(line)?;
+                }
+            }
+        }
+        self.try_row(alloc, row.as_str(), times)
+    }
+
+    /// Tries a row, if there is one, and counts it.
+    fn try_row(&mut self, alloc: Global, text: &str, times: u32) -> Result<(), AllocError> {
+        if text.is_empty() {
+            return Ok(());
+        }
+        self.number = self.number.saturating_add(1);
+        match Row::read(alloc, text) {
+            Ok(row) => self.make_call(alloc, &row, times),
+            Err(MailParseError::Memory(e)) => Err(e),
+            Err(fault) => {
+                let what = format!(in alloc; "{fault}: {text}")?;
+                self.fail("", what.as_str())
+            }
+        }
+    }
+
+    /// Makes the call of a row, again so often at most where memory ran out. A call that must not
+    /// take memory is made once.
+    fn make_call(&mut self, alloc: Global, row: &Row, times: u32) -> Result<(), AllocError> {
+        for _turn in 0..times {
+            match returned(alloc, row) {
+                Err(MailParseError::Memory(_e)) => self.refused = self.refused.saturating_add(1),
+                outcome => return self.judge(alloc, row, outcome),
+            }
+            if row.is_free {
+                return self.fail(row.name.as_str(), "takes memory");
+            }
+        }
+        self.judge(alloc, row, returned(alloc, row))
+    }
+
+    /// Counts a row whose call returned.
+    fn judge(
+        &mut self,
+        alloc: Global,
+        row: &Row,
+        outcome: Result<Answer, MailParseError>,
+    ) -> Result<(), AllocError> {
+        match outcome {
+            Ok(answer) => {
+                if answer.as_str() == row.wanted.as_str() {
+                    self.passed = self.passed.saturating_add(1);
+                    return Ok(());
+                }
+                let wanted = row.wanted.as_str();
+                let what = format!(in alloc; "wants {wanted}\n    finds {}", answer.as_str())?;
+                self.fail(row.name.as_str(), what.as_str())
+            }
+            Err(MailParseError::Memory(e)) => Err(e),
+            Err(fault) => {
+                let what = format!(in alloc; "{fault}")?;
+                self.fail(row.name.as_str(), what.as_str())
+            }
+        }
+    }
+
+    /// Counts a row that failed, and says how.
+    fn fail(&mut self, name: &str, what: &str) -> Result<(), AllocError> {
+        self.failed = self.failed.saturating_add(1);
+        let (group, number) = (self.group.as_str(), self.number);
+        write!(
+            self.differences,
+            "{group}, row {number} {name}\n    {what}\n"
+        )
+    }
+}
+
+/// What the call of a row returns.
+fn returned(alloc: Global, row: &Row) -> Result<Answer, MailParseError> {
+    let mut answer = Answer::new(alloc)?;
+    calls::make(alloc, row, &mut answer)?;
+    Ok(answer)
+}
