@@ -28,7 +28,7 @@ pub struct Row {
     pub call: String,
     inputs: Vec<Item>,
     /// What the call has to return.
-    pub wanted: String,
+    pub wanted: Answer,
     /// Whether the call must not take memory.
     pub is_free: bool,
 }
@@ -239,7 +239,7 @@ impl Items {
     }
 
     /// The items as an answer writes them.
-    fn written(&self, alloc: Global) -> Result<String, MailParseError> {
+    fn written(&self, alloc: Global) -> Result<Answer, MailParseError> {
         let mut answer = Answer::new(alloc)?;
         for item in &self.list {
             if item.is_text {
@@ -248,7 +248,7 @@ impl Items {
                 answer.word(std::str::from_utf8(item.bytes.as_slice()).map_err(|_e| FORM)?)?;
             }
         }
-        Ok(answer.text)
+        Ok(answer)
     }
 }
 
@@ -313,35 +313,40 @@ fn push_char(bytes: &mut Vec<u8>, digits: &str) -> Result<(), MailParseError> {
     Ok(())
 }
 
-/// What a call returned, in the notation of the suite.
+/// What a call returned, item by item: a word as it is, and a text with its length before it, so that
+/// no two lists of items look the same.
 #[derive(Drop)]
 pub struct Answer {
-    text: String,
+    written: Vec<u8>,
+    alloc: Global,
 }
 
 impl Answer {
     /// An answer without items.
     pub fn new(alloc: Global) -> Result<Answer, AllocError> {
         Ok(Answer {
-            text: String::with_capacity(alloc, ROOM)?,
+            written: Vec::with_capacity(alloc, ROOM)?,
+            alloc,
         })
     }
 
     /// The answer as it is written.
-    pub fn as_str(&self) -> &str {
-        self.text.as_str()
+    pub fn as_bytes(&self) -> &[u8] {
+        self.written.as_slice()
     }
 
     /// Adds a word.
     pub fn word(&mut self, word: &str) -> Result<(), AllocError> {
-        self.space()?;
-        self.text.push_str(word)
+        self.written.extend_from_slice(word.as_bytes())?;
+        self.written.extend_from_slice(b" ")
     }
 
     /// Adds bytes, or a text as its UTF-8.
     pub fn bytes(&mut self, bytes: &[u8]) -> Result<(), AllocError> {
-        self.space()?;
-        write!(self.text, "\"{}\"", bytes.escape_ascii())
+        write_number(&mut self.written, bytes.len() as u64)?;
+        self.written.extend_from_slice(b":\"")?;
+        self.written.extend_from_slice(bytes)?;
+        self.written.extend_from_slice(b"\" ")
     }
 
     /// Adds a text.
@@ -351,14 +356,17 @@ impl Answer {
 
     /// Adds a number.
     pub fn number(&mut self, number: usize) -> Result<(), AllocError> {
-        self.space()?;
-        write!(self.text, "{number}")
+        write_number(&mut self.written, number as u64)?;
+        self.written.extend_from_slice(b" ")
     }
 
     /// Adds a number that may be negative.
     pub fn signed(&mut self, number: i64) -> Result<(), AllocError> {
-        self.space()?;
-        write!(self.text, "{number}")
+        if number < 0 {
+            self.written.push(b'-')?;
+        }
+        write_number(&mut self.written, number.unsigned_abs())?;
+        self.written.extend_from_slice(b" ")
     }
 
     /// Adds `true` or `false`.
@@ -376,13 +384,21 @@ impl Answer {
 
     /// Adds `error` and the text of a refusal. That memory ran out is none.
     pub fn refusal(&mut self, error: MailParseError) -> Result<(), MailParseError> {
-        if let MailParseError::Memory(e) = error {
-            return Err(MailParseError::Memory(e));
+        match &error {
+            MailParseError::Memory(_) => return Err(error),
+            MailParseError::Generic(text) => self.error(text)?,
+            _ => {
+                let text = format!(in self.alloc; "{error}")?;
+                self.error(text.as_str())?;
+            }
         }
-        self.word("error")?;
-        self.space()?;
-        write!(self.text, "\"{error}\"")?;
         Ok(())
+    }
+
+    /// Adds `error` and a text.
+    pub fn error(&mut self, text: &str) -> Result<(), AllocError> {
+        self.word("error")?;
+        self.text(text)
     }
 
     /// Adds the text that a call returned, or its refusal.
@@ -406,13 +422,20 @@ impl Answer {
             Err(error) => self.refusal(error),
         }
     }
+}
 
-    /// A space between two items.
-    fn space(&mut self) -> Result<(), AllocError> {
-        if self.text.is_empty() {
-            Ok(())
-        } else {
-            self.text.push_str(" ")
+/// Writes a number in decimal.
+fn write_number(written: &mut Vec<u8>, number: u64) -> Result<(), AllocError> {
+    let mut digits = [0; 20];
+    let mut rest = number;
+    let mut front = digits.len();
+    for place in digits.iter_mut().rev() {
+        *place = b'0' + (rest % 10) as u8;
+        rest /= 10;
+        front = front.saturating_sub(1);
+        if rest == 0 {
+            break;
         }
     }
+    written.extend_from_slice(digits.get(front..).unwrap_or(&digits))
 }

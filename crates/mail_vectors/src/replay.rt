@@ -95,12 +95,13 @@ impl Tally {
     ) -> Result<(), AllocError> {
         match outcome {
             Ok(answer) => {
-                if answer.as_str() == row.wanted.as_str() {
+                if answer.as_bytes() == row.wanted.as_bytes() {
                     self.passed = self.passed.saturating_add(1);
                     return Ok(());
                 }
-                let wanted = row.wanted.as_str();
-                let what = format!(in alloc; "wants {wanted}\n    finds {}", answer.as_str())?;
+                let wanted = row.wanted.as_bytes().escape_ascii();
+                let found = answer.as_bytes().escape_ascii();
+                let what = format!(in alloc; "wants {wanted}\n    finds {found}")?;
                 self.fail(row.name.as_str(), what.as_str())
             }
             Err(MailParseError::Memory(e)) => Err(e),

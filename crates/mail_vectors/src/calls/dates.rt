@@ -1,4 +1,6 @@
-//! The calls on dates.
+//! Dates.
+//!
+//! - `dateparse TEXT => SECONDS`: the seconds since 1970, or a refusal
 
 use crate::notation::{Answer, Row};
 use mailparse::{MailParseError, dateparse};
@@ -13,7 +15,7 @@ pub fn make(_alloc: Global, row: &Row, answer: &mut Answer) -> Result<bool, Mail
     Ok(true)
 }
 
-/// `dateparse TEXT => SECONDS`
+/// Writes the seconds of a date.
 fn read_date(row: &Row, answer: &mut Answer) -> Result<(), MailParseError> {
     match dateparse(row.text(0)?) {
         Ok(seconds) => Ok(answer.signed(seconds)?),

@@ -1,11 +1,44 @@
-//! The calls on values.
+//! The text of values. The input is what stands after the colon of a header, up to its end.
+//!
+//! - `get_value RAW => TEXT`
+//! - `get_value_utf8 RAW => TEXT`, or a refusal
 
 use crate::notation::{Answer, Row};
-use mailparse::MailParseError;
+use mailparse::{MailHeader, MailParseError, parse_header};
 use std::alloc::Global;
 
 /// Makes the call of a row, if it is one of these.
-pub fn make(_alloc: Global, row: &Row, _answer: &mut Answer) -> Result<bool, MailParseError> {
-    let _call = row.call.as_str();
-    Ok(false)
+pub fn make(alloc: Global, row: &Row, answer: &mut Answer) -> Result<bool, MailParseError> {
+    match row.call.as_str() {
+        "get_value" => {
+            let raw = raw_header(alloc, row.bytes(0)?)?;
+            let (header, _) = parse_header(raw.as_slice())?;
+            push_value(alloc, answer, &header)?;
+        }
+        "get_value_utf8" => {
+            let raw = raw_header(alloc, row.bytes(0)?)?;
+            let (header, _) = parse_header(raw.as_slice())?;
+            answer.text_or_refusal(header.get_value_utf8(alloc))?;
+        }
+        _ => return Ok(false),
+    }
+    Ok(true)
+}
+
+/// A header with this value.
+pub fn raw_header(alloc: Global, value: &[u8]) -> Result<Vec<u8>, MailParseError> {
+    let mut raw = Vec::new(alloc);
+    raw.extend_from_slice(b"X:")?;
+    raw.extend_from_slice(value)?;
+    Ok(raw)
+}
+
+/// Writes the text of a value.
+fn push_value(
+    alloc: Global,
+    answer: &mut Answer,
+    header: &MailHeader<'_>,
+) -> Result<(), MailParseError> {
+    let text = header.get_value(alloc)?;
+    Ok(answer.text(text.as_str())?)
 }
