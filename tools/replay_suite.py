@@ -1,0 +1,226 @@
+#!/usr/bin/env python3
+"""Replays the suite in the Rust crate, or in Python's email, where these have the call.
+
+    tools/replay_suite.py --oracle PROGRAM [FILE..]   the crate, by tools/oracle
+    tools/replay_suite.py --python [FILE..]           Python's email and codecs
+
+A row that differs has to bear the mark `crate:NAME` or `python:NAME`, where NAME is a name of the table of
+docs/DIFFERENCES.md, and a row with that mark has to differ. It prints the rows of which this does not hold. The
+last line is `N passed, N failed`, and the status is 1 where one failed.
+"""
+import argparse
+import base64
+import email
+import email.policy
+import email.utils
+import glob
+import os
+import quopri
+import re
+import subprocess
+import sys
+
+from suite import DATA, TOP, rows_in
+
+
+def unhex(digits):
+    return b"" if digits == "-" else bytes.fromhex(digits)
+
+
+class Lines:
+    """The lines of an answer of the oracle, taken one after another."""
+
+    def __init__(self, text):
+        self.lines = text.split("\n")
+        self.at = 0
+
+    def take(self, *words):
+        """The rest of the next line where it begins with one of these words, or else nothing."""
+        line = self.lines[self.at] if self.at < len(self.lines) else ""
+        for word in words:
+            if line == word or line.startswith(word + " "):
+                self.at += 1
+                return line[len(word) + 1 :]
+        return None
+
+    def outcome(self, word):
+        """A text, or a refusal."""
+        rest = self.take(word)
+        kind, _, text = rest.partition(" ")
+        return [unhex(text)] if kind == "ok" else ["error", text.encode()]
+
+    def pairs(self, word):
+        items = []
+        while (rest := self.take(word)) is not None:
+            items += [unhex(it) for it in rest.split(" ")]
+        return items
+
+    def ctype(self):
+        return [unhex(self.take("type")), unhex(self.take("charset")), *self.pairs("param")]
+
+    def disposition(self):
+        kind, _, name = self.take("disposition").partition(" ")
+        return [kind, *([unhex(name)] if name else []), *self.pairs("dparam")]
+
+    def body(self, raw):
+        kind = self.take("kind")
+        return [kind, raw, *self.outcome("decoded"), *self.outcome("text")]
+
+
+def dates_of(lines):
+    rest = lines.take("date")
+    kind, _, text = rest.partition(" ")
+    return [text] if kind == "ok" else ["error", text.encode()]
+
+
+def ids_of(lines):
+    rest = lines.take("ids")
+    if rest.startswith("err "):
+        return ["error", rest[4:].encode()]
+    return [unhex(lines.take("id")) for _ in range(int(rest.removeprefix("ok ")))]
+
+
+def mail_of(lines, raw):
+    rest = lines.take("mail")
+    if rest.startswith("err "):
+        return ["error", rest[4:].encode()]
+    items = []
+    while (node := lines.take("node")) is not None:
+        items += node_of(lines, node, raw)
+    return items
+
+
+def node_of(lines, node, raw):
+    body = b""
+    while (place := lines.take("at")) is not None:
+        name, start, end = place.split(" ")
+        if name == "body":
+            body = raw[int(start) : int(end)]
+        lines.take("bytes", "block", "body")
+    headers = []
+    for _ in range(int(lines.take("headers"))):
+        fields = {}
+        while (word := lines.lines[lines.at].partition(" ")[0]) in ("key", "raw", "name", "ref", "value", "utf8"):
+            if word in fields:
+                break
+            fields[word] = lines.take(word)
+        headers += ["header", unhex(fields["name"]), unhex(fields["value"])]
+        while lines.take("date", "ids", "id", "idtext") is not None:
+            pass
+    ctype = lines.ctype()
+    lines.disposition()
+    items = ["part", node.rpartition(" ")[2], *ctype[:2], *headers, *lines.body(body)]
+    lines.take("getbodyraw"), lines.take("getbody")
+    return items
+
+
+def header_of(lines):
+    """What the lines of the header `X` say of its value."""
+    lines.take("header")
+    fields = {word: lines.take(word) for word in ("key", "raw", "name", "ref", "value", "utf8")}
+    kind, _, text = fields["utf8"].partition(" ")
+    return [unhex(text)] if kind == "ok" else ["error", text.encode()]
+
+
+# By call: the oracle's command, its input, and what its lines say.
+ORACLE = {
+    "get_value": ("value", lambda row: row.inputs[0], lambda lines, row: [unhex(lines.take("value"))]),
+    "get_value_utf8": ("header", lambda row: b"X:" + row.inputs[0], lambda lines, row: header_of(lines)),
+    "dateparse": ("date", lambda row: row.inputs[0], lambda lines, row: dates_of(lines)),
+    "msgidparse": ("msgid", lambda row: row.inputs[0], lambda lines, row: ids_of(lines)),
+    "parse_content_type": ("ctype", lambda row: row.inputs[0], lambda lines, row: lines.ctype()),
+    "parse_content_disposition": ("dispo", lambda row: row.inputs[0], lambda lines, row: lines.disposition()),
+    "body": ("body", lambda row: b"\0".join(b"" if it == "none" else it for it in row.inputs),
+             lambda lines, row: lines.body(row.inputs[2])),
+    "mail": ("dump", lambda row: row.inputs[0], lambda lines, row: mail_of(lines, row.inputs[0])),
+}
+
+
+def by_oracle(program, rows):
+    """What the crate returns for each row."""
+    asked = []
+    for row in rows:
+        command, data, _ = ORACLE[row.call]
+        data = data(row)
+        asked.append(f"{command} {len(data)}\n".encode() + data)
+    ran = subprocess.run([program, "batch"], input=b"".join(asked), stdout=subprocess.PIPE, check=True)
+    answers = ran.stdout.decode().split("\n.\n")
+    return [ORACLE[row.call][2](Lines(answer.removeprefix(".\n")), row) for row, answer in zip(rows, answers)]
+
+
+def python_value(raw):
+    message = email.message_from_bytes(b"X:" + raw + b"\n\n", policy=email.policy.default)
+    return [str(message["X"]).encode("utf-8", "surrogateescape")]
+
+
+def python_type(text):
+    message = email.message_from_bytes(b"Content-Type: " + text + b"\n\n")
+    kind, *pairs = message.get_params(header="content-type", failobj=[("", "")])
+    values = sorted((name.lower().encode(), email.utils.collapse_rfc2231_value(value).encode()) for name, value in pairs)
+    charset = dict(values).get(b"charset", b"us-ascii")
+    return [kind[0].lower().encode(), charset, *(it for pair in values for it in pair)]
+
+
+def python_date(text):
+    try:
+        return [str(int(email.utils.parsedate_to_datetime(text.decode()).timestamp()))]
+    except (TypeError, ValueError):
+        return ["error"]
+
+
+# By call: what Python returns for the inputs.
+PYTHON = {
+    "get_value": lambda row: python_value(row.inputs[0]),
+    "parse_content_type": lambda row: python_type(row.inputs[0]),
+    "date_of": lambda row: python_date(row.inputs[0]),
+    "decode_base64": lambda row: [base64.b64decode(row.inputs[0])],
+    "decode_quoted_printable": lambda row: [quopri.decodestring(row.inputs[0])],
+}
+
+
+def by_python(row):
+    try:
+        return PYTHON[row.call](row)
+    except (ValueError, LookupError, AttributeError, TypeError) as error:
+        return ["error", str(error).encode()]
+
+
+def same(found, row):
+    """Whether an answer is the wanted one. Python's errors have texts of their own."""
+    return found == row.wanted or (found[:1] == row.wanted[:1] == ["error"] and len(found) == 1)
+
+
+def known_names():
+    """The names of differences that the page lists."""
+    with open(f"{TOP}/docs/DIFFERENCES.md", encoding="utf-8") as file:
+        return set(re.findall(r"^\| `([a-z0-9-]+)` \|", file.read(), re.M))
+
+
+def main():
+    form = argparse.RawDescriptionHelpFormatter
+    reader = argparse.ArgumentParser(description=__doc__, formatter_class=form)
+    reader.add_argument("--oracle", metavar="PROGRAM", help="the crate, as tools/oracle builds it")
+    reader.add_argument("--python", action="store_true", help="Python's email and codecs")
+    reader.add_argument("files", nargs="*", metavar="FILE", help="files of the suite; all, if none is named")
+    words = reader.parse_args()
+    if bool(words.oracle) == words.python:
+        reader.error("one of --oracle and --python is needed")
+    kind, calls = ("crate", ORACLE) if words.oracle else ("python", PYTHON)
+    files = words.files or sorted(glob.glob(f"{DATA}/*.txt"))
+    rows = [row for file in files for row in rows_in(file) if row.call in calls]
+    if words.python:
+        rows = [row for row in rows if not row.place.startswith("generated_")]
+    answers = by_oracle(words.oracle, rows) if words.oracle else map(by_python, rows)
+    failed, names = 0, known_names()
+    for row, found in zip(rows, answers):
+        marks = row.marked(kind)
+        unknown = [it for it in marks if it not in names]
+        if same(found, row) == bool(marks) or unknown:
+            failed += 1
+            print(f"{row.place}: {'returns the same, but is marked' if marks else 'differs'} {marks}\n  {found}")
+    print(f"{len(rows) - failed} passed, {failed} failed")
+    return failed > 0
+
+
+if __name__ == "__main__":
+    sys.exit(main())
