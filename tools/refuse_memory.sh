@@ -7,15 +7,16 @@
 #
 #   mail_show      on the samples, and on mails that are refused
 #   mail_json      on the same, and on a mailbox
-#   answers        which tries each line again, on some lines of its list
-#   mail_memory    which makes each call of the library that takes memory, and knows what it has
-#                  to return: once, and again on the same inputs where memory ran out
 #
 # A run passes that gives what it gives with ample memory, or that ends with status 1 and says
-# nothing but that memory ran out. In a program that makes each call once, a run that meets a refusal
-# passes only by the latter. What mail_json has written by then has to be the front of what it writes
-# with ample memory; the others may have written nothing. At the end mail_memory makes the calls that
-# take no memory, with each call for memory refused once their inputs are there.
+# nothing but that memory ran out. A run that meets a refusal passes only by the latter. What mail_json
+# has written by then has to be the front of what it writes with ample memory; mail_show may have
+# written nothing.
+#
+# Then mail_vectors replays the suite. It tries each row again until no call for memory is refused: first
+# the first call of the row is refused, then the second one, and so on; and the same with the calls that
+# follow. Each row has to return the right answer in the end, and memory has to have run out in it exactly
+# as often as a call was refused. In a row that is marked so no call may ask for memory.
 #
 # It prints for each input how many calls for memory there were, how many runs met a refusal, and
 # how these ended; and each run that failed. The last line is `N passed, N failed`; the status is
@@ -63,7 +64,7 @@ fails() {
 
 # judge: whether the run gave the right result, or ran out of memory and said so
 judge() {
-    if is_right && { [ "$refused" = 0 ] || [ "$may_be_right" = yes ]; }; then
+    if is_right && [ "$refused" = 0 ]; then
         right=$((right + 1))
         pass
     elif is_short && [ "$refused" != 0 ]; then
@@ -103,28 +104,35 @@ both() {
     sweep REFUSE_FROM "$@"
 }
 
-# takes_none: the calls that take no memory, on inputs for which more and more calls suffice
-takes_none() {
-    name='mail_memory refused'
-    mode=REFUSE_FROM
-    place=0
-    status=1
-    while [ "$status" = 1 ] && [ "$place" -lt 1000 ]; do
-        place=$((place + 1))
-        export "REFUSE_FROM=$place"
-        run "$memory" refused
-        unset REFUSE_FROM
-        if [ "$status" = 1 ] && ! is_short; then
-            fails 'a call that takes no memory'
-            return
-        fi
+# suite: replays the suite with ample memory, and with each call of each row refused in turn
+suite() {
+    cd "$top/crates/mail_vectors/data"
+    files=$(grep -v '^long_' ../args)
+    # shellcheck disable=SC2046
+    run_suite 'with ample memory' $(cat ../args)
+    for mode in at from; do
+        # shellcheck disable=SC2086
+        REFUSE_ROWS=$mode run_suite "refused memory, $mode" again $files
     done
-    # the one call that is refused is that of a header which has to be kept
-    if [ "$status" = 0 ] && [ "$refused" = 1 ]; then
-        pass
-        echo "$name: $(cat "$work/out")"
+}
+
+# run_suite WHAT WORD..: replays files, and counts the rows that passed
+run_suite() {
+    what=$1
+    shift
+    : > "$work/report"
+    status=0
+    env "REFUSE_REPORT=$work/report" "LD_PRELOAD=$work/refuse.so" "$vectors" "$@" \
+        > "$work/out" 2> "$work/err" || status=$?
+    read -r _calls refused < "$work/report" || refused=unknown
+    ran_out=$(sed -n 's/^memory ran out \([0-9]*\) times$/\1/p' "$work/err")
+    rows=$(sed -n 's/^\([0-9]*\) passed, 0 failed$/\1/p' "$work/err")
+    if [ "$status" = 0 ] && [ -n "$rows" ] && [ "$ran_out" = "$refused" ]; then
+        passed=$((passed + rows))
+        echo "mail_vectors, $what: $rows rows, memory ran out $ran_out times"
     else
-        fails 'a call that takes no memory asked for some'
+        head -n 40 "$work/out" "$work/err"
+        fail "mail_vectors, $what: status $status, $refused refused, ran out $ran_out times"
     fi
 }
 
@@ -134,10 +142,7 @@ if ! ${CC:-cc} -O1 -Wall -shared -fPIC -o "$work/refuse.so" "$here/refuse.c"; th
 fi
 show=$("$here/program.sh" mail_show)
 json=$("$here/program.sh" mail_json)
-replay=$("$here/program.sh" answers)
-memory=$("$here/program.sh" mail_memory)
-
-may_be_right=no
+vectors=$("$here/program.sh" mail_vectors)
 
 # mails NAME PROGRAM: the samples, and mails that are refused
 mails() {
@@ -158,13 +163,5 @@ may_begin=yes
 mails mail_json "$json"
 cp "$top/crates/mail_json/stdin" "$work/input"
 both 'mail_json on a mailbox' "$json" --mbox
-may_begin=no
-: > "$work/input"
-both 'mail_memory' "$memory"
-
-may_be_right=yes
-both 'mail_memory again' "$memory" again
-awk 'NR % 97 == 1' "$top/crates/answers/stdin" > "$work/input"
-both 'answers on some lines' "$replay" again
-takes_none
+suite
 finish
