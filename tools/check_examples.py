@@ -1,15 +1,14 @@
 #!/usr/bin/env python3
-"""Runs the examples of the doc comments; the program on the page of a crate has to be the README's.
+"""Runs the examples of the doc comments of every library, and those of docs/CALLING.md.
 
-Each fence ```rust in a doc comment of mail_codec, mail_tables, mailparse, mail_laws, mail_data and
-mail_program becomes a test of its own: the lines as they stand, in a function that has the runtime `rt`
-and its allocator `alloc`, and in which `?` passes every error on. `rt try --test` builds and runs them,
-without a proof, in a folder that is deleted afterwards. A fence with `fn main` is a program: it has to
-be the README's, which tools/try_outside.sh builds and runs. Each public call has to have an example, and
-the heading `# Errors` exactly where it returns a `Result`. There may be no other fences.
+Each fence ```rust becomes a test of its own: the lines as they stand, in a function that has the runtime `rt`
+and its allocator `alloc`, and in which `?` passes every error on. `rt try --test` builds and runs them all,
+without a proof, in a folder that is deleted afterwards. A fence with `fn main` is a program and has to be the
+README's, which tools/try_outside.sh runs. Each public call has to have an example, and the heading `# Errors`
+exactly where it returns a `Result`. There may be no other fences.
 
-It prints what failed; the last line is `N passed, N failed`, where each example and each heading of a
-public call counts for one, and the status is 1 where one failed.
+It prints what failed. Each example and each public call counts for one; the last line is `N passed, N failed`,
+and the status is 1 where one failed.
 """
 import argparse
 import os
@@ -19,11 +18,10 @@ import subprocess
 import sys
 import tempfile
 
-from make_api import crate_modules
+from make_api import TOP, crate_modules, libraries
 from shared.fences import fences, fences_of
 
-TOP = os.path.dirname(os.path.dirname(os.path.abspath(__file__)))
-CRATES = ("mail_codec", "mail_tables", "mailparse", "mail_laws", "mail_data", "mail_program")
+PAGE = os.path.join("docs", "CALLING.md")
 DOC = re.compile(r"^\s*//[/!] ?(.*)$")
 
 
@@ -31,129 +29,88 @@ class Example:
     """A fence of a file: where it stands, and its lines."""
 
     def __init__(self, path, fence):
-        self.path = path
-        self.line = fence.number
+        self.place = f"{path}:{fence.number}"
+        self.name = re.sub(r"\W+", "_", re.sub(r"^crates/|/src|\.\w+$", "", path)).lower() + f"_{fence.number}"
         self.lines = fence.lines
         self.is_program = fence.is_program()
-
-    def module(self):
-        """The name of the module that the example becomes."""
-        return re.sub(r"\W+", "_", re.sub(r"^crates/|/src|\.rt$", "", self.path)) + f"_{self.line}"
+        if fence.words != ["rust"] or not fence.is_ended:
+            raise SystemExit(f"{self.place}: a fence that is no example, or has no end")
 
     def source(self):
-        """The module: the `use` lines first, and the rest in a test."""
-        imports, body = [], []
-        in_import = False
+        """The module that the example becomes: the `use` lines first, and the rest in a test."""
+        imports, body, in_import = [], [], False
         for line in self.lines:
             in_import = in_import or line.startswith("use ")
-            (imports if in_import else body).append(line)
+            (imports if in_import else body).append(line if in_import else f"    {line}".rstrip())
             in_import = in_import and not line.endswith(";")
-        body = [f"    {line}".rstrip() for line in body]
         return "\n".join(
-            [f"//! {self.path}, line {self.line}.", *imports, "use std::test::Fail;", "", "#[test]"]
-            + [f"fn {self.module()}(rt: HostRuntime) -> Result<(), Fail> {{"]
+            [f"//! {self.place}", *imports, "use std::test::Fail;", "", "#[test]"]
+            + [f"fn {self.name}(rt: HostRuntime) -> Result<(), Fail> {{"]
             + ["    let alloc = rt.alloc();", *body, "    Ok(())", "}", ""]
         )
 
 
-def examples_in(path, lines):
-    """The fences of numbered lines; one with another word than `rust`, or without an end, is an error."""
-    found = fences(lines)
-    for fence in found:
-        if fence.words != ["rust"]:
-            raise SystemExit(f"{path}:{fence.number}: a fence that begins with {' '.join(fence.words)}")
-        if not fence.is_ended:
-            raise SystemExit(f"{path}:{fence.number}: a fence without an end")
-    return [Example(path, fence) for fence in found]
-
-
-def sources():
-    """The paths of the source files of these crates, from the top."""
-    for crate in CRATES:
-        folder = os.path.join(TOP, "crates", crate, "src")
-        for root, _, names in sorted(os.walk(folder)):
-            for name in sorted(names):
-                yield os.path.relpath(os.path.join(root, name), TOP)
-
-
-def doc_examples(path):
-    """The fences of the doc comments of a source file."""
+def text_of(path):
+    """The text of a file of the repository."""
     with open(os.path.join(TOP, path), encoding="utf-8") as file:
-        lines = [(number, DOC.match(line)) for number, line in enumerate(file, 1)]
-    return examples_in(path, [(number, match.group(1).rstrip()) for number, match in lines if match])
+        return file.read()
 
 
-def judge(is_well, what, counts):
-    """Counts one of what has to be so; says what is not."""
-    counts[0 if is_well else 1] += 1
-    if not is_well:
-        print(f"FAILED {what}")
+def examples():
+    """All examples, by the files in which they stand."""
+    for crate in libraries():
+        for folder, _, names in sorted(os.walk(os.path.join(TOP, "crates", crate, "src"))):
+            for name in sorted(names):
+                path = os.path.relpath(os.path.join(folder, name), TOP)
+                lines = [(number, DOC.match(line)) for number, line in enumerate(text_of(path).split("\n"), 1)]
+                for fence in fences([(number, match.group(1).rstrip()) for number, match in lines if match]):
+                    yield Example(path, fence)
+    for fence in fences_of(text_of(PAGE)):
+        yield Example(PAGE, fence)
 
 
-def check_comments(counts):
-    """Whether each public call has an example, and tells of its errors exactly where it may fail."""
-    for crate in CRATES:
+def comment_faults():
+    """For each public call its path, and what its comment lacks."""
+    for crate in libraries():
         for module, _, items in crate_modules(crate):
-            if module.endswith("::laws"):
-                continue
-            for name, call in calls(module, items):
+            calls = [(item.name, item) for item in items if item.kind == "fn" and not module.endswith("::laws")]
+            calls += [(f"{item.name}::{it.name}", it) for item in items for it in item.members if it.kind == "fn"]
+            for name, call in calls:
                 has_errors = re.search(r"-> (io::)?Result<", call.signature) is not None
-                judge("```rust" in call.doc, f"{name} has no example", counts)
-                judge(("# Errors" in call.doc) == has_errors, f"{name}: `# Errors` or none", counts)
+                is_well = "```rust" in call.doc and ("# Errors" in call.doc) == has_errors
+                yield f"{module}::{name} has no example, or `# Errors` in the wrong place", is_well
 
 
-def calls(module, items):
-    """The public calls of a module, each with its path."""
-    for item in items:
-        if item.kind == "fn":
-            yield f"{module}::{item.name}", item
-        for member in item.members:
-            if member.kind == "fn":
-                yield f"{module}::{item.name}::{member.name}", member
-
-
-def check_programs(programs, counts):
-    """Whether each whole program is the README's. (That the README has one is for check_pages.py.)"""
-    with open(os.path.join(TOP, "README.md"), encoding="utf-8") as file:
-        kept = [fence.lines for fence in fences_of(file.read()) if fence.is_program()]
-    for example in programs:
-        judge([example.lines] == kept, f"{example.path}:{example.line} is not the README's program", counts)
-
-
-def write_crates(folder, examples):
-    """Writes a repository with the crates and a crate of the examples."""
-    with open(os.path.join(TOP, "crates.txt"), encoding="utf-8") as file:
-        kept = [line for line in file if line.split(":")[0] in CRATES]
-    with open(os.path.join(folder, "crates.txt"), "w", encoding="utf-8") as file:
-        file.writelines([*kept, f"examples: {' '.join(CRATES)}\n"])
-    for crate in CRATES:
+def write_crates(folder, tests):
+    """Writes a repository with the libraries and a crate of the examples; returns that crate's folder."""
+    kept = [line for line in text_of("crates.txt").split("\n") if line.split(":")[0] in libraries()]
+    for crate in libraries():
         for part in ("src", "specs", "proofs"):
             name = os.path.join("crates", crate, part)
             if os.path.isdir(os.path.join(TOP, name)):
                 shutil.copytree(os.path.join(TOP, name), os.path.join(folder, name))
     source = os.path.join(folder, "crates", "examples", "src")
     os.makedirs(source)
-    with open(os.path.join(source, "lib.rt"), "w", encoding="utf-8") as file:
-        file.write("//! The examples.\n#![tactic(auto)]\n")
-        file.writelines(f"\n#[cfg(test)]\nmod {example.module()};\n" for example in examples)
-    for example in examples:
-        with open(os.path.join(source, example.module() + ".rt"), "w", encoding="utf-8") as file:
-            file.write(example.source())
+    files = {example.name + ".rt": example.source() for example in tests}
+    root = "".join(f"\n#[cfg(test)]\nmod {example.name};\n" for example in tests)
+    files["lib.rt"] = "//! The examples.\n#![tactic(auto)]\n" + root
+    files["../../../crates.txt"] = "\n".join([*kept, f"examples: {' '.join(libraries())}", ""])
+    for name, text in files.items():
+        with open(os.path.join(source, name), "w", encoding="utf-8") as file:
+            file.write(text)
     return os.path.dirname(source)
 
 
-def run_examples(examples, counts):
-    """Builds the examples and runs them; where they do not build, all have failed."""
+def ran(tests):
+    """For each example where it stands, and whether it passed; where they do not build, none has."""
     with tempfile.TemporaryDirectory() as folder:
-        crate = write_crates(folder, examples)
-        run = subprocess.run(
-            ["rt", "try", "--test"], cwd=crate, text=True, stdout=subprocess.PIPE, stderr=subprocess.STDOUT
-        )
-    passed = set(re.findall(r"^test (\w+)::\w+ \.\.\. ok$", run.stdout, re.MULTILINE))
-    for example in examples:
-        judge(example.module() in passed, f"{example.path}:{example.line}", counts)
+        command = ["rt", "try", "--test"]
+        run = subprocess.run(command, cwd=write_crates(folder, tests), text=True, capture_output=True, check=False)
+    output = run.stdout + run.stderr
+    passed = set(re.findall(r"^test (\w+)::\w+ \.\.\. ok$", output, re.MULTILINE))
     if run.returncode != 0:
-        print(run.stdout)
+        print(output)
+    return [(example.place, example.name in passed) for example in tests]
 
 
 def main():
@@ -161,13 +118,16 @@ def main():
     argparse.ArgumentParser(
         description=__doc__, formatter_class=argparse.RawDescriptionHelpFormatter
     ).parse_args()
-    counts = [0, 0]
-    examples = [example for path in sources() for example in doc_examples(path)]
-    check_comments(counts)
-    check_programs([example for example in examples if example.is_program], counts)
-    run_examples([example for example in examples if not example.is_program], counts)
-    print(f"{counts[0]} passed, {counts[1]} failed")
-    return 0 if counts[1] == 0 else 1
+    program = [fence.lines for fence in fences_of(text_of("README.md")) if fence.is_program()]
+    found = list(examples())
+    judged = list(comment_faults())
+    judged += [(f"{it.place} is not the README's program", [it.lines] == program) for it in found if it.is_program]
+    judged += ran([example for example in found if not example.is_program])
+    failed = [what for what, is_well in judged if not is_well]
+    for what in failed:
+        print(f"FAILED {what}")
+    print(f"{len(judged) - len(failed)} passed, {len(failed)} failed")
+    return 1 if failed else 0
 
 
 if __name__ == "__main__":

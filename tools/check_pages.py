@@ -1,131 +1,101 @@
 #!/usr/bin/env python3
-"""Compares the code on the pages with the sources that it is quoted from.
+"""Compares the pages with the repository.
 
-Each fence of docs/CALLING.md names its source after the word of its language, as in
-```rust crates/mail_jobs/src/indexer.rt. Its lines have to stand there word for word and one after
-another, but for the indentation of all of them; a line `// ..` passes over lines of the source. What
-quotes a contract quotes it to its end. The README's program has to be crates/first_mail, word for
-word but for the comment at its head.
+On every page each link has to lead to a file, or to a heading, that is there; and each path in backquotes that
+begins with a folder of the top has to be there. On the pages that claim something of the sources each name in
+backquotes that has a `_` or a `::` inside has to be declared in a source, a definition or crates.txt. A fence of
+the README that names its source, as in ```rust crates/first_mail/src/main.rt, has lines that stand there word for
+word and one after another.
 
-It prints what differs; the last line is `N passed, N failed`, where each fence counts for one, and the
-status is 1 where one failed.
+It prints what is wrong. Each link, path, name and fence counts for one; the last line is `N passed, N failed`,
+and the status is 1 where one failed.
 """
 import argparse
+import glob
 import os
 import re
 import sys
-import textwrap
 
 from shared.fences import fences_of
 
 TOP = os.path.dirname(os.path.dirname(os.path.abspath(__file__)))
-PAGE = os.path.join("docs", "CALLING.md")
-README = "README.md"
-PROGRAM = os.path.join("crates", "first_mail", "src", "main.rt")
-GAP = "// .."
-CLAUSE = re.compile(r"\s*(requires|ensures)\b")
-BRACKETS = (("{", "}"), ("(", ")"))
+PAGES = ("*.md", "docs/*.md", "crates/*/data/README.md", "tools/*/README.md")
+CLAIMS = ("docs/ARCHITECTURE.md", "docs/CALLING.md", "docs/PROVED.md")
+DECLARED = re.compile(
+    r"\b(?:fn|struct|enum|trait|mod|const|type|ensures\*?|requires|record|data|impl)\s+(\w+)"
+    r"|^\s*(?:abbrev |unfoldable )?(?:pub )?(\w+) :|^\s*pub (\w+):|^    (\w+)(?:\(.*\))?,$",
+    re.MULTILINE,
+)
 
 
-def pieces(lines):
-    """The lines between those that pass over something, without empty ones at the ends."""
-    found = [[]]
-    for line in lines:
-        if line.strip() == GAP:
-            found.append([])
-        else:
-            found[-1].append(line)
-    return ["\n".join(piece).strip("\n").split("\n") for piece in found]
+def text_of(path):
+    """The text of a file of the repository."""
+    with open(os.path.join(TOP, path), encoding="utf-8") as file:
+        return file.read()
 
 
-def without_indent(lines):
-    """The lines without the indentation that all of them have."""
-    return textwrap.dedent("\n".join(lines)).split("\n")
+def matching(*patterns):
+    """The files that match one of some patterns, from the top."""
+    return sorted(path for pattern in patterns for path in glob.glob(pattern, root_dir=TOP, recursive=True))
 
 
-def place_of(piece, source, start):
-    """The first place of a piece in the lines of a source from a place on, or None."""
-    wanted = without_indent(piece)
-    for place in range(start, len(source) - len(piece) + 1):
-        if without_indent(source[place : place + len(piece)]) == wanted:
-            return place
-    return None
+def anchors(path):
+    """The anchors of the headings of a page."""
+    headings = re.findall(r"^#+ (.*)$", text_of(path), re.MULTILINE)
+    return {re.sub(r"[^\w\- ]", "", heading.lower()).replace(" ", "-") for heading in headings}
 
 
-def is_cut(piece, after):
-    """Whether a piece ends inside a contract or a body; `after` is the source's next line."""
-    text = "\n".join(line for line in piece if not line.lstrip().startswith("//"))
-    is_open = any(text.count(opening) > text.count(closing) for opening, closing in BRACKETS)
-    return is_open or bool(CLAUSE.match(after))
+def links(page, text):
+    """For each link of a page to this repository what it is, and whether it leads somewhere."""
+    for path, anchor in re.findall(r"\]\((?!\w+:)([^)#\s]*)#?([^)\s]*)\)", text):
+        other = os.path.normpath(os.path.join(os.path.dirname(page), path)) if path else page
+        is_there = os.path.exists(os.path.join(TOP, other))
+        yield f"the link {path}#{anchor}", is_there and (not anchor or anchor in anchors(other))
 
 
-def fault_of(fence, source):
-    """What is wrong with a fence that quotes the lines of a source, or None."""
-    start = 0
-    for piece in pieces(fence.lines):
-        if piece == [""]:
-            return "a piece without a line"
-        place = place_of(piece, source, start)
-        if place is None:
-            return f"does not stand there: {piece[0].strip()}"
-        start = place + len(piece)
-        if is_cut(piece, source[start] if start < len(source) else ""):
-            return f"ends too early: {piece[-1].strip()}"
-    return None
+def paths(text):
+    """For each path in backquotes what it is, and whether it is there."""
+    for path in re.findall(r"`(?:\./)?((?:crates|docs|tools|samples|examples|\.ci)/[\w./-]*)(?: [^`]*)?`", text):
+        if not re.search(r"\b[A-Z]+\b(?<!README)(?!\.md)", path):
+            yield f"the path {path}", os.path.exists(os.path.join(TOP, path))
 
 
-def lines_of(path):
-    """The lines of a file of the repository, or None where it cannot be read."""
-    try:
-        with open(os.path.join(TOP, path), encoding="utf-8") as file:
-            return file.read().rstrip("\n").split("\n")
-    except OSError:
-        return None
+def names(text, declared):
+    """For each name in backquotes what it is, and whether it is declared."""
+    for name in re.findall(r"`(\w+(?:::\w+)*)(?:\(\))?`", text):
+        if re.search(r"[a-z](_|::)[a-z]", name):
+            yield f"the name {name}", all(word in declared for word in name.split("::"))
 
 
-def page_faults(text, read=lines_of):
-    """For each fence of the page with quotes the line where it stands, and its fault or None."""
+def quotes(text):
+    """For each fence that names its source what it is, and whether its lines stand there."""
     for fence in fences_of(text):
-        path = fence.words[1] if len(fence.words) == 2 else None
-        source = read(path) if path else None
-        if path is None:
-            yield fence.number, "a fence that names no source"
-        elif source is None:
-            yield fence.number, f"{path} cannot be read"
-        else:
-            fault = fault_of(fence, source)
-            yield fence.number, fault and f"{path}: {fault}"
-
-
-def program_fault(text, source):
-    """What is wrong with the program of the README, beside the lines of its crate, or None."""
-    programs = [fence for fence in fences_of(text) if fence.is_program()]
-    if len(programs) != 1:
-        return f"{len(programs)} programs, and not one"
-    if source is None:
-        return f"{PROGRAM} cannot be read"
-    program = [line for line in source if not line.startswith("//!")]
-    if programs[0].lines != program:
-        return f"line {programs[0].number}: not the program of {PROGRAM}"
-    return None
+        if len(fence.words) == 2:
+            lines = text_of(fence.words[1]).split("\n")
+            found = "\n".join(line.strip() for line in lines)
+            yield f"the fence at line {fence.number}", "\n".join(line.strip() for line in fence.lines) in found
 
 
 def main():
-    """Checks both pages."""
+    """Compares all pages."""
     argparse.ArgumentParser(
         description=__doc__, formatter_class=argparse.RawDescriptionHelpFormatter
     ).parse_args()
-    faults = list(page_faults("\n".join(lines_of(PAGE) or [])))
-    found = [fault and f"{PAGE}:{number}: {fault}" for number, fault in faults]
-    if not faults:
-        found.append(f"{PAGE}: there is nothing that it quotes")
-    fault = program_fault("\n".join(lines_of(README) or []), lines_of(PROGRAM))
-    found.append(fault and f"{README}: {fault}")
-    for fault in filter(None, found):
-        print(f"FAILED {fault}")
-    failed = len(list(filter(None, found)))
-    print(f"{len(found) - failed} passed, {failed} failed")
-    return 0 if failed == 0 else 1
+    declared = set(re.findall(r"\w+", text_of("crates.txt")))
+    for path in matching("crates/*/src/**/*.rt", "crates/*/specs/**/*.antt"):
+        declared.update(word for match in DECLARED.findall(text_of(path)) for word in match)
+    failed = total = 0
+    for page in matching(*PAGES):
+        text = text_of(page)
+        found = [*links(page, text), *paths(text)]
+        found += names(text, declared) if page in CLAIMS else []
+        found += quotes(text) if page == "README.md" else []
+        total += len(found)
+        for what in [what for what, is_well in found if not is_well]:
+            failed += 1
+            print(f"FAILED {page}: {what}")
+    print(f"{total - failed} passed, {failed} failed")
+    return 1 if failed else 0
 
 
 if __name__ == "__main__":

@@ -19,14 +19,13 @@ class Fence:
 
 def fences(numbered):
     """The fences among numbered lines; one without an end goes on to the last of them."""
-    found, is_open = [], False
+    found = []
     for number, line in numbered:
+        is_open = bool(found) and not found[-1].is_ended
         if not is_open and line.startswith("```"):
             found.append(Fence(number, line[3:].split()))
-            is_open = True
         elif is_open and line == "```":
             found[-1].is_ended = True
-            is_open = False
         elif is_open:
             found[-1].lines.append(line)
     return found
