@@ -63,7 +63,7 @@ def paths(text):
 def names(text, declared):
     """For each name in backquotes what it is, and whether it is declared."""
     for name in re.findall(r"`(\w+(?:::\w+)*)(?:\(\))?`", text):
-        if re.search(r"[a-z](_|::)[a-z]", name):
+        if re.search(r"[a-z](_|::)[a-z]", name) and not name.startswith("std::"):
             yield f"the name {name}", all(word in declared for word in name.split("::"))
 
 
