@@ -56,7 +56,7 @@ def links(page, text):
 def paths(text):
     """For each path in backquotes what it is, and whether it is there."""
     for path in re.findall(r"`(?:\./)?((?:crates|docs|tools|samples|examples|\.ci)/[\w./-]*)(?: [^`]*)?`", text):
-        if not re.search(r"\b[A-Z]+\b(?<!README)(?!\.md)", path):
+        if not re.search(r"/out/|\b[A-Z]+\b(?<!README)(?!\.md)", path):
             yield f"the path {path}", os.path.exists(os.path.join(TOP, path))
 
 
