@@ -28,7 +28,10 @@ the definition gives, its refusals included; `AnswersOrMemory` says the same unl
 `GivesTexts`, `ReadsText` and `ReadsBytes` are `AnswersOrMemory` for texts and bytes. `IfOk` and `IfErr` speak of one
 kind of result alone. The definitions stand in the `specs` folder of each crate.
 """
-CLAUSE = re.compile(r"(ensures|requires)\*?\b ?(\w*) ?\{ ?(.*?) ?\};?$")
+# an item of some indentation: its doc comment, its attributes, its first words, and all before its body
+ITEM = r"^((?:{0}///[^\n]*\n)*)((?:{0}#\[[^\n]*\n)*){0}({1})(.*?)(?:;| ?\{{\}}?|\n{0}\{{\}}?)$"
+FIELD = r"^((?:    ///[^\n]*\n)*)(?:    #\[[^\n]*\n)*    {}(?:,| (\{{\n.*?\n    \}}),)$"
+CLAUSE = re.compile(r"\b(ensures|requires)\*? ?(\w*) ?\{ ?(.*?) ?\}(?= (?:ensures|requires)\b|$)")
 # what only contracts see
 GHOST_TRAITS = {"Model"}
 
@@ -40,21 +43,27 @@ def libraries():
     return [name for name in names if os.path.isfile(os.path.join(TOP, "crates", name, "src", "lib.rt"))]
 
 
-class Item:
-    """A public item: what it is, its name, its signature, its clauses, its doc comment and its members."""
+def found(pattern, text):
+    """The matches of a pattern over lines."""
+    return re.findall(pattern, text, re.MULTILINE | re.DOTALL)
 
-    def __init__(self, kind, name, text, doc, traits=()):
+
+class Item:
+    """A public item: what it is, its name, its signature, its clauses, its doc comment, its members and its traits."""
+
+    def __init__(self, kind, text, doc, attributes=""):
         self.kind = kind
-        self.name = name
-        self.signature, *clauses = re.split(r" (?=(?:ensures|requires)\b)", text)
-        self.clauses = [CLAUSE.match(clause).groups() for clause in clauses]
-        self.doc = doc
+        self.name = re.match(r"(?:\w+ )?(\w+)", text).group(1)
+        text = re.sub(r"\s+", " ", text).replace("( ", "(").replace(", )", ")")
+        self.clauses = CLAUSE.findall(text)
+        self.signature = re.split(r" (?:ensures|requires)\b", text)[0]
+        self.doc = re.sub(r"^ *//[/!] ?", "", doc, flags=re.MULTILINE)
         self.members = []
-        self.traits = list(traits)
+        self.traits = re.findall(r"\w+", "".join(re.findall(r"#\[derive\((.*?)\)\]", attributes)))
 
     def paragraph(self):
         """The first paragraph of the doc comment."""
-        return " ".join("\n".join(self.doc).split("\n\n")[0].split())
+        return " ".join(self.doc.split("\n\n")[0].split())
 
     def sentence(self):
         """The first sentence of the doc comment."""
@@ -67,30 +76,24 @@ class Module:
     def __init__(self, path):
         self.folder = os.path.dirname(path) if path.endswith("lib.rt") else path.removesuffix(".rt")
         with open(path, encoding="utf-8") as file:
-            lines = file.read().split("\n")
-        self.doc = [line[4:] for line in lines if line.startswith("//!")]
-        self.items, self.impls, self.modules, self.uses = [], [], [], []
-        for at, doc, derives in documented(lines, ""):
-            self.add(lines, at, doc, derives)
+            self.text = file.read()
+        self.doc = "".join(found(r"^//![^\n]*\n", self.text))
+        self.modules = found(r"^pub mod (\w+);", self.text)
+        self.items = []
+        for doc, attributes, words, rest in found(ITEM.format("", r"pub (?:const|fn|struct|enum|trait) "), self.text):
+            kind = words.split()[1]
+            rest = re.sub(r" = (?!\d+$).*", "", rest, flags=re.DOTALL) if kind == "const" else rest
+            item = Item(kind, f"{kind} {rest}", doc, attributes)
+            self.items.append(item)
+            item.members = members(self.body(rf"pub {kind} {item.name}\b"), kind)
+            traits = found(rf"^impl(?:<[^>]*>)? (?:\w+::)?(\S[^\n]*) for {item.name}\b[^\n]* \{{$", self.text)
+            item.traits += [trait for trait in traits if trait not in GHOST_TRAITS]
+            item.traits += found(rf"^impl(?:<[^>]*>)? {item.name} for ([^\n]*) \{{$", self.text)
+            item.members += members(self.body(rf"impl(?:<[^>]*>)? {item.name}\b(?! for)"), "impl")
 
-    def add(self, lines, at, doc, derives):
-        """Adds what begins at a line of the top level."""
-        line = lines[at]
-        if match := re.match(r"pub (const|fn|struct|enum|trait) (\w+)", line):
-            kind, name = match.groups()
-            text = head(lines, at)
-            if kind == "const" and not line.endswith(";"):
-                text = text.partition(" =")[0]  # its value goes over more lines
-            self.items.append(Item(kind, name, text, doc, derives))
-            self.items[-1].members = members(lines, at, kind)
-        elif match := re.match(r"impl(?:<[^>]*>)? (?:(.+) for )?((\w+).*?) \{", line):
-            self.impls.append((*match.groups(), members(lines, at, "impl")))
-        elif match := re.match(r"pub mod (\w+);", line):
-            self.modules.append(match.group(1))
-        elif line.startswith("pub use "):
-            text = " ".join(lines[at:]).split(";")[0]
-            path, names = re.match(r"pub use (?:self::)?(.*)::\{?([^{}]*)\}?$", text).groups()
-            self.uses.append((path, re.findall(r"\w+", names)))
+    def body(self, begin):
+        """The lines inside the braces of what begins so at the top level."""
+        return "".join(found(rf"^{begin}[^\n]* \{{\n(.*?)^\}}$", self.text))
 
     def inner(self, path):
         """The source file of a module below this one."""
@@ -98,77 +101,26 @@ class Module:
 
     def public_items(self):
         """The public items: its own, and what it takes from other files of the crate."""
-        found = [self.with_impls(item) for item in self.items]
-        for path, names in self.uses:
+        items = list(self.items)
+        for path, names in found(r"^pub use (?:self::)?([\w:]+)::\{?([^{};]*)\}?;$", self.text):
             if os.path.isfile(self.inner(path)):
-                found += [item for item in Module(self.inner(path)).public_items() if item.name in names]
-        return found
-
-    def with_impls(self, item):
-        """The item with what its file implements for it."""
-        for trait, target, name, found in self.impls:
-            if trait is None and name == item.name:
-                item.members += found
-            elif name == item.name and trait not in GHOST_TRAITS:
-                item.traits.append(re.sub(r"^\w+::", "", trait))
-            elif trait == item.name:
-                item.traits.append(target)
-        return item
+                taken = re.findall(r"\w+", names)
+                items += [item for item in Module(self.inner(path)).public_items() if item.name in taken]
+        return items
 
 
-def documented(lines, indent):
-    """The lines after doc comments and attributes: the number, the doc comment and the derived traits of each."""
-    doc, derives = [], []
-    for at, line in enumerate(lines):
-        text = line.removeprefix(indent)
-        if text.startswith("///"):
-            doc.append(text[4:])
-        elif match := re.match(r"#\[derive\((.*)\)\]", text):
-            derives = match.group(1).split(", ")
-        elif not text.startswith("#["):
-            yield at, doc, derives
-            doc, derives = [], []
+def members(body, kind):
+    """The public members in the body of a type, an implementation or a trait."""
+    if kind in ("impl", "trait"):
+        calls = found(ITEM.format("    ", "pub fn " if kind == "impl" else "fn "), body)
+        return [Item("fn", f"fn {rest}", doc) for doc, _, _, rest in calls]
+    fields = found(FIELD.format(r"pub (\w+: [^\n]*?)" if kind == "struct" else r"(\w+(?:\([^\n]*\))?)"), body)
+    return [Item("field", f"{text} {without_comments(rest)}".strip(), doc) for doc, text, rest in fields]
 
 
-def head(lines, at):
-    """The signature that begins at a line, with its clauses, as one line; without the body."""
-    found, depth = [], 0
-    for line in lines[at:]:
-        word = line.strip()
-        is_clause = depth > 0 or re.match(r"(ensures|requires)\b", word)
-        if not is_clause and word in ("{", "{}"):
-            break
-        found.append(word if is_clause else re.sub(r"\s*(\{\}?|;)$", "", word))
-        depth += word.count("{") - word.count("}") if is_clause else 0
-        if depth == 0 and (word.endswith(";") or not is_clause and word.endswith(("{", "}", "["))):
-            break
-    text = " ".join(found).replace("( ", "(").replace(", )", ")")
-    return re.sub(r"^pub ", "", text)
-
-
-def members(lines, at, kind):
-    """The public members of what opens at a line: a type, an implementation or a trait."""
-    word = {"struct": r"pub (\w+):", "enum": r"(\w+)", "impl": r"pub fn (\w+)", "trait": r"fn (\w+)"}.get(kind)
-    if word is None or lines[at].endswith((";", "}")):
-        return []
-    end = next(i for i in range(at, len(lines)) if lines[i].startswith("}"))
-    block, found = lines[at + 1 : end], []
-    for place, doc, _ in documented(block, "    "):
-        if match := re.match(rf"    {word}", block[place]):
-            is_call = kind in ("impl", "trait")
-            text = head(block, place) if is_call else field(block, place)
-            found.append(Item("fn" if is_call else "field", match.group(1), text, doc))
-    return found
-
-
-def field(lines, at):
-    """The field or the variant at a line; a variant with the fields that it names."""
-    text = re.sub(r"^pub ", "", lines[at].strip()).rstrip(",")
-    if not text.endswith("{"):
-        return text
-    end = next(i for i in range(at, len(lines)) if lines[i].startswith("    }"))
-    names = [line.strip().rstrip(",") for line in lines[at + 1 : end] if not re.match(r"\s*(///|#\[)", line)]
-    return f"{text} {', '.join(names)} }}"
+def without_comments(fields):
+    """The named fields of a variant, in one line."""
+    return re.sub(r",\s*\}", " }", re.sub(r"^\s*///[^\n]*\n", "", fields, flags=re.MULTILINE))
 
 
 def public_modules(path, name):
@@ -186,17 +138,15 @@ def crate_modules(crate):
 
 def wrapped(text, indent=""):
     """A paragraph or an entry of a list in lines of the page's width."""
-    return textwrap.wrap(
-        text, 120, subsequent_indent=indent, break_long_words=False, break_on_hyphens=False
-    )
+    return textwrap.wrap(text, 120, subsequent_indent=indent, break_long_words=False, break_on_hyphens=False)
 
 
 def entry(item):
     """The lines of an entry of a list, with its contract."""
     lines = wrapped(f"- `{item.signature}`: {item.sentence()}", "  ")
     for word, name, text in item.clauses:
-        label = " ".join(part for part in (word if word == "requires" else "", f"`{name}`" if name else "") if part)
-        lines += wrapped(f"  - {label + ': ' if label else ''}`{text}`", "    ")
+        label = ("requires " if word == "requires" else "") + (f"`{name}`: " if name else "")
+        lines += wrapped(f"  - {label}`{text}`", "    ")
     return lines
 
 
@@ -213,7 +163,7 @@ def type_lines(item):
 
 def module_lines(name, doc, items):
     """The lines of a public module."""
-    lines = ["", f"## `{name}`", "", *wrapped(Item("mod", name, name, doc).sentence())]
+    lines = ["", f"## `{name}`", "", *wrapped(Item("mod", name, doc).sentence())]
     entries = [item for item in items if item.kind in ("const", "fn")]
     if entries:
         lines.append("")
