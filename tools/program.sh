@@ -3,7 +3,7 @@
 # src/main.rt.
 #
 # Where the program is missing or older than a source, the crate is proved and the program built
-# first: about 10 minutes on four cores where nothing is proved yet. How far that is goes to standard
+# first: 10 to 16 minutes on four slow processors from nothing. How far that is goes to standard
 # error. With BUILT=only in the environment a program that has to be built is an error.
 arguments='NAME'
 . "$(dirname "$0")/prelude.sh"
