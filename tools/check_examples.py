@@ -85,10 +85,8 @@ def write_crates(folder, tests):
     """Writes a repository with the libraries and a crate of the examples; returns that crate's folder."""
     kept = [line for line in text_of("crates.txt").split("\n") if line.split(":")[0] in libraries()]
     for crate in libraries():
-        for part in ("src", "specs", "proofs"):
-            name = os.path.join("crates", crate, part)
-            if os.path.isdir(os.path.join(TOP, name)):
-                shutil.copytree(os.path.join(TOP, name), os.path.join(folder, name))
+        there = os.path.join(folder, "crates", crate)
+        shutil.copytree(os.path.join(TOP, "crates", crate), there, ignore=shutil.ignore_patterns("out", "edits"))
     source = os.path.join(folder, "crates", "examples", "src")
     os.makedirs(source)
     files = {example.name + ".rt": example.source() for example in tests}
