@@ -18,7 +18,8 @@ import subprocess
 import sys
 import tempfile
 
-from make_api import TOP, crate_modules, libraries
+from make_api import crate_modules, libraries
+from shared.checks import TOP, finish, text_of
 from shared.fences import fences, fences_of
 
 PAGE = os.path.join("docs", "CALLING.md")
@@ -48,12 +49,6 @@ class Example:
             + [f"fn {self.name}(rt: HostRuntime) -> Result<(), Fail> {{"]
             + ["    let alloc = rt.alloc();", *body, "    Ok(())", "}", ""]
         )
-
-
-def text_of(path):
-    """The text of a file of the repository."""
-    with open(os.path.join(TOP, path), encoding="utf-8") as file:
-        return file.read()
 
 
 def examples():
@@ -113,19 +108,13 @@ def ran(tests):
 
 def main():
     """Checks all."""
-    argparse.ArgumentParser(
-        description=__doc__, formatter_class=argparse.RawDescriptionHelpFormatter
-    ).parse_args()
+    argparse.ArgumentParser(description=__doc__, formatter_class=argparse.RawDescriptionHelpFormatter).parse_args()
     program = [fence.lines for fence in fences_of(text_of("README.md")) if fence.is_program()]
     found = list(examples())
     judged = list(comment_faults())
     judged += [(f"{it.place} is not the README's program", [it.lines] == program) for it in found if it.is_program]
     judged += ran([example for example in found if not example.is_program])
-    failed = [what for what, is_well in judged if not is_well]
-    for what in failed:
-        print(f"FAILED {what}")
-    print(f"{len(judged) - len(failed)} passed, {len(failed)} failed")
-    return 1 if failed else 0
+    return finish(judged)
 
 
 if __name__ == "__main__":

@@ -16,11 +16,12 @@ import os
 import re
 import sys
 
+from shared.checks import TOP, finish, text_of
 from shared.fences import fences_of
 
-TOP = os.path.dirname(os.path.dirname(os.path.abspath(__file__)))
 PAGES = ("*.md", "docs/*.md", "crates/*/data/README.md", "tools/*/README.md")
 CLAIMS = ("docs/ARCHITECTURE.md", "docs/CALLING.md", "docs/PROVED.md")
+SOURCES = ("crates/*/src/**/*.rt", "crates/*/specs/**/*.antt")
 DECLARED = re.compile(
     r"\b(?:fn|struct|enum|trait|mod|const|type|ensures\*?|requires|record|data|impl)\s+(\w+)"
     r"|^\s*(?:abbrev |unfoldable )?(?:pub )?(\w+) :|^\s*pub (\w+):|^    (\w+)(?:\(.*\))?,$",
@@ -28,13 +29,7 @@ DECLARED = re.compile(
 )
 
 
-def text_of(path):
-    """The text of a file of the repository."""
-    with open(os.path.join(TOP, path), encoding="utf-8") as file:
-        return file.read()
-
-
-def matching(*patterns):
+def matching(patterns):
     """The files that match one of some patterns, from the top."""
     return sorted(path for pattern in patterns for path in glob.glob(pattern, root_dir=TOP, recursive=True))
 
@@ -54,7 +49,7 @@ def links(page, text):
 
 
 def paths(text):
-    """For each path in backquotes what it is, and whether it is there."""
+    """For each path in backquotes what it is, and whether it is there; not what is built, nor CRATE and the like."""
     for path in re.findall(r"`(?:\./)?((?:crates|docs|tools|samples|examples|\.ci)/[\w./-]*)(?: [^`]*)?`", text):
         if not re.search(r"/out/|\b[A-Z]+\b(?<!README)(?!\.md)", path):
             yield f"the path {path}", os.path.exists(os.path.join(TOP, path))
@@ -71,31 +66,24 @@ def quotes(text):
     """For each fence that names its source what it is, and whether its lines stand there."""
     for fence in fences_of(text):
         if len(fence.words) == 2:
-            lines = text_of(fence.words[1]).split("\n")
-            found = "\n".join(line.strip() for line in lines)
-            yield f"the fence at line {fence.number}", "\n".join(line.strip() for line in fence.lines) in found
+            source = "\n".join(line.strip() for line in text_of(fence.words[1]).split("\n"))
+            yield f"the fence at line {fence.number}", "\n".join(line.strip() for line in fence.lines) in source
 
 
 def main():
     """Compares all pages."""
-    argparse.ArgumentParser(
-        description=__doc__, formatter_class=argparse.RawDescriptionHelpFormatter
-    ).parse_args()
+    argparse.ArgumentParser(description=__doc__, formatter_class=argparse.RawDescriptionHelpFormatter).parse_args()
     declared = set(re.findall(r"\w+", text_of("crates.txt")))
-    for path in matching("crates/*/src/**/*.rt", "crates/*/specs/**/*.antt"):
-        declared.update(word for match in DECLARED.findall(text_of(path)) for word in match)
-    failed = total = 0
-    for page in matching(*PAGES):
+    for path in matching(SOURCES):
+        declared.update(word for words in DECLARED.findall(text_of(path)) for word in words)
+    judged = []
+    for page in matching(PAGES):
         text = text_of(page)
         found = [*links(page, text), *paths(text)]
         found += names(text, declared) if page in CLAIMS else []
         found += quotes(text) if page == "README.md" else []
-        total += len(found)
-        for what in [what for what, is_well in found if not is_well]:
-            failed += 1
-            print(f"FAILED {page}: {what}")
-    print(f"{total - failed} passed, {failed} failed")
-    return 1 if failed else 0
+        judged += [(f"{page}: {what}", is_well) for what, is_well in found]
+    return finish(judged)
 
 
 if __name__ == "__main__":

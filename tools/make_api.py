@@ -13,8 +13,9 @@ import re
 import sys
 import textwrap
 
-TOP = os.path.dirname(os.path.dirname(os.path.abspath(__file__)))
-PAGE = os.path.join(TOP, "docs", "API.md")
+from shared.checks import TOP, finish, text_of
+
+PAGE = os.path.join("docs", "API.md")
 INTRODUCTION = """\
 # Public types and calls, with their contracts
 
@@ -38,8 +39,7 @@ GHOST_TRAITS = {"Model"}
 
 def libraries():
     """The crates that are libraries, lowest first."""
-    with open(os.path.join(TOP, "crates.txt"), encoding="utf-8") as file:
-        names = re.findall(r"^(\w+)[^:#\n]*:", file.read(), re.MULTILINE)
+    names = re.findall(r"^(\w+)[^:#\n]*:", text_of("crates.txt"), re.MULTILINE)
     return [name for name in names if os.path.isfile(os.path.join(TOP, "crates", name, "src", "lib.rt"))]
 
 
@@ -75,8 +75,7 @@ class Module:
 
     def __init__(self, path):
         self.folder = os.path.dirname(path) if path.endswith("lib.rt") else path.removesuffix(".rt")
-        with open(path, encoding="utf-8") as file:
-            self.text = file.read()
+        self.text = text_of(path)
         self.doc = "".join(found(r"^//![^\n]*\n", self.text))
         self.modules = found(r"^pub mod (\w+);", self.text)
         self.items = []
@@ -191,14 +190,12 @@ def main():
     parser = argparse.ArgumentParser(description=__doc__, formatter_class=argparse.RawDescriptionHelpFormatter)
     parser.add_argument("--check", action="store_true", help="write nothing, and compare")
     if not parser.parse_args().check:
-        with open(PAGE, "w", encoding="utf-8") as file:
+        with open(os.path.join(TOP, PAGE), "w", encoding="utf-8") as file:
             file.write(page())
         return 0
-    with open(PAGE, encoding="utf-8") as file:
-        kept, made = file.read().split("\n"), page().split("\n")
-    print("\n".join(difflib.unified_diff(kept, made, "docs/API.md", "the sources", lineterm="")))
-    print("1 passed, 0 failed" if kept == made else "0 passed, 1 failed")
-    return 0 if kept == made else 1
+    kept, made = text_of(PAGE).split("\n"), page().split("\n")
+    print("\n".join(difflib.unified_diff(kept, made, PAGE, "the sources", lineterm="")))
+    return finish([(f"{PAGE}: it is not what the sources give", kept == made)])
 
 
 if __name__ == "__main__":
