@@ -1,374 +1,248 @@
 #!/usr/bin/env python3
 """Tries the edits that must fail: each changes the body of a function, and the prover has to refuse it.
 
-An edit is a file crates/CRATE/edits/NAME.edit: a line `file: src/..`, then pairs of lines, `old: TEXT`, which
-stands once in that file, and `new: TEXT`. It changes what stands in the body of a function, or a constant,
-which counts as a change of each function that uses it. (A body is proved against the contracts of what it
-calls, so edits of different functions do not touch one another. An edit of a contract, of a definition or
-of a proof goes to must-fail/, which `rt ci` tries.)
+The edits of a module stand in crates/CRATE/edits/MODULE.txt, with an empty line between two. A line `file: src/..`
+holds until the next one. An edit has lines `name:`, `function:` (what it changes, as `rt check` prints it; several
+where it is a constant that they use) and pairs of lines `old:`, whose text stands once in the file, and `new:`.
 
-The script proves each crate as it is, in a copy of the repository, from nothing or from what `rt check` kept
-in other clones on this machine. Then it checks the crate with a batch of edits at once, over these proofs,
-where no two edits of a batch change one function; the largest batches start first.
-(Where one batch holds all edits of a crate, and no other crate with edits depends on it, the check of that
-batch is the first check of the crate.)
-An edit passes if the function that it changes is refused, and the line says which goal became false (or
-that its proof only names what is gone, which says little: such edits are listed at the end); each
-function that no edit changes has to be reported as proved, or as waiting only for those that are refused.
-Where a batch does not say clearly, or an edit was not refused in it, the edit is tried alone before it
-is called failed. First of all a batch with an edit that changes nothing is tried, which has to be reported
-as not refused.
-
-How an edit was refused is kept on this machine, by a sum of the kit, of these scripts, of the sources of the
-crate and of those below it, and of the edit. A later run, in another copy of the repository too, tries only
-what has changed, and says how many it did not try; --anew tries all.
-
-With --gentle, which is for a run beside other proofs, a batch starts only where a processor is idle, and
-then gets what the rest leaves. The first proofs do not wait, since each waits for those of the crates below.
-
-NAME is a crate, or an edit, as CRATE/NAME; with none, all are tried. The last line is `N passed, N failed`,
-and the status is 1 where an edit failed.
+Crates on which others stand are proved in a copy of the repository. Each crate is then checked with many edits at
+once, of which no two change one function: a body is proved against the contracts of what it calls, so such edits do
+not touch one another. An edit passes if each of its functions is refused for a goal, and not only because its proof
+names what is gone; all other functions have to be proved, or to wait only for those. An edit for which a batch does
+not show this is tried alone. Before all that, edits whose new text is the old one have to be reported as not refused.
+The last line is `N passed, N failed`.
 """
 
 import argparse
 import os
+import re
+import shutil
 import signal
 import subprocess
 import sys
 import tempfile
 import threading
-import time
-from collections.abc import Callable
-from concurrent.futures import FIRST_COMPLETED, ThreadPoolExecutor, wait
-from dataclasses import dataclass
+from collections import namedtuple
+from concurrent.futures import ThreadPoolExecutor
+from pathlib import Path
 
-from edits.checker import Checker, all_below, is_proved
-from edits.edit import Change, Crate, Edit, batches_of, edits_in, texts_with
-from edits.judge import Outcome, first_words, outcome_of, unclear
-from edits.kept import Kept, folder_of_user
-
-TOP = os.path.dirname(os.path.dirname(os.path.realpath(__file__)))
-
-
-def processors():
-    """How many checks run side by side: one for each processor, as far as memory goes. A check takes up
-    to 2.5 GB, and the gate proves the crates beside it, so 4 GB are counted."""
-    with open("/proc/meminfo", encoding="utf-8") as opened:
-        free = next(int(it.split()[1]) for it in opened if it.startswith("MemAvailable"))
-    return max(1, min(len(os.sched_getaffinity(0)), free // 4_000_000))
-
-
-def read_words():
-    """The arguments, and what reads them."""
-    title, _, more = __doc__.partition("\n\n")
-    form = argparse.RawDescriptionHelpFormatter
-    reader = argparse.ArgumentParser(description=title, epilog=more, formatter_class=form)
-    reader.add_argument("--jobs", type=int, default=0, help="how many checks run side by side; one a processor")
-    reader.add_argument("--batch", type=int, default=48, help="how many edits a batch aims at; a quarter more at most")
-    reader.add_argument("--anew", action="store_true", help="try what earlier runs on this machine have tried, too")
-    reader.add_argument("--gentle", action="store_true", help="leave the processors to what else runs")
-    reader.add_argument("--kept", action="store_true", help="start from what `rt check` has kept in crates/*/out")
-    reader.add_argument("names", nargs="*", metavar="NAME", help="a crate, or an edit as CRATE/NAME")
-    return reader, reader.parse_args()
-
-
-# How often, in seconds, it looks whether a batch may start.
-LOOK = 3
+TOP = Path(__file__).resolve().parent.parent
+ENTRY = re.compile(r"(?:file: (\S+)\n)?name: (\w+)\nfunction: (.+)((?:\nold: .+\nnew:.*)+)")
+TOLD = re.compile(r"^(fn|impl|struct|enum|trait) (\S+): (proved|not proved|no proof|could not tell)\b(.*)", re.M)
+# what is said of a function that waits for the proof of another
+WAITS = re.compile(r"[:;] it (?:[^;]*?, which (?:is|are) not proved|waits for the proof of [^;]*)")
+ERROR = re.compile(r"^(?:\./)?(\S+?)/([^/\s]+:\d+:\d+): error: (.*)", re.M)
+FOLLOWS = re.compile(r"depends? on `[^`]+`, which was (?:rejected|not admitted)")
+# what an error says where a proof only names what an edit took away
+IS_GONE = re.compile(r"has no field|is not in scope|has no `|was not admitted")
+# each change is a file, an old text and a new one
+Edit = namedtuple("Edit", "crate name functions changes")
 
 
 class Stopped(Exception):
-    """Why the script cannot go on."""
+    """Why edits cannot be tried, or a check says nothing clear of them."""
 
 
-def kit():
-    """The kit that checks, as it calls itself."""
-    return subprocess.run(["rt", "version"], check=True, capture_output=True, text=True).stdout
-
-
-@dataclass
-class Task:
-    """A task: the keys of those that it waits for, its call, and how many edits that tries."""
-
-    waits: list
-    call: Callable
-    edits: int = 0
-
-
-class Trial:
-    """The edits of one crate, and what became of them."""
-
-    def __init__(self, crate, edits, bad, size):
-        self.crate = crate
-        self.edits = edits
-        self.bad = bad
-        self.size = size
-        self.batches = batches_of(edits, size)
-        self.known = set()
-        # what is tried beside an edit that changes nothing
-        self.sample = next(iter(edits), None)
-
-    def leave_out(self, refused):
-        """Takes out the edits that are known to be refused."""
-        self.sample = refused[0]
-        self.edits = [it for it in self.edits if it not in refused]
-        self.batches = batches_of(self.edits, self.size)
-
-
-def chosen(names, crate, edits):
-    """The edits of a crate that the arguments name."""
-    if not names or crate in names:
-        return edits
-    return [it for it in edits if str(it) in names or f"{it}.edit" in names]
-
-
-def trials_of(names, size):
-    """The crates that have edits, lowest first, with those that were asked for."""
-    folder = f"{TOP}/crates"
-    found = []
-    for name in sorted(os.listdir(folder)):
-        if os.path.isdir(f"{folder}/{name}/edits"):
-            crate = Crate(f"{folder}/{name}")
-            good, bad = edits_in(crate, f"{folder}/{name}/edits")
-            good = chosen(names, name, good)
-            bad = [it for it in bad if not names or name in names or it[0].removesuffix(".edit") in names]
-            if good or bad:
-                found.append(Trial(crate, good, bad, size))
+def edits_in(crate, text):
+    """The edits that a file lists."""
+    file, found = "", []
+    for entry in text.strip("\n").split("\n\n"):
+        read = ENTRY.fullmatch(entry)
+        if not read:
+            raise Stopped(f"{crate}: this is no edit: {entry}")
+        file = read[1] or file
+        changes = tuple((file, *pair) for pair in re.findall("\nold: (.+)\nnew: ?(.*)", read[4]))
+        found.append(Edit(crate, f"{crate}/{read[2]}", tuple(read[3].split()), changes))
     return found
 
 
-def unknown(names, trials):
-    """The arguments that name no crate with edits, and no edit."""
-    edits = [str(it) for trial in trials for it in trial.edits] + [it[0] for trial in trials for it in trial.bad]
-    known = {trial.crate.name for trial in trials}.union(it.removesuffix(".edit") for it in edits)
-    return [it for it in names if it.removesuffix(".edit") not in known]
+def replaced(file, before, pairs):
+    """The text of a file with all pairs replaced, each of which stands in it once."""
+    text = before
+    for old, new in sorted(pairs, key=lambda it: -before.find(it[0])):
+        at = before.find(old)
+        if before.count(old) != 1 or not text.startswith(old, at):
+            raise Stopped(f"{file} has this text not once, or two edits change it: {old}")
+        if re.search(r"\b(requires|ensures|ghost)\b|≡", old + new):
+            raise Stopped(f"an edit changes a body, and no clause: {old}")
+        text = text[:at] + new + text[at + len(old) :]
+    return text
 
 
-def edit_of_nothing(crate, known, but):
-    """An edit that adds an empty block to a function that the edit `but` does not change."""
-    for file, (functions, _) in crate.items.items():
-        for function in functions:
-            name = crate.name_of(file, function)
-            if name in known and name not in but.functions:
-                place = function.body + 1
-                change = Change(file, place, place, " {}")
-                return Edit(crate.name, "an edit that changes nothing", [change], {name})
-    return None
+def batches_of(edits):
+    """The edits in batches, each of one crate, in which no function is changed twice."""
+    batches = []
+    for edit in edits:
+        meets = lambda it: it.crate != edit.crate or set(it.functions) & set(edit.functions)
+        if all(any(map(meets, batch)) for batch in batches):
+            batches.append([])
+        next(batch for batch in batches if not any(map(meets, batch))).append(edit)
+    return batches
+
+
+def goals_in(text):
+    """Of each function its goals that are not proved, or None where it is fine; and errors that belong to no function."""
+    found, others = {}, []
+    for kind, name, status, rest in TOLD.findall(text):
+        own = WAITS.sub("", rest).strip(" :;")
+        waits = rest and not own and (status == "no proof" or kind != "fn")
+        goals = [goal for it in re.findall("did not prove ([^;]*)", own) for goal in re.findall("`([^`]+)`", it)]
+        found[name] = None if status == "proved" or waits else goals
+    folders = {"proofs/" + it.partition("::")[2].replace("::", "/"): it for it in found}
+    for folder, place, what in ERROR.findall(text):
+        name = folders.get(folder.replace("+", ""))
+        if name:
+            found[name] = (found[name] or []) + [f"{place}: {what[:150]}"] * (not IS_GONE.search(what))
+        elif not FOLLOWS.search(what):
+            others.append(f"{folder}/{place}: {what[:150]}")
+    return found, others
+
+
+def judge(edits, text):
+    """Of each edit, what is said of each of its functions: None, or the goals that are not proved."""
+    found, others = goals_in(text)
+    if not re.search(r"^logic=(proved|not-proved)\b", text, re.M):
+        raise Stopped("the check gives no verdict: " + next((it for it in text.split("\n") if "error" in it), text[-300:]))
+    changed = {it for edit in edits for it in edit.functions}
+    others += [it for it, goals in found.items() if goals is not None and it not in changed]
+    if others:
+        raise Stopped(f"what no edit changes is not proved: {others[0]}")
+    return {edit: [found.get(it) for it in edit.functions] for edit in edits}
+
+
+def why(goals):
+    """What to say of an edit whose functions have these goals."""
+    said = f"refused: {goals[0][0]}" if all(goals) else "its proof only names what is gone"
+    return "NOT REFUSED" if None in goals else said
 
 
 class Run:
-    """One run of the script: what it counts, and where it prints."""
+    """A copy of the repository with the proofs of its crates, and how many edits passed and failed."""
 
-    def __init__(self, trials, checker, jobs, kept=None):
-        self.trials = trials
-        self.checker = checker
-        self.jobs = jobs
-        self.kept = kept
-        self.passed = 0
-        self.failed = 0
-        self.little = []
-        self.processor = 0.0
-        self.is_stopped = False
-        self.printing = threading.Lock()
+    def __init__(self, room, jobs, is_kept):
+        listed = dict(re.findall(r"^(\w+):(.*)", (TOP / "crates.txt").read_text("utf-8"), re.M))
+        self.deps = {name: [it for it in below.split() if it in listed] for name, below in listed.items()}
+        self.room, self.lanes, self.proofs = room, threading.Semaphore(jobs), {}
+        self.passed = self.failed = self.processor = 0
+        self.copy(TOP, f"{room}/base", self.deps if is_kept else [], shutil.copy2)
 
-    def stop(self):
-        """Has what still runs try nothing more."""
-        self.is_stopped = True
+    def below(self, crate):
+        """The crate and all that it stands on."""
+        return {crate}.union(*map(self.below, self.deps[crate]))
 
-    def say(self, *lines):
-        with self.printing:
-            print(*lines, sep="\n", flush=True)
+    def copy(self, top, to, proved, how):
+        """Makes a copy of the repository, with the proofs of these crates."""
+        for crate in self.deps:
+            skip = shutil.ignore_patterns("edits", "stdin", "stdout", *["out"] * (crate not in proved))
+            shutil.copytree(f"{top}/crates/{crate}", f"{to}/crates/{crate}", copy_function=how, ignore=skip)
+        shutil.copy2(f"{top}/crates.txt", to)
+        shutil.copy2(f"{top}/HANDLES", to)
 
-    def took(self, ran):
-        with self.printing:
-            self.processor += ran.processor
-        return f"{ran.took:.0f} s, {ran.processor:.0f} processor seconds"
+    def rt(self, verb, folder, what):
+        """Runs rt on one processor (on four a check takes half as much again of them), and returns what it printed."""
+        with self.lanes, tempfile.TemporaryFile("w+", encoding="utf-8", errors="replace") as output:
+            words = ["timeout", "3600", "rt", verb, "--jobs", "1"]
+            process = subprocess.Popen(words, cwd=folder, stdin=subprocess.DEVNULL, stdout=output, stderr=subprocess.STDOUT)
+            _, process.returncode, usage = os.wait4(process.pid, 0)
+            self.processor += usage.ru_utime + usage.ru_stime
+            print(f"{os.path.basename(folder)}: {what}: {usage.ru_utime + usage.ru_stime:.0f} processor seconds", flush=True)
+            output.seek(0)
+            return output.read()
 
-    def report(self, outcomes):
-        """Counts what became of some edits, and prints it."""
-        with self.printing:
-            for it in outcomes:
-                self.passed += it.is_refused
-                self.failed += not it.is_refused
-                self.little += [str(it.edit)] if it.says_little else []
-                print(f"{'passed' if it.is_refused else 'FAILED'} {it.edit}: {it.text}", flush=True)
+    def prove(self, crate):
+        """Proves a crate as it is, once those below it are proved."""
+        for it in self.deps[crate]:
+            self.proofs[it].result()
+        said = self.rt("lib", f"{self.room}/base/crates/{crate}", "proved as it is")
+        if not Path(f"{self.room}/base/crates/{crate}/out/rlib/stamp").exists():
+            raise Stopped(f"{crate} is not proved as it is: {said[-300:]}")
 
-    def report_tried(self, outcomes):
-        """Tells what became of edits that were tried, and keeps how they were refused."""
-        self.report(outcomes)
-        for it in outcomes:
-            if it.is_refused and self.kept:
-                self.kept.keep(it)
+    def check(self, edits, what):
+        """Checks a crate with these edits over the proofs; a check makes new files in place of those that it changes."""
+        crate = edits[0].crate
+        for it in self.below(crate) & set(self.proofs):
+            self.proofs[it].result()
+        with tempfile.TemporaryDirectory(dir=self.room) as copy:
+            self.copy(f"{self.room}/base", copy, self.below(crate), os.link)
+            changes = {change for edit in edits for change in edit.changes}
+            for file in {it[0] for it in changes}:
+                path = Path(f"{copy}/crates/{crate}/{file}")
+                text = replaced(file, path.read_text("utf-8"), [it[1:] for it in changes if it[0] == file])
+                path.unlink()
+                path.write_text(text, "utf-8")
+            return judge(edits, self.rt("check", f"{copy}/crates/{crate}", what))
 
-    def take_kept(self):
-        """Takes the outcomes of the edits that an earlier run on this machine tried on the same files."""
-        for trial in self.trials:
-            outcomes = [it for it in map(self.kept.outcome_of, trial.edits) if it]
-            if outcomes:
-                name, few, all_of_them = trial.crate.name, len(outcomes), len(trial.edits)
-                self.say(f"{name}: {few} of its {all_of_them} edits were tried by an earlier run on this machine, on the same files")
-                self.report(outcomes)
-                trial.leave_out([it.edit for it in outcomes])
-
-    def prove(self, name, trial):
-        """Proves a crate as it is, and keeps the proofs."""
-        said, ran = self.checker.prove(name)
-        if not is_proved(said):
-            raise Stopped(f"{name} is not proved as it is: {first_words(said)}")
-        self.say(f"{name}: proved as it is, {self.took(ran)}")
-        if trial:
-            trial.known = said.names_of(trial.crate.name)
-            check_names(trial)
-
-    def show_that_it_can_fail(self, trial):
-        """Tries an edit that changes nothing beside one of the crate's: the one has to be reported as not
-        refused, and the other as refused."""
-        real = trial.sample
-        none = edit_of_nothing(trial.crate, trial.known, real)
-        both = [real, none]
-        said, ran = self.checker.check_with(trial.crate.name, texts_with(trial.crate, both))
-        why = unclear(trial.known, [real], said)
-        if why or outcome_of(none, said).is_refused:
-            raise Stopped(f"an edit that changes nothing was not reported as such: {why or outcome_of(none, said).text}")
-        if not outcome_of(real, said).is_refused:
-            raise Stopped(f"beside an edit that changes nothing, {real} is not refused")
-        self.say(f"{trial.crate.name}: an edit that changes nothing is reported as not refused, {self.took(ran)}")
-
-    def try_batch(self, trial, number):
-        """Checks a batch, and each of its edits alone that it does not show to be refused."""
-        batch = trial.batches[number]
-        said, ran = self.checker.check_with(trial.crate.name, texts_with(trial.crate, batch))
-        why = unclear(trial.known or said.names_of(trial.crate.name), batch, said)
-        outcomes = [] if why else [outcome_of(edit, said) for edit in batch]
-        self.say(f"{trial.crate.name}: batch {number + 1} of {len(trial.batches)}, {len(batch)} edits, {self.took(ran)}")
-        self.report_tried([it for it in outcomes if it.is_refused])
-        if why and len(batch) > 1:
-            self.say(f"{trial.crate.name}: batch {number + 1} does not say clearly, so each of its edits is tried alone: {why}")
-        sure = {str(it.edit) for it in outcomes if it.is_refused}
-        for edit in batch:
-            if str(edit) not in sure and not self.is_stopped:
-                if not trial.known:
-                    self.prove(trial.crate.name, trial)
-                self.try_alone(trial, edit)
-
-    def try_alone(self, trial, edit):
-        """Checks the crate with one edit."""
-        said, ran = self.checker.check_with(trial.crate.name, texts_with(trial.crate, [edit]))
-        why = unclear(trial.known, [edit], said)
-        outcome = Outcome(edit, False, f"BAD EDIT: {why}") if why else outcome_of(edit, said)
-        self.say(f"{edit}: alone, {self.took(ran)}")
-        self.report_tried([outcome])
-
-
-def check_names(trial):
-    """Stops where an edit changes a function that the check does not name."""
-    for edit in trial.edits:
-        lost = sorted(edit.functions - trial.known)
-        if lost:
-            raise Stopped(f"{edit}: the check of the crate names no function {lost[0]}")
-
-
-def tasks_of(run):
-    """The tasks by their keys."""
-    listed = run.checker.listed
-    trials = {it.crate.name: it for it in run.trials if it.edits}
-    if not trials:
-        return {}
-    lowest = min(trials.values(), key=lambda it: len(all_below(listed, it.crate.name)))
-    above = {below for name in trials for it in listed[name] for below in all_below(listed, it)}
-    tasks = {}
-    for name in dict.fromkeys(it for name in trials for it in all_below(listed, name)):
-        trial = trials.get(name)
-        if name in above or trial is lowest or run.checker.is_kept or len(trial.batches) > 1:
-            below = [("prove", it) for it in listed[name]]
-            tasks["prove", name] = Task(below, lambda name=name, trial=trial: run.prove(name, trial))
-    shown = ("nothing", lowest.crate.name)
-    tasks[shown] = Task([("prove", lowest.crate.name)], lambda: run.show_that_it_can_fail(lowest))
-    for name, trial in trials.items():
-        proofs = [key for it in all_below(listed, name) if (key := ("prove", it)) in tasks]
-        for number, batch in enumerate(trial.batches):
-            call = lambda trial=trial, number=number: run.try_batch(trial, number)
-            tasks["batch", name, number] = Task([*proofs, shown], call, len(batch))
-    return tasks
-
-
-class Idle:
-    """Looks whether a processor has been idle since it was last asked."""
-
-    def __init__(self, measure=None):
-        self.measure = measure or idle_seconds
-        self.last = self.measure()
-
-    def is_found(self):
-        """Says so once a second at most, so that what was started is seen at work before more is."""
-        then, now = self.last, self.measure()
-        if now[0] - then[0] < 1:
-            return False
-        self.last = now
-        return now[1] - then[1] > 0.8 * (now[0] - then[0])
-
-
-def idle_seconds():
-    """The time now, and for how long the processors have been idle since the machine started."""
-    with open("/proc/stat", encoding="utf-8") as opened:
-        idle, waiting = map(int, opened.readline().split()[4:6])
-    return time.monotonic(), (idle + waiting) / os.sysconf("SC_CLK_TCK")
-
-
-def run_tasks(tasks, lanes, stop, has_room=lambda: True):
-    """Runs the tasks side by side, each once those that it waits for have ended. Where one fails, it calls
-    `stop`, and returns once what runs has ended."""
-    done, running, left = set(), {}, dict(tasks)
-    with ThreadPoolExecutor(lanes) as pool:
+    def try_batch(self, edits, first):
+        """Tries a batch, and alone each edit that it does not show to be refused."""
+        first.result()
         try:
-            while left or running:
-                start_ready(pool, lanes, done, running, left, has_room)
-                for ended in wait(running, timeout=LOOK, return_when=FIRST_COMPLETED).done:
-                    key = running.pop(ended)
-                    ended.result()
-                    done.add(key)
-        except BaseException:
-            stop()
-            raise
+            told = {edit: why(goals) for edit, goals in self.check(edits, f"{len(edits)} edits").items()}
+        except Stopped as stopped:
+            told = dict.fromkeys(edits, str(stopped))
+        for edit, text in told.items():
+            is_refused = text.startswith("refused")
+            print(f"{'passed' if is_refused else 'FAILED' if len(edits) == 1 else 'again:'} {edit.name}: {text}", flush=True)
+            if not is_refused and len(edits) > 1:
+                self.try_batch([edit], first)
+            else:
+                self.passed, self.failed = self.passed + is_refused, self.failed + (not is_refused)
+
+    def show_that_it_can_fail(self, edits):
+        """Tries edits that change nothing."""
+        same = [it._replace(changes=tuple((file, old, old) for file, old, _ in it.changes)) for it in edits]
+        for edit, goals in self.check(same, f"{len(same)} edits that change nothing").items():
+            if set(map(str, goals)) != {"None"}:
+                raise Stopped(f"{edit.name} changes nothing, and is said to be refused: {why(goals)}")
+
+    def try_all(self, edits):
+        """Proves the crates on which others stand, and the lowest with edits, and tries all batches over these."""
+        batches = batches_of(sorted(edits, key=lambda it: list(self.deps).index(it.crate)))
+        below = {batches[0][0].crate}.union(*(self.below(it.crate) - {it.crate} for it in edits))
+        with ThreadPoolExecutor(len(self.deps) + len(batches) + 1) as pool:
+            self.proofs |= {it: pool.submit(self.prove, it) for it in self.deps if it in below}
+            first = pool.submit(self.show_that_it_can_fail, batches[0])
+            for ended in [pool.submit(self.try_batch, it, first) for it in batches]:
+                ended.result()
 
 
-def start_ready(pool, lanes, done, running, left, has_room):
-    """Starts the tasks that wait for nothing, as far as lanes are idle: the proofs of crates first; others
-    as far as there is room for them, or where nothing runs, and of these the largest first, since the last
-    to end is then a small one."""
-    ready = [key for key, task in left.items() if done.issuperset(task.waits)]
-    for key in sorted(ready, key=lambda it: (it[0] != "prove", -left[it].edits))[: lanes - len(running)]:
-        if key[0] == "prove" or not running or has_room():
-            running[pool.submit(left.pop(key).call)] = key
+def self_test():
+    """Tests what reads edits, and what a check prints."""
+    one, two = edits_in("low", "file: a\nname: one\nfunction: low::a\nold:  x\nnew:\n\nname: two\nfunction: low::a b\nold: y\nnew: z\n")
+    assert (one.changes, two.functions, two.changes) == ((("a", " x", ""),), ("low::a", "b"), (("a", "y", "z"),))
+    assert batches_of([one, two, one._replace(functions=("b",))]) == [[one, one._replace(functions=("b",))], [two]]
+    assert replaced("a", "f(x) g(y)", [("f(x)", "f(yy)"), ("(y)", "(x)")]) == "f(yy) g(x)"
+    said = "./proofs/b/Answers.antt:6:13: error: `returns`: differs\n./proofs/+c/Answers.antt:2:3: error: it has no field `x`\n"
+    said += "fn low::a: no proof: `search` did not prove `goal`; it calls `low::b`, which is not proved\nfn low::d: proved\n"
+    said += "fn low::b: not proved; it calls `low::a`, which is not proved\nfn low::c: not proved\n"
+    said += "fn low::e: no proof: it calls `low::a` and `low::b`, which are not proved\nsrc/lib.rt:1:2: error: no\n"
+    goals, others = goals_in(said)
+    assert (goals["low::a"], goals["low::c"], goals["low::e"], others) == (["goal"], [], None, ["src/lib.rt:1:2: no"])
+    assert [why([goals[f"low::{it}"]])[:7] for it in "abcd"] == ["refused", "refused", "its pro", "NOT REF"]
 
 
 def main():
-    reader, words = read_words()
-    signal.signal(signal.SIGTERM, lambda *_: sys.exit(1))
-    started = time.monotonic()
-    trials = trials_of(words.names, max(1, words.batch))
-    lost = unknown(words.names, trials)
+    self_test()
+    reader = argparse.ArgumentParser(description=__doc__, formatter_class=argparse.RawDescriptionHelpFormatter)
+    reader.add_argument("--kept", action="store_true", help="start from what `rt check` has kept in crates/*/out")
+    # a check takes up to 2.5 GB, and the gate proves the crates beside it
+    memory = int(re.search(r"MemAvailable: *(\d+)", Path("/proc/meminfo").read_text("utf-8"))[1])
+    lanes = min(len(os.sched_getaffinity(0)), memory // 4_000_000)
+    reader.add_argument("--jobs", type=int, default=max(1, lanes), help="how many checks run side by side")
+    reader.add_argument("names", nargs="*", metavar="NAME", help="a crate, or an edit as CRATE/NAME; without any, all")
+    words, paths = reader.parse_args(), sorted(TOP.glob("crates/*/edits/*.txt"))
+    edits = [edit for path in paths for edit in edits_in(path.parts[-3], path.read_text("utf-8"))]
+    lost = set(words.names) - {it.crate for it in edits} - {it.name for it in edits}
     if lost:
-        reader.error(f"there is no crate with edits, and no edit, of the name {lost[0]}")
+        reader.error(f"there is no crate with edits, and no edit, of the name {min(lost)}")
+    signal.signal(signal.SIGTERM, lambda *_: sys.exit(1))
     with tempfile.TemporaryDirectory(prefix="try-edits-") as room:
-        checker = Checker(TOP, room, words.kept, words.gentle)
-        kept = Kept(folder_of_user(), checker.base, checker.listed, kit())
-        run = Run(trials, checker, words.jobs or processors(), kept)
-        has_room = Idle().is_found if words.gentle else lambda: True
-        for trial in trials:
-            run.report(Outcome(name, False, f"BAD EDIT: {why}") for name, why in trial.bad)
-        if not words.anew:
-            run.take_kept()
+        run = Run(room, words.jobs, words.kept)
         try:
-            run_tasks(tasks_of(run), run.jobs, run.stop, has_room)
-        except Stopped as why:
-            run.say(f"stopped: {why}")
+            run.try_all([it for it in edits if not words.names or {it.crate, it.name} & set(words.names)])
+        except Stopped as stopped:
+            print(f"stopped: {stopped}")
             run.failed += 1
-        kept.remove_old()
-    took = time.monotonic() - started
-    if run.little:
-        print("refused only since a proof names what is gone: " + " ".join(sorted(run.little)))
-    print(f"{took:.0f} s, {run.processor:.0f} processor seconds")
-    print(f"{run.passed} passed, {run.failed} failed")
+    print(f"{run.processor:.0f} processor seconds\n{run.passed} passed, {run.failed} failed")
     return 1 if run.failed else 0
 
 
