@@ -141,7 +141,7 @@ class Run:
     def rt(self, verb, folder, what):
         """Runs rt on one processor (on four a check takes half as much again of them), and returns what it printed."""
         with self.lanes, tempfile.TemporaryFile("w+", encoding="utf-8", errors="replace") as output:
-            words = ["timeout", "3600", "rt", verb, "--jobs", "1"]
+            words = ["timeout", "--foreground", "3600", "rt", verb, "--jobs", "1"]
             process = subprocess.Popen(words, cwd=folder, stdin=subprocess.DEVNULL, stdout=output, stderr=subprocess.STDOUT)
             _, process.returncode, usage = os.wait4(process.pid, 0)
             self.processor += usage.ru_utime + usage.ru_stime
@@ -199,7 +199,8 @@ class Run:
         batches = batches_of(sorted(edits, key=lambda it: list(self.deps).index(it.crate)))
         below = {batches[0][0].crate}.union(*(self.below(it.crate) - {it.crate} for it in edits))
         with ThreadPoolExecutor(len(self.deps) + len(batches) + 1) as pool:
-            self.proofs |= {it: pool.submit(self.prove, it) for it in self.deps if it in below}
+            for it in [it for it in self.deps if it in below]:
+                self.proofs[it] = pool.submit(self.prove, it)
             first = pool.submit(self.show_that_it_can_fail, batches[0])
             for ended in [pool.submit(self.try_batch, it, first) for it in batches]:
                 ended.result()
@@ -224,10 +225,9 @@ def main():
     self_test()
     reader = argparse.ArgumentParser(description=__doc__, formatter_class=argparse.RawDescriptionHelpFormatter)
     reader.add_argument("--kept", action="store_true", help="start from what `rt check` has kept in crates/*/out")
-    # a check takes up to 2.5 GB, and the gate proves the crates beside it
     memory = int(re.search(r"MemAvailable: *(\d+)", Path("/proc/meminfo").read_text("utf-8"))[1])
     lanes = min(len(os.sched_getaffinity(0)), memory // 4_000_000)
-    reader.add_argument("--jobs", type=int, default=max(1, lanes), help="how many checks run side by side")
+    reader.add_argument("--jobs", type=int, default=max(1, lanes), help="how many checks at once; one a processor and 4 GB")
     reader.add_argument("names", nargs="*", metavar="NAME", help="a crate, or an edit as CRATE/NAME; without any, all")
     words, paths = reader.parse_args(), sorted(TOP.glob("crates/*/edits/*.txt"))
     edits = [edit for path in paths for edit in edits_in(path.parts[-3], path.read_text("utf-8"))]
