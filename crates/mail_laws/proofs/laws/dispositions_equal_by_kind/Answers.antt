@@ -1,5 +1,0 @@
-use Rattle.mail_laws.proofs.lemmas.Disposition.{equal_by_kind}
-use Rattle.mail_laws.proofs.laws.dispositions_equal_by_kind.Goals as goal
-
-pub returns : goal.returns
-returns c = equal_by_kind

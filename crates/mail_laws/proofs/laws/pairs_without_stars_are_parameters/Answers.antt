@@ -1,5 +1,0 @@
-use Rattle.mail_laws.proofs.lemmas.StarFree.{star_free_pairs_are_parameters}
-use Rattle.mail_laws.proofs.laws.pairs_without_stars_are_parameters.Goals as goal
-
-pub returns : goal.returns
-returns c = star_free_pairs_are_parameters

@@ -1,5 +1,0 @@
-use Rattle.mail_laws.proofs.lemmas.Percent as lemma
-use Rattle.mail_laws.proofs.laws.percent_free.Goals as goal
-
-pub returns : goal.returns
-returns c = lemma.percent_free

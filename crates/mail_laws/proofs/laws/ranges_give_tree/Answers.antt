@@ -1,5 +1,0 @@
-use Rattle.mail_laws.proofs.lemmas.RangeTree.{ranges_in-there}
-use Rattle.mail_laws.proofs.laws.ranges_give_tree.Goals as goal
-
-pub returns : goal.returns
-returns c = ranges_in-there

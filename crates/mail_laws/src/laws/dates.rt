@@ -1,0 +1,24 @@
+//! Days and their seconds.
+ghost use Rattle.std.specs.Prelude.{◌*◌, ◌+◌, ◌-◌, ◌/◌, ◌<◌, ◌≡◌, ◌≤◌, ℕ, slice_index};
+ghost use Rattle.mailparse.specs.Date.{day_number, days_of_years, month_lengths};
+
+/// The days of the years from 1970 up to a given year, added one by one, are 365 for each year and
+/// one more for each leap year. Every fourth year is a leap year, except that only every fourth of
+/// the full centuries is; 477 leap years come before 1970.
+pub fn leap_days_are_counted()
+    ensures { (year : ℕ) → 1970 ≤ year →
+        days_of_years (year - 1970) + ((year - 1) / 100 + 477)
+        ≡ 365 * (year - 1970) + ((year - 1) / 4 + (year - 1) / 400) }
+{}
+
+/// The seconds of a day and of the next differ by 86,400: within a month, from the last day of a
+/// month to the first of the next, and from 31 December to 1 January.
+pub fn days_follow_each_other()
+    ensures in_month { (year month day : ℕ) → 1 ≤ day →
+        86400 * day_number year month (day + 1) ≡ 86400 * day_number year month day + 86400 }
+    ensures to_next_month { (year month : ℕ) → month < 11 →
+        86400 * day_number year (month + 1) 1
+        ≡ 86400 * day_number year month (slice_index (month_lengths year) month) + 86400 }
+    ensures to_next_year { (year : ℕ) → 1970 ≤ year →
+        86400 * day_number (year + 1) 0 1 ≡ 86400 * day_number year 11 31 + 86400 }
+{}

@@ -1,0 +1,86 @@
+//! Messages with their parts: where they stand, and what is read of them.
+ghost use Rattle.std.specs.Prelude.{◌<◌, ◌≡◌, ◌≤◌, ◌⊎◌, ℕ, Err, List, Ok, length, slice_index_or};
+ghost use Rattle.mail_codec.specs.Charset.{Charsets};
+ghost use Rattle.mailparse.specs.Block.{HeaderList, read_headers};
+ghost use Rattle.mailparse.specs.Bound.{IsBounded};
+ghost use Rattle.mailparse.specs.ContentType.{ContentType};
+ghost use Rattle.mailparse.specs.Delimiters.{Cut, cut_parts};
+ghost use Rattle.mailparse.specs.Mail.{Tree, cut_of, read_mail_in};
+ghost use Rattle.mailparse.specs.Ranges.{Apart, Range};
+ghost use Rattle.mailparse.specs.Refusal.{recursion_limit};
+ghost use Rattle.mail_laws.specs.DelimiterPlaces.{IsCutAt, delimiters};
+ghost use Rattle.mail_laws.specs.RangeTree.{AreNested, Holds, RangeTree, blocks_and_bodies, range_root, ranges_in, read_there};
+
+/// Exactly one list of delimiters fits a body in words of places, and exactly one preamble with one
+/// list of parts: those that are computed. Each delimiter begins a line of the body, after the line
+/// of the one before, and none stands between them; the list ends at the close-delimiter, which the
+/// first is never taken for, or where none follows. Each part stands on the lines between a
+/// delimiter and the next, without the line end before the next, or, where none follows, on all
+/// lines that are left.
+pub fn one_list_of_delimiters_fits()
+    ensures fits { (dash_boundary bytes : List ℕ) (body : ℕ) → IsCutAt dash_boundary bytes body
+        (delimiters dash_boundary bytes body) (cut_parts dash_boundary bytes body) }
+    ensures only { (dash_boundary bytes : List ℕ) (body : ℕ) (places : List ℕ) (cut : Cut) →
+        IsCutAt dash_boundary bytes body places cut → places ≡ delimiters dash_boundary bytes body }
+    ensures only_parts { (dash_boundary bytes : List ℕ) (body : ℕ) (places : List ℕ) (cut : Cut) →
+        IsCutAt dash_boundary bytes body places cut → cut ≡ cut_parts dash_boundary bytes body }
+{}
+
+/// The body and the parts of a message stand at ranges of its bytes that lie apart, in order, after
+/// its header block: before each part stand three bytes or more that are in none of them, those of
+/// a delimiter and its line end.
+pub fn parts_apart()
+    ensures { (ctype : ContentType) (bytes : List ℕ) (block : HeaderList) →
+        read_headers bytes ≡ Ok block →
+        let cut = cut_of ctype bytes block.index in
+        (cut.body.start ≡ block.index) × (block.index ≤ cut.body.end)
+        × Apart 3 cut.body.end cut.parts (length bytes) }
+{}
+
+/// What stands at the tree of ranges of a mail is the tree that is read, whatever charsets are
+/// known and under every limit on levels. Each message has the range of the mail where it stands,
+/// and those of its header block, of its keys and values and of its body; and the ranges are
+/// refused just as the mail is.
+pub fn ranges_give_tree()
+    ensures { (known : Charsets) (mail : List ℕ) (greatest : ℕ) →
+        read_there mail (ranges_in known mail greatest) ≡ read_mail_in known greatest mail }
+{}
+
+/// The header blocks and the bodies of a message and of all its parts stand apart in the mail, one
+/// after another, so that no byte serves two of them. In each message the keys and the values stand
+/// in order within its block, the body follows the block, and the parts follow the body in order,
+/// within the message, three bytes or more before each.
+pub fn ranges_apart()
+    ensures nested { (known : Charsets) (mail : List ℕ) (greatest : ℕ) (ranges : RangeTree) →
+        ranges_in known mail greatest ≡ Ok ranges →
+        ((range_root ranges).whole ≡ record { start = 0; end = length mail })
+        × AreNested ranges }
+    ensures apart { (known : Charsets) (mail : List ℕ) (greatest : ℕ) (ranges : RangeTree) →
+        ranges_in known mail greatest ≡ Ok ranges →
+        Apart 0 0 (blocks_and_bodies ranges) (length mail) }
+    ensures once { (known : Charsets) (mail : List ℕ) (greatest : ℕ) (ranges : RangeTree) →
+        ranges_in known mail greatest ≡ Ok ranges → (place i j : ℕ) (none : Range) →
+        i < length (blocks_and_bodies ranges) → j < length (blocks_and_bodies ranges) →
+        Holds (slice_index_or (blocks_and_bodies ranges) i none) place →
+        Holds (slice_index_or (blocks_and_bodies ranges) j none) place → i ≡ j }
+{}
+
+/// The headers of a message and of all its parts, the bytes of all their bodies, and three for each
+/// part are together at most the bytes of the message, whatever charsets are known and under every
+/// limit on levels.
+pub fn nodes_bounded()
+    ensures { (known : Charsets) (greatest : ℕ) (bytes : List ℕ) (mail : Tree) →
+        read_mail_in known greatest bytes ≡ Ok mail → IsBounded mail (length bytes) }
+{}
+
+/// A message that is read under one limit on levels is read as the same tree under every greater
+/// one, whatever charsets are known. Under the lower limit it is read or refused just as under the
+/// greater one, unless the lower limit itself refuses it.
+pub fn levels_agree()
+    ensures read { (known : Charsets) (lower greater : ℕ) (bytes : List ℕ) (mail : Tree) →
+        lower ≤ greater → read_mail_in known lower bytes ≡ Ok mail →
+        read_mail_in known greater bytes ≡ Ok mail }
+    ensures refused { (known : Charsets) (lower greater : ℕ) (bytes : List ℕ) → lower ≤ greater →
+        (read_mail_in known lower bytes ≡ Err recursion_limit)
+        ⊎ (read_mail_in known lower bytes ≡ read_mail_in known greater bytes) }
+{}
