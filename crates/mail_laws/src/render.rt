@@ -4,15 +4,17 @@
 //! A program that sends mail writes a well-formed one with `render`; `mailparse::parse_mail` then
 //! reads back exactly those headers, bodies and parts, and `MailHeader::get_value` the values,
 //! which may be any text. `encode_value` writes a single value.
-ghost use Rattle.std.specs.Prelude.{◌≡◌, ◌++◌, ◌&&◌, OnOk, Ok, nat_le, not};
+ghost use Rattle.std.specs.Prelude.{◌≡◌, ◌++◌, OnOk, Ok, not};
 ghost use Rattle.mailparse.specs.Outcome.{AnswersOrMemory, ReadsBytes};
-ghost use Rattle.mail_laws.specs.Render.{dash_boundary, depth, header_block, header_line, holds_delimiter, is_well_formed_within, rendered, well_formed, written_bytes, written_headers};
+ghost use Rattle.mail_laws.specs.Render.{dash_boundary, header_block, header_line, holds_delimiter, is_well_formed_within, rendered, well_formed, written_bytes, written_headers};
 ghost use Rattle.mail_laws.specs.RenderViews.{headers_seen, outline_tree};
 
 mod conditions;
 mod encode;
 
-use conditions::{has_boundary, has_good_headers, holds_delimiter, is_not_multipart};
+use conditions::{
+    has_boundary, has_good_headers, holds_delimiter, is_not_multipart, is_within_levels,
+};
 pub use encode::encode_value;
 use encode::push_value;
 use mailparse::{MAX_LEVELS, MailParseError};
@@ -200,18 +202,16 @@ pub fn is_well_formed(alloc: Global, outline: &Outline) -> Result<bool, MailPars
     ensures { AnswersOrMemory (λ answer. answer) result
         (Ok (well_formed (outline_tree outline.now))) }
 {
-    is_well_formed_within(alloc, outline, MAX_LEVELS)
+    if !is_within_levels(outline, MAX_LEVELS) {
+        return Ok(false);
+    }
+    is_well_formed_within(alloc, outline)
 }
 
-/// Whether an outline is well formed where so many levels may stand below it.
-fn is_well_formed_within(
-    alloc: Global,
-    outline: &Outline,
-    levels: u8,
-) -> Result<bool, MailParseError>
-    ensures { let tree = outline_tree outline.now in
-        AnswersOrMemory (λ answer. answer) result
-        (Ok (is_well_formed_within tree && nat_le (depth tree) levels)) }
+/// Whether an outline is well formed, whatever its depth.
+fn is_well_formed_within(alloc: Global, outline: &Outline) -> Result<bool, MailParseError>
+    ensures { AnswersOrMemory (λ answer. answer) result
+        (Ok (is_well_formed_within (outline_tree outline.now))) }
 {
     if !has_good_headers(&outline.headers) {
         return Ok(false);
@@ -219,20 +219,17 @@ fn is_well_formed_within(
     match &outline.kind {
         OutlineKind::Leaf(_) => is_not_multipart(alloc, &outline.headers),
         OutlineKind::Branch { boundary, parts } => {
-            if parts.is_empty() {
-                return Ok(false);
-            }
-            if levels == 0 {
-                return Ok(false);
-            }
             if !has_boundary(&outline.headers, boundary.as_slice()) {
+                return Ok(false);
+            }
+            if parts.is_empty() {
                 return Ok(false);
             }
             for part in parts {
                 if !is_clear(alloc, boundary.as_slice(), part)? {
                     return Ok(false);
                 }
-                if !is_well_formed_within(alloc, part, levels - 1)? {
+                if !is_well_formed_within(alloc, part)? {
                     return Ok(false);
                 }
             }

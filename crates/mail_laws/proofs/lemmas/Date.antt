@@ -1,7 +1,7 @@
 -- Days that follow each other.
-use Rattle.std.proofs.Common.{◌≡◌, ℕ, zero, suc, ◌+◌, ◌-◌, ◌*◌, ◌/◌, ◌<◌, ◌≤◌, Bool, ◌&&◌, true, false, cond, ltb, List, [], ◌∷◌, length, take, get_or, sum, refl, sym, ap, ◌∙◌, arith}
+use Rattle.std.proofs.Common.{◌≡◌, ℕ, zero, suc, ◌+◌, ◌-◌, ◌*◌, ◌/◌, ◌<◌, ◌≤◌, Bool, true, false, cond, ltb, List, [], ◌∷◌, length, take, get_or, sum, refl, sym, ap, ◌∙◌, arith}
 use Rattle.std.specs.List.{list_all}
-use Rattle.std.proofs.lemmas.Bool.{ltb-true}
+use Rattle.std.proofs.lemmas.Bool.{and_parts, ltb-true}
 use Rattle.std.proofs.lemmas.List.Sums.{fold_more}
 use Rattle.mailparse.specs.Date.{day_number, days_of_years, is_leap_year, month_lengths, year_length}
 use Rattle.mailparse.proofs.lemmas.Date.{days_of_years-closed}
@@ -15,18 +15,10 @@ leap_days year h =
 pub in_month : (year month day : ℕ) → 1 ≤ day → 86400 * day_number year month (day + 1) ≡ 86400 * day_number year month day + 86400
 in_month year month day h = omega arith
 
-and_left : (a b : Bool) → a && b ≡ true → a ≡ true
-and_left true b h = refl
-and_left false b h = absurd (cc)
-
-and_right : (a b : Bool) → a && b ≡ true → b ≡ true
-and_right true b h = h
-and_right false b h = absurd (cc)
-
 all_some : (xs : List ℕ) (k : ℕ) → list_all (λ n. ltb 0 n) xs ≡ true → k < length xs → 1 ≤ get_or xs k 0
 all_some [] k all h = absurd (omega arith)
-all_some (x ∷ xs) zero all h = let some : ltb 0 x ≡ true = and_left _ _ all in let lt = ltb-true _ _ some in omega arith
-all_some (x ∷ xs) (suc k) all h = let later = all_some xs k (and_right (ltb 0 x) _ all) (omega arith) in later
+all_some (x ∷ xs) zero all h = let some = ltb-true 0 x (and_parts (ltb 0 x) _ all).0 in omega arith
+all_some (x ∷ xs) (suc k) all h = all_some xs k (and_parts (ltb 0 x) _ all).1 (omega arith)
 
 -- each month has a day
 month_some : (leap : Bool) (k : ℕ) → k < 12 → 1 ≤ get_or (31 ∷ cond leap 29 28 ∷ 31 ∷ 30 ∷ 31 ∷ 30 ∷ 31 ∷ 31 ∷ 30 ∷ 31 ∷ 30 ∷ 31 ∷ []) k 0

@@ -1,16 +1,9 @@
 -- A text without percent pairs.
-use Rattle.std.proofs.Common.{◌≡◌, ℕ, Bool, true, false, ◌||◌, List, [], ◌∷◌, refl, ap, ◌∙◌}
+use Rattle.std.proofs.Common.{◌≡◌, ℕ, false, List, [], ◌∷◌, refl, ap, ◌∙◌}
 use Rattle.std.specs.List.{list_any}
+use Rattle.std.proofs.lemmas.Bool.{or_parts}
 use Rattle.mail_laws.specs.Percent.{is_percent}
 use Rattle.percent_encoding.specs.Percent.{is_escape, percent_decode}
-
-or_first : (a b : Bool) → (a || b) ≡ false → a ≡ false
-or_first true b h = absurd (cc)
-or_first false b h = refl
-
-or_rest : (a b : Bool) → (a || b) ≡ false → b ≡ false
-or_rest true b h = absurd (cc)
-or_rest false b h = h
 
 -- only a `%` begins an escape
 no_escape : (b high low : ℕ) → is_percent b ≡ false → is_escape b high low ≡ false
@@ -38,5 +31,5 @@ percent_free [] h = none
 percent_free (b ∷ []) h = one b
 percent_free (b ∷ c ∷ []) h = two b c
 percent_free (b ∷ c ∷ d ∷ text) h =
-    stays b c d text (no_escape b c d (or_first (is_percent b) (list_any is_percent (c ∷ d ∷ text)) h))
-    ∙ ap (λ r. b ∷ r) (percent_free (c ∷ d ∷ text) (or_rest (is_percent b) (list_any is_percent (c ∷ d ∷ text)) h))
+    let parts = or_parts (is_percent b) (list_any is_percent (c ∷ d ∷ text)) h in
+    stays b c d text (no_escape b c d parts.0) ∙ ap (λ r. b ∷ r) (percent_free (c ∷ d ∷ text) parts.1)

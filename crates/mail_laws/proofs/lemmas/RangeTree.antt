@@ -1,6 +1,6 @@
 -- The ranges of a message give its tree, and lie apart in the mail.
 use Rattle.std.proofs.Common.{◌≡◌, ℕ, zero, suc, ◌+◌, ◌-◌, ◌<◌, ◌≤◌, Bool, false, List, [], ◌∷◌, ◌++◌, length, map, take, drop, get_or, Ok, Err, refl, sym, ap, ◌∙◌, subst, arith}
-use Rattle.std.proofs.lemmas.List.{take-take, drop-take, drop-drop}
+use Rattle.std.proofs.lemmas.List.{length-take, take_all, take-take, drop-take, drop-drop}
 use Rattle.mail_codec.specs.Charset.{Charsets}
 use Rattle.mail_codec.specs.Places.{values_below}
 use Rattle.mailparse.specs.Refusal.{◌>>=◌, Reads}
@@ -18,13 +18,8 @@ use Rattle.mail_laws.proofs.lemmas.Spans.{headers-at_ranges, ranges-in_order}
 
 -- ---- slices of slices
 
-take-length : (n : ℕ) (bytes : List ℕ) → length (take n bytes) ≤ n
-take-length zero bytes = omega arith
-take-length (suc n) [] = omega arith
-take-length (suc n) (b ∷ bytes) = let rest = take-length n bytes in omega arith
-
 slice-length : (mail : List ℕ) (whole : Range) → length (slice mail whole) ≤ whole.end - whole.start
-slice-length mail whole = take-length (whole.end - whole.start) (drop whole.start mail)
+slice-length mail whole = let size = length-take (whole.end - whole.start) (drop whole.start mail) in omega arith
 
 slice-of_front : (mail : List ℕ) (place size from to : ℕ) → from ≤ to → to ≤ size
     → take (to - from) (drop from (take size (drop place mail))) ≡ take ((place + to) - (place + from)) (drop (place + from) mail)
@@ -164,13 +159,7 @@ module _ (known : Charsets) (mail : List ℕ) where
 
   -- the whole of a list is the list
   whole-all : slice mail (record { start = 0; end = length mail }) ≡ mail
-  whole-all = take_whole (length mail - 0) mail (omega arith)
-    where
-      take_whole : (n : ℕ) (xs : List ℕ) → n ≡ length xs → take n xs ≡ xs
-      take_whole zero [] e = refl
-      take_whole zero (x ∷ xs) e = absurd (omega arith)
-      take_whole (suc n) [] e = refl
-      take_whole (suc n) (x ∷ xs) e = ap (λ (ys : List ℕ). x ∷ ys) (take_whole n xs (omega arith))
+  whole-all = take_all (length mail - 0) mail (omega arith)
 
   pub ranges_in-there : (greatest : ℕ) → read_map (tree_there mail) (ranges_in known mail greatest) ≡ read_mail_in known greatest mail
   unfolding ranges_in read_mail_in

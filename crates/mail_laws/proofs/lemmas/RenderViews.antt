@@ -17,34 +17,14 @@ use Rattle.mail_laws.specs.declared.render.OutlineKind.TheFolds.{fold-OutlineKin
 abbrev pub kind_tree : OutlineKind → List Header → OutlineTree
 kind_tree = fold-OutlineKind (List Header → OutlineTree) OutlineTree kind_step outline_step
 
-pub tree_out : (o : Outline) → outline_tree o ≡ kind_tree (out-Outline o).kind (headers_seen (out-Outline o).headers)
+tree_out : (o : Outline) → outline_tree o ≡ kind_tree (out-Outline o).kind (headers_seen (out-Outline o).headers)
 tree_out o = fold_out-Outline (List Header → OutlineTree) OutlineTree kind_step outline_step o
 
-pub kind_tree-Leaf : (body : Vec ℕ) (headers : List Header) → kind_tree (Leaf body) headers ≡ leaf headers body.items
-kind_tree-Leaf body headers =
-    ap (λ k. kind_tree k headers) (sym (rolls-Leaf body))
-    ∙ ap (λ f. f headers) (fold-roll-OutlineKind (List Header → OutlineTree) OutlineTree kind_step outline_step (OutlineKind-F.Leaf body))
-
-pub kind_tree-Branch : (boundary : Vec ℕ) (parts : Vec Outline) (headers : List Header)
+kind_tree-Branch : (boundary : Vec ℕ) (parts : Vec Outline) (headers : List Header)
     → kind_tree (Branch boundary parts) headers ≡ branch headers boundary.items (forest_of (map outline_tree parts.items))
 kind_tree-Branch boundary parts headers =
     ap (λ k. kind_tree k headers) (sym (rolls-Branch boundary parts))
     ∙ ap (λ f. f headers) (fold-roll-OutlineKind (List Header → OutlineTree) OutlineTree kind_step outline_step (OutlineKind-F.Branch boundary parts))
-
-headers_step : (kind : OutlineKind-F (List Header → OutlineTree) OutlineTree) (headers : List Header) → headers_of (kind_step kind headers) ≡ headers
-headers_step (OutlineKind-F.Leaf body) headers = refl
-headers_step (OutlineKind-F.Branch boundary parts) headers = refl
-
--- the headers of an outline
-pub headers_tree : (o : Outline) → headers_of (outline_tree o) ≡ headers_seen o.headers
-headers_tree o =
-    ap headers_of (tree_out o)
-    ∙ ap (λ f. headers_of (f (headers_seen o.headers))) (fold_out-OutlineKind (List Header → OutlineTree) OutlineTree kind_step outline_step o.kind)
-    ∙ headers_step _ (headers_seen o.headers)
-
--- an outline with a body
-pub tree_leaf : (o : Outline) (body : Vec ℕ) → o.kind ≡ Leaf body → outline_tree o ≡ leaf (headers_seen o.headers) body.items
-tree_leaf o body e = tree_out o ∙ ap (λ k. kind_tree k (headers_seen o.headers)) e ∙ kind_tree-Leaf body (headers_seen o.headers)
 
 -- an outline with parts
 pub tree_branch : (o : Outline) (boundary : Vec ℕ) (parts : Vec Outline) → o.kind ≡ Branch boundary parts

@@ -1,4 +1,4 @@
-//! The headers of a block: their bytes, their keys and their values.
+//! The headers of a block: how many there are, and where their bytes, keys and values stand.
 ghost use Rattle.std.specs.Prelude.{◌++◌, ◌<◌, ◌≡◌, ◌≤◌, ℕ, Bool, List, Ok, length, suc, take};
 ghost use Rattle.mail_codec.specs.Places.{least, values_below};
 ghost use Rattle.mailparse.specs.Block.{HeaderList, header_count, read_headers};

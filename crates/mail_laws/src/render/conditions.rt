@@ -1,16 +1,16 @@
 //! What a well-formed outline keeps to, one condition a function.
-ghost use Rattle.std.specs.Prelude.{◌≡◌, ◌∷◌, ◌&&◌, ◌||◌, IfOk, Ok, codes, drop, false, is_some, not, option_map, true};
+ghost use Rattle.std.specs.Prelude.{◌≡◌, ◌&&◌, IfOk, Ok, codes, false, nat_le, not, option_map, true};
 ghost use Rattle.std.specs.Char.{is_ascii_alphanumeric};
 ghost use Rattle.std.specs.List.{list_all};
 ghost use Rattle.std.specs.Option.{option_map_or};
 ghost use Rattle.std.specs.Str.{bytes_eq, is_utf8, str_eq_ignore_ascii_case};
-ghost use Rattle.mail_codec.specs.Ascii.{line_feed};
-ghost use Rattle.mail_codec.specs.Places.{is_empty, stands, text_place};
+ghost use Rattle.mail_codec.specs.Places.{is_empty, stands};
 ghost use Rattle.mailparse.specs.Outcome.{AnswersOrMemory};
 ghost use Rattle.mail_laws.specs.Boundaries.{boundary_type};
-ghost use Rattle.mail_laws.specs.Render.{dash_boundary, holds_delimiter, is_key, mimetype_of, type_header};
-ghost use Rattle.mail_laws.specs.RenderViews.{headers_seen};
+ghost use Rattle.mail_laws.specs.Render.{depth, holds_delimiter, is_key, mimetype_of, type_header};
+ghost use Rattle.mail_laws.specs.RenderViews.{headers_seen, outline_tree};
 
+use super::{Outline, OutlineKind};
 use mail_codec::bytescan::find;
 use mailparse::{MailParseError, parse_content_type};
 use std::alloc::{AllocError, Global};
@@ -156,4 +156,24 @@ pub(super) fn holds_delimiter(
     line.extend_from_slice(b"\n--")?;
     line.extend_from_slice(boundary)?;
     Ok(bytes.starts_with(&line[1..]) || find(bytes, line.as_slice()).is_some())
+}
+
+/// Whether no outline stands more than so many levels below the whole.
+pub(super) fn is_within_levels(outline: &Outline, levels: u8) -> bool
+    ensures { result ≡ nat_le (depth (outline_tree outline.now)) levels }
+{
+    match &outline.kind {
+        OutlineKind::Leaf(_) => true,
+        OutlineKind::Branch { parts, .. } => {
+            if levels == 0 {
+                return parts.is_empty();
+            }
+            for part in parts {
+                if !is_within_levels(part, levels - 1) {
+                    return false;
+                }
+            }
+            true
+        }
+    }
 }

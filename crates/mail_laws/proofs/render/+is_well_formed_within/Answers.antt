@@ -1,39 +1,47 @@
-use Rattle.std.proofs.Common.{◌≡◌, ◌+◌, ◌<◌, not, List, ◌∷◌, length, map, drop, Ok, ap, sym, ◌∙◌, arith}
-use Rattle.std.specs.Prelude.{vec_len}
-use Rattle.std.proofs.lemmas.Bool.{eqb-false}
+use Rattle.std.proofs.Common.{◌≡◌, ◌+◌, true, false, ◌&&◌, not, nat_eq, List, ◌∷◌, length, map, drop, Ok, ap, sym, ◌∙◌}
 use Rattle.std.proofs.lemmas.List.{drop_more, length-map}
-use Rattle.mail_laws.specs.Render.{forest_of, holds_delimiter, rendered}
+use Rattle.mail_laws.specs.Render.{holds_delimiter, is_well_formed_within, rendered}
 use Rattle.mail_laws.specs.RenderViews.{headers_seen, outline_tree}
 use Rattle.mail_laws.specs.declared.render.Outline.{Outline}
 use Rattle.mail_laws.proofs.lemmas.RenderViews.{tree_branch}
-use Rattle.mail_laws.proofs.lemmas.RenderConditions.{boundary_fails, good_boundary, levels_fail, ok_bool, part_fails, parts_start, parts_well, well_within}
+use Rattle.mail_laws.proofs.lemmas.RenderConditions.{branch_by, good_boundary, good_parts, ok_bool, part_and_others, some_part}
 use Rattle.mail_laws.proofs.render.+is_well_formed_within.Goals as goal
-
-pub returns-then-levels-eq0 : goal.returns-then-levels-eq0
-returns-then-levels-eq0 t c =
-    let tree = tree_branch c.args.outline.now c.in-Branch.boundary c.in-Branch.parts c.in-Branch.is in
-    ap (λ b. Ok b) (levels_fail _ _ _ (map outline_tree c.in-Branch.parts.items) c.args.levels tree (omega (arith, c.if-levels-eq0.true)))
 
 pub returns-then-not-has_boundary : goal.returns-then-not-has_boundary
 returns-then-not-has_boundary t c =
     let headers = headers_seen c.args.outline.now.headers in
-    let parts = forest_of (map outline_tree c.in-Branch.parts.items) in
+    let parts = map outline_tree c.in-Branch.parts.items in
     let tree = tree_branch c.args.outline.now c.in-Branch.boundary c.in-Branch.parts c.in-Branch.is in
+    let plain = sym c.has_good_headers.ensures ∙ c.if-not-has_good_headers.false in
     let fails = ap (good_boundary headers) (sym c.as_slice.ensures.value) ∙ sym c.has_boundary.ensures ∙ c.if-not-has_boundary.true in
-    ap (λ b. Ok b) (ap (λ u. well_within u c.args.levels) tree ∙ boundary_fails headers c.in-Branch.boundary.items parts c.args.levels fails)
+    ap (λ b. Ok b) (ap is_well_formed_within tree ∙ branch_by headers c.in-Branch.boundary.items parts false plain fails)
+
+pub returns-then-is_empty : goal.returns-then-is_empty
+returns-then-is_empty t c =
+    let headers = headers_seen c.args.outline.now.headers in
+    let boundary = c.in-Branch.boundary.items in
+    let parts = map outline_tree c.in-Branch.parts.items in
+    let tree = tree_branch c.args.outline.now c.in-Branch.boundary c.in-Branch.parts c.in-Branch.is in
+    let plain = sym c.has_good_headers.ensures ∙ c.if-not-has_good_headers.false in
+    let good = ap (good_boundary headers) (sym c.as_slice.ensures.value) ∙ sym c.has_boundary.ensures ∙ c.if-not-has_boundary.false in
+    let len = c.in-Branch.parts.ok.0 ∙ sym (length-map c.in-Branch.parts.items outline_tree) in
+    let none = some_part headers boundary parts true (sym (c.if-is_empty.ensures ∙ ap (λ n. nat_eq n 0) len)) in
+    ap (λ b. Ok b) (ap is_well_formed_within tree ∙ branch_by headers boundary parts true plain good ∙ ap (λ s. s && good_parts boundary parts) none)
 
 pub loop-part-init : goal.loop-part-init
 loop-part-init t c =
     let headers = headers_seen c.args.outline.now.headers in
     let boundary = c.in-Branch.boundary.items in
+    let parts = map outline_tree c.in-Branch.parts.items in
     let tree = tree_branch c.args.outline.now c.in-Branch.boundary c.in-Branch.parts c.in-Branch.is in
-    let none : vec_len c.in-Branch.parts ≡ 0 → ⊥ = eqb-false (vec_len c.in-Branch.parts) 0 (sym c.if-is_empty.ensures) in
-    let len : vec_len c.in-Branch.parts ≡ length c.in-Branch.parts.items = c.in-Branch.parts.ok.0 in
-    let some : 0 < length (map outline_tree c.in-Branch.parts.items) = omega (arith, none, len, length-map c.in-Branch.parts.items outline_tree) in
     let plain = sym c.has_good_headers.ensures ∙ c.if-not-has_good_headers.false in
     let good = ap (good_boundary headers) (sym c.as_slice.ensures.value) ∙ sym c.has_boundary.ensures ∙ c.if-not-has_boundary.false in
-    parts_start _ headers boundary (map outline_tree c.in-Branch.parts.items) c.args.levels tree some plain good
-    ∙ ap (λ (os : List Outline). parts_well boundary (map outline_tree os) c.args.levels) (sym c.deref-part-items.ensures.value)
+    let len = c.in-Branch.parts.ok.0 ∙ sym (length-map c.in-Branch.parts.items outline_tree) in
+    let some = some_part headers boundary parts false (sym (c.if-is_empty.ensures ∙ ap (λ n. nat_eq n 0) len)) in
+    ap is_well_formed_within tree
+    ∙ branch_by headers boundary parts true plain good
+    ∙ ap (λ s. s && good_parts boundary parts) some
+    ∙ ap (λ (os : List Outline). good_parts boundary (map outline_tree os)) (sym c.deref-part-items.ensures.value)
 
 pub returns-then-not-branch-2 : goal.returns-then-not-branch-2
 returns-then-not-branch-2 t c =
@@ -48,5 +56,5 @@ returns-then-not-branch-2 t c =
     ∙ ok_bool _ _ c.in_ok-is_clear-in-Branch.ensures ∙ c.if-not-branch.false in
     let fails = ok_bool _ _ c.in_ok-is_well_formed_within-in-Branch.ensures ∙ c.if-not-branch-2.true in
     ap (λ b. Ok b)
-    (c.loop-part.invariant ∙ ap (λ (os : List Outline). parts_well boundary (map outline_tree os) c.args.levels) cut
-    ∙ part_fails boundary part (map outline_tree (drop (c.loop-part.part-index + 1) items)) c.args.levels (omega (arith, c.if-levels-eq0.false)) clear fails)
+    (c.loop-part.invariant ∙ ap (λ (os : List Outline). good_parts boundary (map outline_tree os)) cut
+    ∙ part_and_others boundary part (map outline_tree (drop (c.loop-part.part-index + 1) items)) false clear fails)
