@@ -4,11 +4,13 @@ ghost use Rattle.mail_codec.specs.Places.{byte_place, text_place, without_ascii_
 
 mod pairs;
 pub(crate) mod runs;
+mod single;
 pub(crate) mod words;
 
 use crate::vectors::LANES;
 use pairs::pair_len;
-use runs::{RunEnd, may_end_len, push_runs};
+use runs::{RunEnd, push_runs};
+use single::byte_len;
 use std::alloc::{AllocError, Global};
 
 /// Returns the first place of `byte` in `haystack`, or `None` where it is absent.
@@ -26,7 +28,7 @@ use std::alloc::{AllocError, Global};
 pub fn find_byte(haystack: &[u8], byte: u8) -> Option<usize>
     ensures { result ≡ byte_place haystack.now byte }
 {
-    let place = may_end_len(haystack, RunEnd::Byte(byte));
+    let place = byte_len(haystack, byte);
     if place == haystack.len() {
         return None;
     }

@@ -4,11 +4,12 @@ use Rattle.std.specs.Int.{w64, trailing_zeros}
 use Rattle.std.specs.List.{slice_get}
 use Rattle.std.specs.Simd.{first_chunks}
 use Rattle.std.proofs.lemmas.Bool.{cases_lt, lt-ltb, le-ltb}
-use Rattle.std.proofs.lemmas.List.{drop-drop, length-drop, take_all}
+use Rattle.std.proofs.lemmas.List.{drop-drop, length-drop, length-take-le, take_all}
 use Rattle.std.proofs.lemmas.Nat.{le_or_l, le_or_r}
 use Rattle.std.proofs.Math.Nat.{mul-suc}
 use Rattle.mail_codec.specs.Places.{first_place, begins, place, stands, text_place}
 use Rattle.std.proofs.lemmas.Bool.Decides.{nat_tests, Decides-eqb}
+use Rattle.mail_codec.specs.private.Vectors.{lane_mask}
 use Rattle.mail_codec.specs.private.Words.{IsMask}
 use Rattle.mail_codec.proofs.lemmas.Places.{PassedTo, first_place-≤, first_place-drop, place_from_weaker, place-found}
 
@@ -70,7 +71,7 @@ PassedTo-found test bytes chunk answer at n h fits is found =
     omega arith
 
 -- a chunk of a list, as a loop over the chunks meets it
-pub chunk_is : (n : ℕ) (bytes : List ℕ) (chunks : List (List ℕ)) (i at : ℕ) → chunks ≡ first_chunks n (length bytes / n) bytes
+chunk_is : (n : ℕ) (bytes : List ℕ) (chunks : List (List ℕ)) (i at : ℕ) → chunks ≡ first_chunks n (length bytes / n) bytes
     → i < length bytes / n → at ≡ n * i → get_or chunks i [] ≡ take n (drop at bytes)
 chunk_is n bytes chunks i at is l place =
     ap (λ (cs : List (List ℕ)). get_or cs i []) is ∙ chunk_at n (length bytes / n) bytes i l ∙ ap (λ (j : ℕ). take n (drop j bytes)) (sym place)
@@ -85,13 +86,52 @@ last_chunk test bytes n at last p h ends back is =
     let same = ap (first_place (begins test)) whole in
     omega arith
 
+-- ---- a vector at a place
+
+-- the lane that its mask tells, or 16
+module _ (test : ℕ → Bool) (bytes : List ℕ) (at mask place : ℕ) (fits : at + 16 ≤ length bytes) (marks : mask ≡ lane_mask test (take 16 (drop at bytes)))
+    (first : (t : ℕ → Bool) (v : List ℕ) → length v ≡ 16 → mask ≡ lane_mask t v → place ≡ first_place (begins t) v) where
+  pub lane_is : (place ≡ first_place (begins test) (take 16 (drop at bytes))) × (place ≤ 16)
+  lane_is =
+      let long = length-take-le 16 (drop at bytes) (omega (arith, length-drop at bytes)) in
+      let is = first test (take 16 (drop at bytes)) long marks in
+      (is, omega (arith, is, long, first_place-≤ (begins test) (take 16 (drop at bytes))))
+
+  -- it is the first place, or the search goes on after the vector
+  pub lane_found : (answer : ℕ) → PassedTo (begins test) bytes answer at → place ≢ 16 → at + place ≡ answer
+  lane_found answer h some =
+      let found = PassedTo-found test bytes (take 16 (drop at bytes)) answer at 16 h fits refl (omega (arith, lane_is, some)) in
+      omega (arith, found, lane_is)
+
+  pub lane_passed : (answer : ℕ) → PassedTo (begins test) bytes answer at → place ≡ 16 → PassedTo (begins test) bytes answer (at + 16)
+  lane_passed answer h none = PassedTo-chunk test bytes (take 16 (drop at bytes)) answer at 16 h fits refl (omega (arith, lane_is, none))
+
+-- ---- a word at a place
+
 -- the place that a mask tells
-pub marked_first : (test : ℕ → Bool) (bs : List ℕ) (m : ℕ) → length bs ≡ 8 → IsMask test bs m → m ≢ 0
+marked_first : (test : ℕ → Bool) (bs : List ℕ) (m : ℕ) → length bs ≡ 8 → IsMask test bs m → m ≢ 0
     → (first_place (begins test) bs < 8) × (trailing_zeros w64 m / 8 ≡ first_place (begins test) bs)
 marked_first test bs m len is some =
     let low = is.lowest some in
     let within = first_place-≤ (begins test) bs in
     (elim (cases_lt (first_place (begins test) bs) 8) [ inl l ↦ l | inr ge ↦ absurd (some (is.none.1 (omega arith))) ], omega arith)
+
+-- one of the words that the bytes are cut into
+module _ (test : ℕ → Bool) (bytes : List ℕ) (words : List (List ℕ)) (i at mask : ℕ) (are : words ≡ first_chunks 8 (length bytes / 8) bytes)
+    (within : i < length bytes / 8) (place : at ≡ 8 * i) (marks : IsMask test (get_or words i []) mask) where
+  pub word_is : get_or words i [] ≡ take 8 (drop at bytes)
+  word_is = chunk_is 8 bytes words i at are within place
+
+  -- it has the first place, or the search goes on after it
+  pub word_found : (answer : ℕ) → PassedTo (begins test) bytes answer at → mask ≢ 0 → (at + trailing_zeros w64 mask / 8 ≡ answer) × (trailing_zeros w64 mask / 8 < 8)
+  word_found answer h some =
+      let eight = ap length word_is ∙ length-take-le 8 (drop at bytes) (omega (arith, length-drop at bytes)) in
+      let first = marked_first test (get_or words i []) mask eight marks some in
+      let found = PassedTo-found test bytes (get_or words i []) answer at 8 h (omega arith) word_is first.0 in
+      (omega (arith, found, first.1), omega (arith, first.0, first.1))
+
+  pub word_passed : (answer : ℕ) → PassedTo (begins test) bytes answer at → mask ≡ 0 → PassedTo (begins test) bytes answer (at + 8)
+  word_passed answer h none = PassedTo-chunk test bytes (get_or words i []) answer at 8 h (omega arith) word_is (marks.none.0 none)
 
 -- two masks put together are 0 where both are
 pub both_zero : (m n : ℕ) → bit_or m n ≡ 0 → (m ≡ 0) × (n ≡ 0)

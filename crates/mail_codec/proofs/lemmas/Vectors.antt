@@ -4,7 +4,7 @@ use Rattle.std.proofs.lemmas.List.{get_or-map, length-map, ext_get_or}
 use Rattle.std.proofs.lemmas.Bool.{agree_below, agree_below_at}
 use Rattle.std.proofs.lemmas.Simd.{Each1-from_get_or, swz_l, SwzOk, SwzOk-from_below, length-swz_l, get_or-swz_l_below, map-map, bitmask_splat, mask_l-mod, zip2_splat, zip2_splat_left, zip2_of_maps, leading_from_mask_l, trailing_mask_l}
 use Rattle.std.specs.List.{prefix_len}
-use Rattle.std.specs.Prelude.{nat_lt, nat_le}
+use Rattle.std.specs.Prelude.{nat_le}
 use Rattle.std.specs.Char.{is_ascii_whitespace}
 use Rattle.mail_codec.specs.private.Vectors.{whitespace_of_half}
 use Rattle.mail_codec.specs.Places.{begins, first_place}
@@ -129,10 +129,6 @@ either_marked a c v long =
     lanes_marked (λ x. bit_or (cond (x == a) 255 0) (cond (x == c) 255 0)) (λ b. b == a || b == c) v _ long
     (zip2_of_maps bit_or _ _ v (zip2_splat (λ x y. cond (x == y) 255 0) v 16 a long) (zip2_splat (λ x y. cond (x == y) 255 0) v 16 c long))
     (λ x. flag_or (x == a) (x == c))
-
-pub below_marked : (a : ℕ) (v : List ℕ) → length v ≡ 16
-    → mask_l (map (top 7) (zip2 (λ x y. cond (nat_lt x y) 255 0) v (replicate 16 a))) % 2 ^ 64 ≡ mask_l (map (λ b. nat_lt b a) v)
-below_marked a v long = lanes_marked (λ x. cond (nat_lt x a) 255 0) (λ b. nat_lt b a) v _ long (zip2_splat (λ x y. cond (nat_lt x y) 255 0) v 16 a long) (λ x. flag (nat_lt x a))
 
 pub from_marked : (a : ℕ) (v : List ℕ) → length v ≡ 16
     → mask_l (map (top 7) (zip2 (λ x y. cond (nat_le x y) 255 0) (replicate 16 a) v)) % 2 ^ 64 ≡ mask_l (map (λ b. nat_le a b) v)

@@ -288,12 +288,9 @@ below_mask_is word n hw hn =
     mask_is n hn (to_le_bytes w64 word) (word_bytes word) 0 r (omega arith) (omega arith) diff in
     is_mask n hn (to_le_bytes w64 word) (word_bytes word) refl _ (omega (arith, and_le_r (bit_and r (18446744073709551615 - word)) 9259542123273814144)) (ap (λ x. bit_and (bit_and r (18446744073709551615 - x)) 9259542123273814144) (sym is) ∙ m)
 
-below_one : (b : ℕ) → nat_lt b 1 ≡ b == 0
-below_one b = grind (arith, nat_tests)
-
-pub zero_byte_mask_is : (word : ℕ) → word < 2 ^ 64
-    → IsMask (λ b. b == 0) (to_le_bytes w64 word) (bit_and (bit_and ((word + 18374403900871474943) % 18446744073709551616) (18446744073709551615 - word)) 9259542123273814144)
-zero_byte_mask_is word h =
-    let same : Path (ℕ → Bool) (λ b. nat_lt b 1) (λ b. b == 0) = λ i b. below_one b i in
-    subst (λ test. IsMask test (to_le_bytes w64 word) (bit_and (bit_and ((word + 18374403900871474943) % 18446744073709551616) (18446744073709551615 - word)) 9259542123273814144))
-    same (below_mask_is word 1 h (omega arith))
+-- a byte below 1 is 0
+pub zero_of_below : (bs : List ℕ) (m : ℕ) → IsMask (λ b. nat_lt b 1) bs m → IsMask (λ b. b == 0) bs m
+zero_of_below bs m is = subst (λ test. IsMask test bs m) {x = λ b. nat_lt b 1} {y = λ b. b == 0} (λ i b. below_one b i) is
+  where
+    below_one : (b : ℕ) → nat_lt b 1 ≡ b == 0
+    below_one b = grind (arith, nat_tests)

@@ -31,41 +31,27 @@ bytes_below : (bs : List ℕ) → ((i : ℕ) → get_or bs i 0 < 256) → AllBel
 bytes_below [] h = tt
 bytes_below (b ∷ bs) h = (h 0, bytes_below bs (λ i. h (suc i)))
 
+-- what holds of any eight bytes holds of a list of eight
+of_eight : (P : List ℕ → Type 0) → ((a b d e f g i j : ℕ) → P (a ∷ b ∷ d ∷ e ∷ f ∷ g ∷ i ∷ j ∷ [])) → (bs : List ℕ) → length bs ≡ 8 → P bs
+of_eight P all [] h = absurd (omega arith)
+of_eight P all (a ∷ []) h = absurd (omega arith)
+of_eight P all (a ∷ b ∷ []) h = absurd (omega arith)
+of_eight P all (a ∷ b ∷ d ∷ []) h = absurd (omega arith)
+of_eight P all (a ∷ b ∷ d ∷ e ∷ []) h = absurd (omega arith)
+of_eight P all (a ∷ b ∷ d ∷ e ∷ f ∷ []) h = absurd (omega arith)
+of_eight P all (a ∷ b ∷ d ∷ e ∷ f ∷ g ∷ []) h = absurd (omega arith)
+of_eight P all (a ∷ b ∷ d ∷ e ∷ f ∷ g ∷ i ∷ []) h = absurd (omega arith)
+of_eight P all (a ∷ b ∷ d ∷ e ∷ f ∷ g ∷ i ∷ j ∷ []) h = all a b d e f g i j
+of_eight P all (a ∷ b ∷ d ∷ e ∷ f ∷ g ∷ i ∷ j ∷ k ∷ bs) h = absurd (omega arith)
+
 read_value : (bs : List ℕ) → length bs ≡ 8 → from_le_bytes w64 bs ≡ value bs
-read_value [] h = absurd (omega arith)
-read_value (a ∷ []) h = absurd (omega arith)
-read_value (a ∷ b ∷ []) h = absurd (omega arith)
-read_value (a ∷ b ∷ d ∷ []) h = absurd (omega arith)
-read_value (a ∷ b ∷ d ∷ e ∷ []) h = absurd (omega arith)
-read_value (a ∷ b ∷ d ∷ e ∷ f ∷ []) h = absurd (omega arith)
-read_value (a ∷ b ∷ d ∷ e ∷ f ∷ g ∷ []) h = absurd (omega arith)
-read_value (a ∷ b ∷ d ∷ e ∷ f ∷ g ∷ i ∷ []) h = absurd (omega arith)
-read_value (a ∷ b ∷ d ∷ e ∷ f ∷ g ∷ i ∷ j ∷ []) h = omega arith
-read_value (a ∷ b ∷ d ∷ e ∷ f ∷ g ∷ i ∷ j ∷ k ∷ bs) h = absurd (omega arith)
+read_value = of_eight (λ bs. from_le_bytes w64 bs ≡ value bs) (λ a b d e f g i j. omega arith)
 
 repeated_is : (bs : List ℕ) (n : ℕ) → length bs ≡ 8 → n < 256 → 72340172838076673 * n % 18446744073709551616 ≡ repeated n bs
-repeated_is [] n h hn = absurd (omega arith)
-repeated_is (a ∷ []) n h hn = absurd (omega arith)
-repeated_is (a ∷ b ∷ []) n h hn = absurd (omega arith)
-repeated_is (a ∷ b ∷ d ∷ []) n h hn = absurd (omega arith)
-repeated_is (a ∷ b ∷ d ∷ e ∷ []) n h hn = absurd (omega arith)
-repeated_is (a ∷ b ∷ d ∷ e ∷ f ∷ []) n h hn = absurd (omega arith)
-repeated_is (a ∷ b ∷ d ∷ e ∷ f ∷ g ∷ []) n h hn = absurd (omega arith)
-repeated_is (a ∷ b ∷ d ∷ e ∷ f ∷ g ∷ i ∷ []) n h hn = absurd (omega arith)
-repeated_is (a ∷ b ∷ d ∷ e ∷ f ∷ g ∷ i ∷ j ∷ []) n h hn = omega arith
-repeated_is (a ∷ b ∷ d ∷ e ∷ f ∷ g ∷ i ∷ j ∷ k ∷ bs) n h hn = absurd (omega arith)
+repeated_is bs n h hn = of_eight (λ bs. 72340172838076673 * n % 18446744073709551616 ≡ repeated n bs) (λ a b d e f g i j. omega arith) bs h
 
 scale_is : (bs : List ℕ) → length bs ≡ 8 → scale bs ≡ 18446744073709551616
-scale_is [] h = absurd (omega arith)
-scale_is (a ∷ []) h = absurd (omega arith)
-scale_is (a ∷ b ∷ []) h = absurd (omega arith)
-scale_is (a ∷ b ∷ d ∷ []) h = absurd (omega arith)
-scale_is (a ∷ b ∷ d ∷ e ∷ []) h = absurd (omega arith)
-scale_is (a ∷ b ∷ d ∷ e ∷ f ∷ []) h = absurd (omega arith)
-scale_is (a ∷ b ∷ d ∷ e ∷ f ∷ g ∷ []) h = absurd (omega arith)
-scale_is (a ∷ b ∷ d ∷ e ∷ f ∷ g ∷ i ∷ []) h = absurd (omega arith)
-scale_is (a ∷ b ∷ d ∷ e ∷ f ∷ g ∷ i ∷ j ∷ []) h = omega arith
-scale_is (a ∷ b ∷ d ∷ e ∷ f ∷ g ∷ i ∷ j ∷ k ∷ bs) h = absurd (omega arith)
+scale_is = of_eight (λ bs. scale bs ≡ 18446744073709551616) (λ a b d e f g i j. omega arith)
 
 -- the bytes of a number of that value
 bytes_of : (bs : List ℕ) (word : ℕ) → length bs ≡ 8 → AllBelowBase 256 bs → word < 2 ^ 64 → word ≡ value bs → to_le_bytes w64 word ≡ bs
@@ -125,11 +111,6 @@ equal_mask_is bs n word x m len h hn read is mask =
     let small : x < 2 ^ 64 = omega (arith, value_is, value_below changed below', scale_is changed len') in
     let bytes : to_le_bytes w64 x ≡ changed = bytes_of changed x len' below' small value_is in
     mask_map (λ b. bit_xor b n) (λ b. b == 0) (λ b. b == n) (λ b. xor_test b n) bs len m (subst (λ xs. IsMask (λ b. b == 0) xs m) bytes mask)
-
-pub space_mask_is : (bs : List ℕ) (test : ℕ → Bool) (word m : ℕ) → length bs ≡ 8 → ((i : ℕ) → get_or bs i 0 < 256)
-    → word < 2 ^ 64 → word ≡ from_le_bytes w64 bs → IsMask test (to_le_bytes w64 word) m → IsMask test bs m
-space_mask_is bs test word m len h small read mask =
-    subst (λ xs. IsMask test xs m) (bytes_of bs word len (bytes_below bs h) small (read ∙ read_value bs len)) mask
 
 -- ---- a byte that passes one of two tests
 

@@ -25,6 +25,13 @@ copied_after at k n xs part bytes front low few more =
     ∙ ap (λ (ys : List ℕ). take at bytes ++ ys) more
     ∙ sym (take-add at n bytes)
 
+-- a word copied from a place to the same place
+pub word_copied : (at k n : ℕ) (xs word bytes : List ℕ) → take at xs ≡ take at bytes → at ≤ length xs → word ≡ take 8 (drop at bytes) → at + 8 ≤ length bytes → n ≤ 8
+    → take (at + n) (put_mid at k xs word) ≡ take (at + n) bytes
+word_copied at k n xs word bytes front low is fits few =
+    copied_after at k n xs word bytes front low (omega (arith, few, ap length is, length-take-le 8 (drop at bytes) (omega (arith, length-drop at bytes))))
+    (ap (take n) is ∙ take-take n 8 (drop at bytes) few)
+
 -- the same of the part that goes to the end
 module _ (at n : ℕ) (xs part : List ℕ) (fits : at + n ≤ length xs) (same : length part ≡ length (take (length xs - at) (drop at xs))) where
   enough : n ≤ length part

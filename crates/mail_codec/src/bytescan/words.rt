@@ -12,14 +12,6 @@ const ONES: u64 = 0x0101_0101_0101_0101;
 /// A word of eight bytes of which only the top bit is set.
 const TOPS: u64 = 0x8080_8080_8080_8080;
 
-/// Marks the bytes of the word that are 0.
-#[inline(always)]
-fn zero_byte_mask(word: u64) -> u64
-    ensures { IsMask (λ b. b == 0) (to_le_bytes w64 word) result }
-{
-    word.wrapping_sub(ONES) & !word & TOPS
-}
-
 /// Marks the bytes of the word that are below `bound`.
 #[inline(always)]
 fn below_mask(word: u64, bound: u8) -> u64
@@ -27,6 +19,14 @@ fn below_mask(word: u64, bound: u8) -> u64
     ensures { IsMask (λ b. nat_lt b bound) (to_le_bytes w64 word) result }
 {
     word.wrapping_sub(ONES.wrapping_mul(bound as u64)) & !word & TOPS
+}
+
+/// Marks the bytes of the word that are 0.
+#[inline(always)]
+fn zero_byte_mask(word: u64) -> u64
+    ensures { IsMask (λ b. b == 0) (to_le_bytes w64 word) result }
+{
+    below_mask(word, 1)
 }
 
 /// Marks those of eight bytes that are `wanted`.
@@ -43,14 +43,6 @@ pub(crate) fn either_mask(bytes: &[u8; 8], first: u8, second: u8) -> u64
     ensures { IsMask (λ b. b == first || b == second) bytes.now result }
 {
     equal_mask(bytes, first) | equal_mask(bytes, second)
-}
-
-/// Marks those of eight bytes that are at most a space.
-#[inline(always)]
-pub(crate) fn space_mask(bytes: &[u8; 8]) -> u64
-    ensures { IsMask (λ b. nat_lt b 33) bytes.now result }
-{
-    below_mask(u64::from_le_bytes(*bytes), b'!')
 }
 
 /// The place of the byte that the lowest bit of a mask marks.

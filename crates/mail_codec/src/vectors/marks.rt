@@ -1,5 +1,5 @@
 //! Which bytes of a vector pass a test: a mask has a bit for each byte, the lowest for the first.
-ghost use Rattle.std.specs.Prelude.{◌≡◌, ℕ, Bool, List, length, map, ◌==◌, ◌||◌, nat_lt, nat_le};
+ghost use Rattle.std.specs.Prelude.{◌≡◌, ℕ, Bool, List, length, map, ◌==◌, ◌||◌, nat_le};
 ghost use Rattle.std.specs.Char.{is_ascii_whitespace};
 ghost use Rattle.mail_codec.specs.Places.{begins, first_place};
 ghost use Rattle.mail_codec.specs.private.Vectors.{is_set, lane_mask, pair_flags, whitespace_of_half};
@@ -36,14 +36,6 @@ pub(crate) fn pair_lanes(bytes: u8x16, next: u8x16, first: u8, second: u8) -> u6
 {
     let marks = bytes.simd_eq(u8x16::splat(first)) & next.simd_eq(u8x16::splat(second));
     marks.to_bitmask()
-}
-
-/// Marks the bytes that are below `bound`.
-#[inline(always)]
-pub(crate) fn lanes_below(bytes: u8x16, bound: u8) -> u64
-    ensures { result ≡ lane_mask (λ b. nat_lt b bound) bytes }
-{
-    bytes.simd_lt(u8x16::splat(bound)).to_bitmask()
 }
 
 /// Marks the bytes that are `bound` or above.

@@ -1,36 +1,23 @@
-use Rattle.std.proofs.Common.{◌≡◌, ◌≤◌, ◌+◌, length, take, drop, ap, ◌∙◌, arith}
-use Rattle.std.proofs.lemmas.List.{length-take-le, length-drop, take_rest}
-use Rattle.mail_codec.specs.Places.{begins, first_place}
+use Rattle.std.proofs.Common.{length, drop, ap, ◌∙◌, arith}
+use Rattle.std.proofs.lemmas.List.{length-drop, take_rest}
 use Rattle.mail_codec.specs.private.Runs.{ends_run, without_ends}
-use Rattle.mail_codec.proofs.lemmas.Places.{first_place-≤}
+use Rattle.mail_codec.proofs.lemmas.PlacesSearches.{lane_is}
 use Rattle.mail_codec.proofs.lemmas.Runs.{vector_kept, vector_ended}
 use Rattle.mail_codec.proofs.lemmas.Written.{written_rest}
 use Rattle.mail_codec.proofs.bytescan.runs.put_runs.Goals as goal
 
 pub vectors-preserved-then-place-ne-LANES : goal.vectors-preserved-then-place-ne-LANES
 vectors-preserved-then-place-ne-LANES c =
-    let bytes = c.args.bytes.now in
-    let at = c.vectors.at in
     let h = c.vectors.invariant in
-    let v = take 16 (drop at bytes) in
-    let test = ends_run c.args.end in
-    let fits : at + 16 ≤ length bytes = omega (arith, h.within) in
-    let long : length v ≡ 16 = length-take-le 16 (drop at bytes) (omega (arith, length-drop at bytes)) in
-    let is : c.first_lane-place.result ≡ first_place (begins test) v = c.first_lane-place.ensures test v long c.end_lanes.ensures in
-    vector_ended c.args.end bytes c.vectors.output c.vectors.len at h c.first_lane-place.result fits (omega (arith, fits, h.few, c.requires)) is
-    (omega (arith, is, long, first_place-≤ (begins test) v, c.if-place-ne-LANES.true))
+    let lane = lane_is (ends_run c.args.end) c.args.bytes.now c.vectors.at _ _ (omega (arith, c.vectors.invariant.within)) c.end_lanes.ensures c.first_lane-place.ensures in
+    vector_ended c.args.end c.args.bytes.now c.vectors.output c.vectors.len c.vectors.at h c.first_lane-place.result (omega (arith, h.within)) (omega (arith, h.within, h.few, c.requires)) lane.0
+    (omega (arith, lane.1, c.if-place-ne-LANES.true))
 
 pub vectors-preserved : goal.vectors-preserved
 vectors-preserved c =
-    let bytes = c.args.bytes.now in
-    let at = c.vectors.at in
     let h = c.vectors.invariant in
-    let v = take 16 (drop at bytes) in
-    let test = ends_run c.args.end in
-    let fits : at + 16 ≤ length bytes = omega (arith, h.within) in
-    let long : length v ≡ 16 = length-take-le 16 (drop at bytes) (omega (arith, length-drop at bytes)) in
-    let is : c.first_lane-place.result ≡ first_place (begins test) v = c.first_lane-place.ensures test v long c.end_lanes.ensures in
-    vector_kept c.args.end bytes c.vectors.output c.vectors.len at h fits (omega (arith, fits, h.few, c.requires)) (omega (arith, is, c.if-place-ne-LANES.false))
+    let lane = lane_is (ends_run c.args.end) c.args.bytes.now c.vectors.at _ _ (omega (arith, c.vectors.invariant.within)) c.end_lanes.ensures c.first_lane-place.ensures in
+    vector_kept c.args.end c.args.bytes.now c.vectors.output c.vectors.len c.vectors.at h (omega (arith, h.within)) (omega (arith, h.within, h.few, c.requires)) (omega (arith, lane.0, c.if-place-ne-LANES.false))
 
 pub returns-clause-written : goal.returns-clause-written
 returns-clause-written c =

@@ -1,0 +1,115 @@
+//! A single byte, sought by vectors, or by words where there are few bytes.
+ghost use Rattle.std.specs.Prelude.{◌≡◌, ◌≤◌, ◌+◌, ◌==◌, length, take, drop};
+ghost use Rattle.mail_codec.specs.Places.{begins, first_place};
+
+use super::words::{equal_mask, first_marked};
+use crate::vectors::LANES;
+use crate::vectors::marks::{equal_lanes, first_lane};
+use std::simd::prelude::*;
+
+/// How many bytes a search looks at vector by vector before it takes blocks of four.
+const NEAR: usize = 512;
+
+/// How many bytes four vectors have.
+const BLOCK: usize = 64;
+
+/// The first place of `wanted`, or the length where it is absent: by vectors, and where there are
+/// fewer bytes than one has, by words.
+#[inline(always)]
+pub(super) fn byte_len(bytes: &[u8], wanted: u8) -> usize
+    ensures least { result ≡ first_place (begins (λ b. b == wanted)) bytes.now }
+    ensures bounds { result ≤ length bytes.now }
+{
+    if bytes.len() < LANES {
+        near_len(bytes, wanted)
+    } else {
+        vectors_len(bytes, wanted)
+    }
+}
+
+/// The same where there are as many bytes as a vector has: what is near vector by vector, and what
+/// is far by blocks of four. The last vector is that of the last sixteen bytes, of which some may
+/// have been looked at before.
+#[inline(always)]
+fn vectors_len(bytes: &[u8], wanted: u8) -> usize
+    requires { 16 ≤ length bytes.now }
+    ensures least { result ≡ first_place (begins (λ b. b == wanted)) bytes.now }
+    ensures bounds { result ≤ length bytes.now }
+{
+    let last = bytes.len() - LANES;
+    let far = last.min(NEAR);
+    let mut at = 0;
+    'vectors: while at < far {
+        let place = first_lane(equal_lanes(u8x16::from_slice(&bytes[at..]), wanted));
+        if place != LANES {
+            return at + place;
+        }
+        at += LANES;
+    }
+    if at < last {
+        return at + blocks_len(&bytes[at..], wanted);
+    }
+    last + first_lane(equal_lanes(u8x16::from_slice(&bytes[last..]), wanted))
+}
+
+/// The same by blocks of four vectors, as far as `wanted` is in none of them, and then by words.
+#[inline(always)]
+fn blocks_len(bytes: &[u8], wanted: u8) -> usize
+    ensures least { result ≡ first_place (begins (λ b. b == wanted)) bytes.now }
+    ensures bounds { result ≤ length bytes.now }
+{
+    let mut at = 0;
+    'blocks: while bytes.len() - at >= BLOCK {
+        if !is_free(bytes, at, wanted) {
+            break;
+        }
+        at += BLOCK;
+    }
+    at + near_len(&bytes[at..], wanted)
+}
+
+/// Whether `wanted` is none of the 64 bytes from a place on: the masks of four vectors are put
+/// together and tested once.
+#[inline(always)]
+fn is_free(bytes: &[u8], at: usize, wanted: u8) -> bool
+    requires within { at + 64 ≤ length bytes.now }
+    ensures { result ≡ (first_place (begins (λ b. b == wanted)) (take 64 (drop at bytes.now)) == 64) }
+{
+    let first = equal_lanes(u8x16::from_slice(&bytes[at..]), wanted);
+    let second = equal_lanes(u8x16::from_slice(&bytes[at + 16..]), wanted);
+    let third = equal_lanes(u8x16::from_slice(&bytes[at + 32..]), wanted);
+    let fourth = equal_lanes(u8x16::from_slice(&bytes[at + 48..]), wanted);
+    first | second | third | fourth == 0
+}
+
+/// The same by words of eight bytes.
+#[inline(always)]
+fn near_len(bytes: &[u8], wanted: u8) -> usize
+    ensures least { result ≡ first_place (begins (λ b. b == wanted)) bytes.now }
+    ensures bounds { result ≤ length bytes.now }
+{
+    let (words, tail) = bytes.as_chunks::<8>();
+    let mut at = 0;
+    for word in words {
+        let mask = equal_mask(word, wanted);
+        if mask != 0 {
+            return at + first_marked(mask);
+        }
+        at += 8;
+    }
+    at + tail_len(tail, wanted)
+}
+
+/// The same byte by byte.
+#[inline(always)]
+fn tail_len(tail: &[u8], wanted: u8) -> usize
+    ensures least { result ≡ first_place (begins (λ b. b == wanted)) tail.now }
+    ensures bounds { result ≤ length tail.now }
+{
+    for (place, byte) in tail.iter().enumerate() {
+        if *byte == wanted {
+            return place;
+        }
+    }
+    tail.len()
+}
