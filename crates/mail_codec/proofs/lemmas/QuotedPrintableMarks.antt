@@ -1,12 +1,12 @@
 -- A text read mark by mark: what stands before an escape is read by itself, and so is the escape.
-use Rattle.std.proofs.Common.{◌≡◌, ℕ, zero, suc, ◌+◌, ◌*◌, ◌-◌, ◌<◌, ◌≤◌, ◌==◌, ◌||◌, Bool, true, false, cond, List, [], ◌∷◌, ◌++◌, length, take, drop, get_or, reverse, Option, Some, None, refl, sym, ap, ◌∙◌, arith, inl, inr}
+use Rattle.std.proofs.Common.{◌≡◌, ℕ, zero, suc, ◌+◌, ◌*◌, ◌-◌, ◌<◌, ◌≤◌, ◌≢◌, ◌↔◌, ◌⊎◌, ◌==◌, ◌||◌, min, slice_set, Bool, true, false, cond, List, [], ◌∷◌, ◌++◌, length, take, drop, get_or, reverse, Option, Some, None, refl, sym, ap, ◌∙◌, arith, inl, inr}
 use Rattle.std.specs.List.{flat_map, slice_split, prefix_len, suffix_len}
 use Rattle.std.proofs.lemmas.Bool.{cases_Bool, cases_lt, eqb-true, false≢true}
-use Rattle.std.proofs.Math.Seq.{take-add}
+use Rattle.std.proofs.Math.Seq.{take-add, take-append-add}
 use Rattle.std.specs.List.{position_or_len}
-use Rattle.std.proofs.lemmas.List.Sums.{position_or_len_is}
+use Rattle.std.proofs.lemmas.List.Sums.{position_or_len_is, suffix_len-le-length}
 use borrow.Rule.Slice.PartMut.{put_mid}
-use Rattle.std.proofs.lemmas.List.{append-nil, append_cancel_left, take-append-le, length-take, append_assoc, length-append, length-reverse, reverse-append, drop_more, drop-drop, take-append-drop, length-drop, get_or-drop, get_or-take, length-take-le, take-take, drop-take}
+use Rattle.std.proofs.lemmas.List.{append-nil, append_cancel_left, take-append-le, length-take, length-set, append_assoc, length-append, reverse-append, drop_all, drop_more, drop-drop, take-append-drop, take_rest, take_more_set, length-drop, get_or-drop, get_or-take, length-take-le, take-take, drop-take}
 use Rattle.mail_codec.specs.Ascii.{is_blank}
 use Rattle.mail_codec.specs.Places.{first_place, begins, trimmed_at_end}
 use Rattle.mail_codec.specs.QuotedPrintable.{ends_in, without_last, lf, cr_lf, digit_value, byte_of_values, first_escape, ended_line, lines_of_pieces, lines_of, line_bytes, quoted_printable, unescaped}
@@ -45,28 +45,15 @@ suffix_len-front test d front rest h =
     ∙ ap (λ (r : List ℕ). prefix_len test (reverse rest ++ r)) (reverse-append front (d ∷ []))
     ∙ prefix_len-stop test d (reverse rest) (reverse front) h
 
-suffix_len-≤ : (test : ℕ → Bool) (xs : List ℕ) → suffix_len test xs ≤ length xs
-suffix_len-≤ test xs = let long = length-reverse xs in let le = go (reverse xs) in omega arith
-  where
-    go : (ys : List ℕ) → prefix_len test ys ≤ length ys
-    go [] = omega arith
-    go (y ∷ ys) = let h = go ys in elim (test y) as (λ v. cond v (1 + prefix_len test ys) 0 ≤ suc (length ys)) [ true ↦ omega arith | false ↦ omega arith ]
-
-take-front : (front rest : List ℕ) (n : ℕ) → take (length front + n) (front ++ rest) ≡ front ++ take n rest
-take-front [] rest n = ap (λ (k : ℕ). take k rest) {x = 0 + n} {y = n} (omega arith)
-take-front (x ∷ front) rest n =
-    let e : suc (length front) + n ≡ suc (length front + n) = omega arith in
-    ap (λ (k : ℕ). take k (x ∷ (front ++ rest))) e ∙ ap (λ (r : List ℕ). x ∷ r) (take-front front rest n)
-
 trimmed-front : (test : ℕ → Bool) (d : ℕ) (front rest : List ℕ) → test d ≡ false
     → trimmed_at_end test (front ++ d ∷ rest) ≡ front ++ d ∷ trimmed_at_end test rest
 trimmed-front test d front rest h =
     let n : ℕ = length rest - suffix_len test rest in
     let blanks = suffix_len-front test d front rest h in
     let long = length-append front (d ∷ rest) in
-    let le = suffix_len-≤ test rest in
+    let le = suffix_len-le-length test rest in
     let e : length (front ++ d ∷ rest) - suffix_len test (front ++ d ∷ rest) ≡ length front + suc n = omega arith in
-    ap (λ (k : ℕ). take k (front ++ d ∷ rest)) e ∙ take-front front (d ∷ rest) (suc n)
+    ap (λ (k : ℕ). take k (front ++ d ∷ rest)) e ∙ take-append-add front (d ∷ rest) (suc n)
 
 -- the bytes of a line that begins so
 module _ (d : ℕ) (front bytes : List ℕ) (no_blank : is_blank d ≡ false) (no_cr : (d == 13) ≡ false) (no_sign : (d == 61) ≡ false)
@@ -220,15 +207,8 @@ first_escape-take (x ∷ y ∷ z ∷ xs) (suc (suc (suc n))) h = h
 drop-of-take : (k n : ℕ) (xs : List ℕ) → drop k (take n xs) ≡ take (n - k) (drop k xs)
 drop-of-take k n xs = elim (cases_lt k n) [
   | inl lt ↦ ap (λ (m : ℕ). drop k (take m xs)) {x = n} {y = k + (n - k)} (omega arith) ∙ drop-take k (n - k) xs
-  | inr ge ↦ drop-past k n xs (omega arith) ∙ ap (λ (m : ℕ). take m (drop k xs)) {x = 0} {y = n - k} (omega arith)
+  | inr ge ↦ drop_all k (take n xs) (omega (arith, ge, length-take n xs)) ∙ ap (λ (m : ℕ). take m (drop k xs)) {x = 0} {y = n - k} (omega arith)
 ]
-  where
-    drop-past : (k n : ℕ) (xs : List ℕ) → n ≤ k → drop k (take n xs) ≡ []
-    drop-past zero zero xs h = refl
-    drop-past zero (suc n) xs h = absurd (omega arith)
-    drop-past (suc k) zero xs h = refl
-    drop-past (suc k) (suc n) [] h = refl
-    drop-past (suc k) (suc n) (x ∷ xs) h = drop-past k n xs (omega arith)
 
 pub no_escape-take : (xs : List ℕ) (n : ℕ) → HasNoEscape xs → HasNoEscape (take n xs)
 no_escape-take xs n none k = ap first_escape (drop-of-take k n xs) ∙ first_escape-take (drop k xs) (n - k) (none k)
@@ -412,11 +392,31 @@ pub record Reading (text : List ℕ) (from : ℕ) (output : List ℕ) (len plain
   pub copied : take (at - plain) (drop len output) ≡ take (at - plain) (drop plain text)
   pub marks : IsPlain text plain at
 
+-- a line end or an escape was the last that was read
+fresh : (text : List ℕ) (from : ℕ) (output : List ℕ) (len at : ℕ) → at ≤ length text → from + len ≤ at → len ≤ length output
+    → take len output ++ quoted_printable (drop at text) ≡ quoted_printable (drop from text) → Reading text from output len at at
+fresh text from output len at within after room so_far = record {
+  within = within;
+  start = omega arith;
+  after = after;
+  room = omega arith;
+  so_far = so_far;
+  copied = ap (λ (k : ℕ). take k (drop len output)) {x = at - at} {y = 0} (omega arith) ∙ sym (ap (λ (k : ℕ). take k (drop at text)) {x = at - at} {y = 0} (omega arith));
+  marks = plain-empty text at;
+}
+
 -- a part that is written at a place and goes to the end
 abbrev pub with_part : ℕ → List ℕ → List ℕ → List ℕ
 with_part place output part = put_mid place (length output - place) output part
 
-pub length-with_part : (place : ℕ) (output part : List ℕ) → place ≤ length output → length part ≡ length (take (length output - place) (drop place output))
+-- as many bytes as there is room for from a place on
+abbrev pub room_from : ℕ → List ℕ → List ℕ
+room_from place output = take (length output - place) (drop place output)
+
+length-room_from : (place : ℕ) (output : List ℕ) → length (room_from place output) ≡ length output - place
+length-room_from place output = ap length (take_rest output place) ∙ length-drop place output
+
+length-with_part : (place : ℕ) (output part : List ℕ) → place ≤ length output → length part ≡ length (room_from place output)
     → length (with_part place output part) ≡ length output
 length-with_part place output part fits same =
     let k = length output - place in
@@ -431,9 +431,22 @@ length-with_part place output part fits same =
       length-drop place output,
     )
 
+-- a run was copied, and the text ends with it, or a mark follows
+pub record Ran (text : List ℕ) (from : ℕ) (output : List ℕ) (len plain at most run : ℕ) (part : List ℕ) : Type 0 where
+  pub reading : Reading text from (with_part (len + (at - plain)) output part) len plain (at + run)
+  pub marked : ((at + run ≡ at + most) × (length text ≤ at + most)) ⊎ (at + run ≢ at + most) → at + run ≢ length text
+      → (len + (at + run - plain) < length (with_part (len + (at - plain)) output part)) × (at + run < length text) × (get_or text (at + run) 0 ≢ 10 → get_or text (at + run) 0 ≡ 61)
+
 module _ (text : List ℕ) (from : ℕ) (output : List ℕ) (len plain at : ℕ) (h : Reading text from output len plain at) where
   abbrev place : ℕ
   place = len + (at - plain)
+
+  -- what has been copied
+  abbrev copy : List ℕ
+  copy = take (at - plain) (drop plain text)
+
+  length-copy : length copy ≡ at - plain
+  length-copy = let within = h.within in length-take-le (at - plain) (drop plain text) (omega (arith, length-drop plain text))
 
   -- more bytes without a mark, or with one that stays
   extended : (run : ℕ) (ys : List ℕ) → at + run ≤ length text → len + (at + run - plain) ≤ length ys
@@ -441,7 +454,7 @@ module _ (text : List ℕ) (from : ℕ) (output : List ℕ) (len plain at : ℕ)
   extended run ys within room is more =
       let n = at - plain in
       let start = h.start in
-      let both = copied_more len n run output ys (take n (drop plain text)) (take run (drop at text)) h.room h.copied is in
+      let both = copied_more len n run output ys copy (take run (drop at text)) h.room h.copied is in
       let e : at + run - plain ≡ n + run = omega arith in
       record {
         within = within;
@@ -452,115 +465,104 @@ module _ (text : List ℕ) (from : ℕ) (output : List ℕ) (len plain at : ℕ)
         copied =
             ap (λ (k : ℕ). take k (drop len ys)) e
             ∙ both.1
-            ∙ ap (λ (r : List ℕ). take n (drop plain text) ++ take run r) (ap (λ (k : ℕ). drop k text) {x = at} {y = plain + n} (omega arith) ∙ sym (drop-drop n plain text))
+            ∙ ap (λ (r : List ℕ). copy ++ take run r) (ap (λ (k : ℕ). drop k text) {x = at} {y = plain + n} (omega arith) ∙ sym (drop-drop n plain text))
             ∙ sym (take-add n run (drop plain text))
             ∙ ap (λ (k : ℕ). take k (drop plain text)) (sym e);
         marks = plain-joined text plain at (at + run) h.marks more;
       }
 
-  module _ (run : ℕ) (part : List ℕ) (fits : place + run ≤ length output) (same : length part ≡ length (take (length output - place) (drop place output)))
-      (long : length (with_part place output part) ≡ length output) where
+  module _ (n : ℕ) (part : List ℕ) (same : length part ≡ length (room_from place output)) where
+    full : length (with_part place output part) ≡ length output
+    full = length-with_part place output part h.room same
+
     -- a run is copied
-    pub after_run : (m : ℕ) → at + m ≤ length text → run ≤ length (take m (drop at text)) → run ≡ first_place (begins is_mark) (take m (drop at text))
-        → take run part ≡ take run (take m (drop at text)) → Reading text from (with_part place output part) len plain (at + run)
-    after_run m within few first copy =
+    pub after_run : (most : ℕ) → most ≡ min (length text - at) (length output - place) → n ≤ length (take (at + most - at) (drop at text))
+        → n ≡ first_place (begins is_mark) (take (at + most - at) (drop at text)) → take n part ≡ take n (take (at + most - at) (drop at text))
+        → Ran text from output len plain at most n part
+    after_run most most_is few first copied =
+        let m = at + most - at in
         let short = length-take m (drop at text) in
+        let rest = length-drop at text in
+        let inside = h.within in
         let start = h.start in
-        extended run (with_part place output part) (omega arith) (omega arith)
-        (written_rest place run output part fits same (take run (drop at text)) (copy ∙ take-take run m (drop at text) (omega arith)))
-        (plain-run text at m run first)
+        let room = h.room in
+        let fits : place + n ≤ length output = omega arith in
+        record {
+          reading = extended n (with_part place output part) (omega arith) (omega (arith, full))
+              (written_rest place n output part fits same (take n (drop at text)) (copied ∙ take-take n m (drop at text) (omega arith)))
+              (plain-run text at m n first);
+          marked = λ not_full not_all.
+              let lt : n < length (take m (drop at text)) = elim not_full [
+                | inl full ↦ absurd (omega (arith, full.0, full.1, not_all))
+                | inr other ↦ omega (arith, other)
+              ] in
+              (omega (arith, full), omega arith, mark_there text at m n first lt);
+        }
 
     -- escapes are read
-    pub after_escapes : 0 < run → (first_escape (drop at text) ≡ None → ⊥) → at + 3 * run ≤ length text
-        → take run part ++ quoted_printable (drop (at + 3 * run) text) ≡ quoted_printable (drop at text)
-        → Reading text from (with_part place output part) (place + run) (at + 3 * run) (at + 3 * run)
-    after_escapes some escape within read =
-        let next : List ℕ = quoted_printable (drop (at + 3 * run) text) in
-        let piece : List ℕ = take (at - plain) (drop plain text) in
+    pub after_escapes : n ≤ length (room_from place output) → n ≢ 0 → ((n ≡ 0) ↔ (first_escape (drop at text) ≡ None)) → at + 3 * n ≤ length text
+        → take n part ++ quoted_printable (drop (at + 3 * n) text) ≡ quoted_printable (drop at text)
+        → Reading text from (with_part place output part) (place + n) (at + 3 * n) (at + 3 * n)
+    after_escapes few some first within read =
+        let next : List ℕ = quoted_printable (drop (at + 3 * n) text) in
         let after = h.after in
         let start = h.start in
-        record {
-          within = within;
-          start = omega arith;
-          after = omega arith;
-          room = omega arith;
-          so_far =
-              ap (λ (r : List ℕ). r ++ next) (written_rest place run output part fits same (take run part) refl)
-              ∙ append_assoc (take place output) (take run part) next
-              ∙ ap (λ (r : List ℕ). take place output ++ r) read
-              ∙ ap (λ (r : List ℕ). r ++ quoted_printable (drop at text)) (take-add len (at - plain) output ∙ ap (λ (r : List ℕ). take len output ++ r) h.copied)
-              ∙ append_assoc (take len output) piece (quoted_printable (drop at text))
-              ∙ ap (λ (r : List ℕ). take len output ++ r) (sym (before text plain at h.start h.within h.marks escape))
-              ∙ h.so_far;
-          copied = zero_taken (at + 3 * run) (place + run) (with_part place output part);
-          marks = plain-empty text (at + 3 * run);
-        }
-      where
-        zero_taken : (j k : ℕ) (ys : List ℕ) → take (j - j) (drop k ys) ≡ take (j - j) (drop j text)
-        zero_taken j k ys = ap (λ (n : ℕ). take n (drop k ys)) {x = j - j} {y = 0} (omega arith) ∙ sym (ap (λ (n : ℕ). take n (drop j text)) {x = j - j} {y = 0} (omega arith))
+        let fits : place + n ≤ length output = omega (arith, few, length-room_from place output, h.room, some) in
+        fresh text from (with_part place output part) (place + n) (at + 3 * n) within (omega arith) (omega (arith, full))
+        (ap (λ (r : List ℕ). r ++ next) (written_rest place n output part fits same (take n part) refl)
+        ∙ append_assoc (take place output) (take n part) next
+        ∙ ap (λ (r : List ℕ). take place output ++ r) read
+        ∙ ap (λ (r : List ℕ). r ++ quoted_printable (drop at text)) (take-add len (at - plain) output ∙ ap (λ (r : List ℕ). take len output ++ r) h.copied)
+        ∙ append_assoc (take len output) copy (quoted_printable (drop at text))
+        ∙ ap (λ (r : List ℕ). take len output ++ r) (sym (before text plain at h.start h.within h.marks (λ none. some (first.1 none))))
+        ∙ h.so_far)
 
   -- a `=` that begins no escape stays
-  pub after_sign : (ys : List ℕ) → length ys ≡ length output → place < length output → at < length text → take (place + 1) ys ≡ take place output ++ 61 ∷ []
-      → get_or text at 0 ≡ 61 → first_escape (drop at text) ≡ None → Reading text from ys len plain (at + 1)
-  after_sign ys long fits lt is sign none =
+  pub after_sign : (part : List ℕ) → length part ≡ length (room_from place output) → place < length output → at < length text
+      → get_or text at 0 ≡ 61 → first_escape (drop at text) ≡ None → Reading text from (slice_set (with_part place output part) place 61) len plain (at + 1)
+  after_sign part same fits lt sign none =
+      let ys = with_part place output part in
       let start = h.start in
-      extended 1 ys (omega arith) (omega arith)
-      (is ∙ ap (λ (r : List ℕ). take place output ++ r) (sym (ap (take 1) (drop_more text at 0 lt) ∙ ap (λ (b : ℕ). b ∷ take 0 (drop (at + 1) text)) sign)))
+      let front : take place ys ≡ take place output =
+      ap (λ (k : ℕ). take k ys) {x = place} {y = place + 0} (omega arith) ∙ written_rest place 0 output part (omega arith) same [] refl ∙ append-nil (take place output) in
+      let room : place < length ys = omega (arith, fits, full 0 part same) in
+      extended 1 (slice_set ys place 61) (omega arith) (omega (arith, room, length-set ys place 61))
+      (take_more_set ys place 61 room
+      ∙ ap (λ (r : List ℕ). r ++ 61 ∷ []) front
+      ∙ ap (λ (r : List ℕ). take place output ++ r) (sym (ap (take 1) (drop_more text at 0 lt) ∙ ap (λ (b : ℕ). b ∷ take 0 (drop (at + 1) text)) sign)))
       (plain-sign text at sign none)
 
-  -- the same where the bytes so far stay
-  pub kept : (ys : List ℕ) → length ys ≡ length output → take place ys ≡ take place output → Reading text from ys len plain at
-  kept ys long same =
-      let n = at - plain in
-      let both = copied_more len n 0 output ys (take n (drop len output)) [] h.room refl (ap (λ (k : ℕ). take k ys) {x = place + 0} {y = place} (omega arith) ∙ same ∙ sym (append-nil (take place output))) in
-      record {
-        within = h.within;
-        start = h.start;
-        after = h.after;
-        room = let room = h.room in omega arith;
-        so_far = ap (λ (r : List ℕ). r ++ quoted_printable (drop plain text)) both.0 ∙ h.so_far;
-        copied = ap (λ (k : ℕ). take k (drop len ys)) {x = n} {y = n + 0} (omega arith) ∙ both.1 ∙ append-nil (take n (drop len output)) ∙ h.copied;
-        marks = h.marks;
-      }
-
-  module _ (n : ℕ) (part : List ℕ) (fits : len + n ≤ length output) (same : length part ≡ length (take (length output - len) (drop len output))) where
+  module _ (n : ℕ) (part : List ℕ) (same : length part ≡ length (room_from len output)) where
     -- a line ends
-    pub after_line : (long : length (with_part len output part) ≡ length output) → at < length text → get_or text at 0 ≡ 10 → n ≤ at - plain + 1
-        → take n part ≡ line_bytes (ended_line (take (at - plain) (drop plain text)))
+    pub after_line : place < length output → at < length text → get_or text at 0 ≡ 10 → n ≤ length copy + 1 → take n part ≡ line_bytes (ended_line copy)
         → Reading text from (with_part len output part) (len + n) (at + 1) (at + 1)
-    after_line long lt lf_there few is =
+    after_line room lt lf_there few is =
         let after = h.after in
         let start = h.start in
-        record {
-          within = omega arith;
-          start = omega arith;
-          after = omega arith;
-          room = omega arith;
-          so_far =
-              sym (line_read text (take len output) plain at (omega arith) (line_end text plain at h.start h.within h.marks (λ _. lf_there))
-              (take (len + n) (with_part len output part)) lt (written_rest len n output part fits same _ is))
-              ∙ h.so_far;
-          copied = ap (λ (k : ℕ). take k (drop (len + n) (with_part len output part))) {x = at + 1 - (at + 1)} {y = 0} (omega arith) ∙ sym (ap (λ (k : ℕ). take k (drop (at + 1) text)) {x = at + 1 - (at + 1)} {y = 0} (omega arith));
-          marks = plain-empty text (at + 1);
-        }
+        let fits : len + n ≤ length output = omega (arith, length-copy, room, few) in
+        fresh text from (with_part len output part) (len + n) (at + 1) (omega arith) (omega (arith, length-copy, few))
+        (omega (arith, fits, length-with_part len output part (omega arith) same))
+        (sym (line_read text (take len output) plain at (omega arith) (line_end text plain at h.start h.within h.marks (λ _. lf_there))
+        (take (len + n) (with_part len output part)) lt (written_rest len n output part fits same _ is))
+        ∙ h.so_far)
 
     -- the text ends
-    pub after_all : at ≡ length text → take n part ≡ line_bytes (record { content = take (at - plain) (drop plain text); ending = [] })
+    pub after_all : n ≤ length copy + 0 → at ≡ length text → take n part ≡ line_bytes (record { content = copy; ending = [] })
         → take (len + n) (with_part len output part) ++ quoted_printable (drop at text) ≡ quoted_printable (drop from text)
-    after_all end is =
+    after_all few end is =
         let start = h.start in
+        let fits : len + n ≤ length output = omega (arith, length-copy, h.room, few) in
         nothing_left text (take (len + n) (with_part len output part)) at (omega arith)
         ∙ sym (line_last text (take len output) plain at (omega arith) (line_end text plain at h.start h.within h.marks (λ lt. absurd (omega arith)))
         (take (len + n) (with_part len output part)) end (written_rest len n output part fits same _ is))
         ∙ h.so_far
 
-  -- what has been copied, as a part of what is written
-  pub sliced : take (length (take (at - plain) (drop plain text))) (take (length output - len) (drop len output)) ≡ take (at - plain) (drop plain text)
-  sliced =
-      let room = h.room in
-      let within = h.within in
-      let start = h.start in
-      let long = length-take-le (at - plain) (drop plain text) (omega (arith, length-drop plain text)) in
-      take-take (length (take (at - plain) (drop plain text))) (length output - len) (drop len output) (omega arith)
-      ∙ ap (λ (k : ℕ). take k (drop len output)) long
+  -- no escape begins in what has been copied, and it is a part of what is written
+  pub copy-no_escape : HasNoEscape copy
+  copy-no_escape = piece-no_escape text plain at h.start h.within h.marks
+
+  pub copy-written : take (length copy) (room_from len output) ≡ copy
+  copy-written =
+      take-take (length copy) (length output - len) (drop len output) (omega (arith, length-copy, h.room))
+      ∙ ap (λ (k : ℕ). take k (drop len output)) length-copy
       ∙ h.copied
