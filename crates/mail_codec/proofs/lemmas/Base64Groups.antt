@@ -89,18 +89,22 @@ pub groups_from-nil : (n : ℕ) → groups_from n [] ≡ Ok []
 unfolding groups_from
 groups_from-nil n = refl
 
--- the four items at a place, and what follows them
-pub drop_four : (at : ℕ) (xs : List ℕ) → at + 4 ≤ length xs
-    → drop at xs ≡ slice_index xs at ∷ slice_index xs (at + 1) ∷ slice_index xs (at + 2) ∷ slice_index xs (at + 3) ∷ drop (at + 4) xs
-drop_four at xs h =
+-- the items at a place, and what follows them
+pub drop_three : (at : ℕ) (xs : List ℕ) → at + 3 ≤ length xs → drop at xs ≡ slice_index xs at ∷ slice_index xs (at + 1) ∷ slice_index xs (at + 2) ∷ drop (at + 3) xs
+drop_three at xs h =
     let a : drop at xs ≡ slice_index xs at ∷ drop (at + 1) xs = drop_more xs at 0 (omega arith) in
     let b : drop (at + 1) xs ≡ slice_index xs (at + 1) ∷ drop (at + 1 + 1) xs = drop_more xs (at + 1) 0 (omega arith) in
     let c : drop (at + 1 + 1) xs ≡ slice_index xs (at + 1 + 1) ∷ drop (at + 1 + 1 + 1) xs = drop_more xs (at + 1 + 1) 0 (omega arith) in
-    let d : drop (at + 1 + 1 + 1) xs ≡ slice_index xs (at + 1 + 1 + 1) ∷ drop (at + 1 + 1 + 1 + 1) xs = drop_more xs (at + 1 + 1 + 1) 0 (omega arith) in
     let two : at + 1 + 1 ≡ at + 2 = omega arith in
     let three : at + 1 + 1 + 1 ≡ at + 3 = omega arith in
-    let four : at + 1 + 1 + 1 + 1 ≡ at + 4 = omega arith in
-    rw (a, b, c, d, four, three, two) refl
+    rw (a, b, c, three, two) refl
+
+pub drop_four : (at : ℕ) (xs : List ℕ) → at + 4 ≤ length xs
+    → drop at xs ≡ slice_index xs at ∷ slice_index xs (at + 1) ∷ slice_index xs (at + 2) ∷ slice_index xs (at + 3) ∷ drop (at + 4) xs
+drop_four at xs h =
+    drop_three at xs (omega arith)
+    ∙ ap (λ (r : List ℕ). slice_index xs at ∷ slice_index xs (at + 1) ∷ slice_index xs (at + 2) ∷ r)
+    (drop_more xs (at + 3) 0 (omega arith) ∙ ap (λ (k : ℕ). slice_index xs (at + 3) ∷ drop k xs) {x = at + 3 + 1} {y = at + 4} (omega arith))
 
 -- the group at a place, and what follows it
 pub groups_from-drop : (n at : ℕ) (xs : List ℕ) → at + 4 ≤ length xs

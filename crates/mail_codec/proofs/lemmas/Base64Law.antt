@@ -148,14 +148,8 @@ IsFault letters n = (4 * n < length letters)
     × ((k : ℕ) → k < n → (bytes : List ℕ) × IsGroup (group_at letters k) bytes)
 
 -- what has not four bytes is no group
-no_one : (p : ℕ) (bytes : List ℕ) → IsGroup (p ∷ []) bytes → ⊥
-no_one p bytes h = cc ((IsGroup-bytes (p ∷ []) bytes h).4)
-
-no_two : (p q : ℕ) (bytes : List ℕ) → IsGroup (p ∷ q ∷ []) bytes → ⊥
-no_two p q bytes h = cc ((IsGroup-bytes (p ∷ q ∷ []) bytes h).4)
-
-no_three : (p q r : ℕ) (bytes : List ℕ) → IsGroup (p ∷ q ∷ r ∷ []) bytes → ⊥
-no_three p q r bytes h = cc ((IsGroup-bytes (p ∷ q ∷ r ∷ []) bytes h).4)
+no_short : (group bytes : List ℕ) → length group < 4 → IsGroup group bytes → ⊥
+no_short group bytes short h = absurd (omega (arith, short, ap length (IsGroup-bytes group bytes h).4))
 
 no_four : (p q r s : ℕ) (bytes : List ℕ) → group_bytes p q r s ≡ None → IsGroup (p ∷ q ∷ r ∷ s ∷ []) bytes → ⊥
 no_four p q r s bytes none h =
@@ -200,9 +194,9 @@ same_end n m h =
 fault_is : (n m : ℕ) (text : List ℕ) → groups_from n text ≡ Err m → (j : ℕ) × (m ≡ n + j) × IsFault text j
 unfolding groups_from
 fault_is n m [] h = cc h
-fault_is n m (p ∷ []) h = (0, same_end n m h, (omega arith, λ b is. no_one p b is, λ k lt. absurd (omega arith)))
-fault_is n m (p ∷ q ∷ []) h = (0, same_end n m h, (omega arith, λ b is. no_two p q b is, λ k lt. absurd (omega arith)))
-fault_is n m (p ∷ q ∷ r ∷ []) h = (0, same_end n m h, (omega arith, λ b is. no_three p q r b is, λ k lt. absurd (omega arith)))
+fault_is n m (p ∷ []) h = (0, same_end n m h, (omega arith, λ b. no_short (p ∷ []) b (omega arith), λ k lt. absurd (omega arith)))
+fault_is n m (p ∷ q ∷ []) h = (0, same_end n m h, (omega arith, λ b. no_short (p ∷ q ∷ []) b (omega arith), λ k lt. absurd (omega arith)))
+fault_is n m (p ∷ q ∷ r ∷ []) h = (0, same_end n m h, (omega arith, λ b. no_short (p ∷ q ∷ r ∷ []) b (omega arith), λ k lt. absurd (omega arith)))
 fault_is n m (p ∷ q ∷ r ∷ s ∷ text) h = elim (option_cases (group_bytes p q r s)) [
   | inl none ↦
       let e : Err n ≡ Err m = rw none at h in

@@ -11,18 +11,14 @@ use Rattle.mail_codec.specs.declared.bytescan.runs.RunEnd.{RunEnd}
 use Rattle.mail_codec.proofs.lemmas.Base64Groups.{groups_from-append, prepend-prepend, without_ends-append}
 use Rattle.mail_codec.proofs.lemmas.Base64Steps.{groups_end}
 
--- ---- bytes that are kept, and bytes that are absent
+-- ---- bytes that are kept
 
-pub byte_passed : (absent : RunEnd) (text : List ℕ) (at : ℕ) → at < length text → ends_run absent (get_or text at 0) ≡ true
-    → without_ends absent (drop at text) ≡ without_ends absent (drop (at + 1) text)
-byte_passed absent text at h e = rw (drop_more text at 0 h, e) refl
-
-pub byte_kept : (absent : RunEnd) (text : List ℕ) (at : ℕ) → at < length text → ends_run absent (get_or text at 0) ≡ false
+byte_kept : (absent : RunEnd) (text : List ℕ) (at : ℕ) → at < length text → ends_run absent (get_or text at 0) ≡ false
     → without_ends absent (drop at text) ≡ get_or text at 0 ∷ without_ends absent (drop (at + 1) text)
 byte_kept absent text at h e = rw (drop_more text at 0 h, e) refl
 
 -- letters are kept
-pub letters_kept : (absent : RunEnd) → KeepsLetters absent → (m : ℕ) (xs : List ℕ) → m ≤ prefix_len is_letter xs → without_ends absent (take m xs) ≡ take m xs
+letters_kept : (absent : RunEnd) → KeepsLetters absent → (m : ℕ) (xs : List ℕ) → m ≤ prefix_len is_letter xs → without_ends absent (take m xs) ≡ take m xs
 letters_kept absent keeps zero xs h = refl
 letters_kept absent keeps (suc m) [] h = refl
 letters_kept absent keeps (suc m) (x ∷ xs) h = go (is_letter x) refl h (letters_kept absent keeps m xs)
@@ -106,7 +102,7 @@ module _ (absent : RunEnd) (text whole : List ℕ) where
   ReadTo bytes count at = (n : ℕ) → groups_from n whole ≡ prepend bytes (groups_from (n + count) (without_ends absent (drop at text)))
 
   -- more groups
-  pub read_more : (xs old new : List ℕ) (count at k next : ℕ) → ReadTo old count at
+  read_more : (xs old new : List ℕ) (count at k next : ℕ) → ReadTo old count at
       → without_ends absent (drop at text) ≡ xs ++ without_ends absent (drop next text) → length xs ≡ 4 * k → ((n : ℕ) → groups_from n xs ≡ Ok new)
       → ReadTo (old ++ new) (count + k) next
   read_more xs old new count at k next so_far split len read n =
@@ -125,21 +121,21 @@ module _ (absent : RunEnd) (text whole : List ℕ) where
       ∙ sym (take-add (3 * count) (3 * k) new)
       ∙ ap (λ m. take m new) {x = 3 * count + 3 * k} {y = 3 * (count + k)} (omega arith)
 
-  -- a block of letters
-  pub block_read : KeepsLetters absent → (old new : List ℕ) (count at k : ℕ) → ReadTo (take (3 * count) old) count at
-      → at + 4 * k ≤ length text → 4 * k ≤ prefix_len is_letter (drop at text) → take (3 * count) new ≡ take (3 * count) old
-      → ((n : ℕ) → groups_from n (take (4 * k) (drop at text)) ≡ Ok (take (3 * k) (drop (3 * count) new)))
-      → (count' at' : ℕ) → count' ≡ count + k → at' ≡ at + 4 * k → ReadTo (take (3 * count') new) count' at'
-  block_read keeps old new count at k so_far within letters kept read count' at' count_is at_is n =
+  -- k groups of a block of letters
+  pub block_read : KeepsLetters absent → (old new : List ℕ) (count at len : ℕ) → ReadTo (take (3 * count) old) count at
+      → at + len ≤ length text → len ≤ prefix_len is_letter (drop at text) → take (3 * count) new ≡ take (3 * count) old
+      → ((k n : ℕ) → 4 * k ≤ len → groups_from n (take (4 * k) (drop at text)) ≡ Ok (take (3 * k) (drop (3 * count) new)))
+      → (k : ℕ) → 4 * k ≤ len → (count' at' : ℕ) → count' ≡ count + k → at' ≡ at + 4 * k → ReadTo (take (3 * count') new) count' at'
+  block_read keeps old new count at len so_far within letters kept read k few count' at' count_is at_is n =
       let xs = take (4 * k) (drop at text) in
       let following : drop (4 * k) (drop at text) ≡ drop at' text = drop-drop (4 * k) at text ∙ ap (λ i. drop i text) (omega (arith, at_is)) in
       let split : without_ends absent (drop at text) ≡ xs ++ without_ends absent (drop at' text) =
       ap (without_ends absent) (sym (take-append-drop (4 * k) (drop at text)))
       ∙ without_ends-append absent xs (drop (4 * k) (drop at text))
-      ∙ ap (λ r. r ++ without_ends absent (drop (4 * k) (drop at text))) (letters_kept absent keeps (4 * k) (drop at text) letters)
+      ∙ ap (λ r. r ++ without_ends absent (drop (4 * k) (drop at text))) (letters_kept absent keeps (4 * k) (drop at text) (omega (arith, few, letters)))
       ∙ ap (λ r. xs ++ without_ends absent r) following in
-      let len : length xs ≡ 4 * k = length-take-le (4 * k) (drop at text) (omega (arith, length-drop at text)) in
-      read_more xs (take (3 * count) old) (take (3 * k) (drop (3 * count) new)) count at k at' so_far split len read n
+      let long : length xs ≡ 4 * k = length-take-le (4 * k) (drop at text) (omega (arith, few, within, length-drop at text)) in
+      read_more xs (take (3 * count) old) (take (3 * k) (drop (3 * count) new)) count at k at' so_far split long (λ m. read k m few) n
       ∙ ap (λ bs. prepend bs (groups_from (n + (count + k)) (without_ends absent (drop at' text)))) (written_more old new count k kept)
       ∙ ap (λ c. prepend (take (3 * c) new) (groups_from (n + c) (without_ends absent (drop at' text)))) (sym count_is)
 

@@ -1,7 +1,7 @@
 -- Blocks of four vectors, whose masks are put together.
-use Rattle.std.proofs.Common.{◌≡◌, ℕ, zero, suc, ◌+◌, ◌≤◌, Bool, true, false, cond, ◌==◌, bit_or, List, [], ◌∷◌, length, take, drop, inl, inr, refl, sym, ap, ◌∙◌, arith}
+use Rattle.std.proofs.Common.{◌≡◌, ℕ, zero, suc, ◌+◌, ◌-◌, ◌≤◌, Bool, true, false, cond, ◌==◌, bit_or, List, [], ◌∷◌, length, take, drop, inl, inr, refl, sym, ap, ◌∙◌, arith}
 use Rattle.std.proofs.lemmas.Bool.{cases_eq, ne_eqb, cases_lt}
-use Rattle.std.proofs.lemmas.List.{length-drop, length-take-le, drop-drop, take-take}
+use Rattle.std.proofs.lemmas.List.{length-drop, length-take-le, drop-drop, drop-take, take-take}
 use Rattle.mail_codec.specs.Places.{first_place, begins}
 use Rattle.mail_codec.specs.private.Vectors.{lane_mask}
 use Rattle.mail_codec.proofs.lemmas.Places.{PassedTo, first_place-≤}
@@ -20,10 +20,10 @@ free_mask test (b ∷ v) e = go (test b) refl e (free_mask test v)
 
 -- a part of a list from a place on lies within a longer one
 inside : (k m n : ℕ) (xs : List ℕ) → k + m ≤ n → take m (drop k (take n xs)) ≡ take m (drop k xs)
-inside zero m n xs h = take-take m n xs (omega arith)
-inside (suc k) m zero xs h = absurd (omega arith)
-inside (suc k) m (suc n) [] h = refl
-inside (suc k) m (suc n) (x ∷ xs) h = inside k m n xs (omega arith)
+inside k m n xs h =
+    ap (λ (j : ℕ). take m (drop k (take j xs))) {x = n} {y = k + (n - k)} (omega arith)
+    ∙ ap (take m) (drop-take k (n - k) xs)
+    ∙ take-take m (n - k) (drop k xs) (omega arith)
 
 -- ---- four vectors
 
@@ -39,7 +39,7 @@ module _ (test : ℕ → Bool) (bytes : List ℕ) (at : ℕ) (fits : at + 64 ≤
   vector k = take 16 (drop (at + k) bytes)
 
   there : (k : ℕ) → k + 16 ≤ 64 → vector k ≡ take 16 (drop k block)
-  there k h = ap (take 16) (ap (λ (j : ℕ). drop j bytes) {x = at + k} {y = at + k} refl ∙ sym (drop-drop k at bytes)) ∙ sym (inside k 16 64 (drop at bytes) h)
+  there k h = ap (take 16) (sym (drop-drop k at bytes)) ∙ sym (inside k 16 64 (drop at bytes) h)
 
   wide : (k : ℕ) → k + 16 ≤ 64 → length (vector k) ≡ 16
   wide k h = length-take-le 16 (drop (at + k) bytes) (omega (arith, length-drop (at + k) bytes, fits))

@@ -1,5 +1,5 @@
 -- Texts in which each byte is one character: the tables, ASCII, and texts in pieces.
-use Rattle.std.proofs.Common.{◌≡◌, ℕ, ◌+◌, ◌-◌, ◌<◌, ◌≤◌, Bool, true, false, leb-false, List, [], ◌∷◌, ◌++◌, map, take, drop, length, get_or, IsAscii, refl, sym, ap, append-nil, take-append-drop, ◌∙◌, encode_utf8, encode_utf8_all, append_assoc, arith, suc-le-suc, Fits, w8, map-id, ap₂, zero, suc, ◌==◌, ◌&&◌}
+use Rattle.std.proofs.Common.{◌≡◌, ℕ, ◌+◌, ◌-◌, ◌<◌, ◌≤◌, Bool, true, false, leb-false, List, [], ◌∷◌, ◌++◌, map, take, drop, length, get_or, IsAscii, refl, sym, ap, subst, append-nil, take-append-drop, ◌∙◌, encode_utf8, encode_utf8_all, append_assoc, arith, suc-le-suc, Fits, w8, map-id, ap₂, zero, suc, ◌==◌, ◌&&◌}
 use Rattle.std.proofs.lemmas.Bool.Decides.{nat_tests, Decides-below_and, Decides-eqb}
 use Rattle.std.proofs.Math.Seq.{take-add}
 use Rattle.std.proofs.lemmas.Str.{IsAscii-append, encodes-IsAscii, encodes-append}
@@ -87,7 +87,7 @@ spelled_more high bs made character i below h one =
     rw (h, one, take_more bs i 0, spelled-append) (ap (λ x. spelled high (take i bs) ++ x) (sym (append-nil (encode_utf8 (single_byte_char high (get_or bs i 0))))))
 
 -- the bytes before the first high one are ASCII
-pub ascii_front : (v : List ℕ) → IsAscii (take (first_place (begins (λ b. nat_le 128 b)) v) v)
+ascii_front : (v : List ℕ) → IsAscii (take (first_place (begins (λ b. nat_le 128 b)) v) v)
 ascii_front [] = λ k. omega arith
 ascii_front (b ∷ v) = go (nat_le 128 b) refl (ascii_front v)
   where
@@ -95,10 +95,11 @@ ascii_front (b ∷ v) = go (nat_le 128 b) refl (ascii_front v)
     go true e rest = rw e (λ k. omega arith)
     go false e rest = rw e (elim [ zero ↦ leb-false 128 b e | suc k ↦ rest k ])
 
--- more ASCII bytes
-pub ascii_more : (bs : List ℕ) (at m : ℕ) → m ≤ 16 → IsAscii (take at bs) → IsAscii (take m (take 16 (drop at bs))) → IsAscii (take (at + m) bs)
-ascii_more bs at m few front more =
-    rw take-add (IsAscii-append (take at bs) (take m (drop at bs)) front (rw (take-take m 16 (drop at bs) few) at more))
+-- and so are those of a vector after others
+pub ascii_more : (bs : List ℕ) (at m : ℕ) → m ≡ first_place (begins (λ b. nat_le 128 b)) (take 16 (drop at bs)) → m ≤ 16 → IsAscii (take at bs) → IsAscii (take (at + m) bs)
+ascii_more bs at m is few front =
+    let low : IsAscii (take m (take 16 (drop at bs))) = subst (λ n. IsAscii (take n (take 16 (drop at bs)))) (sym is) (ascii_front (take 16 (drop at bs))) in
+    rw take-add (IsAscii-append (take at bs) (take m (drop at bs)) front (rw (take-take m 16 (drop at bs) few) at low))
 
 -- a run of ASCII bytes after what was spelled
 pub spelled_run : (high bs : List ℕ) (from run : ℕ) → IsAscii (take run (drop from bs)) → spelled high (take from bs) ++ take run (drop from bs) ≡ spelled high (take (from + run) bs)

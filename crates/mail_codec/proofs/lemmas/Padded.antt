@@ -1,5 +1,5 @@
 -- Padded groups filled up, read, and cut.
-use Rattle.std.proofs.Common.{◌≡◌, ℕ, zero, suc, ◌+◌, ◌*◌, ◌/◌, ◌%◌, ◌<◌, ◌≤◌, ◌==◌, List, [], ◌∷◌, ◌++◌, length, take, drop, slice_index, Option, Some, None, true, false, Ok, refl, sym, ap, ◌∙◌, arith, inl, inr}
+use Rattle.std.proofs.Common.{◌≡◌, ℕ, zero, suc, ◌+◌, ◌*◌, ◌/◌, ◌%◌, ◌<◌, ◌≤◌, ◌==◌, ◌&&◌, Bool, cond, List, [], ◌∷◌, ◌++◌, length, take, drop, slice_index, Option, Some, None, true, false, Ok, refl, sym, ap, ◌∙◌, arith, inl, inr}
 use Rattle.std.proofs.lemmas.Bool.{cases_Bool, eqb-true}
 use Rattle.std.proofs.lemmas.List.{append_assoc, drop_all, take-append-le, take-take, drop-append-le, length-append, append-nil, drop-drop}
 use Rattle.std.proofs.lemmas.List.Sums.{prefix_len_passes}
@@ -50,14 +50,14 @@ group_cut p q r s bytes h = elim (cases_Bool (s == padding)) [
   ]
 ]
 
+-- what holds where there is no padding, and where there is one or two, always does
+by_padding : (P : Bool → Bool → Type 0) → ((y : Bool) → P false y) → P true true → P true false → (x y : Bool) → P x y
+by_padding P none two one false y = none y
+by_padding P none two one true true = two
+by_padding P none two one true false = one
+
 group_len_few : (r s : ℕ) → group_len r s ≤ 3
-group_len_few r s = elim (cases_Bool (s == padding)) [
-  | inr whole ↦ rw whole (omega arith)
-  | inl short ↦ elim (cases_Bool (r == padding)) [
-    | inl both ↦ rw (short, both) (omega arith)
-    | inr one ↦ rw (short, one) (omega arith)
-  ]
-]
+group_len_few r s = by_padding (λ x y. cond (x && y) 1 (cond x 2 3) ≤ 3) (λ y. omega arith) (omega arith) (omega arith) (s == padding) (r == padding)
 
 -- a group is the first bytes of the four letters that it is filled up to
 pub group_bytes-filled : (p q r s : ℕ) → group_bytes p q r s
@@ -157,19 +157,10 @@ filled_len n (p ∷ q ∷ r ∷ s ∷ rest) bytes whole h =
 -- ---- the engine on groups that were filled up
 
 third_byte : (r s : ℕ) → r < 256 → third r s < 256
-third_byte r s h = elim (cases_Bool (s == padding)) [
-  | inr whole ↦ rw whole h
-  | inl short ↦ elim (cases_Bool (r == padding)) [
-    | inl both ↦ rw (short, both) (omega arith)
-    | inr one ↦ rw (short, one) h
-  ]
-]
+third_byte r s h = by_padding (λ x y. cond (x && y) zero_letter r < 256) (λ y. h) (omega arith) h (s == padding) (r == padding)
 
 fourth_byte : (s : ℕ) → s < 256 → fourth s < 256
-fourth_byte s h = elim (cases_Bool (s == padding)) [
-  | inr whole ↦ rw whole h
-  | inl short ↦ rw short (omega arith)
-]
+fourth_byte s h = elim (s == padding) as (λ x. cond x zero_letter s < 256) [ true ↦ omega arith | false ↦ h ]
 
 no_bytes : IsBytes []
 no_bytes i = omega arith

@@ -1,11 +1,11 @@
 -- Two bytes, one right after the other, in vectors.
-use Rattle.std.proofs.Common.{◌≡◌, ℕ, zero, suc, ◌+◌, ◌<◌, ◌≤◌, ◌^◌, ◌%◌, Bool, true, false, cond, ◌==◌, ◌&&◌, bit_and, List, [], ◌∷◌, map, length, take, drop, replicate, inl, inr, refl, sym, ap, ◌∙◌, arith}
+use Rattle.std.proofs.Common.{◌≡◌, ℕ, zero, suc, ◌+◌, ◌<◌, ◌≤◌, ◌≢◌, ◌^◌, ◌%◌, Bool, true, false, cond, ◌==◌, ◌&&◌, bit_and, List, [], ◌∷◌, map, length, take, drop, replicate, inl, inr, refl, sym, ap, ◌∙◌, arith}
 use Rattle.std.proofs.lemmas.Bool.{cases_eq, ne_eqb}
 use Rattle.std.proofs.lemmas.List.{drop-drop, length-drop, length-map, length-take-le}
 use Rattle.std.proofs.lemmas.Simd.{mask_l-mod, zip2_splat}
 use Rattle.mail_codec.specs.Places.{first_place, begins, stands}
 use Rattle.mail_codec.specs.private.Vectors.{is_set, lane_mask, pair_flags}
-use Rattle.mail_codec.proofs.lemmas.Places.{PassedTo, first_place-drop}
+use Rattle.mail_codec.proofs.lemmas.Places.{PassedTo, first_place-≤, first_place-drop}
 use lib.Lanes.{zip2, mask_l, top}
 
 -- ---- the mask of the flags
@@ -100,7 +100,7 @@ abbrev pub flags_at : ℕ → ℕ → List ℕ → ℕ → List ℕ
 flags_at a c bytes at = pair_flags a c (front bytes at) (front bytes (at + 1))
 
 flags_there : (a c : ℕ) (bytes : List ℕ) (at : ℕ) → flags_at a c bytes at ≡ flags a c 16 (drop at bytes)
-flags_there a c bytes at = ap (λ r. pair_flags a c (take 16 (drop at bytes)) (take 16 r)) (ap (λ j. drop j bytes) {x = at + 1} {y = at + 1} refl ∙ sym (drop-drop 1 at bytes))
+flags_there a c bytes at = ap (λ r. pair_flags a c (take 16 (drop at bytes)) (take 16 r)) (sym (drop-drop 1 at bytes))
 
 pub front_long : (bytes : List ℕ) (at : ℕ) → at + 16 ≤ length bytes → length (front bytes at) ≡ 16
 front_long bytes at h = length-take-le 16 (drop at bytes) (omega (arith, length-drop at bytes))
@@ -110,29 +110,9 @@ flags_len a c [] w h = refl
 flags_len a c (x ∷ v) [] h = absurd (omega arith)
 flags_len a c (x ∷ v) (y ∷ w) h = ap suc (flags_len a c v w (omega arith))
 
-pub flags_at_long : (a c : ℕ) (bytes : List ℕ) (at : ℕ) → at + 17 ≤ length bytes → length (flags_at a c bytes at) ≡ 16
+flags_at_long : (a c : ℕ) (bytes : List ℕ) (at : ℕ) → at + 17 ≤ length bytes → length (flags_at a c bytes at) ≡ 16
 flags_at_long a c bytes at h =
     flags_len a c (front bytes at) (front bytes (at + 1)) (front_long bytes at (omega arith) ∙ sym (front_long bytes (at + 1) (omega arith))) ∙ front_long bytes at (omega arith)
-
--- passes over sixteen places
-pub PassedTo-pairs : (a c : ℕ) (bytes : List ℕ) (answer at : ℕ) → PassedTo (stands (a ∷ c ∷ [])) bytes answer at → at + 17 ≤ length bytes
-    → first_place (begins is_set) (flags_at a c bytes at) ≡ 16 → PassedTo (stands (a ∷ c ∷ [])) bytes answer (at + 16)
-PassedTo-pairs a c bytes answer at h fits free =
-    let len = length-drop at bytes in
-    let on = free_flags a c 16 (drop at bytes) (omega arith) (sym (ap (first_place (begins is_set)) (flags_there a c bytes at)) ∙ free) in
-    let later = h.later in
-    let there = ap (first_place (stands (a ∷ c ∷ []))) (drop-drop 16 at bytes ∙ ap (λ j. drop j bytes) {x = at + 16} {y = at + 16} refl) in
-    record { within = omega arith; later = omega arith }
-
--- has found it among them
-pub PassedTo-pair : (a c : ℕ) (bytes : List ℕ) (answer at : ℕ) → PassedTo (stands (a ∷ c ∷ [])) bytes answer at → at + 17 ≤ length bytes
-    → first_place (begins is_set) (flags_at a c bytes at) < 16 → answer ≡ at + first_place (begins is_set) (flags_at a c bytes at)
-PassedTo-pair a c bytes answer at h fits found =
-    let len = length-drop at bytes in
-    let same = ap (first_place (begins is_set)) (flags_there a c bytes at) in
-    let here = found_flags a c 16 (drop at bytes) (omega arith) (omega arith) in
-    let later = h.later in
-    omega arith
 
 -- one byte has no pair
 alone : (a c : ℕ) (rest : List ℕ) → length rest ≡ 1 → first_place (stands (a ∷ c ∷ [])) rest ≡ 1
@@ -152,12 +132,35 @@ last_pairs a c bytes at last h ends back =
     let seen = first_place-drop (stands (a ∷ c ∷ [])) bytes last (omega arith) in
     record { within = omega arith; later = omega arith }
 
-pub no_last_pair : (a c : ℕ) (bytes : List ℕ) (last : ℕ) → PassedTo (stands (a ∷ c ∷ [])) bytes (first_place (stands (a ∷ c ∷ [])) bytes) last
-    → last + 17 ≡ length bytes → first_place (begins is_set) (flags_at a c bytes last) ≡ 16
-    → length bytes ≡ first_place (stands (a ∷ c ∷ [])) bytes
-no_last_pair a c bytes last h ends free =
-    let on = PassedTo-pairs a c bytes _ last h (omega arith) free in
-    let later = on.later in
-    let len = length-drop (last + 16) bytes in
-    let one = alone a c (drop (last + 16) bytes) (omega arith) in
-    omega arith
+-- the lane that the mask of a pair tells, or 16
+module _ (a c : ℕ) (bytes : List ℕ) (at mask place : ℕ) (fits : at + 17 ≤ length bytes) (marks : mask ≡ lane_mask is_set (flags_at a c bytes at))
+    (first : (t : ℕ → Bool) (v : List ℕ) → length v ≡ 16 → mask ≡ lane_mask t v → place ≡ first_place (begins t) v) where
+  lane : place ≡ first_place (begins is_set) (flags_at a c bytes at)
+  lane = first is_set (flags_at a c bytes at) (flags_at_long a c bytes at fits) marks
+
+  pub pair_within : place ≤ 16
+  pair_within = omega (arith, lane, flags_at_long a c bytes at fits, first_place-≤ (begins is_set) (flags_at a c bytes at))
+
+  -- it is the first place, or the search goes on after sixteen
+  pub pair_found : (answer : ℕ) → PassedTo (stands (a ∷ c ∷ [])) bytes answer at → place ≢ 16 → at + place ≡ answer
+  pair_found answer h some =
+      let same = ap (first_place (begins is_set)) (flags_there a c bytes at) in
+      let here = found_flags a c 16 (drop at bytes) (omega (arith, length-drop at bytes)) (omega (arith, same, lane, pair_within, some)) in
+      let later = h.later in
+      omega (arith, same, lane)
+
+  pub pair_passed : (answer : ℕ) → PassedTo (stands (a ∷ c ∷ [])) bytes answer at → place ≡ 16 → PassedTo (stands (a ∷ c ∷ [])) bytes answer (at + 16)
+  pair_passed answer h none =
+      let on = free_flags a c 16 (drop at bytes) (omega (arith, length-drop at bytes)) (sym (ap (first_place (begins is_set)) (flags_there a c bytes at)) ∙ sym lane ∙ none) in
+      let later = h.later in
+      let there = ap (first_place (stands (a ∷ c ∷ []))) (drop-drop 16 at bytes) in
+      record { within = omega arith; later = omega (arith, there) }
+
+  -- no pair is left after the last seventeen bytes
+  pub pair_absent : PassedTo (stands (a ∷ c ∷ [])) bytes (first_place (stands (a ∷ c ∷ [])) bytes) at → at + 17 ≡ length bytes → place ≡ 16
+      → length bytes ≡ first_place (stands (a ∷ c ∷ [])) bytes
+  pair_absent h ends none =
+      let on = pair_passed _ h none in
+      let later = on.later in
+      let one = alone a c (drop (at + 16) bytes) (omega (arith, length-drop (at + 16) bytes)) in
+      omega arith

@@ -284,6 +284,10 @@ module _ (text : List ℕ) (from to : ℕ) (low : from ≤ to) (high : to ≤ le
       ∙ escape_after piece (drop to text) byte piece-no_lf none is
       ∙ ap (λ (r : List ℕ). piece ++ r) (sym (escape_after [] (drop to text) byte (λ k l. absurd (omega arith)) (λ k l. absurd (omega arith)) is))
 
+-- a byte of a part
+byte_there : (text : List ℕ) (at m k : ℕ) → k < length (take m (drop at text)) → get_or (take m (drop at text)) k 0 ≡ get_or text (at + k) 0
+byte_there text at m k lt = get_or-take m (drop at text) k 0 (omega (arith, length-take m (drop at text))) ∙ get_or-drop at text k 0
+
 -- no mark stands before the first
 plain-run : (text : List ℕ) (at m run : ℕ) → run ≡ first_place (begins is_mark) (take m (drop at text)) → IsPlain text at (at + run)
 plain-run text at m run is = record {
@@ -312,7 +316,7 @@ plain-run text at m run is = record {
     free k lo hi =
         let s = short k lo hi in
         let there : get_or bytes (k - at) 0 ≡ get_or text k 0 =
-        get_or-take m (drop at text) (k - at) 0 (omega (arith, length-take m (drop at text))) ∙ get_or-drop at text (k - at) 0 ∙ ap (λ (j : ℕ). get_or text j 0) {x = at + (k - at)} {y = k} (omega arith) in
+        byte_there text at m (k - at) s ∙ ap (λ (j : ℕ). get_or text j 0) {x = at + (k - at)} {y = k} (omega arith) in
         sym (ap is_mark there)
         ∙ sym (ap (begins is_mark) (drop_more bytes (k - at) 0 s))
         ∙ first_place-before (begins is_mark) bytes (k - at) (omega arith)
@@ -322,10 +326,8 @@ pub mark_there : (text : List ℕ) (at m run : ℕ) → run ≡ first_place (beg
     → (get_or text (at + run) 0 ≡ 10 → ⊥) → get_or text (at + run) 0 ≡ 61
 mark_there text at m run is lt other =
     let bytes = take m (drop at text) in
-    let there : get_or bytes run 0 ≡ get_or text (at + run) 0 =
-    get_or-take m (drop at text) run 0 (omega (arith, length-take m (drop at text))) ∙ get_or-drop at text run 0 in
     let marked : is_mark (get_or text (at + run) 0) ≡ true =
-    sym (ap is_mark there)
+    sym (ap is_mark (byte_there text at m run lt))
     ∙ sym (ap (begins is_mark) (drop_more bytes run 0 lt))
     ∙ ap (λ (j : ℕ). begins is_mark (drop j bytes)) is
     ∙ first_place-passes (begins is_mark) bytes (omega arith) in

@@ -1,7 +1,7 @@
 -- Letters of Base64 in a vector, and the bytes of their groups.
 use Rattle.std.proofs.Common.{◌≡◌, ℕ, zero, suc, ◌+◌, ◌*◌, ◌/◌, ◌%◌, ◌^◌, ◌<◌, ◌≤◌, Bool, true, false, not, ◌&&◌, ◌||◌, ◌==◌, nat_lt, bit_or, List, [], ◌∷◌, ◌++◌, map, length, take, drop, get_or, replicate, Option, Some, None, Ok, refl, sym, ap, subst, ◌∙◌, arith}
 use Rattle.std.proofs.lemmas.Bool.{agree_below, agree_below_at, and_parts, not-true, ltb-true}
-use Rattle.std.proofs.lemmas.List.{get_or-map, length-take-le, drop_more}
+use Rattle.std.proofs.lemmas.List.{get_or-map, length-take-le}
 use Rattle.std.proofs.lemmas.List.Sums.{prefix_len_passes, prefix_len-le-length}
 use Rattle.std.proofs.lemmas.Nat.{or_shifted, or_lt}
 use Rattle.std.proofs.lemmas.Simd.{Each1-from_get_or, get_or_narrower, get_or-zip2, get_or-replicate, length-zip2, sum_dots}
@@ -13,7 +13,7 @@ use Rattle.mail_codec.specs.Base64.{letter, letter_value, padding, group_bytes, 
 use Rattle.mail_codec.specs.private.Vectors.{fault_of, group_of, is_letter, addition_place, three_at, value_of}
 use Rattle.mail_codec.proofs.lemmas.Vectors.{IsLanes, lane_fits}
 use Rattle.mail_codec.proofs.lemmas.Base64Letters.{is_value, is_value_true, letter-letter_value}
-use Rattle.mail_codec.proofs.lemmas.Base64Groups.{drop_four, groups_from-append}
+use Rattle.mail_codec.proofs.lemmas.Base64Groups.{drop_three, drop_four, groups_from-append}
 
 -- ---- all bytes as letters
 
@@ -134,25 +134,10 @@ module _ (ns : List ℕ) (small : Each1 (λ x. x < 2 ^ 32) ns) (k : ℕ) (within
 -- ---- groups
 
 -- four letters stand for the bytes of their number
-pub four_letters_read : (p q r s : ℕ) → p < 256 → q < 256 → r < 256 → s < 256 → is_letter p ≡ true → is_letter q ≡ true → is_letter r ≡ true → is_letter s ≡ true
-    → group_bytes p q r s ≡ Some (three_bytes (group_number (value_of p) (value_of q) (value_of r) (value_of s)))
+four_letters_read : (p q r s a b c d : ℕ) → letter_value p ≡ Some a → letter_value q ≡ Some b → letter_value r ≡ Some c → letter_value s ≡ Some d → (s == padding) ≡ false
+    → group_bytes p q r s ≡ Some (three_bytes (group_number a b c d))
 unfolding group_bytes
-four_letters_read p q r s hp hq hr hs ep eq er es =
-    let a = letter_read p hp ep in
-    let b = letter_read q hq eq in
-    let c = letter_read r hr er in
-    let d = letter_read s hs es in
-    rw (d.2, a.0, b.0, c.0, d.0) refl
-
--- the three items at a place, and what follows them
-drop_three : (at : ℕ) (xs : List ℕ) → at + 3 ≤ length xs → drop at xs ≡ get_or xs at 0 ∷ get_or xs (at + 1) 0 ∷ get_or xs (at + 2) 0 ∷ drop (at + 3) xs
-drop_three at xs h =
-    let a : drop at xs ≡ get_or xs at 0 ∷ drop (at + 1) xs = drop_more xs at 0 (omega arith) in
-    let b : drop (at + 1) xs ≡ get_or xs (at + 1) 0 ∷ drop (at + 1 + 1) xs = drop_more xs (at + 1) 0 (omega arith) in
-    let c : drop (at + 1 + 1) xs ≡ get_or xs (at + 1 + 1) 0 ∷ drop (at + 1 + 1 + 1) xs = drop_more xs (at + 1 + 1) 0 (omega arith) in
-    let two : at + 1 + 1 ≡ at + 2 = omega arith in
-    let three : at + 1 + 1 + 1 ≡ at + 3 = omega arith in
-    rw (a, b, c, three, two) refl
+four_letters_read p q r s a b c d ea eb ec ed unpadded = rw (unpadded, ea, eb, ec, ed) refl
 
 -- groups that stand for three bytes each
 pub groups_read : (v bytes : List ℕ) (m : ℕ) → 4 * m ≤ length v → 3 * m ≤ length bytes
@@ -184,8 +169,12 @@ module _ (v vs ns : List ℕ) (fits : IsLanes v) (vs_is : vs ≡ map value_of v)
   ns_fit : Each1 (λ x. x < 2 ^ 32) ns
   ns_fit = Each1-from_get_or (λ x. x < 2 ^ 32) ns 0 (λ i h. ns_small i (omega (arith, ns_len)))
 
-  value_at : (i : ℕ) → i < 16 → get_or vs i 0 ≡ value_of (get_or v i 0)
-  value_at i h = ap (λ l. get_or l i 0) vs_is ∙ get_or-map value_of v i 0 0 (omega (arith, fits.0))
+  letter_at : (i : ℕ) → i < 16 → i < prefix_len is_letter v
+      → (letter_value (get_or v i 0) ≡ Some (get_or vs i 0)) × (get_or vs i 0 < 64) × ((get_or v i 0 == padding) ≡ false)
+  letter_at i h letter =
+      let read = letter_read (get_or v i 0) (lane_fits v i fits.1) (prefix_len_passes is_letter v i 0 letter) in
+      let is : get_or vs i 0 ≡ value_of (get_or v i 0) = ap (λ l. get_or l i 0) vs_is ∙ get_or-map value_of v i 0 0 (omega (arith, fits.0)) in
+      (read.0 ∙ ap Some (sym is), omega (arith, is, read.1), read.2)
 
   abbrev bytes : List ℕ
   bytes = digits_l (2 ^ 8) 16 (number_l (2 ^ 32) ns)
@@ -193,29 +182,14 @@ module _ (v vs ns : List ℕ) (fits : IsLanes v) (vs_is : vs ≡ map value_of v)
   group_read : (k : ℕ) → k < 4 → 4 * k + 4 ≤ prefix_len is_letter v → (x y z : ℕ) → x ≡ get_or bytes (4 * k + 2) 0 → y ≡ get_or bytes (4 * k + 1) 0 → z ≡ get_or bytes (4 * k + 0) 0
       → group_of v k ≡ Some (x ∷ y ∷ z ∷ [])
   group_read k h letters x y z ex ey ez =
-      let is = λ (i : ℕ) (l : i < prefix_len is_letter v). prefix_len_passes is_letter v i 0 l in
-      let l0 = is (4 * k) (omega arith) in
-      let l1 = is (4 * k + 1) (omega arith) in
-      let l2 = is (4 * k + 2) (omega arith) in
-      let l3 = is (4 * k + 3) (omega arith) in
-      let b0 = lane_fits v (4 * k) fits.1 in
-      let b1 = lane_fits v (4 * k + 1) fits.1 in
-      let b2 = lane_fits v (4 * k + 2) fits.1 in
-      let b3 = lane_fits v (4 * k + 3) fits.1 in
-      let v0 = value_at (4 * k) (omega arith) in
-      let v1 = value_at (4 * k + 1) (omega arith) in
-      let v2 = value_at (4 * k + 2) (omega arith) in
-      let v3 = value_at (4 * k + 3) (omega arith) in
-      let r0 = (letter_read (get_or v (4 * k) 0) b0 l0).1 in
-      let r1 = (letter_read (get_or v (4 * k + 1) 0) b1 l1).1 in
-      let r2 = (letter_read (get_or v (4 * k + 2) 0) b2 l2).1 in
-      let r3 = (letter_read (get_or v (4 * k + 3) 0) b3 l3).1 in
-      let n = ns_is k h (omega (arith, v2, r2)) (omega (arith, v3, r3)) in
-      let same : group_number (value_of (get_or v (4 * k) 0)) (value_of (get_or v (4 * k + 1) 0)) (value_of (get_or v (4 * k + 2) 0)) (value_of (get_or v (4 * k + 3) 0)) ≡ get_or ns k 0 =
-      (λ i. group_number (sym v0 i) (sym v1 i) (sym v2 i) (sym v3 i)) ∙ sym n in
-      four_letters_read (get_or v (4 * k) 0) (get_or v (4 * k + 1) 0) (get_or v (4 * k + 2) 0) (get_or v (4 * k + 3) 0) b0 b1 b2 b3 l0 l1 l2 l3
-      ∙ ap (λ m. Some (three_bytes m)) same
-      ∙ ap Some (three_of ns ns_fit k h (omega (arith, same, r0, r1, r2, r3)) x y z ex ey ez)
+      let a = letter_at (4 * k) (omega arith) (omega arith) in
+      let b = letter_at (4 * k + 1) (omega arith) (omega arith) in
+      let c = letter_at (4 * k + 2) (omega arith) (omega arith) in
+      let d = letter_at (4 * k + 3) (omega arith) (omega arith) in
+      let n = ns_is k h c.1 d.1 in
+      four_letters_read _ _ _ _ _ _ _ _ a.0 b.0 c.0 d.0 d.2
+      ∙ ap (λ m. Some (three_bytes m)) (sym n)
+      ∙ ap Some (three_of ns ns_fit k h (omega (arith, n, a.1, b.1, c.1, d.1)) x y z ex ey ez)
 
   abbrev pub ordered : List ℕ
   ordered = pick_l 0 (bytes ++ bytes) (2 ∷ 1 ∷ 0 ∷ 6 ∷ 5 ∷ 4 ∷ 10 ∷ 9 ∷ 8 ∷ 14 ∷ 13 ∷ 12 ∷ 3 ∷ 7 ∷ 11 ∷ 15 ∷ [])

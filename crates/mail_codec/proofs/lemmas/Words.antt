@@ -6,7 +6,7 @@ use Rattle.std.specs.Int.Digits.{AllBelowBase}
 use Rattle.std.proofs.lemmas.Bool.{cases_lt, lt-ltb, le-ltb}
 use Rattle.std.proofs.lemmas.Bool.Decides.{nat_tests}
 use Rattle.std.proofs.lemmas.Nat.{and_block, and_le_l, and_le_r}
-use Rattle.std.proofs.lemmas.Nat.Bits.{and_pow, bit_at_and, bit_at_cat_low, bit_at_cat_high, bit_at-zero, bit_at-trailing_zeros}
+use Rattle.std.proofs.lemmas.Nat.Bits.{and_pow, bit_at_and, bit_at_cat_low, bit_at_cat_high, bit_at-zero, bit_at-pow_other, bit_at-trailing_zeros}
 use Rattle.mail_codec.specs.Places.{first_place, begins}
 use Rattle.mail_codec.specs.private.Words.{IsMask}
 
@@ -122,14 +122,8 @@ mark_at (m ∷ ms) (suc k) = mark_at ms k
 
 -- one mark's bits
 mark_bit : (m : Bool) (i : ℕ) → i < 7 → bit_at (cond m 128 0) i ≡ 0
-mark_bit m zero h = elim m as (λ v. bit_at (cond v 128 0) 0 ≡ 0) [ true ↦ refl | false ↦ refl ]
-mark_bit m (suc zero) h = elim m as (λ v. bit_at (cond v 128 0) 1 ≡ 0) [ true ↦ refl | false ↦ refl ]
-mark_bit m (suc (suc zero)) h = elim m as (λ v. bit_at (cond v 128 0) 2 ≡ 0) [ true ↦ refl | false ↦ refl ]
-mark_bit m (suc (suc (suc zero))) h = elim m as (λ v. bit_at (cond v 128 0) 3 ≡ 0) [ true ↦ refl | false ↦ refl ]
-mark_bit m (suc (suc (suc (suc zero)))) h = elim m as (λ v. bit_at (cond v 128 0) 4 ≡ 0) [ true ↦ refl | false ↦ refl ]
-mark_bit m (suc (suc (suc (suc (suc zero))))) h = elim m as (λ v. bit_at (cond v 128 0) 5 ≡ 0) [ true ↦ refl | false ↦ refl ]
-mark_bit m (suc (suc (suc (suc (suc (suc zero)))))) h = elim m as (λ v. bit_at (cond v 128 0) 6 ≡ 0) [ true ↦ refl | false ↦ refl ]
-mark_bit m (suc (suc (suc (suc (suc (suc (suc i))))))) h = absurd (omega arith)
+mark_bit true i h = bit_at-pow_other 7 i (omega arith)
+mark_bit false i h = bit_at-zero i
 
 mark_top : (m : Bool) → bit_at (cond m 128 0) 7 ≡ cond m 1 0
 mark_top true = refl
