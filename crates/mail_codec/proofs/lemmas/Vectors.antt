@@ -53,16 +53,6 @@ pub prefix_same : (p q : ℕ → Bool) → agree_below p q 256 ≡ true → (v :
 prefix_same p q all [] h = refl
 prefix_same p q all (x ∷ v) h = rw (agree_below_at p q 256 x all h.0.fits, prefix_same p q all v h.1) refl
 
-module _ (p q : ℕ → Bool) (v : List ℕ) (fits : IsLanes v) (mask : ℕ) (is : mask ≡ mask_l (map p v)) (agree : agree_below (λ x. not (p x)) q 256 ≡ true) where
-  pub none_marked : mask ≡ 0 → 16 ≡ prefix_len q v
-  none_marked e = sym fits.0 ∙ sym (leading_from_mask_l p v (sym is ∙ e)) ∙ prefix_same _ q agree v fits.1
-
-  pub first_marked : ((mask ≡ 0) → ⊥) → trailing_zeros w64 mask ≡ prefix_len q v
-  first_marked some =
-      ap (trailing_zeros w64) is
-      ∙ trailing_mask_l p 64 v (omega (arith, fits.0)) (omega (arith, is, some))
-      ∙ prefix_same _ q agree v fits.1
-
 -- the mask of a comparison of computed lanes with one number
 pub marks_of : (t : ℕ → ℕ → Bool) (f : ℕ → ℕ) (y : ℕ) (v fs : List ℕ) → length v ≡ 16 → fs ≡ map f v
     → mask_l (map (top (hbits w8)) (zip2 (λ a b. cond (t a b) (2 ^ bits w8 - 1) 0) fs (replicate 16 y))) % 2 ^ 64 ≡ mask_l (map (λ x. t (f x) y) v)

@@ -4,7 +4,7 @@ ghost use Rattle.std.specs.List.{prefix_len};
 ghost use Rattle.mail_codec.specs.Base64.{group_number};
 ghost use Rattle.mail_codec.specs.private.Vectors.{addition_of, addition_place, fault_of, group_of, is_letter, lower_faults, slash_mark, three_at, upper_faults, value_of};
 
-use super::LANES;
+use super::marks::first_lane;
 use std::simd::prelude::*;
 
 /// What may be wrong with a byte, by its upper half. Where a bit stands here and in `LOWER_FAULTS`,
@@ -33,12 +33,7 @@ const LAST_PAIR: [u8; 16] = [0, 0, 64, 1, 0, 0, 64, 1, 0, 0, 64, 1, 0, 0, 64, 1]
 pub(crate) fn letters_len(bytes: u8x16) -> usize
     ensures { result ≡ prefix_len is_letter bytes }
 {
-    let mask = faults(bytes).simd_ne(u8x16::splat(0)).to_bitmask();
-    if mask == 0 {
-        LANES
-    } else {
-        mask.trailing_zeros() as usize
-    }
+    first_lane(faults(bytes).simd_ne(u8x16::splat(0)).to_bitmask())
 }
 
 /// The bytes that groups of letters stand for, three for each group, one after another; the last
