@@ -83,3 +83,16 @@ def rows_in(path):
                 group, number = line[3:], 0
             elif line and not line.startswith(("#", "source: ")):
                 text = line
+
+
+def written(item):
+    """A word as it is, or a text in quotes."""
+    if isinstance(item, str):
+        return item
+    shown = "".join(chr(it) if 32 <= it < 127 and it not in b"\"\\" else f"\\x{it:02X}" for it in item)
+    return f'"{shown}"'
+
+
+def line_of(row):
+    """A row without a name, on one line."""
+    return " ".join([row.call, *map(written, row.inputs), "=>", *map(written, row.wanted)])
