@@ -14,6 +14,8 @@ mod outlines;
 mod parameters;
 mod reports;
 mod searches;
+mod sweeps;
+mod tables;
 mod texts;
 mod threads;
 mod transfer;
@@ -36,6 +38,8 @@ pub fn make(alloc: Global, row: &Row, answer: &mut Answer) -> Result<(), MailPar
         || searches::make(alloc, row, answer)?
         || charsets::make(alloc, row, answer)?
         || transfer::make(alloc, row, answer)?
+        || tables::make(alloc, row, answer)?
+        || sweeps::make(alloc, row, answer)?
         || encoded_values::make(alloc, row, answer)?
         || outlines::make(alloc, row, answer)?
         || files::make(alloc, row, answer)?

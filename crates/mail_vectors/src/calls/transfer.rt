@@ -1,11 +1,37 @@
-//! The calls on transfer.
+//! The transfer encodings. A refusal of Base64 is `error` and the number of its first invalid group.
+//!
+//! ```text
+//! decode_base64 TEXT => BYTES | error GROUP
+//! decode_base64_body TEXT => BYTES | error GROUP
+//! decode_quoted_printable TEXT => BYTES
+//! ```
 
 use crate::notation::{Answer, Row};
+use mail_codec::transfer::{decode_base64, decode_base64_body, decode_quoted_printable};
 use mailparse::MailParseError;
-use std::alloc::Global;
+use std::alloc::{AllocError, Global};
 
 /// Makes the call of a row, if it is one of these.
-pub fn make(_alloc: Global, row: &Row, _answer: &mut Answer) -> Result<bool, MailParseError> {
-    let _call = row.call.as_str();
-    Ok(false)
+pub fn make(alloc: Global, row: &Row, answer: &mut Answer) -> Result<bool, MailParseError> {
+    match row.call.as_str() {
+        "decode_base64" => write_groups(answer, decode_base64(alloc, row.bytes(0)?)?)?,
+        "decode_base64_body" => write_groups(answer, decode_base64_body(alloc, row.bytes(0)?)?)?,
+        "decode_quoted_printable" => {
+            let bytes = decode_quoted_printable(alloc, row.bytes(0)?)?;
+            answer.bytes(bytes.as_slice())?;
+        }
+        _ => return Ok(false),
+    }
+    Ok(true)
+}
+
+/// Adds the bytes of groups, or the number of the first invalid one.
+fn write_groups(answer: &mut Answer, groups: Result<Vec<u8>, usize>) -> Result<(), AllocError> {
+    match groups {
+        Ok(bytes) => answer.bytes(bytes.as_slice()),
+        Err(group) => {
+            answer.word("error")?;
+            answer.number(group)
+        }
+    }
 }
