@@ -75,7 +75,11 @@ fn decode_units(alloc: Global, row: &Row, answer: &mut Answer) -> Result<(), Mai
 
 /// Adds a text that is not as it should be.
 fn write_other(answer: &mut Answer, text: &str, same: &str) -> Result<(), AllocError> {
-    if text == same { Ok(()) } else { answer.text(text) }
+    if text == same {
+        Ok(())
+    } else {
+        answer.text(text)
+    }
 }
 
 /// Adds a text, and whether it is borrowed.

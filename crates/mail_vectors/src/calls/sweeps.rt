@@ -393,7 +393,11 @@ fn write_front(
     match decoded(alloc, row.text(0)?, front)? {
         Ok(bytes) => {
             let fewer = front.len().saturating_sub(bytes.len());
-            let word = if whole.starts_with(bytes.as_slice()) { "" } else { "other " };
+            let word = if whole.starts_with(bytes.as_slice()) {
+                ""
+            } else {
+                "other "
+            };
             runs.number(answer, word, fewer)?;
         }
         Err(group) => runs.number(answer, "error ", group)?,

@@ -1,10 +1,341 @@
-//! Stub.
-use crate::notation::{Answer, Row};
-use mailparse::MailParseError;
-use std::alloc::Global;
+//! The calls that take tables of single-byte charsets.
+//!
+//! TABLES is `all`, those of `mail_tables`, or a text of tables that are made up, each as
+//! `LABEL,LABEL:CHARACTER` with a semicolon between two: the bytes from 80 on are the 128 characters
+//! from this one on. OTHERS are tables too.
+//!
+//! ```text
+//! table_for_label TABLES LABEL.. => NUMBER | none ..
+//! labels_of_table NUMBER => LABEL.. | none          of the tables of `mail_tables`
+//! decode_table LABEL BYTES => TEXT | none           the same, without a look for a byte order mark
+//! decode_with TABLES LABEL BYTES => TEXT | none     after a look for a byte order mark
+//! get_value_with TABLES RAW => TEXT                 RAW stands after `X:`
+//! parse_content_type_with TABLES TEXT => MIMETYPE CHARSET, NAME VALUE..
+//! parse_content_disposition_with TABLES TEXT => DISPOSITION, NAME VALUE..
+//! body_with TABLES ENCODING LABEL BODY => TEXT
+//! mail_with TABLES OTHERS MAIL => error .. | for each part SUBPARTS MIMETYPE CHARSET, NAME VALUE..,
+//!     header KEY VALUE.., DISPOSITION, NAME VALUE.., TEXT
+//! ```
+//!
+//! DISPOSITION is `inline`, `attachment`, `form-data`, or `extension` and its name. `mail_with`
+//! parses under the tables, and reads what was parsed under the others.
+
+use crate::notation::{Answer, FORM, Row};
+use mail_codec::charset::{SingleByteTable, table_for_label};
+use mail_tables::TABLES;
+use mailparse::body::Body;
+use mailparse::{
+    DispositionType, MailHeader, MailParseError, ParsedContentDisposition, ParsedContentType,
+    ParsedMail, parse_content_disposition_with, parse_content_type_with, parse_header,
+    parse_mail_with,
+};
+use std::alloc::{AllocError, Global};
+use std::collections::BTreeMap;
+
+/// Tables, as the calls take them.
+type Tables<'t> = &'t [SingleByteTable<'t>];
 
 /// Makes the call of a row, if it is one of these.
-pub fn make(_alloc: Global, row: &Row, _answer: &mut Answer) -> Result<bool, MailParseError> {
-    let _call = row.call.as_str();
-    Ok(false)
+pub fn make(alloc: Global, row: &Row, answer: &mut Answer) -> Result<bool, MailParseError> {
+    match row.call.as_str() {
+        "labels_of_table" => write_labels(row, answer)?,
+        "decode_table" => decode_table(alloc, row, answer)?,
+        "mail_with" => read_mail(alloc, row, answer)?,
+        "table_for_label"
+        | "decode_with"
+        | "get_value_with"
+        | "parse_content_type_with"
+        | "parse_content_disposition_with"
+        | "body_with" => {
+            let made_up = made_up(alloc, row.text(0)?)?;
+            let own = own_tables(alloc, &made_up)?;
+            call_with(alloc, row, answer, tables(row.text(0)?, own.as_slice()))?;
+        }
+        _ => return Ok(false),
+    }
+    Ok(true)
+}
+
+/// Makes the call of a row with tables.
+fn call_with(
+    alloc: Global,
+    row: &Row,
+    answer: &mut Answer,
+    tables: Tables<'_>,
+) -> Result<(), MailParseError> {
+    match row.call.as_str() {
+        "table_for_label" => find_tables(row, answer, tables),
+        "decode_with" => decode(alloc, row, answer, tables),
+        "get_value_with" => read_value(alloc, row, answer, tables),
+        "parse_content_type_with" => {
+            let ctype = parse_content_type_with(alloc, row.text(1)?, tables)?;
+            write_type(answer, &ctype)
+        }
+        "parse_content_disposition_with" => {
+            let shown = parse_content_disposition_with(alloc, row.text(1)?, tables)?;
+            write_disposition(answer, &shown)
+        }
+        _ => read_body(alloc, row, answer, tables),
+    }
+}
+
+/// A table that a row makes up.
+#[derive(Drop)]
+struct MadeUp<'r> {
+    labels: Vec<&'r str>,
+    high: [char; 128],
+}
+
+/// The tables that a text makes up.
+fn made_up(alloc: Global, text: &str) -> Result<Vec<MadeUp<'_>>, MailParseError> {
+    let mut found = Vec::new(alloc);
+    for table in text.split(';') {
+        if let Some((labels, first)) = table.split_once(':') {
+            found.push(one_made_up(alloc, labels, first)?)?;
+        }
+    }
+    Ok(found)
+}
+
+/// The table with these labels, and the characters from the first of a text on.
+fn one_made_up<'r>(
+    alloc: Global,
+    labels: &'r str,
+    first: &str,
+) -> Result<MadeUp<'r>, MailParseError> {
+    let first = u32::from(first.chars().next().ok_or(FORM)?);
+    let mut high = ['\u{FFFD}'; 128];
+    for place in 0..128u8 {
+        let number = first.saturating_add(u32::from(place));
+        high[place as usize] = char::from_u32(number).unwrap_or('\u{FFFD}');
+    }
+    let mut list = Vec::new(alloc);
+    for label in labels.split(',') {
+        list.push(label)?;
+    }
+    Ok(MadeUp { labels: list, high })
+}
+
+/// The same tables as the calls take them.
+fn own_tables<'t>(
+    alloc: Global,
+    made_up: &'t Vec<MadeUp<'t>>,
+) -> Result<Vec<SingleByteTable<'t>>, AllocError> {
+    let mut tables = Vec::new(alloc);
+    for table in made_up {
+        tables.push(SingleByteTable {
+            labels: table.labels.as_slice(),
+            high: &table.high,
+        })?;
+    }
+    Ok(tables)
+}
+
+/// The tables that a text names.
+fn tables<'t>(text: &str, own: Tables<'t>) -> Tables<'t> {
+    if text == "all" { &TABLES } else { own }
+}
+
+/// The number of the table for each label.
+fn find_tables(row: &Row, answer: &mut Answer, tables: Tables<'_>) -> Result<(), MailParseError> {
+    for at in 1..row.count() {
+        match table_for_label(row.bytes(at)?, tables) {
+            Some(number) => answer.number(number)?,
+            None => answer.word("none")?,
+        }
+    }
+    Ok(())
+}
+
+/// The labels of a table of `mail_tables`.
+fn write_labels(row: &Row, answer: &mut Answer) -> Result<(), MailParseError> {
+    let tables = &TABLES;
+    match tables.get(row.number(0)?) {
+        Some(table) => Ok(write_all(answer, table.labels)?),
+        None => Ok(answer.word("none")?),
+    }
+}
+
+/// Adds texts.
+fn write_all(answer: &mut Answer, texts: &[&str]) -> Result<(), AllocError> {
+    for text in texts {
+        answer.text(text)?;
+    }
+    Ok(())
+}
+
+/// The table of a label.
+fn table_of<'t>(label: &[u8], tables: Tables<'t>) -> Option<&'t SingleByteTable<'t>> {
+    tables.get(table_for_label(label, tables)?)
+}
+
+/// The text of bytes under a table of `mail_tables`.
+fn decode_table(alloc: Global, row: &Row, answer: &mut Answer) -> Result<(), MailParseError> {
+    match table_of(row.bytes(0)?, &TABLES) {
+        Some(table) => {
+            let text = table.decode_without_bom_handling(alloc, row.bytes(1)?)?;
+            Ok(answer.text(text.as_str())?)
+        }
+        None => Ok(answer.word("none")?),
+    }
+}
+
+/// The text of bytes under one of some tables.
+fn decode(
+    alloc: Global,
+    row: &Row,
+    answer: &mut Answer,
+    tables: Tables<'_>,
+) -> Result<(), MailParseError> {
+    match table_of(row.bytes(1)?, tables) {
+        Some(table) => {
+            let text = table.decode(alloc, row.bytes(2)?)?;
+            Ok(answer.text(text.as_str())?)
+        }
+        None => Ok(answer.word("none")?),
+    }
+}
+
+/// The text that a value shows.
+fn read_value(
+    alloc: Global,
+    row: &Row,
+    answer: &mut Answer,
+    tables: Tables<'_>,
+) -> Result<(), MailParseError> {
+    let mut raw = b"X:".as_slice().to_vec(alloc)?;
+    raw.extend_from_slice(row.bytes(1)?)?;
+    let (header, _) = parse_header(raw.as_slice())?;
+    let value = header.get_value_with(alloc, tables)?;
+    Ok(answer.text(value.as_str())?)
+}
+
+/// Adds a type and its parameters.
+fn write_type(answer: &mut Answer, ctype: &ParsedContentType) -> Result<(), MailParseError> {
+    answer.text(ctype.mimetype.as_str())?;
+    answer.text(ctype.charset.as_str())?;
+    Ok(write_pairs(answer, &ctype.params)?)
+}
+
+/// Adds a disposition and its parameters.
+fn write_disposition(
+    answer: &mut Answer,
+    shown: &ParsedContentDisposition,
+) -> Result<(), MailParseError> {
+    match &shown.disposition {
+        DispositionType::Inline => answer.word("inline")?,
+        DispositionType::Attachment => answer.word("attachment")?,
+        DispositionType::FormData => answer.word("form-data")?,
+        DispositionType::Extension(name) => {
+            answer.word("extension")?;
+            answer.text(name.as_str())?;
+        }
+    }
+    Ok(write_pairs(answer, &shown.params)?)
+}
+
+/// Adds each name and its value.
+fn write_pairs(answer: &mut Answer, pairs: &BTreeMap<String, String>) -> Result<(), AllocError> {
+    for (name, value) in pairs {
+        answer.text(name.as_str())?;
+        answer.text(value.as_str())?;
+    }
+    Ok(())
+}
+
+/// The text of a body.
+fn read_body(
+    alloc: Global,
+    row: &Row,
+    answer: &mut Answer,
+    tables: Tables<'_>,
+) -> Result<(), MailParseError> {
+    let mut ctype = ParsedContentType::default(alloc)?;
+    ctype.charset = String::from_str(alloc, row.text(2)?)?;
+    let encoding = match row.optional_text(1)? {
+        Some(text) => Some(String::from_str(alloc, text)?),
+        None => None,
+    };
+    let text = text_of(alloc, &Body::new(row.bytes(3)?, &ctype, &encoding), tables);
+    answer.text_or_refusal(text)
+}
+
+fn text_of(alloc: Global, body: &Body<'_>, tables: Tables<'_>) -> Result<String, MailParseError> {
+    match body {
+        Body::Base64(body) | Body::QuotedPrintable(body) => {
+            body.get_decoded_as_string_with(alloc, tables)
+        }
+        Body::SevenBit(body) | Body::EightBit(body) => body.get_as_string_with(alloc, tables),
+        Body::Binary(body) => body.get_as_string_with(alloc, tables),
+    }
+}
+
+/// A mail that is parsed under tables, and read under others.
+fn read_mail(alloc: Global, row: &Row, answer: &mut Answer) -> Result<(), MailParseError> {
+    let first_made_up = made_up(alloc, row.text(0)?)?;
+    let others_made_up = made_up(alloc, row.text(1)?)?;
+    let first = own_tables(alloc, &first_made_up)?;
+    let others = own_tables(alloc, &others_made_up)?;
+    let first = tables(row.text(0)?, first.as_slice());
+    let others = tables(row.text(1)?, others.as_slice());
+    write_mail(alloc, answer, row.bytes(2)?, first, others)
+}
+
+/// Adds a mail that is parsed under tables, and read under others, or its refusal.
+pub fn write_mail(
+    alloc: Global,
+    answer: &mut Answer,
+    mail: &[u8],
+    tables: Tables<'_>,
+    others: Tables<'_>,
+) -> Result<(), MailParseError> {
+    match parse_mail_with(alloc, mail, tables) {
+        Ok(mail) => write_parts(alloc, answer, &mail, others),
+        Err(error) => answer.refusal(error),
+    }
+}
+
+/// Adds a mail and its parts.
+fn write_parts(
+    alloc: Global,
+    answer: &mut Answer,
+    mail: &ParsedMail<'_>,
+    tables: Tables<'_>,
+) -> Result<(), MailParseError> {
+    for part in mail.parts(alloc)? {
+        write_part(alloc, answer, part, tables)?;
+    }
+    Ok(())
+}
+
+/// Adds a part by itself.
+fn write_part(
+    alloc: Global,
+    answer: &mut Answer,
+    part: &ParsedMail<'_>,
+    tables: Tables<'_>,
+) -> Result<(), MailParseError> {
+    answer.word("part")?;
+    answer.number(part.subparts.len())?;
+    write_type(answer, &part.ctype)?;
+    for header in &part.headers {
+        write_header(alloc, answer, header, tables)?;
+    }
+    let shown = part.get_content_disposition_with(alloc, tables)?;
+    write_disposition(answer, &shown)?;
+    answer.text_or_refusal(part.get_body_with(alloc, tables))
+}
+
+/// Adds a header.
+fn write_header(
+    alloc: Global,
+    answer: &mut Answer,
+    header: &MailHeader<'_>,
+    tables: Tables<'_>,
+) -> Result<(), MailParseError> {
+    answer.word("header")?;
+    let key = header.get_key(alloc)?;
+    answer.text(key.as_str())?;
+    let value = header.get_value_with(alloc, tables)?;
+    Ok(answer.text(value.as_str())?)
 }
