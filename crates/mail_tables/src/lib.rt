@@ -16,11 +16,7 @@
 //! ```
 #![tactic(auto)]
 
-#[cfg(test)]
-mod expected;
 mod tables;
-#[cfg(test)]
-mod tests;
 
 pub use tables::{
     IBM866, ISO_8859_2, ISO_8859_3, ISO_8859_4, ISO_8859_5, ISO_8859_6, ISO_8859_7, ISO_8859_8,

@@ -1,7 +1,7 @@
 //! The searches of bytes.
 //!
 //! ```text
-//! find_byte BYTES BYTE => PLACE | none
+//! find_byte BYTES BYTE.. => PLACE | none ..
 //! find BYTES NEEDLE => PLACE | none
 //! find_pair BYTES PAIR => PLACE | none
 //! strip_ascii_whitespace BYTES => KEPT
@@ -25,10 +25,7 @@ use std::alloc::{AllocError, Global};
 /// Makes the call of a row, if it is one of these.
 pub fn make(alloc: Global, row: &Row, answer: &mut Answer) -> Result<bool, MailParseError> {
     match row.call.as_str() {
-        "find_byte" | "find" | "find_pair" => {
-            let found = place(row.call.as_str(), row.bytes(0)?, row.bytes(1)?)?;
-            write_place(answer, found)?;
-        }
+        "find_byte" | "find" | "find_pair" => find_all(row, answer)?,
         "strip_ascii_whitespace" => {
             let kept = strip_ascii_whitespace(alloc, row.bytes(0)?)?;
             answer.bytes(kept.as_slice())?;
@@ -38,6 +35,14 @@ pub fn make(alloc: Global, row: &Row, answer: &mut Answer) -> Result<bool, MailP
         _ => return Ok(false),
     }
     Ok(true)
+}
+
+/// Makes a search for each needle.
+fn find_all(row: &Row, answer: &mut Answer) -> Result<(), MailParseError> {
+    for at in 1..row.count() {
+        write_place(answer, place(row.call.as_str(), row.bytes(0)?, row.bytes(at)?)?)?;
+    }
+    Ok(())
 }
 
 /// The place that a search finds.

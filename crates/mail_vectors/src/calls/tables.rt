@@ -9,6 +9,7 @@
 //! labels_of_table NUMBER => LABEL.. | none          of the tables of `mail_tables`
 //! decode_table LABEL BYTES => TEXT | none           the same, without a look for a byte order mark
 //! decode_with TABLES LABEL BYTES => TEXT | none     after a look for a byte order mark
+//! decode_without_bom_handling_with TABLES LABEL BYTES => TEXT | none
 //! get_value_with TABLES RAW => TEXT                 RAW stands after `X:`
 //! parse_content_type_with TABLES TEXT => MIMETYPE CHARSET, NAME VALUE..
 //! parse_content_disposition_with TABLES TEXT => DISPOSITION, NAME VALUE..
@@ -32,23 +33,24 @@ use mailparse::{
 use std::alloc::{AllocError, Global};
 use std::collections::BTreeMap;
 
-/// Tables, as the calls take them.
-type Tables<'t> = &'t [SingleByteTable<'t>];
-
 /// Makes the call of a row, if it is one of these.
 pub fn make(alloc: Global, row: &Row, answer: &mut Answer) -> Result<bool, MailParseError> {
     match row.call.as_str() {
         "labels_of_table" => write_labels(row, answer)?,
-        "decode_table" => decode_table(alloc, row, answer)?,
+        "decode_table" => {
+            let text = text_under(alloc, row.bytes(0)?, &TABLES, row.bytes(1)?)?;
+            write_optional(answer, text)?;
+        }
         "mail_with" => read_mail(alloc, row, answer)?,
         "table_for_label"
         | "decode_with"
+        | "decode_without_bom_handling_with"
         | "get_value_with"
         | "parse_content_type_with"
         | "parse_content_disposition_with"
         | "body_with" => {
             let made_up = made_up(alloc, row.text(0)?)?;
-            let own = own_tables(alloc, &made_up)?;
+            let own = own_tables(alloc, made_up.as_slice())?;
             call_with(alloc, row, answer, tables(row.text(0)?, own.as_slice()))?;
         }
         _ => return Ok(false),
@@ -61,11 +63,18 @@ fn call_with(
     alloc: Global,
     row: &Row,
     answer: &mut Answer,
-    tables: Tables<'_>,
+    tables: &[SingleByteTable<'_>],
 ) -> Result<(), MailParseError> {
     match row.call.as_str() {
         "table_for_label" => find_tables(row, answer, tables),
-        "decode_with" => decode(alloc, row, answer, tables),
+        "decode_with" => {
+            let text = marked_text_under(alloc, row.bytes(1)?, tables, row.bytes(2)?)?;
+            write_optional(answer, text)
+        }
+        "decode_without_bom_handling_with" => {
+            let text = text_under(alloc, row.bytes(1)?, tables, row.bytes(2)?)?;
+            write_optional(answer, text)
+        }
         "get_value_with" => read_value(alloc, row, answer, tables),
         "parse_content_type_with" => {
             let ctype = parse_content_type_with(alloc, row.text(1)?, tables)?;
@@ -117,9 +126,9 @@ fn one_made_up<'r>(
 }
 
 /// The same tables as the calls take them.
-fn own_tables<'t>(
+fn own_tables<'t, 'r>(
     alloc: Global,
-    made_up: &'t Vec<MadeUp<'t>>,
+    made_up: &'t [MadeUp<'r>],
 ) -> Result<Vec<SingleByteTable<'t>>, AllocError> {
     let mut tables = Vec::new(alloc);
     for table in made_up {
@@ -132,12 +141,12 @@ fn own_tables<'t>(
 }
 
 /// The tables that a text names.
-fn tables<'t>(text: &str, own: Tables<'t>) -> Tables<'t> {
+fn tables<'s, 't>(text: &str, own: &'s [SingleByteTable<'t>]) -> &'s [SingleByteTable<'t>] {
     if text == "all" { &TABLES } else { own }
 }
 
 /// The number of the table for each label.
-fn find_tables(row: &Row, answer: &mut Answer, tables: Tables<'_>) -> Result<(), MailParseError> {
+fn find_tables(row: &Row, answer: &mut Answer, tables: &[SingleByteTable<'_>]) -> Result<(), MailParseError> {
     for at in 1..row.count() {
         match table_for_label(row.bytes(at)?, tables) {
             Some(number) => answer.number(number)?,
@@ -165,33 +174,43 @@ fn write_all(answer: &mut Answer, texts: &[&str]) -> Result<(), AllocError> {
 }
 
 /// The table of a label.
-fn table_of<'t>(label: &[u8], tables: Tables<'t>) -> Option<&'t SingleByteTable<'t>> {
+fn table_of<'s, 't>(
+    label: &[u8],
+    tables: &'s [SingleByteTable<'t>],
+) -> Option<&'s SingleByteTable<'t>> {
     tables.get(table_for_label(label, tables)?)
 }
 
-/// The text of bytes under a table of `mail_tables`.
-fn decode_table(alloc: Global, row: &Row, answer: &mut Answer) -> Result<(), MailParseError> {
-    match table_of(row.bytes(0)?, &TABLES) {
-        Some(table) => {
-            let text = table.decode_without_bom_handling(alloc, row.bytes(1)?)?;
-            Ok(answer.text(text.as_str())?)
-        }
-        None => Ok(answer.word("none")?),
+/// The text of bytes under the table of a label.
+fn text_under(
+    alloc: Global,
+    label: &[u8],
+    tables: &[SingleByteTable<'_>],
+    bytes: &[u8],
+) -> Result<Option<String>, AllocError> {
+    match table_of(label, tables) {
+        Some(table) => Ok(Some(table.decode_without_bom_handling(alloc, bytes)?)),
+        None => Ok(None),
     }
 }
 
-/// The text of bytes under one of some tables.
-fn decode(
+/// The same after a look for a byte order mark.
+fn marked_text_under(
     alloc: Global,
-    row: &Row,
-    answer: &mut Answer,
-    tables: Tables<'_>,
-) -> Result<(), MailParseError> {
-    match table_of(row.bytes(1)?, tables) {
-        Some(table) => {
-            let text = table.decode(alloc, row.bytes(2)?)?;
-            Ok(answer.text(text.as_str())?)
-        }
+    label: &[u8],
+    tables: &[SingleByteTable<'_>],
+    bytes: &[u8],
+) -> Result<Option<String>, AllocError> {
+    match table_of(label, tables) {
+        Some(table) => Ok(Some(table.decode(alloc, bytes)?)),
+        None => Ok(None),
+    }
+}
+
+/// Adds a text, or `none`.
+fn write_optional(answer: &mut Answer, text: Option<String>) -> Result<(), MailParseError> {
+    match &text {
+        Some(text) => Ok(answer.text(text.as_str())?),
         None => Ok(answer.word("none")?),
     }
 }
@@ -201,7 +220,7 @@ fn read_value(
     alloc: Global,
     row: &Row,
     answer: &mut Answer,
-    tables: Tables<'_>,
+    tables: &[SingleByteTable<'_>],
 ) -> Result<(), MailParseError> {
     let mut raw = b"X:".as_slice().to_vec(alloc)?;
     raw.extend_from_slice(row.bytes(1)?)?;
@@ -248,7 +267,7 @@ fn read_body(
     alloc: Global,
     row: &Row,
     answer: &mut Answer,
-    tables: Tables<'_>,
+    tables: &[SingleByteTable<'_>],
 ) -> Result<(), MailParseError> {
     let mut ctype = ParsedContentType::default(alloc)?;
     ctype.charset = String::from_str(alloc, row.text(2)?)?;
@@ -260,7 +279,7 @@ fn read_body(
     answer.text_or_refusal(text)
 }
 
-fn text_of(alloc: Global, body: &Body<'_>, tables: Tables<'_>) -> Result<String, MailParseError> {
+fn text_of(alloc: Global, body: &Body<'_>, tables: &[SingleByteTable<'_>]) -> Result<String, MailParseError> {
     match body {
         Body::Base64(body) | Body::QuotedPrintable(body) => {
             body.get_decoded_as_string_with(alloc, tables)
@@ -274,8 +293,8 @@ fn text_of(alloc: Global, body: &Body<'_>, tables: Tables<'_>) -> Result<String,
 fn read_mail(alloc: Global, row: &Row, answer: &mut Answer) -> Result<(), MailParseError> {
     let first_made_up = made_up(alloc, row.text(0)?)?;
     let others_made_up = made_up(alloc, row.text(1)?)?;
-    let first = own_tables(alloc, &first_made_up)?;
-    let others = own_tables(alloc, &others_made_up)?;
+    let first = own_tables(alloc, first_made_up.as_slice())?;
+    let others = own_tables(alloc, others_made_up.as_slice())?;
     let first = tables(row.text(0)?, first.as_slice());
     let others = tables(row.text(1)?, others.as_slice());
     write_mail(alloc, answer, row.bytes(2)?, first, others)
@@ -286,8 +305,8 @@ pub fn write_mail(
     alloc: Global,
     answer: &mut Answer,
     mail: &[u8],
-    tables: Tables<'_>,
-    others: Tables<'_>,
+    tables: &[SingleByteTable<'_>],
+    others: &[SingleByteTable<'_>],
 ) -> Result<(), MailParseError> {
     match parse_mail_with(alloc, mail, tables) {
         Ok(mail) => write_parts(alloc, answer, &mail, others),
@@ -300,7 +319,7 @@ fn write_parts(
     alloc: Global,
     answer: &mut Answer,
     mail: &ParsedMail<'_>,
-    tables: Tables<'_>,
+    tables: &[SingleByteTable<'_>],
 ) -> Result<(), MailParseError> {
     for part in mail.parts(alloc)? {
         write_part(alloc, answer, part, tables)?;
@@ -313,7 +332,7 @@ fn write_part(
     alloc: Global,
     answer: &mut Answer,
     part: &ParsedMail<'_>,
-    tables: Tables<'_>,
+    tables: &[SingleByteTable<'_>],
 ) -> Result<(), MailParseError> {
     answer.word("part")?;
     answer.number(part.subparts.len())?;
@@ -331,7 +350,7 @@ fn write_header(
     alloc: Global,
     answer: &mut Answer,
     header: &MailHeader<'_>,
-    tables: Tables<'_>,
+    tables: &[SingleByteTable<'_>],
 ) -> Result<(), MailParseError> {
     answer.word("header")?;
     let key = header.get_key(alloc)?;
