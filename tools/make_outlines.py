@@ -1,13 +1,13 @@
 #!/usr/bin/env python3
-"""Makes the list of outlines that the program `outline_vectors` replays, on standard output.
+"""Makes rows on outlines for the suite of crates/mail_vectors, on standard output.
 
-Each line is an outline, step by step, the bytes that it is written as, and the greatest level at which
-an outline stands in it, or a dash where it is not well formed; crates/outline_vectors/src/steps.rt and
-replay.rt say the form. The keys, values, boundaries and bodies are of bytes that are likely to go
-wrong. This script writes and judges each outline by itself, and has no code in common with the library.
-Of each value that it writes as encoded words it asks `email.header.decode_header` whether they are read as
-the text. With --texts most values are texts of any characters, and there are twice as many outlines. The
-same seed gives the same list; crates/outline_vectors/stdin is that of seed 1, and then that with --texts.
+Each row makes an outline step by step, and wants the bytes that it is written as, whether it is well
+formed, and where it is, the least limit on levels under which it is read and how many messages it
+holds. The keys, values, boundaries and bodies are of bytes that are likely to go wrong. This script
+writes and judges each outline by itself, and has no code in common with the library. Of each value
+that it writes as encoded words it asks `email.header.decode_header` whether they are read as the
+text. With --texts most values are texts of any characters, and there are twice as many outlines. The
+same seed gives the same rows; data/made_outlines.txt is those of seed 1, and then those with --texts.
 """
 import argparse
 import base64
@@ -40,6 +40,25 @@ TEXT_TYPES = ["\u00e9/x", "text/plain\n", " text/plain", "text/\u00e9; charset=\
               "mult\u0131part/x"]
 BAD_TEXT_TYPES = [" multipart/mixed", "\u00a0multipart/x", "multipart/\u00e9", "\r\nMultiPart/x", "\u3000MULTIPART", "multipart\n"]
 WHITE = "\t\n\x0b\x0c\r \x85\xa0\u1680\u2000\u2001\u2002\u2003\u2004\u2005\u2006\u2007\u2008\u2009\u200a\u2028\u2029\u202f\u205f\u3000"
+
+NAMED = {"\\": "\\\\", "\r": "\\r", "\n": "\\n", "\t": "\\t", "\0": "\\0", '"': "\\x22"}
+
+
+def shown(character):
+    """A character as a text of the suite has it; a byte that is no UTF-8 comes as a surrogate."""
+    number = ord(character)
+    if character in NAMED:
+        return NAMED[character]
+    if character.isprintable():
+        return character
+    if number < 0x80 or 0xDC80 <= number <= 0xDCFF:
+        return f"\\x{number & 0xFF:02X}"
+    return f"\\u{{{number:X}}}"
+
+
+def quoted(data):
+    """Bytes as a text of the suite."""
+    return '"' + "".join(map(shown, data.decode("utf-8", "surrogateescape"))) + '"'
 
 
 def text_of(value):
@@ -96,10 +115,14 @@ class Outline:
     def steps(self):
         """The steps that make it."""
         steps = [step for part in self.parts or [] for step in part.steps()]
-        steps += [f"h:{key.hex()}:{value.hex()}" for key, value in self.headers]
+        steps += [f"header {quoted(key)} {quoted(value)}" for key, value in self.headers]
         if self.parts is None:
-            return steps + [f"l:{self.body.hex()}"]
-        return steps + [f"b:{self.boundary.hex()}:{len(self.parts)}"]
+            return steps + [f"leaf {quoted(self.body)}"]
+        return steps + [f"branch {quoted(self.boundary)} {len(self.parts)}"]
+
+    def count(self):
+        """How many messages it holds, itself among them."""
+        return 1 + sum(part.count() for part in self.parts or [])
 
     def depth(self):
         """The greatest level at which an outline stands in it."""
@@ -129,10 +152,11 @@ class Outline:
             and all(part.is_good() for part in self.parts)
         )
 
-    def line(self):
-        """The line of the list."""
-        answer = str(self.depth()) if self.is_good() and self.depth() <= 100 else "-"
-        return f"{','.join(self.steps())} {self.rendered().hex()} {answer}"
+    def row(self):
+        """The row, in two lines."""
+        good = self.is_good() and self.depth() <= 100
+        answer = f"true {self.depth()} {self.count()}" if good else "false"
+        return f"outline {' '.join(self.steps())}\n  => {quoted(self.rendered())} {answer}"
 
 
 class Maker:
@@ -191,7 +215,7 @@ class Maker:
 
 
 def outlines(seed, texts):
-    """The outlines of the list: half of them well formed, and of every depth from 0 to 4."""
+    """The outlines: half of them well formed, and of every depth from 0 to 4."""
     maker = Maker(seed, texts)
     most = 2 * COUNT if texts else COUNT
     kept = {True: [], False: []}
@@ -207,13 +231,15 @@ def outlines(seed, texts):
 
 
 def main():
-    """Writes the list."""
+    """Writes the rows."""
     parser = argparse.ArgumentParser(description=__doc__, formatter_class=argparse.RawDescriptionHelpFormatter)
     parser.add_argument("seed", metavar="SEED", type=int, nargs="?", default=1, help="a number to make the outlines from")
     parser.add_argument("--texts", action="store_true", help="values of any text")
     asked = parser.parse_args()
+    print("== Outlines with values of any text" if asked.texts else "== Outlines")
+    print("source: tools/make_outlines.py, from RFC 5322, section 2.1, and RFC 2046, section 5.1.1\n")
     for outline in outlines(asked.seed, asked.texts):
-        print(outline.line())
+        print(outline.row())
 
 
 if __name__ == "__main__":

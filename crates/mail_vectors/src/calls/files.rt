@@ -1,11 +1,151 @@
-//! The calls on files.
+//! The calls on files. A part is the one at a number of `parts`, the whole mail at 0.
 
-use crate::notation::{Answer, Row};
-use mailparse::MailParseError;
+use crate::notation::{Answer, FORM, Row};
+use mail_data::files::{
+    Attachment, attachments, attachments_with, describes_attachment, file_name, file_name_with,
+    filled_parameter, is_attachment, is_attachment_with, is_leaf, named_file, path_under,
+    safe_file_name, whole_path,
+};
+use mail_tables::TABLES;
+use mailparse::{
+    MailParseError, ParsedContentDisposition, ParsedContentType, ParsedMail,
+    parse_content_disposition, parse_content_type, parse_mail, parse_mail_with,
+};
 use std::alloc::Global;
+use std::collections::BTreeMap;
 
 /// Makes the call of a row, if it is one of these.
-pub fn make(_alloc: Global, row: &Row, _answer: &mut Answer) -> Result<bool, MailParseError> {
-    let _call = row.call.as_str();
-    Ok(false)
+pub fn make(alloc: Global, row: &Row, answer: &mut Answer) -> Result<bool, MailParseError> {
+    let outcome = match row.call.as_str() {
+        "attachments" => list_files(alloc, row, answer),
+        "attachments_with" => list_named_files(alloc, row, answer),
+        "file_name" | "is_attachment" | "is_leaf" | "whole_path" => look_at(alloc, row, answer),
+        "file_name_with" | "is_attachment_with" => look_at_with(alloc, row, answer),
+        "named_file" | "describes_attachment" => describe(alloc, row, answer),
+        "filled_parameter" => get_parameter(alloc, row, answer),
+        "path_under" => write_path(alloc, row, answer),
+        "safe_file_name" => write_safe_name(alloc, row, answer),
+        _ => return Ok(false),
+    };
+    if let Err(error) = outcome {
+        answer.refusal(error)?;
+    }
+    Ok(true)
+}
+
+/// The part of a mail with this number, counted from the mail itself.
+pub fn part_at<'m, 'a>(
+    alloc: Global,
+    mail: &'m ParsedMail<'a>,
+    number: usize,
+) -> Result<&'m ParsedMail<'a>, MailParseError> {
+    mail.parts(alloc)?.nth(number).ok_or(FORM)
+}
+
+/// `attachments MAIL => PATH NAME BYTES` for each file, NAME as `file_name` returns it.
+fn list_files(alloc: Global, row: &Row, answer: &mut Answer) -> Result<(), MailParseError> {
+    let mail = parse_mail(alloc, row.bytes(0)?)?;
+    for file in &attachments(alloc, &mail)? {
+        write_file(alloc, file, file_name(alloc, file.part)?, answer)?;
+    }
+    Ok(())
+}
+
+/// `attachments_with MAIL => PATH NAME BYTES` likewise, under all tables.
+fn list_named_files(alloc: Global, row: &Row, answer: &mut Answer) -> Result<(), MailParseError> {
+    let mail = parse_mail_with(alloc, row.bytes(0)?, &TABLES)?;
+    for file in &attachments_with(alloc, &mail, &TABLES)? {
+        let name = file_name_with(alloc, file.part, &TABLES)?;
+        write_file(alloc, file, name, answer)?;
+    }
+    Ok(())
+}
+
+/// Writes a file and its name.
+fn write_file(
+    alloc: Global,
+    file: &Attachment<'_, '_>,
+    name: Option<String>,
+    answer: &mut Answer,
+) -> Result<(), MailParseError> {
+    answer.text(file.path.as_str())?;
+    answer.optional_text(name.as_deref())?;
+    answer.bytes_or_refusal(file.part.get_body_raw(alloc))
+}
+
+/// `file_name MAIL PART => NAME`, `is_attachment MAIL PART => TRUTH`, `is_leaf MAIL PART => TRUTH`
+/// and `whole_path MAIL PART => PATH`
+fn look_at(alloc: Global, row: &Row, answer: &mut Answer) -> Result<(), MailParseError> {
+    let mail = parse_mail(alloc, row.bytes(0)?)?;
+    let part = part_at(alloc, &mail, row.number(1)?)?;
+    match row.call.as_str() {
+        "file_name" => answer.optional_text(file_name(alloc, part)?.as_deref())?,
+        "is_attachment" => answer.truth(is_attachment(alloc, part)?)?,
+        "is_leaf" => answer.truth(is_leaf(part))?,
+        _ => answer.text(whole_path(part))?,
+    }
+    Ok(())
+}
+
+/// `file_name_with MAIL PART => NAME` and `is_attachment_with MAIL PART => TRUTH`, under all tables.
+fn look_at_with(alloc: Global, row: &Row, answer: &mut Answer) -> Result<(), MailParseError> {
+    let mail = parse_mail_with(alloc, row.bytes(0)?, &TABLES)?;
+    let part = part_at(alloc, &mail, row.number(1)?)?;
+    match row.call.as_str() {
+        "file_name_with" => {
+            answer.optional_text(file_name_with(alloc, part, &TABLES)?.as_deref())?;
+        }
+        _ => answer.truth(is_attachment_with(alloc, part, &TABLES)?)?,
+    }
+    Ok(())
+}
+
+/// `named_file DISPOSITION TYPE => NAME` and `describes_attachment DISPOSITION TYPE => TRUTH`
+fn describe(alloc: Global, row: &Row, answer: &mut Answer) -> Result<(), MailParseError> {
+    let disposition = disposition_of(alloc, row)?;
+    let ctype = type_of(alloc, row, 1)?;
+    match row.call.as_str() {
+        "named_file" => answer.optional_text(named_file(&disposition, &ctype))?,
+        _ => answer.truth(describes_attachment(&disposition, &ctype))?,
+    }
+    Ok(())
+}
+
+/// The disposition that the first input writes; for `none` the default one, without memory.
+fn disposition_of(alloc: Global, row: &Row) -> Result<ParsedContentDisposition, MailParseError> {
+    match row.optional_text(0)? {
+        Some(text) => parse_content_disposition(alloc, text),
+        None => Ok(ParsedContentDisposition::default(alloc)),
+    }
+}
+
+/// The type that an input writes; for `none` an empty one, without memory.
+fn type_of(alloc: Global, row: &Row, at: usize) -> Result<ParsedContentType, MailParseError> {
+    match row.optional_text(at)? {
+        Some(text) => parse_content_type(alloc, text),
+        None => Ok(ParsedContentType {
+            mimetype: String::new(alloc),
+            charset: String::new(alloc),
+            params: BTreeMap::new(alloc),
+        }),
+    }
+}
+
+/// `filled_parameter TYPE NAME => VALUE`
+fn get_parameter(alloc: Global, row: &Row, answer: &mut Answer) -> Result<(), MailParseError> {
+    let ctype = type_of(alloc, row, 0)?;
+    answer.optional_text(filled_parameter(&ctype.params, row.text(1)?))?;
+    Ok(())
+}
+
+/// `path_under PATH NUMBER => PATH`
+fn write_path(alloc: Global, row: &Row, answer: &mut Answer) -> Result<(), MailParseError> {
+    let path = path_under(alloc, row.text(0)?, row.number(1)?)?;
+    Ok(answer.text(path.as_str())?)
+}
+
+/// `safe_file_name NAME => NAME`
+fn write_safe_name(alloc: Global, row: &Row, answer: &mut Answer) -> Result<(), MailParseError> {
+    let name = safe_file_name(alloc, row.text(0)?)?;
+    Ok(answer.text(name.as_str())?)
 }

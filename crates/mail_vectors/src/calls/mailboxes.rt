@@ -1,11 +1,29 @@
-//! The calls on mailboxes.
+//! The calls on mailboxes, and on the lines that they are cut at.
 
 use crate::notation::{Answer, Row};
+use mail_data::lines::empty_line;
+use mail_data::mailbox::read_mailbox;
 use mailparse::MailParseError;
 use std::alloc::Global;
 
 /// Makes the call of a row, if it is one of these.
-pub fn make(_alloc: Global, row: &Row, _answer: &mut Answer) -> Result<bool, MailParseError> {
-    let _call = row.call.as_str();
-    Ok(false)
+pub fn make(_alloc: Global, row: &Row, answer: &mut Answer) -> Result<bool, MailParseError> {
+    match row.call.as_str() {
+        "read_mailbox" => list_mails(row, answer)?,
+        "empty_line" => answer.number(empty_line(row.bytes(0)?))?,
+        _ => return Ok(false),
+    }
+    Ok(true)
+}
+
+/// `read_mailbox BYTES => FRONT`, and `SEPARATOR MAIL ENDING` for each mail.
+fn list_mails(row: &Row, answer: &mut Answer) -> Result<(), MailParseError> {
+    let mails = read_mailbox(row.bytes(0)?);
+    answer.bytes(mails.front())?;
+    for entry in mails {
+        answer.bytes(entry.separator())?;
+        answer.bytes(entry.mail())?;
+        answer.bytes(entry.ending())?;
+    }
+    Ok(())
 }

@@ -1,11 +1,67 @@
-//! The calls on texts.
+//! The calls on the texts of mails, and on the mails inside them.
 
-use crate::notation::{Answer, Row};
-use mailparse::MailParseError;
+use crate::calls::files::part_at;
+use crate::notation::{Answer, FORM, Row};
+use mail_data::forwarding::{forwarded, mails_inside};
+use mail_data::texts::{text_part, text_part_with};
+use mail_tables::TABLES;
+use mailparse::{MAX_LEVELS, MailParseError, ParsedMail, parse_mail, parse_mail_with};
 use std::alloc::Global;
 
 /// Makes the call of a row, if it is one of these.
-pub fn make(_alloc: Global, row: &Row, _answer: &mut Answer) -> Result<bool, MailParseError> {
-    let _call = row.call.as_str();
-    Ok(false)
+pub fn make(alloc: Global, row: &Row, answer: &mut Answer) -> Result<bool, MailParseError> {
+    let outcome = match row.call.as_str() {
+        "text_part" => find_text(alloc, row, answer),
+        "text_part_with" => find_text_with(alloc, row, answer),
+        "forwarded" => read_forwarded(alloc, row, answer),
+        "mails_inside" => list_mails(alloc, row, answer),
+        _ => return Ok(false),
+    };
+    if let Err(error) = outcome {
+        answer.refusal(error)?;
+    }
+    Ok(true)
+}
+
+/// `text_part MAIL => TEXT`, the text that `get_body` returns of the part.
+fn find_text(alloc: Global, row: &Row, answer: &mut Answer) -> Result<(), MailParseError> {
+    let mail = parse_mail(alloc, row.bytes(0)?)?;
+    match text_part(alloc, &mail)? {
+        Some(part) => answer.text_or_refusal(part.get_body(alloc)),
+        None => Ok(answer.word("none")?),
+    }
+}
+
+/// `text_part_with MAIL => TEXT` likewise, under all tables.
+fn find_text_with(alloc: Global, row: &Row, answer: &mut Answer) -> Result<(), MailParseError> {
+    let mail = parse_mail_with(alloc, row.bytes(0)?, &TABLES)?;
+    match text_part_with(alloc, &mail, &TABLES)? {
+        Some(part) => answer.text_or_refusal(part.get_body_with(alloc, &TABLES)),
+        None => Ok(answer.word("none")?),
+    }
+}
+
+/// `forwarded MAIL PART LEVELS => BODY`, the bytes that `get_body_raw` returns of the mail inside,
+/// or `none`. The whole mail is part 0.
+fn read_forwarded(alloc: Global, row: &Row, answer: &mut Answer) -> Result<(), MailParseError> {
+    let mail = parse_mail(alloc, row.bytes(0)?)?;
+    let part = part_at(alloc, &mail, row.number(1)?)?;
+    match forwarded(alloc, part, level(row, 2)?.min(MAX_LEVELS))? {
+        Some(inside) => answer.bytes_or_refusal(inside.get_body_raw(alloc)),
+        None => Ok(answer.word("none")?),
+    }
+}
+
+/// `mails_inside MAIL MOST => BYTES` for each mail.
+fn list_mails(alloc: Global, row: &Row, answer: &mut Answer) -> Result<(), MailParseError> {
+    let mail = parse_mail(alloc, row.bytes(0)?)?;
+    for inside in &mails_inside(alloc, &mail, level(row, 1)?)? {
+        answer.bytes(inside.as_slice())?;
+    }
+    Ok(())
+}
+
+/// The number of levels that an input writes.
+fn level(row: &Row, at: usize) -> Result<u8, MailParseError> {
+    u8::try_from(row.number(at)?).map_err(|_e| FORM)
 }

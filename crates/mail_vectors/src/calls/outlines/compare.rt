@@ -1,0 +1,94 @@
+//! A message that was read, beside an outline.
+
+use mail_laws::render::{Outline, OutlineKind, encode_value, render};
+use mailparse::body::Body;
+use mailparse::{MailHeader, MailParseError, ParsedMail};
+use std::alloc::Global;
+use std::str::from_utf8;
+
+/// Whether a message is the one that an outline stands for: its bytes, its headers in order, its
+/// body as it stands, and its parts in order.
+pub fn is_message_of(
+    alloc: Global,
+    outline: &Outline,
+    mail: &ParsedMail<'_>,
+) -> Result<bool, MailParseError> {
+    let bytes = render(alloc, outline)?;
+    if mail.raw_bytes != bytes.as_slice() || !are_headers_of(alloc, outline, mail)? {
+        return Ok(false);
+    }
+    match &outline.kind {
+        OutlineKind::Leaf(body) => {
+            Ok(mail.subparts.is_empty() && has_body(alloc, mail, body.as_slice())?)
+        }
+        OutlineKind::Branch { boundary: _, parts } => {
+            if mail.subparts.len() != parts.len() || !has_body(alloc, mail, b"")? {
+                return Ok(false);
+            }
+            let mut read = mail.subparts.iter();
+            for part in parts {
+                let Some(message) = read.next() else {
+                    return Ok(false);
+                };
+                if !is_message_of(alloc, part, message)? {
+                    return Ok(false);
+                }
+            }
+            Ok(true)
+        }
+    }
+}
+
+/// Whether a message has the headers of an outline, in order.
+fn are_headers_of(
+    alloc: Global,
+    outline: &Outline,
+    mail: &ParsedMail<'_>,
+) -> Result<bool, MailParseError> {
+    let mut read = mail.headers.iter();
+    for header in &outline.headers {
+        let Some(found) = read.next() else {
+            return Ok(false);
+        };
+        if !is_header(alloc, header.0.as_slice(), header.1.as_slice(), found)? {
+            return Ok(false);
+        }
+    }
+    Ok(read.next().is_none())
+}
+
+/// Whether a header has this key, and the value that this text is written as, which shows it.
+fn is_header(
+    alloc: Global,
+    key: &[u8],
+    value: &[u8],
+    header: &MailHeader<'_>,
+) -> Result<bool, MailParseError> {
+    let Ok(text) = from_utf8(value) else {
+        return Ok(false);
+    };
+    let written = encode_value(alloc, text)?;
+    let shown = header.get_value(alloc)?;
+    Ok(
+        header.get_key_raw() == key
+            && header.get_value_raw() == written.as_bytes()
+            && shown.as_str() == text,
+    )
+}
+
+/// Whether the body of a message stands as these bytes.
+fn has_body(alloc: Global, mail: &ParsedMail<'_>, wanted: &[u8]) -> Result<bool, MailParseError> {
+    let body = mail.get_body_encoded(alloc)?;
+    Ok(raw_of(&body) == wanted)
+}
+
+/// The bytes of a body as they stand.
+fn raw_of<'a>(body: &Body<'a>) -> &'a [u8] {
+    match body {
+        Body::Base64(body) => body.get_raw(),
+        Body::QuotedPrintable(body) => body.get_raw(),
+        Body::SevenBit(body) => body.get_raw(),
+        Body::EightBit(body) => body.get_raw(),
+        Body::Binary(body) => body.get_raw(),
+    }
+}

@@ -1,0 +1,106 @@
+//! An outline, step by step.
+
+use crate::notation::{FORM, Row};
+use mail_laws::render::{Outline, OutlineKind};
+use mailparse::MailParseError;
+use std::alloc::Global;
+
+/// What the steps so far made.
+#[derive(Drop)]
+struct Made {
+    /// The headers of the outline that is made next.
+    headers: Vec<(Vec<u8>, Vec<u8>)>,
+    /// The outlines that are in no other one.
+    outlines: Vec<Outline>,
+}
+
+/// The last outline that the steps of a row make.
+pub fn outline_of(alloc: Global, row: &Row) -> Result<Outline, MailParseError> {
+    let mut made = Made {
+        headers: Vec::new(alloc),
+        outlines: Vec::new(alloc),
+    };
+    let mut at: usize = 0;
+    for _turn in 0..row.count() {
+        if at >= row.count() {
+            break;
+        }
+        let size = made.take(alloc, row, at)?;
+        at = at.saturating_add(size);
+    }
+    made.outlines.pop().ok_or(FORM)
+}
+
+impl Made {
+    /// Takes the step at this input, and returns how many inputs it has.
+    fn take(&mut self, alloc: Global, row: &Row, at: usize) -> Result<usize, MailParseError> {
+        let (second, third) = (at.saturating_add(1), at.saturating_add(2));
+        match row.text(at)? {
+            "header" => {
+                self.add_header(alloc, row.bytes(second)?, row.bytes(third)?)?;
+                Ok(3)
+            }
+            "leaf" => {
+                let body = row.bytes(second)?.to_vec(alloc)?;
+                self.add(alloc, OutlineKind::Leaf(body))?;
+                Ok(2)
+            }
+            "branch" => {
+                self.add_branch(alloc, row.bytes(second)?, row.number(third)?)?;
+                Ok(3)
+            }
+            "mixed" => {
+                self.add_type(alloc, row.bytes(second)?)?;
+                self.add_branch(alloc, row.bytes(second)?, row.number(third)?)?;
+                Ok(3)
+            }
+            _ => Err(FORM),
+        }
+    }
+
+    /// Adds a header to the outline that is made next.
+    fn add_header(
+        &mut self,
+        alloc: Global,
+        key: &[u8],
+        value: &[u8],
+    ) -> Result<(), MailParseError> {
+        let key = key.to_vec(alloc)?;
+        let value = value.to_vec(alloc)?;
+        self.headers.push((key, value))?;
+        Ok(())
+    }
+
+    /// Adds the header that names a boundary.
+    fn add_type(&mut self, alloc: Global, boundary: &[u8]) -> Result<(), MailParseError> {
+        let mut value = b"multipart/mixed; boundary=".to_vec(alloc)?;
+        value.extend_from_slice(boundary)?;
+        self.add_header(alloc, b"Content-Type", value.as_slice())
+    }
+
+    /// Makes an outline whose parts are the last so many that were made.
+    fn add_branch(
+        &mut self,
+        alloc: Global,
+        boundary: &[u8],
+        count: usize,
+    ) -> Result<(), MailParseError> {
+        let boundary = boundary.to_vec(alloc)?;
+        let mut parts = Vec::new(alloc);
+        for _part in 0..count {
+            let Some(part) = self.outlines.pop() else {
+                return Err(FORM);
+            };
+            parts.push(part)?;
+        }
+        parts.reverse();
+        self.add(alloc, OutlineKind::Branch { boundary, parts })
+    }
+
+    /// Makes an outline.
+    fn add(&mut self, alloc: Global, kind: OutlineKind) -> Result<(), MailParseError> {
+        let headers = std::mem::replace(&mut self.headers, Vec::new(alloc));
+        self.outlines.push(Outline { headers, kind })?;
+        Ok(())
+    }
+}
