@@ -4,18 +4,24 @@ mod bodies;
 mod charsets;
 mod dates;
 mod encoded_values;
+mod errors;
 mod files;
 mod headers;
 mod ids;
+mod kinds;
 mod lenient;
+mod levels;
+mod lookups;
 mod mailboxes;
 mod mails;
 mod outlines;
 mod parameters;
+mod parts;
 mod reports;
 mod searches;
 mod sweeps;
 mod tables;
+mod series;
 mod texts;
 mod threads;
 mod transfer;
@@ -34,6 +40,12 @@ pub fn make(alloc: Global, row: &Row, answer: &mut Answer) -> Result<(), MailPar
         || bodies::make(alloc, row, answer)?
         || mails::make(alloc, row, answer)?
         || headers::make(alloc, row, answer)?
+        || lookups::make(alloc, row, answer)?
+        || parts::make(alloc, row, answer)?
+        || levels::make(alloc, row, answer)?
+        || kinds::make(alloc, row, answer)?
+        || series::make(alloc, row, answer)?
+        || errors::make(alloc, row, answer)?
         || ids::make(alloc, row, answer)?
         || searches::make(alloc, row, answer)?
         || charsets::make(alloc, row, answer)?

@@ -1,0 +1,129 @@
+//! The calls on how deep parts go, and on mails that are cut short.
+//!
+//! - `max_levels => NUMBER`.
+//! - `parse_mail_limited LEVELS MAIL => PARTS`: how many parts there are, or the refusal.
+//! - `levels MAIL => LEVELS PARTS PARTS`: the least limit under which the mail is not refused for its
+//!   depth, how many parts there are then, or the refusal, and the same of `parse_mail`.
+//! - `truncated MAIL => COUNT`: at how many lengths the mail can be cut, from none of its bytes to
+//!   all of them, so that what is left is read, its bodies, too, unless one is no Base64, and holds
+//!   no more headers, bytes of bodies, and parts at three bytes each, than it has bytes. Each other
+//!   length stands before the count, with the refusal, or with the word `more`.
+
+use crate::calls::parts::Held;
+use crate::notation::{Answer, FORM, Row};
+use mailparse::{MAX_LEVELS, MailParseError, ParsedMail, parse_mail, parse_mail_limited};
+use std::alloc::Global;
+
+/// Makes the call of a row, if it is one of these.
+pub fn make(alloc: Global, row: &Row, answer: &mut Answer) -> Result<bool, MailParseError> {
+    match row.call.as_str() {
+        "max_levels" => answer.number(usize::from(MAX_LEVELS))?,
+        "parse_mail_limited" => {
+            let levels = u8::try_from(row.number(0)?).map_err(|_e| FORM)?;
+            push_count(answer, count_under(alloc, row.bytes(1)?, levels))?;
+        }
+        "levels" => {
+            push_least(alloc, answer, row.bytes(0)?)?;
+            push_count(answer, count_of(alloc, row.bytes(0)?))?;
+        }
+        "truncated" => push_truncated(alloc, answer, row.bytes(0)?)?,
+        _ => return Ok(false),
+    }
+    Ok(true)
+}
+
+/// How many parts a mail has, parts of parts among them, under a limit.
+fn count_under(alloc: Global, raw: &[u8], levels: u8) -> Result<usize, MailParseError> {
+    if levels > MAX_LEVELS {
+        return Err(FORM);
+    }
+    let mail = parse_mail_limited(alloc, raw, levels)?;
+    Ok(mail.parts(alloc)?.count().saturating_sub(1))
+}
+
+/// How many parts a mail has, parts of parts among them.
+fn count_of(alloc: Global, raw: &[u8]) -> Result<usize, MailParseError> {
+    let mail = parse_mail(alloc, raw)?;
+    Ok(mail.parts(alloc)?.count().saturating_sub(1))
+}
+
+fn push_count(
+    answer: &mut Answer,
+    found: Result<usize, MailParseError>,
+) -> Result<(), MailParseError> {
+    match found {
+        Ok(count) => Ok(answer.number(count)?),
+        Err(error) => answer.refusal(error),
+    }
+}
+
+fn push_least(alloc: Global, answer: &mut Answer, raw: &[u8]) -> Result<(), MailParseError> {
+    for levels in 0..MAX_LEVELS {
+        let found = count_under(alloc, raw, levels);
+        if !is_too_deep(&found) {
+            answer.number(usize::from(levels))?;
+            return push_count(answer, found);
+        }
+    }
+    answer.number(usize::from(MAX_LEVELS))?;
+    push_count(answer, count_under(alloc, raw, MAX_LEVELS))
+}
+
+/// Whether a mail is refused for its depth.
+fn is_too_deep(found: &Result<usize, MailParseError>) -> bool {
+    match found {
+        Err(MailParseError::Generic(text)) => *text == "Recursion limit reached",
+        _ => false,
+    }
+}
+
+fn push_truncated(alloc: Global, answer: &mut Answer, raw: &[u8]) -> Result<(), MailParseError> {
+    let mut count = 0usize;
+    for length in 0..=raw.len() {
+        let front = raw.get(..length).ok_or(FORM)?;
+        if is_read(alloc, answer, front)? {
+            count = count.saturating_add(1);
+        }
+    }
+    Ok(answer.number(count)?)
+}
+
+/// Whether the front of a mail is read and holds no more than its bytes; otherwise writes why not.
+fn is_read(alloc: Global, answer: &mut Answer, front: &[u8]) -> Result<bool, MailParseError> {
+    match outcome(alloc, front) {
+        Ok(true) => return Ok(true),
+        Ok(false) => {
+            answer.number(front.len())?;
+            answer.word("more")?;
+        }
+        Err(error) => {
+            answer.number(front.len())?;
+            answer.refusal(error)?;
+        }
+    }
+    Ok(false)
+}
+
+/// Whether the front of a mail holds no more than its bytes.
+fn outcome(alloc: Global, front: &[u8]) -> Result<bool, MailParseError> {
+    let mail = parse_mail(alloc, front)?;
+    read_bodies(alloc, &mail)?;
+    let held = Held::of(alloc, &mail)?;
+    let bytes = held.headers.saturating_add(held.bytes);
+    Ok(bytes.saturating_add(held.parts.saturating_mul(3)) <= front.len())
+}
+
+/// Reads the bytes that each body stands for, as far as it is Base64 where it says so.
+fn read_bodies(alloc: Global, mail: &ParsedMail<'_>) -> Result<(), MailParseError> {
+    for part in mail.parts(alloc)? {
+        read_body(alloc, part)?;
+    }
+    Ok(())
+}
+
+fn read_body(alloc: Global, part: &ParsedMail<'_>) -> Result<(), MailParseError> {
+    match part.get_body_raw(alloc) {
+        Ok(_) | Err(MailParseError::Base64DecodeError(_)) => Ok(()),
+        Err(error) => Err(error),
+    }
+}

@@ -1,0 +1,249 @@
+//! The calls on mails and on their parts. Each answers for the mail and then for each of its parts,
+//! each before its own parts, where nothing else is said; a mail that is refused is an answer, too.
+//!
+//! - `outline MAIL => part SUBPARTS HEADERS MIMETYPE BODY`, the body as text.
+//! - `types MAIL => MIMETYPE CHARSET`.
+//! - `get_raw_bytes MAIL => part RAW BLOCK HEADERS`: the bytes of the part, those of its block with the
+//!   blank line, and how many headers there are; `get_raw_bytes_each BYTES` reads each byte alone as a
+//!   mail.
+//! - `get_body MAIL => TEXT`, `get_body_raw MAIL => BYTES`.
+//! - `get_content_disposition MAIL => part KIND`, then NAME VALUE of each parameter.
+//! - `count_parts MAIL => COUNT`; `held MAIL => HEADERS BYTES PARTS`: how many headers there are, how
+//!   many bytes of bodies, and how many parts.
+//! - `get_headers MAIL => KEY VALUE` of each header of the mail.
+//! - `debug_headers MAIL => TEXT`, `debug_mail MAIL => TEXT`.
+//! - `without_headers MAIL => COUNT BLOCK`: the headers that are left when they were removed, and the
+//!   bytes of the block; `without_parts MAIL => COUNT`; `under_charset MAIL LABEL => TEXT`: the body
+//!   when the charset of the type was set.
+
+use crate::calls::headers;
+use crate::notation::{Answer, Row};
+use mailparse::body::Body;
+use mailparse::{
+    DispositionType, MailParseError, ParsedContentDisposition, ParsedMail, parse_mail,
+};
+use std::alloc::{AllocError, Global};
+use std::collections::BTreeMap;
+
+/// Makes the call of a row, if it is one of these.
+pub fn make(alloc: Global, row: &Row, answer: &mut Answer) -> Result<bool, MailParseError> {
+    match row.call.as_str() {
+        "outline" | "types" | "get_raw_bytes" | "get_body" | "get_body_raw"
+        | "get_content_disposition" => push_parts(alloc, row, answer)?,
+        "count_parts" | "held" | "get_headers" | "debug_headers" | "debug_mail" => {
+            push_whole(alloc, row, answer)?;
+        }
+        "without_headers" | "without_parts" | "under_charset" => {
+            push_changed(alloc, row, answer)?;
+        }
+        "get_raw_bytes_each" => push_each_mail(alloc, answer, row.bytes(0)?)?,
+        _ => return Ok(false),
+    }
+    Ok(true)
+}
+
+/// Writes what a call says of each part.
+fn push_parts(alloc: Global, row: &Row, answer: &mut Answer) -> Result<(), MailParseError> {
+    match parse_mail(alloc, row.bytes(0)?) {
+        Ok(mail) => push_tree(alloc, answer, row.call.as_str(), &mail),
+        Err(error) => answer.refusal(error),
+    }
+}
+
+fn push_tree(
+    alloc: Global,
+    answer: &mut Answer,
+    call: &str,
+    mail: &ParsedMail<'_>,
+) -> Result<(), MailParseError> {
+    for part in mail.parts(alloc)? {
+        push_part(alloc, answer, call, part)?;
+    }
+    Ok(())
+}
+
+fn push_part(
+    alloc: Global,
+    answer: &mut Answer,
+    call: &str,
+    part: &ParsedMail<'_>,
+) -> Result<(), MailParseError> {
+    match call {
+        "outline" => push_outline(alloc, answer, part),
+        "types" => {
+            answer.text(part.ctype.mimetype.as_str())?;
+            Ok(answer.text(part.ctype.charset.as_str())?)
+        }
+        "get_raw_bytes" => Ok(push_raw_bytes(answer, part)?),
+        "get_body" => answer.text_or_refusal(part.get_body(alloc)),
+        "get_body_raw" => answer.bytes_or_refusal(part.get_body_raw(alloc)),
+        _ => push_disposition(answer, &part.get_content_disposition(alloc)?),
+    }
+}
+
+fn push_outline(
+    alloc: Global,
+    answer: &mut Answer,
+    part: &ParsedMail<'_>,
+) -> Result<(), MailParseError> {
+    answer.word("part")?;
+    answer.number(part.subparts.len())?;
+    answer.number(part.headers.len())?;
+    answer.text(part.ctype.mimetype.as_str())?;
+    answer.text_or_refusal(part.get_body(alloc))
+}
+
+fn push_raw_bytes(answer: &mut Answer, part: &ParsedMail<'_>) -> Result<(), AllocError> {
+    answer.word("part")?;
+    answer.bytes(part.raw_bytes)?;
+    answer.bytes(part.get_headers().get_raw_bytes())?;
+    answer.number(part.headers.len())
+}
+
+fn push_disposition(
+    answer: &mut Answer,
+    found: &ParsedContentDisposition,
+) -> Result<(), MailParseError> {
+    answer.word("part")?;
+    push_kind(answer, &found.disposition)?;
+    Ok(push_pairs(answer, &found.params)?)
+}
+
+/// Writes the kind of a disposition.
+pub fn push_kind(answer: &mut Answer, kind: &DispositionType) -> Result<(), AllocError> {
+    match kind {
+        DispositionType::Inline => answer.word("inline"),
+        DispositionType::Attachment => answer.word("attachment"),
+        DispositionType::FormData => answer.word("form-data"),
+        DispositionType::Extension(name) => {
+            answer.word("extension")?;
+            answer.text(name.as_str())
+        }
+    }
+}
+
+/// Writes NAME and VALUE of each parameter.
+fn push_pairs(answer: &mut Answer, params: &BTreeMap<String, String>) -> Result<(), AllocError> {
+    for (name, value) in params {
+        answer.text(name.as_str())?;
+        answer.text(value.as_str())?;
+    }
+    Ok(())
+}
+
+/// Writes what a call says of the whole mail.
+fn push_whole(alloc: Global, row: &Row, answer: &mut Answer) -> Result<(), MailParseError> {
+    let mail = match parse_mail(alloc, row.bytes(0)?) {
+        Ok(mail) => mail,
+        Err(error) => return answer.refusal(error),
+    };
+    match row.call.as_str() {
+        "count_parts" => Ok(answer.number(mail.parts(alloc)?.count())?),
+        "held" => push_held(alloc, answer, &mail),
+        "get_headers" => Ok(push_listed(answer, &mail)?),
+        "debug_headers" => {
+            let block = mail.get_headers();
+            let shown = format!(in alloc; "{block:?}")?;
+            Ok(answer.text(shown.as_str())?)
+        }
+        _ => {
+            let shown = format!(in alloc; "{mail:?}")?;
+            Ok(answer.text(shown.as_str())?)
+        }
+    }
+}
+
+fn push_held(
+    alloc: Global,
+    answer: &mut Answer,
+    mail: &ParsedMail<'_>,
+) -> Result<(), MailParseError> {
+    let held = Held::of(alloc, mail)?;
+    answer.number(held.headers)?;
+    answer.number(held.bytes)?;
+    Ok(answer.number(held.parts)?)
+}
+
+/// What a mail and its parts hold together.
+#[derive(Clone, Copy)]
+pub struct Held {
+    /// How many headers.
+    pub headers: usize,
+    /// How many bytes their bodies have.
+    pub bytes: usize,
+    /// How many parts there are, parts of parts among them.
+    pub parts: usize,
+}
+
+impl Held {
+    /// What this mail holds.
+    pub fn of(alloc: Global, mail: &ParsedMail<'_>) -> Result<Held, MailParseError> {
+        let (mut headers, mut bytes, mut nodes) = (0usize, 0usize, 0usize);
+        for node in mail.parts(alloc)? {
+            headers = headers.saturating_add(node.headers.len());
+            bytes = bytes.saturating_add(raw_bytes(&node.get_body_encoded(alloc)?).len());
+            nodes = nodes.saturating_add(1);
+        }
+        Ok(Held {
+            headers,
+            bytes,
+            parts: nodes.saturating_sub(1),
+        })
+    }
+}
+
+/// The bytes of a body as they stand in the mail.
+fn raw_bytes<'a>(body: &Body<'a>) -> &'a [u8] {
+    match body {
+        Body::Base64(encoded) | Body::QuotedPrintable(encoded) => encoded.get_raw(),
+        Body::SevenBit(text) | Body::EightBit(text) => text.get_raw(),
+        Body::Binary(binary) => binary.get_raw(),
+    }
+}
+
+/// Writes the headers as the block gives them.
+fn push_listed(answer: &mut Answer, mail: &ParsedMail<'_>) -> Result<(), AllocError> {
+    for header in mail.get_headers() {
+        headers::push_field(answer, header)?;
+    }
+    Ok(())
+}
+
+/// Writes what a call says of a mail that was changed.
+fn push_changed(alloc: Global, row: &Row, answer: &mut Answer) -> Result<(), MailParseError> {
+    let mut mail = parse_mail(alloc, row.bytes(0)?)?;
+    match row.call.as_str() {
+        "without_headers" => {
+            let headers = &mut mail.headers;
+            headers.clear();
+            let block = mail.get_headers();
+            let raw = block.get_raw_bytes();
+            answer.number(block.into_iter().count())?;
+            Ok(answer.bytes(raw)?)
+        }
+        "without_parts" => {
+            let subparts = &mut mail.subparts;
+            subparts.clear();
+            Ok(answer.number(mail.parts(alloc)?.count())?)
+        }
+        _ => {
+            let ctype = &mut mail.ctype;
+            ctype.charset = String::from_str(alloc, row.text(1)?)?;
+            answer.text_or_refusal(mail.get_body(alloc))
+        }
+    }
+}
+
+fn push_each_mail(alloc: Global, answer: &mut Answer, bytes: &[u8]) -> Result<(), MailParseError> {
+    for byte in bytes {
+        push_mail_of(alloc, answer, &[*byte])?;
+    }
+    Ok(())
+}
+
+fn push_mail_of(alloc: Global, answer: &mut Answer, raw: &[u8]) -> Result<(), MailParseError> {
+    match parse_mail(alloc, raw) {
+        Ok(mail) => push_tree(alloc, answer, "get_raw_bytes", &mail),
+        Err(error) => answer.refusal(error),
+    }
+}
