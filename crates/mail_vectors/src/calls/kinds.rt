@@ -5,6 +5,8 @@
 //! - `default_content_type => MIMETYPE CHARSET COUNT DEBUG`, with how many parameters there are.
 //! - `default_disposition => KIND KIND KIND COUNT`: the kind of the default, of its copy, and the default
 //!   kind, and how many parameters there are; and `debug_default_disposition => TEXT`.
+//! - `get_content_type ENCODING LABEL BODY => MIMETYPE CHARSET`: the type of a body that was made of the
+//!   default type with this charset, in this transfer encoding or `none`.
 //! - `equal_dispositions TEXT TEXT => true`, or `false`: whether the kinds of two dispositions are
 //!   equal, and so a copy of the first and the second.
 //! - `show_ids ID.. => DISPLAY DEBUG` of a list of these ids.
@@ -14,6 +16,7 @@
 
 use crate::calls::parts::push_kind;
 use crate::notation::{Answer, FORM, Row};
+use mailparse::body::Body;
 use mailparse::{
     DispositionType, MailParseError, MessageIdList, ParsedContentDisposition, ParsedContentType,
     parse_content_disposition, parse_content_type,
@@ -33,6 +36,7 @@ pub fn make(alloc: Global, row: &Row, answer: &mut Answer) -> Result<bool, MailP
             let shown = format!(in alloc; "{found:?}")?;
             answer.text(shown.as_str())?;
         }
+        "get_content_type" => push_type(alloc, row, answer)?,
         "equal_dispositions" => push_equal(alloc, row, answer)?,
         "show_ids" => push_shown(alloc, row, answer)?,
         "copy_ids" => push_copied(alloc, row, answer)?,
@@ -75,6 +79,28 @@ fn push_default(
         _ => return Ok(false),
     }
     Ok(true)
+}
+
+fn push_type(alloc: Global, row: &Row, answer: &mut Answer) -> Result<(), MailParseError> {
+    let mut ctype = ParsedContentType::default(alloc)?;
+    ctype.charset = String::from_str(alloc, row.text(1)?)?;
+    let encoding = match row.optional_text(0)? {
+        Some(name) => Some(String::from_str(alloc, name)?),
+        None => None,
+    };
+    let body = Body::new(row.bytes(2)?, &ctype, &encoding);
+    let found = type_of(&body);
+    answer.text(found.mimetype.as_str())?;
+    Ok(answer.text(found.charset.as_str())?)
+}
+
+/// The type that a body was made with.
+fn type_of<'a>(body: &Body<'a>) -> &'a ParsedContentType {
+    match body {
+        Body::Base64(encoded) | Body::QuotedPrintable(encoded) => encoded.get_content_type(),
+        Body::SevenBit(text) | Body::EightBit(text) => text.get_content_type(),
+        Body::Binary(binary) => binary.get_content_type(),
+    }
 }
 
 fn push_equal(alloc: Global, row: &Row, answer: &mut Answer) -> Result<(), MailParseError> {

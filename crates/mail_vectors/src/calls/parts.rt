@@ -8,6 +8,7 @@
 //!   mail.
 //! - `get_body MAIL => TEXT`, `get_body_raw MAIL => BYTES`.
 //! - `get_content_disposition MAIL => part KIND`, then NAME VALUE of each parameter.
+//! - `next_parts MAIL TIMES => MIMETYPE`, or the word `none`, each time that the next part is asked for.
 //! - `count_parts MAIL => COUNT`; `held MAIL => HEADERS BYTES PARTS`: how many headers there are, how
 //!   many bytes of bodies, and how many parts.
 //! - `get_headers MAIL => KEY VALUE` of each header of the mail.
@@ -30,7 +31,7 @@ pub fn make(alloc: Global, row: &Row, answer: &mut Answer) -> Result<bool, MailP
     match row.call.as_str() {
         "outline" | "types" | "get_raw_bytes" | "get_body" | "get_body_raw"
         | "get_content_disposition" => push_parts(alloc, row, answer)?,
-        "count_parts" | "held" | "get_headers" | "debug_headers" | "debug_mail" => {
+        "count_parts" | "next_parts" | "held" | "get_headers" | "debug_headers" | "debug_mail" => {
             push_whole(alloc, row, answer)?;
         }
         "without_headers" | "without_parts" | "under_charset" => {
@@ -139,6 +140,7 @@ fn push_whole(alloc: Global, row: &Row, answer: &mut Answer) -> Result<(), MailP
     };
     match row.call.as_str() {
         "count_parts" => Ok(answer.number(mail.parts(alloc)?.count())?),
+        "next_parts" => push_next(alloc, answer, &mail, row.number(1)?),
         "held" => push_held(alloc, answer, &mail),
         "get_headers" => Ok(push_listed(answer, &mail)?),
         "debug_headers" => {
@@ -150,6 +152,26 @@ fn push_whole(alloc: Global, row: &Row, answer: &mut Answer) -> Result<(), MailP
             let shown = format!(in alloc; "{mail:?}")?;
             Ok(answer.text(shown.as_str())?)
         }
+    }
+}
+
+fn push_next(
+    alloc: Global,
+    answer: &mut Answer,
+    mail: &ParsedMail<'_>,
+    times: usize,
+) -> Result<(), MailParseError> {
+    let mut parts = mail.parts(alloc)?;
+    for _turn in 0..times {
+        push_mimetype(answer, parts.next())?;
+    }
+    Ok(())
+}
+
+fn push_mimetype(answer: &mut Answer, part: Option<&ParsedMail<'_>>) -> Result<(), AllocError> {
+    match part {
+        Some(part) => answer.text(part.ctype.mimetype.as_str()),
+        None => answer.word("none"),
     }
 }
 

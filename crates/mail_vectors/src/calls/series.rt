@@ -1,7 +1,7 @@
 //! The calls that are made on each text of a series.
 //!
-//! - `get_value_each FRONT MIDDLE BACK CHARS => TEXT..`: for each character C what the value FRONT, C,
-//!   MIDDLE, C, BACK reads as.
+//! - `get_value_each CHARACTERS PIECE.. => TEXT..`: for each character what the value reads as that is
+//!   the pieces with the character between two of them.
 //! - `dateparse_each FRONT BACK WORD.. => SECONDS..`: for each word what the date FRONT, WORD, BACK is.
 //! - `parse_many_parameters COUNT => COUNT NAME VALUE`: a type with so many parameters `n0=v0`,
 //!   `n1=v1` and so on; how many there are, and the last that was written.
@@ -14,7 +14,7 @@ use std::alloc::Global;
 pub fn make(alloc: Global, row: &Row, answer: &mut Answer) -> Result<bool, MailParseError> {
     match row.call.as_str() {
         "get_value_each" => {
-            for character in row.text(3)?.chars() {
+            for character in row.text(0)?.chars() {
                 push_value(alloc, row, answer, character)?;
             }
         }
@@ -35,8 +35,13 @@ fn push_value(
     answer: &mut Answer,
     character: char,
 ) -> Result<(), MailParseError> {
-    let (front, middle, back) = (row.text(0)?, row.text(1)?, row.text(2)?);
-    let raw = format!(in alloc; "X:{front}{character}{middle}{character}{back}")?;
+    let mut raw = String::from_str(alloc, "X:")?;
+    for at in 1..row.count() {
+        if at > 1 {
+            raw.push(character)?;
+        }
+        raw.push_str(row.text(at)?)?;
+    }
     let (header, _) = parse_header(raw.as_bytes())?;
     Ok(answer.text(header.get_value(alloc)?.as_str())?)
 }
