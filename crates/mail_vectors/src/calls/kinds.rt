@@ -50,11 +50,7 @@ pub fn make(alloc: Global, row: &Row, answer: &mut Answer) -> Result<bool, MailP
 }
 
 /// Writes a default value, if the call asks for one.
-fn push_default(
-    alloc: Global,
-    call: &str,
-    answer: &mut Answer,
-) -> Result<bool, MailParseError> {
+fn push_default(alloc: Global, call: &str, answer: &mut Answer) -> Result<bool, MailParseError> {
     match call {
         "default_content_type" => {
             let found = ParsedContentType::default(alloc)?;

@@ -15,7 +15,10 @@ use std::alloc::{AllocError, Global};
 /// Makes the call of a row, if it is one of these.
 pub fn make(alloc: Global, row: &Row, answer: &mut Answer) -> Result<bool, MailParseError> {
     match row.call.as_str() {
-        "get_first_header" | "get_all_headers" | "get_first_value" | "get_all_values"
+        "get_first_header"
+        | "get_all_headers"
+        | "get_first_value"
+        | "get_all_values"
         | "count_headers" => look_up(alloc, row, answer)?,
         "names_of_each" => push_names_of_each(alloc, answer, row.bytes(0)?, row.text(1)?)?,
         _ => return Ok(false),

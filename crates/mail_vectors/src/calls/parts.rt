@@ -29,7 +29,11 @@ use std::collections::BTreeMap;
 /// Makes the call of a row, if it is one of these.
 pub fn make(alloc: Global, row: &Row, answer: &mut Answer) -> Result<bool, MailParseError> {
     match row.call.as_str() {
-        "outline" | "types" | "get_raw_bytes" | "get_body" | "get_body_raw"
+        "outline"
+        | "types"
+        | "get_raw_bytes"
+        | "get_body"
+        | "get_body_raw"
         | "get_content_disposition" => push_parts(alloc, row, answer)?,
         "count_parts" | "next_parts" | "held" | "get_headers" | "debug_headers" | "debug_mail" => {
             push_whole(alloc, row, answer)?;
