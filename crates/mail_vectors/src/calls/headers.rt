@@ -7,8 +7,8 @@
 //!   before it.
 //! - `get_key RAW => TEXT`, `get_key_ref RAW => borrowed TEXT`, or `owned TEXT`, and both of them in
 //!   turn for each key of `k` and a byte: `get_key_each BYTES`.
-//! - `header RAW => KEY TEXT STRICT`: `get_key`, `get_value` and `get_value_utf8`; `strict_value RAW
-//!   => STRICT`.
+//! - `header RAW => KEY TEXT STRICT`: `get_key`, `get_value` and `get_value_utf8`.
+//! - `strict_value RAW => TEXT`: `get_value_utf8`, where the refusal is the text that the error holds.
 //! - `debug_header RAW => TEXT`.
 
 use crate::notation::{Answer, Row};
@@ -82,7 +82,7 @@ fn push_block(alloc: Global, answer: &mut Answer, raw: &[u8]) -> Result<(), Mail
 }
 
 /// Writes KEY and VALUE of each header.
-pub fn push_fields(answer: &mut Answer, headers: &[MailHeader<'_>]) -> Result<(), AllocError> {
+fn push_fields(answer: &mut Answer, headers: &[MailHeader<'_>]) -> Result<(), AllocError> {
     for header in headers {
         push_field(answer, header)?;
     }
@@ -161,7 +161,11 @@ fn push_texts(alloc: Global, answer: &mut Answer, raw: &[u8]) -> Result<(), Mail
 
 fn push_strict(alloc: Global, answer: &mut Answer, raw: &[u8]) -> Result<(), MailParseError> {
     let (header, _) = parse_header(raw)?;
-    answer.text_or_refusal(header.get_value_utf8(alloc))
+    match header.get_value_utf8(alloc) {
+        Ok(text) => Ok(answer.text(text.as_str())?),
+        Err(MailParseError::EncodingError(text)) => Ok(answer.error(text.as_str())?),
+        Err(error) => Err(error),
+    }
 }
 
 fn push_debug(alloc: Global, answer: &mut Answer, raw: &[u8]) -> Result<(), MailParseError> {

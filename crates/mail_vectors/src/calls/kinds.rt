@@ -3,8 +3,8 @@
 //!
 //! - `debug_content_type TEXT => TEXT`, `debug_content_disposition TEXT => TEXT`.
 //! - `default_content_type => MIMETYPE CHARSET COUNT DEBUG`, with how many parameters there are.
-//! - `default_disposition => KIND KIND KIND COUNT`: the kind of the default, of its copy, and the default
-//!   kind, and how many parameters there are; and `debug_default_disposition => TEXT`.
+//! - `default_disposition => KIND EQUAL EQUAL`: the default, and whether a copy of its kind and the
+//!   default kind are equal to it; `debug_default_disposition => TEXT`.
 //! - `get_content_type ENCODING LABEL BODY => MIMETYPE CHARSET`: the type of a body that was made of the
 //!   default type with this charset, in this transfer encoding or `none`.
 //! - `equal_dispositions TEXT TEXT => true`, or `false`: whether the kinds of two dispositions are
@@ -14,7 +14,8 @@
 //!   last id, which is taken off the list, whether both are equal then, and the ids of both.
 //! - `equal_ids ID ID => true`, or `false`: whether two lists of one id are equal.
 
-use crate::calls::parts::push_kind;
+use crate::calls::bodies::owned;
+use crate::calls::parameters::push_disposition;
 use crate::notation::{Answer, FORM, Row};
 use mailparse::body::Body;
 use mailparse::{
@@ -62,10 +63,9 @@ fn push_default(alloc: Global, call: &str, answer: &mut Answer) -> Result<bool, 
         }
         "default_disposition" => {
             let found = ParsedContentDisposition::default(alloc);
-            push_kind(answer, &found.disposition)?;
-            push_kind(answer, &found.disposition.clone(alloc)?)?;
-            push_kind(answer, &DispositionType::default())?;
-            answer.number(found.params.len())?;
+            push_disposition(answer, &found)?;
+            answer.truth(found.disposition.clone(alloc)? == found.disposition)?;
+            answer.truth(found.disposition == DispositionType::default())?;
         }
         "debug_default_disposition" => {
             let found = ParsedContentDisposition::default(alloc);
@@ -80,10 +80,7 @@ fn push_default(alloc: Global, call: &str, answer: &mut Answer) -> Result<bool, 
 fn push_type(alloc: Global, row: &Row, answer: &mut Answer) -> Result<(), MailParseError> {
     let mut ctype = ParsedContentType::default(alloc)?;
     ctype.charset = String::from_str(alloc, row.text(1)?)?;
-    let encoding = match row.optional_text(0)? {
-        Some(name) => Some(String::from_str(alloc, name)?),
-        None => None,
-    };
+    let encoding = owned(alloc, row.optional_text(0)?)?;
     let body = Body::new(row.bytes(2)?, &ctype, &encoding);
     let found = type_of(&body);
     answer.text(found.mimetype.as_str())?;

@@ -17,14 +17,12 @@
 //!   bytes of the block; `without_parts MAIL => COUNT`; `under_charset MAIL LABEL => TEXT`: the body
 //!   when the charset of the type was set.
 
-use crate::calls::headers;
+use crate::calls::headers::push_field;
+use crate::calls::parameters::push_disposition;
 use crate::notation::{Answer, Row};
 use mailparse::body::Body;
-use mailparse::{
-    DispositionType, MailParseError, ParsedContentDisposition, ParsedMail, parse_mail,
-};
+use mailparse::{MailParseError, ParsedMail, parse_mail};
 use std::alloc::{AllocError, Global};
-use std::collections::BTreeMap;
 
 /// Makes the call of a row, if it is one of these.
 pub fn make(alloc: Global, row: &Row, answer: &mut Answer) -> Result<bool, MailParseError> {
@@ -82,7 +80,10 @@ fn push_part(
         "get_raw_bytes" => Ok(push_raw_bytes(answer, part)?),
         "get_body" => answer.text_or_refusal(part.get_body(alloc)),
         "get_body_raw" => answer.bytes_or_refusal(part.get_body_raw(alloc)),
-        _ => push_disposition(answer, &part.get_content_disposition(alloc)?),
+        _ => {
+            answer.word("part")?;
+            Ok(push_disposition(answer, &part.get_content_disposition(alloc)?)?)
+        }
     }
 }
 
@@ -103,37 +104,6 @@ fn push_raw_bytes(answer: &mut Answer, part: &ParsedMail<'_>) -> Result<(), Allo
     answer.bytes(part.raw_bytes)?;
     answer.bytes(part.get_headers().get_raw_bytes())?;
     answer.number(part.headers.len())
-}
-
-fn push_disposition(
-    answer: &mut Answer,
-    found: &ParsedContentDisposition,
-) -> Result<(), MailParseError> {
-    answer.word("part")?;
-    push_kind(answer, &found.disposition)?;
-    Ok(push_pairs(answer, &found.params)?)
-}
-
-/// Writes the kind of a disposition.
-pub fn push_kind(answer: &mut Answer, kind: &DispositionType) -> Result<(), AllocError> {
-    match kind {
-        DispositionType::Inline => answer.word("inline"),
-        DispositionType::Attachment => answer.word("attachment"),
-        DispositionType::FormData => answer.word("form-data"),
-        DispositionType::Extension(name) => {
-            answer.word("extension")?;
-            answer.text(name.as_str())
-        }
-    }
-}
-
-/// Writes NAME and VALUE of each parameter.
-fn push_pairs(answer: &mut Answer, params: &BTreeMap<String, String>) -> Result<(), AllocError> {
-    for (name, value) in params {
-        answer.text(name.as_str())?;
-        answer.text(value.as_str())?;
-    }
-    Ok(())
 }
 
 /// Writes what a call says of the whole mail.
@@ -230,7 +200,7 @@ fn raw_bytes<'a>(body: &Body<'a>) -> &'a [u8] {
 /// Writes the headers as the block gives them.
 fn push_listed(answer: &mut Answer, mail: &ParsedMail<'_>) -> Result<(), AllocError> {
     for header in mail.get_headers() {
-        headers::push_field(answer, header)?;
+        push_field(answer, header)?;
     }
     Ok(())
 }
