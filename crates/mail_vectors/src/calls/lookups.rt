@@ -84,13 +84,22 @@ fn push_names_of_each(
     alloc: Global,
     answer: &mut Answer,
     bytes: &[u8],
-    names: &str,
+    characters: &str,
 ) -> Result<(), MailParseError> {
+    let mut names = String::new(alloc);
+    for character in characters.chars() {
+        names.push('K')?;
+        names.push(character)?;
+        names.push(BETWEEN)?;
+    }
     for byte in bytes {
-        push_names(alloc, answer, &[b'k', *byte, b':', b'v'], names)?;
+        push_names(alloc, answer, &[b'k', *byte, b':', b'v'], names.as_str())?;
     }
     Ok(())
 }
+
+/// What stands after each name: no character of a key.
+const BETWEEN: char = '\u{20AC}';
 
 /// Writes the characters that follow `K` in names of this header.
 fn push_names(
@@ -101,15 +110,10 @@ fn push_names(
 ) -> Result<(), MailParseError> {
     let (headers, _) = parse_headers(alloc, raw)?;
     let mut found = String::new(alloc);
-    for character in names.chars() {
-        if is_name(alloc, &headers, character)? {
-            found.push(character)?;
+    for name in names.split(BETWEEN) {
+        if headers.get_first_header(name).is_some() {
+            found.push_str(name.strip_prefix('K').unwrap_or(name))?;
         }
     }
     Ok(answer.text(found.as_str())?)
-}
-
-fn is_name<M: MailHeaderMap>(alloc: Global, map: &M, character: char) -> Result<bool, AllocError> {
-    let name = format!(in alloc; "K{character}")?;
-    Ok(map.get_first_header(name.as_str()).is_some())
 }
