@@ -5,8 +5,8 @@
 //! - `parse_headers RAW => END`, then KEY VALUE of each header; `parse_headers_each` likewise.
 //! - `different_headers RAW => END COUNT`, then KEY VALUE of each header that differs from the one
 //!   before it.
-//! - `get_key RAW => TEXT`, `get_key_ref RAW => borrowed TEXT`, or `owned TEXT`, and both of them in
-//!   turn for each key of `k` and a byte: `get_key_each BYTES`.
+//! - `get_key RAW => TEXT`, `get_key_ref RAW => borrowed TEXT`, or `owned TEXT`; `get_key_ref_each
+//!   BYTES` makes the call on the key of `k` and each byte.
 //! - `header RAW => KEY TEXT STRICT`: `get_key`, `get_value` and `get_value_utf8`.
 //! - `strict_value RAW => TEXT`: `get_value_utf8`, where the refusal is the text that the error holds.
 //! - `debug_header RAW => TEXT`.
@@ -24,7 +24,7 @@ pub fn make(alloc: Global, row: &Row, answer: &mut Answer) -> Result<bool, MailP
         "parse_headers" => push_block(alloc, answer, row.bytes(0)?)?,
         "parse_headers_each" => push_each_block(alloc, answer, row.bytes(0)?)?,
         "different_headers" => push_different(alloc, answer, row.bytes(0)?)?,
-        "get_key_each" => push_each_key(alloc, answer, row.bytes(0)?)?,
+        "get_key_ref_each" => push_each_key(alloc, answer, row.bytes(0)?)?,
         call => return make_on_header(alloc, call, row, answer),
     }
     Ok(true)
@@ -142,14 +142,9 @@ fn push_key_ref(alloc: Global, answer: &mut Answer, raw: &[u8]) -> Result<(), Ma
 
 fn push_each_key(alloc: Global, answer: &mut Answer, bytes: &[u8]) -> Result<(), MailParseError> {
     for byte in bytes {
-        push_both_keys(alloc, answer, &[b'k', *byte, b':', b'v'])?;
+        push_key_ref(alloc, answer, &[b'k', *byte, b':', b'v'])?;
     }
     Ok(())
-}
-
-fn push_both_keys(alloc: Global, answer: &mut Answer, raw: &[u8]) -> Result<(), MailParseError> {
-    push_key(alloc, answer, raw)?;
-    push_key_ref(alloc, answer, raw)
 }
 
 fn push_texts(alloc: Global, answer: &mut Answer, raw: &[u8]) -> Result<(), MailParseError> {
