@@ -5,12 +5,12 @@ The edits of a module stand in crates/CRATE/edits/MODULE.txt, with an empty line
 holds until the next one. An edit has lines `name:`, `function:` (what it changes, as `rt check` prints it; several
 where it is a constant that they use) and pairs of lines `old:`, whose text stands once in the file, and `new:`.
 
-Crates on which others stand are proved in a copy of the repository. Each crate is then checked with many edits at
-once, of which no two change one function: a body is proved against the contracts of what it calls, so such edits do
-not touch one another. An edit passes if each of its functions is refused for a goal, and not only because its proof
-names what is gone; all other functions have to be proved, or to wait only for those. An edit for which a batch does
-not show this is tried alone. Before all that, edits whose new text is the old one have to be reported as not refused.
-The last line is `N passed, N failed`.
+Crates on which others stand are proved in a copy of the repository, and then checked with many edits at once, of
+which no two change one function: a body is proved against the contracts of what it calls, so such edits do not touch
+one another. Of the other crates only what edits change is checked, with what it calls. An edit passes if each of its
+functions is refused for a goal, and not only because its proof names what is gone; all others have to be proved, or
+to wait only for those. An edit for which a batch does not show this is tried alone. Before all that, edits whose new
+text is the old one have to be reported as not refused. The last line is `N passed, N failed`.
 """
 
 import argparse
@@ -101,10 +101,9 @@ def goals_in(text):
 def judge(edits, text):
     """Of each edit, what is said of each of its functions: None, or the goals that are not proved."""
     found, others = goals_in(text)
-    if not re.search(r"^logic=(proved|not-proved)\b", text, re.M):
+    if not re.search(r"^(logic=(proved|not-proved)\b|only=\d+ proved=)", text, re.M):
         raise Stopped("the check gives no verdict: " + next((it for it in text.split("\n") if "error" in it), text[-300:]))
-    changed = {it for edit in edits for it in edit.functions}
-    others += [it for it, goals in found.items() if goals is not None and it not in changed]
+    others += [it for it, goals in found.items() if goals is not None and not any(it in edit.functions for edit in edits)]
     if others:
         raise Stopped(f"what no edit changes is not proved: {others[0]}")
     return {edit: [found.get(it) for it in edit.functions] for edit in edits}
@@ -138,10 +137,10 @@ class Run:
         shutil.copy2(f"{top}/crates.txt", to)
         shutil.copy2(f"{top}/HANDLES", to)
 
-    def rt(self, verb, folder, what):
+    def rt(self, what, folder, *words):
         """Runs rt on one processor (on four a check takes half as much again of them), and returns what it printed."""
         with self.lanes, tempfile.TemporaryFile("w+", encoding="utf-8", errors="replace") as output:
-            words = ["timeout", "--foreground", "3600", "rt", verb, "--jobs", "1"]
+            words = ["timeout", "--foreground", "3600", "rt", *words, "--jobs", "1"]
             process = subprocess.Popen(words, cwd=folder, stdin=subprocess.DEVNULL, stdout=output, stderr=subprocess.STDOUT)
             _, process.returncode, usage = os.wait4(process.pid, 0)
             self.seconds.append(usage.ru_utime + usage.ru_stime)
@@ -150,16 +149,18 @@ class Run:
             return output.read()
 
     def prove(self, crate):
-        """Proves a crate as it is, once those below it are proved."""
+        """Proves a crate as it is, once those below it are proved. What was kept is looked at by the checks above it."""
         for it in self.deps[crate]:
             self.proofs[it].result()
-        said = self.rt("lib", f"{self.room}/base/crates/{crate}", "proved as it is")
-        if not Path(f"{self.room}/base/crates/{crate}/out/rlib/stamp").exists():
+        folder = Path(f"{self.room}/base/crates/{crate}")
+        said = "" if (folder / "out/rlib/stamp").exists() else self.rt("proved as it is", folder, "lib")
+        if not (folder / "out/rlib/stamp").exists():
             raise Stopped(f"{crate} is not proved as it is: {said[-300:]}")
 
     def check(self, edits, what):
-        """Checks a crate with these edits over the proofs; a check makes new files in place of those that it changes."""
+        """Checks a crate with these edits, over its proofs where others stand on it, and otherwise only what they change."""
         crate = edits[0].crate
+        only = [word for edit in edits for it in edit.functions for word in ("--only", it) if crate not in self.proofs]
         for it in self.below(crate) & set(self.proofs):
             self.proofs[it].result()
         with tempfile.TemporaryDirectory(dir=self.room) as copy:
@@ -170,7 +171,7 @@ class Run:
                 text = replaced(file, path.read_text("utf-8"), [it[1:] for it in changes if it[0] == file])
                 path.unlink()
                 path.write_text(text, "utf-8")
-            return judge(edits, self.rt("check", f"{copy}/crates/{crate}", what))
+            return judge(edits, self.rt(what, f"{copy}/crates/{crate}", "check", *only))
 
     def try_batch(self, edits, first):
         """Tries a batch, and alone each edit that it does not show to be refused."""
@@ -208,8 +209,8 @@ class Run:
 
 def self_test():
     """Tests what reads edits, and what a check prints."""
-    one, two = edits_in("low", "file: a\nname: one\nfunction: low::a\nold:  x\nnew:\n\nname: two\nfunction: low::a b\nold: y\nnew: z\n")
-    assert (one.changes, two.functions, two.changes) == ((("a", " x", ""),), ("low::a", "b"), (("a", "y", "z"),))
+    one, two = edits_in("low", "file: a\nname: one\nfunction: a\nold:  x\nnew:\n\nname: two\nfunction: a b\nold: y\nnew: z\n")
+    assert (one.changes, two.functions, two.changes) == ((("a", " x", ""),), ("a", "b"), (("a", "y", "z"),))
     assert batches_of([one, two, one._replace(functions=("b",))]) == [[one, one._replace(functions=("b",))], [two]]
     assert replaced("a", "f(x) g(y)", [("f(x)", "f(yy)"), ("(y)", "(x)")]) == "f(yy) g(x)"
     said = "./proofs/b/Answers.antt:6:13: error: `returns`: differs\n./proofs/+c/Answers.antt:2:3: error: it has no field `x`\n"
@@ -231,9 +232,8 @@ def main():
     reader.add_argument("names", nargs="*", metavar="NAME", help="a crate, or an edit as CRATE/NAME; without any, all")
     words, paths = reader.parse_args(), sorted(TOP.glob("crates/*/edits/*.txt"))
     edits = [edit for path in paths for edit in edits_in(path.parts[-3], path.read_text("utf-8"))]
-    lost = set(words.names) - {it.crate for it in edits} - {it.name for it in edits}
-    if lost:
-        reader.error(f"there is no crate with edits, and no edit, of the name {min(lost)}")
+    for it in set(words.names) - {it.crate for it in edits} - {it.name for it in edits}:
+        reader.error(f"there is no crate with edits, and no edit, of the name {it}")
     signal.signal(signal.SIGTERM, lambda *_: sys.exit(1))
     with tempfile.TemporaryDirectory(prefix="try-edits-") as room:
         run = Run(room, words.jobs, words.kept)
