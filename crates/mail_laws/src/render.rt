@@ -4,6 +4,9 @@
 //! A program that sends mail writes a well-formed one with `render`; `mailparse::parse_mail` then
 //! reads back exactly those headers, bodies and parts, and `MailHeader::get_value` the values,
 //! which may be any text. `encode_value` writes a single value.
+//!
+//! Each value is written as unstructured text, whatever its key is. So the value of a structured
+//! field, such as `From`, `To` or `Content-Type`, has to be plain ASCII; `encode_value` says why.
 ghost use Rattle.std.specs.Prelude.{◌≡◌, ◌++◌, OnOk, Ok, not};
 ghost use Rattle.mailparse.specs.Outcome.{AnswersOrMemory, ReadsBytes};
 ghost use Rattle.mail_laws.specs.Render.{dash_boundary, header_block, header_line, holds_delimiter, is_well_formed_within, rendered, well_formed, written_bytes, written_headers};
@@ -21,6 +24,13 @@ use mailparse::{MAX_LEVELS, MailParseError};
 use std::alloc::{AllocError, Global};
 
 /// An outline of a message: its headers, and its body or its parts.
+///
+/// A value is one text. There is no form for addresses, phrases and parameters, so the value of a
+/// structured field has to be plain, as `encode_value` explains.
+///
+/// Outlines may be nested to any depth. `render`, `Debug` and the drop of an outline take stack for
+/// each level: 8 MB are enough for 40,000 levels, and not for 60,000. `is_well_formed` takes stack
+/// for 100 levels at most.
 ///
 /// # Examples
 ///
@@ -77,7 +87,11 @@ pub enum OutlineKind {
 /// for each part `--`, the boundary, CR LF, the part and CR LF, and at the end `--`, the boundary,
 /// `--` and CR LF. A value is written as `encode_value` says; one whose bytes are not UTF-8 is
 /// written as it is. Every outline is written so, well formed or not. Takes memory for the bytes
-/// and for one value at a time.
+/// and for one value at a time, and stack for each level, as `Outline` says.
+///
+/// This is not for values with a structure, such as those of `From`, `To` and `Content-Type`,
+/// unless they are plain. Lines may also be longer than the standards allow. `encode_value` says
+/// more about both.
 ///
 /// # Errors
 ///
@@ -180,7 +194,8 @@ fn push_delimiter(boundary: &[u8], rest: &[u8], bytes: &mut Vec<u8>) -> Result<(
 /// 7. No part, as it is written, has `--` and the boundary at its start or after a LF.
 /// 8. No outline stands more than 100 levels below the whole.
 ///
-/// Bodies may be any bytes. Takes memory for the bytes of parts and for a type.
+/// Bodies may be any bytes. The depth is looked at first, so an outline of any depth takes no more
+/// stack than one of 100 levels. Takes memory for the bytes of parts and for a type.
 ///
 /// # Errors
 ///

@@ -24,6 +24,17 @@ const WORD_BYTES: usize = 45;
 /// joined by CR LF and a space. From the left each word takes as many whole characters as fit in 45
 /// bytes. Takes memory for the result.
 ///
+/// The whole text is encoded, so this is for unstructured fields, such as `Subject` and `Comments`.
+/// In a structured field, such as `From`, `To` or `Content-Type`, encoded words may stand only in
+/// comments and phrases, and never in an address or a parameter (RFC 2047, section 5). A text for
+/// such a field would be encoded with its addresses, and other programs would not find them.
+///
+/// A line with an encoded word may have 76 columns (RFC 2047, section 2). A word has up to 72, and
+/// the key, a colon and a space stand before the first one. So the first line is too long where a
+/// full word follows a key of more than two characters; the other lines have at most 73 columns. A
+/// plain text is never folded, even where it is longer than the 998 characters that a line may have
+/// (RFC 5322, section 2.1.1).
+///
 /// # Errors
 ///
 /// `MailParseError::Memory` where it runs out of memory.
