@@ -47,7 +47,7 @@ before_byte-cut : (b : ℕ) (bytes : List ℕ) (start p : ℕ) → start < p →
 before_byte-cut b bytes start p low has =
     ap (λ t. if t then p - 1 else p) (and_from (nat_lt start p) (begins (λ x. x == b) (drop (p - 1) bytes)) (lt-ltb start p low) (byte-there bytes b (p - 1) has))
 
-before_byte-start : (b : ℕ) (bytes : List ℕ) (start p : ℕ) → p ≤ start → before_byte b bytes start p ≡ p
+pub before_byte-start : (b : ℕ) (bytes : List ℕ) (start p : ℕ) → p ≤ start → before_byte b bytes start p ≡ p
 before_byte-start b bytes start p low = ap (λ t. if t then p - 1 else p) (nat_lt-and start p (begins (λ x. x == b) (drop (p - 1) bytes)) low)
 
 before_byte-other : (b : ℕ) (bytes : List ℕ) (start p : ℕ) → ¬ HasByteAt bytes b (p - 1) → before_byte b bytes start p ≡ p

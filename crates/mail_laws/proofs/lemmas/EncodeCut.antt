@@ -1,5 +1,5 @@
 -- A text that is cut into words character by character, and written as it is cut.
-use Rattle.std.proofs.Common.{◌≡◌, ℕ, ◌+◌, ◌-◌, ◌<◌, ◌≤◌, Bool, true, false, cond, List, [], ◌∷◌, ◌++◌, length, take, drop, Result, Ok, Err, OnOk, refl, sym, ap, subst, ◌∙◌, arith, append_assoc, length-append, length-drop, take-add}
+use Rattle.std.proofs.Common.{◌≡◌, ℕ, ◌+◌, ◌-◌, ◌<◌, ◌≤◌, Bool, true, false, cond, List, [], ◌∷◌, ◌++◌, length, take, drop, refl, sym, ap, subst, ◌∙◌, arith, append_assoc, length-append, length-drop, take-add}
 use Rattle.std.specs.Prelude.{nat_le, encode_utf8_all, codes}
 use Rattle.std.specs.Char.{encode_utf8, len_utf8}
 use Rattle.std.specs.Str.{chars, IsUtf8, IsCharBoundary}
@@ -163,11 +163,6 @@ cutting_ends text old written rest new start end now none n =
     n ∙ ap (λ b. written ++ (codes "=?utf-8?B?" ++ (letters b ++ codes "?="))) (sym all)
     ∙ ap (λ cs. written ++ word_lines (words_after now.word cs)) (sym (ap chars none ∙ chars-nil))
     ∙ now.lines
-
--- a clause of a result that is passed on
-pub on_ok : {X E A B : Type 0} → (r : Result X E) → (A → B) → OnOk r A → OnOk r B
-on_ok (Ok x) f a = f a
-on_ok (Err e) f a = a
 
 -- ---- one word
 

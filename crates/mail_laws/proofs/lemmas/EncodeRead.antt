@@ -1,14 +1,14 @@
 -- A written value reads back: its lines are its encoded words, and what shows are their characters.
-use Rattle.std.proofs.Common.{◌≡◌, ◌≢◌, ◌⊎◌, inl, inr, ℕ, zero, suc, ◌-◌, ◌<◌, ◌≤◌, Bool, true, false, cond, eqb, ◌&&◌, List, [], ◌∷◌, ◌++◌, length, map, take, get_or, find, Option, Some, None, refl, sym, ap, subst, ◌∙◌, ⊎_elim, arith, append_assoc, length-append}
+use Rattle.std.proofs.Common.{◌≡◌, ◌≢◌, ◌⊎◌, inl, inr, ℕ, zero, suc, ◌-◌, ◌<◌, ◌≤◌, Bool, true, false, cond, eqb, not, ◌&&◌, ◌||◌, List, [], ◌∷◌, ◌++◌, length, map, take, get_or, find, Option, Some, None, refl, sym, ap, subst, ◌∙◌, ⊎_elim, arith, append_assoc, length-append}
 use Rattle.std.specs.Prelude.{codes, nat_lt, encode_utf8_all, flat_map, is_none, option_map}
-use Rattle.std.specs.Char.{encode_utf8}
+use Rattle.std.specs.Char.{encode_utf8, is_ascii_graphic}
 use Rattle.std.specs.List.{list_all, slice_split, onto_first}
 use Rattle.std.specs.Option.{option_or}
 use Rattle.std.specs.Str.{chars, trim_start, skip_leading_whitespace, IsAscii, IsUtf8}
 use Rattle.std.specs.Str.Lines.{lines, lines_of_parts, strip_carriage_return}
-use Rattle.std.proofs.lemmas.Bool.{cond-true, cond-false, and_parts, cases_lt, false≢true, ltb-true, ltb-false, ne_eqb, eq-eqb, not-true}
-use Rattle.std.proofs.lemmas.Bool.Decides.{nat_tests}
+use Rattle.std.proofs.lemmas.Bool.{cond-true, cond-false, and_from, and_parts, cases_lt, false≢true, ltb-false, ne_eqb, eq-eqb, not-true}
 use Rattle.std.proofs.lemmas.List.{take_all, take-append-le, drop_all}
+use Rattle.std.proofs.lemmas.List.Folds.{list_all-append}
 use Rattle.std.proofs.lemmas.List.Splits.{slice_split-cons_no}
 use Rattle.std.proofs.lemmas.Str.{chars-IsAscii, encodes-IsAscii, encodes-chars, scalars-chars, IsAscii-append, IsUtf8-from_ascii, encode_ascii}
 use Rattle.std.proofs.lemmas.Str.Ascii.{IsAscii-nil, IsAscii-cons}
@@ -27,8 +27,8 @@ use Rattle.mailparse.proofs.lemmas.Value.{lenient-utf8}
 use Rattle.mailparse.proofs.lemmas.ValuePlain.{shown_value-plain}
 use Rattle.mail_laws.specs.Encode.{KnowUtf8, AreWords, no_word, next_word, encoded_word, is_plain_byte, is_plain_value, letters, word_lines, words_of, written_value}
 use Rattle.mail_laws.specs.WordTokens.{word}
-use Rattle.mail_laws.proofs.lemmas.Encode.{words_fit, words_join}
-use Rattle.mail_laws.proofs.lemmas.EncodeWord.{AreLetters, around, encoded_word-tokens, letters_are, utf_8_known}
+use Rattle.mail_laws.proofs.lemmas.Encode.{list_all-weaker, plain_ascii, plain_byte, plain_no_feed, words_fit, words_join}
+use Rattle.mail_laws.proofs.lemmas.EncodeWord.{AreLetters, is_word_byte, around, encoded_word-tokens, letters_are, utf_8_known}
 use lib.Utf8.{scalar, scalars, scalar_cases}
 
 -- ---- the bytes of characters
@@ -94,78 +94,46 @@ word_tokens known knows w h = encoded_word-tokens known knows (encode_utf8_all w
 
 -- ---- the bytes of an encoded word
 
-abbrev pub AreVisible : List ℕ → Type 0
-AreVisible [] = Unit {0}
-AreVisible (b ∷ bs) = ((33 ≤ b) × (b ≤ 126)) × AreVisible bs
+letters_plain : (ls : List ℕ) → AreLetters ls → list_all is_plain_byte ls ≡ true
+letters_plain ls h =
+    list_all-weaker is_word_byte is_plain_byte (λ b k. ap (λ t. t || eqb b 32) (and_parts (is_ascii_graphic b) (not (eqb b 63)) k).0) ls h
 
-letters_visible : (ls rest : List ℕ) → AreLetters ls → AreVisible rest → AreVisible (ls ++ rest)
-letters_visible [] rest a b = b
-letters_visible (x ∷ xs) rest a b = ((a.0.0, a.0.1), letters_visible xs rest a.1 b)
+pub word_plain : (w : List ℕ) → scalars w ≡ true → list_all is_plain_byte (encoded_word w) ≡ true
+word_plain w h =
+    let ls = letters (encode_utf8_all w) in
+    list_all-append is_plain_byte ls (codes "?=") ∙ ap (λ t. t && true) (letters_plain ls (letters_are (encode_utf8_all w) (word_bytes_are w h)))
 
-visible : (b : ℕ) → nat_lt 32 b && nat_lt b 127 ≡ true → (33 ≤ b) × (b ≤ 126)
-visible b h =
-    let parts = and_parts (nat_lt 32 b) (nat_lt b 127) h in
-    let low = ltb-true 32 b parts.0 in
-    let high = ltb-true b 127 parts.1 in
-    (omega arith, omega arith)
-
-pub word_visible : (w : List ℕ) → scalars w ≡ true → AreVisible (encoded_word w)
-word_visible w h = (
-  visible 61 refl,
-  (
-    visible 63 refl,
-    (
-      visible 117 refl,
-      (
-        visible 116 refl,
-        (
-          visible 102 refl,
-          (
-            visible 45 refl,
-            (
-              visible 56 refl,
-              (
-                visible 63 refl,
-                (
-                  visible 66 refl,
-                  (
-                    visible 63 refl,
-                    letters_visible (letters (encode_utf8_all w)) (codes "?=") (letters_are (encode_utf8_all w) (word_bytes_are w h)) (visible 63 refl, (visible 61 refl, tt)),
-                  ),
-                ),
-              ),
-            ),
-          ),
-        ),
-      ),
-    ),
-  ),
-)
+word_ascii : (w : List ℕ) → scalars w ≡ true → IsAscii (encoded_word w)
+word_ascii w h = plain_ascii (encoded_word w) (word_plain w h)
 
 -- ---- the lines of a value
 
+abbrev no_feed : ℕ → Bool
+no_feed b = not (eqb b 10)
+
 abbrev NoFeed : List ℕ → Type 0
-NoFeed [] = Unit {0}
-NoFeed (b ∷ bs) = (b ≢ 10) × NoFeed bs
+NoFeed xs = list_all no_feed xs ≡ true
 
 NoFeed-append : (xs ys : List ℕ) → NoFeed xs → NoFeed ys → NoFeed (xs ++ ys)
-NoFeed-append [] ys a b = b
-NoFeed-append (x ∷ xs) ys a b = (a.0, NoFeed-append xs ys a.1 b)
+NoFeed-append xs ys a b = list_all-append no_feed xs ys ∙ and_from (list_all no_feed xs) (list_all no_feed ys) a b
 
-visible_no_feed : (xs : List ℕ) → AreVisible xs → NoFeed xs
-visible_no_feed [] h = tt
-visible_no_feed (x ∷ xs) h = let low = h.0.0 in ((λ e. absurd (omega arith)), visible_no_feed xs h.1)
+word_no_feed : (w : List ℕ) → scalars w ≡ true → NoFeed (encoded_word w)
+word_no_feed w h = list_all-weaker is_plain_byte no_feed plain_no_feed (encoded_word w) (word_plain w h)
 
 abbrev pieces : List ℕ → List (List ℕ)
 pieces text = slice_split (λ b. eqb b 10) text
 
 split_at : (xs ys : List ℕ) → NoFeed xs → pieces (xs ++ 10 ∷ ys) ≡ xs ∷ pieces ys
 split_at [] ys h = refl
-split_at (x ∷ xs) ys h = slice_split-cons_no (λ b. eqb b 10) x (xs ++ 10 ∷ ys) (ne_eqb x 10 h.0) ∙ ap (onto_first x) (split_at xs ys h.1)
+split_at (x ∷ xs) ys h =
+    let parts = and_parts (no_feed x) (list_all no_feed xs) h in
+    slice_split-cons_no (λ b. eqb b 10) x (xs ++ 10 ∷ ys) (not-true (eqb x 10) parts.0) ∙ ap (onto_first x) (split_at xs ys parts.1)
 
 split_none : (xs : List ℕ) → NoFeed xs → pieces xs ≡ xs ∷ []
 split_none [] h = refl
-split_none (x ∷ xs) h = slice_split-cons_no (λ b. eqb b 10) x xs (ne_eqb x 10 h.0) ∙ ap (onto_first x) (split_none xs h.1)
+split_none (x ∷ xs) h =
+    let parts = and_parts (no_feed x) (list_all no_feed xs) h in
+    slice_split-cons_no (λ b. eqb b 10) x xs (not-true (eqb x 10) parts.0) ∙ ap (onto_first x) (split_none xs parts.1)
 
 get_last : (xs : List ℕ) (y : ℕ) → get_or (xs ++ y ∷ []) (length xs) 0 ≡ y
 get_last [] y = refl
@@ -194,7 +162,7 @@ lines_are : (front w : List ℕ) (ws : List (List ℕ)) → NoFeed front → Are
     → lines (front ++ word_lines (w ∷ ws)) ≡ (front ++ encoded_word w) ∷ folded ws
 lines_are front w [] clear h =
     let some = length-append front (encoded_word w) in
-    ap lines_of_parts (split_none (front ++ encoded_word w) (NoFeed-append front (encoded_word w) clear (visible_no_feed (encoded_word w) (word_visible w h.0))))
+    ap lines_of_parts (split_none (front ++ encoded_word w) (NoFeed-append front (encoded_word w) clear (word_no_feed w h.0)))
     ∙ cond-false _ _ _ (ne_eqb (length (front ++ encoded_word w)) 0 (λ (e : length (front ++ encoded_word w) ≡ 0). absurd (omega arith)))
 lines_are front w (v ∷ ws) clear h =
     let line : List ℕ = front ++ encoded_word w in
@@ -202,19 +170,15 @@ lines_are front w (v ∷ ws) clear h =
     let whole : front ++ word_lines (w ∷ v ∷ ws) ≡ (line ++ 13 ∷ []) ++ 10 ∷ rest =
     sym (append_assoc line (13 ∷ []) (10 ∷ rest) ∙ append_assoc front (encoded_word w) (13 ∷ 10 ∷ rest)) in
     let here : NoFeed (line ++ 13 ∷ []) =
-    NoFeed-append line (13 ∷ []) (NoFeed-append front (encoded_word w) clear (visible_no_feed (encoded_word w) (word_visible w h.0)))
-    ((λ (e : ◌≡◌ {A = ℕ} 13 10). absurd (omega arith)), tt) in
+    NoFeed-append line (13 ∷ []) (NoFeed-append front (encoded_word w) clear (word_no_feed w h.0))
+    refl in
     ap lines whole
     ∙ ap lines_of_parts (split_at (line ++ 13 ∷ []) rest here)
     ∙ first_of_more (line ++ 13 ∷ []) (pieces rest) (split_some (λ b. eqb b 10) rest)
     ∙ ap (λ x. x ∷ lines rest) (stripped line)
-    ∙ ap (λ ls. line ∷ ls) (lines_are (32 ∷ []) v ws ((λ (e : ◌≡◌ {A = ℕ} 32 10). absurd (omega arith)), tt) h.1)
+    ∙ ap (λ ls. line ∷ ls) (lines_are (32 ∷ []) v ws refl h.1)
 
 -- ---- without the space before them
-
-visible_ascii : (xs : List ℕ) → AreVisible xs → IsAscii xs
-visible_ascii [] h = IsAscii-nil
-visible_ascii (x ∷ xs) h = let high = h.0.1 in IsAscii-cons x xs (omega arith) (visible_ascii xs h.1)
 
 trim_none : (xs : List ℕ) → IsAscii (61 ∷ xs) → trim_start (61 ∷ xs) ≡ 61 ∷ xs
 unfolding trim_start
@@ -228,13 +192,13 @@ trim_space xs h =
 trimmed_folded : (ws : List (List ℕ)) → AreTexts ws → map trim_start (folded ws) ≡ map encoded_word ws
 trimmed_folded [] h = refl
 trimmed_folded (w ∷ ws) h =
-    ap (λ l. l ∷ map trim_start (folded ws)) (trim_space (tail_of w) (visible_ascii (encoded_word w) (word_visible w h.0)))
+    ap (λ l. l ∷ map trim_start (folded ws)) (trim_space (tail_of w) (word_ascii w h.0))
     ∙ ap (λ ls. encoded_word w ∷ ls) (trimmed_folded ws h.1)
 
 trimmed_lines : (w : List ℕ) (ws : List (List ℕ)) → AreTexts (w ∷ ws) → map trim_start (lines (word_lines (w ∷ ws))) ≡ map encoded_word (w ∷ ws)
 trimmed_lines w ws h =
-    ap (map trim_start) (lines_are [] w ws tt h)
-    ∙ ap (λ l. l ∷ map trim_start (folded ws)) (trim_none (tail_of w) (visible_ascii (encoded_word w) (word_visible w h.0)))
+    ap (map trim_start) (lines_are [] w ws refl h)
+    ∙ ap (λ l. l ∷ map trim_start (folded ws)) (trim_none (tail_of w) (word_ascii w h.0))
     ∙ ap (λ ls. encoded_word w ∷ ls) (trimmed_folded ws h.1)
 
 -- ---- the tokens, and what they show
@@ -276,9 +240,9 @@ words_show known knows w ws h =
 -- ---- the whole value
 
 lines_ascii : (w : List ℕ) (ws : List (List ℕ)) → AreTexts (w ∷ ws) → IsAscii (word_lines (w ∷ ws))
-lines_ascii w [] h = visible_ascii (encoded_word w) (word_visible w h.0)
+lines_ascii w [] h = word_ascii w h.0
 lines_ascii w (v ∷ ws) h =
-    IsAscii-append (encoded_word w) (13 ∷ 10 ∷ 32 ∷ word_lines (v ∷ ws)) (visible_ascii (encoded_word w) (word_visible w h.0))
+    IsAscii-append (encoded_word w) (13 ∷ 10 ∷ 32 ∷ word_lines (v ∷ ws)) (word_ascii w h.0)
     (IsAscii-cons 13 (10 ∷ 32 ∷ word_lines (v ∷ ws)) (omega arith) (IsAscii-cons 10 (32 ∷ word_lines (v ∷ ws)) (omega arith) (IsAscii-cons 32 (word_lines (v ∷ ws)) (omega arith) (lines_ascii v ws h.1))))
 
 nothing_shows : (known : Charsets) → shown_value known [] ≡ []
@@ -299,9 +263,6 @@ encoded_reads_back known knows text utf8 =
     words_read known knows (words_of (chars text)) (text_words text utf8) ∙ words_join (words_fit (chars text)) ∙ encodes-chars text utf8
 
 -- ---- plain values
-
-pub plain_byte : (b : ℕ) → is_plain_byte b ≡ true → (32 ≤ b) × (b ≤ 126)
-plain_byte b h = (grind (arith, nat_tests), grind (arith, nat_tests))
 
 plain_bytes : (value : List ℕ) → list_all is_plain_byte value ≡ true → (k d : ℕ) → k < length value → (32 ≤ get_or value k d) × (get_or value k d ≤ 126)
 plain_bytes [] h k d lt = absurd (omega arith)
@@ -325,13 +286,6 @@ plain_is value h =
       no_space = not-true _ second.0;
       no_opening = λ k. ⊎_elim (λ lt. first_place-before (stands (codes "=?")) value k (omega arith)) (λ past. ap (stands (codes "=?")) (drop_all k value past)) (cases_lt k (length value));
     }
-
-pub plain_ascii : (value : List ℕ) → list_all is_plain_byte value ≡ true → IsAscii value
-plain_ascii [] h = IsAscii-nil
-plain_ascii (b ∷ value) h =
-    let parts = and_parts (is_plain_byte b) (list_all is_plain_byte value) h in
-    let high = (plain_byte b parts.0).1 in
-    IsAscii-cons b value (omega arith) (plain_ascii value parts.1)
 
 -- whatever charsets are known, a plain value shows itself
 pub plain_reads : (known : Charsets) (value : List ℕ) → is_plain_value value ≡ true → lenient_value_in known value ≡ value

@@ -1,10 +1,12 @@
 -- An encoded word alone on its line is one decoded word, of its characters.
-use Rattle.std.proofs.Common.{◌≡◌, ◌≢◌, ℕ, suc, ◌+◌, ◌-◌, ◌*◌, ◌/◌, ◌%◌, ◌<◌, ◌≤◌, Bool, true, not, cond, eqb, ◌&&◌, List, [], ◌∷◌, ◌++◌, length, map, take, drop, Some, is_some, refl, sym, ap, subst, ◌∙◌, arith, length-append}
-use Rattle.std.specs.Prelude.{codes, nat_lt, unwrap_or}
+use Rattle.std.proofs.Common.{◌≡◌, ◌≢◌, ℕ, suc, ◌+◌, ◌-◌, ◌*◌, ◌/◌, ◌%◌, ◌<◌, ◌≤◌, Bool, true, not, cond, eqb, leb, ◌&&◌, List, [], ◌∷◌, ◌++◌, length, map, take, drop, Some, is_some, refl, sym, ap, subst, ◌∙◌, arith, length-append}
+use Rattle.std.specs.Prelude.{codes, unwrap_or}
+use Rattle.std.specs.Char.{is_ascii_graphic}
+use Rattle.std.specs.List.{list_all}
 use Rattle.std.specs.Str.{chars, IsUtf8}
 use Rattle.std.specs.Option.{option_map}
 use Rattle.std.specs.Result.{result_ok}
-use Rattle.std.proofs.lemmas.Bool.{and_left, and_parts, ltb-true, not-true, eqb-false, ne_eqb, or_from}
+use Rattle.std.proofs.lemmas.Bool.{and_from, and_left, and_parts, leb-true, not-true, eqb-false, ne_eqb, or_from}
 use Rattle.std.proofs.lemmas.List.{take_all, take-append-le, drop_all}
 use Rattle.std.proofs.lemmas.Str.{utf8_lossy-IsUtf8}
 use Rattle.base64.specs.GeneralPurpose.{IsBytes}
@@ -31,12 +33,16 @@ use Rattle.mail_laws.specs.WordTokens.{word}
 -- ---- the letters
 
 -- a printable byte that is no question mark
-abbrev pub IsLetter : ℕ → Type 0
-IsLetter b = (33 ≤ b) × (b ≤ 126) × (b ≢ 63)
+abbrev pub is_word_byte : ℕ → Bool
+is_word_byte b = is_ascii_graphic b && not (eqb b 63)
 
 abbrev pub AreLetters : List ℕ → Type 0
-AreLetters [] = Unit {0}
-AreLetters (b ∷ bs) = IsLetter b × AreLetters bs
+AreLetters ls = list_all is_word_byte ls ≡ true
+
+word_byte : (b : ℕ) → is_word_byte b ≡ true → (33 ≤ b) × (b ≢ 63)
+word_byte b h =
+    let parts = and_parts (is_ascii_graphic b) (not (eqb b 63)) h in
+    (leb-true 33 b (and_parts (leb 33 b) (leb b 126) parts.0).0, eqb-false b 63 (not-true (eqb b 63) parts.1))
 
 -- the first of them is no `=`
 abbrev pub BeginsUnpadded : List ℕ → Type 0
@@ -44,21 +50,13 @@ BeginsUnpadded [] = Unit {0}
 BeginsUnpadded (b ∷ bs) = 61 ≢ b
 
 abbrev is_letter_of : ℕ → Bool
-is_letter_of v = nat_lt 32 (letter v) && (nat_lt (letter v) 127 && not (eqb (letter v) 63))
+is_letter_of v = is_word_byte (letter v)
 
 all_letters : all_below is_letter_of 64 ≡ true
 all_letters = refl
 
-letter_is : (v : ℕ) → v < 64 → IsLetter (letter v)
-letter_is v h =
-    let parts = and_parts _ _ (all_below_at is_letter_of 64 v all_letters h) in
-    let rest = and_parts _ _ parts.1 in
-    let low = ltb-true 32 (letter v) parts.0 in
-    let high = ltb-true (letter v) 127 rest.0 in
-    (omega arith, omega arith, eqb-false _ _ (not-true _ rest.1))
-
-padding_is : IsLetter 61
-padding_is = (omega arith, omega arith, λ (e : ◌≡◌ {A = ℕ} 61 63). absurd (omega arith))
+letter_is : (v : ℕ) → v < 64 → is_word_byte (letter v) ≡ true
+letter_is v h = all_below_at is_letter_of 64 v all_letters h
 
 unpadded : (v : ℕ) → v < 64 → 61 ≢ letter v
 unpadded v h e = eqb-false _ _ (letter_no_padding v h) (sym e)
@@ -70,31 +68,24 @@ letters_three a b c rest = encode-append alphabet padding true (a ∷ b ∷ c �
 
 pub letters_are : (bytes : List ℕ) → IsBytes bytes → AreLetters (letters bytes)
 unfolding encode_symbols
-letters_are [] h = tt
+letters_are [] h = refl
 letters_are (a ∷ []) h =
     let ha : a < 256 = h 0 in
-    (letter_is (a / 4) (omega arith), (letter_is (a % 4 * 16) (omega arith), (padding_is, (padding_is, tt))))
+    and_from _ _ (letter_is (a / 4) (omega arith)) (and_from _ _ (letter_is (a % 4 * 16) (omega arith)) refl)
 letters_are (a ∷ b ∷ []) h =
     let ha : a < 256 = h 0 in
     let hb : b < 256 = h 1 in
-    (letter_is (a / 4) (omega arith), (letter_is (a % 4 * 16 + b / 16) (omega arith), (letter_is (b % 16 * 4) (omega arith), (padding_is, tt))))
+    and_from _ _ (letter_is (a / 4) (omega arith))
+    (and_from _ _ (letter_is (a % 4 * 16 + b / 16) (omega arith)) (and_from _ _ (letter_is (b % 16 * 4) (omega arith)) refl))
 letters_are (a ∷ b ∷ c ∷ rest) h =
     let ha : a < 256 = h 0 in
     let hb : b < 256 = h 1 in
     let hc : c < 256 = h 2 in
-    subst AreLetters (sym (letters_three a b c rest)) (
-      letter_is (a / 4) (omega arith),
-      (
-        letter_is (a % 4 * 16 + b / 16) (omega arith),
-        (
-          letter_is (b % 16 * 4 + c / 64) (omega arith),
-          (
-            letter_is (c % 64) (omega arith),
-            letters_are rest (λ i. h (suc (suc (suc i)))),
-          ),
-        ),
-      ),
-    )
+    subst AreLetters (sym (letters_three a b c rest))
+    (and_from _ _ (letter_is (a / 4) (omega arith))
+    (and_from _ _ (letter_is (a % 4 * 16 + b / 16) (omega arith))
+    (and_from _ _ (letter_is (b % 16 * 4 + c / 64) (omega arith))
+    (and_from _ _ (letter_is (c % 64) (omega arith)) (letters_are rest (λ i. h (suc (suc (suc i)))))))))
 
 pub letters_begin : (bytes : List ℕ) → IsBytes bytes → BeginsUnpadded (letters bytes)
 unfolding encode_symbols
@@ -108,9 +99,10 @@ letters_begin (a ∷ b ∷ c ∷ rest) h =
 letters_kept : (ls : List ℕ) → AreLetters ls → without_line_ends ls ≡ ls
 letters_kept [] h = refl
 letters_kept (x ∷ xs) h =
-    let low = h.0.0 in
+    let parts = and_parts (is_word_byte x) (list_all is_word_byte xs) h in
+    let low = (word_byte x parts.0).0 in
     let kept = ap not (or_from _ _ (ne_eqb x 13 (λ e. absurd (omega arith))) (ne_eqb x 10 (λ e. absurd (omega arith)))) in
-    ap (λ t. cond t (x ∷ without_line_ends xs) (without_line_ends xs)) kept ∙ ap (λ r. x ∷ r) (letters_kept xs h.1)
+    ap (λ t. cond t (x ∷ without_line_ends xs) (without_line_ends xs)) kept ∙ ap (λ r. x ∷ r) (letters_kept xs parts.1)
 
 -- ---- what stands inside the word
 
@@ -145,7 +137,9 @@ closing_alone = refl
 closing_after : (ls : List ℕ) → AreLetters ls → first_place begins_closing (ls ++ codes "?=") ≡ length ls
 closing_after [] h = closing_alone
 closing_after (x ∷ xs) h =
-    first_place-past begins_closing x (xs ++ codes "?=") (and_left _ _ (and_left _ _ (ne_eqb 63 x (λ e. h.0.2 (sym e))))) ∙ ap suc (closing_after xs h.1)
+    let parts = and_parts (is_word_byte x) (list_all is_word_byte xs) h in
+    first_place-past begins_closing x (xs ++ codes "?=") (and_left _ _ (and_left _ _ (ne_eqb 63 x (λ e. (word_byte x parts.0).1 (sym e)))))
+    ∙ ap suc (closing_after xs parts.1)
 
 -- the question mark before the letters ends no word
 closing_at_mark : (ls : List ℕ) → AreLetters ls → BeginsUnpadded ls → first_place begins_closing (63 ∷ ls ++ codes "?=") ≡ suc (length ls)

@@ -1,8 +1,7 @@
 -- The header block of an outline, as it is written, reads as its headers.
-use Rattle.std.proofs.Common.{◌≡◌, ℕ, suc, ◌+◌, ◌-◌, ◌≤◌, ⊎_elim, Bool, true, false, eqb, leb, not, ◌&&◌, ◌||◌, List, [], ◌∷◌, ◌++◌, length, take, drop, Ok, codes, refl, sym, ap, ◌∙◌, arith, append_assoc, length-append, flat_map}
-use Rattle.std.specs.Char.{is_ascii_graphic}
+use Rattle.std.proofs.Common.{◌≡◌, ℕ, suc, ◌+◌, ◌-◌, ◌≤◌, Bool, true, false, eqb, not, ◌&&◌, ◌||◌, List, [], ◌∷◌, ◌++◌, length, take, drop, Ok, codes, refl, sym, ap, ◌∙◌, arith, append_assoc, length-append, flat_map}
 use Rattle.std.specs.List.{list_all}
-use Rattle.std.proofs.lemmas.Bool.{false≢true, and_parts, and_left, or_cases, eq-eqb, eqb-true, ne_eqb, leb-true}
+use Rattle.std.proofs.lemmas.Bool.{false≢true, and_parts, and_left, eq-eqb, ne_eqb, leb-true, not-true}
 use Rattle.std.proofs.lemmas.List.{drop_at, take_at}
 use Rattle.mail_codec.specs.Ascii.{is_blank}
 use Rattle.mail_codec.specs.Places.{first_place, begins, stands, is_empty}
@@ -13,19 +12,10 @@ use Rattle.mailparse.specs.Block.{blank_line, headers_end, has_header, read_head
 use Rattle.mailparse.proofs.lemmas.Header.{header_of-value, is_line_end-false}
 use Rattle.mailparse.proofs.lemmas.Block.{with_front, read_headers-more, read_headers-none}
 use Rattle.mail_laws.specs.Encode.{is_plain_byte, is_plain_value}
+use Rattle.mail_laws.proofs.lemmas.Encode.{plain_byte, plain_no_feed}
 use Rattle.mail_laws.specs.Render.{header_line, header_block, is_key_byte, is_key}
 
 -- ---- lists of bytes that pass a test
-
-pub from_not : (v : Bool) → not v ≡ true → v ≡ false
-from_not true h = sym h
-from_not false h = refl
-
-pub list_all-weaker : (p q : ℕ → Bool) → ((b : ℕ) → p b ≡ true → q b ≡ true) → (xs : List ℕ) → list_all p xs ≡ true → list_all q xs ≡ true
-list_all-weaker p q implies [] all = refl
-list_all-weaker p q implies (b ∷ xs) all =
-    let parts = and_parts (p b) (list_all p xs) all in
-    ap (λ t. t && list_all q xs) (implies b parts.0) ∙ list_all-weaker p q implies xs parts.1
 
 -- bytes at which a test fails whatever follows are passed over
 pub first_place-over : (test : List ℕ → Bool) (over : ℕ → Bool) → ((b : ℕ) (bs : List ℕ) → over b ≡ true → test (b ∷ bs) ≡ false)
@@ -48,16 +38,7 @@ pub key_byte : (b : ℕ) → is_key_byte b ≡ true → (33 ≤ b) × (b ≤ 126
 key_byte b h =
     let parts = and_parts _ (not (eqb b 58)) h in
     let range = and_parts _ _ parts.0 in
-    (leb-true 33 b range.0, leb-true b 126 range.1, from_not (eqb b 58) parts.1)
-
-pub value_byte : (b : ℕ) → is_plain_byte b ≡ true → (32 ≤ b) × (b ≤ 126)
-value_byte b h =
-    ⊎_elim (λ e. let range = and_parts (leb 33 b) (leb b 126) e in let low = leb-true 33 b range.0 in (omega (arith, low), leb-true b 126 range.1))
-    (λ e. let same = eqb-true b 32 e in (omega (arith, same), omega (arith, same)))
-    (or_cases (is_ascii_graphic b) (eqb b 32) h)
-
-not_at : (b n : ℕ) → (b ≡ n → ⊥) → not (eqb b n) ≡ true
-not_at b n other = ap not (ne_eqb b n other)
+    (leb-true 33 b range.0, leb-true b 126 range.1, not-true (eqb b 58) parts.1)
 
 key_passed : (b : ℕ) (bs : List ℕ) → is_key_byte b ≡ true → begins ends_key (b ∷ bs) ≡ false
 key_passed b bs h =
@@ -65,15 +46,12 @@ key_passed b bs h =
     let low = at.0 in
     ap (λ t. t || eqb b 10) at.2 ∙ ne_eqb b 10 (λ e. absurd (omega (arith, low)))
 
-no_feed_passed : (b : ℕ) (bs : List ℕ) → not (eqb b 10) ≡ true → ends_header (b ∷ bs) ≡ false
-no_feed_passed b bs h = and_left (eqb b 10) _ (from_not (eqb b 10) h)
+pub plain_passed : (b : ℕ) (bs : List ℕ) → is_plain_byte b ≡ true → ends_header (b ∷ bs) ≡ false
+plain_passed b bs h = and_left (eqb b 10) _ (not-true (eqb b 10) (plain_no_feed b h))
 
-value_no_feed : (b : ℕ) → is_plain_byte b ≡ true → not (eqb b 10) ≡ true
-value_no_feed b h = let low = (value_byte b h).0 in not_at b 10 (λ e. absurd (omega (arith, low)))
-
-value_passed : (b : ℕ) (bs : List ℕ) → is_plain_byte b ≡ true → list_all is_line_end (b ∷ bs) ≡ false
+pub value_passed : (b : ℕ) (bs : List ℕ) → is_plain_byte b ≡ true → list_all is_line_end (b ∷ bs) ≡ false
 value_passed b bs h =
-    let low = (value_byte b h).0 in
+    let low = (plain_byte b h).0 in
     and_left (is_line_end b) _ (is_line_end-false b (λ e. absurd (omega (arith, low))) (λ e. absurd (omega (arith, low))))
 
 -- the value starts after one space
@@ -81,7 +59,7 @@ value_begins : (value rest : List ℕ) → stands (codes " ") value ≡ false �
 value_begins [] rest h = refl
 value_begins (v ∷ value) rest h =
     first_place-here (begins (λ b. not (eqb b 32))) (v ∷ (value ++ 13 ∷ rest))
-    (not_at v 32 (λ e. absurd (false≢true (sym h ∙ ap (λ t. t && true) (eq-eqb 32 v (sym e))))))
+    (ap not (ne_eqb v 32 (λ e. absurd (false≢true (sym h ∙ ap (λ t. t && true) (eq-eqb 32 v (sym e)))))))
 
 -- ---- one header, as it is written, and what follows it
 
@@ -127,12 +105,11 @@ AreValues (h ∷ headers) = IsValue h.value × AreValues headers
 pub plain_is_value : (value : List ℕ) → is_plain_value value ≡ true → IsValue value
 plain_is_value value plain =
     let parts = and_parts (list_all is_plain_byte value) _ plain in
-    let free : list_all (λ b. not (eqb b 10)) value ≡ true = list_all-weaker is_plain_byte (λ b. not (eqb b 10)) value_no_feed value parts.0 in
     let trimmed : first_place (list_all is_line_end) (value ++ 13 ∷ []) ≡ length value + 0 =
     first_place-over (list_all is_line_end) is_plain_byte value_passed value (13 ∷ []) parts.0 in
     record {
-      no_space = from_not (stands (codes " ") value) (and_parts (not (stands (codes " ") value)) _ parts.1).0;
-      ends = λ rest no_blank. first_place-over ends_header (λ b. not (eqb b 10)) no_feed_passed value (13 ∷ 10 ∷ rest) free
+      no_space = not-true (stands (codes " ") value) (and_parts (not (stands (codes " ") value)) _ parts.1).0;
+      ends = λ rest no_blank. first_place-over ends_header is_plain_byte plain_passed value (13 ∷ 10 ∷ rest) parts.0
           ∙ ap (λ n. length value + n) (last_feed rest no_blank);
       whole = trimmed ∙ omega arith;
     }
@@ -155,7 +132,7 @@ module _ (key value rest : List ℕ) (keys : list_all is_key_byte key ≡ true) 
 
   end_after_colon : first_place ends_header (after_colon value rest) ≡ length value + 2
   end_after_colon =
-      first_place-past ends_header 32 (value ++ 13 ∷ 10 ∷ rest) (no_feed_passed 32 (value ++ 13 ∷ 10 ∷ rest) refl)
+      first_place-past ends_header 32 (value ++ 13 ∷ 10 ∷ rest) (plain_passed 32 (value ++ 13 ∷ 10 ∷ rest) refl)
       ∙ ap suc (valued.ends rest no_blank) ∙ omega arith
 
   header_end-written : header_end (line key value rest) ≡ length key + length value + 3

@@ -3,7 +3,7 @@ use Rattle.std.proofs.Common.{◌≡◌, ℕ, suc, ◌+◌, ◌-◌, ◌≤◌, 
 use Rattle.std.specs.Prelude.{nat_lt, option_and_then, if◌then◌else◌}
 use Rattle.std.specs.List.{list_all}
 use Rattle.std.specs.Option.{option_map_or}
-use Rattle.std.proofs.lemmas.Bool.{cond-true, cond-false, cases_lt, cases_eq, lt-ltb, le-ltb, eq-eqb, and_parts, and_from, and_left}
+use Rattle.std.proofs.lemmas.Bool.{cond-true, cond-false, cases_lt, cases_eq, lt-ltb, le-ltb, eq-eqb, and_parts, and_from, and_left, not-true}
 use Rattle.std.proofs.lemmas.List.{drop-drop, drop-append-le, drop_all, drop_at, take_at}
 use Rattle.mail_codec.specs.Places.{stands, begins, place, byte_place}
 use Rattle.mail_codec.proofs.lemmas.Places.{first_place-before}
@@ -12,7 +12,8 @@ use Rattle.mailparse.specs.Ranges.{Range, slice}
 use Rattle.mailparse.specs.Delimiters.{is_delimiter, delimiter_from, line_after, part_after, is_close_delimiter, first_part, next_part, before_byte, before_line_end, end_from, part_range, cut_parts}
 use Rattle.mailparse.proofs.lemmas.Delimiters.{NoDelimiter, is_delimiter-line, is_delimiter-start, delimiter_from-some, starts_delimiter, part_ranges, part_ranges-none, part_ranges-some}
 use Rattle.mailparse.proofs.lemmas.Places.{not_some}
-use Rattle.mail_laws.proofs.lemmas.RenderHeaders.{from_not, drop_past}
+use Rattle.mail_laws.proofs.lemmas.DelimiterPlaces.{before_byte-start}
+use Rattle.mail_laws.proofs.lemmas.RenderHeaders.{drop_past}
 
 -- ---- a text that stands
 
@@ -24,7 +25,7 @@ no_return b = not (eqb b 13)
 stands-before : (text front rest : List ℕ) → list_all no_return text ≡ true → stands text (front ++ 13 ∷ rest) ≡ stands text front
 stands-before [] front rest free = refl
 stands-before (x ∷ text) [] rest free =
-    and_left (eqb x 13) (stands text rest) (from_not (eqb x 13) (and_parts (no_return x) (list_all no_return text) free).0)
+    and_left (eqb x 13) (stands text rest) (not-true (eqb x 13) (and_parts (no_return x) (list_all no_return text) free).0)
 stands-before (x ∷ text) (b ∷ front) rest free =
     ap (λ t. eqb x b && t) (stands-before text front rest (and_parts (no_return x) (list_all no_return text) free).1)
 
@@ -54,14 +55,9 @@ before_line_end-crlf bytes start p low return feed =
     ap (before_byte 13 bytes start) (before_byte-one 10 bytes start (suc p) (omega arith) feed)
     ∙ before_byte-one 13 bytes start p low return
 
-before_byte-start : (b : ℕ) (bytes : List ℕ) (start : ℕ) → before_byte b bytes start start ≡ start
-before_byte-start b bytes start =
-    cond-false (nat_lt start start && begins (λ x. eqb x b) (drop (start - 1) bytes)) (start - 1) start
-    (and_left (nat_lt start start) _ (le-ltb start start (omega arith)))
-
 before_line_end-start : (bytes : List ℕ) (start : ℕ) → before_line_end bytes start start ≡ start
 before_line_end-start bytes start =
-    ap (before_byte 13 bytes start) (before_byte-start 10 bytes start) ∙ before_byte-start 13 bytes start
+    ap (before_byte 13 bytes start) (before_byte-start 10 bytes start start (omega arith)) ∙ before_byte-start 13 bytes start start (omega arith)
 
 -- ---- what follows a delimiter
 

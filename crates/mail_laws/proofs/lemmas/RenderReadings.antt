@@ -1,10 +1,10 @@
 -- What is written of an outline reads as the message that it stands for.
-use Rattle.std.proofs.Common.{◌≡◌, ◌⊎◌, inl, inr, ℕ, zero, suc, ◌+◌, ◌-◌, ◌<◌, ◌≤◌, ⊎_elim, Bool, true, false, eqb, not, List, [], ◌∷◌, ◌++◌, length, map, take, drop, Option, Some, None, is_some, Ok, Err, codes, refl, sym, ap, ◌∙◌, subst, arith, length-append}
+use Rattle.std.proofs.Common.{◌≡◌, ◌⊎◌, inl, ℕ, zero, suc, ◌+◌, ◌-◌, ◌<◌, ◌≤◌, ⊎_elim, Bool, true, false, eqb, not, List, [], ◌∷◌, ◌++◌, length, map, take, drop, Option, Some, None, is_some, Ok, Err, codes, refl, sym, ap, ◌∙◌, subst, arith, length-append}
 use Rattle.std.specs.Char.{is_ascii_alphanumeric}
 use Rattle.std.specs.List.{list_all}
 use Rattle.std.specs.Option.{option_map_or}
 use Rattle.std.specs.Str.{bytes_eq, is_utf8}
-use Rattle.std.proofs.lemmas.Bool.{cond-false, cases_lt, ne_eqb, eqb-true, leb-true, and_parts, or_parts, false≢true}
+use Rattle.std.proofs.lemmas.Bool.{cond-false, cases_lt, ne_eqb, eqb-true, leb-true, and_parts, or_parts, false≢true, not-true}
 use Rattle.std.proofs.lemmas.List.{append_cancel_left, drop_at, map-append, take_at, take_all}
 use lib.Pointwise.{bytes_decides}
 use Rattle.mail_codec.specs.Charset.{Charsets, four_charsets}
@@ -19,8 +19,9 @@ use Rattle.mailparse.specs.Mail.{Node, Tree, tree, Forest, no_parts, part_and, r
 use Rattle.mail_laws.specs.Boundaries.{boundary_type}
 use Rattle.mail_laws.specs.Encode.{KnowUtf8}
 use Rattle.mail_laws.specs.Render.{OutlineTree, OutlineForest, leaf, branch, no_outlines, outline_and, header_block, dash_boundary, rendered, rendered_parts, is_key, has_keys, has_texts, type_header, names_its_boundary, has_plain_boundary, is_not_multipart, has_some_part, holds_delimiter, hold_no_delimiter, has_clear_parts, depth, depth_of_parts, is_well_formed_here, is_well_formed_within, are_well_formed_within, type_of, node_of, stands_for, stand_for, is_within_levels, IsWellFormed, written_headers, has_plain_values, is_plain_within, are_plain_within, KnowItsWords, shown_header, headers_within, headers_in}
-use Rattle.mail_laws.proofs.lemmas.RenderHeaders.{from_not, list_all-weaker, read_headers-written}
-use Rattle.mail_laws.proofs.lemmas.RenderValues.{AreShown, headers_again, same_headers, written_are_shown, written_are_values, written_keys}
+use Rattle.mail_laws.proofs.lemmas.RenderHeaders.{read_headers-written}
+use Rattle.mail_laws.proofs.lemmas.Encode.{list_all-weaker}
+use Rattle.mail_laws.proofs.lemmas.RenderValues.{AreShown, headers_again, known_first, known_others, same_headers, written_are_shown, written_are_values, written_keys}
 use Rattle.mail_laws.proofs.lemmas.RenderParts.{no_return, stands-nowhere, written, IsClear, AreClear, body-written, parts-written}
 use Rattle.mail_laws.proofs.lemmas.RenderTypes.{node_type-written, no_parts-leaf, type-branch}
 
@@ -47,7 +48,7 @@ AreClear-from : (boundary : List ℕ) (parts : OutlineForest) → hold_no_delimi
 AreClear-from boundary no_outlines none = tt
 AreClear-from boundary (outline_and part parts) none =
     let both = and_parts (not (holds_delimiter boundary (rendered part))) (hold_no_delimiter boundary parts) none in
-    (IsClear-from boundary (rendered part) (from_not _ both.0), AreClear-from boundary parts both.1)
+    (IsClear-from boundary (rendered part) (not-true _ both.0), AreClear-from boundary parts both.1)
 
 -- letters and digits are no CR
 no_return-alphanumeric : (b : ℕ) → is_ascii_alphanumeric b ≡ true → no_return b ≡ true
@@ -84,22 +85,16 @@ IsFormed-from outline h =
 -- ---- one message
 
 -- what is read of each part, unless one is refused
-each_read : (read : List ℕ → Reads Tree) (part : List ℕ) (parts : List (List ℕ)) (t : Tree) (ts : Forest) → read part ≡ Ok t → read_each read parts ≡ Ok ts
-    → read_each read (part ∷ parts) ≡ Ok (part_and t ts)
-each_read read part parts t ts first others =
+each_read : (read : List ℕ → Reads Tree) (part : List ℕ) (parts : List (List ℕ)) (t : Tree) (others : Reads Forest) → read part ≡ Ok t → read_each read parts ≡ others
+    → read_each read (part ∷ parts) ≡ ◌>>=◌ others (λ xs. Ok (part_and t xs))
+each_read read part parts t others first later =
     ap (λ (r : Reads Tree). ◌>>=◌ r (λ x. ◌>>=◌ (read_each read parts) (λ xs. Ok (part_and x xs)))) first
-    ∙ ap (λ (r : Reads Forest). ◌>>=◌ r (λ xs. Ok (part_and t xs))) others
+    ∙ ap (λ (r : Reads Forest). ◌>>=◌ r (λ xs. Ok (part_and t xs))) later
 
 first_refused : (read : List ℕ → Reads Tree) (part : List ℕ) (parts : List (List ℕ)) → read part ≡ Err recursion_limit
     → read_each read (part ∷ parts) ≡ Err recursion_limit
 first_refused read part parts first =
     ap (λ (r : Reads Tree). ◌>>=◌ r (λ x. ◌>>=◌ (read_each read parts) (λ xs. Ok (part_and x xs)))) first
-
-later_refused : (read : List ℕ → Reads Tree) (part : List ℕ) (parts : List (List ℕ)) (t : Tree) → read part ≡ Ok t → read_each read parts ≡ Err recursion_limit
-    → read_each read (part ∷ parts) ≡ Err recursion_limit
-later_refused read part parts t first others =
-    ap (λ (r : Reads Tree). ◌>>=◌ r (λ x. ◌>>=◌ (read_each read parts) (λ xs. Ok (part_and x xs)))) first
-    ∙ ap (λ (r : Reads Forest). ◌>>=◌ r (λ xs. Ok (part_and t xs))) others
 
 -- Under the charsets that are known.
 module _ (known : Charsets) where
@@ -190,21 +185,17 @@ module _ (known : Charsets) where
 
   shown-branch : (headers : List Header) (boundary : List ℕ) (parts : OutlineForest) → KnowItsWords known (branch headers boundary parts)
       → IsFormed (branch headers boundary parts) → AreShown known headers
-  shown-branch headers boundary parts (inl knows) formed = written_are_shown known headers (inl knows) formed.values
-  shown-branch headers boundary parts (inr plain) formed =
-      written_are_shown known headers (inr (and_parts (has_plain_values (branch headers boundary parts)) (are_plain_within parts) plain).0) formed.values
+  shown-branch headers boundary parts able formed =
+      written_are_shown known headers (known_first (has_plain_values (branch headers boundary parts)) (are_plain_within parts) able) formed.values
 
   shown-parts : (headers : List Header) (boundary : List ℕ) (parts : OutlineForest) → KnowItsWords known (branch headers boundary parts) → KnowTheirWords parts
-  shown-parts headers boundary parts (inl knows) = inl knows
-  shown-parts headers boundary parts (inr plain) = inr (and_parts (has_plain_values (branch headers boundary parts)) (are_plain_within parts) plain).1
+  shown-parts headers boundary parts = known_others (has_plain_values (branch headers boundary parts)) (are_plain_within parts)
 
   shown-first : (part : OutlineTree) (parts : OutlineForest) → KnowTheirWords (outline_and part parts) → KnowItsWords known part
-  shown-first part parts (inl knows) = inl knows
-  shown-first part parts (inr plain) = inr (and_parts (is_plain_within part) (are_plain_within parts) plain).0
+  shown-first part parts = known_first (is_plain_within part) (are_plain_within parts)
 
   shown-others : (part : OutlineTree) (parts : OutlineForest) → KnowTheirWords (outline_and part parts) → KnowTheirWords parts
-  shown-others part parts (inl knows) = inl knows
-  shown-others part parts (inr plain) = inr (and_parts (is_plain_within part) (are_plain_within parts) plain).1
+  shown-others part parts = known_others (is_plain_within part) (are_plain_within parts)
 
   -- ---- outlines with their parts
 
@@ -227,7 +218,7 @@ module _ (known : Charsets) where
     reads_parts (outline_and part parts) zero able formed within = absurd (omega (arith, within))
     reads_parts (outline_and part parts) (suc n) able formed within =
         let both = and_parts (is_well_formed_within part) (are_well_formed_within parts) formed in
-        each_read (read_levels known (suc n) false) (rendered part) (renderings parts) (stands_for known part) (stand_for known parts)
+        each_read (read_levels known (suc n) false) (rendered part) (renderings parts) (stands_for known part) (Ok (stand_for known parts))
         (reads part n (shown-first part parts able) both.0 (omega (arith, within))) (reads_parts parts (suc n) (shown-others part parts able) both.1 (omega (arith, within)))
 
   mutual
@@ -249,7 +240,7 @@ module _ (known : Charsets) where
     refuses_parts (outline_and part parts) (suc n) able formed deep =
         let both = and_parts (is_well_formed_within part) (are_well_formed_within parts) formed in
         ⊎_elim (λ below. first_refused (read_levels known (suc n) false) (rendered part) (renderings parts) (refuses part n (shown-first part parts able) both.0 below))
-        (λ within. later_refused (read_levels known (suc n) false) (rendered part) (renderings parts) (stands_for known part) (reads part n (shown-first part parts able) both.0 within)
+        (λ within. each_read (read_levels known (suc n) false) (rendered part) (renderings parts) (stands_for known part) (Err recursion_limit) (reads part n (shown-first part parts able) both.0 within)
         (refuses_parts parts (suc n) (shown-others part parts able) both.1 (omega (arith, deep, within))))
         (cases_lt n (depth part))
 

@@ -4,7 +4,7 @@ use Rattle.std.specs.Char.{is_ascii_alphanumeric}
 use Rattle.std.specs.List.{list_all, All}
 use Rattle.std.specs.Option.{option_map_or}
 use Rattle.std.specs.Str.{IsAscii, bytes_eq, str_eq_ignore_ascii_case}
-use Rattle.std.proofs.lemmas.Bool.{cond-false, and_parts, or_cases, false≢true, leb-true}
+use Rattle.std.proofs.lemmas.Bool.{cond-false, and_parts, or_cases, false≢true, leb-true, not-true}
 use Rattle.std.proofs.lemmas.Str.{encodes-IsAscii}
 use lib.Pointwise.{bytes_decides}
 use Rattle.mail_codec.specs.Charset.{Charsets}
@@ -17,7 +17,7 @@ use Rattle.mailparse.specs.Mail.{node_type, dash_boundary_of, is_digest}
 use Rattle.mail_laws.specs.Boundaries.{IsAlphanumeric, boundary_type}
 use Rattle.mail_laws.specs.Render.{dash_boundary, is_key_byte, is_key, has_type_key, type_header, mimetype_of, type_of, written_bytes, written_header, written_headers}
 use Rattle.mail_laws.proofs.lemmas.Boundaries.{boundary_content_type}
-use Rattle.mail_laws.proofs.lemmas.RenderHeaders.{from_not, key_byte}
+use Rattle.mail_laws.proofs.lemmas.RenderHeaders.{key_byte}
 use Rattle.mail_laws.proofs.lemmas.RenderValues.{AreShown}
 
 -- ---- ASCII
@@ -81,7 +81,7 @@ module _ (known : Charsets) where
       go : (o : Option Header) → option_map_or (λ h. not (stands (codes "multipart") (mimetype_of h.value))) o true ≡ true
           → dash_boundary_of (option_map_or (λ h. content_type_in known h.value) o default_type) ≡ None
       go None e = refl
-      go (Some h) e = no_parts-named h.value (from_not (stands (codes "multipart") (mimetype_of h.value)) e)
+      go (Some h) e = no_parts-named h.value (not-true (stands (codes "multipart") (mimetype_of h.value)) e)
 
   -- the type that names a boundary of letters and digits
   IsAlphanumeric-from : (boundary : List ℕ) → list_all is_ascii_alphanumeric boundary ≡ true → IsAlphanumeric boundary

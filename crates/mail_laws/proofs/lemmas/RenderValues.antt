@@ -1,9 +1,9 @@
 -- The values of an outline, as they are written: a header can carry each, and each shows its text.
-use Rattle.std.proofs.Common.{◌≡◌, ◌⊎◌, inl, inr, ℕ, ◌+◌, ◌≤◌, Bool, true, false, cond, ◌&&◌, List, [], ◌∷◌, ◌++◌, length, map, refl, sym, ap, subst, ◌∙◌, arith, append_assoc, length-append}
+use Rattle.std.proofs.Common.{◌≡◌, ◌⊎◌, inl, inr, ℕ, ◌+◌, Bool, true, false, cond, ◌&&◌, List, [], ◌∷◌, ◌++◌, length, map, refl, sym, ap, subst, ◌∙◌, arith, append_assoc, length-append}
 use Rattle.std.specs.Prelude.{codes}
 use Rattle.std.specs.List.{list_all}
 use Rattle.std.specs.Str.{chars, IsUtf8, is_utf8}
-use Rattle.std.proofs.lemmas.Bool.{and_parts, and_left, cond-true, cond-false, false_from_ne_true, ne_eqb}
+use Rattle.std.proofs.lemmas.Bool.{and_parts, cond-true, cond-false, false_from_ne_true}
 use Rattle.std.proofs.lemmas.Str.{IsUtf8-from_is_utf8, is_utf8-from_IsUtf8}
 use Rattle.mail_codec.specs.Ascii.{is_blank}
 use Rattle.mail_codec.specs.Charset.{Charsets, four_charsets}
@@ -11,29 +11,12 @@ use Rattle.mail_codec.specs.Places.{first_place, begins, stands}
 use Rattle.mail_codec.proofs.lemmas.Places.{first_place-past}
 use Rattle.mailparse.specs.Header.{Header, ends_header, is_line_end}
 use Rattle.mailparse.specs.Value.{lenient_value_in}
-use Rattle.mailparse.proofs.lemmas.Header.{is_line_end-false}
-use Rattle.mail_laws.specs.Encode.{KnowUtf8, encoded_word, is_plain_value, word_lines, words_of, written_value}
+use Rattle.mail_laws.specs.Encode.{KnowUtf8, encoded_word, is_plain_byte, is_plain_value, word_lines, words_of, written_value}
 use Rattle.mail_laws.specs.Render.{is_key, shown_header, written_bytes, written_headers}
-use Rattle.mail_laws.proofs.lemmas.EncodeRead.{AreTexts, AreVisible, text_words, word_visible, written_reads}
-use Rattle.mail_laws.proofs.lemmas.RenderHeaders.{IsValue, AreValues, last_feed, plain_is_value}
+use Rattle.mail_laws.proofs.lemmas.EncodeRead.{AreTexts, text_words, word_plain, written_reads}
+use Rattle.mail_laws.proofs.lemmas.RenderHeaders.{IsValue, AreValues, first_place-over, last_feed, plain_is_value, plain_passed, value_passed}
 
 -- ---- the lines of encoded words
-
--- printable bytes at which a test fails are passed over
-over_visible : (test : List ℕ → Bool) → ((b : ℕ) (bs : List ℕ) → 33 ≤ b → test (b ∷ bs) ≡ false)
-    → (front rest : List ℕ) → AreVisible front → first_place test (front ++ rest) ≡ length front + first_place test rest
-over_visible test fails [] rest h = omega arith
-over_visible test fails (b ∷ front) rest h =
-    let past = first_place-past test b (front ++ rest) (fails b (front ++ rest) h.0.0) in
-    let more = over_visible test fails front rest h.1 in
-    omega arith
-
-visible_no_feed : (b : ℕ) (bs : List ℕ) → 33 ≤ b → ends_header (b ∷ bs) ≡ false
-visible_no_feed b bs low = and_left _ _ (ne_eqb b 10 (λ e. absurd (omega (arith, low))))
-
-visible_stays : (b : ℕ) (bs : List ℕ) → 33 ≤ b → list_all is_line_end (b ∷ bs) ≡ false
-visible_stays b bs low =
-    and_left (is_line_end b) _ (is_line_end-false b (λ e. absurd (omega (arith, low))) (λ e. absurd (omega (arith, low))))
 
 -- the first word, the line end with its space, and the other words, before a rest
 words_before : (w v : List ℕ) (ws : List (List ℕ)) (rest : List ℕ)
@@ -47,12 +30,12 @@ words_end : (ws : List (List ℕ)) → AreTexts ws → (rest : List ℕ) → beg
     → first_place ends_header (word_lines ws ++ 13 ∷ 10 ∷ rest) ≡ length (word_lines ws) + 1
 words_end [] h rest no_blank = last_feed rest no_blank
 words_end (w ∷ []) h rest no_blank =
-    over_visible ends_header visible_no_feed (encoded_word w) (13 ∷ 10 ∷ rest) (word_visible w h.0)
+    first_place-over ends_header is_plain_byte plain_passed (encoded_word w) (13 ∷ 10 ∷ rest) (word_plain w h.0)
     ∙ ap (λ n. length (encoded_word w) + n) (last_feed rest no_blank)
 words_end (w ∷ v ∷ ws) h rest no_blank =
     let more = word_lines (v ∷ ws) ++ 13 ∷ 10 ∷ rest in
     let first = ap (first_place ends_header) (words_before w v ws (13 ∷ 10 ∷ rest))
-    ∙ over_visible ends_header visible_no_feed (encoded_word w) (13 ∷ 10 ∷ 32 ∷ more) (word_visible w h.0) in
+    ∙ first_place-over ends_header is_plain_byte plain_passed (encoded_word w) (13 ∷ 10 ∷ 32 ∷ more) (word_plain w h.0) in
     let return = first_place-past ends_header 13 (10 ∷ 32 ∷ more) refl in
     let feed = first_place-past ends_header 10 (32 ∷ more) refl in
     let space = first_place-past ends_header 32 more refl in
@@ -64,12 +47,12 @@ words_whole : (ws : List (List ℕ)) → AreTexts ws → first_place (list_all i
 words_whole [] h = refl
 words_whole (w ∷ []) h =
     let passed : first_place (list_all is_line_end) (encoded_word w ++ 13 ∷ []) ≡ length (encoded_word w) + 0 =
-    over_visible (list_all is_line_end) visible_stays (encoded_word w) (13 ∷ []) (word_visible w h.0) in
+    first_place-over (list_all is_line_end) is_plain_byte value_passed (encoded_word w) (13 ∷ []) (word_plain w h.0) in
     passed ∙ omega arith
 words_whole (w ∷ v ∷ ws) h =
     let more = word_lines (v ∷ ws) ++ 13 ∷ [] in
     let first = ap (first_place (list_all is_line_end)) (words_before w v ws (13 ∷ []))
-    ∙ over_visible (list_all is_line_end) visible_stays (encoded_word w) (13 ∷ 10 ∷ 32 ∷ more) (word_visible w h.0) in
+    ∙ first_place-over (list_all is_line_end) is_plain_byte value_passed (encoded_word w) (13 ∷ 10 ∷ 32 ∷ more) (word_plain w h.0) in
     let return = first_place-past (list_all is_line_end) 13 (10 ∷ 32 ∷ more) refl in
     let feed = first_place-past (list_all is_line_end) 10 (32 ∷ more) refl in
     let space = first_place-past (list_all is_line_end) 32 more refl in
@@ -126,23 +109,26 @@ abbrev pub AreShown : Charsets → List Header → Type 0
 AreShown known [] = Unit {0}
 AreShown known (h ∷ headers) = (lenient_value_in known (written_bytes h.value) ≡ h.value) × AreShown known headers
 
+-- charsets that know UTF-8, or that meet plain values alone, do so for a part of the values
+pub known_first : {Known : Type 0} (a b : Bool) → Known ⊎ (a && b ≡ true) → Known ⊎ (a ≡ true)
+known_first a b (inl knows) = inl knows
+known_first a b (inr plain) = inr (and_parts a b plain).0
+
+pub known_others : {Known : Type 0} (a b : Bool) → Known ⊎ (a && b ≡ true) → Known ⊎ (b ≡ true)
+known_others a b (inl knows) = inl knows
+known_others a b (inr plain) = inr (and_parts a b plain).1
+
 pub written_are_shown : (known : Charsets) (headers : List Header) → KnowUtf8 known ⊎ (list_all (λ h. is_plain_value h.value) headers ≡ true)
     → list_all (λ h. is_utf8 h.value) headers ≡ true → AreShown known headers
 written_are_shown known [] able texts = tt
 written_are_shown known (h ∷ headers) able texts =
     let both = and_parts (is_utf8 h.value) (list_all (λ x. is_utf8 x.value) headers) texts in
-    let here : KnowUtf8 known ⊎ (is_plain_value h.value ≡ true) = first able in (
-      ap (lenient_value_in known) (written_text h.value both.0) ∙ written_reads known h.value here (IsUtf8-from_is_utf8 h.value both.0),
-      written_are_shown known headers (others able) both.1,
+    let plain = is_plain_value h.value in
+    let others = list_all (λ x. is_plain_value x.value) headers in (
+      ap (lenient_value_in known) (written_text h.value both.0)
+          ∙ written_reads known h.value (known_first plain others able) (IsUtf8-from_is_utf8 h.value both.0),
+      written_are_shown known headers (known_others plain others able) both.1,
     )
-  where
-    first : KnowUtf8 known ⊎ (list_all (λ x. is_plain_value x.value) (h ∷ headers) ≡ true) → KnowUtf8 known ⊎ (is_plain_value h.value ≡ true)
-    first (inl knows) = inl knows
-    first (inr plain) = inr (and_parts (is_plain_value h.value) (list_all (λ x. is_plain_value x.value) headers) plain).0
-
-    others : KnowUtf8 known ⊎ (list_all (λ x. is_plain_value x.value) (h ∷ headers) ≡ true) → KnowUtf8 known ⊎ (list_all (λ x. is_plain_value x.value) headers ≡ true)
-    others (inl knows) = inl knows
-    others (inr plain) = inr (and_parts (is_plain_value h.value) (list_all (λ x. is_plain_value x.value) headers) plain).1
 
 -- headers that show their texts are had again from what is written
 pub headers_again : (known : Charsets) (headers : List Header) → AreShown known headers → map (shown_header known) (written_headers headers) ≡ headers

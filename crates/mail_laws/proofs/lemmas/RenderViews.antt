@@ -4,14 +4,14 @@ use Rattle.std.specs.Global.{Vec}
 use Rattle.std.specs.Prelude.{codes, flat_map, if◌then◌else◌}
 use Rattle.mail_codec.specs.QuotedPrintable.{cr_lf}
 use Rattle.mailparse.specs.Header.{Header}
-use Rattle.mail_laws.specs.Render.{OutlineTree, leaf, branch, forest_of, headers_of, header_line, header_block, dash_boundary, rendered, rendered_parts, written_header, written_headers}
+use Rattle.mail_laws.specs.Render.{OutlineTree, branch, forest_of, header_line, header_block, dash_boundary, rendered, rendered_parts, written_header, written_headers}
 use Rattle.mail_laws.specs.RenderViews.{header_seen, headers_seen, kind_step, outline_step, outline_tree}
 use Rattle.mail_laws.specs.declared.render.Outline.{Outline}
 use Rattle.mail_laws.specs.declared.render.OutlineKind.{OutlineKind}
-use Rattle.mail_laws.specs.declared.render.OutlineKind.TheVariants.{Leaf, Branch, rolls-Leaf, rolls-Branch}
+use Rattle.mail_laws.specs.declared.render.OutlineKind.TheVariants.{Branch, rolls-Branch}
 use Rattle.mail_laws.specs.declared.render.OutlineKind.TheOpen.{OutlineKind-F}
 use Rattle.mail_laws.specs.declared.render.OutlineKind.TheViews.{out-Outline}
-use Rattle.mail_laws.specs.declared.render.OutlineKind.TheFolds.{fold-OutlineKind, fold-roll-OutlineKind, fold_out-Outline, fold_out-OutlineKind}
+use Rattle.mail_laws.specs.declared.render.OutlineKind.TheFolds.{fold-OutlineKind, fold-roll-OutlineKind, fold_out-Outline}
 
 -- what follows the headers makes an outline of them
 abbrev pub kind_tree : OutlineKind → List Header → OutlineTree

@@ -1,4 +1,4 @@
-use Rattle.std.proofs.Common.{◌≡◌, ◌+◌, true, false, ◌&&◌, not, nat_eq, List, ◌∷◌, length, map, drop, Ok, ap, sym, ◌∙◌}
+use Rattle.std.proofs.Common.{◌≡◌, ◌+◌, true, false, ◌&&◌, not, nat_eq, List, ◌∷◌, map, drop, Ok, ap, sym, ◌∙◌}
 use Rattle.std.proofs.lemmas.List.{drop_more, length-map}
 use Rattle.mail_laws.specs.Render.{holds_delimiter, is_well_formed_within, rendered}
 use Rattle.mail_laws.specs.RenderViews.{headers_seen, outline_tree}

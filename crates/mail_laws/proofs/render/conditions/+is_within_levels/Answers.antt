@@ -1,10 +1,10 @@
-use Rattle.std.proofs.Common.{ℕ, List, nat_eq, nat_le, ap, map, sym, ◌∙◌}
+use Rattle.std.proofs.Common.{List, nat_eq, nat_le, ap, map, sym, ◌∙◌}
 use Rattle.std.proofs.lemmas.List.{length-map}
 use Rattle.mail_laws.specs.Render.{depth}
 use Rattle.mail_laws.specs.RenderViews.{outline_tree}
 use Rattle.mail_laws.specs.declared.render.Outline.{Outline}
 use Rattle.mail_laws.proofs.lemmas.RenderViews.{tree_branch}
-use Rattle.mail_laws.proofs.lemmas.RenderConditions.{none_within, part_within, parts_within}
+use Rattle.mail_laws.proofs.lemmas.RenderConditions.{none_within, parts_within}
 use Rattle.mail_laws.proofs.render.conditions.+is_within_levels.Goals as goal
 
 pub returns-then-levels-eq0 : goal.returns-then-levels-eq0

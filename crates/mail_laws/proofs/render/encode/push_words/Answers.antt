@@ -1,7 +1,8 @@
 use Rattle.std.proofs.Common.{ap, ◌∙◌, arith}
 use Rattle.std.specs.String.{string_bytes}
 use Rattle.std.proofs.lemmas.List.{nil_from_length}
-use Rattle.mail_laws.proofs.lemmas.EncodeCut.{cutting_starts, cutting_goes_on, cutting_cuts, cutting_ends, on_ok, word_at}
+use Rattle.mail_laws.proofs.lemmas.EncodeCut.{cutting_starts, cutting_goes_on, cutting_cuts, cutting_ends, word_at}
+use Rattle.mail_laws.proofs.lemmas.RenderViews.{on_ok_then}
 use Rattle.mail_laws.proofs.render.encode.push_words.Goals as goal
 
 pub loop-c-init : goal.loop-c-init
@@ -24,8 +25,7 @@ loop-c-preserved c =
 
 pub returns : goal.returns
 returns c = record {
-  written = on_ok c.push_word-2.result
+  written = on_ok_then c.push_word-2.result c.push_word-2.ensures.written
       (λ n. cutting_ends c.args.text.now (string_bytes c.args.written.now) (string_bytes c.loop-c.written) c.loop-c.c-iterator.rest.now (string_bytes c.push_word-2.new.written)
-      c.loop-c.start c.loop-c.end c.loop-c.invariant (nil_from_length _ c.in-None.ensures.steps.0.0) (word_at _ _ _ _ c.range_from.ensures.value n))
-      c.push_word-2.ensures.written;
+      c.loop-c.start c.loop-c.end c.loop-c.invariant (nil_from_length _ c.in-None.ensures.steps.0.0) (word_at _ _ _ _ c.range_from.ensures.value n));
 }
