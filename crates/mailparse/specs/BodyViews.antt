@@ -49,6 +49,14 @@ text_content b = content b.content
 abbrev pub binary_content : BinaryBody → Content
 binary_content b = content b.content
 
+-- the content of a body, whatever its transfer encoding
+abbrev pub body_content : Body → Content
+body_content (Base64 b) = encoded_content b
+body_content (QuotedPrintable b) = encoded_content b
+body_content (SevenBit b) = text_content b
+body_content (EightBit b) = text_content b
+body_content (Binary b) = binary_content b
+
 -- the text that names a transfer encoding, if there is one
 abbrev pub name_of : Option (String Global) → Option (List ℕ)
 name_of None = None

@@ -1,6 +1,7 @@
 //! The body of a message: its transfer encoding, its bytes and its text.
-ghost use Rattle.mailparse.specs.Body.{kind_named};
-ghost use Rattle.mailparse.specs.BodyViews.{IsBody, name_of};
+ghost use Rattle.std.specs.Prelude.{◌≡◌};
+ghost use Rattle.mailparse.specs.Body.{BodyKind, kind_named};
+ghost use Rattle.mailparse.specs.BodyViews.{Content, IsBody, body_content, name_of};
 ghost use Rattle.mailparse.specs.Views.{content_type};
 
 mod binary;
@@ -78,6 +79,31 @@ impl<'a> Body<'a> {
             "8bit" => Body::EightBit(TextBody { content }),
             "binary" => Body::Binary(BinaryBody { content }),
             _ => Body::SevenBit(TextBody { content }),
+        }
+    }
+
+    /// Returns the bytes of the body as they appear in the message, not decoded (RFC 2045, section
+    /// 6), whatever its transfer encoding.
+    ///
+    /// Takes no memory.
+    ///
+    /// # Examples
+    ///
+    /// ```rust
+    /// use mailparse::parse_mail;
+    ///
+    /// let mail = parse_mail(alloc, b"Content-Transfer-Encoding: base64\n\naGk=")?;
+    /// assert_eq!(rt; mail.get_body_encoded(alloc)?.get_raw(), b"aGk=".as_slice());
+    /// ```
+    pub fn get_raw(&self) -> &'a [u8]
+        ensures value { result.now ≡ (body_content self.now).raw }
+        ensures made { (kind : BodyKind) (given : Content) → IsBody kind given self.now →
+            result.now ≡ given.raw }
+    {
+        match self {
+            Body::Base64(body) | Body::QuotedPrintable(body) => body.get_raw(),
+            Body::SevenBit(body) | Body::EightBit(body) => body.get_raw(),
+            Body::Binary(body) => body.get_raw(),
         }
     }
 }
