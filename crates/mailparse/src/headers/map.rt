@@ -3,12 +3,15 @@ ghost use Rattle.std.specs.Prelude.{◌≡◌, map, List, IfOk, IsOk, IsNone, Ok
 ghost use Rattle.std.specs.Option.{option_copied};
 ghost use Rattle.std.specs.Str.{str_eq_ignore_ascii_case};
 ghost use Rattle.mail_codec.specs.Latin1.{latin1_text};
-ghost use Rattle.mailparse.specs.Map.{first_with_key, all_with_key, first_value, all_values, text_found};
+ghost use Rattle.mail_codec.specs.Tables.{charsets_with};
+ghost use Rattle.mailparse.specs.Map.{first_with_key, all_with_key, first_value, first_value_in};
+ghost use Rattle.mailparse.specs.Map.{all_values, text_found};
 ghost use Rattle.mailparse.specs.Outcome.{AnswersOrMemory, GivesTexts};
 
 use super::Headers;
 use crate::error::MailParseError;
 use crate::header::MailHeader;
+use mail_codec::charset::SingleByteTable;
 use std::alloc::{AllocError, Global};
 
 /// A list of headers, in the order of the message, with lookup by name (RFC 5322, section 2.2).
@@ -59,6 +62,37 @@ pub trait MailHeaderMap {
     fn get_first_value(&self, alloc: Global, key: &str) -> Result<Option<String>, MailParseError>
         ensures read { AnswersOrMemory text_found result
             (Ok (first_value key.now (present self.now))) }
+        ensures no_alloc { IsNone (first_with_key key.now (present self.now)) → IsOk result };
+
+    /// Returns the value of the first header with this name (RFC 5322, section 2.2), as
+    /// `MailHeader::get_value_with` reads it, or `None` if there is none.
+    ///
+    /// The four built-in charsets take precedence over the tables; among the tables, the first
+    /// that has the label is used. Takes memory for the value, and none where there is no such
+    /// header.
+    ///
+    /// # Errors
+    ///
+    /// `MailParseError::Memory` where it runs out of memory.
+    ///
+    /// # Examples
+    ///
+    /// ```rust
+    /// use mailparse::{MailHeaderMap, SingleByteTable, parse_headers};
+    ///
+    /// let tables = [SingleByteTable { labels: &["x-euro"], high: &['€'; 128] }];
+    /// let (headers, _) = parse_headers(alloc, b"To: =?x-euro?Q?5_=80?=\n")?;
+    /// let value = headers.get_first_value_with(alloc, "To", &tables)?.ok_or("no header")?;
+    /// assert_eq!(rt; value.as_str(), "5 €");
+    /// ```
+    fn get_first_value_with(
+        &self,
+        alloc: Global,
+        key: &str,
+        tables: &[SingleByteTable<'_>],
+    ) -> Result<Option<String>, MailParseError>
+        ensures read { AnswersOrMemory text_found result
+            (Ok (first_value_in (charsets_with tables.now) key.now (present self.now))) }
         ensures no_alloc { IsNone (first_with_key key.now (present self.now)) → IsOk result };
 
     /// Returns the values of all headers with this name (RFC 5322, section 2.2), as
@@ -123,6 +157,15 @@ impl MailHeaderMap for Vec<MailHeader<'_>> {
         Ok(first_value(alloc, self.as_slice(), key)?)
     }
 
+    fn get_first_value_with(
+        &self,
+        alloc: Global,
+        key: &str,
+        tables: &[SingleByteTable<'_>],
+    ) -> Result<Option<String>, MailParseError> {
+        Ok(first_value_with(alloc, self.as_slice(), key, tables)?)
+    }
+
     fn get_all_values(&self, alloc: Global, key: &str) -> Result<Vec<String>, MailParseError> {
         Ok(all_values(alloc, self.as_slice(), key)?)
     }
@@ -145,6 +188,15 @@ impl MailHeaderMap for Headers<'_> {
 
     fn get_first_value(&self, alloc: Global, key: &str) -> Result<Option<String>, MailParseError> {
         Ok(first_value(alloc, self.list(), key)?)
+    }
+
+    fn get_first_value_with(
+        &self,
+        alloc: Global,
+        key: &str,
+        tables: &[SingleByteTable<'_>],
+    ) -> Result<Option<String>, MailParseError> {
+        Ok(first_value_with(alloc, self.list(), key, tables)?)
     }
 
     fn get_all_values(&self, alloc: Global, key: &str) -> Result<Vec<String>, MailParseError> {
@@ -181,9 +233,24 @@ fn first_value<'h>(
     ensures read { IfOk result (λ found. text_found found ≡ first_value key.now list.now) }
     ensures no_alloc { IsNone (first_with_key key.now list.now) → IsOk result }
 {
+    first_value_with(alloc, list, key, &[])
+}
+
+/// The value of the first header of a list with this name, where its encoded words may also be in
+/// the charsets of some tables.
+fn first_value_with<'h>(
+    alloc: Global,
+    list: &'h [MailHeader<'h>],
+    key: &str,
+    tables: &[SingleByteTable<'_>],
+) -> Result<Option<String>, AllocError>
+    ensures read { IfOk result (λ found. text_found found
+        ≡ first_value_in (charsets_with tables.now) key.now list.now) }
+    ensures no_alloc { IsNone (first_with_key key.now list.now) → IsOk result }
+{
     match first_header(list, key) {
         None => Ok(None),
-        Some(h) => Ok(Some(h.get_value_ref(alloc)?.into_owned(alloc)?)),
+        Some(h) => Ok(Some(h.get_value_ref_with(alloc, tables)?.into_owned(alloc)?)),
     }
 }
 
