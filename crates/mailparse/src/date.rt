@@ -4,8 +4,9 @@ ghost use Rattle.mailparse.specs.Date.{date_seconds, date_words, from_hour, word
 ghost use Rattle.mailparse.specs.Outcome.{Answers};
 ghost use Rattle.mailparse.specs.private.Date.{IsFirstNumber, HasSizeAtMost};
 
-mod calendar;
+pub mod calendar;
 mod fields;
+pub mod names;
 mod words;
 
 use crate::error::MailParseError;

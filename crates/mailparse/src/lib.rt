@@ -64,6 +64,8 @@ mod parameters;
 
 pub use content_type::{ParsedContentType, parse_content_type, parse_content_type_with};
 pub use date::dateparse;
+#[doc(hidden)]
+pub use date::{calendar, names};
 pub use disposition::{
     DispositionType, ParsedContentDisposition, parse_content_disposition,
     parse_content_disposition_with,

@@ -334,7 +334,7 @@ date_words-past word after h = rw h refl
 -- ---- days of years
 
 -- what a year adds to the count of leap years
-year_counts : (y m : ℕ) → y ≡ m + 1 → year_length y + (y / 100 + (m / 4 + m / 400)) ≡ 365 + (m / 100 + (y / 4 + y / 400))
+pub year_counts : (y m : ℕ) → y ≡ m + 1 → year_length y + (y / 100 + (m / 4 + m / 400)) ≡ 365 + (m / 100 + (y / 4 + y / 400))
 year_counts y m next = go (eqb (y % 4) 0) (eqb (y % 100) 0) (eqb (y % 400) 0) refl refl refl
   where
     go : (a b c : Bool) → eqb (y % 4) 0 ≡ a → eqb (y % 100) 0 ≡ b → eqb (y % 400) 0 ≡ c

@@ -13,12 +13,13 @@ pub(super) fn day_number(year: u32, month: usize, day: u8) -> i64
     ensures value { result ≡ pos (day_number year month day) }
     ensures bounds { day_number year month day < 2 ^ 41 }
 {
-    let days = days_of_years(u64::from(year) - 1970) + days_of_months(year, month);
+    let year = u64::from(year);
+    let days = days_of_years(year - 1970) + days_of_months(year, month);
     (days + u64::from(day) - 1) as i64
 }
 
 /// Whether a year is a leap year.
-fn is_leap_year(year: u32) -> bool
+pub fn is_leap_year(year: u64) -> bool
     ensures { result ≡ is_leap_year year }
 {
     year % 4 == 0 && (year % 100 != 0 || year % 400 == 0)
@@ -35,7 +36,7 @@ fn days_of_years(count: u64) -> u64
 }
 
 /// The days of the months of a year before this one, which is counted from 0.
-fn days_of_months(year: u32, month: usize) -> u64
+pub fn days_of_months(year: u64, month: usize) -> u64
     requires { month < 12 }
     ensures value { result ≡ sum (take month (month_lengths year)) }
     ensures bounds { result < 366 }

@@ -5,35 +5,9 @@ ghost use Rattle.mailparse.specs.Outcome.{Answers};
 ghost use Rattle.mailparse.specs.Refusal.{generic};
 ghost use Rattle.mailparse.specs.private.Date.{HasSizeAtMost, next_number};
 
-use super::words::{look_up, next_word};
+use super::names::{look_up, month_named};
+use super::words::next_word;
 use crate::error::MailParseError;
-
-/// The names of the months, the first three letters and the whole, with the month's number from 0.
-static MONTHS: [(&str, usize); 23] = [
-    ("Jan", 0),
-    ("January", 0),
-    ("Feb", 1),
-    ("February", 1),
-    ("Mar", 2),
-    ("March", 2),
-    ("Apr", 3),
-    ("April", 3),
-    ("May", 4),
-    ("Jun", 5),
-    ("June", 5),
-    ("Jul", 6),
-    ("July", 6),
-    ("Aug", 7),
-    ("August", 7),
-    ("Sep", 8),
-    ("September", 8),
-    ("Oct", 9),
-    ("October", 9),
-    ("Nov", 10),
-    ("November", 10),
-    ("Dec", 11),
-    ("December", 11),
-];
 
 /// The names of zones, with how far they are east of Greenwich, in hours times 100.
 static ZONES: [(&str, i32); 36] = [
@@ -80,7 +54,7 @@ pub(super) fn month_number(word: &str) -> Result<usize, MailParseError>
     ensures read { Answers (λ month. month) result (month_of word.now) }
     ensures bounds { IfOk result (λ month. month < 12) }
 {
-    match look_up(&MONTHS, word) {
+    match month_named(word.as_bytes()) {
         Some(month) => Ok(month),
         None => Err(MailParseError::Generic("Unrecognized month")),
     }
@@ -146,7 +120,7 @@ fn zone_number(word: &str) -> Result<i32, MailParseError>
     ensures bounds { IfOk result (HasSizeAtMost 2400) }
 {
     let Ok(zone) = word.parse::<i32>() else {
-        return match look_up(&ZONES, word) {
+        return match look_up(&ZONES, word.as_bytes()) {
             Some(zone) => Ok(zone),
             None => Err(MailParseError::Generic("Invalid timezone")),
         };

@@ -1,8 +1,7 @@
-//! The words of a date, and the numbers that they write.
-ghost use Rattle.std.specs.Prelude.{◌≡◌, ◌<◌, ◌≤◌, [], ◌∷◌, map, not, length, IfSome, MatchOption};
+//! The words of a date.
+ghost use Rattle.std.specs.Prelude.{◌≡◌, ◌<◌, ◌≤◌, [], ◌∷◌, not, length, IfSome, MatchOption};
 ghost use Rattle.std.specs.List.{prefix_len};
-ghost use Rattle.std.specs.Str.{str_eq_ignore_ascii_case};
-ghost use Rattle.mailparse.specs.Date.{is_separator, look_up, words};
+ghost use Rattle.mailparse.specs.Date.{is_separator, words};
 
 /// The first word of a text, and the text after it.
 pub(super) fn next_word(text: &str) -> Option<(&str, &str)>
@@ -50,23 +49,4 @@ fn is_separator(byte: u8) -> bool
     ensures { result ≡ is_separator byte }
 {
     byte == b' ' || byte == b':'
-}
-
-/// What a table has for a word, ignoring ASCII case.
-pub(super) fn look_up<T: Copy>(table: &[(&str, T)], word: &str) -> Option<T>
-    ensures { result ≡ look_up (map (λ row. (row.0.now, row.1)) table.now) word.now }
-{
-    for (name, value) in table {
-        if is_same(word, name) {
-            return Some(*value);
-        }
-    }
-    None
-}
-
-/// Whether two words are equal, ignoring ASCII case.
-fn is_same(word: &str, name: &str) -> bool
-    ensures { result ≡ str_eq_ignore_ascii_case word.now name.now }
-{
-    word.as_bytes().eq_ignore_ascii_case(name.as_bytes())
 }

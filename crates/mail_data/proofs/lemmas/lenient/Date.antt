@@ -1,14 +1,14 @@
 -- Lemmas on dates as mail writes them.
-use Rattle.std.proofs.Common.{◌≡◌, ℕ, zero, suc, ◌+◌, ◌*◌, ◌/◌, ◌%◌, ◌-◌, ◌^◌, ◌<◌, ◌≤◌, Bool, true, false, cond, not, ◌&&◌, ◌||◌, eqb, leb, List, [], ◌∷◌, length, take, get_or, refl, arith}
+use Rattle.std.proofs.Common.{◌≡◌, ℕ, zero, suc, ◌+◌, ◌*◌, ◌/◌, ◌-◌, ◌^◌, ◌<◌, ◌≤◌, Bool, true, false, cond, ◌&&◌, leb, List, [], ◌∷◌, length, take, get_or, refl, arith}
 use Rattle.std.specs.Char.{digit_value, is_ascii_digit}
 use Rattle.std.specs.Int.{IsInRange}
 use Rattle.std.specs.List.{prefix_len}
 use Rattle.std.specs.Str.Parse.{AllDigits, digits_value}
 use Rattle.std.proofs.Math.Nat.{pow-le-pow_right}
-use Rattle.std.proofs.lemmas.Bool.{lt-ltb, le-ltb, leb-true, eqb-true, eqb-false}
+use Rattle.std.proofs.lemmas.Bool.{lt-ltb, le-ltb, leb-true}
 use Rattle.std.proofs.lemmas.Int.Digits.{digits_value-lt, digits_value_more}
 use Rattle.std.proofs.lemmas.Str.Parse.{digit_at, digits_value-take-le}
-use Rattle.mailparse.specs.Date.{year_length}
+use Rattle.mailparse.proofs.lemmas.Date.{year_counts}
 use Rattle.mail_data.specs.lenient.Date.{days_of_years}
 
 -- ---- digits
@@ -56,20 +56,6 @@ run-digits (b ∷ bytes) = go (run-digits bytes) (is_ascii_digit b) refl
     go later false e = tt
 
 -- ---- days of years
-
--- what a year adds to the count of leap years
-year_counts : (y m : ℕ) → y ≡ m + 1 → year_length y + (y / 100 + (m / 4 + m / 400)) ≡ 365 + (m / 100 + (y / 4 + y / 400))
-year_counts y m next = go (eqb (y % 4) 0) (eqb (y % 100) 0) (eqb (y % 400) 0) refl refl refl
-  where
-    go : (a b c : Bool) → eqb (y % 4) 0 ≡ a → eqb (y % 100) 0 ≡ b → eqb (y % 400) 0 ≡ c
-        → cond (a && (not b || c)) 366 365 + (y / 100 + (m / 4 + m / 400)) ≡ 365 + (m / 100 + (y / 4 + y / 400))
-    go true true true p q r = let a = eqb-true _ _ p in let b = eqb-true _ _ q in let c = eqb-true _ _ r in omega arith
-    go true true false p q r = let a = eqb-true _ _ p in let b = eqb-true _ _ q in let c = eqb-false _ _ r in omega arith
-    go true false true p q r = let b = eqb-false _ _ q in let c = eqb-true _ _ r in absurd (omega arith)
-    go true false false p q r = let a = eqb-true _ _ p in let b = eqb-false _ _ q in let c = eqb-false _ _ r in omega arith
-    go false true c p q r = let a = eqb-false _ _ p in let b = eqb-true _ _ q in absurd (omega arith)
-    go false false true p q r = let b = eqb-false _ _ q in let c = eqb-true _ _ r in absurd (omega arith)
-    go false false false p q r = let a = eqb-false _ _ p in let b = eqb-false _ _ q in let c = eqb-false _ _ r in omega arith
 
 -- the closed count
 pub days_of_years-closed : (n : ℕ) → days_of_years n + ((1899 + n) / 100 + 460) ≡ 365 * n + ((1899 + n) / 4 + (1899 + n) / 400)

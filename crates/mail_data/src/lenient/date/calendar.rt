@@ -1,13 +1,11 @@
 //! Days of the Gregorian calendar from 1900 on, counted without a loop.
-ghost use Rattle.std.specs.Prelude.{◌≡◌, ◌+◌, ◌≤◌, ◌<◌, ◌*◌, ◌^◌, take, sum};
-ghost use Rattle.mailparse.specs.Date.{is_leap_year, month_lengths};
+ghost use Rattle.std.specs.Prelude.{◌≡◌, ◌+◌, ◌≤◌, ◌<◌, ◌*◌, ◌^◌};
 ghost use Rattle.mail_data.specs.lenient.Date.{day_number, days_of_years, month_length};
+
+use mailparse::calendar::{days_of_months, is_leap_year};
 
 /// The days of the months of a common year.
 static LENGTHS: [u64; 12] = [31, 28, 31, 30, 31, 30, 31, 31, 30, 31, 30, 31];
-
-/// The days of the months before each month, in a common year.
-static DAYS_BEFORE: [u64; 12] = [0, 31, 59, 90, 120, 151, 181, 212, 243, 273, 304, 334];
 
 /// The days from 1 January 1900 to a day; months count from 0.
 #[tactic(auto, unfolding(crate::specs::lenient::Date::day_number))]
@@ -35,13 +33,6 @@ pub(super) fn month_length(year: u64, month: usize) -> u64
     }
 }
 
-/// Whether a year is a leap year.
-fn is_leap_year(year: u64) -> bool
-    ensures { result ≡ is_leap_year year }
-{
-    year % 4 == 0 && (year % 100 != 0 || year % 400 == 0)
-}
-
 /// The days of the first `count` years from 1900 on: 460 leap years stand before 1900.
 fn days_of_years(count: u64) -> u64
     requires { count < 2 ^ 30 }
@@ -50,17 +41,4 @@ fn days_of_years(count: u64) -> u64
 {
     let last = 1899 + count;
     365 * count + (last / 4 - last / 100 + last / 400) - 460
-}
-
-/// The days of the months of a year before this one, which is counted from 0.
-fn days_of_months(year: u64, month: usize) -> u64
-    requires { month < 12 }
-    ensures value { result ≡ sum (take month (month_lengths year)) }
-    ensures bounds { result < 366 }
-{
-    if month > 1 && is_leap_year(year) {
-        DAYS_BEFORE[month] + 1
-    } else {
-        DAYS_BEFORE[month]
-    }
 }

@@ -1,8 +1,6 @@
 //! The day and the time of a date.
-ghost use Rattle.std.specs.Prelude.{◌≡◌, ◌≤◌, ◌<◌, ◌*◌, ◌^◌, length, map, IfOk};
-ghost use Rattle.std.specs.Str.{str_eq_ignore_ascii_case};
+ghost use Rattle.std.specs.Prelude.{◌≡◌, ◌≤◌, ◌<◌, ◌*◌, ◌^◌, length, IfOk};
 ghost use Rattle.std.specs.Str.Parse.{AllDigits};
-ghost use Rattle.mailparse.specs.Date.{look_up};
 ghost use Rattle.mail_data.specs.lenient.Date.{after_colon, after_day_name, day_at, month_at};
 ghost use Rattle.mail_data.specs.lenient.Date.{second_at, time_at, year_at, year_of};
 ghost use Rattle.mail_data.specs.lenient.DateViews.{part_read};
@@ -11,34 +9,7 @@ use super::calendar::{day_number, month_length};
 use super::error::DateError;
 use super::numbers::{number_of, small_number};
 use super::whitespace::{after_mark, digits_at, letters_at};
-
-/// The names of the months, with the month's number from 0.
-static MONTHS: [(&str, usize); 24] = [
-    ("Sept", 8),
-    ("Jan", 0),
-    ("January", 0),
-    ("Feb", 1),
-    ("February", 1),
-    ("Mar", 2),
-    ("March", 2),
-    ("Apr", 3),
-    ("April", 3),
-    ("May", 4),
-    ("Jun", 5),
-    ("June", 5),
-    ("Jul", 6),
-    ("July", 6),
-    ("Aug", 7),
-    ("August", 7),
-    ("Sep", 8),
-    ("September", 8),
-    ("Oct", 9),
-    ("October", 9),
-    ("Nov", 10),
-    ("November", 10),
-    ("Dec", 11),
-    ("December", 11),
-];
+use mailparse::names::month_named;
 
 /// The days from 1 January 1900 to the day at the front, and what follows the year.
 #[tactic(auto, unfolding(crate::specs::lenient::Date::day_at))]
@@ -76,29 +47,13 @@ fn month_at(text: &[u8]) -> Result<(usize, &[u8]), DateError>
     ensures bounds { IfOk result (λ p. p.0 < 12) }
 {
     let (word, rest) = letters_at(text);
-    match look_up(&MONTHS, word) {
+    if word.eq_ignore_ascii_case(b"Sept") {
+        return Ok((8, rest));
+    }
+    match month_named(word) {
         Some(month) => Ok((month, rest)),
         None => Err(DateError::Month),
     }
-}
-
-/// What a table has for a word, ignoring ASCII case.
-pub(super) fn look_up<T: Copy>(table: &[(&str, T)], word: &[u8]) -> Option<T>
-    ensures { result ≡ look_up (map (λ row. (row.0.now, row.1)) table.now) word.now }
-{
-    for (name, value) in table {
-        if is_same(word, name) {
-            return Some(*value);
-        }
-    }
-    None
-}
-
-/// Whether a word is a name, ignoring ASCII case.
-fn is_same(word: &[u8], name: &str) -> bool
-    ensures { result ≡ str_eq_ignore_ascii_case word.now name.now }
-{
-    word.eq_ignore_ascii_case(name.as_bytes())
 }
 
 /// The year that the digits at the front write, and what follows them.

@@ -4,9 +4,9 @@ ghost use Rattle.mail_data.specs.lenient.Date.{named_zone_at, offset_at, zone_at
 ghost use Rattle.mail_data.specs.lenient.DateViews.{part_read};
 
 use super::error::DateError;
-use super::fields::look_up;
 use super::numbers::number_of;
 use super::whitespace::{after_mark, digits_at, letters_at};
+use mailparse::names::look_up;
 
 /// The names of zones, with the hours that they are west of Greenwich.
 static ZONES: [(&str, u64); 8] = [

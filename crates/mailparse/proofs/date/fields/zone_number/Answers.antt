@@ -14,13 +14,13 @@ pub returns-in-Some-clause-read : goal.returns-in-Some-clause-read
 unfolding zone_of
 returns-in-Some-clause-read c =
     let none : signed_number c.args.word.now ≡ None = signed_number-parse c.args.word.now c.parse.result c.parse.ensures.value.0 ∙ ap result_ok c.in_default.is in
-    let found : look_up zones c.args.word.now ≡ Some c.in-Some.zone = sym c.look_up.ensures ∙ c.in-Some.is in
+    let found : look_up zones c.args.word.now ≡ Some c.in-Some.zone = ap (look_up zones) (sym c.as_bytes.ensures.value) ∙ sym c.look_up.ensures ∙ c.in-Some.is in
     let fits = size_fits 2400 c.in-Some.zone (omega arith) (zones-size c.args.word.now c.in-Some.zone found) in
     ap (λ s. option_map_or zone_of_number s (zone_named c.args.word.now)) none ∙ ap (λ z. ok_or z invalid_zone) found ∙ ap Ok (sym (to_z-of_z w32 c.in-Some.zone fits))
 
 pub returns-in-Some-clause-bounds : goal.returns-in-Some-clause-bounds
 returns-in-Some-clause-bounds c =
-    let found : look_up zones c.args.word.now ≡ Some c.in-Some.zone = sym c.look_up.ensures ∙ c.in-Some.is in
+    let found : look_up zones c.args.word.now ≡ Some c.in-Some.zone = ap (look_up zones) (sym c.as_bytes.ensures.value) ∙ sym c.look_up.ensures ∙ c.in-Some.is in
     let close = zones-size c.args.word.now c.in-Some.zone found in
     subst (HasSizeAtMost 2400) (sym (to_z-of_z w32 c.in-Some.zone (size_fits 2400 c.in-Some.zone (omega arith) close))) close
 
@@ -28,7 +28,7 @@ pub returns-in-None-clause-read : goal.returns-in-None-clause-read
 unfolding zone_of
 returns-in-None-clause-read c =
     let none : signed_number c.args.word.now ≡ None = signed_number-parse c.args.word.now c.parse.result c.parse.ensures.value.0 ∙ ap result_ok c.in_default.is in
-    let found : look_up zones c.args.word.now ≡ None = sym c.look_up.ensures ∙ c.in-None.is in
+    let found : look_up zones c.args.word.now ≡ None = ap (look_up zones) (sym c.as_bytes.ensures.value) ∙ sym c.look_up.ensures ∙ c.in-None.is in
     ap (λ s. option_map_or zone_of_number s (zone_named c.args.word.now)) none ∙ ap (λ z. ok_or z invalid_zone) found
 
 pub returns-then-unsigned_abs-gt2400-clause-read : goal.returns-then-unsigned_abs-gt2400-clause-read
