@@ -7,7 +7,6 @@ ghost use Rattle.mail_data.specs.Forwarding.{bytes_inside, forwarded, forwards, 
 ghost use Rattle.mail_data.specs.Forwarding.{mails_inside};
 ghost use Rattle.mail_data.specs.ForwardingViews.{bytes_of_each};
 
-use mailparse::body::Body;
 use mailparse::{MAX_LEVELS, MailParseError, ParsedMail, parse_mail, parse_mail_limited};
 use std::alloc::Global;
 
@@ -175,11 +174,5 @@ pub(crate) fn raw_body<'m>(
     ensures read { IfOk result (λ raw. raw.now ≡ (root (tree_of part.now)).body) }
     ensures only_memory { IfErr result IsMemory }
 {
-    match part.get_body_encoded(alloc)? {
-        Body::Base64(body) => Ok(body.get_raw()),
-        Body::QuotedPrintable(body) => Ok(body.get_raw()),
-        Body::SevenBit(body) => Ok(body.get_raw()),
-        Body::EightBit(body) => Ok(body.get_raw()),
-        Body::Binary(body) => Ok(body.get_raw()),
-    }
+    Ok(part.get_body_encoded(alloc)?.get_raw())
 }
