@@ -10,8 +10,7 @@ ghost use Rattle.mail_data.specs.BounceViews.{delivery};
 ghost use Rattle.mail_data.specs.TextViews.{tree_found};
 
 use crate::forwarding::raw_body;
-use crate::lines::empty_line;
-use mail_codec::bytescan::find_byte;
+use crate::lines::{empty_line, is_empty_line, line_place};
 use mailparse::{MailHeader, MailHeaderMap, MailParseError, ParsedMail, parse_headers};
 use std::alloc::{AllocError, Global};
 
@@ -140,14 +139,7 @@ fn block_length(bytes: &[u8]) -> usize
     ensures value { result ≡ block_length bytes.now }
     ensures bounds { result ≤ length bytes.now }
 {
-    let mut at = 0;
-    'lines: while empty_line(&bytes[at..]) == 0 {
-        let Some(place) = find_byte(&bytes[at..], b'\n') else {
-            return bytes.len();
-        };
-        at += place + 1;
-    }
-    at
+    line_place(bytes, is_empty_line)
 }
 
 /// The fields of a block; none where it is refused.

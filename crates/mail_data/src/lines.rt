@@ -1,6 +1,8 @@
 //! Lines of bytes.
-ghost use Rattle.std.specs.Prelude.{◌≡◌, ◌≤◌, length};
-ghost use Rattle.mail_data.specs.Lines.{empty_line};
+ghost use Rattle.std.specs.Prelude.{◌≡◌, ◌≤◌, ℕ, Bool, List, length};
+ghost use Rattle.mail_data.specs.Lines.{empty_line, is_empty_line, line_place};
+
+use mail_codec::bytescan::find_byte;
 
 /// Returns how many bytes the empty line at the front has, LF or CR LF, or 0 where none is there.
 ///
@@ -27,4 +29,28 @@ pub fn empty_line(bytes: &[u8]) -> usize
     } else {
         0
     }
+}
+
+/// Whether an empty line stands at the front.
+pub(crate) fn is_empty_line(bytes: &[u8]) -> bool
+    ensures { result ≡ is_empty_line bytes.now }
+{
+    empty_line(bytes) > 0
+}
+
+/// Where the first line starts from which on the bytes pass the test, or the length where none does.
+pub(crate) fn line_place<F: Fn(&[u8]) -> bool>(bytes: &[u8], passes: F) -> usize
+    requires { F.IsAlwaysCallable passes }
+    ensures value { (test : List ℕ → Bool) → ((text : _) (is : Bool) →
+        F.post passes text is → is ≡ test text.now) → result ≡ line_place test bytes.now }
+    ensures bounds { result ≤ length bytes.now }
+{
+    let mut at = 0;
+    'lines: while !passes(&bytes[at..]) {
+        let Some(place) = find_byte(&bytes[at..], b'\n') else {
+            return bytes.len();
+        };
+        at += place + 1;
+    }
+    at
 }

@@ -6,7 +6,7 @@ ghost use Rattle.mail_data.specs.Mailbox.{entry_bytes, front_length, line_length
 ghost use Rattle.mail_data.specs.Mailbox.{next_entry};
 ghost use Rattle.mail_data.specs.MailboxViews.{entries_left};
 
-use crate::lines::empty_line;
+use crate::lines::{empty_line, line_place};
 use mail_codec::bytescan::find_byte;
 use std::marker::Model;
 
@@ -211,14 +211,7 @@ fn mail_length(bytes: &[u8]) -> usize
     ensures value { result ≡ mail_length bytes.now }
     ensures bounds { result ≤ length bytes.now }
 {
-    let mut at = 0;
-    'lines: while !ends_mail(&bytes[at..]) {
-        let Some(place) = find_byte(&bytes[at..], b'\n') else {
-            return bytes.len();
-        };
-        at += place + 1;
-    }
-    at
+    line_place(bytes, ends_mail)
 }
 
 /// Whether a mail ends at the front of these bytes, which begin a line: an empty line stands there,

@@ -1,15 +1,15 @@
 -- Lemmas on delivery status notifications.
-use Rattle.std.proofs.Common.{◌≡◌, ℕ, zero, suc, ◌<◌, ◌≤◌, Bool, true, false, not, List, [], ◌∷◌, ◌++◌, length, map, drop, Bor, Option, None, refl, sym, ap, ◌∙◌, arith, append_assoc, length-drop, inl, inr}
+use Rattle.std.proofs.Common.{◌≡◌, ℕ, zero, suc, ◌<◌, ◌≤◌, Bool, true, false, not, List, [], ◌∷◌, ◌++◌, length, map, drop, Bor, Option, refl, sym, ap, ◌∙◌, arith, append_assoc, length-drop, inl, inr}
 use Rattle.std.specs.Prelude.{codes, nat_lt, nat_eq, filter}
 use Rattle.std.proofs.lemmas.Bool.{cond-true, cond-false, cases_Bool, lt-ltb, le-ltb, ltb-true, ne_eqb, false≢true}
 use Rattle.std.proofs.lemmas.List.{append-nil, drop_all}
 use Rattle.std.specs.List.{after_first, position_or_len}
 use Rattle.mailparse.proofs.lemmas.EncodedWord.{any_from_place}
 use Rattle.mailparse.specs.Header.{Header}
-use Rattle.mail_codec.specs.Places.{byte_place, is_empty}
+use Rattle.mail_codec.specs.Places.{is_empty}
 use Rattle.mail_data.specs.Bounce.{Delivery, after_block, after_type, block_at, block_length, blocks, deliveries, delivery_in, fields, pieces_within, text_of, typed_text_of}
-use Rattle.mail_data.specs.Lines.{empty_line, is_empty_line, starts_line}
-use Rattle.mail_data.proofs.lemmas.Lines.{NoLine, line_place-found, line_place-all, line_place-passes}
+use Rattle.mail_data.specs.Lines.{empty_line, is_empty_line}
+use Rattle.mail_data.proofs.lemmas.Lines.{line_place-passes}
 
 -- ---- the type of a value
 
@@ -20,24 +20,6 @@ after_type-none text h = sym (cond-false _ _ _ (any_from_place (λ b. nat_eq b 5
 pub after_type-some : (text rest : List ℕ) → position_or_len (λ b. nat_eq b 59) text < length text → rest ≡ after_first (λ b. nat_eq b 59) text → rest ≡ after_type text
 unfolding after_type
 after_type-some text rest h e = e ∙ sym (cond-true _ _ _ (any_from_place (λ b. nat_eq b 59) text ∙ lt-ltb _ _ h))
-
--- ---- where a block ends
-
-pub stays : (bytes : List ℕ) (n : ℕ) → n ≡ empty_line bytes → n ≡ 0 → is_empty_line bytes ≡ false
-stays bytes n e none = ap (nat_lt 0) (sym e ∙ none)
-
-pub ends : (bytes : List ℕ) (n : ℕ) → n ≡ empty_line bytes → (n ≡ 0 → ⊥) → is_empty_line bytes ≡ true
-ends bytes n e some = ap (nat_lt 0) (sym e) ∙ lt-ltb 0 n (omega arith)
-
-pub block_length-found : (bytes : List ℕ) (at : ℕ) → at ≤ length bytes → NoLine is_empty_line bytes at → starts_line bytes at ≡ true → is_empty_line (drop at bytes) ≡ true
-    → at ≡ block_length bytes
-unfolding block_length
-block_length-found bytes at within none starts passes = line_place-found is_empty_line bytes at within none starts passes
-
-pub block_length-all : (bytes : List ℕ) (at : ℕ) → at ≤ length bytes → NoLine is_empty_line bytes at → is_empty_line (drop at bytes) ≡ false
-    → None ≡ byte_place (drop at bytes) 10 → length bytes ≡ block_length bytes
-unfolding block_length
-block_length-all bytes at within none not_here nowhere = line_place-all is_empty_line bytes at within none not_here nowhere
 
 -- ---- the blocks
 

@@ -6,9 +6,9 @@ use Rattle.std.proofs.lemmas.Bool.{cond-true, cond-false, cases_Bool, lt-ltb, lt
 use Rattle.std.proofs.lemmas.List.{append_assoc, drop-drop, drop_all, take_rest, take-append-drop}
 use Rattle.mail_codec.specs.Places.{stands, begins, byte_place, is_empty}
 use Rattle.mail_codec.proofs.lemmas.PlacesSearches.{place_none, place_some}
-use Rattle.mail_data.specs.Lines.{empty_line, after_empty_line, starts_line}
+use Rattle.mail_data.specs.Lines.{empty_line, after_empty_line}
 use Rattle.mail_data.specs.Mailbox.{mark, ends_mail, mail_length, line_length, entry_bytes, after_line, after_mail, entry_at, next_entry, entries_within, entries_from, front_length, entries}
-use Rattle.mail_data.proofs.lemmas.Lines.{NoLine, line_place-found, line_place-all, line_place-≤, line_place-passes}
+use Rattle.mail_data.proofs.lemmas.Lines.{line_place-≤, line_place-passes}
 
 -- ---- where a mail ends
 
@@ -55,18 +55,6 @@ line_length-some bytes p found =
 pub line_length-none : (bytes : List ℕ) → None ≡ byte_place bytes 10 → length bytes ≡ line_length bytes
 unfolding line_length
 line_length-none bytes none = let all = place_none (begins (λ b. b == 10)) bytes none in omega arith
-
--- ---- the end of a mail
-
-pub mail_length-found : (bytes : List ℕ) (at : ℕ) → at ≤ length bytes → NoLine ends_mail bytes at → starts_line bytes at ≡ true → ends_mail (drop at bytes) ≡ true
-    → at ≡ mail_length bytes
-unfolding mail_length
-mail_length-found bytes at within none starts ends = line_place-found ends_mail bytes at within none starts ends
-
-pub mail_length-all : (bytes : List ℕ) (at : ℕ) → at ≤ length bytes → NoLine ends_mail bytes at → ends_mail (drop at bytes) ≡ false → None ≡ byte_place (drop at bytes) 10
-    → length bytes ≡ mail_length bytes
-unfolding mail_length
-mail_length-all bytes at within none not_here nowhere = line_place-all ends_mail bytes at within none not_here nowhere
 
 -- ---- the mails
 
