@@ -112,12 +112,9 @@ fn whitespace_len(text: &[u8]) -> usize
     ensures value { result ≡ prefix_len is_ascii_whitespace text.now }
     ensures bounds { result ≤ length text.now }
 {
-    for (place, byte) in text.iter().enumerate() {
-        if !byte.is_ascii_whitespace() {
-            return place;
-        }
-    }
-    text.len()
+    text.iter()
+        .take_while(|byte| byte.is_ascii_whitespace())
+        .count()
 }
 
 /// How many bytes stand before the first that ends a name.
@@ -125,12 +122,7 @@ fn name_len(text: &[u8]) -> usize
     ensures value { result ≡ prefix_len (λ b. not (ends_name b)) text.now }
     ensures bounds { result ≤ length text.now }
 {
-    for (place, byte) in text.iter().enumerate() {
-        if ends_name(*byte) {
-            return place;
-        }
-    }
-    text.len()
+    text.iter().take_while(|byte| !ends_name(**byte)).count()
 }
 
 /// Whether a byte ends the name of an encoding.

@@ -75,12 +75,9 @@ fn letters_len(text: &[u8]) -> usize
     ensures value { result ≡ prefix_len is_ascii_alphabetic text.now }
     ensures bounds { result ≤ length text.now }
 {
-    for (place, byte) in text.iter().enumerate() {
-        if !byte.is_ascii_alphabetic() {
-            return place;
-        }
-    }
-    text.len()
+    text.iter()
+        .take_while(|byte| byte.is_ascii_alphabetic())
+        .count()
 }
 
 /// The digits at the front, after whitespace and comments, and what follows them.
@@ -98,10 +95,5 @@ fn digits_len(text: &[u8]) -> usize
     ensures value { result ≡ prefix_len is_ascii_digit text.now }
     ensures bounds { result ≤ length text.now }
 {
-    for (place, byte) in text.iter().enumerate() {
-        if !byte.is_ascii_digit() {
-            return place;
-        }
-    }
-    text.len()
+    text.iter().take_while(|byte| byte.is_ascii_digit()).count()
 }

@@ -1,8 +1,0 @@
--- All bytes up to the place are digits.
-use Rattle.std.proofs.Common.{◌≡◌, ◌+◌, drop}
-use Rattle.std.specs.Char.{is_ascii_digit}
-use Rattle.std.specs.List.{prefix_len}
-use Rattle.mail_data.proofs.lenient.date.whitespace.digits_len.Given as goal
-
-abbrev pub invariant-loop-place : goal.invariant-loop-place
-invariant-loop-place l = prefix_len is_ascii_digit l.text ≡ l.place + prefix_len is_ascii_digit (drop l.place l.text)
