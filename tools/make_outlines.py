@@ -7,7 +7,7 @@ holds. The keys, values, boundaries and bodies are of bytes that are likely to g
 writes and judges each outline by itself, and has no code in common with the library. Of each value
 that it writes as encoded words it asks `email.header.decode_header` whether they are read as the
 text. With --texts most values are texts of any characters, and there are twice as many outlines. The
-same seed gives the same rows; data/made_outlines.txt is those of seed 1, and then those with --texts.
+same seed gives the same rows; data/generated_outlines.txt is those of seed 1, and then those with --texts.
 """
 import argparse
 import base64
