@@ -63,4 +63,5 @@ cp "$top/samples/attachment.eml" mail
 check_program mail_show
 check 2 err ./mail_show mail mail
 check_program mail_json
+check_calls "$top/test"
 finish

@@ -7,6 +7,7 @@ as tools/oracle builds it; its code has to be changed where docs/DIFFERENCES.md 
 a row that differs is counted as failed. The last line is `N passed, N failed`.
 """
 import argparse
+import os
 import subprocess
 import sys
 import tempfile
@@ -49,6 +50,8 @@ def main():
     reader.add_argument("count", metavar="COUNT", type=int, nargs="?", default=20_000, help="how many mails")
     reader.add_argument("seed", metavar="SEED", type=int, nargs="?", default=1, help="a number to make them from")
     words = reader.parse_args()
+    if not os.access(words.oracle, os.X_OK) or os.path.isdir(words.oracle):
+        reader.error(f"{words.oracle} is no program")
     read = answered(words.oracle, [Row("", "mail", [data]) for data in mails(words.count, words.seed)])
     calls = answered(words.oracle, [row for mail in read for row in calls_in(mail)])
     with tempfile.NamedTemporaryFile("w", suffix=".txt") as file:
