@@ -40,7 +40,10 @@ pub fn make(alloc: Global, row: &Row, answer: &mut Answer) -> Result<bool, MailP
 /// Makes a search for each needle.
 fn find_all(row: &Row, answer: &mut Answer) -> Result<(), MailParseError> {
     for at in 1..row.count() {
-        write_place(answer, place(row.call.as_str(), row.bytes(0)?, row.bytes(at)?)?)?;
+        write_place(
+            answer,
+            place(row.call.as_str(), row.bytes(0)?, row.bytes(at)?)?,
+        )?;
     }
     Ok(())
 }

@@ -146,7 +146,11 @@ fn tables<'s, 't>(text: &str, own: &'s [SingleByteTable<'t>]) -> &'s [SingleByte
 }
 
 /// The number of the table for each label.
-fn find_tables(row: &Row, answer: &mut Answer, tables: &[SingleByteTable<'_>]) -> Result<(), MailParseError> {
+fn find_tables(
+    row: &Row,
+    answer: &mut Answer,
+    tables: &[SingleByteTable<'_>],
+) -> Result<(), MailParseError> {
     for at in 1..row.count() {
         match table_for_label(row.bytes(at)?, tables) {
             Some(number) => answer.number(number)?,
@@ -279,7 +283,11 @@ fn read_body(
     answer.text_or_refusal(text)
 }
 
-fn text_of(alloc: Global, body: &Body<'_>, tables: &[SingleByteTable<'_>]) -> Result<String, MailParseError> {
+fn text_of(
+    alloc: Global,
+    body: &Body<'_>,
+    tables: &[SingleByteTable<'_>],
+) -> Result<String, MailParseError> {
     match body {
         Body::Base64(body) | Body::QuotedPrintable(body) => {
             body.get_decoded_as_string_with(alloc, tables)
