@@ -100,25 +100,25 @@ fn push_different(alloc: Global, answer: &mut Answer, raw: &[u8]) -> Result<(), 
     let (headers, end) = parse_headers(alloc, raw)?;
     answer.number(end)?;
     answer.number(headers.len())?;
-    let mut before = None;
-    for header in &headers {
-        if !is_same(before, header) {
-            push_field(answer, header)?;
-        }
-        before = Some(header);
+    if let Some(header) = headers.first() {
+        push_field(answer, header)?;
+    }
+    for pair in headers.as_slice().windows(2) {
+        push_second(answer, pair)?;
     }
     Ok(())
 }
 
-/// Whether there is a header before this one, with the same bytes.
-fn is_same(before: Option<&MailHeader<'_>>, header: &MailHeader<'_>) -> bool {
-    match before {
-        Some(before) => {
-            before.get_key_raw() == header.get_key_raw()
-                && before.get_value_raw() == header.get_value_raw()
+/// Writes the second of two headers where its bytes are not those of the first.
+fn push_second(answer: &mut Answer, pair: &[MailHeader<'_>]) -> Result<(), MailParseError> {
+    if let [before, header] = pair {
+        let is_same = before.get_key_raw() == header.get_key_raw()
+            && before.get_value_raw() == header.get_value_raw();
+        if !is_same {
+            push_field(answer, header)?;
         }
-        None => false,
     }
+    Ok(())
 }
 
 fn push_key(alloc: Global, answer: &mut Answer, raw: &[u8]) -> Result<(), MailParseError> {
