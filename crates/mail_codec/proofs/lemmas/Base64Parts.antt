@@ -1,5 +1,6 @@
 -- A text read in parts: blocks of letters, groups that go over line ends, and what is absent.
-use Rattle.std.proofs.Common.{◌≡◌, ℕ, zero, suc, ◌+◌, ◌*◌, ◌/◌, ◌<◌, ◌≤◌, Bool, true, false, cond, List, [], ◌∷◌, ◌++◌, length, take, drop, get_or, replicate, set, Ok, refl, sym, ap, ◌∙◌, arith}
+use Rattle.std.proofs.Common.{◌≡◌, ℕ, zero, suc, ◌+◌, ◌*◌, ◌/◌, ◌<◌, ◌≤◌, Bool, true, false, cond, List, [], ◌∷◌, ◌++◌, length, take, drop, get_or, replicate, set, Ok, refl, sym, ap, ◌∙◌, arith, inl, inr}
+use Rattle.std.proofs.lemmas.Bool.{cases_Bool}
 use Rattle.std.proofs.lemmas.List.{append_assoc, drop-drop, drop_more, take-append-drop, take-append-le, take_more_set, length-take-le, length-drop}
 use Rattle.std.proofs.Math.Seq.{take-add}
 use Rattle.std.specs.List.{prefix_len}
@@ -21,12 +22,10 @@ byte_kept absent text at h e = rw (drop_more text at 0 h, e) refl
 letters_kept : (absent : RunEnd) → KeepsLetters absent → (m : ℕ) (xs : List ℕ) → m ≤ prefix_len is_letter xs → without_ends absent (take m xs) ≡ take m xs
 letters_kept absent keeps zero xs h = refl
 letters_kept absent keeps (suc m) [] h = refl
-letters_kept absent keeps (suc m) (x ∷ xs) h = go (is_letter x) refl h (letters_kept absent keeps m xs)
-  where
-    go : (t : Bool) → is_letter x ≡ t → suc m ≤ cond t (1 + prefix_len is_letter xs) 0
-        → (m ≤ prefix_len is_letter xs → without_ends absent (take m xs) ≡ take m xs) → without_ends absent (take (suc m) (x ∷ xs)) ≡ take (suc m) (x ∷ xs)
-    go true e h rest = rw (keeps x e) (ap (λ r. x ∷ r) (rest (omega arith)))
-    go false e h rest = absurd (omega arith)
+letters_kept absent keeps (suc m) (x ∷ xs) h = elim (cases_Bool (is_letter x)) [
+  | inl e ↦ let more : suc m ≤ 1 + prefix_len is_letter xs = rw e at h in rw (keeps x e) (ap (λ r. x ∷ r) (letters_kept absent keeps m xs (omega arith)))
+  | inr e ↦ let none : suc m ≤ 0 = rw e at h in absurd (omega arith)
+]
 
 pub prefix_take : (p : ℕ → Bool) (n : ℕ) (xs : List ℕ) → prefix_len p (take n xs) ≤ prefix_len p xs
 prefix_take p zero xs = omega arith

@@ -1,6 +1,6 @@
 -- Blocks of four vectors, whose masks are put together.
 use Rattle.std.proofs.Common.{◌≡◌, ℕ, zero, suc, ◌+◌, ◌-◌, ◌≤◌, Bool, true, false, cond, ◌==◌, bit_or, List, [], ◌∷◌, length, take, drop, inl, inr, refl, sym, ap, ◌∙◌, arith}
-use Rattle.std.proofs.lemmas.Bool.{cases_eq, ne_eqb, cases_lt}
+use Rattle.std.proofs.lemmas.Bool.{cases_Bool, cases_eq, ne_eqb, cases_lt}
 use Rattle.std.proofs.lemmas.List.{length-drop, length-take-le, drop-drop, drop-take, take-take}
 use Rattle.mail_codec.specs.Places.{first_place, begins}
 use Rattle.mail_codec.specs.private.Vectors.{lane_mask}
@@ -11,12 +11,10 @@ use Rattle.mail_codec.proofs.lemmas.PlacesSearches.{PassedTo-chunk, PassedTo-fou
 -- a mask is 0 where no lane passes
 free_mask : (test : ℕ → Bool) (v : List ℕ) → first_place (begins test) v ≡ length v → lane_mask test v ≡ 0
 free_mask test [] e = refl
-free_mask test (b ∷ v) e = go (test b) refl e (free_mask test v)
-  where
-    go : (t : Bool) → test b ≡ t → cond t 0 (suc (first_place (begins test) v)) ≡ suc (length v)
-        → (first_place (begins test) v ≡ length v → lane_mask test v ≡ 0) → lane_mask test (b ∷ v) ≡ 0
-    go true t e rest = absurd (omega arith)
-    go false t e rest = rw t (let r = rest (omega arith) in omega arith)
+free_mask test (b ∷ v) e = elim (cases_Bool (test b)) [
+  | inl t ↦ let here : 0 ≡ suc (length v) = rw t at e in absurd (omega arith)
+  | inr t ↦ let past : suc (first_place (begins test) v) ≡ suc (length v) = rw t at e in let rest = free_mask test v (omega arith) in rw t (omega arith)
+]
 
 -- a part of a list from a place on lies within a longer one
 inside : (k m n : ℕ) (xs : List ℕ) → k + m ≤ n → take m (drop k (take n xs)) ≡ take m (drop k xs)

@@ -3,6 +3,7 @@ use Rattle.std.proofs.Common.{◌≡◌, ◌≢◌, ℕ, zero, suc, ◌+◌, ◌
 use Rattle.std.proofs.lemmas.Bool.{cases_lt, lt-ltb, le-ltb, eq-eqb, eqb-true, ne_eqb}
 use Rattle.std.proofs.lemmas.Bool.Decides.{Decides-eqb}
 use Rattle.std.proofs.lemmas.Slice.Eq.{slice_eq-Decides}
+use Rattle.std.proofs.Math.Seq.{take-nil}
 use Rattle.std.proofs.lemmas.List.{drop-drop, length-drop, drop_all}
 use Rattle.mail_codec.specs.Places.{first_place, place_from, begins, stands, place, byte_place, text_place, HasByteAt, HasTextAt, IsFirstOf, IsFirstPlaceFrom}
 use Rattle.mail_codec.proofs.lemmas.Places.{true_not_false, first_place-passes, first_place-before, begins-at, place_from_bounds}
@@ -93,16 +94,12 @@ stands_says text bytes =
     let decides = slice_eq-Decides Decides-eqb text (take (length text) bytes) (stands text bytes) refl in
     (λ h. sym (decides.0 h), λ e. decides.1 (sym e))
 
-take_none : (n : ℕ) → ◌≡◌ {A = List ℕ} (take n []) []
-take_none zero = refl
-take_none (suc n) = refl
-
 -- a text that stands at a place has the place within the bytes
 text_within : (bytes text : List ℕ) (p : ℕ) → text ≢ [] → take (length text) (drop p bytes) ≡ text → p < length bytes
 text_within bytes text p some has = elim (cases_lt p (length bytes)) [
   | inl low ↦ low
   | inr high ↦
-      let none : take (length text) (drop p bytes) ≡ [] = ap (take (length text)) (drop_all p bytes high) ∙ take_none (length text) in
+      let none : take (length text) (drop p bytes) ≡ [] = ap (take (length text)) (drop_all p bytes high) ∙ take-nil (length text) in
       absurd (some (sym has ∙ none))
 ]
 

@@ -3,7 +3,7 @@ use Rattle.std.proofs.Common.{◌≡◌, ℕ, zero, suc, ◌+◌, ◌*◌, ◌/�
 use Rattle.std.specs.Int.{w64, trailing_zeros}
 use Rattle.std.specs.List.{slice_get}
 use Rattle.std.specs.Simd.{first_chunks}
-use Rattle.std.proofs.lemmas.Bool.{cases_lt, lt-ltb, le-ltb}
+use Rattle.std.proofs.lemmas.Bool.{cases_Bool, cases_lt, lt-ltb, le-ltb}
 use Rattle.std.proofs.lemmas.List.{drop-drop, length-drop, length-take-le, take_all}
 use Rattle.std.proofs.lemmas.Nat.{le_or_l, le_or_r}
 use Rattle.std.proofs.Math.Nat.{mul-suc}
@@ -27,26 +27,20 @@ free_front : (test : ℕ → Bool) (n : ℕ) (xs : List ℕ) → n ≤ length xs
     → first_place (begins test) xs ≡ n + first_place (begins test) (drop n xs)
 free_front test zero xs h e = omega arith
 free_front test (suc n) [] h e = absurd (omega arith)
-free_front test (suc n) (x ∷ xs) h e = go (test x) refl e (free_front test n xs (omega arith))
-  where
-    go : (v : Bool) → test x ≡ v → cond v 0 (suc (first_place (begins test) (take n xs))) ≡ suc n
-        → (first_place (begins test) (take n xs) ≡ n → first_place (begins test) xs ≡ n + first_place (begins test) (drop n xs))
-        → first_place (begins test) (x ∷ xs) ≡ suc n + first_place (begins test) (drop n xs)
-    go true t e rest = absurd (omega arith)
-    go false t e rest = rw t (let r = rest (omega arith) in omega arith)
+free_front test (suc n) (x ∷ xs) h e = elim (cases_Bool (test x)) [
+  | inl t ↦ let here : 0 ≡ suc n = rw t at e in absurd (omega arith)
+  | inr t ↦ let past : suc (first_place (begins test) (take n xs)) ≡ suc n = rw t at e in let rest = free_front test n xs (omega arith) (omega arith) in rw t (omega arith)
+]
 
 -- where one passes, it is the first of all
 pub found_front : (test : ℕ → Bool) (n : ℕ) (xs : List ℕ) → first_place (begins test) (take n xs) < n → n ≤ length xs
     → first_place (begins test) xs ≡ first_place (begins test) (take n xs)
 found_front test zero xs l h = absurd (omega arith)
 found_front test (suc n) [] l h = absurd (omega arith)
-found_front test (suc n) (x ∷ xs) l h = go (test x) refl l (λ k. found_front test n xs k (omega arith))
-  where
-    go : (v : Bool) → test x ≡ v → cond v 0 (suc (first_place (begins test) (take n xs))) < suc n
-        → (first_place (begins test) (take n xs) < n → first_place (begins test) xs ≡ first_place (begins test) (take n xs))
-        → first_place (begins test) (x ∷ xs) ≡ first_place (begins test) (take (suc n) (x ∷ xs))
-    go true t l rest = rw t refl
-    go false t l rest = rw t (ap suc (rest (omega arith)))
+found_front test (suc n) (x ∷ xs) l h = elim (cases_Bool (test x)) [
+  | inl t ↦ rw t refl
+  | inr t ↦ let past : suc (first_place (begins test) (take n xs)) < suc n = rw t at l in rw t (ap suc (found_front test n xs (omega arith) (omega arith)))
+]
 
 -- ---- steps of a search
 

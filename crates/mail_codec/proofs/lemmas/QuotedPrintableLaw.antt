@@ -6,7 +6,7 @@ use Rattle.std.proofs.lemmas.List.{append-nil, append_assoc, length-append, take
 use Rattle.std.proofs.lemmas.List.Elements.{All-nil, All-cons, All-head, All-tail, All-take, All-push, All-weaker}
 use Rattle.std.proofs.lemmas.List.Splits.{slice_split_none, slice_split_at, join_with_byte-slice_split}
 use Rattle.mail_codec.specs.QuotedPrintable.{Line, ends_in, without_last, lf, cr_lf, IsEndedLine, IsLastLine, AreEnded, AreLines, IsQuotedPrintable, ended_line, lines_of_pieces, lines_of, line_bytes, quoted_printable}
-use Rattle.mail_codec.proofs.lemmas.QuotedPrintableLines.{is_lf, split_some}
+use Rattle.mail_codec.proofs.lemmas.QuotedPrintableLines.{is_lf, split_some, lines_of_more}
 
 abbrev HasNoLf : List ℕ → Type 0
 HasNoLf bytes = All (λ b. b ≢ 10) bytes
@@ -117,11 +117,7 @@ lines_of-more piece rest h =
     let split : slice_split is_lf (piece ++ 10 ∷ rest) ≡ piece ∷ slice_split is_lf rest =
     slice_split_at is_lf piece 10 rest (no_lf piece h) refl in
     let some = split_some rest in
-    ap lines_of_pieces split ∙ go piece (slice_split is_lf rest) some.0 some.1 some.2
-  where
-    go : (piece : List ℕ) (pieces : List (List ℕ)) (first : List ℕ) (others : List (List ℕ)) → pieces ≡ first ∷ others
-        → lines_of_pieces (piece ∷ pieces) ≡ ended_line piece ∷ lines_of_pieces pieces
-    go piece pieces first others e = rw e refl
+    ap lines_of_pieces split ∙ lines_of_more piece (slice_split is_lf rest) some.0 some.1 some.2
 
 -- the piece that an ended line comes from
 line_of_piece : (line : Line) → IsEndedLine line → (piece : List ℕ) × HasNoLf piece × (whole line ≡ piece ++ 10 ∷ []) × (line ≡ ended_line piece)

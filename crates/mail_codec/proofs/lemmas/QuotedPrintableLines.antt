@@ -100,7 +100,7 @@ quoted_printable-last text h =
     ap (λ (pieces : List (List ℕ)). flat_map line_bytes (lines_of_pieces pieces)) one
     ∙ append-nil (line_bytes (record { content = text; ending = [] }))
 
-lines_of_more : (piece : List ℕ) (pieces : List (List ℕ)) (first : List ℕ) (others : List (List ℕ)) → pieces ≡ first ∷ others
+pub lines_of_more : (piece : List ℕ) (pieces : List (List ℕ)) (first : List ℕ) (others : List (List ℕ)) → pieces ≡ first ∷ others
     → lines_of_pieces (piece ∷ pieces) ≡ ended_line piece ∷ lines_of_pieces pieces
 lines_of_more piece pieces first others e = rw e refl
 

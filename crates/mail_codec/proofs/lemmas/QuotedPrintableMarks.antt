@@ -6,7 +6,7 @@ use Rattle.std.proofs.Math.Seq.{take-add, take-append-add}
 use Rattle.std.specs.List.{position_or_len}
 use Rattle.std.proofs.lemmas.List.Sums.{position_or_len_is, suffix_len-le-length}
 use borrow.Rule.Slice.PartMut.{put_mid}
-use Rattle.std.proofs.lemmas.List.{append-nil, append_cancel_left, take-append-le, length-take, length-set, append_assoc, length-append, reverse-append, drop_all, drop_more, drop-drop, take-append-drop, take_rest, take_more_set, length-drop, get_or-drop, get_or-take, length-take-le, take-take, drop-take}
+use Rattle.std.proofs.lemmas.List.{append-nil, append_cancel_left, take-append-le, length-take, length-set, append_assoc, length-append, reverse-append, drop_all, drop_more, drop-drop, take-append-drop, take_min, take_rest, take_more_set, length-drop, get_or-drop, get_or-take, length-take-le, take-take, drop-take}
 use Rattle.mail_codec.specs.Ascii.{is_blank}
 use Rattle.mail_codec.specs.Places.{first_place, begins, trimmed_at_end}
 use Rattle.mail_codec.specs.QuotedPrintable.{ends_in, without_last, lf, cr_lf, digit_value, byte_of_values, first_escape, ended_line, lines_of_pieces, lines_of, line_bytes, quoted_printable, unescaped}
@@ -217,20 +217,15 @@ no_escape-take xs n none k = ap first_escape (drop-of-take k n xs) ∙ first_esc
 pub front_copied : (output content part : List ℕ) → take (length content) output ≡ content → (n m : ℕ) → part ≡ take m (take n content)
     → take (length part) output ≡ part
 front_copied output content part copied n m is =
-    let few = ap length is ∙ length-take m (take n content) in
-    let less = length-take n content in
+    let few = ap length is in
+    let m_few = length-take m (take n content) in
+    let n_few = length-take n content in
     sym (take-take (length part) (length content) output (omega arith))
     ∙ ap (take (length part)) copied
-    ∙ front content part n m is
-  where
-    front : (content part : List ℕ) (n m : ℕ) → part ≡ take m (take n content) → take (length part) content ≡ part
-    front content part n zero is = ap (λ (r : List ℕ). take (length r) content) is ∙ sym is
-    front content part zero (suc m) is = ap (λ (r : List ℕ). take (length r) content) is ∙ sym is
-    front [] part (suc n) (suc m) is = ap (λ (r : List ℕ). take (length r) []) is ∙ sym is
-    front (x ∷ content) part (suc n) (suc m) is =
-        ap (λ (r : List ℕ). take (length r) (x ∷ content)) is
-        ∙ ap (λ (r : List ℕ). x ∷ r) (front content (take m (take n content)) n m refl)
-        ∙ sym is
+    ∙ sym (take-take (length part) n content (omega arith))
+    ∙ ap (λ (k : ℕ). take k (take n content)) (ap length is ∙ length-take m (take n content))
+    ∙ take_min m (take n content)
+    ∙ sym is
 
 -- ---- what a loop has copied since the last line end or escape
 

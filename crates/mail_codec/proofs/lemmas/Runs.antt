@@ -27,13 +27,10 @@ kept_front : (ends : ℕ → Bool) (n : ℕ) (xs : List ℕ) → n ≤ length xs
     → filter (λ b. not (ends b)) xs ≡ take n xs ++ filter (λ b. not (ends b)) (drop n xs)
 kept_front ends zero xs h e = refl
 kept_front ends (suc n) [] h e = absurd (omega arith)
-kept_front ends (suc n) (x ∷ xs) h e = go (ends x) refl e (kept_front ends n xs (omega arith))
-  where
-    go : (v : Bool) → ends x ≡ v → cond v 0 (suc (first_place (begins ends) (take n xs))) ≡ suc n
-        → (first_place (begins ends) (take n xs) ≡ n → filter (λ b. not (ends b)) xs ≡ take n xs ++ filter (λ b. not (ends b)) (drop n xs))
-        → filter (λ b. not (ends b)) (x ∷ xs) ≡ take (suc n) (x ∷ xs) ++ filter (λ b. not (ends b)) (drop (suc n) (x ∷ xs))
-    go true t e rest = absurd (omega arith)
-    go false t e rest = rw t (ap (λ (r : List ℕ). x ∷ r) (rest (omega arith)))
+kept_front ends (suc n) (x ∷ xs) h e = elim (cases_Bool (ends x)) [
+  | inl t ↦ let here : 0 ≡ suc n = rw t at e in absurd (omega arith)
+  | inr t ↦ let past : suc (first_place (begins ends) (take n xs)) ≡ suc n = rw t at e in rw t (ap (λ (r : List ℕ). x ∷ r) (kept_front ends n xs (omega arith) (omega arith)))
+]
 
 -- ---- what has been written, up to a place
 
@@ -85,40 +82,3 @@ module _ (end : RunEnd) (bytes output : List ℕ) (len at : ℕ) (h : Kept end b
       written_more (put_chunk len output vector) place (place + 1) (omega arith) (omega arith) (take place (drop at bytes))
       (stored_after len place output vector (omega (arith, vector_long fits)) (omega (arith, vector_long fits)) ∙ ap (λ (r : List ℕ). take len output ++ r) (take-take place 16 (drop at bytes) (omega arith)))
       (rw same at (runs_first (ends_run end) (drop at bytes)))
-
-  -- a byte that ends a run, and one that does not
-  pub byte_ended : (next : List ℕ) → at < length bytes → take len next ≡ take len output → ends_run end (get_or bytes at 0) ≡ true → Kept end bytes next len (at + 1)
-  byte_ended next fits front ended =
-      let low = h.few in
-      record {
-        within = omega arith;
-        few = omega arith;
-        so_far =
-            ap (λ (r : List ℕ). r ++ without_ends end (drop (at + 1) bytes)) front
-            ∙ ap (λ (r : List ℕ). take len output ++ r) (sym (rw (drop_more bytes at 0 fits, ended) refl))
-            ∙ h.so_far;
-      }
-
-  pub byte_kept : (next : List ℕ) → at < length bytes → take (len + 1) next ≡ take len output ++ get_or bytes at 0 ∷ [] → ends_run end (get_or bytes at 0) ≡ false
-      → Kept end bytes next (len + 1) (at + 1)
-  byte_kept next fits front free =
-      let low = h.few in
-      record {
-        within = omega arith;
-        few = omega arith;
-        so_far =
-            ap (λ (r : List ℕ). r ++ without_ends end (drop (at + 1) bytes)) front
-            ∙ append_assoc (take len output) (get_or bytes at 0 ∷ []) (without_ends end (drop (at + 1) bytes))
-            ∙ ap (λ (r : List ℕ). take len output ++ r) (sym (rw (drop_more bytes at 0 fits, free) refl))
-            ∙ h.so_far;
-      }
-
-  -- nothing is left
-  pub all_kept : at ≡ length bytes → take len output ≡ without_ends end bytes
-  all_kept e = sym (append-nil (take len output)) ∙ ap (λ (r : List ℕ). take len output ++ without_ends end r) (sym (nothing_after bytes at e)) ∙ h.so_far
-    where
-      nothing_after : (xs : List ℕ) (n : ℕ) → n ≡ length xs → drop n xs ≡ []
-      nothing_after [] zero e = refl
-      nothing_after [] (suc n) e = refl
-      nothing_after (x ∷ xs) zero e = absurd (omega arith)
-      nothing_after (x ∷ xs) (suc n) e = nothing_after xs n (omega arith)

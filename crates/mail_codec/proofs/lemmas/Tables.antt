@@ -1,8 +1,8 @@
 -- The tables of a caller: the one that is read under a label, and what none of them change.
 use Rattle.std.proofs.Common.{◌≡◌, ℕ, zero, suc, ◌+◌, ◌<◌, ◌≤◌, Bool, true, false, not, cond, ltb, List, [], ◌∷◌, map, length, get_or, Option, Some, None, is_some, option_map, find, refl, sym, ap, ◌∙◌, arith, suc-le-suc}
-use Rattle.std.proofs.lemmas.Bool.{cond-true, cond-false, ltb-false}
-use Rattle.std.proofs.lemmas.Option.{none-some}
-use Rattle.std.proofs.lemmas.List.Quantifiers.{position-Some}
+use Rattle.std.proofs.lemmas.Bool.{cond-true, cond-false, ltb-false, ltb-true}
+use Rattle.std.proofs.lemmas.Option.{none-some, slice_get-get_or, slice_get_past}
+use Rattle.std.proofs.lemmas.List.Folds.{find_at}
 use Rattle.std.proofs.Math.Path.{fun_ext}
 use Rattle.std.specs.List.{position, position_or_len}
 use Rattle.std.specs.Option.{option_or}
@@ -35,29 +35,22 @@ unfolding table_of_label
 table_some tables label trimmed number t some is = some ∙ ap (λ l. position (has l) tables) t ∙ sym (cond-false _ _ _ (ap is_some is))
 
 -- the first that passes, by its place
-find_at : {A : Type 0} (test : A → Bool) (xs : List A) (i : ℕ) (d : A) → i < length xs → test (get_or xs i d) ≡ true
-    → ((k : ℕ) → k < i → test (get_or xs k d) ≡ false) → find test xs ≡ Some (get_or xs i d)
-find_at test [] i d below here before = absurd (omega arith)
-find_at test (x ∷ xs) zero d below here before = cond-true _ _ _ here
-find_at test (x ∷ xs) (suc i) d below here before =
-    cond-false _ _ _ (before 0 (omega arith)) ∙ find_at test xs i d (omega arith) here (λ k lt. before (suc k) (suc-le-suc lt))
-
-find_past : {A : Type 0} (test : A → Bool) (xs : List A) → length xs ≤ position_or_len test xs → find test xs ≡ None
-find_past test [] past = refl
-find_past test (x ∷ xs) past = go (test x) refl (find_past test xs)
+find_first : {A : Type 0} (test : A → Bool) (xs : List A) (i : ℕ) (d : A) → position test xs ≡ Some i → find test xs ≡ Some (get_or xs i d)
+find_first test xs i d found = go (ltb (position_or_len test xs) (length xs)) refl
   where
-    go : (b : Bool) → test x ≡ b → (length xs ≤ position_or_len test xs → find test xs ≡ None) → find test (x ∷ xs) ≡ None
-    go true is later = let first : position_or_len test (x ∷ xs) ≡ 0 = ap (λ t. cond (not t) (1 + position_or_len test xs) 0) is in absurd (omega (arith, first, past))
-    go false is later =
-        let next : position_or_len test (x ∷ xs) ≡ 1 + position_or_len test xs = ap (λ t. cond (not t) (1 + position_or_len test xs) 0) is in
-        cond-false _ _ _ is ∙ later (omega (arith, next, past))
+    go : (b : Bool) → ltb (position_or_len test xs) (length xs) ≡ b → find test xs ≡ Some (get_or xs i d)
+    go true is =
+        let e : Some (position_or_len test xs) ≡ Some i = sym (cond-true _ _ _ is) ∙ found in
+        let same : position_or_len test xs ≡ i = cc e in
+        find_at test xs ∙ slice_get-get_or xs _ d (ltb-true _ _ is) ∙ ap (λ k. Some (get_or xs k d)) same
+    go false is = let clash : None ≡ Some i = sym (cond-false _ _ _ is) ∙ found in absurd (none-some _ clash)
 
 find_none : {A : Type 0} (test : A → Bool) (xs : List A) → position test xs ≡ None → find test xs ≡ None
 find_none test xs none = go (ltb (position_or_len test xs) (length xs)) refl
   where
     go : (b : Bool) → ltb (position_or_len test xs) (length xs) ≡ b → find test xs ≡ None
     go true is = let clash : None ≡ Some (position_or_len test xs) = sym none ∙ cond-true _ _ _ is in absurd (none-some _ clash)
-    go false is = let past = ltb-false _ _ is in find_past test xs (omega arith)
+    go false is = find_at test xs ∙ slice_get_past xs _ (ltb-false _ _ is)
 
 -- with a table that has the label
 pub charsets-table : (tables : List SingleByteTable) (label : List ℕ) (number : ℕ) (d : SingleByteTable) → Some number ≡ table_of_label tables label
@@ -67,12 +60,11 @@ charsets-table tables label number d some = go (charset_of_label label) refl
   where
     go : (o : Option Charset) → charset_of_label label ≡ o → (charset_of_label label ≡ None) × (charsets_with tables label ≡ Some (table_text (get_or tables number d)))
     go (Some charset) is = let clash : None ≡ Some number = sym (some ∙ cond-true _ _ _ (ap is_some is)) in absurd (none-some _ clash)
-    go None is =
-        let found = position-Some (has_label label) tables number d (sym (some ∙ cond-false _ _ _ (ap is_some is))) in (
-          is,
-          ap (λ o. option_or (option_map text_of o) (option_map table_text (find (has_label label) tables))) is
-              ∙ ap (option_map table_text) (find_at (has_label label) tables number d found.0 found.1 found.2),
-        )
+    go None is = (
+      is,
+      ap (λ o. option_or (option_map text_of o) (option_map table_text (find (has_label label) tables))) is
+          ∙ ap (option_map table_text) (find_first (has_label label) tables number d (sym (some ∙ cond-false _ _ _ (ap is_some is)))),
+    )
 
 -- with one of the four
 pub charsets-kept : (tables : List SingleByteTable) (label : List ℕ) (charset : Charset) → charset_of_label label ≡ Some charset → charsets_with tables label ≡ Some (text_of charset)

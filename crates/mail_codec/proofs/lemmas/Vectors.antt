@@ -1,6 +1,6 @@
 -- Vectors of sixteen bytes, lane by lane.
 use Rattle.std.proofs.Common.{◌≡◌, ℕ, zero, suc, ◌+◌, ◌*◌, ◌/◌, ◌^◌, ◌%◌, ◌<◌, ◌≤◌, ◌-◌, Bool, true, false, not, cond, ◌==◌, ◌||◌, bit_or, List, [], ◌∷◌, map, length, take, drop, get_or, replicate, Fits, w8, refl, sym, ap, ◌∙◌, arith}
-use Rattle.std.proofs.lemmas.List.{get_or-map, length-map, ext_get_or}
+use Rattle.std.proofs.lemmas.List.{get_or-map, length-map, map-id, ext_get_or}
 use Rattle.std.proofs.lemmas.Bool.{agree_below, agree_below_at}
 use Rattle.std.proofs.lemmas.Simd.{Each1-from_get_or, swz_l, SwzOk, SwzOk-from_below, length-swz_l, get_or-swz_l_below, map-map, bitmask_splat, mask_l-mod, zip2_splat, zip2_splat_left, zip2_of_maps, leading_from_mask_l, trailing_mask_l}
 use Rattle.std.specs.List.{prefix_len}
@@ -60,10 +60,6 @@ marks_of t f y v fs long is =
     bitmask_splat w8 t fs 16 y (ap length is ∙ length-map v f ∙ long) (omega arith)
     ∙ ap (λ l. mask_l (map (λ x. t x y) l)) is
     ∙ ap mask_l (map-map (λ x. t x y) f v)
-
-pub itself : (v : List ℕ) → v ≡ map (λ x. x) v
-itself [] = refl
-itself (x ∷ xs) = ap (λ r. x ∷ r) (itself xs)
 
 -- one of two numbers in each lane
 pub chosen : (p : ℕ → Bool) (x y n : ℕ) (v : List ℕ) → length v ≡ n → sel_l (map p v) (replicate n x) (replicate n y) ≡ map (λ b. cond (p b) x y) v
@@ -137,7 +133,7 @@ pub whitespace_marked : (v like : List ℕ) → IsLanes v → like ≡ map white
     → mask_l (map (top 7) (zip2 (λ x y. cond (x == y) 255 0) v like)) % 2 ^ 64 ≡ mask_l (map is_ascii_whitespace v)
 whitespace_marked v like fits is =
     lanes_marked (λ b. cond (b == whitespace_of_half b) 255 0) (λ b. b == whitespace_of_half b) v _ fits.0
-    (zip2_of_maps (λ x y. cond (x == y) 255 0) (λ b. b) whitespace_of_half v (itself v) is) (λ b. flag (b == whitespace_of_half b))
+    (zip2_of_maps (λ x y. cond (x == y) 255 0) (λ b. b) whitespace_of_half v (sym (map-id v)) is) (λ b. flag (b == whitespace_of_half b))
     ∙ ap mask_l (map_same (λ b. b == whitespace_of_half b) is_ascii_whitespace whitespace_agree v fits.1)
 
 -- the first lane that passes, by a mask
