@@ -2,7 +2,7 @@
 use Rattle.std.proofs.Common.{◌≡◌, ℕ, zero, suc, ◌+◌, ◌<◌, ◌≤◌, ◌≢◌, ◌^◌, ◌%◌, Bool, true, false, cond, ◌==◌, ◌&&◌, bit_and, List, [], ◌∷◌, map, length, take, drop, replicate, inl, inr, refl, sym, ap, ◌∙◌, arith}
 use Rattle.std.proofs.lemmas.Bool.{cases_eq, ne_eqb}
 use Rattle.std.proofs.lemmas.List.{drop-drop, length-drop, length-map, length-take-le}
-use Rattle.std.proofs.lemmas.Simd.{mask_l-mod, zip2_splat}
+use Rattle.std.proofs.lemmas.Simd.{length-zip2, mask_l-mod, zip2_splat}
 use Rattle.mail_codec.specs.Places.{first_place, begins, stands}
 use Rattle.mail_codec.specs.private.Vectors.{is_set, lane_mask, pair_flags}
 use Rattle.mail_codec.proofs.lemmas.Places.{PassedTo, first_place-≤, first_place-drop}
@@ -22,18 +22,13 @@ flags_marked a c [] w = refl
 flags_marked a c (x ∷ v) [] = refl
 flags_marked a c (x ∷ v) (y ∷ w) = (λ i. both (x == a) (y == c) i ∷ flags_marked a c v w i)
 
-flags_long : (a c : ℕ) (v w : List ℕ) → length (pair_flags a c v w) ≤ length v
-flags_long a c [] w = omega arith
-flags_long a c (x ∷ v) [] = omega arith
-flags_long a c (x ∷ v) (y ∷ w) = let h = flags_long a c v w in omega arith
-
 pub pair_marked : (a c : ℕ) (v w : List ℕ) → length v ≡ 16 → length w ≡ 16
     → mask_l (map (top 7) (zip2 bit_and (zip2 (λ x y. cond (x == y) 255 0) v (replicate 16 a)) (zip2 (λ x y. cond (x == y) 255 0) w (replicate 16 c)))) % 2 ^ 64
     ≡ lane_mask is_set (pair_flags a c v w)
 pair_marked a c v w long wide =
     (λ i. mask_l (map (top 7) (zip2 bit_and (zip2_splat (λ x y. cond (x == y) 255 0) v 16 a long i) (zip2_splat (λ x y. cond (x == y) 255 0) w 16 c wide i))) % 2 ^ 64)
     ∙ ap (λ l. mask_l l % 2 ^ 64) (flags_marked a c v w)
-    ∙ mask_l-mod (map is_set (pair_flags a c v w)) 64 (omega (arith, length-map (pair_flags a c v w) is_set, flags_long a c v w, long))
+    ∙ mask_l-mod (map is_set (pair_flags a c v w)) 64 (omega (arith, length-map (pair_flags a c v w) is_set, length-zip2 {C = ℕ} (λ b d. cond (b == a && d == c) 1 0) v w (long ∙ sym wide), long))
 
 -- ---- the flags of n bytes and of those one byte later
 
@@ -102,17 +97,12 @@ flags_at a c bytes at = pair_flags a c (front bytes at) (front bytes (at + 1))
 flags_there : (a c : ℕ) (bytes : List ℕ) (at : ℕ) → flags_at a c bytes at ≡ flags a c 16 (drop at bytes)
 flags_there a c bytes at = ap (λ r. pair_flags a c (take 16 (drop at bytes)) (take 16 r)) (sym (drop-drop 1 at bytes))
 
-pub front_long : (bytes : List ℕ) (at : ℕ) → at + 16 ≤ length bytes → length (front bytes at) ≡ 16
+front_long : (bytes : List ℕ) (at : ℕ) → at + 16 ≤ length bytes → length (front bytes at) ≡ 16
 front_long bytes at h = length-take-le 16 (drop at bytes) (omega (arith, length-drop at bytes))
-
-flags_len : (a c : ℕ) (v w : List ℕ) → length v ≡ length w → length (pair_flags a c v w) ≡ length v
-flags_len a c [] w h = refl
-flags_len a c (x ∷ v) [] h = absurd (omega arith)
-flags_len a c (x ∷ v) (y ∷ w) h = ap suc (flags_len a c v w (omega arith))
 
 flags_at_long : (a c : ℕ) (bytes : List ℕ) (at : ℕ) → at + 17 ≤ length bytes → length (flags_at a c bytes at) ≡ 16
 flags_at_long a c bytes at h =
-    flags_len a c (front bytes at) (front bytes (at + 1)) (front_long bytes at (omega arith) ∙ sym (front_long bytes (at + 1) (omega arith))) ∙ front_long bytes at (omega arith)
+    length-zip2 {C = ℕ} (λ b d. cond (b == a && d == c) 1 0) (front bytes at) (front bytes (at + 1)) (front_long bytes at (omega arith) ∙ sym (front_long bytes (at + 1) (omega arith))) ∙ front_long bytes at (omega arith)
 
 -- one byte has no pair
 alone : (a c : ℕ) (rest : List ℕ) → length rest ≡ 1 → first_place (stands (a ∷ c ∷ [])) rest ≡ 1

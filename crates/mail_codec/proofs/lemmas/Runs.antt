@@ -1,6 +1,6 @@
 -- Bytes copied without those that end a run.
-use Rattle.std.proofs.Common.{◌≡◌, ℕ, zero, suc, ◌+◌, ◌≤◌, ◌<◌, Bool, true, false, cond, not, get_or, List, [], ◌∷◌, ◌++◌, length, take, drop, refl, sym, ap, ◌∙◌, arith, inl, inr, filter}
-use Rattle.std.proofs.lemmas.List.{append_assoc, append-nil, drop-drop, drop_more, length-drop, length-take-le, take-take}
+use Rattle.std.proofs.Common.{◌≡◌, ℕ, zero, suc, ◌+◌, ◌≤◌, ◌<◌, Bool, not, List, [], ◌∷◌, ◌++◌, length, take, drop, refl, sym, ap, ◌∙◌, arith, inl, inr, filter}
+use Rattle.std.proofs.lemmas.List.{append_assoc, drop-drop, length-drop, length-take-le, take-take}
 use Rattle.std.proofs.lemmas.Bool.{cases_Bool}
 use lib.Lanes.{put_chunk}
 use Rattle.mail_codec.specs.Places.{first_place, begins}
