@@ -2,14 +2,15 @@
 use Rattle.std.proofs.Common.{◌≡◌, ◌≢◌, ◌⊎◌, inl, inr, ℕ, zero, suc, ◌-◌, ◌<◌, ◌≤◌, Bool, true, false, cond, eqb, not, ◌&&◌, ◌||◌, List, [], ◌∷◌, ◌++◌, length, map, take, get_or, find, Option, Some, None, refl, sym, ap, subst, ◌∙◌, ⊎_elim, arith, append_assoc, length-append}
 use Rattle.std.specs.Prelude.{codes, nat_lt, encode_utf8_all, flat_map, is_none, option_map}
 use Rattle.std.specs.Char.{encode_utf8, is_ascii_graphic}
-use Rattle.std.specs.List.{list_all, slice_split, onto_first}
+use Rattle.std.specs.List.{All, list_all, slice_split}
 use Rattle.std.specs.Option.{option_or}
 use Rattle.std.specs.Str.{chars, trim_start, skip_leading_whitespace, IsAscii, IsUtf8}
 use Rattle.std.specs.Str.Lines.{lines, lines_of_parts, strip_carriage_return}
-use Rattle.std.proofs.lemmas.Bool.{cond-true, cond-false, and_from, and_parts, cases_lt, false≢true, ltb-false, ne_eqb, eq-eqb, not-true}
-use Rattle.std.proofs.lemmas.List.{take_all, take-append-le, drop_all}
+use Rattle.std.proofs.lemmas.Bool.{cond-true, cond-false, and_parts, cases_lt, false≢true, ltb-false, ne_eqb, eq-eqb, not-true}
+use Rattle.std.proofs.lemmas.List.{get_or_push, take_all, take-append-le, drop_all}
 use Rattle.std.proofs.lemmas.List.Folds.{list_all-append}
-use Rattle.std.proofs.lemmas.List.Splits.{slice_split-cons_no}
+use Rattle.std.proofs.lemmas.List.Elements.{All-append}
+use Rattle.std.proofs.lemmas.List.Splits.{slice_split_at, slice_split_none}
 use Rattle.std.proofs.lemmas.Str.{chars-IsAscii, encodes-IsAscii, encodes-chars, scalars-chars, IsAscii-append, IsUtf8-from_ascii, encode_ascii}
 use Rattle.std.proofs.lemmas.Str.Ascii.{IsAscii-nil, IsAscii-cons}
 use Rattle.base64.specs.GeneralPurpose.{IsBytes}
@@ -27,7 +28,7 @@ use Rattle.mailparse.proofs.lemmas.Value.{lenient-utf8}
 use Rattle.mailparse.proofs.lemmas.ValuePlain.{shown_value-plain}
 use Rattle.mail_laws.specs.Encode.{KnowUtf8, AreWords, no_word, next_word, encoded_word, is_plain_byte, is_plain_value, letters, word_lines, words_of, written_value}
 use Rattle.mail_laws.specs.WordTokens.{word}
-use Rattle.mail_laws.proofs.lemmas.Encode.{list_all-weaker, plain_ascii, plain_byte, plain_no_feed, words_fit, words_join}
+use Rattle.mail_laws.proofs.lemmas.Encode.{each, list_all-weaker, plain_ascii, plain_byte, plain_no_feed, words_fit, words_join}
 use Rattle.mail_laws.proofs.lemmas.EncodeWord.{AreLetters, is_word_byte, around, encoded_word-tokens, letters_are, utf_8_known}
 use lib.Utf8.{scalar, scalars, scalar_cases}
 
@@ -108,42 +109,26 @@ word_ascii w h = plain_ascii (encoded_word w) (word_plain w h)
 
 -- ---- the lines of a value
 
-abbrev no_feed : ℕ → Bool
-no_feed b = not (eqb b 10)
-
 abbrev NoFeed : List ℕ → Type 0
-NoFeed xs = list_all no_feed xs ≡ true
+NoFeed xs = All (λ b. eqb b 10 ≡ false) xs
 
 NoFeed-append : (xs ys : List ℕ) → NoFeed xs → NoFeed ys → NoFeed (xs ++ ys)
-NoFeed-append xs ys a b = list_all-append no_feed xs ys ∙ and_from (list_all no_feed xs) (list_all no_feed ys) a b
+NoFeed-append xs ys a b = All-append (λ b. eqb b 10 ≡ false) xs ys a b
+
+no_feed : (xs : List ℕ) → list_all (λ b. not (eqb b 10)) xs ≡ true → NoFeed xs
+no_feed xs h = each {P = λ b. eqb b 10 ≡ false} (λ b. not (eqb b 10)) (λ b k. not-true (eqb b 10) k) xs h
 
 word_no_feed : (w : List ℕ) → scalars w ≡ true → NoFeed (encoded_word w)
-word_no_feed w h = list_all-weaker is_plain_byte no_feed plain_no_feed (encoded_word w) (word_plain w h)
+word_no_feed w h = each {P = λ b. eqb b 10 ≡ false} is_plain_byte plain_no_feed (encoded_word w) (word_plain w h)
 
 abbrev pieces : List ℕ → List (List ℕ)
 pieces text = slice_split (λ b. eqb b 10) text
-
-split_at : (xs ys : List ℕ) → NoFeed xs → pieces (xs ++ 10 ∷ ys) ≡ xs ∷ pieces ys
-split_at [] ys h = refl
-split_at (x ∷ xs) ys h =
-    let parts = and_parts (no_feed x) (list_all no_feed xs) h in
-    slice_split-cons_no (λ b. eqb b 10) x (xs ++ 10 ∷ ys) (not-true (eqb x 10) parts.0) ∙ ap (onto_first x) (split_at xs ys parts.1)
-
-split_none : (xs : List ℕ) → NoFeed xs → pieces xs ≡ xs ∷ []
-split_none [] h = refl
-split_none (x ∷ xs) h =
-    let parts = and_parts (no_feed x) (list_all no_feed xs) h in
-    slice_split-cons_no (λ b. eqb b 10) x xs (not-true (eqb x 10) parts.0) ∙ ap (onto_first x) (split_none xs parts.1)
-
-get_last : (xs : List ℕ) (y : ℕ) → get_or (xs ++ y ∷ []) (length xs) 0 ≡ y
-get_last [] y = refl
-get_last (x ∷ xs) y = get_last xs y
 
 stripped : (xs : List ℕ) → strip_carriage_return (xs ++ 13 ∷ []) ≡ xs
 stripped xs =
     let len = length-append xs (13 ∷ []) in
     let at : length (xs ++ 13 ∷ []) - 1 ≡ length xs = omega arith in
-    cond-true _ _ _ (eq-eqb _ _ (ap (λ n. get_or (xs ++ 13 ∷ []) n 0) at ∙ get_last xs 13))
+    cond-true _ _ _ (eq-eqb _ _ (ap (λ n. get_or (xs ++ 13 ∷ []) n 0) at ∙ get_or_push xs 13 0 (length xs) refl))
     ∙ ap (λ n. take n (xs ++ 13 ∷ [])) at ∙ take-append-le (length xs) xs (13 ∷ []) (omega arith) ∙ take_all (length xs) xs (omega arith)
 
 first_of_more : (x : List ℕ) (ps : List (List ℕ)) → ps ≢ [] → lines_of_parts (x ∷ ps) ≡ strip_carriage_return x ∷ lines_of_parts ps
@@ -162,7 +147,7 @@ lines_are : (front w : List ℕ) (ws : List (List ℕ)) → NoFeed front → Are
     → lines (front ++ word_lines (w ∷ ws)) ≡ (front ++ encoded_word w) ∷ folded ws
 lines_are front w [] clear h =
     let some = length-append front (encoded_word w) in
-    ap lines_of_parts (split_none (front ++ encoded_word w) (NoFeed-append front (encoded_word w) clear (word_no_feed w h.0)))
+    ap lines_of_parts (slice_split_none (λ b. eqb b 10) (front ++ encoded_word w) (NoFeed-append front (encoded_word w) clear (word_no_feed w h.0)))
     ∙ cond-false _ _ _ (ne_eqb (length (front ++ encoded_word w)) 0 (λ (e : length (front ++ encoded_word w) ≡ 0). absurd (omega arith)))
 lines_are front w (v ∷ ws) clear h =
     let line : List ℕ = front ++ encoded_word w in
@@ -170,13 +155,12 @@ lines_are front w (v ∷ ws) clear h =
     let whole : front ++ word_lines (w ∷ v ∷ ws) ≡ (line ++ 13 ∷ []) ++ 10 ∷ rest =
     sym (append_assoc line (13 ∷ []) (10 ∷ rest) ∙ append_assoc front (encoded_word w) (13 ∷ 10 ∷ rest)) in
     let here : NoFeed (line ++ 13 ∷ []) =
-    NoFeed-append line (13 ∷ []) (NoFeed-append front (encoded_word w) clear (word_no_feed w h.0))
-    refl in
+    NoFeed-append line (13 ∷ []) (NoFeed-append front (encoded_word w) clear (word_no_feed w h.0)) (no_feed (13 ∷ []) refl) in
     ap lines whole
-    ∙ ap lines_of_parts (split_at (line ++ 13 ∷ []) rest here)
+    ∙ ap lines_of_parts (slice_split_at (λ b. eqb b 10) (line ++ 13 ∷ []) 10 rest here refl)
     ∙ first_of_more (line ++ 13 ∷ []) (pieces rest) (split_some (λ b. eqb b 10) rest)
     ∙ ap (λ x. x ∷ lines rest) (stripped line)
-    ∙ ap (λ ls. line ∷ ls) (lines_are (32 ∷ []) v ws refl h.1)
+    ∙ ap (λ ls. line ∷ ls) (lines_are (32 ∷ []) v ws (no_feed (32 ∷ []) refl) h.1)
 
 -- ---- without the space before them
 
@@ -197,7 +181,7 @@ trimmed_folded (w ∷ ws) h =
 
 trimmed_lines : (w : List ℕ) (ws : List (List ℕ)) → AreTexts (w ∷ ws) → map trim_start (lines (word_lines (w ∷ ws))) ≡ map encoded_word (w ∷ ws)
 trimmed_lines w ws h =
-    ap (map trim_start) (lines_are [] w ws refl h)
+    ap (map trim_start) (lines_are [] w ws (no_feed [] refl) h)
     ∙ ap (λ l. l ∷ map trim_start (folded ws)) (trim_none (tail_of w) (word_ascii w h.0))
     ∙ ap (λ ls. encoded_word w ∷ ls) (trimmed_folded ws h.1)
 
@@ -264,11 +248,6 @@ encoded_reads_back known knows text utf8 =
 
 -- ---- plain values
 
-plain_bytes : (value : List ℕ) → list_all is_plain_byte value ≡ true → (k d : ℕ) → k < length value → (32 ≤ get_or value k d) × (get_or value k d ≤ 126)
-plain_bytes [] h k d lt = absurd (omega arith)
-plain_bytes (b ∷ value) h zero d lt = plain_byte b (and_parts _ _ h).0
-plain_bytes (b ∷ value) h (suc k) d lt = plain_bytes value (and_parts _ _ h).1 k d (omega arith)
-
 none_found : (p n : ℕ) → is_none (cond (nat_lt p n) (Some p) None) ≡ true → n ≤ p
 none_found p n h = go (nat_lt p n) refl h
   where
@@ -282,7 +261,7 @@ plain_is value h =
     let second = and_parts _ _ first.1 in
     let none = none_found (first_place (stands (codes "=?")) value) (length value) second.1 in
     record {
-      printable = plain_bytes value first.0;
+      printable = each {P = λ b. (32 ≤ b) × (b ≤ 126)} is_plain_byte plain_byte value first.0;
       no_space = not-true _ second.0;
       no_opening = λ k. ⊎_elim (λ lt. first_place-before (stands (codes "=?")) value k (omega arith)) (λ past. ap (stands (codes "=?")) (drop_all k value past)) (cases_lt k (length value));
     }

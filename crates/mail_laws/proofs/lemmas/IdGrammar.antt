@@ -1,8 +1,8 @@
 -- The form of a list of message ids, and the function that reads it.
 use Rattle.std.proofs.Common.{◌≡◌, ◌≢◌, ◌⊎◌, inl, inr, ℕ, Bool, true, false, cond, eqb, ◌||◌, List, [], ◌∷◌, ◌++◌, drop, Result, Ok, Err, refl, sym, ap, subst, ◌∙◌, append_assoc, append-nil}
-use Rattle.std.specs.List.{list_any}
 use Rattle.std.specs.Str.{trim_start}
 use Rattle.std.proofs.lemmas.Bool.{eqb-true, false≢true}
+use Rattle.std.proofs.lemmas.List.Folds.{list_any-append}
 use Rattle.mail_codec.specs.Places.{is_empty, stands}
 use Rattle.mailparse.specs.MessageIds.{id_not_closed, id_not_opened, id_of_piece, ids_at_end, ids_of_pieces, is_closing, message_ids, opens_id, with_id}
 use Rattle.mailparse.specs.Refusal.{Refusal}
@@ -77,12 +77,7 @@ abbrev Form : List ℕ → Type 0
 Form text = ((ids : List (List ℕ)) × AreIds text ids) ⊎ ((refusal : Refusal) × Breaks text refusal)
 
 append_free : (piece : List ℕ) (b : ℕ) → HoldsNoClosing piece → is_closing b ≡ false → HoldsNoClosing (piece ++ b ∷ [])
-append_free [] b h e = rw e refl
-append_free (x ∷ piece) b h e = go (λ free. append_free piece b free e) (is_closing x) h
-  where
-    go : (HoldsNoClosing piece → HoldsNoClosing (piece ++ b ∷ [])) → (t : Bool) → t || list_any is_closing piece ≡ false → t || list_any is_closing (piece ++ b ∷ []) ≡ false
-    go more true h = absurd (cc)
-    go more false h = more h
+append_free piece b h e = list_any-append is_closing piece (b ∷ []) ∙ ap (λ t. t || (is_closing b || false)) h ∙ ap (λ t. t || false) e
 
 shut_at : (b : ℕ) (t : List ℕ) → eqb 60 b ≡ false → stands (60 ∷ []) (b ∷ t) ≡ false
 shut_at b t e = rw e refl

@@ -1,11 +1,13 @@
 -- Lists of message ids that are written and read.
-use Rattle.std.proofs.Common.{◌≡◌, ℕ, suc, ◌+◌, ◌<◌, Bool, true, false, cond, not, ◌||◌, List, [], ◌∷◌, ◌++◌, length, take, drop, Result, Ok, Err, refl, sym, ap, ◌∙◌, arith, append_assoc, length-take, lit<}
+use Rattle.std.proofs.Common.{◌≡◌, ℕ, ◌<◌, Bool, true, false, cond, ◌||◌, List, [], ◌∷◌, ◌++◌, length, drop, Result, Ok, Err, refl, sym, ap, ◌∙◌, arith, append_assoc, length-take, lit<}
 use Rattle.std.specs.Prelude.{All}
 use Rattle.std.specs.List.{list_any, slice_split, onto_first, position_or_len, before_first, after_first}
 use Rattle.std.specs.Str.{IsUtf8, chars, encode_utf8_all, skip_leading_whitespace, trim_start}
 use Rattle.std.proofs.lemmas.Bool.{eqb-true, ltb-true}
+use Rattle.std.proofs.lemmas.List.{get_or-take}
 use Rattle.std.proofs.lemmas.List.Elements.{All-cons, All-head, All-tail}
-use Rattle.std.proofs.lemmas.List.Sums.{passes_at_first}
+use Rattle.std.proofs.lemmas.List.Folds.{list_any_none}
+use Rattle.std.proofs.lemmas.List.Sums.{fails_before_first, passes_at_first, split_at_first}
 use Rattle.mail_codec.specs.Places.{is_empty, stands}
 use Rattle.std.proofs.lemmas.Str.{IsCharBoundary-before_ascii, IsUtf8-take, chars-encodes, chars-nil, encode_ascii}
 use Rattle.mailparse.specs.MessageIds.{id_not_closed, id_not_opened, id_of_piece, ids_of_pieces, is_closing, message_ids, opens_id, with_id, written_ids}
@@ -110,39 +112,19 @@ reads_back [] utf8 free = empty_ends
 reads_back (id ∷ ids) utf8 free = reads_from ids id false utf8 free
 
 -- an id with a `>` is cut there
-parts : (bytes : List ℕ) → list_any is_closing bytes ≡ true → before_first is_closing bytes ++ 62 ∷ after_first is_closing bytes ≡ bytes
-parts [] h = absurd (cc)
-parts (b ∷ bytes) h = go (parts bytes) (is_closing b) refl h
-  where
-    m : ℕ
-    m = position_or_len is_closing bytes
-
-    go : (list_any is_closing bytes ≡ true → before_first is_closing bytes ++ 62 ∷ after_first is_closing bytes ≡ bytes)
-        → (t : Bool) → is_closing b ≡ t → t || list_any is_closing bytes ≡ true
-        → take (cond (not t) (1 + m) 0) (b ∷ bytes) ++ 62 ∷ drop (cond (not t) (1 + m) 0 + 1) (b ∷ bytes) ≡ b ∷ bytes
-    go later true e h = ap (λ c. c ∷ bytes) (sym (eqb-true _ _ e))
-    go later false e h =
-        let taken : take (1 + m) (b ∷ bytes) ≡ b ∷ take m bytes = let n : 1 + m ≡ suc m = omega arith in rw n refl in
-        let dropped : drop (1 + m + 1) (b ∷ bytes) ≡ drop (m + 1) bytes = let n : 1 + m + 1 ≡ suc (m + 1) = omega arith in rw n refl in
-        ap (λ front. front ++ 62 ∷ drop (1 + m + 1) (b ∷ bytes)) taken ∙ ap (λ rest. b ∷ (take m bytes ++ 62 ∷ rest)) dropped
-        ∙ ap (λ rest. b ∷ rest) (later h)
-
-free_before : (bytes : List ℕ) → list_any is_closing (before_first is_closing bytes) ≡ false
-free_before [] = refl
-free_before (b ∷ bytes) = go (free_before bytes) (is_closing b) refl
-  where
-    m : ℕ
-    m = position_or_len is_closing bytes
-
-    go : list_any is_closing (before_first is_closing bytes) ≡ false → (t : Bool) → is_closing b ≡ t
-        → list_any is_closing (take (cond (not t) (1 + m) 0) (b ∷ bytes)) ≡ false
-    go later true e = refl
-    go later false e =
-        let taken : take (1 + m) (b ∷ bytes) ≡ b ∷ take m bytes = let n : 1 + m ≡ suc m = omega arith in rw n refl in
-        ap (list_any is_closing) taken ∙ ap (λ t. t || list_any is_closing (take m bytes)) e ∙ later
-
 closing_place : (id : List ℕ) → list_any is_closing id ≡ true → position_or_len is_closing id < length id
 closing_place id closing = ltb-true _ _ (sym (any_from_place is_closing id) ∙ closing)
+
+parts : (id : List ℕ) → list_any is_closing id ≡ true → before_first is_closing id ++ 62 ∷ after_first is_closing id ≡ id
+parts id closing =
+    let lt = closing_place id closing in
+    let at = eqb-true _ _ (passes_at_first is_closing id 0 lt) in
+    sym (split_at_first is_closing id 0 lt ∙ ap (λ c. before_first is_closing id ++ c ∷ after_first is_closing id) at)
+
+free_before : (id : List ℕ) → list_any is_closing (before_first is_closing id) ≡ false
+free_before id = list_any_none is_closing (before_first is_closing id) (λ k d low.
+    let within : k < position_or_len is_closing id = omega (arith, low, length-take (position_or_len is_closing id) id) in
+    ap is_closing (get_or-take (position_or_len is_closing id) id k d within) ∙ fails_before_first is_closing id k d within)
 
 before_utf8 : (id : List ℕ) → IsUtf8 id → list_any is_closing id ≡ true → IsUtf8 (before_first is_closing id)
 before_utf8 id utf8 closing =

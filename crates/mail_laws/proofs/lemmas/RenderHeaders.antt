@@ -47,7 +47,7 @@ key_passed b bs h =
     ap (λ t. t || eqb b 10) at.2 ∙ ne_eqb b 10 (λ e. absurd (omega (arith, low)))
 
 pub plain_passed : (b : ℕ) (bs : List ℕ) → is_plain_byte b ≡ true → ends_header (b ∷ bs) ≡ false
-plain_passed b bs h = and_left (eqb b 10) _ (not-true (eqb b 10) (plain_no_feed b h))
+plain_passed b bs h = and_left (eqb b 10) _ (plain_no_feed b h)
 
 pub value_passed : (b : ℕ) (bs : List ℕ) → is_plain_byte b ≡ true → list_all is_line_end (b ∷ bs) ≡ false
 value_passed b bs h =

@@ -1,11 +1,12 @@
 -- The type of an outline, as it is written, is the type that its first `Content-Type` names.
-use Rattle.std.proofs.Common.{◌≡◌, ◌⊎◌, inl, inr, ⊎_elim, ℕ, zero, suc, ◌≤◌, ◌<◌, Bool, true, false, cond, leb, not, ◌&&◌, ◌||◌, List, [], ◌∷◌, find, Option, Some, None, codes, refl, ap, ◌∙◌, arith}
+use Rattle.std.proofs.Common.{◌≡◌, ◌⊎◌, inl, inr, ⊎_elim, ℕ, ◌≤◌, ◌<◌, Bool, true, false, cond, leb, not, ◌&&◌, ◌||◌, List, [], ◌∷◌, find, Option, Some, None, codes, refl, ap, ◌∙◌, arith}
 use Rattle.std.specs.Char.{is_ascii_alphanumeric}
-use Rattle.std.specs.List.{list_all, All}
+use Rattle.std.specs.List.{list_all}
 use Rattle.std.specs.Option.{option_map_or}
 use Rattle.std.specs.Str.{IsAscii, bytes_eq, str_eq_ignore_ascii_case}
 use Rattle.std.proofs.lemmas.Bool.{cond-false, and_parts, or_cases, false≢true, leb-true, not-true}
 use Rattle.std.proofs.lemmas.Str.{encodes-IsAscii}
+use Rattle.std.proofs.lemmas.Str.Ascii.{IsAscii-from_all}
 use lib.Pointwise.{bytes_decides}
 use Rattle.mail_codec.specs.Charset.{Charsets}
 use Rattle.mail_codec.specs.Places.{stands}
@@ -17,25 +18,15 @@ use Rattle.mailparse.specs.Mail.{node_type, dash_boundary_of, is_digest}
 use Rattle.mail_laws.specs.Boundaries.{IsAlphanumeric, boundary_type}
 use Rattle.mail_laws.specs.Render.{dash_boundary, is_key_byte, is_key, has_type_key, type_header, mimetype_of, type_of, written_bytes, written_header, written_headers}
 use Rattle.mail_laws.proofs.lemmas.Boundaries.{boundary_content_type}
+use Rattle.mail_laws.proofs.lemmas.Encode.{each}
 use Rattle.mail_laws.proofs.lemmas.RenderHeaders.{key_byte}
 use Rattle.mail_laws.proofs.lemmas.RenderValues.{AreShown}
 
 -- ---- ASCII
 
-ascii : (test : ℕ → Bool) → ((b : ℕ) → test b ≡ true → b < 128) → (text : List ℕ) → list_all test text ≡ true → IsAscii text
-ascii test low [] all zero = omega arith
-ascii test low [] all (suc i) = omega arith
-ascii test low (b ∷ text) all zero = low b (and_parts (test b) (list_all test text) all).0
-ascii test low (b ∷ text) all (suc i) = ascii test low text (and_parts (test b) (list_all test text) all).1 i
-
 key_ascii : (key : List ℕ) → is_key key ≡ true → IsAscii key
 key_ascii key named =
-    ascii is_key_byte (λ b h. let high = (key_byte b h).1 in omega (arith, high)) key (and_parts (list_all is_key_byte key) _ named).0
-
-each : {P : ℕ → Type 0} (test : ℕ → Bool) → ((b : ℕ) → test b ≡ true → P b) → (text : List ℕ) → list_all test text ≡ true → All P text
-each test holds [] all i d low = absurd (omega arith)
-each test holds (b ∷ text) all zero d low = holds b (and_parts (test b) (list_all test text) all).0
-each test holds (b ∷ text) all (suc i) d low = each test holds text (and_parts (test b) (list_all test text) all).1 i d (omega arith)
+    IsAscii-from_all key (each {P = λ b. b < 128} is_key_byte (λ b h. let high = (key_byte b h).1 in omega (arith, high)) key (and_parts (list_all is_key_byte key) _ named).0)
 
 -- Under the charsets that are known.
 module _ (known : Charsets) where

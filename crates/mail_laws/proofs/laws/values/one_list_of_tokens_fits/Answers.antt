@@ -1,8 +1,5 @@
 use Rattle.mailparse.proofs.lemmas.Tokens.{token_ranges_fit, token_ranges_only}
 use Rattle.mail_laws.proofs.laws.values.one_list_of_tokens_fits.Goals as goal
 
-pub returns-clause-fits : goal.returns-clause-fits
-returns-clause-fits c = token_ranges_fit
-
-pub returns-clause-only : goal.returns-clause-only
-returns-clause-only c = token_ranges_only
+pub returns : goal.returns
+returns c = record { fits = token_ranges_fit; only = token_ranges_only }

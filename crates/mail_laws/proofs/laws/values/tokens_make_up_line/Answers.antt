@@ -2,8 +2,5 @@ use Rattle.std.proofs.Common.{arith}
 use Rattle.mailparse.proofs.lemmas.Tokens.{token_ranges_fit, tokens_adjoin, tokens_make_line}
 use Rattle.mail_laws.proofs.laws.values.tokens_make_up_line.Goals as goal
 
-pub returns-clause-adjoin : goal.returns-clause-adjoin
-returns-clause-adjoin c = λ known line. tokens_adjoin known (token_ranges_fit known line) (omega arith)
-
-pub returns-clause-bytes : goal.returns-clause-bytes
-returns-clause-bytes c = tokens_make_line
+pub returns : goal.returns
+returns c = record { adjoin = λ known line. tokens_adjoin known (token_ranges_fit known line) (omega arith); bytes = tokens_make_line }
