@@ -123,6 +123,59 @@ def header_of(lines):
     return [unhex(text)] if kind == "ok" else ["error", text.encode()]
 
 
+def front_of(lines):
+    """The lines of the header at the front, by their words, and its length; or the refusal."""
+    rest = lines.take("header")
+    if rest.startswith("err "):
+        return {}, ["error", rest[4:].encode()]
+    return fields_of(lines), [rest.removeprefix("ok ")]
+
+
+def fields_of(lines):
+    fields = {word: lines.take(word) for word in ("key", "raw", "name", "ref", "value", "utf8")}
+    while lines.take("date", "ids", "id", "idtext") is not None:
+        pass
+    return fields
+
+
+def bytes_of(fields):
+    return [unhex(fields[word]) for word in ("key", "raw") if fields]
+
+
+def header_bytes(lines, _row):
+    fields, rest = front_of(lines)
+    return [*bytes_of(fields), *rest]
+
+
+def header_texts(lines, _row):
+    fields, _ = front_of(lines)
+    kind, _, text = fields["utf8"].partition(" ")
+    strict = [unhex(text)] if kind == "ok" else ["error", text.encode()]
+    return [unhex(fields["name"]), unhex(fields["value"]), *strict]
+
+
+def key_ref(lines, _row):
+    kind, _, text = front_of(lines)[0]["ref"].partition(" ")
+    return [kind, unhex(text)]
+
+
+def block_of(lines, _row):
+    rest = lines.take("headers")
+    if rest.startswith("err "):
+        return ["error", rest[4:].encode()]
+    _, count, end = rest.split(" ")
+    return [end, *(it for _ in range(int(count)) for it in bytes_of(fields_of(lines)))]
+
+
+def values_found(lines, row):
+    """The first value with a name, or all of them, in the list and in the block."""
+    first = [line[12:] for line in lines.lines if line.startswith("first value ")][0]
+    found = [unhex(line[10:]) for line in lines.lines if line.startswith("all value ")]
+    if row.call == "get_first_value":
+        found = ["none" if first == "none" else unhex(first)]
+    return ["list", *found, "block", *found]
+
+
 # By call: the oracle's command, its input, and what its lines say.
 ORACLE = {
     "get_value": ("value", lambda row: row.inputs[0], lambda lines, row: [unhex(lines.take("value"))]),
@@ -133,6 +186,14 @@ ORACLE = {
     "parse_content_disposition": ("dispo", lambda row: row.inputs[0], lambda lines, row: lines.disposition()),
     "body": ("body", lambda row: b"\0".join(b"" if it == "none" else it for it in row.inputs),
              lambda lines, row: lines.body(row.inputs[2])),
+    "parse_header": ("header", lambda row: row.inputs[0], header_bytes),
+    "header": ("header", lambda row: row.inputs[0], header_texts),
+    "get_key": ("header", lambda row: row.inputs[0], lambda lines, row: [unhex(front_of(lines)[0]["name"])]),
+    "get_key_ref": ("header", lambda row: row.inputs[0], key_ref),
+    "parse_headers": ("headers", lambda row: row.inputs[0], block_of),
+    "get_first_value": ("find", lambda row: row.inputs[1] + b"\0" + row.inputs[0], values_found),
+    "get_all_values": ("find", lambda row: row.inputs[1] + b"\0" + row.inputs[0], values_found),
+    "debug_headers": ("debug", lambda row: row.inputs[0], lambda lines, row: [unhex(lines.take("debug"))]),
     "mail": ("dump", lambda row: row.inputs[0], lambda lines, row: mail_of(lines, row.inputs[0])),
 }
 
