@@ -8,9 +8,9 @@ where it is a constant that they use) and pairs of lines `old:`, whose text stan
 Crates on which others stand are proved in a copy of the repository, and then checked with many edits at once, of
 which no two change one function: a body is proved against the contracts of what it calls, so such edits do not touch
 one another. Of the other crates only what edits change is checked, with what it calls. An edit passes if each of its
-functions is refused for a goal, and not only because its proof names what is gone; all others have to be proved, or
-to wait only for those. An edit for which a batch does not show this is tried alone. Before all that, edits whose new
-text is the old one have to be reported as not refused. The last line is `N passed, N failed`.
+functions is refused for a goal, and not only because its proof names what is gone; all others have to be proved or to
+wait. An edit for which a batch does not show this is tried alone. First, edits that change nothing have to be reported
+as not refused. The last line is `N passed, N failed`.
 """
 
 import argparse
@@ -35,8 +35,7 @@ ERROR = re.compile(r"^(?:\./)?(\S+?)/([^/\s]+:\d+:\d+): error: (.*)", re.M)
 FOLLOWS = re.compile(r"depends? on `[^`]+`, which was (?:rejected|not admitted)")
 # what an error says where a proof only names what an edit took away
 IS_GONE = re.compile(r"has no field|is not in scope|has no `|was not admitted")
-# each change is a file, an old text and a new one
-Edit = namedtuple("Edit", "crate name functions changes")
+Edit = namedtuple("Edit", "crate name functions changes")  # each change is a file, an old text and a new one
 
 
 class Stopped(Exception):
@@ -47,8 +46,7 @@ def edits_in(crate, text):
     """The edits that a file lists."""
     file, found = "", []
     for entry in text.strip("\n").split("\n\n"):
-        read = ENTRY.fullmatch(entry)
-        if not read:
+        if not (read := ENTRY.fullmatch(entry)):
             raise Stopped(f"{crate}: this is no edit: {entry}")
         file = read[1] or file
         changes = tuple((file, *pair) for pair in re.findall("\nold: (.+)\nnew: ?(.*)", read[4]))
@@ -61,10 +59,9 @@ def replaced(file, before, pairs):
     text = before
     for old, new in sorted(pairs, key=lambda it: -before.find(it[0])):
         at = before.find(old)
-        if before.count(old) != 1 or not text.startswith(old, at):
-            raise Stopped(f"{file} has this text not once, or two edits change it: {old}")
-        if re.search(r"\b(requires|ensures|ghost)\b|≡", old + new):
-            raise Stopped(f"an edit changes a body, and no clause: {old}")
+        is_clause = re.search(r"\b(requires|ensures|ghost)\b|≡", old + new)
+        if before.count(old) != 1 or not text.startswith(old, at) or is_clause:
+            raise Stopped(f"{file} has this text not once, or it is of a clause, or two edits change it: {old}")
         text = text[:at] + new + text[at + len(old) :]
     return text
 
@@ -111,8 +108,7 @@ def judge(edits, text):
 
 def why(goals):
     """What to say of an edit whose functions have these goals."""
-    said = f"refused: {goals[0][0]}" if all(goals) else "its proof only names what is gone"
-    return "NOT REFUSED" if None in goals else said
+    return "NOT REFUSED" if None in goals else f"refused: {goals[0][0]}" if all(goals) else "its proof only names what is gone"
 
 
 class Run:
@@ -122,7 +118,7 @@ class Run:
         listed = dict(re.findall(r"^(\w+):(.*)", (TOP / "crates.txt").read_text("utf-8"), re.M))
         self.deps = {name: [it for it in below.split() if it in listed] for name, below in listed.items()}
         self.room, self.lanes, self.proofs = room, threading.Semaphore(jobs), {}
-        self.passed, self.seconds = [], []
+        self.passed, self.seconds, self.is_over = [], [], False
         self.copy(TOP, f"{room}/base", self.deps if is_kept else [], shutil.copy2)
 
     def below(self, crate):
@@ -144,7 +140,7 @@ class Run:
             process = subprocess.Popen(words, cwd=folder, stdin=subprocess.DEVNULL, stdout=output, stderr=subprocess.STDOUT)
             _, process.returncode, usage = os.wait4(process.pid, 0)
             self.seconds.append(usage.ru_utime + usage.ru_stime)
-            print(f"{os.path.basename(folder)}: {what}: {usage.ru_utime + usage.ru_stime:.0f} processor seconds", flush=True)
+            print(f"{os.path.basename(folder)}: {what}: {self.seconds[-1]:.0f} processor seconds", flush=True)
             output.seek(0)
             return output.read()
 
@@ -159,6 +155,8 @@ class Run:
 
     def check(self, edits, what):
         """Checks a crate with these edits, over its proofs where others stand on it, and otherwise only what they change."""
+        if self.is_over:
+            raise Stopped("the run is over")
         crate = edits[0].crate
         only = [word for edit in edits for it in edit.functions for word in ("--only", it) if crate not in self.proofs]
         for it in self.below(crate) & set(self.proofs):
@@ -191,9 +189,8 @@ class Run:
     def show_that_it_can_fail(self, edits):
         """Tries edits that change nothing."""
         same = [it._replace(changes=tuple((file, old, old) for file, old, _ in it.changes)) for it in edits]
-        for edit, goals in self.check(same, f"{len(same)} edits that change nothing").items():
-            if any(it is not None for it in goals):
-                raise Stopped(f"{edit.name} changes nothing, and is said to be refused: {why(goals)}")
+        if any(goals is not None for it in self.check(same, f"{len(same)} edits that change nothing").values() for goals in it):
+            raise Stopped("edits that change nothing are said to be refused")
 
     def try_all(self, edits):
         """Proves the crates on which others stand, and the lowest with edits, and tries all batches over these."""
@@ -203,8 +200,11 @@ class Run:
             for it in [it for it in self.deps if it in below]:
                 self.proofs[it] = pool.submit(self.prove, it)
             first = pool.submit(self.show_that_it_can_fail, batches[0])
-            for ended in [pool.submit(self.try_batch, it, first) for it in batches]:
-                ended.result()
+            try:
+                for ended in [pool.submit(self.try_batch, it, first) for it in batches]:
+                    ended.result()
+            finally:
+                self.is_over = True
 
 
 def self_test():
@@ -213,10 +213,10 @@ def self_test():
     assert (one.changes, two.functions, two.changes) == ((("a", " x", ""),), ("a", "b"), (("a", "y", "z"),))
     assert batches_of([one, two, one._replace(functions=("b",))]) == [[one, one._replace(functions=("b",))], [two]]
     assert replaced("a", "f(x) g(y)", [("f(x)", "f(yy)"), ("(y)", "(x)")]) == "f(yy) g(x)"
-    said = "./proofs/b/Answers.antt:6:13: error: `returns`: differs\n./proofs/+c/Answers.antt:2:3: error: it has no field `x`\n"
-    said += "fn low::a: no proof: `search` did not prove `goal`; it calls `low::b`, which is not proved\nfn low::d: proved\n"
-    said += "fn low::b: not proved; it calls `low::a`, which is not proved\nfn low::c: not proved\n"
-    said += "fn low::e: no proof: it calls `low::a` and `low::b`, which are not proved\nsrc/lib.rt:1:2: error: no\n"
+    said = "./proofs/b/A.antt:6:1: error: `returns`: differs\n./proofs/+c/A.antt:2:3: error: it has no field `x`\nfn low::d: proved\n"
+    said += "fn low::a: no proof: `search` did not prove `goal`; it calls `low::b`, which is not proved\n"
+    said += "fn low::b: not proved; it calls `low::a`, which is not proved\nfn low::c: not proved\nsrc/lib.rt:1:2: error: no\n"
+    said += "fn low::e: no proof: it calls `low::a` and `low::b`, which are not proved\n"
     goals, others = goals_in(said)
     assert (goals["low::a"], goals["low::c"], goals["low::e"], others) == (["goal"], [], None, ["src/lib.rt:1:2: no"])
     assert [why([goals[f"low::{it}"]])[:7] for it in "abcd"] == ["refused", "refused", "its pro", "NOT REF"]
