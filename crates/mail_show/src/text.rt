@@ -5,7 +5,6 @@ ghost use Rattle.mailparse.specs.Mail.{root};
 ghost use Rattle.mailparse.specs.Outcome.{GivesText, IsMemory};
 ghost use Rattle.mailparse.specs.Views.{tree_of};
 
-use mailparse::body::Body;
 use mailparse::{MailHeader, MailParseError, ParsedMail};
 use std::alloc::{AllocError, Global};
 
@@ -69,13 +68,7 @@ fn body_length(alloc: Global, part: &ParsedMail<'_>) -> Result<usize, MailParseE
     ensures read { IfOk result (λ count. count ≡ length (root (tree_of part.now)).body) }
     ensures only_memory { IfErr result IsMemory }
 {
-    match part.get_body_encoded(alloc)? {
-        Body::Base64(body) => Ok(body.get_raw().len()),
-        Body::QuotedPrintable(body) => Ok(body.get_raw().len()),
-        Body::SevenBit(body) => Ok(body.get_raw().len()),
-        Body::EightBit(body) => Ok(body.get_raw().len()),
-        Body::Binary(body) => Ok(body.get_raw().len()),
-    }
+    Ok(part.get_body_encoded(alloc)?.get_raw().len())
 }
 
 /// Writes the line of a header: the texts of its key and of its value.
