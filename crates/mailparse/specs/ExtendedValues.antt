@@ -36,7 +36,7 @@ is_extended keys name = is_some (keys (starred name)) && not (is_some (keys name
 abbrev pub extended_value : Texts → List ℕ → List ℕ
 extended_value keys name = unwrap_or (keys (starred name)) []
 
--- what the first apostrophe of a value stands after: its label, or the whole value where it has none
+-- the label of an extended value: what stands before its first apostrophe, or the whole value
 abbrev pub label_in : List ℕ → List ℕ
 label_in value = before_first is_apostrophe value
 
