@@ -1,5 +1,5 @@
 //! What a body is.
-ghost use Rattle.std.specs.Prelude.{◌≡◌, length};
+ghost use Rattle.std.specs.Prelude.{◌≡◌};
 ghost use Rattle.mail_codec.specs.Tables.{charsets_with};
 ghost use Rattle.mailparse.specs.Body.{BodyKind, decoded_text_in};
 ghost use Rattle.mailparse.specs.BodyViews.{Content, IsBody};
@@ -21,20 +21,6 @@ pub fn encoding_name(body: &Body<'_>) -> &'static str
         Body::SevenBit(_) => "7bit",
         Body::EightBit(_) => "8bit",
         Body::Binary(_) => "binary",
-    }
-}
-
-/// How many bytes a body has as it stands in the mail.
-pub fn raw_length(body: &Body<'_>) -> usize
-    ensures { (kind : BodyKind) (given : Content) → IsBody kind given body.now →
-        result ≡ length given.raw }
-{
-    match body {
-        Body::Base64(body) => body.get_raw().len(),
-        Body::QuotedPrintable(body) => body.get_raw().len(),
-        Body::SevenBit(body) => body.get_raw().len(),
-        Body::EightBit(body) => body.get_raw().len(),
-        Body::Binary(body) => body.get_raw().len(),
     }
 }
 

@@ -17,7 +17,7 @@ ghost use Rattle.mail_json.specs.Part.{part_end, part_start, place_text, places,
 ghost use Rattle.mail_json.specs.Part.{size_text};
 ghost use Rattle.mail_json.specs.Written.{Writes, WritesOne};
 
-use crate::body::{decoded_length, encoding_name, raw_length, text_of};
+use crate::body::{decoded_length, encoding_name, text_of};
 use crate::fields::{disposition_name, refusal_text};
 use crate::strings::{write_comma, write_name, write_owned, write_text, write_word};
 use mail_codec::bytescan::find_byte;
@@ -85,7 +85,7 @@ fn preamble_end(alloc: Global, part: &ParsedMail<'_>) -> Result<usize, MailParse
 {
     let body = part.get_body_encoded(alloc)?;
     let headers = part.get_headers().get_raw_bytes().len();
-    Ok(headers.saturating_add(raw_length(&body)))
+    Ok(headers.saturating_add(body.get_raw().len()))
 }
 
 /// Where the part begins that follows a part or the preamble that ends here: a line end comes
@@ -147,7 +147,7 @@ fn write_part<W: Write>(
     write_disposition(alloc, out, part, &disposition, is_attachment)?;
     let body = lenient_body(alloc, part)?;
     let end = part_end(start, part);
-    write_place(out, encoding_name(&body), start, end, raw_length(&body))?;
+    write_place(out, encoding_name(&body), start, end, body.get_raw().len())?;
     write_decoded_size(alloc, out, &body)?;
     write_headers(alloc, out, part.headers.as_slice(), tables)?;
     write_word(out, ",\"text\":")?;

@@ -1,4 +1,4 @@
-use Rattle.std.proofs.Common.{◌≡◌, not, ◌&&◌, List, ℕ, refl, sym, ap, subst, ◌∙◌}
+use Rattle.std.proofs.Common.{◌≡◌, not, ◌&&◌, List, ℕ, length, refl, sym, ap, subst, ◌∙◌}
 use Rattle.std.proofs.lemmas.Result.{err_from_is_err_and}
 use Rattle.std.specs.Prelude.{codes}
 use Rattle.std.proofs.KnownBytes.{Appends-trans}
@@ -29,9 +29,9 @@ returns g c =
     let type = c.in_ok-write_type.ensures in
     let is_body = c.in_ok-body.ensures.read in
     let places =
-    ap (λ (name : List ℕ). place_text name c.args.start c.part_end-end.result c.raw_length.result) (c.encoding_name.ensures kind given is_body)
-    ∙ ap (λ e. place_text (encoding_text kind) c.args.start e c.raw_length.result) c.part_end-end.ensures
-    ∙ ap (λ n. place_text (encoding_text kind) c.args.start (part_end c.args.start node) n) (c.raw_length.ensures kind given is_body) in
+    ap (λ (name : List ℕ). place_text name c.args.start c.part_end-end.result (length c.get_raw.result.now)) (c.encoding_name.ensures kind given is_body)
+    ∙ ap (λ e. place_text (encoding_text kind) c.args.start e (length c.get_raw.result.now)) c.part_end-end.ensures
+    ∙ ap (λ (raw : List ℕ). place_text (encoding_text kind) c.args.start (part_end c.args.start node) (length raw)) (c.get_raw.ensures.made kind given is_body) in
     let headers = ap (headers_text known) (c.as_slice.ensures.value ∙ headers-out m) in
     let same : shown_as_in known node ≡ disposition c.in_ok-disposition.disposition = ok_same _ _ c.in_ok-disposition.ensures in
     let attached = c.is_attachment-is_attachment.ensures ∙ ap (is_attachment (tree_of m)) (sym same) in
