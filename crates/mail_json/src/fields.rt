@@ -31,10 +31,7 @@ pub fn value_of(
     ensures { AnswersOrMemory text_found result
         (Ok (value_of (charsets_with tables.now) key.now (root (tree_of mail.now)))) }
 {
-    match mail.headers.get_first_header(key) {
-        Some(header) => Ok(Some(header.get_value_with(alloc, tables)?)),
-        None => Ok(None),
-    }
+    mail.headers.get_first_value_with(alloc, key, tables)
 }
 
 /// The message ids in the value of the first header with this name.
