@@ -80,7 +80,7 @@ fn kind_name(disposition: &DispositionType) -> &str
     }
 }
 
-/// Why something is refused, in the words in which the error shows itself.
+/// Returns the text of a refusal, as `Display` shows it.
 ///
 /// # Errors
 ///

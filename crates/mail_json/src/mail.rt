@@ -134,7 +134,7 @@ fn write_date<W: Write>(
     }
 }
 
-/// What is missing in a date, or wrong in it, in the words in which the error shows itself.
+/// Returns what is missing in a date or wrong in it, as `Display` shows it.
 fn date_fault(error: DateError) -> &'static str
     ensures { result.now ≡ date_fault_text error }
 {
