@@ -64,6 +64,7 @@ mod parameters;
 
 pub use content_type::{ParsedContentType, parse_content_type, parse_content_type_with};
 pub use date::dateparse;
+// For the dates of `mail_data`; no part of the interface.
 #[doc(hidden)]
 pub use date::{calendar, names};
 pub use disposition::{
