@@ -56,10 +56,7 @@ fn value_of(
     ensures { AnswersOrMemory text_found result
         (Ok (first_value_in (charsets_with tables.now) key.now (root (tree_of mail.now)).headers)) }
 {
-    match mail.headers.get_first_header(key) {
-        Some(header) => Ok(Some(header.get_value_with(alloc, tables)?)),
-        None => Ok(None),
-    }
+    mail.headers.get_first_value_with(alloc, key, tables)
 }
 
 /// The date, or its error.
