@@ -9,41 +9,6 @@
 //! No call panics, whatever the bytes are. What takes memory has the argument `alloc` and returns a
 //! `Result`; each call says what else it refuses.
 //!
-//! # Examples
-//!
-//! A program that prints the subject of a mail, its text, and the names of its attachments, with
-//! the finding of files of the crate `mail_data` and the charsets of `mail_tables`:
-//!
-//! ```rust
-//! #![tactic(auto)]
-//!
-//! use mail_data::files::{attachments_with, file_name_with};
-//! use mail_data::texts::text_part_with;
-//! use mail_tables::TABLES;
-//! use mailparse::{MailHeaderMap, parse_mail_with};
-//! use std::io::Read;
-//!
-//! fn main(rt: HostRuntime) -> anyhow::Result<()> {
-//!     let alloc = rt.alloc();
-//!     let mut raw = Vec::new(alloc);
-//!     rt.reader().read_to_end(&mut raw)?;
-//!     let tables = &TABLES;
-//!     let mail = parse_mail_with(alloc, raw.as_slice(), tables)?;
-//!     if let Some(subject) = mail.headers.get_first_header("Subject") {
-//!         println!(rt; "Subject: {}", subject.get_value_with(alloc, tables)?)?;
-//!     }
-//!     if let Some(part) = text_part_with(alloc, &mail, tables)? {
-//!         println!(rt; "{}", part.get_body_with(alloc, tables)?)?;
-//!     }
-//!     for file in attachments_with(alloc, &mail, tables)? {
-//!         if let Some(name) = file_name_with(alloc, file.part, tables)? {
-//!             println!(rt; "Attachment {}: {name}", file.path)?;
-//!         }
-//!     }
-//!     Ok(())
-//! }
-//! ```
-//!
 //! The examples of the calls stand in a function that has the runtime `rt` and its allocator
 //! `alloc`.
 #![tactic(auto)]
