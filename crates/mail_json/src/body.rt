@@ -1,14 +1,17 @@
 //! What a body is.
 ghost use Rattle.std.specs.Prelude.{◌≡◌};
+ghost use Rattle.std.specs.Cow.{cow_slice_items};
 ghost use Rattle.mail_codec.specs.Tables.{charsets_with};
-ghost use Rattle.mailparse.specs.Body.{BodyKind, decoded_text_in};
+ghost use Rattle.mailparse.specs.Body.{BodyKind, decoded, text_under_in};
 ghost use Rattle.mailparse.specs.BodyViews.{Content, IsBody};
-ghost use Rattle.mailparse.specs.Outcome.{AnswersOrMemory, ReadsText};
-ghost use Rattle.mail_json.specs.Body.{decoded_size, encoding_text};
+ghost use Rattle.mailparse.specs.Outcome.{AnswersOrMemory, GivesText};
+ghost use Rattle.mailparse.specs.Views.{content_type};
+ghost use Rattle.mail_json.specs.Body.{encoding_text};
 
 use mailparse::body::Body;
-use mailparse::{MailParseError, SingleByteTable};
+use mailparse::{MailParseError, ParsedContentType, SingleByteTable};
 use std::alloc::Global;
+use std::borrow::CowSlice;
 
 /// The name of the transfer encoding of a body.
 pub fn encoding_name(body: &Body<'_>) -> &'static str
@@ -24,47 +27,43 @@ pub fn encoding_name(body: &Body<'_>) -> &'static str
     }
 }
 
-/// How many bytes a body stands for.
+/// The bytes that a body stands for, borrowed where it is not encoded.
 ///
 /// # Errors
 ///
 /// `MailParseError::Base64DecodeError` where a body in Base64 is not Base64, and
 /// `MailParseError::Memory` where it runs out of memory.
 #[tactic(auto, unfolding(mailparse::specs::Body::decoded))]
-pub fn decoded_length(alloc: Global, body: &Body<'_>) -> Result<usize, MailParseError>
+pub fn decoded<'b>(alloc: Global, body: &Body<'b>) -> Result<CowSlice<'b, u8>, MailParseError>
     ensures { (kind : BodyKind) (given : Content) → IsBody kind given body.now →
-        AnswersOrMemory (λ n. n) result (decoded_size kind given.raw) }
+        AnswersOrMemory cow_slice_items result (decoded kind given.raw) }
 {
     match body {
-        Body::Base64(body) => Ok(body.get_decoded(alloc)?.len()),
-        Body::QuotedPrintable(body) => Ok(body.get_decoded(alloc)?.len()),
-        Body::SevenBit(body) => Ok(body.get_raw().len()),
-        Body::EightBit(body) => Ok(body.get_raw().len()),
-        Body::Binary(body) => Ok(body.get_raw().len()),
+        Body::Base64(body) => Ok(CowSlice::Owned(body.get_decoded(alloc)?)),
+        Body::QuotedPrintable(body) => Ok(CowSlice::Owned(body.get_decoded(alloc)?)),
+        Body::SevenBit(body) => Ok(CowSlice::Borrowed(body.get_raw())),
+        Body::EightBit(body) => Ok(CowSlice::Borrowed(body.get_raw())),
+        Body::Binary(body) => Ok(CowSlice::Borrowed(body.get_raw())),
     }
 }
 
-/// The text that a body stands for, where texts may also be in the charsets of some tables.
+/// The text of decoded bytes of this type, where texts may also be in the charsets of some tables.
 ///
 /// # Errors
 ///
-/// `MailParseError::Base64DecodeError` where a body in Base64 is not Base64, and
 /// `MailParseError::Memory` where it runs out of memory.
-#[tactic(auto, unfolding(mailparse::specs::Body::decoded_text_in, mailparse::specs::Body::decoded))]
+#[tactic(auto, unfolding(mailparse::specs::Body::kind_named))]
 pub fn text_of(
     alloc: Global,
-    body: &Body<'_>,
+    bytes: &[u8],
+    ctype: &ParsedContentType,
     tables: &[SingleByteTable<'_>],
 ) -> Result<String, MailParseError>
-    ensures { (kind : BodyKind) (given : Content) → IsBody kind given body.now →
-        ReadsText result (decoded_text_in (charsets_with tables.now) kind
-        given.ctype.charset given.raw) }
+    ensures { GivesText result (text_under_in (charsets_with tables.now)
+        (content_type ctype.now).charset bytes.now) }
 {
-    match body {
-        Body::Base64(body) => body.get_decoded_as_string_with(alloc, tables),
-        Body::QuotedPrintable(body) => body.get_decoded_as_string_with(alloc, tables),
+    match Body::new(bytes, ctype, &None) {
         Body::SevenBit(body) => body.get_as_string_with(alloc, tables),
-        Body::EightBit(body) => body.get_as_string_with(alloc, tables),
-        Body::Binary(body) => body.get_as_string_with(alloc, tables),
+        _ => unreachable!(),
     }
 }

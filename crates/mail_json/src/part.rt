@@ -1,11 +1,13 @@
 //! The objects of the parts.
-ghost use Rattle.std.specs.Prelude.{◌≡◌, ◌++◌, ◌∷◌, ◌&&◌, codes, drop, length, not, IfErr, IfOk, Ok};
+ghost use Rattle.std.specs.Prelude.{◌≡◌, ◌++◌, ◌∷◌, ◌&&◌, ℕ, List, codes, drop, length, not, IfErr};
+ghost use Rattle.std.specs.Prelude.{IfOk, Ok};
+ghost use Rattle.std.specs.Cow.{cow_slice_items};
 ghost use Rattle.mail_codec.specs.Places.{stands};
 ghost use Rattle.mail_codec.specs.Tables.{charsets_with};
-ghost use Rattle.mailparse.specs.Body.{BodyKind};
-ghost use Rattle.mailparse.specs.BodyViews.{Content, IsBody};
+ghost use Rattle.mailparse.specs.Body.{BodyKind, decoded};
+ghost use Rattle.mailparse.specs.BodyViews.{Content};
 ghost use Rattle.mailparse.specs.Mail.{root};
-ghost use Rattle.mailparse.specs.Outcome.{IsMemory};
+ghost use Rattle.mailparse.specs.Outcome.{AnswersOrMemory, IsMemory};
 ghost use Rattle.mailparse.specs.Views as views;
 ghost use Rattle.mailparse.specs.Views.{content_type, tree_of};
 ghost use Rattle.mail_data.specs.Files.{is_leaf};
@@ -17,7 +19,7 @@ ghost use Rattle.mail_json.specs.Part.{part_end, part_start, place_text, places,
 ghost use Rattle.mail_json.specs.Part.{size_text};
 ghost use Rattle.mail_json.specs.Written.{Writes, WritesOne};
 
-use crate::body::{decoded_length, encoding_name, text_of};
+use crate::body::{decoded, encoding_name, text_of};
 use crate::fields::{disposition_name, refusal_text};
 use crate::strings::{write_comma, write_name, write_owned, write_text, write_word};
 use mail_codec::bytescan::find_byte;
@@ -25,12 +27,12 @@ use mail_data::files::{describes_attachment, is_leaf, named_file, path_under};
 use mail_data::lenient::lenient_body;
 use mail_data::lines::empty_line;
 use mail_program::Fault;
-use mailparse::body::Body;
 use mailparse::{
     MailHeader, MailParseError, ParsedContentDisposition, ParsedContentType, ParsedMail,
     SingleByteTable,
 };
 use std::alloc::Global;
+use std::borrow::CowSlice;
 use std::io::Write;
 
 /// Writes the object of a part that has this path and begins at this offset of the input, and then
@@ -148,10 +150,12 @@ fn write_part<W: Write>(
     let body = lenient_body(alloc, part)?;
     let end = part_end(start, part);
     write_place(out, encoding_name(&body), start, end, body.get_raw().len())?;
-    write_decoded_size(alloc, out, &body)?;
+    let bytes = decoded(alloc, &body);
+    write_decoded_size(alloc, out, &bytes)?;
     write_headers(alloc, out, part.headers.as_slice(), tables)?;
     write_word(out, ",\"text\":")?;
-    write_body_text(alloc, out, &body, is_read(part, is_attachment), tables)?;
+    let is_read = is_read(part, is_attachment);
+    write_body_text(alloc, out, bytes, &part.ctype, is_read, tables)?;
     write_word(out, "}")
 }
 
@@ -250,18 +254,24 @@ fn flag_text(flag: bool) -> &'static str
 }
 
 /// Writes how many bytes the body stands for, or `null` where it is refused, and then why.
-fn write_decoded_size<W: Write>(alloc: Global, out: &mut W, body: &Body<'_>) -> Result<(), Fault>
-    ensures { (kind : BodyKind) (given : Content) → IsBody kind given body.now →
+fn write_decoded_size<W: Write>(
+    alloc: Global,
+    out: &mut W,
+    bytes: &Result<CowSlice<'_, u8>, MailParseError>,
+) -> Result<(), Fault>
+    ensures { (kind : BodyKind) (raw : List ℕ) →
+        AnswersOrMemory cow_slice_items bytes.now (decoded kind raw) →
         Writes (W.contents out.old) (W.contents out.new) result
-        (size_text (decoded_size kind given.raw)) }
+        (size_text (decoded_size kind raw)) }
 {
-    match decoded_length(alloc, body) {
-        Ok(size) => {
+    match bytes {
+        Ok(decoded) => {
+            let size = decoded.len();
             write!(out, ",\"decoded_size\":{size}")?;
             Ok(())
         }
         Err(error) => {
-            let text = refusal_text(alloc, &error)?;
+            let text = refusal_text(alloc, error)?;
             write_word(out, ",\"decoded_size\":null,\"error\":")?;
             write_text(alloc, out, text.as_str())
         }
@@ -269,22 +279,29 @@ fn write_decoded_size<W: Write>(alloc: Global, out: &mut W, body: &Body<'_>) -> 
 }
 
 /// Writes the text of a body that is to be read, or `null` where it is refused or is not to be.
+#[tactic(auto, unfolding(mailparse::specs::Body::decoded_text_in))]
 fn write_body_text<W: Write>(
     alloc: Global,
     out: &mut W,
-    body: &Body<'_>,
+    bytes: Result<CowSlice<'_, u8>, MailParseError>,
+    ctype: &ParsedContentType,
     is_read: bool,
     tables: &[SingleByteTable<'_>],
 ) -> Result<(), Fault>
-    ensures { (kind : BodyKind) (given : Content) → IsBody kind given body.now →
+    ensures { (kind : BodyKind) (given : Content) →
+        AnswersOrMemory cow_slice_items bytes.entry (decoded kind given.raw) →
+        given.ctype ≡ content_type ctype.now →
         Writes (W.contents out.old) (W.contents out.new) result
         (body_text (charsets_with tables.now) is_read kind given) }
 {
     if !is_read {
         return write_word(out, "null");
     }
-    match text_of(alloc, body, tables) {
-        Ok(text) => write_owned(alloc, out, text),
+    match bytes {
+        Ok(decoded) => {
+            let text = text_of(alloc, decoded.as_slice(), ctype, tables)?;
+            write_owned(alloc, out, text)
+        }
         Err(MailParseError::Memory(error)) => Err(Fault::from(error)),
         Err(_refusal) => write_word(out, "null"),
     }

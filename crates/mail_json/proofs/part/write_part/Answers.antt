@@ -28,6 +28,7 @@ returns g c =
     let place : Place = record { path = c.args.path.now; start = c.args.start; part = tree_of m } in
     let type = c.in_ok-write_type.ensures in
     let is_body = c.in_ok-body.ensures.read in
+    let read = c.decoded-bytes.ensures kind given is_body in
     let places =
     ap (λ (name : List ℕ). place_text name c.args.start c.part_end-end.result (length c.get_raw.result.now)) (c.encoding_name.ensures kind given is_body)
     ∙ ap (λ e. place_text (encoding_text kind) c.args.start e (length c.get_raw.result.now)) c.part_end-end.ensures
@@ -38,16 +39,16 @@ returns g c =
     let members =
     ap (λ (d : Disposition). disposition_text d node c.is_attachment-is_attachment.result) (sym same)
     ∙ ap (disposition_text (shown_as_in known node) node) attached in
-    let is_read = c.is_read.ensures ∙ ap (λ is. not is && is_leaf (tree_of m) && stands (codes "text/") node.ctype.mimetype) attached in
+    let is_read = c.is_read-is_read.ensures ∙ ap (λ is. not is && is_leaf (tree_of m) && stands (codes "text/") node.ctype.mimetype) attached in
     let body = ap (λ is. body_text known is kind given) is_read in
     let one = Appends-trans _ _ _ _ _ c.in_ok-write_word.ensures c.in_ok-write_text.ensures in
     let two = Appends-trans _ _ _ _ _ one type.2 in
     let three = Appends-trans _ _ _ _ _ two (appends_as _ _ _ _ members c.in_ok-write_disposition.ensures) in
     let four = Appends-trans _ _ _ _ _ three (appends_as _ _ _ _ places c.in_ok-write_place.ensures) in
-    let five = Appends-trans _ _ _ _ _ four (c.in_ok-write_decoded_size.ensures kind given is_body) in
+    let five = Appends-trans _ _ _ _ _ four (c.in_ok-write_decoded_size.ensures kind given.raw read) in
     let six = Appends-trans _ _ _ _ _ five (appends_as _ _ _ _ headers c.in_ok-write_headers.ensures) in
     let seven = Appends-trans _ _ _ _ _ six c.in_ok-write_word-2.ensures in
-    let eight = Appends-trans _ _ _ _ _ seven (appends_as _ _ _ _ body (c.in_ok-write_body_text.ensures kind given is_body)) in
+    let eight = Appends-trans _ _ _ _ _ seven (appends_as _ _ _ _ body (c.in_ok-write_body_text.ensures kind given read (sym (ctype-out m)))) in
     let written = writes_then _ _ _ _ _ _ eight c.write_word-3.ensures in
     writes_one (IsPartText known place) _ _ _ (part_text known place type.0)
     (type.0, subst (λ (t : ContentType). IsTypeText t type.0) (ctype-out m) type.1, refl) written
@@ -56,10 +57,12 @@ pub returns-in_err-write_decoded_size : goal.returns-in_err-write_decoded_size
 returns-in_err-write_decoded_size g c =
     let node = root (tree_of c.args.part.now) in
     let p = err_from_is_err_and c.from_residual-in_err-write_decoded_size.result c.from_residual-in_err-write_decoded_size.ensures.1 in
-    rw (p.1, p.2) (c.in_err-write_decoded_size.ensures (lenient_body_kind node) (content_of node) c.in_ok-body.ensures.read)
+    let read = c.decoded-bytes.ensures (lenient_body_kind node) (content_of node) c.in_ok-body.ensures.read in
+    rw (p.1, p.2) (c.in_err-write_decoded_size.ensures (lenient_body_kind node) node.body read)
 
 pub returns-in_err-write_body_text : goal.returns-in_err-write_body_text
 returns-in_err-write_body_text g c =
     let node = root (tree_of c.args.part.now) in
     let p = err_from_is_err_and c.from_residual-in_err-write_body_text.result c.from_residual-in_err-write_body_text.ensures.1 in
-    rw (p.1, p.2) (c.in_err-write_body_text.ensures (lenient_body_kind node) (content_of node) c.in_ok-body.ensures.read)
+    let read = c.decoded-bytes.ensures (lenient_body_kind node) (content_of node) c.in_ok-body.ensures.read in
+    rw (p.1, p.2) (c.in_err-write_body_text.ensures (lenient_body_kind node) (content_of node) read (sym (ctype-out c.args.part.now)))
