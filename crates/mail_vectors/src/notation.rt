@@ -330,6 +330,24 @@ impl Answer {
         })
     }
 
+    /// An answer without items that has no room yet.
+    pub fn empty(alloc: Global) -> Answer {
+        Answer {
+            written: Vec::new(alloc),
+            alloc,
+        }
+    }
+
+    /// Takes all items away.
+    pub fn clear(&mut self) {
+        self.written.clear();
+    }
+
+    /// Adds the items of another answer.
+    pub fn append(&mut self, other: &Answer) -> Result<(), AllocError> {
+        self.written.extend_from_slice(other.written.as_slice())
+    }
+
     /// The answer as it is written.
     pub fn as_bytes(&self) -> &[u8] {
         self.written.as_slice()
@@ -358,6 +376,12 @@ impl Answer {
     pub fn number(&mut self, number: usize) -> Result<(), AllocError> {
         write_number(&mut self.written, number as u64)?;
         self.written.extend_from_slice(b" ")
+    }
+
+    /// Adds a number with a minus sign.
+    pub fn negative(&mut self, number: usize) -> Result<(), AllocError> {
+        self.written.extend_from_slice(b"-")?;
+        self.number(number)
     }
 
     /// Adds a number that may be negative.

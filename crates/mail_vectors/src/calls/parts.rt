@@ -1,7 +1,7 @@
 //! The calls on mails and on their parts. Each answers for the mail and then for each of its parts,
 //! each before its own parts, where nothing else is said; a mail that is refused is an answer, too.
 //!
-//! - `outline MAIL => part SUBPARTS HEADERS MIMETYPE BODY`, the body as text.
+//! - `nodes MAIL => part SUBPARTS HEADERS MIMETYPE BODY`, the body as text.
 //! - `types MAIL => MIMETYPE CHARSET`.
 //! - `get_raw_bytes MAIL => part RAW BLOCK HEADERS`: the bytes of the part, those of its block with the
 //!   blank line, and how many headers there are; `get_raw_bytes_each BYTES` reads each byte alone as a
@@ -27,7 +27,7 @@ use std::alloc::{AllocError, Global};
 /// Makes the call of a row, if it is one of these.
 pub fn make(alloc: Global, row: &Row, answer: &mut Answer) -> Result<bool, MailParseError> {
     match row.call.as_str() {
-        "outline"
+        "nodes"
         | "types"
         | "get_raw_bytes"
         | "get_body"
@@ -72,7 +72,7 @@ fn push_part(
     part: &ParsedMail<'_>,
 ) -> Result<(), MailParseError> {
     match call {
-        "outline" => push_outline(alloc, answer, part),
+        "nodes" => push_node(alloc, answer, part),
         "types" => {
             answer.text(part.ctype.mimetype.as_str())?;
             Ok(answer.text(part.ctype.charset.as_str())?)
@@ -87,7 +87,7 @@ fn push_part(
     }
 }
 
-fn push_outline(
+fn push_node(
     alloc: Global,
     answer: &mut Answer,
     part: &ParsedMail<'_>,

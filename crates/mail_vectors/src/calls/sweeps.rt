@@ -46,19 +46,19 @@ pub fn make(alloc: Global, row: &Row, answer: &mut Answer) -> Result<bool, MailP
 #[derive(Drop)]
 pub struct Runs {
     /// The item of the run that is not written yet, and how often it came.
-    last: String,
+    last: Answer,
     times: usize,
     /// The item that came now.
-    next: String,
+    next: Answer,
 }
 
 impl Runs {
     /// No runs.
     pub fn new(alloc: Global) -> Runs {
         Runs {
-            last: String::new(alloc),
+            last: Answer::empty(alloc),
             times: 0,
-            next: String::new(alloc),
+            next: Answer::empty(alloc),
         }
     }
 
@@ -72,10 +72,10 @@ impl Runs {
         self.next.clear();
         match found {
             Some(place) => match place.checked_sub(start) {
-                Some(after) => write!(self.next, "{after}")?,
-                None => write!(self.next, "-{}", start.saturating_sub(place))?,
+                Some(after) => self.next.number(after)?,
+                None => self.next.negative(start.saturating_sub(place))?,
             },
-            None => self.next.push_str("none")?,
+            None => self.next.word("none")?,
         }
         self.take(answer)
     }
@@ -83,23 +83,26 @@ impl Runs {
     /// Takes bytes.
     fn bytes(&mut self, answer: &mut Answer, bytes: &[u8]) -> Result<(), AllocError> {
         self.next.clear();
-        write!(self.next, "\"{}\"", bytes.escape_ascii())?;
+        self.next.bytes(bytes)?;
         self.take(answer)
     }
 
-    /// Takes a word and a number after it.
+    /// Takes a number, after a word if there is one.
     fn number(&mut self, answer: &mut Answer, word: &str, number: usize) -> Result<(), AllocError> {
         self.next.clear();
-        write!(self.next, "{word}{number}")?;
+        if !word.is_empty() {
+            self.next.word(word)?;
+        }
+        self.next.number(number)?;
         self.take(answer)
     }
 
     /// Takes the item that came now.
     fn take(&mut self, answer: &mut Answer) -> Result<(), AllocError> {
-        if self.next.as_str() != self.last.as_str() {
+        if self.next.as_bytes() != self.last.as_bytes() {
             self.end(answer)?;
             self.last.clear();
-            self.last.push_str(self.next.as_str())?;
+            self.last.append(&self.next)?;
             self.times = 0;
         }
         self.times = self.times.saturating_add(1);
@@ -109,7 +112,7 @@ impl Runs {
     /// Writes the last run.
     pub fn end(&self, answer: &mut Answer) -> Result<(), AllocError> {
         if self.times > 0 {
-            answer.word(self.last.as_str())?;
+            answer.append(&self.last)?;
         }
         if self.times > 1 {
             answer.word("x")?;
@@ -364,7 +367,7 @@ fn write_between(
     let sides = (row.bytes(3)?, row.bytes(4)?);
     match decoded(alloc, row.text(0)?, text)? {
         Ok(bytes) => runs.bytes(answer, between(bytes.as_slice(), sides))?,
-        Err(group) => runs.number(answer, "error ", group)?,
+        Err(group) => runs.number(answer, "error", group)?,
     }
     Ok(())
 }
@@ -396,11 +399,11 @@ fn write_front(
             let word = if whole.starts_with(bytes.as_slice()) {
                 ""
             } else {
-                "other "
+                "other"
             };
             runs.number(answer, word, fewer)?;
         }
-        Err(group) => runs.number(answer, "error ", group)?,
+        Err(group) => runs.number(answer, "error", group)?,
     }
     Ok(())
 }
