@@ -240,7 +240,7 @@ impl Items {
 
     /// The items as an answer writes them.
     fn written(&self, alloc: Global) -> Result<Answer, MailParseError> {
-        let mut answer = Answer::new(alloc)?;
+        let mut answer = Answer::empty(alloc);
         for item in &self.list {
             if item.is_text {
                 answer.bytes(item.bytes.as_slice())?;
