@@ -197,7 +197,7 @@ class Run:
         batches = batches_of(sorted(edits, key=lambda it: list(self.deps).index(it.crate)))
         below = {batches[0][0].crate}.union(*(self.below(it.crate) - {it.crate} for it in edits))
         with ThreadPoolExecutor(len(self.deps) + len(batches) + 1) as pool:
-            for it in [it for it in self.deps if it in below]:
+            for it in [it for it in self.deps if it in below and (TOP / f"crates/{it}/src/lib.rt").exists()]:
                 self.proofs[it] = pool.submit(self.prove, it)
             first = pool.submit(self.show_that_it_can_fail, batches[0])
             try:
