@@ -1,12 +1,12 @@
 //! The calls on files. A part is the one at a number of `parts`, the whole mail at 0.
 
+use crate::calls::tables::all_tables;
 use crate::notation::{Answer, FORM, Row};
 use mail_data::files::{
     Attachment, attachments, attachments_with, describes_attachment, file_name, file_name_with,
     filled_parameter, is_attachment, is_attachment_with, is_leaf, named_file, path_under,
     safe_file_name, whole_path,
 };
-use mail_tables::TABLES;
 use mailparse::{
     MailParseError, ParsedContentDisposition, ParsedContentType, ParsedMail,
     parse_content_disposition, parse_content_type, parse_mail, parse_mail_with,
@@ -53,9 +53,9 @@ fn list_files(alloc: Global, row: &Row, answer: &mut Answer) -> Result<(), MailP
 
 /// `attachments_with MAIL => PATH NAME BYTES` likewise, under all tables.
 fn list_named_files(alloc: Global, row: &Row, answer: &mut Answer) -> Result<(), MailParseError> {
-    let mail = parse_mail_with(alloc, row.bytes(0)?, &TABLES)?;
-    for file in &attachments_with(alloc, &mail, &TABLES)? {
-        let name = file_name_with(alloc, file.part, &TABLES)?;
+    let mail = parse_mail_with(alloc, row.bytes(0)?, all_tables())?;
+    for file in &attachments_with(alloc, &mail, all_tables())? {
+        let name = file_name_with(alloc, file.part, all_tables())?;
         write_file(alloc, file, name, answer)?;
     }
     Ok(())
@@ -89,13 +89,13 @@ fn look_at(alloc: Global, row: &Row, answer: &mut Answer) -> Result<(), MailPars
 
 /// `file_name_with MAIL PART => NAME` and `is_attachment_with MAIL PART => TRUTH`, under all tables.
 fn look_at_with(alloc: Global, row: &Row, answer: &mut Answer) -> Result<(), MailParseError> {
-    let mail = parse_mail_with(alloc, row.bytes(0)?, &TABLES)?;
+    let mail = parse_mail_with(alloc, row.bytes(0)?, all_tables())?;
     let part = part_at(alloc, &mail, row.number(1)?)?;
     match row.call.as_str() {
         "file_name_with" => {
-            answer.optional_text(file_name_with(alloc, part, &TABLES)?.as_deref())?;
+            answer.optional_text(file_name_with(alloc, part, all_tables())?.as_deref())?;
         }
-        _ => answer.truth(is_attachment_with(alloc, part, &TABLES)?)?,
+        _ => answer.truth(is_attachment_with(alloc, part, all_tables())?)?,
     }
     Ok(())
 }

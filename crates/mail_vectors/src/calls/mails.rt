@@ -7,12 +7,9 @@
 //!   parameters after the label, and after the headers its disposition and the text of its body.
 
 use crate::calls::bodies::push_body;
-use crate::calls::parameters::{push_disposition, push_type};
+use crate::calls::tables::{all_tables, write_mail};
 use crate::notation::{Answer, Row};
-use mail_tables::TABLES;
-use mailparse::{
-    MailHeader, MailParseError, ParsedMail, SingleByteTable, parse_mail, parse_mail_with,
-};
+use mailparse::{MailHeader, MailParseError, ParsedMail, parse_mail};
 use std::alloc::Global;
 
 /// Makes the call of a row, if it is one of these.
@@ -22,7 +19,7 @@ pub fn make(alloc: Global, row: &Row, answer: &mut Answer) -> Result<bool, MailP
             Ok(mail) => push_mail(alloc, answer, &mail)?,
             Err(error) => answer.refusal(error)?,
         },
-        "tables" => read_under_tables(alloc, row, answer, &TABLES)?,
+        "tables" => write_mail(alloc, answer, row.bytes(0)?, all_tables(), all_tables())?,
         _ => return Ok(false),
     }
     Ok(true)
@@ -51,65 +48,19 @@ fn push_part(
     answer.text(part.ctype.mimetype.as_str())?;
     answer.text(part.ctype.charset.as_str())?;
     for header in &part.headers {
-        push_header(answer, header.get_key(alloc)?, header.get_value(alloc)?)?;
+        push_header(alloc, answer, header)?;
     }
     let body = part.get_body_encoded(alloc)?;
     push_body(alloc, answer, &body)
 }
 
 /// Writes a header.
-fn push_header(answer: &mut Answer, key: String, value: String) -> Result<(), MailParseError> {
-    answer.word("header")?;
-    answer.text(key.as_str())?;
-    Ok(answer.text(value.as_str())?)
-}
-
-/// Writes what is read of the mail under these tables.
-fn read_under_tables(
-    alloc: Global,
-    row: &Row,
-    answer: &mut Answer,
-    tables: &[SingleByteTable<'_>],
-) -> Result<(), MailParseError> {
-    match parse_mail_with(alloc, row.bytes(0)?, tables) {
-        Ok(mail) => {
-            for part in mail.parts(alloc)? {
-                push_part_under(alloc, answer, part, tables)?;
-            }
-            Ok(())
-        }
-        Err(error) => answer.refusal(error),
-    }
-}
-
-/// Writes a part under these tables.
-fn push_part_under(
-    alloc: Global,
-    answer: &mut Answer,
-    part: &ParsedMail<'_>,
-    tables: &[SingleByteTable<'_>],
-) -> Result<(), MailParseError> {
-    answer.word("part")?;
-    answer.number(part.subparts.len())?;
-    push_type(answer, &part.ctype)?;
-    for header in &part.headers {
-        push_header_under(alloc, answer, header, tables)?;
-    }
-    let disposition = part.get_content_disposition_with(alloc, tables)?;
-    push_disposition(answer, &disposition)?;
-    answer.text_or_refusal(part.get_body_with(alloc, tables))
-}
-
-/// Writes a header under these tables.
-fn push_header_under(
+fn push_header(
     alloc: Global,
     answer: &mut Answer,
     header: &MailHeader<'_>,
-    tables: &[SingleByteTable<'_>],
 ) -> Result<(), MailParseError> {
-    push_header(
-        answer,
-        header.get_key(alloc)?,
-        header.get_value_with(alloc, tables)?,
-    )
+    answer.word("header")?;
+    answer.text(header.get_key(alloc)?.as_str())?;
+    Ok(answer.text(header.get_value(alloc)?.as_str())?)
 }

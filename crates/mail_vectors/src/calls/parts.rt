@@ -20,7 +20,6 @@
 use crate::calls::headers::push_field;
 use crate::calls::parameters::push_disposition;
 use crate::notation::{Answer, Row};
-use mailparse::body::Body;
 use mailparse::{MailParseError, ParsedMail, parse_mail};
 use std::alloc::{AllocError, Global};
 
@@ -177,7 +176,7 @@ impl Held {
         let (mut headers, mut bytes, mut nodes) = (0usize, 0usize, 0usize);
         for node in mail.parts(alloc)? {
             headers = headers.saturating_add(node.headers.len());
-            bytes = bytes.saturating_add(raw_bytes(&node.get_body_encoded(alloc)?).len());
+            bytes = bytes.saturating_add(node.get_body_encoded(alloc)?.get_raw().len());
             nodes = nodes.saturating_add(1);
         }
         Ok(Held {
@@ -185,15 +184,6 @@ impl Held {
             bytes,
             parts: nodes.saturating_sub(1),
         })
-    }
-}
-
-/// The bytes of a body as they stand in the mail.
-fn raw_bytes<'a>(body: &Body<'a>) -> &'a [u8] {
-    match body {
-        Body::Base64(encoded) | Body::QuotedPrintable(encoded) => encoded.get_raw(),
-        Body::SevenBit(text) | Body::EightBit(text) => text.get_raw(),
-        Body::Binary(binary) => binary.get_raw(),
     }
 }
 

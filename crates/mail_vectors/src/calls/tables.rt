@@ -21,25 +21,26 @@
 //! DISPOSITION is `inline`, `attachment`, `form-data`, or `extension` and its name. `mail_with`
 //! parses under the tables, and reads what was parsed under the others.
 
+use crate::calls::bodies::owned;
+use crate::calls::parameters::{push_disposition, push_type};
+use crate::calls::values::raw_header;
 use crate::notation::{Answer, FORM, Row};
 use mail_codec::charset::{SingleByteTable, table_for_label};
 use mail_tables::TABLES;
 use mailparse::body::Body;
 use mailparse::{
-    DispositionType, MailHeader, MailParseError, ParsedContentDisposition, ParsedContentType,
-    ParsedMail, parse_content_disposition_with, parse_content_type_with, parse_header,
-    parse_mail_with,
+    MailHeader, MailParseError, ParsedContentType, ParsedMail, parse_content_disposition_with,
+    parse_content_type_with, parse_header, parse_mail_with,
 };
 use std::alloc::{AllocError, Global};
-use std::collections::BTreeMap;
 
 /// Makes the call of a row, if it is one of these.
 pub fn make(alloc: Global, row: &Row, answer: &mut Answer) -> Result<bool, MailParseError> {
     match row.call.as_str() {
         "labels_of_table" => write_labels(row, answer)?,
         "decode_table" => {
-            let text = text_under(alloc, row.bytes(0)?, &TABLES, row.bytes(1)?)?;
-            write_optional(answer, text)?;
+            let text = text_under(alloc, row.bytes(0)?, all_tables(), row.bytes(1)?)?;
+            answer.optional_text(text.as_deref())?;
         }
         "mail_with" => read_mail(alloc, row, answer)?,
         "table_for_label"
@@ -69,20 +70,20 @@ fn call_with(
         "table_for_label" => find_tables(row, answer, tables),
         "decode_with" => {
             let text = marked_text_under(alloc, row.bytes(1)?, tables, row.bytes(2)?)?;
-            write_optional(answer, text)
+            Ok(answer.optional_text(text.as_deref())?)
         }
         "decode_without_bom_handling_with" => {
             let text = text_under(alloc, row.bytes(1)?, tables, row.bytes(2)?)?;
-            write_optional(answer, text)
+            Ok(answer.optional_text(text.as_deref())?)
         }
         "get_value_with" => read_value(alloc, row, answer, tables),
         "parse_content_type_with" => {
             let ctype = parse_content_type_with(alloc, row.text(1)?, tables)?;
-            write_type(answer, &ctype)
+            Ok(push_type(answer, &ctype)?)
         }
         "parse_content_disposition_with" => {
             let shown = parse_content_disposition_with(alloc, row.text(1)?, tables)?;
-            write_disposition(answer, &shown)
+            Ok(push_disposition(answer, &shown)?)
         }
         _ => read_body(alloc, row, answer, tables),
     }
@@ -140,6 +141,11 @@ fn own_tables<'t, 'r>(
     Ok(tables)
 }
 
+/// The tables of `mail_tables`, which each use of the constant would make dear to prove.
+pub fn all_tables() -> &'static [SingleByteTable<'static>] {
+    &TABLES
+}
+
 /// The tables that a text names.
 fn tables<'s, 't>(text: &str, own: &'s [SingleByteTable<'t>]) -> &'s [SingleByteTable<'t>] {
     if text == "all" { &TABLES } else { own }
@@ -162,8 +168,7 @@ fn find_tables(
 
 /// The labels of a table of `mail_tables`.
 fn write_labels(row: &Row, answer: &mut Answer) -> Result<(), MailParseError> {
-    let tables = &TABLES;
-    match tables.get(row.number(0)?) {
+    match all_tables().get(row.number(0)?) {
         Some(table) => Ok(write_all(answer, table.labels)?),
         None => Ok(answer.word("none")?),
     }
@@ -211,14 +216,6 @@ fn marked_text_under(
     }
 }
 
-/// Adds a text, or `none`.
-fn write_optional(answer: &mut Answer, text: Option<String>) -> Result<(), MailParseError> {
-    match &text {
-        Some(text) => Ok(answer.text(text.as_str())?),
-        None => Ok(answer.word("none")?),
-    }
-}
-
 /// The text that a value shows.
 fn read_value(
     alloc: Global,
@@ -226,44 +223,10 @@ fn read_value(
     answer: &mut Answer,
     tables: &[SingleByteTable<'_>],
 ) -> Result<(), MailParseError> {
-    let mut raw = b"X:".as_slice().to_vec(alloc)?;
-    raw.extend_from_slice(row.bytes(1)?)?;
+    let raw = raw_header(alloc, row.bytes(1)?)?;
     let (header, _) = parse_header(raw.as_slice())?;
     let value = header.get_value_with(alloc, tables)?;
     Ok(answer.text(value.as_str())?)
-}
-
-/// Adds a type and its parameters.
-fn write_type(answer: &mut Answer, ctype: &ParsedContentType) -> Result<(), MailParseError> {
-    answer.text(ctype.mimetype.as_str())?;
-    answer.text(ctype.charset.as_str())?;
-    Ok(write_pairs(answer, &ctype.params)?)
-}
-
-/// Adds a disposition and its parameters.
-fn write_disposition(
-    answer: &mut Answer,
-    shown: &ParsedContentDisposition,
-) -> Result<(), MailParseError> {
-    match &shown.disposition {
-        DispositionType::Inline => answer.word("inline")?,
-        DispositionType::Attachment => answer.word("attachment")?,
-        DispositionType::FormData => answer.word("form-data")?,
-        DispositionType::Extension(name) => {
-            answer.word("extension")?;
-            answer.text(name.as_str())?;
-        }
-    }
-    Ok(write_pairs(answer, &shown.params)?)
-}
-
-/// Adds each name and its value.
-fn write_pairs(answer: &mut Answer, pairs: &BTreeMap<String, String>) -> Result<(), AllocError> {
-    for (name, value) in pairs {
-        answer.text(name.as_str())?;
-        answer.text(value.as_str())?;
-    }
-    Ok(())
 }
 
 /// The text of a body.
@@ -275,10 +238,7 @@ fn read_body(
 ) -> Result<(), MailParseError> {
     let mut ctype = ParsedContentType::default(alloc)?;
     ctype.charset = String::from_str(alloc, row.text(2)?)?;
-    let encoding = match row.optional_text(1)? {
-        Some(text) => Some(String::from_str(alloc, text)?),
-        None => None,
-    };
+    let encoding = owned(alloc, row.optional_text(1)?)?;
     let text = text_of(alloc, &Body::new(row.bytes(3)?, &ctype, &encoding), tables);
     answer.text_or_refusal(text)
 }
@@ -344,12 +304,12 @@ fn write_part(
 ) -> Result<(), MailParseError> {
     answer.word("part")?;
     answer.number(part.subparts.len())?;
-    write_type(answer, &part.ctype)?;
+    push_type(answer, &part.ctype)?;
     for header in &part.headers {
         write_header(alloc, answer, header, tables)?;
     }
     let shown = part.get_content_disposition_with(alloc, tables)?;
-    write_disposition(answer, &shown)?;
+    push_disposition(answer, &shown)?;
     answer.text_or_refusal(part.get_body_with(alloc, tables))
 }
 

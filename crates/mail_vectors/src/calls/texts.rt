@@ -1,10 +1,10 @@
 //! The calls on the texts of mails, and on the mails inside them.
 
 use crate::calls::files::part_at;
+use crate::calls::tables::all_tables;
 use crate::notation::{Answer, FORM, Row};
 use mail_data::forwarding::{forwarded, mails_inside};
 use mail_data::texts::{text_part, text_part_with};
-use mail_tables::TABLES;
 use mailparse::{MAX_LEVELS, MailParseError, ParsedMail, parse_mail, parse_mail_with};
 use std::alloc::Global;
 
@@ -34,9 +34,9 @@ fn find_text(alloc: Global, row: &Row, answer: &mut Answer) -> Result<(), MailPa
 
 /// `text_part_with MAIL => TEXT` likewise, under all tables.
 fn find_text_with(alloc: Global, row: &Row, answer: &mut Answer) -> Result<(), MailParseError> {
-    let mail = parse_mail_with(alloc, row.bytes(0)?, &TABLES)?;
-    match text_part_with(alloc, &mail, &TABLES)? {
-        Some(part) => answer.text_or_refusal(part.get_body_with(alloc, &TABLES)),
+    let mail = parse_mail_with(alloc, row.bytes(0)?, all_tables())?;
+    match text_part_with(alloc, &mail, all_tables())? {
+        Some(part) => answer.text_or_refusal(part.get_body_with(alloc, all_tables())),
         None => Ok(answer.word("none")?),
     }
 }

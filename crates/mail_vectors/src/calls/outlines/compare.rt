@@ -1,7 +1,6 @@
 //! A message that was read, beside an outline.
 
 use mail_laws::render::{Outline, OutlineKind, encode_value, render};
-use mailparse::body::Body;
 use mailparse::{MailHeader, MailParseError, ParsedMail};
 use std::alloc::Global;
 use std::str::from_utf8;
@@ -79,16 +78,5 @@ fn is_header(
 /// Whether the body of a message stands as these bytes.
 fn has_body(alloc: Global, mail: &ParsedMail<'_>, wanted: &[u8]) -> Result<bool, MailParseError> {
     let body = mail.get_body_encoded(alloc)?;
-    Ok(raw_of(&body) == wanted)
-}
-
-/// The bytes of a body as they stand.
-fn raw_of<'a>(body: &Body<'a>) -> &'a [u8] {
-    match body {
-        Body::Base64(body) => body.get_raw(),
-        Body::QuotedPrintable(body) => body.get_raw(),
-        Body::SevenBit(body) => body.get_raw(),
-        Body::EightBit(body) => body.get_raw(),
-        Body::Binary(body) => body.get_raw(),
-    }
+    Ok(body.get_raw() == wanted)
 }
