@@ -4,7 +4,7 @@
 The mails are those of samples/, and made ones: with control characters, with surrogates in UTF-8, with a
 refused body, of 100 levels and of 101, of 100,000 parts, of parts at places that are known, and mailboxes.
 Python's json reads each line, which may hold no control character (U+0000 to U+001F, U+007F to U+009F) and
-no U+2028 or U+2029, and whose members stand in their order.
+no U+2028 or U+2029, whose members stand in their order, and which has to be as docs/mail_json.schema.json says.
 
 The last line is `N passed, N failed`; the status is 1 where a comparison failed.
 """
@@ -19,12 +19,16 @@ import subprocess
 import sys
 import tempfile
 
+import jsonschema
+
 from read_by_email import mail_object, part_object, parts_of
 from shared.programs import built_program
 
 TOP = os.path.dirname(os.path.dirname(os.path.abspath(__file__)))
-MEMBERS = [
-    "subject", "from", "to", "cc", "date", "date_error", "message_id", "in_reply_to", "references", "parts",
+ORIGIN = ["schema", "file", "number", "start", "end"]
+MEMBERS = ORIGIN + [
+    "subject", "from", "to", "cc", "reply_to", "raw", "date", "date_error", "message_id", "in_reply_to", "references",
+    "parts",
 ]
 PART_MEMBERS = [
     "path", "type", "charset", "params", "disposition", "file_name", "attachment", "encoding", "start", "end",
@@ -33,7 +37,12 @@ PART_MEMBERS = [
 OPTIONAL = {"date_error", "error"}
 # what no text escapes: the replacement character, marks that turn the direction of writing, four bytes of UTF-8
 SHOWN = "a\ufffd\u200f\u202e\ufeff\U0001f600\U0010ffff/..z"
+SPACE = "Header cannot start with a space; it is likely an overhanging line from a previous header"
+FROM = b"From a@b Thu Jan  1 00:00:00 1970\n"
 HIDDEN = re.compile("[\x00-\x1f\x7f-\x9f\u2028\u2029]")
+
+with open(os.path.join(TOP, "docs", "mail_json.schema.json"), encoding="utf-8") as file_:
+    SCHEMA = jsonschema.Draft202012Validator(json.load(file_))
 
 passed = 0
 failed = 0
@@ -72,7 +81,9 @@ def lines(output, what):
     for line in output.decode("utf-8").split("\n")[:-1]:
         judge(not HIDDEN.search(line), f"{what}: a line has hidden characters")
         value = json.loads(line)
-        is_error = list(value) == ["error"]
+        fault = jsonschema.exceptions.best_match(SCHEMA.iter_errors(value))
+        judge(fault is None, f"{what}: a line is not as the schema says: {fault and fault.message!s:.300}")
+        is_error = list(value) == ORIGIN + ["error"]
         judge(is_error or is_ordered(value, MEMBERS), f"{what}: the members are {list(value)}")
         wrong = [list(part) for part in value.get("parts", []) if not is_ordered(part, PART_MEMBERS)]
         same(wrong, [], f"{what}: the members of parts")
@@ -106,6 +117,7 @@ def compare(data, what):
     found = objects([], data, 0, what)
     same(len(found), 1, f"{what}: the number of lines")
     found = found[0]
+    same([found[name] for name in ORIGIN], [2, None, None, 0, len(data)], f"{what}: where it is from")
     wanted = mail_object(data)
     parts = list(parts_of(email.message_from_bytes(data)))
     del wanted["parts"]
@@ -162,8 +174,13 @@ def check_faults():
     found = objects([], b"", 0, "no bytes")[0]
     same((found["subject"], found["date"], found["references"]), (None, None, []), "no bytes")
     same(found["parts"][0]["headers"], [], "no bytes")
-    found = objects([], b" x", 1, "a refused mail")
-    same([list(value) for value in found], [["error"]], "a refused mail")
+    found = objects([], b" x", 3, "a refused mail")
+    same([(value["start"], value["end"], value["error"]) for value in found], [(0, 2, SPACE)], "a refused mail")
+    raw = b"From: =?utf-8?q?a=2C?=\n <a@b>\nTo: \xe9\nReply-To: c@d\n\n"
+    found = objects([], raw, 0, "values as they stand")[0]
+    same(found["from"], "a, <a@b>", "values as they stand")
+    wanted = {"from": "=?utf-8?q?a=2C?=\n <a@b>", "to": "\xe9", "cc": None, "reply_to": "c@d"}
+    same((found["raw"], found["reply_to"]), (wanted, "c@d"), "values as they stand")
 
 
 def nested(levels):
@@ -177,8 +194,8 @@ def check_levels():
     found = objects([], nested(100), 0, "100 levels")[0]["parts"]
     same(len(found), 101, "100 levels")
     same((found[-1]["path"], found[-1]["text"]), (".".join(["1"] * 100), "end"), "100 levels")
-    found = objects([], nested(101), 1, "101 levels")
-    same(found, [{"error": "Recursion limit reached"}], "101 levels")
+    found = objects([], nested(101), 3, "101 levels")
+    same([value.get("error") for value in found], ["Recursion limit reached"], "101 levels")
 
 
 def check_many():
@@ -233,57 +250,98 @@ def check_places():
         wanted = [(path, at, at + len(part)) for path, part, at in places]
         found = objects([], raw, 0, f"places {turn}")[0]["parts"]
         same([(part["path"], part["start"], part["end"]) for part in found], wanted, f"places {turn}: {raw!r}")
-        front = b"From a\nSubject: 1\n\none\n\nFrom b\n"
+        front = FROM + b"Subject: 1\n\none\n\n" + FROM
         found = objects(["--mbox"], front + raw + b"\n\n", 0, f"places {turn} in a mailbox")
+        place = [found[1][name] for name in ORIGIN]
+        same(place, [2, None, 2, len(front), len(front + raw)], f"places {turn} in a mailbox")
         starts = [part["start"] for part in found[1]["parts"]]
         same(starts, [len(front) + at for _path, _part, at in places], f"places {turn} in a mailbox")
 
 
-def subjects(data, status, what):
+def subjects(words, data, status, what):
     """The subject of each mail of a mailbox, or its error."""
-    return [value.get("subject", value.get("error")) for value in objects(["--mbox"], data, status, what)]
+    return [value.get("subject", value.get("error")) for value in objects(words, data, status, what)]
 
 
 def check_mailboxes():
     """Mailboxes, whose mails are known."""
-    space = "Header cannot start with a space; it is likely an overhanging line from a previous header"
+    crlf = FROM.replace(b"\n", b"\r\n")
     for data, status, wanted in (
         (b"", 0, []),
-        (b"From a\nSubject: 1\n\none\n\nFrom b\nSubject: 2\n\ntwo", 0, ["1", "2"]),
-        (b"From a\r\nSubject: 1\r\n\r\none\r\n\r\nFrom b\r\nSubject: 2\r\n\r\ntwo\r\n", 0, ["1", "2"]),
-        (b"From a\nFrom b\nSubject: 1\n\none\n", 0, ["1"]),
-        (b"From a", 0, [None]),
-        (b"From a\n\nFrom b\nSubject: 2\n", 0, [None, "2"]),
-        (b"From a\nSubject: 1\n\n>From x\n\nFrom b\n x\n\nFrom c\nSubject: 3\n\n", 1, ["1", space, "3"]),
-        (b"\n\nFrom a\nSubject: 1\n\n", 0, ["1"]),
-        (b"Subject: 1\n\none\n", 1, ["The mailbox does not begin with a line `From `"]),
+        (FROM + b"Subject: 1\n\none\n\n" + FROM + b"Subject: 2\n\ntwo", 0, ["1", "2"]),
+        (crlf + b"Subject: 1\r\n\r\none\r\n\r\n" + crlf + b"Subject: 2\r\n\r\ntwo\r\n", 0, ["1", "2"]),
+        (FROM + FROM + b"Subject: 1\n\none\n", 0, ["1"]),
+        (FROM[:-1], 0, [None]),
+        (FROM + b"\n" + FROM + b"Subject: 2\n", 0, [None, "2"]),
+        (FROM + b"Subject: 1\n\nFrom the start I knew\n\n" + FROM + b"Subject: 2\n\n", 0, ["1", "2"]),
+        (FROM + b"Subject: 1\n\n>From x\n\n" + FROM + b" x\n\n" + FROM + b"Subject: 3\n\n", 3, ["1", SPACE, "3"]),
+        (b"\n\n" + FROM + b"Subject: 1\n\n", 0, ["1"]),
+        (b"Subject: 1\n\none\n", 3, ["The mailbox does not begin with a separator"]),
     ):
-        same(subjects(data, status, repr(data)), wanted, repr(data))
+        same(subjects(["--mbox"], data, status, repr(data)), wanted, repr(data))
+        if data.startswith(FROM):
+            same(subjects([], data, status, f"{data!r} by itself"), wanted, f"{data!r} by itself")
+    same(subjects(["--mail"], FROM + b"Subject: 1\n\n", 0, "--mail"), ["1"], "--mail")
 
 
 def check_calls():
     """Arguments, files and streams."""
-    ended = run(["--help"])
+    ended = run(["--mbox", "--help"])
     judge(ended.returncode == 0 and b"--mbox" in ended.stdout and not ended.stderr, "--help")
-    for words in (["--no-such-option"], ["-x"], ["--mbox", "--mboxes"], [""], ["-"]):
+    ended = run(["--version"])
+    judge(ended.returncode == 0 and ended.stdout.startswith(b"mail_json ") and not ended.stderr, "--version")
+    for words in (["--no-such-option"], ["-x"], ["--mbox", "--mboxes"], [""], ["--part"], ["--part", "3/2"]):
         ended = run(words)
         judge(ended.returncode == 2 and not ended.stdout and ended.stderr, f"{words} is refused")
     names = [os.path.join(TOP, "samples", name) for name in ("plain.eml", "parts.eml")]
     both = b"".join(run([name]).stdout for name in names)
     same(run(names).stdout, both, "two files")
+    same(run(["--", *names]).stdout, both, "names after --")
+    with open(names[0], "rb") as file:
+        found = objects([names[1], "-"], file.read(), 0, "standard input by name")
+    same([value["file"] for value in found], [names[1], None], "standard input by name")
     ended = run([names[0], "/no/such/file", names[1]])
-    same((ended.returncode, ended.stdout), (1, both), "a file that is missing")
+    found = lines(ended.stdout, "a file that is missing")
+    same((ended.returncode, len(found)), (1, 3), "a file that is missing")
+    same([found[1][name] for name in ORIGIN], [2, "/no/such/file", None, None, None], "a file that is missing")
     judge(b"/no/such/file" in ended.stderr, "a file that is missing is named")
     with open("/dev/full", "wb") as full:
         ended = run(names, stdout=full, stderr=subprocess.PIPE)
         judge(ended.returncode == 1 and ended.stderr, "output that is full")
+    check_folders(names, both)
+
+
+def check_folders(names, both):
+    """A closed pipe, folders, and names that are not UTF-8."""
+    launcher = os.path.join(TOP, "mail_json")
     with tempfile.TemporaryDirectory() as folder:
-        ended = run([folder])
-        judge(ended.returncode == 1 and ended.stderr and not ended.stdout, "a folder")
+        many = os.path.join(folder, "many.mbox")
+        with open(many, "wb") as file:
+            file.write((FROM + b"Subject: 1\n\none\n\n") * 20_000)
+        ended = subprocess.run(f"'{PROGRAM}' '{many}' | head -n 1 | wc -l", shell=True, capture_output=True, timeout=60)
+        same((ended.stdout.strip(), ended.stderr), (b"1", b""), "a pipe that is closed")
         link = os.path.join(folder, "link")
-        os.symlink(os.path.join(TOP, "mail_json"), link)
+        os.symlink(launcher, link)
         ended = subprocess.run([link, *names], capture_output=True, cwd=folder, timeout=60)
         same(ended.stdout, both, "through a symbolic link")
+        for name in ("cur", "new", "tmp"):
+            os.makedirs(os.path.join(folder, "maildir", name))
+        for name in ("cur/2:2,S", "cur/10:2,", "new/1", "tmp/3", "cur/.hidden"):
+            with open(os.path.join(folder, "maildir", name), "wb") as file:
+                file.write(FROM + b"Subject: " + name.encode() + b"\n\n")
+        same(subjects([os.path.join(folder, "maildir")], b"", 0, "a Maildir"), ["cur/10:2,", "cur/2:2,S", "new/1"], "a Maildir")
+        found = objects([os.path.join(folder, "maildir", "cur")], b"", 0, "a folder of mails")
+        wanted = [os.path.join(folder, "maildir", "cur", name) for name in ("10:2,", "2:2,S")]
+        same([value["file"] for value in found], wanted, "a folder of mails")
+        with open(os.path.join(folder, "mail.gz"), "wb") as file:
+            file.write(b"\x1f\x8b")
+        ended = run([os.path.join(folder, "mail.gz")])
+        judge(ended.returncode == 1 and b"compressed" in ended.stderr, "a compressed file")
+        bad = os.path.join(os.fsencode(folder), b"caf\xe9.eml")
+        ended = subprocess.run([launcher, names[0], bad, names[1]], capture_output=True, timeout=60)
+        found = [value["file"] for value in lines(ended.stdout, "a name that is not UTF-8")]
+        wanted = [names[0], f"{folder}/caf\ufffd.eml (a name that is not UTF-8)", names[1]]
+        same((ended.returncode, found), (1, wanted), "a name that is not UTF-8")
 
 
 def main():

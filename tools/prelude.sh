@@ -32,9 +32,16 @@ help() {
 # check_arguments ARGUMENT..: prints the help, or refuses what `arguments` does not allow
 check_arguments() {
     given=0
+    are_names=
     for word; do
+        if [ -n "$are_names" ]; then
+            given=$((given + 1))
+            continue
+        fi
         case $word in
             -h | --help) help; exit 0 ;;
+            -) given=$((given + 1)) ;;
+            --) are_names=1 ;;
             -*)
                 case " $arguments " in
                     *" [$word] "*) ;;

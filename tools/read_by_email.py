@@ -142,7 +142,7 @@ def date_of(mail):
 def mail_object(data):
     """The object of a mail."""
     mail = email.message_from_bytes(data)
-    found = {name: value_of(mail, name) for name in ("subject", "from", "to", "cc")}
+    found = {name: value_of(mail, name.replace("_", "-")) for name in ("subject", "from", "to", "cc", "reply_to")}
     found.update(date_of(mail))
     for name in ("message_id", "in_reply_to", "references"):
         found[name] = ids(raw_value(mail, name.replace("_", "-")))

@@ -3,4 +3,4 @@ pub mod Written
 pub mod Fields
 pub mod Part
 pub mod Mail
-pub mod Run
+pub mod Lines

@@ -2,12 +2,15 @@
 use Rattle.std.specs.Prelude.{◌≡◌, ℕ, ℤ, List, ◌++◌, Option, Some, None, option_map, Ok, Err, codes}
 use Rattle.std.specs.Fmt.{signed_decimal}
 use Rattle.mail_codec.specs.Charset.{Charsets}
+use Rattle.mail_codec.specs.Latin1.{latin1_text}
 use Rattle.mailparse.specs.Mail.{Node, Tree, root}
+use Rattle.mailparse.specs.Map.{first_with_key}
 use Rattle.mail_data.specs.Files.{whole_path}
 use Rattle.mail_data.specs.lenient.Date.{Dated, date_of}
 use Rattle.mail_data.specs.declared.lenient.date.error.DateError.{DateError}
 use Rattle.mail_data.specs.declared.lenient.date.error.DateError.TheVariants.{Day, Month, Year, Time, Zone, TrailingText}
 use Rattle.mail_json.specs.Fields.{value_of, ids_of}
+use Rattle.mail_json.specs.Origin.{Origin, origin_text}
 use Rattle.mail_json.specs.Part.{places, IsPartText, AreJoined}
 use Rattle.mail_json.specs.Strings.{json_text, text_or_null, json_texts}
 
@@ -26,6 +29,16 @@ date_text None = codes ",\"date\":null"
 date_text (Some (Ok seconds)) = codes ",\"date\":" ++ signed_decimal seconds
 date_text (Some (Err fault)) = codes ",\"date\":null,\"date_error\":" ++ json_text (date_fault_text fault)
 
+-- the first value with a name as it stands in the mail, after these words: each byte is the character of its number
+abbrev pub raw_value_text : List ℕ → List ℕ → Node → List ℕ
+raw_value_text before key node = before ++ text_or_null (option_map (λ header. latin1_text header.value) (first_with_key key node.headers))
+
+-- the member of the values of addresses as they stand in the mail
+abbrev pub raw_text : Node → List ℕ
+raw_text node =
+    raw_value_text (codes ",\"raw\":{\"from\":") (codes "From") node ++ raw_value_text (codes ",\"to\":") (codes "To") node
+    ++ raw_value_text (codes ",\"cc\":") (codes "Cc") node ++ raw_value_text (codes ",\"reply_to\":") (codes "Reply-To") node ++ codes "}"
+
 -- Under the charsets that are known.
 module _ (known : Charsets) where
   -- the value of the first header with a name, after these words
@@ -35,8 +48,9 @@ module _ (known : Charsets) where
   -- the members that are values of headers
   abbrev pub values_text : Node → List ℕ
   values_text node =
-      value_text (codes "{\"subject\":") (codes "Subject") node ++ value_text (codes ",\"from\":") (codes "From") node
+      value_text (codes ",\"subject\":") (codes "Subject") node ++ value_text (codes ",\"from\":") (codes "From") node
       ++ value_text (codes ",\"to\":") (codes "To") node ++ value_text (codes ",\"cc\":") (codes "Cc") node
+      ++ value_text (codes ",\"reply_to\":") (codes "Reply-To") node
 
   -- the ids in the first header with a name, after these words
   abbrev pub id_list_text : List ℕ → List ℕ → Node → List ℕ
@@ -48,13 +62,14 @@ module _ (known : Charsets) where
       id_list_text (codes ",\"message_id\":") (codes "Message-ID") node ++ id_list_text (codes ",\"in_reply_to\":") (codes "In-Reply-To") node
       ++ id_list_text (codes ",\"references\":") (codes "References") node
 
-  -- the object of a mail, whose parts have this text
-  abbrev pub mail_text : Node → List ℕ → List ℕ
-  mail_text node parts =
-      values_text node ++ date_text (option_map date_of (value_of known (codes "Date") node)) ++ ids_text node ++ codes ",\"parts\":[" ++ parts
-      ++ codes "]}"
+  -- the object of a mail from there, whose parts have this text
+  abbrev pub mail_text : Origin → Node → List ℕ → List ℕ
+  mail_text origin node parts =
+      origin_text origin ++ values_text node ++ raw_text node ++ date_text (option_map date_of (value_of known (codes "Date") node))
+      ++ ids_text node ++ codes ",\"parts\":[" ++ parts ++ codes "]}"
 
--- a text is that of the object of a mail that begins there
-abbrev pub IsMailText : Charsets → ℕ → Tree → List ℕ → Type 0
-IsMailText known start mail text =
-    (parts : List ℕ) × AreJoined (IsPartText known) (places (whole_path mail) start mail) parts × (text ≡ mail_text known (root mail) parts)
+-- a text is that of the object of a mail from there
+abbrev pub IsMailText : Charsets → Origin → Tree → List ℕ → Type 0
+IsMailText known origin mail text =
+    (parts : List ℕ) × AreJoined (IsPartText known) (places (whole_path mail) origin.start mail) parts
+    × (text ≡ mail_text known origin (root mail) parts)

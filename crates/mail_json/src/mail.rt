@@ -6,21 +6,23 @@ ghost use Rattle.mailparse.specs.Views.{tree_of};
 ghost use Rattle.mail_data.specs.lenient.Date.{date_of};
 ghost use Rattle.mail_json.specs.Fields.{value_of};
 ghost use Rattle.mail_json.specs.Mail.{IsMailText, date_fault_text, date_text, id_list_text};
-ghost use Rattle.mail_json.specs.Mail.{ids_text, value_text, values_text};
+ghost use Rattle.mail_json.specs.Mail.{ids_text, raw_text, raw_value_text, value_text, values_text};
+ghost use Rattle.mail_json.specs.Origin.{origin_of};
 ghost use Rattle.mail_json.specs.Written.{Writes, WritesOne};
 
 use crate::fields::{ids_of, value_of};
+use crate::origin::{Origin, write_origin};
 use crate::part::write_parts;
 use crate::strings::{write_optional, write_text, write_texts, write_word};
+use mail_codec::charset::decode_latin1;
 use mail_data::files::whole_path;
 use mail_data::lenient::{DateError, date_of};
 use mail_program::Fault;
-use mailparse::{ParsedMail, SingleByteTable};
+use mailparse::{MailHeaderMap, ParsedMail, SingleByteTable};
 use std::alloc::Global;
 use std::io::Write;
 
-/// Writes the object of a mail that begins at this offset of the input, where texts may also be in
-/// the charsets of some tables.
+/// Writes the object of a mail from there, where texts may also be in the charsets of some tables.
 ///
 /// # Errors
 ///
@@ -30,17 +32,19 @@ pub fn write_mail<W: Write>(
     alloc: Global,
     out: &mut W,
     mail: &ParsedMail<'_>,
-    start: usize,
+    origin: &Origin<'_>,
     tables: &[SingleByteTable<'_>],
 ) -> Result<(), Fault>
     ensures { WritesOne (W.contents out.old) (W.contents out.new) result
-        (IsMailText (charsets_with tables.now) start (tree_of mail.now)) }
+        (IsMailText (charsets_with tables.now) (origin_of origin.now) (tree_of mail.now)) }
 {
+    write_origin(alloc, out, origin)?;
     write_values(alloc, out, mail, tables)?;
+    write_raw(alloc, out, mail)?;
     write_date(alloc, out, mail, tables)?;
     write_ids(alloc, out, mail, tables)?;
     write_word(out, ",\"parts\":[")?;
-    write_parts(alloc, out, mail, whole_path(mail), start, tables)?;
+    write_parts(alloc, out, mail, whole_path(mail), origin.start, tables)?;
     write_word(out, "]}")
 }
 
@@ -54,10 +58,11 @@ fn write_values<W: Write>(
     ensures { Writes (W.contents out.old) (W.contents out.new) result
         (values_text (charsets_with tables.now) (root (tree_of mail.now))) }
 {
-    write_value(alloc, out, "{\"subject\":", mail, "Subject", tables)?;
+    write_value(alloc, out, ",\"subject\":", mail, "Subject", tables)?;
     write_value(alloc, out, ",\"from\":", mail, "From", tables)?;
     write_value(alloc, out, ",\"to\":", mail, "To", tables)?;
-    write_value(alloc, out, ",\"cc\":", mail, "Cc", tables)
+    write_value(alloc, out, ",\"cc\":", mail, "Cc", tables)?;
+    write_value(alloc, out, ",\"reply_to\":", mail, "Reply-To", tables)
 }
 
 /// Writes the value of the first header with this name, after these words.
@@ -75,6 +80,40 @@ fn write_value<W: Write>(
     let value = value_of(alloc, mail, key, tables)?;
     write_word(out, before)?;
     write_optional(alloc, out, value)
+}
+
+/// Writes the member of the values of addresses as they stand in the mail.
+fn write_raw<W: Write>(alloc: Global, out: &mut W, mail: &ParsedMail<'_>) -> Result<(), Fault>
+    ensures { Writes (W.contents out.old) (W.contents out.new) result
+        (raw_text (root (tree_of mail.now))) }
+{
+    write_raw_value(alloc, out, ",\"raw\":{\"from\":", mail, "From")?;
+    write_raw_value(alloc, out, ",\"to\":", mail, "To")?;
+    write_raw_value(alloc, out, ",\"cc\":", mail, "Cc")?;
+    write_raw_value(alloc, out, ",\"reply_to\":", mail, "Reply-To")?;
+    write_word(out, "}")
+}
+
+/// Writes the value of the first header with this name as it stands in the mail, after these words:
+/// each byte is the character of its number.
+fn write_raw_value<W: Write>(
+    alloc: Global,
+    out: &mut W,
+    before: &str,
+    mail: &ParsedMail<'_>,
+    key: &str,
+) -> Result<(), Fault>
+    ensures { Writes (W.contents out.old) (W.contents out.new) result
+        (raw_value_text before.now key.now (root (tree_of mail.now))) }
+{
+    write_word(out, before)?;
+    match mail.headers.get_first_header(key) {
+        Some(header) => {
+            let text = decode_latin1(alloc, header.get_value_raw())?;
+            write_text(alloc, out, text.as_str())
+        }
+        None => write_word(out, "null"),
+    }
 }
 
 /// Writes the members that are ids of headers.

@@ -1,17 +1,20 @@
-//! Writes mails as JSON, one object to a line: `mail_json [--mbox] [FILE..]`.
+//! Writes mails as JSON, one object to a line: `mail_json [OPTION..] [FILE|FOLDER..]`.
 #![tactic(auto)]
 
 mod body;
 mod fields;
+mod lines;
 mod mail;
+mod origin;
 mod part;
 mod request;
 mod run;
 mod strings;
 
-use mail_program::{Fault, arguments};
-use request::{HELP, Mode, USAGE, mode_of};
-use run::run;
+use mail_program::{Fault, VERSION, arguments};
+use request::{HELP, Task, USAGE, request_of};
+use run::{Outcome, run};
+use std::io;
 use std::process::ExitCode;
 
 fn main(rt: HostRuntime) -> ExitCode {
@@ -22,29 +25,32 @@ fn main(rt: HostRuntime) -> ExitCode {
             return ExitCode::FAILURE;
         }
     };
-    let is_clean = match mode_of(words.as_slice()) {
-        Mode::Help => help(&rt),
-        Mode::Wrong => {
-            let _ = eprintln!(rt; "{USAGE}");
-            return ExitCode::from(2);
-        }
-        Mode::Mail => run(&rt, words.as_slice(), false),
-        Mode::Mailbox => run(&rt, words.as_slice(), true),
+    let Ok(request) = request_of(rt.alloc(), words.as_slice()) else {
+        let _ = eprintln!(rt; "mail_json: out of memory");
+        return ExitCode::FAILURE;
     };
-    if is_clean {
-        ExitCode::SUCCESS
-    } else {
-        ExitCode::FAILURE
+    match request.task {
+        Task::Help => printed(&rt, rt.print(HELP)),
+        Task::Version => printed(&rt, println!(rt; "mail_json {VERSION}")),
+        Task::Wrong => {
+            let _ = eprintln!(rt; "{USAGE}");
+            ExitCode::from(2)
+        }
+        Task::Write => match run(&rt, &request) {
+            Outcome::Clean => ExitCode::SUCCESS,
+            Outcome::Refused => ExitCode::from(3),
+            Outcome::Failed => ExitCode::FAILURE,
+        },
     }
 }
 
-/// Prints the help. Returns whether it could be written.
-fn help(rt: &(impl Print + Eprint)) -> bool {
-    match rt.print(HELP) {
-        Ok(()) => true,
+/// The status where something was to be printed; says on standard error why it was not.
+fn printed(rt: &impl Eprint, outcome: io::Result<()>) -> ExitCode {
+    match outcome {
+        Ok(()) => ExitCode::SUCCESS,
         Err(error) => {
             let _ = eprintln!(rt; "mail_json: {}", Fault::Output(error));
-            false
+            ExitCode::FAILURE
         }
     }
 }

@@ -1,212 +1,253 @@
 //! A run over the inputs.
-ghost use Rattle.std.specs.Prelude.{◌≡◌};
-ghost use Rattle.std.specs.Char.{is_ascii_whitespace};
-ghost use Rattle.std.specs.List.{list_all};
-ghost use Rattle.mail_codec.specs.Tables.{charsets_with};
-ghost use Rattle.mail_data.specs.MailboxViews.{entries_left};
-ghost use Rattle.mail_json.specs.Run.{AreInputLines, AreLines, AreMailboxLines, IsFront, IsLine};
-ghost use Rattle.mail_json.specs.Run.{WritesLines, error_line};
-ghost use Rattle.mail_json.specs.Written.{Writes};
 
-use crate::fields::refusal_text;
-use crate::mail::write_mail;
-use crate::strings::{write_text, write_word};
-use mail_data::mailbox::{Mailbox, read_mailbox};
-use mail_program::{Fault, names_no_file, read_input};
+use crate::lines::{write_mailbox, write_single};
+use crate::origin::write_unread;
+use crate::request::{Form, Request};
+use mail_data::mailbox::read_mailbox;
+use mail_program::{Fault, read_input};
 use mail_tables::TABLES;
-use mailparse::{SingleByteTable, parse_mail_with};
-use std::alloc::Global;
+use std::alloc::{AllocError, Global};
 use std::fs;
-use std::io::{self, BufWriter, Write};
+use std::io::{self, BufWriter, ErrorKind, Read, Write};
 use std::rt::Files;
 
-/// Writes the mails of the files that the arguments name, or of standard input where they name
-/// none; reports on standard error what could not be read or written. Returns whether everything
-/// was written and none of it was an error.
-pub fn run(
-    rt: &(impl Files + Input + Print + Eprint + AllocGlobal),
-    words: &[String],
-    is_mailbox: bool,
-) -> bool {
-    match run_all(rt, words, is_mailbox) {
-        Ok(is_clean) => is_clean,
-        Err(fault) => {
-            let _ = eprintln!(rt; "mail_json: {fault}");
-            false
+/// How a run, or a part of it, went.
+#[derive(Clone, Copy, PartialEq, Eq)]
+pub enum Outcome {
+    /// All was read and written.
+    Clean,
+    /// All was read and written, and some mails were refused.
+    Refused,
+    /// Something could not be read or written.
+    Failed,
+}
+
+impl Outcome {
+    /// How two parts of a run went together.
+    fn and(self, other: Outcome) -> Outcome {
+        match (self, other) {
+            (Outcome::Failed, _) | (_, Outcome::Failed) => Outcome::Failed,
+            (Outcome::Refused, _) | (_, Outcome::Refused) => Outcome::Refused,
+            _ => Outcome::Clean,
         }
+    }
+
+    /// How a part of a run went in which mails may have been refused.
+    fn of(is_clean: bool) -> Outcome {
+        if is_clean {
+            Outcome::Clean
+        } else {
+            Outcome::Refused
+        }
+    }
+}
+
+/// Writes the mails of the inputs that are asked for, and reports on standard error what could not
+/// be read or written. Where whoever reads the lines has gone, it ends without a word.
+pub fn run(
+    rt: &(impl Files + Input + Print + Eprint + AllocGlobal + Clone + Drop),
+    request: &Request<'_>,
+) -> Outcome {
+    match run_all(rt, request) {
+        Ok(outcome) => outcome,
+        Err(fault) => {
+            if !is_broken_pipe(&fault) {
+                let _ = eprintln!(rt; "mail_json: {fault}");
+            }
+            Outcome::Failed
+        }
+    }
+}
+
+/// Whether whoever reads what is written has gone.
+fn is_broken_pipe(fault: &Fault) -> bool {
+    match fault {
+        Fault::Output(error) => error.kind() == ErrorKind::BrokenPipe,
+        _ => false,
     }
 }
 
 /// Does what `run` does, but returns the fault that ends the run: a write failed, or memory ran out.
 fn run_all(
-    rt: &(impl Files + Input + Print + Eprint + AllocGlobal),
-    words: &[String],
-    is_mailbox: bool,
-) -> Result<bool, Fault> {
+    rt: &(impl Files + Input + Print + Eprint + AllocGlobal + Clone + Drop),
+    request: &Request<'_>,
+) -> Result<Outcome, Fault> {
     let mut out = BufWriter::new(rt.alloc(), io::writer(rt))?;
-    let mut is_clean = true;
-    let mut is_named = false;
-    for word in words {
-        if !names_no_file(word.as_str()) {
-            is_named = true;
-            is_clean &= run_file(rt, word.as_str(), is_mailbox, &mut out)?;
-        }
+    let mut outcome = Outcome::Clean;
+    if request.inputs.is_empty() {
+        outcome = run_input(rt, request.form, None, &mut rt.reader(), &mut out)?;
     }
-    if !is_named {
-        is_clean = run_input(rt, is_mailbox, &mut out)?;
+    for input in &request.inputs {
+        let next = match input {
+            Some(name) => run_path(rt, request.form, name, &mut out)?,
+            None => run_input(rt, request.form, None, &mut rt.reader(), &mut out)?,
+        };
+        outcome = outcome.and(next);
     }
     out.flush()?;
-    Ok(is_clean)
+    Ok(outcome)
 }
 
-/// Writes the mails of a file. Returns whether it could be read and no mail was refused.
+/// Writes the mails of a file or a folder.
+fn run_path<W: Write>(
+    rt: &(impl Files + Eprint + AllocGlobal + Clone + Drop),
+    form: Form,
+    name: &str,
+    out: &mut W,
+) -> Result<Outcome, Fault> {
+    match fs::metadata(rt, name) {
+        Ok(found) if found.is_dir() => run_folder(rt, form, name, out),
+        Ok(_) => run_file(rt, form, name, out),
+        Err(error) => fail(rt, Some(name), &error, out),
+    }
+}
+
+/// Writes the line of an input that could not be read, and says the same on standard error.
+fn fail<W: Write>(
+    rt: &(impl Eprint + AllocGlobal),
+    file: Option<&str>,
+    error: &io::Error,
+    out: &mut W,
+) -> Result<Outcome, Fault> {
+    let text = format!(in rt.alloc(); "{error}")?;
+    let name = file.unwrap_or("standard input");
+    let _ = eprintln!(rt; "mail_json: {name}: {text}");
+    write_unread(rt.alloc(), out, file, text.as_str())?;
+    Ok(Outcome::Failed)
+}
+
+/// Writes the mails of a file.
 fn run_file<W: Write>(
     rt: &(impl Files + Eprint + AllocGlobal),
+    form: Form,
     name: &str,
-    is_mailbox: bool,
     out: &mut W,
-) -> Result<bool, Fault> {
-    match fs::read(rt, name) {
-        Ok(input) => write_input(rt.alloc(), input.as_slice(), is_mailbox, out, &TABLES),
-        Err(error) => {
-            let _ = eprintln!(rt; "mail_json: {name}: {error}");
-            Ok(false)
-        }
+) -> Result<Outcome, Fault> {
+    if name.ends_with(".gz") {
+        let error = io::Error::other("the file is compressed; unpack it first");
+        return fail(rt, Some(name), &error, out);
+    }
+    match fs::open(rt, name) {
+        Ok(mut file) => run_input(rt, form, Some(name), &mut file, out),
+        Err(error) => fail(rt, Some(name), &error, out),
     }
 }
 
-/// Writes the mails of standard input. Returns whether it could be read and no mail was refused.
-fn run_input<W: Write>(
-    rt: &(impl Input + Eprint + AllocGlobal),
-    is_mailbox: bool,
+/// Writes the mails of an input.
+fn run_input<R: Read, W: Write>(
+    rt: &(impl Eprint + AllocGlobal),
+    form: Form,
+    file: Option<&str>,
+    reader: &mut R,
     out: &mut W,
-) -> Result<bool, Fault> {
-    match read_input(rt.alloc(), &mut rt.reader()) {
-        Ok(input) => write_input(rt.alloc(), input.as_slice(), is_mailbox, out, &TABLES),
-        Err(fault) => {
-            let _ = eprintln!(rt; "mail_json: {fault}");
-            Ok(false)
-        }
+) -> Result<Outcome, Fault> {
+    match read_input(rt.alloc(), reader) {
+        Ok(input) => write_input(rt.alloc(), form, file, input.as_slice(), out),
+        Err(Fault::Input(error)) => fail(rt, file, &error, out),
+        Err(fault) => Err(fault),
     }
 }
 
-/// Writes the mails of an input, whose texts may also be in the charsets of some tables. Returns
-/// whether it wrote no error: no mail was refused, and nothing but whitespace stands before the
-/// first mail of a mailbox.
-///
-/// # Errors
-///
-/// `Fault::Output` where a write fails, and `Fault::Mail` with `MailParseError::Memory` where it runs
-/// out of memory.
-pub fn write_input<W: Write>(
+/// Writes the mails of the bytes of an input.
+fn write_input<W: Write>(
     alloc: Global,
+    form: Form,
+    file: Option<&str>,
     input: &[u8],
-    is_mailbox: bool,
     out: &mut W,
-    tables: &[SingleByteTable<'_>],
-) -> Result<bool, Fault>
-    ensures { WritesLines (W.contents out.old) (W.contents out.new) result
-        (AreInputLines (charsets_with tables.now) is_mailbox input.now) }
-{
+) -> Result<Outcome, Fault> {
+    let is_mailbox = match form {
+        Form::Either => read_mailbox(input).front().is_empty() && !input.is_empty(),
+        Form::Mail => false,
+        _ => true,
+    };
     if is_mailbox {
-        write_mailbox(alloc, input, out, tables)
+        Ok(Outcome::of(write_mailbox(alloc, input, file, out, &TABLES)?))
     } else {
-        write_line(alloc, input, 0, out, tables)
+        Ok(Outcome::of(write_single(alloc, input, file, out, &TABLES)?))
     }
 }
 
-/// Writes each mail of a mailbox, and an error for what stands before the first one. Returns
-/// whether there was no error.
-fn write_mailbox<W: Write>(
-    alloc: Global,
-    input: &[u8],
+/// Writes the mails of a folder: those of a Maildir, which has a folder `cur` or `new`, or each file.
+fn run_folder<W: Write>(
+    rt: &(impl Files + Eprint + AllocGlobal + Clone + Drop),
+    form: Form,
+    name: &str,
     out: &mut W,
-    tables: &[SingleByteTable<'_>],
-) -> Result<bool, Fault>
-    ensures { WritesLines (W.contents out.old) (W.contents out.new) result
-        (AreMailboxLines (charsets_with tables.now) input.now) }
-{
-    let mails = read_mailbox(input);
-    let front = mails.front();
-    let is_all_whitespace = write_front(alloc, front, out)?;
-    let are_read = write_mails(alloc, mails, front.len(), out, tables)?;
-    Ok(is_all_whitespace & are_read)
-}
-
-/// Writes an error for what stands before the first mail of a mailbox, unless it is whitespace.
-/// Returns whether it is.
-fn write_front<W: Write>(alloc: Global, front: &[u8], out: &mut W) -> Result<bool, Fault>
-    ensures { WritesLines (W.contents out.old) (W.contents out.new) result (IsFront front.now) }
-{
-    if is_all_whitespace(front) {
-        return Ok(true);
-    }
-    write_error(alloc, out, "The mailbox does not begin with a line `From `")?;
-    Ok(false)
-}
-
-/// Whether all bytes are whitespace.
-fn is_all_whitespace(bytes: &[u8]) -> bool
-    ensures { result ≡ list_all is_ascii_whitespace bytes.now }
-{
-    bytes.iter().all(|byte| byte.is_ascii_whitespace())
-}
-
-/// Writes each mail of a mailbox, the first of which begins at this offset with its separator.
-/// Returns whether none was refused.
-fn write_mails<W: Write>(
-    alloc: Global,
-    mails: Mailbox<'_>,
-    start: usize,
-    out: &mut W,
-    tables: &[SingleByteTable<'_>],
-) -> Result<bool, Fault>
-    ensures { WritesLines (W.contents out.old) (W.contents out.new) result
-        (AreLines (charsets_with tables.now) start (entries_left mails.entry)) }
-{
-    let mut at = start;
-    let mut is_clean = true;
-    for entry in mails {
-        at = at.saturating_add(entry.separator().len());
-        let is_read = write_line(alloc, entry.mail(), at, out, tables)?;
-        is_clean &= is_read;
-        at = at.saturating_add(entry.mail().len());
-        at = at.saturating_add(entry.ending().len());
-    }
-    Ok(is_clean)
-}
-
-/// Writes the line of a mail that begins at this offset of the input. Returns whether it is not
-/// refused.
-fn write_line<W: Write>(
-    alloc: Global,
-    raw: &[u8],
-    start: usize,
-    out: &mut W,
-    tables: &[SingleByteTable<'_>],
-) -> Result<bool, Fault>
-    ensures { WritesLines (W.contents out.old) (W.contents out.new) result
-        (IsLine (charsets_with tables.now) start raw.now) }
-{
-    match parse_mail_with(alloc, raw, tables) {
-        Ok(mail) => {
-            write_mail(alloc, out, &mail, start, tables)?;
-            write_word(out, "\n")?;
-            Ok(true)
-        }
-        Err(error) => {
-            let text = refusal_text(alloc, &error)?;
-            write_error(alloc, out, text.as_str())?;
-            Ok(false)
+) -> Result<Outcome, Fault> {
+    let mut outcome = Outcome::Clean;
+    let mut is_maildir = false;
+    for part in ["cur", "new"] {
+        let path = format!(in rt.alloc(); "{name}/{part}")?;
+        if is_folder(rt, path.as_str()) {
+            is_maildir = true;
+            outcome = outcome.and(run_files(rt, Form::Mail, path.as_str(), out)?);
         }
     }
+    if is_maildir {
+        Ok(outcome)
+    } else {
+        run_files(rt, form, name, out)
+    }
 }
 
-/// Writes the line of an error.
-fn write_error<W: Write>(alloc: Global, out: &mut W, error: &str) -> Result<(), Fault>
-    ensures { Writes (W.contents out.old) (W.contents out.new) result (error_line error.now) }
-{
-    write_word(out, "{\"error\":")?;
-    write_text(alloc, out, error)?;
-    write_word(out, "}\n")
+/// Whether there is a folder of this name.
+fn is_folder(rt: &impl Files, name: &str) -> bool {
+    match fs::metadata(rt, name) {
+        Ok(found) => found.is_dir(),
+        Err(_) => false,
+    }
+}
+
+/// Writes the mails of the files of a folder, in the order of their names, but for those whose names
+/// begin with a dot.
+fn run_files<W: Write>(
+    rt: &(impl Files + Eprint + AllocGlobal + Clone + Drop),
+    form: Form,
+    folder: &str,
+    out: &mut W,
+) -> Result<Outcome, Fault> {
+    let mut names = Vec::new(rt.alloc());
+    let mut outcome = match fs::read_dir(rt, folder) {
+        Ok(entries) => list_files(rt, entries, folder, &mut names, out)?,
+        Err(error) => return fail(rt, Some(folder), &error, out),
+    };
+    names.sort()?;
+    for name in &names {
+        if !is_folder(rt, name.as_str()) {
+            outcome = outcome.and(run_file(rt, form, name.as_str(), out)?);
+        }
+    }
+    Ok(outcome)
+}
+
+/// Lists the paths of a folder, but for names that begin with a dot.
+fn list_files<R: Files + Eprint + AllocGlobal + Clone + Drop, W: Write>(
+    rt: &R,
+    entries: fs::ReadDir<R, Global>,
+    folder: &str,
+    names: &mut Vec<String>,
+    out: &mut W,
+) -> Result<Outcome, Fault> {
+    let mut outcome = Outcome::Clean;
+    for entry in entries {
+        match entry {
+            Ok(entry) => push_path(rt.alloc(), names, entry.file_name(), entry.path().as_str())?,
+            Err(error) => outcome = fail(rt, Some(folder), &error, out)?,
+        }
+    }
+    Ok(outcome)
+}
+
+/// Adds the path of a file, unless its name begins with a dot.
+fn push_path(
+    alloc: Global,
+    paths: &mut Vec<String>,
+    name: &str,
+    path: &str,
+) -> Result<(), AllocError> {
+    if !name.starts_with('.') {
+        paths.push(String::from_str(alloc, path)?)?;
+    }
+    Ok(())
 }

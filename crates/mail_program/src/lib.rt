@@ -5,6 +5,6 @@ mod command;
 mod fault;
 mod streams;
 
-pub use command::{arguments, names_no_file};
+pub use command::{VERSION, Word, arguments};
 pub use fault::Fault;
 pub use streams::{read_input, write_output};

@@ -7,7 +7,7 @@ mod run;
 mod tests;
 mod text;
 
-use mail_program::{Fault, arguments};
+use mail_program::{Fault, VERSION, arguments};
 use request::{HELP, Request, USAGE, request_of};
 use run::run;
 use std::process::ExitCode;
@@ -24,6 +24,10 @@ fn main(rt: HostRuntime) -> ExitCode {
     };
     match request_of(words.as_slice()) {
         Request::Help => ended(&rt, rt.print(HELP).map_err(Fault::Output)),
+        Request::Version => match println!(rt; "mail_show {VERSION}") {
+            Ok(()) => ExitCode::SUCCESS,
+            Err(error) => ended(&rt, Err(Fault::Output(error))),
+        },
         Request::Wrong => {
             let _ = eprintln!(rt; "{USAGE}");
             ExitCode::from(2)

@@ -1,14 +1,15 @@
 //! What the arguments ask for.
 
-use mail_program::names_no_file;
+use mail_program::Word;
 
 /// What `--help` prints.
 pub const HELP: &str = "Shows a mail: its parts, the headers of each, and the sizes of their bodies.
 
-    mail_show < MAIL     the mail on standard input
+    mail_show < MAIL     the mail on standard input, which `-` names too
     mail_show FILE       the mail in the file
+    mail_show --version, mail_show --help
 
-The status is 1 where the mail is refused or something could not be read or written, and 2
+What follows the word `--` is the name of a file, even if it begins with `-`. The status is 1 where the mail is refused or something could not be read or written, and 2
 where the arguments are wrong. Control characters of a value are shown as they stand, so a mail
 can move the cursor of a terminal or forge a line: `mail_show FILE | cat -v` shows them as text.
 ";
@@ -21,6 +22,8 @@ pub const USAGE: &str = "usage: mail_show [FILE]";
 pub enum Request<'a> {
     /// Print the help.
     Help,
+    /// Print the version.
+    Version,
     /// Say how the program is called.
     Wrong,
     /// Show the mail on standard input.
@@ -29,16 +32,28 @@ pub enum Request<'a> {
     File(&'a str),
 }
 
-/// What these arguments ask for.
+/// What these arguments ask for: the first that asks for help, for the version, or is wrong decides.
 pub fn request_of(words: &[String]) -> Request<'_> {
     let mut request = Request::Input;
+    let mut is_named = false;
+    let mut are_names = false;
     for word in words {
-        match (word.as_str(), request) {
-            ("--help", _) => return Request::Help,
-            ("-h", _) => return Request::Help,
-            (name, Request::Input) if !names_no_file(name) => request = Request::File(name),
-            _ => request = Request::Wrong,
+        let named = match Word::new(word.as_str(), are_names) {
+            Word::Help => return Request::Help,
+            Word::Version => return Request::Version,
+            Word::Option(_) | Word::Empty => return Request::Wrong,
+            Word::Names => {
+                are_names = true;
+                continue;
+            }
+            Word::Input => Request::Input,
+            Word::File(name) => Request::File(name),
+        };
+        if is_named {
+            return Request::Wrong;
         }
+        is_named = true;
+        request = named;
     }
     request
 }

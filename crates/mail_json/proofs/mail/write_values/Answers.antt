@@ -7,5 +7,6 @@ returns g c =
     let first = c.in_ok-write_value.ensures in
     let two = Appends-trans _ _ _ _ _ first c.in_ok-write_value-2.ensures in
     let three = Appends-trans _ _ _ _ _ two c.in_ok-write_value-3.ensures in
-    let written = writes_then _ _ _ _ _ _ three c.write_value-4.ensures in
+    let four = Appends-trans _ _ _ _ _ three c.in_ok-write_value-4.ensures in
+    let written = writes_then _ _ _ _ _ _ four c.write_value-5.ensures in
     written

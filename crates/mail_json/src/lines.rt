@@ -1,0 +1,163 @@
+//! The lines of an input: of one mail, or of each mail of a mailbox.
+ghost use Rattle.std.specs.Prelude.{◌≡◌, option_map};
+ghost use Rattle.std.specs.Char.{is_ascii_whitespace};
+ghost use Rattle.std.specs.List.{list_all};
+ghost use Rattle.mail_codec.specs.Tables.{charsets_with};
+ghost use Rattle.mail_data.specs.MailboxViews.{entries_left};
+ghost use Rattle.mail_json.specs.Lines.{AreLines, AreMailboxLines, IsFront, IsLine, IsMailLine};
+ghost use Rattle.mail_json.specs.Lines.{WritesLines};
+ghost use Rattle.mail_json.specs.Origin.{origin_of};
+
+use crate::fields::refusal_text;
+use crate::mail::write_mail;
+use crate::origin::{Origin, write_error};
+use crate::strings::write_word;
+use mail_data::mailbox::{Mailbox, read_mailbox};
+use mail_program::Fault;
+use mailparse::{SingleByteTable, parse_mail_with};
+use std::alloc::Global;
+use std::io::Write;
+
+/// Writes the line of an input that is one mail. Returns whether it is not refused.
+///
+/// # Errors
+///
+/// `Fault::Output` where a write fails, and `Fault::Mail` with `MailParseError::Memory` where it runs
+/// out of memory.
+pub fn write_single<W: Write>(
+    alloc: Global,
+    input: &[u8],
+    file: Option<&str>,
+    out: &mut W,
+    tables: &[SingleByteTable<'_>],
+) -> Result<bool, Fault>
+    ensures { WritesLines (W.contents out.old) (W.contents out.new) result (IsMailLine
+        (charsets_with tables.now) (option_map (λ name. name.now) file.entry) input.now) }
+{
+    let origin = Origin {
+        file,
+        number: None,
+        start: 0,
+        end: input.len(),
+    };
+    write_line(alloc, input, &origin, out, tables)
+}
+
+/// Writes each mail of a mailbox, and an error for what stands before the first one. Returns
+/// whether there was no error.
+///
+/// # Errors
+///
+/// `Fault::Output` where a write fails, and `Fault::Mail` with `MailParseError::Memory` where it runs
+/// out of memory.
+pub fn write_mailbox<W: Write>(
+    alloc: Global,
+    input: &[u8],
+    file: Option<&str>,
+    out: &mut W,
+    tables: &[SingleByteTable<'_>],
+) -> Result<bool, Fault>
+    ensures { WritesLines (W.contents out.old) (W.contents out.new) result (AreMailboxLines
+        (charsets_with tables.now) (option_map (λ name. name.now) file.entry) input.now) }
+{
+    let mails = read_mailbox(input);
+    let front = mails.front();
+    let is_all_whitespace = write_front(alloc, front, file, out)?;
+    let are_read = write_mails(alloc, mails, file, front.len(), out, tables)?;
+    Ok(is_all_whitespace & are_read)
+}
+
+/// Writes an error for what stands before the first mail of a mailbox, unless it is whitespace.
+/// Returns whether it is.
+fn write_front<W: Write>(
+    alloc: Global,
+    front: &[u8],
+    file: Option<&str>,
+    out: &mut W,
+) -> Result<bool, Fault>
+    ensures { WritesLines (W.contents out.old) (W.contents out.new) result
+        (IsFront (option_map (λ name. name.now) file.entry) front.now) }
+{
+    if is_all_whitespace(front) {
+        return Ok(true);
+    }
+    let origin = Origin {
+        file,
+        number: None,
+        start: 0,
+        end: front.len(),
+    };
+    write_error(
+        alloc,
+        out,
+        &origin,
+        "The mailbox does not begin with a separator",
+    )?;
+    Ok(false)
+}
+
+/// Whether all bytes are whitespace.
+fn is_all_whitespace(bytes: &[u8]) -> bool
+    ensures { result ≡ list_all is_ascii_whitespace bytes.now }
+{
+    bytes.iter().all(|byte| byte.is_ascii_whitespace())
+}
+
+/// Writes each mail of a mailbox, the first of which begins at this offset with its separator.
+/// Returns whether none was refused.
+fn write_mails<W: Write>(
+    alloc: Global,
+    mails: Mailbox<'_>,
+    file: Option<&str>,
+    start: usize,
+    out: &mut W,
+    tables: &[SingleByteTable<'_>],
+) -> Result<bool, Fault>
+    ensures { WritesLines (W.contents out.old) (W.contents out.new) result
+        (AreLines (charsets_with tables.now) (option_map (λ name. name.now) file.entry) 1 start
+        (entries_left mails.entry)) }
+{
+    let mut number: usize = 1;
+    let mut at = start;
+    let mut is_clean = true;
+    for entry in mails {
+        let start = at.saturating_add(entry.separator().len());
+        let end = start.saturating_add(entry.mail().len());
+        let origin = Origin {
+            file,
+            number: Some(number),
+            start,
+            end,
+        };
+        let is_read = write_line(alloc, entry.mail(), &origin, out, tables)?;
+        is_clean &= is_read;
+        at = end.saturating_add(entry.ending().len());
+        number = number.saturating_add(1);
+    }
+    Ok(is_clean)
+}
+
+/// Writes the line of a mail from there. Returns whether it is not refused.
+fn write_line<W: Write>(
+    alloc: Global,
+    raw: &[u8],
+    origin: &Origin<'_>,
+    out: &mut W,
+    tables: &[SingleByteTable<'_>],
+) -> Result<bool, Fault>
+    ensures { WritesLines (W.contents out.old) (W.contents out.new) result
+        (IsLine (charsets_with tables.now) (origin_of origin.now) raw.now) }
+{
+    match parse_mail_with(alloc, raw, tables) {
+        Ok(mail) => {
+            write_mail(alloc, out, &mail, origin, tables)?;
+            write_word(out, "\n")?;
+            Ok(true)
+        }
+        Err(error) => {
+            let text = refusal_text(alloc, &error)?;
+            write_error(alloc, out, origin, text.as_str())?;
+            Ok(false)
+        }
+    }
+}
