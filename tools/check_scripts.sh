@@ -37,8 +37,9 @@ check_calls() {
 check_program() {
     ln -s "$top/$1" "$1"
     check_calls "./$1"
-    check 2 err "./$1" -
-    check 1 err env BUILT=only "./$1" no/such/file
+    check 2 err "./$1" ''
+    # of a file that is missing mail_json writes a line too
+    [ "$1" = mail_json ] || check 1 err env BUILT=only "./$1" no/such/file
     if program=$(BUILT=only "$here/program.sh" "$1" 2> /dev/null); then
         check_calls "$program"
         check 0 out "$program" no/such/argument -h

@@ -28,9 +28,9 @@ run() {
     "$program" "$@" 2> "$work/err" || status=$?
 }
 
-# judge WHAT TEXT: whether the run ended with status 1, and the file `err` has the text alone
+# judge WHAT TEXT [STATUS]: whether the run ended with status 1 or this one, and the file `err` has the text alone
 judge() {
-    if [ "$status" = 1 ] && [ "$(cat "$work/err")" = "$2" ]; then
+    if [ "$status" = "${3:-1}" ] && [ "$(cat "$work/err")" = "$2" ]; then
         pass
     else
         fail "$name, $1: status $status, standard error: $(cat "$work/err")"
@@ -61,7 +61,7 @@ outputs() {
     judge 'output can only be read' "$name: output failed: $closed"
 }
 
-# pipes: a pipe whose reader is gone before the first write, and one whose reader goes after some bytes
+# pipes TEXT: a pipe whose reader is gone before the first write, and one whose reader goes after some bytes
 pipes() {
     {
         sleep 1
@@ -69,22 +69,22 @@ pipes() {
         echo "$status" > "$work/status"
     } | true
     status=$(cat "$work/status")
-    judge 'a pipe without a reader' "$name: output failed: $unread"
+    judge 'a pipe without a reader' "$1"
     {
         run < "$work/long"
         echo "$status" > "$work/status"
     } | head -c 10 > "$work/out"
     status=$(cat "$work/status")
-    judge 'a pipe closed early' "$name: output failed: $unread"
+    judge 'a pipe closed early' "$1"
 }
 
-# no_error WHAT: the same where standard error fails too, so that nothing can be said
+# no_error WHAT [STATUS]: the same where standard error fails too, so that nothing can be said
 no_error() {
     : > "$work/err"
-    judge "$1" ''
+    judge "$1" '' "${2:-1}"
 }
 
-# silent: standard error fails too
+# silent STATUS: standard error fails too; a refusal has this status
 silent() {
     status=0
     "$program" < "$mail" > /dev/full 2>&- || status=$?
@@ -100,10 +100,10 @@ silent() {
     no_error 'a file missing and standard error closed'
     status=0
     printf ' x' | "$program" > "$work/out" 2> /dev/full || status=$?
-    no_error 'a refusal with standard error full'
+    no_error 'a refusal with standard error full' "$1"
 }
 
-# program NAME PATH: all of them
+# program NAME PATH STATUS TEXT: all of them; a refusal has this status, and a closed pipe this message
 program() {
     name=$1
     program=$2
@@ -111,14 +111,12 @@ program() {
     run no/such/file > "$work/out"
     judge 'a file is missing' "$name: no/such/file: $missing"
     outputs
-    pipes
-    silent
+    pipes "$4"
+    silent "$3"
 }
 
-program mail_show "$show"
+program mail_show "$show" 1 "mail_show: output failed: $unread"
 run "$work" > "$work/out"
 judge 'a file is a folder' "$name: input failed: $folder"
-program mail_json "$json"
-run "$work" > "$work/out"
-judge 'a file is a folder' "$name: $work: $folder"
+program mail_json "$json" 3 ''
 finish

@@ -30,8 +30,10 @@ part = {
     "attachment": False, "encoding": "7bit", "start": 0, "end": size, "size": 4, "decoded_size": 4,
     "headers": [["Subject", subject]] * count, "text": "body",
 }
-mail = {"subject": subject, "from": None, "to": None, "cc": None, "date": None, "message_id": [], "in_reply_to": []}
-mail.update(references=[], parts=[part])
+mail = {"schema": 2, "file": None, "number": None, "start": 0, "end": size, "subject": subject}
+mail.update({name: None for name in ("from", "to", "cc", "reply_to")})
+mail["raw"] = {name: None for name in ("from", "to", "cc", "reply_to")}
+mail.update(date=None, message_id=[], in_reply_to=[], references=[], parts=[part])
 sys.stdout.buffer.write((json.dumps(mail, ensure_ascii=False, separators=(",", ":")) + "\n").encode())
 END
 

@@ -110,7 +110,7 @@ fn fail<W: Write>(
     out: &mut W,
 ) -> Result<Outcome, Fault> {
     let text = format!(in rt.alloc(); "{error}")?;
-    let name = file.unwrap_or("standard input");
+    let name = file.unwrap_or("input failed");
     let _ = eprintln!(rt; "mail_json: {name}: {text}");
     write_unread(rt.alloc(), out, file, text.as_str())?;
     Ok(Outcome::Failed)
