@@ -290,7 +290,7 @@ def check_calls():
     judge(ended.returncode == 0 and b"--mbox" in ended.stdout and not ended.stderr, "--help")
     ended = run(["--version"])
     judge(ended.returncode == 0 and ended.stdout.startswith(b"mail_json ") and not ended.stderr, "--version")
-    for words in (["--no-such-option"], ["-x"], ["--mbox", "--mboxes"], [""], ["--part"], ["--part", "3/2"]):
+    for words in (["--no-such-option"], ["-x"], ["--mbox", "--mboxes"], [""]):
         ended = run(words)
         judge(ended.returncode == 2 and not ended.stdout and ended.stderr, f"{words} is refused")
     names = [os.path.join(TOP, "samples", name) for name in ("plain.eml", "parts.eml")]

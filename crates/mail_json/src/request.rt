@@ -15,10 +15,6 @@ an option says which it is:
 
     --mail                       each input is one mail
     --mbox                       each input is a mailbox
-    --mbox=rd                    a mailbox whose writer put a `>` before each `From ` and `>From `
-    --mbox=cl                    a mailbox whose mails say in Content-Length how long they are
-    --part K/N                   of each mailbox, the mails that begin in the K-th of N equal parts
-    --progress                   say on standard error how far the run is, as on a terminal
     --version, --help            print the version, or this help
     --                           what follows are names of files
 
@@ -28,8 +24,7 @@ something could not be read or written, and 2 where the arguments are wrong.
 ";
 
 /// What wrong arguments print.
-pub const USAGE: &str =
-    "usage: mail_json [--mail|--mbox[=rd|=cl]] [--part K/N] [--progress] [FILE|FOLDER..]";
+pub const USAGE: &str = "usage: mail_json [--mail|--mbox] [FILE|FOLDER..]";
 
 /// What a run is to do.
 #[derive(Clone, Copy, PartialEq, Eq)]
@@ -53,19 +48,6 @@ pub enum Form {
     Mail,
     /// A mailbox.
     Mailbox,
-    /// A mailbox whose mails have one `>` more before each `From `, `>From ` and so on.
-    Quoted,
-    /// A mailbox whose mails state their length.
-    Measured,
-}
-
-/// One of some equal parts.
-#[derive(Clone, Copy, PartialEq, Eq)]
-pub struct Share {
-    /// Its number, from 1 to the number of parts.
-    pub number: u64,
-    /// How many parts there are.
-    pub count: u64,
 }
 
 /// What the arguments ask for.
@@ -75,14 +57,8 @@ pub struct Request<'w> {
     pub task: Task,
     /// What each input is.
     pub form: Form,
-    /// The part of each mailbox that is read, or `None` where all of it is.
-    pub share: Option<Share>,
-    /// Whether the run says how far it is, though standard error is no terminal.
-    pub shows_progress: bool,
     /// The inputs: `None` for standard input, otherwise a file or a folder.
     pub inputs: Vec<Option<&'w str>>,
-    /// Whether the next word is the value of `--part`.
-    wants_share: bool,
     /// Whether `--` came.
     are_names: bool,
 }
@@ -92,17 +68,11 @@ pub fn request_of<'w>(alloc: Global, words: &'w [String]) -> Result<Request<'w>,
     let mut request = Request {
         task: Task::Write,
         form: Form::Either,
-        share: None,
-        shows_progress: false,
         inputs: Vec::new(alloc),
-        wants_share: false,
         are_names: false,
     };
     for word in words {
         request.take(word.as_str())?;
-    }
-    if request.wants_share {
-        request.decide(Task::Wrong);
     }
     Ok(request)
 }
@@ -110,11 +80,6 @@ pub fn request_of<'w>(alloc: Global, words: &'w [String]) -> Result<Request<'w>,
 impl<'w> Request<'w> {
     /// Takes the next word.
     fn take(&mut self, word: &'w str) -> Result<(), AllocError> {
-        if self.wants_share {
-            self.wants_share = false;
-            self.take_share(word);
-            return Ok(());
-        }
         match Word::new(word, self.are_names) {
             Word::Help => self.decide(Task::Help),
             Word::Version => self.decide(Task::Version),
@@ -132,22 +97,7 @@ impl<'w> Request<'w> {
         match option {
             "--mail" => self.form = Form::Mail,
             "--mbox" => self.form = Form::Mailbox,
-            "--mbox=rd" => self.form = Form::Quoted,
-            "--mbox=cl" => self.form = Form::Measured,
-            "--progress" => self.shows_progress = true,
-            "--part" => self.wants_share = true,
-            _ => match option.strip_prefix("--part=") {
-                Some(value) => self.take_share(value),
-                None => self.decide(Task::Wrong),
-            },
-        }
-    }
-
-    /// Takes the value of `--part`, which is `K/N`.
-    fn take_share(&mut self, value: &str) {
-        match share_of(value) {
-            Some(share) => self.share = Some(share),
-            None => self.decide(Task::Wrong),
+            _ => self.decide(Task::Wrong),
         }
     }
 
@@ -156,21 +106,5 @@ impl<'w> Request<'w> {
         if self.task == Task::Write {
             self.task = task;
         }
-    }
-}
-
-/// The part that `K/N` names, if K is a number from 1 to N.
-fn share_of(value: &str) -> Option<Share> {
-    let (number, count) = value.split_once('/')?;
-    let Ok(number) = number.parse::<u64>() else {
-        return None;
-    };
-    let Ok(count) = count.parse::<u64>() else {
-        return None;
-    };
-    if 0 < number && number <= count {
-        Some(Share { number, count })
-    } else {
-        None
     }
 }

@@ -159,7 +159,7 @@ fn write_input<W: Write>(
     let is_mailbox = match form {
         Form::Either => read_mailbox(input).front().is_empty() && !input.is_empty(),
         Form::Mail => false,
-        _ => true,
+        Form::Mailbox => true,
     };
     if is_mailbox {
         Ok(Outcome::of(write_mailbox(alloc, input, file, out, &TABLES)?))
