@@ -193,7 +193,7 @@ class Counts:
 
 def compare(batch, programs, counts):
     """Compares a batch of mails."""
-    mailbox = b"".join(b"From a\n" + mail + b"\n" for _name, mail in batch)
+    mailbox = b"".join(b"From a Thu Jan  1 00:00:00 1970\n" + mail + b"\n" for _name, mail in batch)
     lines = ran([programs["mail_json"], "--mbox"], mailbox).split("\n")[:-1]
     jobs = list(records(ran([programs["mail_jobs"]], mailbox)))
     if not len(lines) == len(jobs) == len(batch):

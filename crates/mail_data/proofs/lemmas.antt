@@ -6,3 +6,4 @@ pub mod Forwarding
 pub mod Lines
 pub mod lenient
 pub mod Mailbox
+pub mod Separator

@@ -2,6 +2,7 @@ pub mod FileNames
 pub mod Files
 pub mod FileViews
 pub mod Lines
+pub mod Separator
 pub mod Mailbox
 pub mod MailboxViews
 pub mod lenient

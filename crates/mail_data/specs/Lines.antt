@@ -1,7 +1,7 @@
 -- Lines of bytes, which end in LF or CR LF: where one starts, and which is empty.
-use Rattle.std.specs.Prelude.{ℕ, ◌-◌, Bool, ◌&&◌, ◌||◌, ◌==◌, nat_lt, List, [], ◌∷◌, length, drop, if◌then◌else◌}
+use Rattle.std.specs.Prelude.{ℕ, suc, ◌-◌, Bool, ◌&&◌, ◌||◌, ◌==◌, min, nat_lt, List, [], ◌∷◌, length, drop, if◌then◌else◌}
 use Rattle.mail_codec.specs.Ascii.{line_feed, carriage_return}
-use Rattle.mail_codec.specs.Places.{begins, least, stands}
+use Rattle.mail_codec.specs.Places.{begins, first_place, least, stands}
 
 -- the bytes of the empty line that stands here: LF or CR LF, or none
 unfoldable pub empty_line : List ℕ → ℕ
@@ -14,6 +14,14 @@ is_empty_line bytes = nat_lt 0 (empty_line bytes)
 -- what follows the empty line that stands here, if one does
 abbrev pub after_empty_line : List ℕ → List ℕ
 after_empty_line bytes = drop (empty_line bytes) bytes
+
+-- the bytes of the first line, its LF among them
+unfoldable pub line_length : List ℕ → ℕ
+line_length bytes = min (suc (first_place (begins (λ b. b == line_feed)) bytes)) (length bytes)
+
+-- what follows the first line
+abbrev pub after_line : List ℕ → List ℕ
+after_line bytes = drop (line_length bytes) bytes
 
 -- a line starts at p: it is the first one, or a LF stands before it
 abbrev pub starts_line : List ℕ → ℕ → Bool

@@ -1,6 +1,6 @@
 //! Lines of bytes.
 ghost use Rattle.std.specs.Prelude.{◌≡◌, ◌≤◌, ℕ, Bool, List, length};
-ghost use Rattle.mail_data.specs.Lines.{empty_line, is_empty_line, line_place};
+ghost use Rattle.mail_data.specs.Lines.{empty_line, is_empty_line, line_length, line_place};
 
 use mail_codec::bytescan::find_byte;
 
@@ -53,4 +53,15 @@ pub(crate) fn line_place<F: Fn(&[u8]) -> bool>(bytes: &[u8], passes: F) -> usize
         at += place + 1;
     }
     at
+}
+
+/// How many bytes the first line has, its LF among them.
+pub(crate) fn line_length(bytes: &[u8]) -> usize
+    ensures value { result ≡ line_length bytes.now }
+    ensures bounds { result ≤ length bytes.now }
+{
+    match find_byte(bytes, b'\n') {
+        Some(place) => place + 1,
+        None => bytes.len(),
+    }
 }

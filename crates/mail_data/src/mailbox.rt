@@ -2,12 +2,14 @@
 ghost use Rattle.std.specs.Prelude.{◌≡◌, ◌++◌, ◌≤◌, length, drop, take};
 ghost use Rattle.std.specs.List.{flat_map};
 ghost use Rattle.mail_data.specs.Mailbox.{Entry, ends_mail, entries, entry_at};
-ghost use Rattle.mail_data.specs.Mailbox.{entry_bytes, front_length, line_length, mail_length};
+ghost use Rattle.mail_data.specs.Mailbox.{entry_bytes, front_length, mail_length};
 ghost use Rattle.mail_data.specs.Mailbox.{next_entry};
 ghost use Rattle.mail_data.specs.MailboxViews.{entries_left};
 
-use crate::lines::{empty_line, line_place};
-use mail_codec::bytescan::find_byte;
+mod separator;
+
+use crate::lines::{empty_line, line_length, line_place};
+use separator::is_separator;
 use std::marker::Model;
 
 /// A mail of a mailbox (RFC 4155, appendix A): three slices that follow one another.
@@ -27,8 +29,8 @@ impl<'a> Model for MailboxEntry<'a> {
 }
 
 impl<'a> MailboxEntry<'a> {
-    /// Returns the line before the mail, which begins with `From `, including its line end (RFC
-    /// 4155, appendix A).
+    /// Returns the line before the mail, `From ` with an address and a time, including its line end
+    /// (RFC 4155, appendix A).
     ///
     /// Takes no memory.
     ///
@@ -37,8 +39,8 @@ impl<'a> MailboxEntry<'a> {
     /// ```rust
     /// use mail_data::mailbox::read_mailbox;
     ///
-    /// for entry in read_mailbox(b"From a\nSubject: 1\n\none\n\n") {
-    ///     assert_eq!(rt; entry.separator(), b"From a\n".as_slice());
+    /// for entry in read_mailbox(b"From a Fri Jul  8 12:08:34 2011\nSubject: 1\n\none\n\n") {
+    ///     assert_eq!(rt; entry.separator(), b"From a Fri Jul  8 12:08:34 2011\n".as_slice());
     /// }
     /// ```
     pub fn separator(&self) -> &'a [u8]
@@ -57,7 +59,7 @@ impl<'a> MailboxEntry<'a> {
     /// ```rust
     /// use mail_data::mailbox::read_mailbox;
     ///
-    /// for entry in read_mailbox(b"From a\nSubject: 1\n\none\n\n") {
+    /// for entry in read_mailbox(b"From a Fri Jul  8 12:08:34 2011\nSubject: 1\n\none\n\n") {
     ///     assert_eq!(rt; entry.mail(), b"Subject: 1\n\none\n".as_slice());
     /// }
     /// ```
@@ -76,7 +78,7 @@ impl<'a> MailboxEntry<'a> {
     /// ```rust
     /// use mail_data::mailbox::read_mailbox;
     ///
-    /// for entry in read_mailbox(b"From a\nSubject: 1\n\none\n\n") {
+    /// for entry in read_mailbox(b"From a Fri Jul  8 12:08:34 2011\nSubject: 1\n\none\n\n") {
     ///     assert_eq!(rt; entry.ending(), b"\n".as_slice());
     /// }
     /// ```
@@ -106,7 +108,8 @@ impl<'a> Mailbox<'a> {
     /// ```rust
     /// use mail_data::mailbox::read_mailbox;
     ///
-    /// assert_eq!(rt; read_mailbox(b"junk\n\nFrom a\n").front(), b"junk\n\n".as_slice());
+    /// let mails = read_mailbox(b"junk\n\nFrom a Fri Jul  8 12:08:34 2011\n");
+    /// assert_eq!(rt; mails.front(), b"junk\n\n".as_slice());
     /// ```
     pub fn front(&self) -> &'a [u8]
         ensures { result.now ≡ self.now.front.now }
@@ -127,7 +130,7 @@ impl<'a> Iterator for Mailbox<'a> {
 
     fn next(&mut self) -> Option<MailboxEntry<'a>> {
         let rest = self.rest;
-        if !rest.starts_with(b"From ") {
+        if !is_separator(rest) {
             return None;
         }
         let (entry, after) = cut_entry(rest);
@@ -136,27 +139,30 @@ impl<'a> Iterator for Mailbox<'a> {
     }
 }
 
-/// Reads a mailbox of mails one after another, each after a line that begins with `From ` (the mbox
-/// format of RFC 4155, appendix A).
+/// Reads a mailbox of mails one after another, each after a line `From ` with an address and a time
+/// (the mbox format of RFC 4155, appendix A).
 ///
 /// Such a line separates mails where it is the first one or follows an empty line; elsewhere it
-/// belongs to the mail. Lines end with LF or CR LF. The empty line before a separator, and one at
-/// the end of the mailbox, belongs to no mail. What stands before the first separator is in no
-/// mail. Any bytes are read, and nothing is changed: `>From ` stays as it is. Takes no memory.
+/// belongs to the mail. The time is as `asctime` writes it: `Fri Jul  8 12:08:34 2011`, perhaps
+/// without seconds or with a zone before the year; what follows the year is not looked at. A line
+/// such as `From the start I knew` is text. Lines end with LF or CR LF. The empty line before a
+/// separator, and one at the end of the mailbox, belongs to no mail. What stands before the first
+/// separator is in no mail. Any bytes are read, and nothing is changed: `>From ` stays as it is.
+/// Takes no memory.
 ///
 /// # Examples
 ///
 /// ```rust
 /// use mail_data::mailbox::read_mailbox;
 ///
-/// let bytes = b"From a\nSubject: 1\n\none\n\nFrom c\nSubject: 2\n\ntwo\n";
+/// let bytes = b"From a Fri Jul  8 12:08:34 2011\nS: 1\n\none\n\nFrom c Fri Jul  8 12:08 2011\nS: 2\n\ntwo\n";
 /// let mut mails = Vec::new(alloc);
 /// for entry in read_mailbox(bytes) {
 ///     mails.push(entry.mail())?;
 /// }
 /// assert_eq!(rt; mails.len(), 2);
-/// assert_eq!(rt; mails[0], b"Subject: 1\n\none\n".as_slice());
-/// assert_eq!(rt; mails[1], b"Subject: 2\n\ntwo\n".as_slice());
+/// assert_eq!(rt; mails[0], b"S: 1\n\none\n".as_slice());
+/// assert_eq!(rt; mails[1], b"S: 2\n\ntwo\n".as_slice());
 /// ```
 pub fn read_mailbox(bytes: &[u8]) -> Mailbox<'_>
     ensures read { entries_left result ≡ entries bytes.now }
@@ -172,7 +178,7 @@ fn front_length(bytes: &[u8]) -> usize
     ensures value { result ≡ front_length bytes.now }
     ensures bounds { result ≤ length bytes.now }
 {
-    if bytes.starts_with(b"From ") {
+    if is_separator(bytes) {
         return 0;
     }
     let length = mail_length(bytes);
@@ -195,17 +201,6 @@ fn cut_entry(bytes: &[u8]) -> (MailboxEntry<'_>, &[u8])
     (entry, next)
 }
 
-/// How many bytes the first line has, its LF among them.
-fn line_length(bytes: &[u8]) -> usize
-    ensures value { result ≡ line_length bytes.now }
-    ensures bounds { result ≤ length bytes.now }
-{
-    match find_byte(bytes, b'\n') {
-        Some(place) => place + 1,
-        None => bytes.len(),
-    }
-}
-
 /// How many bytes stand before the first line at which a mail ends.
 fn mail_length(bytes: &[u8]) -> usize
     ensures value { result ≡ mail_length bytes.now }
@@ -224,5 +219,5 @@ fn ends_mail(bytes: &[u8]) -> bool
         return false;
     }
     let after = &bytes[length..];
-    after.is_empty() || after.starts_with(b"From ")
+    after.is_empty() || is_separator(after)
 }

@@ -6,7 +6,7 @@ use Rattle.std.proofs.lemmas.List.{drop-drop}
 use Rattle.mail_codec.specs.Places.{begins, first_place, least, byte_place}
 use Rattle.mail_codec.proofs.lemmas.Places.{least-is, least-passes, first_place-before, first_place-passes}
 use Rattle.mail_codec.proofs.lemmas.PlacesSearches.{place_none, place_some}
-use Rattle.mail_data.specs.Lines.{starts_line, line_place}
+use Rattle.mail_data.specs.Lines.{line_length, line_place, starts_line}
 
 -- a line starts at p from which on the bytes pass the test
 abbrev pub is_line : (List ℕ → Bool) → List ℕ → ℕ → Bool
@@ -98,3 +98,21 @@ line_place-≤ test bytes = least_le (is_line test bytes) (length bytes)
 pub line_place-passes : (test : List ℕ → Bool) (bytes : List ℕ) → line_place test bytes < length bytes → test (drop (line_place test bytes) bytes) ≡ true
 line_place-passes test bytes l =
     (and_parts (starts_line bytes (line_place test bytes)) (test (drop (line_place test bytes) bytes)) (least-passes (is_line test bytes) (length bytes) l)).1
+
+-- ---- the first line
+
+pub line_length-some : (bytes : List ℕ) (p : ℕ) → Some p ≡ byte_place bytes 10 → p + 1 ≡ line_length bytes
+unfolding line_length
+line_length-some bytes p found =
+    let at = place_some (begins (λ b. b == 10)) bytes p found in
+    let same = at.0 in
+    let low = at.1 in
+    omega arith
+
+pub line_length-none : (bytes : List ℕ) → None ≡ byte_place bytes 10 → length bytes ≡ line_length bytes
+unfolding line_length
+line_length-none bytes none = let all = place_none (begins (λ b. b == 10)) bytes none in omega arith
+
+pub line_length-some_bytes : (bytes : List ℕ) → 0 < length bytes → 0 < line_length bytes
+unfolding line_length
+line_length-some_bytes bytes some = omega arith

@@ -6,9 +6,10 @@ use Rattle.std.proofs.lemmas.Bool.{cond-true, cond-false, cases_Bool, lt-ltb, lt
 use Rattle.std.proofs.lemmas.List.{append_assoc, drop-drop, drop_all, take_rest, take-append-drop}
 use Rattle.mail_codec.specs.Places.{stands, begins, byte_place, is_empty}
 use Rattle.mail_codec.proofs.lemmas.PlacesSearches.{place_none, place_some}
-use Rattle.mail_data.specs.Lines.{empty_line, after_empty_line}
-use Rattle.mail_data.specs.Mailbox.{mark, ends_mail, mail_length, line_length, entry_bytes, after_line, after_mail, entry_at, next_entry, entries_within, entries_from, front_length, entries}
-use Rattle.mail_data.proofs.lemmas.Lines.{line_place-≤, line_place-passes}
+use Rattle.mail_data.specs.Lines.{after_empty_line, after_line, empty_line, line_length}
+use Rattle.mail_data.specs.Mailbox.{ends_mail, mail_length, entry_bytes, after_mail, entry_at, next_entry, entries_within, entries_from, front_length, entries}
+use Rattle.mail_data.specs.Separator.{is_separator}
+use Rattle.mail_data.proofs.lemmas.Lines.{line_place-≤, line_place-passes, line_length-some_bytes}
 
 -- ---- where a mail ends
 
@@ -16,7 +17,7 @@ pub ends_mail-none : (bytes : List ℕ) (n : ℕ) → n ≡ empty_line bytes →
 unfolding ends_mail
 ends_mail-none bytes n e none =
     let zero : empty_line bytes ≡ 0 = sym e ∙ none in
-    sym (and_left (nat_lt 0 (empty_line bytes)) (is_empty (drop (empty_line bytes) bytes) || stands mark (drop (empty_line bytes) bytes)) (ap (nat_lt 0) zero))
+    sym (and_left (nat_lt 0 (empty_line bytes)) (is_empty (drop (empty_line bytes) bytes) || is_separator (drop (empty_line bytes) bytes)) (ap (nat_lt 0) zero))
 
 is_empty-length : (bytes : List ℕ) → is_empty bytes ≡ nat_eq (length bytes) 0
 is_empty-length [] = refl
@@ -24,37 +25,23 @@ is_empty-length (b ∷ bytes) = sym (ne_eqb (length (b ∷ bytes)) 0 (λ e. absu
 
 -- the two tests after an empty line
 ends_mail-some : (bytes after : List ℕ) (n : ℕ) → n ≡ empty_line bytes → (n ≡ 0 → ⊥) → take (length bytes - n) (drop n bytes) ≡ after
-    → ends_mail bytes ≡ (is_empty after || stands mark after)
+    → ends_mail bytes ≡ (is_empty after || is_separator after)
 unfolding ends_mail
 ends_mail-some bytes after n e some same =
     let pos : 0 < n = omega arith in
     let rest : drop (empty_line bytes) bytes ≡ after = ap (λ k. drop k bytes) (sym e) ∙ sym (take_rest bytes n) ∙ same in
-    ap (λ t. t && (is_empty (drop (empty_line bytes) bytes) || stands mark (drop (empty_line bytes) bytes))) (ap (nat_lt 0) (sym e) ∙ lt-ltb 0 n pos)
-    ∙ ap (λ (r : List ℕ). is_empty r || stands mark r) rest
+    ap (λ t. t && (is_empty (drop (empty_line bytes) bytes) || is_separator (drop (empty_line bytes) bytes))) (ap (nat_lt 0) (sym e) ∙ lt-ltb 0 n pos)
+    ∙ ap (λ (r : List ℕ). is_empty r || is_separator r) rest
 
 pub ends_mail-empty : (bytes after : List ℕ) (n : ℕ) (r : Bool) → n ≡ empty_line bytes → (n ≡ 0 → ⊥) → take (length bytes - n) (drop n bytes) ≡ after
     → r ≡ nat_eq (length after) 0 → r ≡ true → r ≡ ends_mail bytes
 ends_mail-empty bytes after n r e some same is holds =
-    holds ∙ sym (ends_mail-some bytes after n e some same ∙ ap (λ t. t || stands mark after) (is_empty-length after ∙ sym is ∙ holds))
+    holds ∙ sym (ends_mail-some bytes after n e some same ∙ ap (λ t. t || is_separator after) (is_empty-length after ∙ sym is ∙ holds))
 
 pub ends_mail-marked : (bytes after : List ℕ) (n : ℕ) (r s : Bool) → n ≡ empty_line bytes → (n ≡ 0 → ⊥) → take (length bytes - n) (drop n bytes) ≡ after
-    → r ≡ nat_eq (length after) 0 → r ≡ false → s ≡ stands mark after → s ≡ ends_mail bytes
+    → r ≡ nat_eq (length after) 0 → r ≡ false → s ≡ is_separator after → s ≡ ends_mail bytes
 ends_mail-marked bytes after n r s e some same is fails marked =
-    marked ∙ sym (ends_mail-some bytes after n e some same ∙ ap (λ t. t || stands mark after) (is_empty-length after ∙ sym is ∙ fails))
-
--- ---- the first line
-
-pub line_length-some : (bytes : List ℕ) (p : ℕ) → Some p ≡ byte_place bytes 10 → p + 1 ≡ line_length bytes
-unfolding line_length
-line_length-some bytes p found =
-    let at = place_some (begins (λ b. b == 10)) bytes p found in
-    let same = at.0 in
-    let low = at.1 in
-    omega arith
-
-pub line_length-none : (bytes : List ℕ) → None ≡ byte_place bytes 10 → length bytes ≡ line_length bytes
-unfolding line_length
-line_length-none bytes none = let all = place_none (begins (λ b. b == 10)) bytes none in omega arith
+    marked ∙ sym (ends_mail-some bytes after n e some same ∙ ap (λ t. t || is_separator after) (is_empty-length after ∙ sym is ∙ fails))
 
 -- ---- the mails
 
@@ -64,7 +51,7 @@ mail_length-≤ bytes = line_place-≤ ends_mail bytes
 
 -- the bytes are at their end or begin with a separator
 abbrev opens : List ℕ → Bool
-opens bytes = is_empty bytes || stands mark bytes
+opens bytes = is_empty bytes || is_separator bytes
 
 ends_mail-opens : (bytes : List ℕ) → ends_mail bytes ≡ true → opens (after_empty_line bytes) ≡ true
 unfolding ends_mail
@@ -86,16 +73,13 @@ after_opens bytes = elim (cases_Bool (nat_lt (mail_length bytes) (length bytes))
       ap (λ (r : List ℕ). opens (after_empty_line r)) none ∙ ap opens after_empty_line-nil
 ]
 
-line_length-some_bytes : (bytes : List ℕ) → 0 < length bytes → 0 < line_length bytes
-unfolding line_length
-line_length-some_bytes bytes some = omega arith
-
-stands-some : (bytes : List ℕ) → stands mark bytes ≡ true → 0 < length bytes
+stands-some : (bytes : List ℕ) → is_separator bytes ≡ true → 0 < length bytes
+unfolding is_separator
 stands-some [] h = absurd (false≢true h)
 stands-some (b ∷ bytes) h = omega arith
 
 -- each mail takes some bytes
-next_entry-shorter : (bytes : List ℕ) → stands mark bytes ≡ true → length (next_entry bytes) < length bytes
+next_entry-shorter : (bytes : List ℕ) → is_separator bytes ≡ true → length (next_entry bytes) < length bytes
 next_entry-shorter bytes h =
     let some = line_length-some_bytes bytes (stands-some bytes h) in
     let low = stands-some bytes h in
@@ -107,25 +91,25 @@ next_entry-shorter bytes h =
 
 entries_within-enough : (n m : ℕ) (bytes : List ℕ) → length bytes ≤ n → length bytes ≤ m → entries_within n bytes ≡ entries_within m bytes
 entries_within-enough zero zero bytes a b = refl
-entries_within-enough zero (suc m) bytes a b = elim (cases_Bool (stands mark bytes)) [
+entries_within-enough zero (suc m) bytes a b = elim (cases_Bool (is_separator bytes)) [
   | inl h ↦ absurd (let low = stands-some bytes h in omega arith)
   | inr h ↦ sym (cond-false _ _ _ h)
 ]
-entries_within-enough (suc n) zero bytes a b = elim (cases_Bool (stands mark bytes)) [
+entries_within-enough (suc n) zero bytes a b = elim (cases_Bool (is_separator bytes)) [
   | inl h ↦ absurd (let low = stands-some bytes h in omega arith)
   | inr h ↦ cond-false _ _ _ h
 ]
-entries_within-enough (suc n) (suc m) bytes a b = elim (cases_Bool (stands mark bytes)) [
+entries_within-enough (suc n) (suc m) bytes a b = elim (cases_Bool (is_separator bytes)) [
   | inl h ↦ let less = next_entry-shorter bytes h in
       cond-true _ _ _ h ∙ ap (λ es. entry_at bytes ∷ es) (entries_within-enough n m (next_entry bytes) (omega arith) (omega arith)) ∙ sym (cond-true _ _ _ h)
   | inr h ↦ cond-false _ _ _ h ∙ sym (cond-false _ _ _ h)
 ]
 
-pub entries_from-none : (bytes : List ℕ) → stands mark bytes ≡ false → entries_from bytes ≡ []
+pub entries_from-none : (bytes : List ℕ) → is_separator bytes ≡ false → entries_from bytes ≡ []
 unfolding entries_from
 entries_from-none bytes h = entries_within-enough (length bytes) (suc (length bytes)) bytes (omega arith) (omega arith) ∙ cond-false _ _ _ h
 
-pub entries_from-some : (bytes : List ℕ) → stands mark bytes ≡ true → entries_from bytes ≡ entry_at bytes ∷ entries_from (next_entry bytes)
+pub entries_from-some : (bytes : List ℕ) → is_separator bytes ≡ true → entries_from bytes ≡ entry_at bytes ∷ entries_from (next_entry bytes)
 unfolding entries_from
 entries_from-some bytes h =
     let less = next_entry-shorter bytes h in
@@ -150,23 +134,23 @@ entry-spans bytes =
 entries-span : (n : ℕ) (bytes : List ℕ) → length bytes ≤ n → opens bytes ≡ true → flat_map entry_bytes (entries_within n bytes) ≡ bytes
 entries-span zero [] fits h = refl
 entries-span zero (b ∷ bytes) fits h = absurd (omega arith)
-entries-span (suc n) bytes fits h = elim (cases_Bool (stands mark bytes)) [
+entries-span (suc n) bytes fits h = elim (cases_Bool (is_separator bytes)) [
   | inl is ↦ let less = next_entry-shorter bytes is in
       ap (flat_map entry_bytes) (cond-true _ _ _ is)
       ∙ ap (λ (r : List ℕ). entry_bytes (entry_at bytes) ++ r) (entries-span n (next_entry bytes) (omega arith) (after_opens (after_line bytes)))
       ∙ entry-spans bytes
-  | inr fails ↦ ap (flat_map entry_bytes) (cond-false (stands mark bytes) (entry_at bytes ∷ entries_within n (next_entry bytes)) [] fails) ∙ sym (none bytes fails h)
+  | inr fails ↦ ap (flat_map entry_bytes) (cond-false (is_separator bytes) (entry_at bytes ∷ entries_within n (next_entry bytes)) [] fails) ∙ sym (none bytes fails h)
 ]
   where
-    none : (bytes : List ℕ) → stands mark bytes ≡ false → opens bytes ≡ true → bytes ≡ []
+    none : (bytes : List ℕ) → is_separator bytes ≡ false → opens bytes ≡ true → bytes ≡ []
     none [] fails h = refl
     none (b ∷ bytes) fails h = absurd (false≢true (sym fails ∙ h))
 
 front-opens : (bytes : List ℕ) → opens (drop (front_length bytes) bytes) ≡ true
 unfolding front_length
-front-opens bytes = elim (cases_Bool (stands mark bytes)) [
-  | inl is ↦ ap (λ n. opens (drop n bytes)) (cond-true (stands mark bytes) 0 (mail_length bytes + empty_line (after_mail bytes)) is) ∙ or_right (is_empty bytes) (stands mark bytes) is
-  | inr fails ↦ ap (λ n. opens (drop n bytes)) (cond-false (stands mark bytes) 0 (mail_length bytes + empty_line (after_mail bytes)) fails)
+front-opens bytes = elim (cases_Bool (is_separator bytes)) [
+  | inl is ↦ ap (λ n. opens (drop n bytes)) (cond-true (is_separator bytes) 0 (mail_length bytes + empty_line (after_mail bytes)) is) ∙ or_right (is_empty bytes) (is_separator bytes) is
+  | inr fails ↦ ap (λ n. opens (drop n bytes)) (cond-false (is_separator bytes) 0 (mail_length bytes + empty_line (after_mail bytes)) fails)
       ∙ ap opens (sym (drop-drop (empty_line (after_mail bytes)) (mail_length bytes) bytes)) ∙ after_opens bytes
 ]
 
@@ -186,14 +170,14 @@ mailbox-whole bytes front rest n is before after =
 
 -- ---- what stands before the first separator
 
-pub front_length-none : (bytes : List ℕ) → true ≡ stands mark bytes → 0 ≡ front_length bytes
+pub front_length-none : (bytes : List ℕ) → true ≡ is_separator bytes → 0 ≡ front_length bytes
 unfolding front_length
-front_length-none bytes h = sym (cond-true (stands mark bytes) 0 _ (sym h))
+front_length-none bytes h = sym (cond-true (is_separator bytes) 0 _ (sym h))
 
-pub front_length-some : (bytes after : List ℕ) (n e : ℕ) → false ≡ stands mark bytes → n ≡ mail_length bytes → take (length bytes - n) (drop n bytes) ≡ after → e ≡ empty_line after
+pub front_length-some : (bytes after : List ℕ) (n e : ℕ) → false ≡ is_separator bytes → n ≡ mail_length bytes → take (length bytes - n) (drop n bytes) ≡ after → e ≡ empty_line after
     → n + e ≡ front_length bytes
 unfolding front_length
 front_length-some bytes after n e fails is same ending =
     let rest : after_mail bytes ≡ after = ap (λ k. drop k bytes) (sym is) ∙ sym (take_rest bytes n) ∙ same in
     let which : e ≡ empty_line (after_mail bytes) = ending ∙ ap empty_line (sym rest) in
-    sym (cond-false (stands mark bytes) 0 (mail_length bytes + empty_line (after_mail bytes)) (sym fails) ∙ omega arith)
+    sym (cond-false (is_separator bytes) 0 (mail_length bytes + empty_line (after_mail bytes)) (sym fails) ∙ omega arith)

@@ -12,5 +12,5 @@ returns-then-is_empty c =
 
 pub returns-else-is_empty : goal.returns-else-is_empty
 returns-else-is_empty c =
-    ends_mail-marked c.args.bytes.now _ c.empty_line-length.result c.is_empty.result c.starts_with.result c.empty_line-length.ensures.value c.if-length-eq0.false refl
-    c.is_empty.ensures c.if-is_empty.false c.starts_with.ensures.value
+    ends_mail-marked c.args.bytes.now _ c.empty_line-length.result c.is_empty.result c.is_separator.result c.empty_line-length.ensures.value c.if-length-eq0.false refl
+    c.is_empty.ensures c.if-is_empty.false c.is_separator.ensures
