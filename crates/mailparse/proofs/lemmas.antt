@@ -13,6 +13,7 @@ pub mod ValuePlain
 pub mod ValueLines
 pub mod Delimiters
 pub mod Mail
+pub mod Placement
 pub mod Segments
 pub mod SegmentsQuoted
 pub mod Pairs

@@ -10,6 +10,10 @@ pub record Range : Type 0 where
 abbrev pub slice : List ℕ → Range → List ℕ
 slice bytes range = slice_range bytes range.start range.end
 
+-- a range of what stands from a place on, as a range of the whole
+abbrev pub moved : ℕ → Range → Range
+moved place range = record { start = place + range.start; end = place + range.end }
+
 -- the ranges stand one after another between two places, with so many bytes or more before each of them
 abbrev pub Apart : ℕ → ℕ → List Range → ℕ → Type 0
 Apart gap from [] to = from ≤ to

@@ -1,12 +1,14 @@
 -- What a contract sees of the types of the library.
-use Rattle.std.specs.Prelude.{ℕ, List, drop, map, string_bytes}
+use Rattle.std.specs.Prelude.{ℕ, List, ◌∷◌, drop, map, string_bytes}
 use Rattle.std.specs.Global.{Vec}
+use Rattle.std.specs.List.{flat_map}
 use Rattle.mailparse.specs.Header.{Header}
 use Rattle.mailparse.specs.Block.{HeaderList}
 use Rattle.mailparse.specs.ContentType.{ContentType}
 use Rattle.mailparse.specs.Disposition.{Disposition, Kind, inline, attachment, form_data, extension}
 use Rattle.mailparse.specs.Mail.{Tree, tree, forest}
 use Rattle.mailparse.specs.Pairs.{text_at}
+use Rattle.mailparse.specs.Placement.{Placement}
 use Rattle.mailparse.specs.declared.content_type.ParsedContentType.{ParsedContentType}
 use Rattle.mailparse.specs.declared.disposition.DispositionType.{DispositionType}
 use Rattle.mailparse.specs.declared.disposition.DispositionType.TheVariants as code
@@ -15,6 +17,7 @@ use Rattle.mailparse.specs.declared.mail.message.ParsedMail.{ParsedMail}
 use Rattle.mailparse.specs.declared.mail.message.PartsIterator.{PartsIterator}
 use Rattle.mailparse.specs.declared.mail.message.ParsedMail.TheOpen.{ParsedMail-F}
 use Rattle.mailparse.specs.declared.mail.message.ParsedMail.TheFolds.{fold-ParsedMail}
+use Rattle.mailparse.specs.declared.mail.message.ParsedMail.TheViews.{out-ParsedMail}
 
 -- the headers of a list and the offset just after their blank line
 abbrev pub header_list : Vec Header × ℕ → HeaderList
@@ -48,6 +51,25 @@ tree_step m = tree (record {
 -- a message: its bytes, its block, the headers and the type that it has now, its body, and the parts that it has now
 abbrev pub tree_of : ParsedMail → Tree
 tree_of = fold-ParsedMail Tree tree_step
+
+-- where a message with these fields says that it stands
+abbrev pub placement_step : {A : Type 0} → ParsedMail-F A → Placement
+placement_step m = record {
+  whole = record { start = m.range.start; end = m.range.end };
+  body = record { start = m.body_range.start; end = m.body_range.end };
+}
+
+-- where a message says that it stands
+abbrev pub placement_of : ParsedMail → Placement
+placement_of m = placement_step (out-ParsedMail m)
+
+-- the same of a message and then of its parts
+abbrev pub placements_step : ParsedMail-F (List Placement) → List Placement
+placements_step m = placement_step m ∷ flat_map (λ places. places) m.subparts.items
+
+-- where a message says that it stands, then where the parts that it has now say so, each before its own parts
+abbrev pub placements_of : ParsedMail → List Placement
+placements_of = fold-ParsedMail (List Placement) placements_step
 
 -- the messages that an iterator over parts has still to give, each with its parts
 abbrev pub trees_left : PartsIterator → List Tree

@@ -1,12 +1,13 @@
 //! Reading a message: its header block, its type, its body and its parts.
-ghost use Rattle.std.specs.Prelude.{◌≡◌, ◌<◌, ◌≤◌, length, IfOk, IsErr, Ok};
+ghost use Rattle.std.specs.Prelude.{◌≡◌, ◌<◌, ◌≤◌, ◌+◌, ◌^◌, length, IfOk, IsErr, Ok};
 ghost use Rattle.mail_codec.specs.Charset.{four_charsets};
 ghost use Rattle.mail_codec.specs.Tables.{charsets_with};
 ghost use Rattle.mailparse.specs.Block.{header_count, read_headers};
 ghost use Rattle.mailparse.specs.Bound.{IsBounded};
 ghost use Rattle.mailparse.specs.Mail.{read_levels, read_mail, read_mail_in};
 ghost use Rattle.mailparse.specs.Outcome.{Answers, AnswersOrMemory};
-ghost use Rattle.mailparse.specs.Views.{tree_of};
+ghost use Rattle.mailparse.specs.Placement.{placements};
+ghost use Rattle.mailparse.specs.Views.{placements_of, tree_of};
 
 mod delimiters;
 mod message;
@@ -87,6 +88,7 @@ pub const MAX_LEVELS: u8 = 100;
 pub fn parse_mail(alloc: Global, raw: &[u8]) -> Result<ParsedMail<'_>, MailParseError>
     ensures read { AnswersOrMemory tree_of result (read_mail raw.now) }
     ensures bounded { IfOk result (λ mail. IsBounded (tree_of mail) (length raw.now)) }
+    ensures places { IfOk result (λ mail. placements_of mail ≡ placements 0 (tree_of mail)) }
     ensures no_alloc { header_count raw.now ≡ 0 → IsErr (read_headers raw.now) →
         Answers tree_of result (read_mail raw.now) }
 {
@@ -127,10 +129,11 @@ pub fn parse_mail_with<'a>(
     ensures read { AnswersOrMemory tree_of result
         (read_mail_in (charsets_with tables.now) 100 raw.now) }
     ensures bounded { IfOk result (λ mail. IsBounded (tree_of mail) (length raw.now)) }
+    ensures places { IfOk result (λ mail. placements_of mail ≡ placements 0 (tree_of mail)) }
     ensures no_alloc { header_count raw.now ≡ 0 → IsErr (read_headers raw.now) →
         Answers tree_of result (read_mail_in (charsets_with tables.now) 100 raw.now) }
 {
-    parse_mail_recursive(alloc, raw, false, MAX_LEVELS + 1, tables)
+    parse_mail_recursive(alloc, raw, 0, false, MAX_LEVELS + 1, tables)
 }
 
 /// Reads a message as `parse_mail` does, but with parts at most `levels` levels below it.
@@ -175,22 +178,27 @@ pub fn parse_mail_limited(
     requires { levels ≤ MAX_LEVELS }
     ensures read { AnswersOrMemory tree_of result (read_mail_in four_charsets levels raw.now) }
     ensures bounded { IfOk result (λ mail. IsBounded (tree_of mail) (length raw.now)) }
+    ensures places { IfOk result (λ mail. placements_of mail ≡ placements 0 (tree_of mail)) }
     ensures no_alloc { header_count raw.now ≡ 0 → IsErr (read_headers raw.now) →
         Answers tree_of result (read_mail_in four_charsets levels raw.now) }
 {
-    parse_mail_recursive(alloc, raw, false, levels + 1, &[])
+    parse_mail_recursive(alloc, raw, 0, false, levels + 1, &[])
 }
 
-/// Reads a message with at most `levels` levels, including its own.
+/// Reads a message with at most `levels` levels, including its own, that starts at this offset of
+/// the mail.
 fn parse_mail_recursive<'a>(
     alloc: Global,
     raw: &'a [u8],
+    offset: usize,
     in_digest: bool,
     levels: u8,
     tables: &[SingleByteTable<'_>],
 ) -> Result<ParsedMail<'a>, MailParseError>
+    requires within { offset + length raw.now < 2 ^ 64 }
     ensures read { AnswersOrMemory tree_of result
         (read_levels (charsets_with tables.now) levels in_digest raw.now) }
+    ensures places { IfOk result (λ mail. placements_of mail ≡ placements offset (tree_of mail)) }
     ensures no_alloc { 0 < levels → header_count raw.now ≡ 0 → IsErr (read_headers raw.now) →
         Answers tree_of result (read_levels (charsets_with tables.now) levels in_digest raw.now) }
 {
@@ -207,6 +215,8 @@ fn parse_mail_recursive<'a>(
             ctype,
             body_bytes: &raw[index..],
             subparts: Vec::new(alloc),
+            range: offset..offset + raw.len(),
+            body_range: offset + index..offset + raw.len(),
         });
     };
     let is_digest = is_digest(&ctype);
@@ -216,7 +226,8 @@ fn parse_mail_recursive<'a>(
     while let Some(start) = next {
         let (part_end, after) = cut_part(raw, start, feed_and_dash_boundary.as_slice());
         let part = &raw[start..part_end];
-        subparts.push(parse_mail_recursive(alloc, part, is_digest, levels - 1, tables)?)?;
+        let begin = offset + start;
+        subparts.push(parse_mail_recursive(alloc, part, begin, is_digest, levels - 1, tables)?)?;
         next = after;
     }
     Ok(ParsedMail {
@@ -226,5 +237,7 @@ fn parse_mail_recursive<'a>(
         ctype,
         body_bytes: &raw[index..end],
         subparts,
+        range: offset..offset + raw.len(),
+        body_range: offset + index..offset + end,
     })
 }

@@ -58,11 +58,13 @@ abbrev pub forest_and : List Tree → Forest → Forest
 forest_and [] rest = rest
 forest_and (t ∷ ts) rest = part_and t (forest_and ts rest)
 
-forest_and-push : (front : List Tree) (t : Tree) (rest : Forest) → forest_and front (part_and t rest) ≡ forest_and (front ++ t ∷ []) rest
+-- a part more
+pub forest_and-push : (front : List Tree) (t : Tree) (rest : Forest) → forest_and front (part_and t rest) ≡ forest_and (front ++ t ∷ []) rest
 forest_and-push [] t rest = refl
 forest_and-push (u ∷ front) t rest = ap (part_and u) (forest_and-push front t rest)
 
-forest_and-none : (front : List Tree) → forest_and front no_parts ≡ forest front
+-- and no others
+pub forest_and-none : (front : List Tree) → forest_and front no_parts ≡ forest front
 forest_and-none [] = refl
 forest_and-none (u ∷ front) = ap (part_and u) (forest_and-none front)
 

@@ -4,7 +4,7 @@ ghost use Rattle.mail_codec.specs.Tables.{charsets_with};
 ghost use Rattle.mailparse.specs.BodyViews.{IsBody, content_of};
 ghost use Rattle.mailparse.specs.Mail.{block_of, body_bytes, body_kind, body_text, body_text_in, root, shown_as, shown_as_in, trees_within};
 ghost use Rattle.mailparse.specs.Outcome.{AnswersOrMemory, IsMemory, ReadsText, ReadsBytes};
-ghost use Rattle.mailparse.specs.Views.{disposition, tree_of, trees_left};
+ghost use Rattle.mailparse.specs.Views.{disposition, placement_of, tree_of, trees_left};
 
 use crate::body::Body;
 use crate::content_type::ParsedContentType;
@@ -15,12 +15,14 @@ use crate::headers::Headers;
 use crate::headers::map::MailHeaderMap;
 use mail_codec::charset::SingleByteTable;
 use std::alloc::{AllocError, Global};
+use std::fmt::{self, Debug, Formatter, Write};
+use std::ops::Range;
 
 /// A parsed message, or a part of one (RFC 5322, section 2.1; RFC 2046, section 5.1).
 ///
 /// It borrows the bytes of the message. The public fields may be changed; the methods use their
 /// current values.
-#[derive(Debug, Drop)]
+#[derive(Drop)]
 pub struct ParsedMail<'a> {
     /// The bytes of the message.
     pub raw_bytes: &'a [u8],
@@ -34,9 +36,71 @@ pub struct ParsedMail<'a> {
     pub(super) body_bytes: &'a [u8],
     /// Its parts (RFC 2046, section 5.1), in the order in which they appear.
     pub subparts: Vec<ParsedMail<'a>>,
+    /// Where its bytes stand in the mail that was parsed.
+    pub(super) range: Range<usize>,
+    /// Where the bytes of its body stand there.
+    pub(super) body_range: Range<usize>,
+}
+
+/// Shows the fields of the crate's own type.
+impl<'a> Debug for ParsedMail<'a> {
+    fn fmt<W: Write>(&self, f: &mut Formatter<W>) -> fmt::Result {
+        f.debug_struct("ParsedMail")
+            .field("raw_bytes", &self.raw_bytes)
+            .field("header_bytes", &self.header_bytes)
+            .field("headers", &self.headers)
+            .field("ctype", &self.ctype)
+            .field("body_bytes", &self.body_bytes)
+            .field("subparts", &self.subparts)
+            .finish()
+    }
 }
 
 impl<'a> ParsedMail<'a> {
+    /// Returns the range of the message's bytes in the mail that was parsed, counted from 0: for a
+    /// part, that of the part (RFC 2046, section 5.1).
+    ///
+    /// It is the range that was found by parsing, whatever `raw_bytes` is set to. Takes no memory.
+    ///
+    /// # Examples
+    ///
+    /// ```rust
+    /// use mailparse::parse_mail;
+    ///
+    /// let raw = b"Content-Type: multipart/mixed; boundary=b\n\n--b\n\none\n--b--\n";
+    /// let mail = parse_mail(alloc, raw)?;
+    /// assert_eq!(rt; mail.byte_range(), 0..57);
+    /// assert_eq!(rt; &raw[mail.subparts[0].byte_range()], b"\none".as_slice());
+    /// ```
+    pub fn byte_range(&self) -> Range<usize>
+        ensures { (placement_of self.now).whole
+            ≡ record { start = result.start; end = result.end } }
+    {
+        self.range.start..self.range.end
+    }
+
+    /// Returns the range of the body's bytes in the mail that was parsed, counted from 0; for a
+    /// message with parts, that of the preamble (RFC 2046, section 5.1).
+    ///
+    /// The bytes there are those of `get_body_encoded`: nothing is decoded. Takes no memory.
+    ///
+    /// # Examples
+    ///
+    /// ```rust
+    /// use mailparse::parse_mail;
+    ///
+    /// let raw = b"Content-Type: multipart/mixed; boundary=b\n\n--b\n\none\n--b--\n";
+    /// let mail = parse_mail(alloc, raw)?;
+    /// assert_eq!(rt; mail.body_range(), 43..43);
+    /// assert_eq!(rt; &raw[mail.subparts[0].body_range()], b"one".as_slice());
+    /// ```
+    pub fn body_range(&self) -> Range<usize>
+        ensures { (placement_of self.now).body
+            ≡ record { start = result.start; end = result.end } }
+    {
+        self.body_range.start..self.body_range.end
+    }
+
     /// Returns the header block (RFC 5322, section 2.2): its bytes, and the headers that `headers`
     /// currently holds.
     ///

@@ -1,4 +1,4 @@
-use Rattle.std.proofs.Common.{◌≡◌, ℕ, ◌-◌, ◌<◌, ◌∷◌, [], ◌++◌, List, Option, Some, None, option_map, length, map, take, drop, slice_range, Ok, refl, sym, ap, ◌∙◌, subst, arith}
+use Rattle.std.proofs.Common.{◌≡◌, ℕ, ◌+◌, ◌-◌, ◌<◌, ◌≤◌, ◌∷◌, [], ◌++◌, List, Option, Some, None, option_map, length, map, take, drop, slice_range, Ok, refl, sym, ap, ◌∙◌, subst, arith}
 use Rattle.std.specs.Global.{Vec}
 use Rattle.std.proofs.lemmas.List.{map-append}
 use Rattle.std.proofs.lemmas.Option.{IfSome_then}
@@ -7,12 +7,15 @@ use Rattle.mail_codec.specs.Tables.{charsets_with}
 use Rattle.mailparse.specs.Block.{read_headers}
 use Rattle.mailparse.specs.Delimiters.{end_from, first_part, next_part}
 use Rattle.mailparse.specs.Mail.{Tree, tree, Forest, no_parts, forest, dash_boundary_of, read_levels}
-use Rattle.mailparse.specs.Views.{content_type, tree_step, tree_of}
+use Rattle.mailparse.specs.Views.{content_type, placements_step, tree_step, tree_of}
 use Rattle.mailparse.specs.declared.mail.message.ParsedMail.{ParsedMail}
 use Rattle.mailparse.specs.declared.mail.message.ParsedMail.TheFolds.{fold-roll-ParsedMail}
 use Rattle.mailparse.proofs.lemmas.Refusal.{read_map}
 use Rattle.mailparse.proofs.lemmas.Outcome.{IsRefusal-along, IsRefusalOrMemory-along}
-use Rattle.mailparse.proofs.lemmas.Mail.{with_trees, parts_from, parts_step, parts_refused, parts_end, read_levels-none, read_levels-refused, read_levels-leaf, read_levels-whole, feed_and_dash_boundary_none, IsFeedAndDashBoundary-of}
+use Rattle.mailparse.proofs.lemmas.Mail.{with_trees, parts_from, parts_step, parts_refused, parts_end, read_levels-none, read_levels-refused, read_levels-leaf, read_levels-whole, feed_and_dash_boundary_none, feed_and_dash_boundary_some, IsFeedAndDashBoundary-of}
+use Rattle.mailparse.specs.Placement.{Placement, placements, placements_in}
+use Rattle.mailparse.proofs.lemmas.Delimiters.{part_ranges}
+use Rattle.mailparse.proofs.lemmas.Placement.{ArePlaced, placed_leaf, placed_whole, placed_step, placed_end, all_placed}
 use Rattle.mailparse.proofs.mail.+parse_mail_recursive.Goals as goal
 
 -- the LF and the dash-boundary that were made
@@ -106,6 +109,11 @@ loop-next-preserved t c =
       all = ap (λ (ts : List Tree). with_trees ts (parts_from (charsets_with c.args.tables.now) levels digest (drop 1 feed_and_dash_boundary) raw after)) pushed
           ∙ parts_step (charsets_with c.args.tables.now) levels digest (drop 1 feed_and_dash_boundary) raw (map tree_of c.loop-next.subparts.items) all start part_end after (tree_of part) ends next
           c.in_ok-parse_mail_recursive.ensures.read before;
+      placed =
+          let placed = subst (λ (o : Option ℕ). ArePlaced c.args.offset (drop 1 feed_and_dash_boundary) raw (first_part (drop 1 feed_and_dash_boundary) raw index) o c.loop-next.subparts.items) c.in-Some-next.is c.loop-next.invariant.placed in
+          subst (ArePlaced c.args.offset (drop 1 feed_and_dash_boundary) raw (first_part (drop 1 feed_and_dash_boundary) raw index) after) (sym c.in_ok-push.ensures.items)
+          (placed_step c.args.offset (drop 1 feed_and_dash_boundary) raw (first_part (drop 1 feed_and_dash_boundary) raw index) c.loop-next.subparts.items start after part next
+          c.in_ok-parse_mail_recursive.ensures.places placed);
     }
 
 pub returns-clause-read : goal.returns-clause-read
@@ -128,3 +136,51 @@ returns-clause-read t c =
     whole ∙ ap (read_map (tree (record { bytes = raw; block = take index raw; headers = headers; ctype = ctype; body = slice_range raw index end })))
     (parts_end (charsets_with c.args.tables.now) levels digest (drop 1 feed_and_dash_boundary) raw (map tree_of c.loop-next.subparts.items) all done)
     ∙ ap Ok (sym (fold-roll-ParsedMail Tree tree_step _))
+
+-- a message whose body ends at a place
+own : ℕ → ℕ → ℕ → ℕ → Placement
+own offset size index end = record { whole = record { start = offset; end = offset + size }; body = record { start = offset + index; end = offset + end } }
+
+pub returns-in_default-clause-places : goal.returns-in_default-clause-places
+unfolding own
+returns-in_default-clause-places t c =
+    let raw = c.args.raw.now in
+    let offset = c.args.offset in
+    let headers = c.in_ok-headers.headers.items in
+    let index = c.in_ok-headers.index in
+    let ctype = content_type c.in_ok-ctype.ctype in
+    let body = slice_range raw index (length raw) in
+    let within : index ≤ length raw = omega (arith, c.in_ok-headers.ensures.bounds) in
+    let nothing : None ≡ option_map (λ dash_boundary. 10 ∷ dash_boundary) (dash_boundary_of ctype) = sym (ap (option_map (λ (l : Vec ℕ). l.items)) c.in_default.is) ∙ c.in_ok-feed_and_dash_boundary.ensures in
+    let parts : forest (map tree_of c.new.result.items) ≡ no_parts = ap (λ (ms : List ParsedMail). forest (map tree_of ms)) c.new.ensures.items in
+    let none : all_placed c.new.result.items ≡ [] = ap all_placed c.new.ensures.items in
+    fold-roll-ParsedMail (List Placement) placements_step _
+    ∙ ap (λ (places : List Placement). own offset (length raw) index (length raw) ∷ places) none
+    ∙ placed_leaf offset raw headers index ctype body within (feed_and_dash_boundary_none (dash_boundary_of ctype) nothing)
+    ∙ ap (λ (f : Forest). placements offset (tree (record { bytes = raw; block = take index raw; headers = headers; ctype = ctype; body = body }) f)) (sym parts)
+    ∙ ap (placements offset) (sym (fold-roll-ParsedMail Tree tree_step _))
+
+pub returns-clause-places : goal.returns-clause-places
+unfolding own
+returns-clause-places t c =
+    let raw = c.args.raw.now in
+    let offset = c.args.offset in
+    let headers = c.in_ok-headers.headers.items in
+    let index = c.in_ok-headers.index in
+    let ctype = content_type c.in_ok-ctype.ctype in
+    let feed_and_dash_boundary = c.in-Some.feed_and_dash_boundary.items in
+    let dash_boundary = drop 1 feed_and_dash_boundary in
+    let first = first_part dash_boundary raw index in
+    let end = c.cut_preamble-end.result.0 in
+    let subparts = c.loop-next.subparts.items in
+    let within : index ≤ length raw = omega (arith, c.in_ok-headers.ensures.bounds) in
+    let delimiter =
+    (feed_and_dash_boundary_some feed_and_dash_boundary (dash_boundary_of ctype)
+    (made c.in_ok-feed_and_dash_boundary.field-0 c.in-Some.feed_and_dash_boundary _ c.in-Some.is c.in_ok-feed_and_dash_boundary.ensures)).0 in
+    let ends : end ≡ end_from dash_boundary raw index index = c.cut_preamble-end.ensures.end ∙ ap (λ (l : List ℕ). end_from (drop 1 l) raw index index) c.as_slice.ensures.value in
+    let done = subst (λ (o : Option ℕ). ArePlaced offset dash_boundary raw first o subparts) c.in_default-next.is c.loop-next.invariant.placed in
+    fold-roll-ParsedMail (List Placement) placements_step _
+    ∙ ap (λ (places : List Placement). own offset (length raw) index end ∷ places) (placed_end offset dash_boundary raw first subparts done)
+    ∙ ap (λ n. own offset (length raw) index n ∷ placements_in offset (part_ranges dash_boundary raw first) (forest (map tree_of subparts))) ends
+    ∙ placed_whole offset raw headers index ctype (slice_range raw index end) within dash_boundary (forest (map tree_of subparts)) delimiter
+    ∙ ap (placements offset) (sym (fold-roll-ParsedMail Tree tree_step _))

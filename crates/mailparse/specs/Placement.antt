@@ -1,0 +1,22 @@
+-- Where a message and its parts stand in the mail that was parsed, counted from its first byte; the project's own words.
+use Rattle.std.specs.Prelude.{ℕ, ◌+◌, List, [], ◌∷◌, ◌++◌, length}
+use Rattle.mailparse.specs.Mail.{Tree, tree, Forest, no_parts, part_and, cut_of}
+use Rattle.mailparse.specs.Ranges.{Range, moved}
+
+-- where one message stands: all its bytes, and those of its body
+pub record Placement : Type 0 where
+  pub whole : Range
+  pub body : Range
+
+abbrev mutual
+  -- a message that starts there, then its parts, each before its own parts (preorder): its type says how it is cut
+  pub placements : ℕ → Tree → List Placement
+  placements start (tree node parts) =
+      let cut = cut_of node.ctype node.bytes (length node.block) in
+      record { whole = record { start = start; end = start + length node.bytes }; body = moved start cut.body } ∷ placements_in start cut.parts parts
+
+  -- the same of parts that stand at these ranges of the message that starts there
+  pub placements_in : ℕ → List Range → Forest → List Placement
+  placements_in start ranges no_parts = []
+  placements_in start [] (part_and t ts) = []
+  placements_in start (range ∷ ranges) (part_and t ts) = placements (start + range.start) t ++ placements_in start ranges ts
