@@ -13,6 +13,7 @@ pub mod Mail
 pub mod Least
 pub mod DelimiterPlaces
 pub mod RangeTree
+pub mod Placement
 pub mod RenderViews
 pub mod RenderConditions
 pub mod RenderHeaders

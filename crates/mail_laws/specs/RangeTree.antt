@@ -10,12 +10,9 @@ use Rattle.mailparse.specs.Block.{HeaderList, header_count, read_headers}
 use Rattle.mailparse.specs.ContentType.{ContentType}
 use Rattle.mailparse.specs.Delimiters.{Cut}
 use Rattle.mailparse.specs.Mail.{Node, Tree, tree, Forest, no_parts, part_and, cut_of, is_digest, node_type}
-use Rattle.mailparse.specs.Ranges.{Range, Apart, slice}
+use Rattle.mailparse.specs.Placement.{Placement}
+use Rattle.mailparse.specs.Ranges.{Range, Apart, moved, slice}
 use Rattle.mail_laws.specs.Spans.{key_range, value_range}
-
--- a range of what stands from a place on, as a range of the whole
-abbrev pub moved : ℕ → Range → Range
-moved place range = record { start = place + range.start; end = place + range.end }
 
 -- where the key and the value of a header stand
 pub record HeaderRanges : Type 0 where
@@ -164,6 +161,16 @@ abbrev mutual
   pub blocks_and_bodies_in : RangeForest → List Range
   blocks_and_bodies_in no_ranges = []
   blocks_and_bodies_in (ranges_and t ts) = blocks_and_bodies t ++ blocks_and_bodies_in ts
+
+abbrev mutual
+  -- where a message and its body stand, then its parts and theirs, each before its own parts (preorder)
+  pub wholes_and_bodies : RangeTree → List Placement
+  wholes_and_bodies (range_tree node parts) = record { whole = node.whole; body = node.body } ∷ wholes_and_bodies_in parts
+
+  -- the same of each of some parts
+  pub wholes_and_bodies_in : RangeForest → List Placement
+  wholes_and_bodies_in no_ranges = []
+  wholes_and_bodies_in (ranges_and t ts) = wholes_and_bodies t ++ wholes_and_bodies_in ts
 
 -- the place is in the range
 abbrev pub Holds : Range → ℕ → Type 0

@@ -8,12 +8,12 @@ use Rattle.mailparse.specs.Header.{Header}
 use Rattle.mailparse.specs.Block.{HeaderList, header_count, header_place, read_headers}
 use Rattle.mailparse.specs.ContentType.{ContentType}
 use Rattle.mailparse.specs.Mail.{Node, Tree, tree, Forest, part_and, cut_of, is_digest, node_type, node_with, read_each, read_levels, read_mail_in, read_parts}
-use Rattle.mailparse.specs.Ranges.{Range, Apart, slice}
+use Rattle.mailparse.specs.Ranges.{Range, Apart, moved, slice}
 use Rattle.mailparse.proofs.lemmas.Block.{header_place-≤, header_place-first, read_headers-bounded, read_headers-index, values_below-same}
 use Rattle.mailparse.proofs.lemmas.Ranges.{cut_of-apart}
 use Rattle.mailparse.proofs.lemmas.Refusal.{read_map}
 use Rattle.mail_laws.specs.Spans.{header_at, key_range, value_range}
-use Rattle.mail_laws.specs.RangeTree.{moved, HeaderRanges, RangeNode, RangeTree, range_tree, RangeForest, no_ranges, ranges_and, range_root, header_there, node_there, tree_there, forest_there, headers_at, range_node, range_each, range_parts, range_levels, ranges_in, header_fields, wholes, LieInOrder, AreNested, AllNested, blocks_and_bodies, blocks_and_bodies_in, Holds}
+use Rattle.mail_laws.specs.RangeTree.{HeaderRanges, RangeNode, RangeTree, range_tree, RangeForest, no_ranges, ranges_and, range_root, header_there, node_there, tree_there, forest_there, headers_at, range_node, range_each, range_parts, range_levels, ranges_in, header_fields, wholes, LieInOrder, AreNested, AllNested, blocks_and_bodies, blocks_and_bodies_in, Holds}
 use Rattle.mail_laws.proofs.lemmas.Spans.{headers-at_ranges, ranges-in_order}
 
 -- ---- slices of slices
@@ -69,14 +69,14 @@ module _ (mail : List ℕ) (whole : Range) where
       ∙ sym (headers-at_ranges raw block read ∙ values_below-same (header_count raw) (header_at raw)
       (λ j. header_there mail (record { key = moved whole.start (key_range raw j); value = moved whole.start (value_range raw j) })) header-there)
 
-  block-there : (index : ℕ) → index ≤ length (slice mail whole) → slice mail (moved whole.start (record { start = 0; end = index })) ≡ take index (slice mail whole)
+  pub block-there : (index : ℕ) → index ≤ length (slice mail whole) → slice mail (moved whole.start (record { start = 0; end = index })) ≡ take index (slice mail whole)
   block-there index within =
       let same : index - 0 ≡ index = omega arith in
       sym (slice-moved mail whole (record { start = 0; end = index }) (omega arith) within) ∙ ap (λ n. take n (slice mail whole)) same
 
 -- ---- the tree that stands at the ranges
 
-Apart-order : (gap from : ℕ) (rs : List Range) (to : ℕ) → Apart gap from rs to → from ≤ to
+pub Apart-order : (gap from : ℕ) (rs : List Range) (to : ℕ) → Apart gap from rs to → from ≤ to
 Apart-order gap from [] to h = h
 Apart-order gap from (r ∷ rs) to h = let more = Apart-order gap r.end rs to h.2 in omega (arith, h.0, h.1, more)
 

@@ -1,15 +1,16 @@
 //! Messages with their parts: where they stand, and what is read of them.
-ghost use Rattle.std.specs.Prelude.{◌<◌, ◌≡◌, ◌≤◌, ◌⊎◌, ℕ, Err, List, Ok, length, slice_index_or};
+ghost use Rattle.std.specs.Prelude.{◌<◌, ◌≡◌, ◌≤◌, ◌⊎◌, ℕ, Err, List, Ok, length, map, slice_index_or};
 ghost use Rattle.mail_codec.specs.Charset.{Charsets};
 ghost use Rattle.mailparse.specs.Block.{HeaderList, read_headers};
 ghost use Rattle.mailparse.specs.Bound.{IsBounded};
 ghost use Rattle.mailparse.specs.ContentType.{ContentType};
 ghost use Rattle.mailparse.specs.Delimiters.{Cut, cut_parts};
-ghost use Rattle.mailparse.specs.Mail.{Tree, cut_of, read_mail_in};
-ghost use Rattle.mailparse.specs.Ranges.{Apart, Range};
+ghost use Rattle.mailparse.specs.Mail.{Tree, cut_of, nodes, read_mail_in};
+ghost use Rattle.mailparse.specs.Placement.{placements};
+ghost use Rattle.mailparse.specs.Ranges.{Apart, Range, slice};
 ghost use Rattle.mailparse.specs.Refusal.{recursion_limit};
 ghost use Rattle.mail_laws.specs.DelimiterPlaces.{IsCutAt, delimiters};
-ghost use Rattle.mail_laws.specs.RangeTree.{AreNested, Holds, RangeTree, blocks_and_bodies, range_root, ranges_in, read_there};
+ghost use Rattle.mail_laws.specs.RangeTree.{AreNested, Holds, RangeTree, blocks_and_bodies, range_root, ranges_in, read_there, wholes_and_bodies};
 
 /// Exactly one list of delimiters fits a body in words of places, and exactly one preamble with one
 /// list of parts: those that are computed. Each delimiter begins a line of the body, after the line
@@ -44,6 +45,25 @@ pub fn parts_apart()
 pub fn ranges_give_tree()
     ensures { (known : Charsets) (mail : List ℕ) (greatest : ℕ) →
         read_there mail (ranges_in known mail greatest) ≡ read_mail_in known greatest mail }
+{}
+
+/// Where a mail and its parts stand, as the calls that parse a mail record it, are the ranges of
+/// its tree of ranges, whatever charsets are known and under every limit on levels. The bytes of the
+/// mail from where a message starts to where it ends are the message, and those from where its body
+/// starts to where this ends are its body, still in its transfer encoding.
+pub fn bytes_stand_at_places()
+    ensures ranges { (known : Charsets) (greatest : ℕ) (mail : List ℕ) (parsed : Tree)
+        (ranges : RangeTree) → read_mail_in known greatest mail ≡ Ok parsed →
+        ranges_in known mail greatest ≡ Ok ranges →
+        placements 0 parsed ≡ wholes_and_bodies ranges }
+    ensures messages { (known : Charsets) (greatest : ℕ) (mail : List ℕ) (parsed : Tree) →
+        read_mail_in known greatest mail ≡ Ok parsed →
+        map (λ place. slice mail place.whole) (placements 0 parsed)
+        ≡ map (λ node. node.bytes) (nodes parsed) }
+    ensures bodies { (known : Charsets) (greatest : ℕ) (mail : List ℕ) (parsed : Tree) →
+        read_mail_in known greatest mail ≡ Ok parsed →
+        map (λ place. slice mail place.body) (placements 0 parsed)
+        ≡ map (λ node. node.body) (nodes parsed) }
 {}
 
 /// The header blocks and the bodies of a message and of all its parts stand apart in the mail, one
