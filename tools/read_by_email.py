@@ -150,9 +150,16 @@ def mail_object(data):
     return found
 
 
+# a line `From `, with a time as asctime writes it, as docs/RULES.md says
+SEPARATOR = (
+    rb"From (?:[^\n]* )?(?:Sun|Mon|Tue|Wed|Thu|Fri|Sat)\s+(?:Jan|Feb|Mar|Apr|May|Jun|Jul|Aug|Sep|Oct|Nov|Dec)\s+"
+    rb"\d\d?\s+\d\d:\d\d(?::\d\d)?\s+(?:(?:[+-]\d{4}|[A-Za-z]+)\s+)?\d{4}(?!\S)[^\n]*(?:\n|\Z)"
+)
+
+
 def mails_of(mailbox):
     """The mails of a mailbox, cut as docs/RULES.md says; what stands before the first is left out."""
-    starts = list(re.finditer(rb"(?:\A|(?:\A|(?<=\n))\r?\n)From [^\n]*(?:\n|\Z)", mailbox))
+    starts = list(re.finditer(rb"(?:\A|(?:\A|(?<=\n))\r?\n)" + SEPARATOR, mailbox))
     last = re.search(rb"(?<=\n)\r?\n\Z", mailbox)
     ends = [found.start() for found in starts[1:]] + [last.start() if last else len(mailbox)]
     for found, end in zip(starts, ends):

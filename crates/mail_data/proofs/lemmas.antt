@@ -6,4 +6,5 @@ pub mod Forwarding
 pub mod Lines
 pub mod lenient
 pub mod Mailbox
+pub mod PartPlaces
 pub mod Separator

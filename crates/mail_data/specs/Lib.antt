@@ -1,6 +1,8 @@
 pub mod FileNames
 pub mod Files
 pub mod FileViews
+pub mod PartPlaces
+pub mod PlaceViews
 pub mod Lines
 pub mod Separator
 pub mod Mailbox

@@ -334,20 +334,9 @@ pub fn attachments_with<'m, 'a>(
     Ok(files)
 }
 
-/// Returns the path of a whole mail, as IMAP numbers parts (RFC 3501, section 6.4.5): `1`, that of
-/// its body, where it has no parts, and otherwise the empty text. Takes no memory.
-///
-/// # Examples
-///
-/// ```rust
-/// use mail_data::files::whole_path;
-/// use mailparse::parse_mail;
-///
-/// assert_eq!(rt; whole_path(&parse_mail(alloc, b"Subject: Hi\n\nHello")?), "1");
-/// let raw = b"Content-Type: multipart/mixed; boundary=b\n\n--b\n\nHi\n--b--";
-/// assert_eq!(rt; whole_path(&parse_mail(alloc, raw)?), "");
-/// ```
-pub fn whole_path(mail: &ParsedMail<'_>) -> &'static str
+/// The path of a whole mail, as IMAP numbers parts (RFC 3501, section 6.4.5): `1`, that of its body,
+/// where it has no parts, and otherwise the empty text.
+pub(crate) fn whole_path(mail: &ParsedMail<'_>) -> &'static str
     ensures { result.now ≡ whole_path (tree_of mail.now) }
 {
     if is_leaf(mail) { "1" } else { "" }
@@ -397,25 +386,10 @@ fn push_own<'m, 'a>(
     Ok(())
 }
 
-/// Returns the path of the part with this number, counted from 1, by the path of the message that it
-/// is a part of (RFC 3501, section 6.4.5).
-///
-/// Takes memory for the path.
-///
-/// # Errors
-///
-/// `AllocError` where it runs out of memory.
-///
-/// # Examples
-///
-/// ```rust
-/// use mail_data::files::path_under;
-///
-/// assert_eq!(rt; path_under(alloc, "", 2)?.as_str(), "2");
-/// assert_eq!(rt; path_under(alloc, "2", 1)?.as_str(), "2.1");
-/// ```
+/// The path of the part with this number, counted from 1, by the path of the message that it is a
+/// part of (RFC 3501, section 6.4.5).
 #[tactic(auto, unfolding(crate::specs::Files::path_under))]
-pub fn path_under(alloc: Global, path: &str, number: usize) -> Result<String, AllocError>
+pub(crate) fn path_under(alloc: Global, path: &str, number: usize) -> Result<String, AllocError>
     ensures { IfOk result (λ text. string_bytes text ≡ path_under path.now number) }
 {
     if path.is_empty() {

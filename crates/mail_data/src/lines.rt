@@ -4,21 +4,9 @@ ghost use Rattle.mail_data.specs.Lines.{empty_line, is_empty_line, line_length, 
 
 use mail_codec::bytescan::find_byte;
 
-/// Returns how many bytes the empty line at the front has, LF or CR LF, or 0 where none is there.
-///
-/// Takes no memory.
-///
-/// # Examples
-///
-/// ```rust
-/// use mail_data::lines::empty_line;
-///
-/// assert_eq!(rt; empty_line(b"\nHello"), 1);
-/// assert_eq!(rt; empty_line(b"\r\nHello"), 2);
-/// assert_eq!(rt; empty_line(b"\rHello"), 0);
-/// ```
+/// How many bytes the empty line at the front has, LF or CR LF, or 0 where none is there.
 #[tactic(auto, unfolding(crate::specs::Lines::empty_line))]
-pub fn empty_line(bytes: &[u8]) -> usize
+pub(crate) fn empty_line(bytes: &[u8]) -> usize
     ensures value { result ≡ empty_line bytes.now }
     ensures bounds { result ≤ length bytes.now }
 {

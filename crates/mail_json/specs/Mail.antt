@@ -5,13 +5,14 @@ use Rattle.mail_codec.specs.Charset.{Charsets}
 use Rattle.mail_codec.specs.Latin1.{latin1_text}
 use Rattle.mailparse.specs.Mail.{Node, Tree, root}
 use Rattle.mailparse.specs.Map.{first_with_key}
-use Rattle.mail_data.specs.Files.{whole_path}
+use Rattle.mailparse.specs.Placement.{placements}
+use Rattle.mail_data.specs.PartPlaces.{places}
 use Rattle.mail_data.specs.lenient.Date.{Dated, date_of}
 use Rattle.mail_data.specs.declared.lenient.date.error.DateError.{DateError}
 use Rattle.mail_data.specs.declared.lenient.date.error.DateError.TheVariants.{Day, Month, Year, Time, Zone, TrailingText}
 use Rattle.mail_json.specs.Fields.{value_of, ids_of}
 use Rattle.mail_json.specs.Origin.{Origin, origin_text}
-use Rattle.mail_json.specs.Part.{places, IsPartText, AreJoined}
+use Rattle.mail_json.specs.Part.{IsPartText, AreJoined}
 use Rattle.mail_json.specs.Strings.{json_text, text_or_null, json_texts}
 
 -- what is missing in a date, or wrong in it
@@ -71,5 +72,5 @@ module _ (known : Charsets) where
 -- a text is that of the object of a mail from there
 abbrev pub IsMailText : Charsets → Origin → Tree → List ℕ → Type 0
 IsMailText known origin mail text =
-    (parts : List ℕ) × AreJoined (IsPartText known) (places (whole_path mail) origin.start mail) parts
+    (parts : List ℕ) × AreJoined (IsPartText known origin.start) (places mail (placements 0 mail)) parts
     × (text ≡ mail_text known origin (root mail) parts)

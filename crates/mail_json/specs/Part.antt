@@ -1,25 +1,23 @@
--- The parts of a mail, where each stands in the input, and the text that is written of each; the program's own form.
-use Rattle.std.specs.Prelude.{◌≡◌, ℕ, suc, ◌+◌, ◌^◌, ◌-◌, min, Bool, true, false, not, ◌&&◌, List, [], ◌∷◌, ◌++◌, length, drop, map, Ok, Err, codes, decimal}
+-- The text that is written of each part of a mail; the program's own form.
+use Rattle.std.specs.Prelude.{◌≡◌, ℕ, ◌+◌, ◌^◌, ◌-◌, min, Bool, true, false, not, ◌&&◌, List, [], ◌∷◌, ◌++◌, length, map, Ok, Err, codes, decimal}
 use Rattle.std.specs.Cmp.Lexicographic.{slice_cmp}
 use Rattle.std.specs.List.Sorted.{IsStrictlySortedBy}
 use Rattle.std.specs.Map.{lookup}
-use Rattle.std.specs.Option.{option_map_or}
 use Rattle.std.specs.Ordering.{nat_cmp}
 use Rattle.std.specs.Str.{bytes_eq}
-use Rattle.mail_codec.specs.Ascii.{line_feed}
 use Rattle.mail_codec.specs.Charset.{Charsets}
-use Rattle.mail_codec.specs.Places.{byte_place, stands}
+use Rattle.mail_codec.specs.Places.{stands}
 use Rattle.mailparse.specs.Body.{BodyKind, decoded_text_in}
 use Rattle.mailparse.specs.BodyViews.{Content, content_of}
 use Rattle.mailparse.specs.ContentType.{ContentType}
 use Rattle.mailparse.specs.Disposition.{Disposition}
 use Rattle.mailparse.specs.Header.{Header, key_text}
-use Rattle.mailparse.specs.Mail.{Node, Tree, Forest, tree, no_parts, part_and, root, shown_as_in}
+use Rattle.mailparse.specs.Mail.{Node, Tree, root, shown_as_in}
 use Rattle.mailparse.specs.Pairs.{Texts}
 use Rattle.mailparse.specs.Refusal.{Reads}
 use Rattle.mailparse.specs.Value.{lenient_value_in}
-use Rattle.mail_data.specs.Files.{describes_attachment, is_leaf, name_in, path_under}
-use Rattle.mail_data.specs.Lines.{empty_line}
+use Rattle.mail_data.specs.Files.{describes_attachment, is_leaf, name_in}
+use Rattle.mail_data.specs.PartPlaces.{Place}
 use Rattle.mail_data.specs.lenient.Encoding.{lenient_body_kind}
 use Rattle.mail_json.specs.Body.{encoding_text, decoded_size}
 use Rattle.mail_json.specs.Fields.{refusal_text, disposition_name}
@@ -28,47 +26,6 @@ use Rattle.mail_json.specs.Strings.{json_text, text_or_null, joined}
 -- a sum, or the greatest number of 64 bits, where no file ends
 abbrev pub saturating_add : ℕ → ℕ → ℕ
 saturating_add a b = min (a + b) (2 ^ 64 - 1)
-
--- a part: its path, where it begins in the input, and the message that it is
-pub record Place : Type 0 where
-  pub path : List ℕ
-  pub start : ℕ
-  pub part : Tree
-
--- how many bytes the dash-boundary of a type's parts has: `--` and the boundary (RFC 2046, section 5.1.1)
-abbrev pub dash_boundary_length : ContentType → ℕ
-dash_boundary_length ctype = option_map_or (λ boundary. saturating_add (length boundary) 2) (ctype.params (codes "boundary")) 0
-
--- where the preamble of a part ends, counted from where the part begins: its body is the preamble where it has parts
-abbrev pub preamble_end : Node → ℕ
-preamble_end node = saturating_add (length node.block) (length node.body)
-
--- the place just after the first LF from there on, or the end where there is none
-abbrev pub line_after : List ℕ → ℕ → ℕ
-line_after bytes place = option_map_or (λ count. saturating_add (saturating_add place count) 1) (byte_place (drop place bytes) line_feed) (length bytes)
-
--- where the part begins that follows a part or the preamble that ends here: a line end comes first, unless what ends here is empty, and then
--- the line of the dash-boundary
-unfoldable pub part_start : List ℕ → ℕ → ℕ → ℕ
-part_start bytes end dash_boundary = line_after bytes (saturating_add (saturating_add end (empty_line (drop end bytes))) dash_boundary)
-
--- where a part ends that begins at this offset
-abbrev pub part_end : ℕ → Node → ℕ
-part_end start node = saturating_add start (length node.bytes)
-
--- a message that begins there, and then its parts, each before its own parts: their paths, and where each begins
-abbrev mutual
-  pub places : List ℕ → ℕ → Tree → List Place
-  places path start (tree node parts) =
-      record { path = path; start = start; part = tree node parts } ∷ places_in path start node 1 (preamble_end node) parts
-
-  -- the same of the parts of a message, which are numbered from there on; what comes before them ends at this place of it
-  pub places_in : List ℕ → ℕ → Node → ℕ → ℕ → Forest → List Place
-  places_in path start node number end no_parts = []
-  places_in path start node number end (part_and t ts) =
-      let begin = part_start node.bytes end (dash_boundary_length node.ctype) in
-      places (path_under path number) (saturating_add start begin) t
-      ++ places_in path start node (suc number) (part_end begin (root t)) ts
 
 -- pairs list texts: each name once, the names in the order of their bytes, and with each what stands under it
 pub record Lists (texts : Texts) (pairs : List (List ℕ × List ℕ)) : Type 0 where
@@ -135,21 +92,21 @@ module _ (known : Charsets) where
   body_text false kind body = codes "null"
   body_text true kind body = read_text (decoded_text_in known kind body.ctype.charset body.raw)
 
-  -- the object of a part, whose type has this text
-  abbrev pub part_text : Place → List ℕ → List ℕ
-  part_text place type =
+  -- the object of a part of a mail that begins there in the input, whose type has this text
+  abbrev pub part_text : ℕ → Place → List ℕ → List ℕ
+  part_text start place type =
       let node = root place.part in
       let kind = lenient_body_kind node in
       let disposition = shown_as_in known node in
       let attached = is_attachment place.part disposition in
       codes "{\"path\":" ++ json_text place.path ++ type ++ disposition_text disposition node attached
-      ++ place_text (encoding_text kind) place.start (part_end place.start node) (length node.body)
+      ++ place_text (encoding_text kind) (saturating_add start place.placement.whole.start) (saturating_add start place.placement.whole.end) (length node.body)
       ++ size_text (decoded_size kind node.body) ++ headers_text node.headers ++ codes ",\"text\":"
       ++ body_text (not attached && is_leaf place.part && stands (codes "text/") node.ctype.mimetype) kind (content_of node) ++ codes "}"
 
-  -- a text is that of the object of a part
-  abbrev pub IsPartText : Place → List ℕ → Type 0
-  IsPartText place text = (type : List ℕ) × IsTypeText (root place.part).ctype type × (text ≡ part_text place type)
+  -- a text is that of the object of a part of a mail that begins there
+  abbrev pub IsPartText : ℕ → Place → List ℕ → Type 0
+  IsPartText start place text = (type : List ℕ) × IsTypeText (root place.part).ctype type × (text ≡ part_text start place type)
 
 -- a text is that of items, each after a comma
 abbrev pub AreAfterCommas : {A : Type 0} → (A → List ℕ → Type 0) → List A → List ℕ → Type 0
@@ -159,4 +116,5 @@ AreAfterCommas Is (x ∷ xs) text =
 
 -- a text is that of items, a comma between two
 abbrev pub AreJoined : {A : Type 0} → (A → List ℕ → Type 0) → List A → List ℕ → Type 0
-AreJoined Is xs text = AreAfterCommas Is xs (codes "," ++ text)
+AreJoined Is [] text = text ≡ []
+AreJoined Is (x ∷ xs) text = (first : List ℕ) × (others : List ℕ) × Is x first × AreAfterCommas Is xs others × (text ≡ first ++ others)

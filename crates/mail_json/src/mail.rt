@@ -2,7 +2,8 @@
 ghost use Rattle.std.specs.Prelude.{◌≡◌, codes, option_map};
 ghost use Rattle.mail_codec.specs.Tables.{charsets_with};
 ghost use Rattle.mailparse.specs.Mail.{root};
-ghost use Rattle.mailparse.specs.Views.{tree_of};
+ghost use Rattle.mailparse.specs.Placement.{placements};
+ghost use Rattle.mailparse.specs.Views.{placements_of, tree_of};
 ghost use Rattle.mail_data.specs.lenient.Date.{date_of};
 ghost use Rattle.mail_json.specs.Fields.{value_of};
 ghost use Rattle.mail_json.specs.Mail.{IsMailText, date_fault_text, date_text, id_list_text};
@@ -15,14 +16,14 @@ use crate::origin::{Origin, write_origin};
 use crate::part::write_parts;
 use crate::strings::{write_optional, write_text, write_texts, write_word};
 use mail_codec::charset::decode_latin1;
-use mail_data::files::whole_path;
 use mail_data::lenient::{DateError, date_of};
 use mail_program::Fault;
 use mailparse::{MailHeaderMap, ParsedMail, SingleByteTable};
 use std::alloc::Global;
 use std::io::Write;
 
-/// Writes the object of a mail from there, where texts may also be in the charsets of some tables.
+/// Writes the object of a mail from there, where texts may also be in the charsets of some tables. It
+/// is a mail as it was parsed.
 ///
 /// # Errors
 ///
@@ -35,6 +36,7 @@ pub fn write_mail<W: Write>(
     origin: &Origin<'_>,
     tables: &[SingleByteTable<'_>],
 ) -> Result<(), Fault>
+    requires placed { placements_of mail.now ≡ placements 0 (tree_of mail.now) }
     ensures { WritesOne (W.contents out.old) (W.contents out.new) result
         (IsMailText (charsets_with tables.now) (origin_of origin.now) (tree_of mail.now)) }
 {
@@ -44,7 +46,7 @@ pub fn write_mail<W: Write>(
     write_date(alloc, out, mail, tables)?;
     write_ids(alloc, out, mail, tables)?;
     write_word(out, ",\"parts\":[")?;
-    write_parts(alloc, out, mail, whole_path(mail), origin.start, tables)?;
+    write_parts(alloc, out, mail, origin.start, tables)?;
     write_word(out, "]}")
 }
 

@@ -1,31 +1,29 @@
 //! The objects of the parts.
-ghost use Rattle.std.specs.Prelude.{◌≡◌, ◌++◌, ◌∷◌, ◌&&◌, ℕ, List, codes, drop, length, not, IfErr};
-ghost use Rattle.std.specs.Prelude.{IfOk, Ok};
+ghost use Rattle.std.specs.Prelude.{◌≡◌, ◌&&◌, ℕ, List, codes, not};
 ghost use Rattle.std.specs.Cow.{cow_slice_items};
 ghost use Rattle.mail_codec.specs.Places.{stands};
 ghost use Rattle.mail_codec.specs.Tables.{charsets_with};
 ghost use Rattle.mailparse.specs.Body.{BodyKind, decoded};
 ghost use Rattle.mailparse.specs.BodyViews.{Content};
 ghost use Rattle.mailparse.specs.Mail.{root};
-ghost use Rattle.mailparse.specs.Outcome.{AnswersOrMemory, IsMemory};
+ghost use Rattle.mailparse.specs.Outcome.{AnswersOrMemory};
 ghost use Rattle.mailparse.specs.Views as views;
-ghost use Rattle.mailparse.specs.Views.{content_type, tree_of};
+ghost use Rattle.mailparse.specs.Views.{content_type, placements_of, tree_of};
 ghost use Rattle.mail_data.specs.Files.{is_leaf};
+ghost use Rattle.mail_data.specs.PartPlaces.{places};
+ghost use Rattle.mail_data.specs.PlaceViews.{place_view};
 ghost use Rattle.mail_json.specs.Body.{decoded_size};
-ghost use Rattle.mail_json.specs.Part.{AreAfterCommas, IsPartText, IsTypeText, body_text};
-ghost use Rattle.mail_json.specs.Part.{dash_boundary_length, disposition_text, flag_text, header_text};
-ghost use Rattle.mail_json.specs.Part.{headers_text, is_attachment, line_after, parameter_text};
-ghost use Rattle.mail_json.specs.Part.{part_end, part_start, place_text, places, preamble_end};
-ghost use Rattle.mail_json.specs.Part.{size_text};
+ghost use Rattle.mail_json.specs.Part.{AreJoined, IsPartText, IsTypeText, body_text};
+ghost use Rattle.mail_json.specs.Part.{disposition_text, flag_text, header_text, headers_text};
+ghost use Rattle.mail_json.specs.Part.{is_attachment, parameter_text, place_text, size_text};
 ghost use Rattle.mail_json.specs.Written.{Writes, WritesOne};
 
 use crate::body::{decoded, encoding_name, text_of};
 use crate::fields::{disposition_name, refusal_text};
 use crate::strings::{write_comma, write_name, write_owned, write_text, write_word};
-use mail_codec::bytescan::find_byte;
-use mail_data::files::{describes_attachment, is_leaf, named_file, path_under};
+use mail_data::files::{describes_attachment, is_leaf, named_file};
 use mail_data::lenient::lenient_body;
-use mail_data::lines::empty_line;
+use mail_data::places::{Place, places};
 use mail_program::Fault;
 use mailparse::{
     MailHeader, MailParseError, ParsedContentDisposition, ParsedContentType, ParsedMail,
@@ -35,8 +33,8 @@ use std::alloc::Global;
 use std::borrow::CowSlice;
 use std::io::Write;
 
-/// Writes the object of a part that has this path and begins at this offset of the input, and then
-/// those of its own parts, each after a comma.
+/// Writes the objects of a mail that begins at this offset of the input and of its parts, a comma
+/// between two.
 ///
 /// # Errors
 ///
@@ -45,111 +43,46 @@ use std::io::Write;
 pub fn write_parts<W: Write>(
     alloc: Global,
     out: &mut W,
-    part: &ParsedMail<'_>,
-    path: &str,
+    mail: &ParsedMail<'_>,
     start: usize,
     tables: &[SingleByteTable<'_>],
 ) -> Result<(), Fault>
-    ensures { WritesOne (W.contents out.old) (W.contents out.new) result (λ text.
-        AreAfterCommas (IsPartText (charsets_with tables.now))
-        (places path.now start (tree_of part.now)) (codes "," ++ text)) }
+    ensures { WritesOne (W.contents out.old) (W.contents out.new) result
+        (AreJoined (IsPartText (charsets_with tables.now) start)
+        (places (tree_of mail.now) (placements_of mail.now))) }
 {
-    write_part(alloc, out, part, path, start, tables)?;
-    let dash_boundary = dash_boundary_length(&part.ctype);
-    let mut at = preamble_end(alloc, part)?;
-    let mut number = 0;
-    for subpart in &part.subparts {
-        write_word(out, ",")?;
-        number += 1;
-        at = part_start(part.raw_bytes, at, dash_boundary);
-        let under = path_under(alloc, path, number)?;
-        let begin = start.saturating_add(at);
-        write_parts(alloc, out, subpart, under.as_str(), begin, tables)?;
-        at = part_end(at, subpart);
+    let found = places(alloc, mail)?;
+    let mut is_first = true;
+    for place in &found {
+        write_comma(out, is_first)?;
+        write_part(alloc, out, place, start, tables)?;
+        is_first = false;
     }
     Ok(())
-}
-
-/// How many bytes the dash-boundary has: `--` and the boundary (RFC 2046, section 5.1.1).
-fn dash_boundary_length(ctype: &ParsedContentType) -> usize
-    ensures { result ≡ dash_boundary_length (content_type ctype.now) }
-{
-    match ctype.params.get("boundary") {
-        Some(boundary) => boundary.len().saturating_add(2),
-        None => 0,
-    }
-}
-
-/// Where the preamble of a part ends, counted from where the part begins.
-fn preamble_end(alloc: Global, part: &ParsedMail<'_>) -> Result<usize, MailParseError>
-    ensures read { IfOk result (λ end. end ≡ preamble_end (root (tree_of part.now))) }
-    ensures only_memory { IfErr result IsMemory }
-{
-    let body = part.get_body_encoded(alloc)?;
-    let headers = part.get_headers().get_raw_bytes().len();
-    Ok(headers.saturating_add(body.get_raw().len()))
-}
-
-/// Where the part begins that follows a part or the preamble that ends here: a line end comes
-/// first, unless what ends here is empty, and then the line of the dash-boundary.
-#[tactic(auto, unfolding(crate::specs::Part::part_start))]
-fn part_start(raw: &[u8], end: usize, dash_boundary: usize) -> usize
-    ensures { result ≡ part_start raw.now end dash_boundary }
-{
-    let after = end.saturating_add(empty_line(rest_at(raw, end)));
-    line_after(raw, after.saturating_add(dash_boundary))
-}
-
-/// Where a part ends that begins at this offset.
-fn part_end(start: usize, part: &ParsedMail<'_>) -> usize
-    ensures { result ≡ part_end start (root (tree_of part.now)) }
-{
-    start.saturating_add(part.raw_bytes.len())
-}
-
-/// The place just after the first LF from there on, or the end where there is none.
-fn line_after(raw: &[u8], place: usize) -> usize
-    ensures { result ≡ line_after raw.now place }
-{
-    match find_byte(rest_at(raw, place), b'\n') {
-        Some(count) => place.saturating_add(count).saturating_add(1),
-        None => raw.len(),
-    }
-}
-
-/// The bytes from there on, or none.
-fn rest_at(raw: &[u8], place: usize) -> &[u8]
-    ensures { result.now ≡ drop place raw.now }
-{
-    if place < raw.len() {
-        &raw[place..]
-    } else {
-        &raw[raw.len()..]
-    }
 }
 
 /// Writes the object of a part, without its parts.
 fn write_part<W: Write>(
     alloc: Global,
     out: &mut W,
-    part: &ParsedMail<'_>,
-    path: &str,
+    place: &Place<'_, '_>,
     start: usize,
     tables: &[SingleByteTable<'_>],
 ) -> Result<(), Fault>
     ensures { WritesOne (W.contents out.old) (W.contents out.new) result
-        (IsPartText (charsets_with tables.now)
-        (record { path = path.now; start = start; part = tree_of part.now })) }
+        (IsPartText (charsets_with tables.now) start (place_view place.now)) }
 {
+    let part = place.part;
     write_word(out, "{\"path\":")?;
-    write_text(alloc, out, path)?;
+    write_text(alloc, out, place.path.as_str())?;
     write_type(alloc, out, &part.ctype)?;
     let disposition = part.get_content_disposition_with(alloc, tables)?;
     let is_attachment = is_attachment(part, &disposition);
     write_disposition(alloc, out, part, &disposition, is_attachment)?;
     let body = lenient_body(alloc, part)?;
-    let end = part_end(start, part);
-    write_place(out, encoding_name(&body), start, end, body.get_raw().len())?;
+    let begin = start.saturating_add(place.byte_range.start);
+    let end = start.saturating_add(place.byte_range.end);
+    write_place(out, encoding_name(&body), begin, end, body.get_raw().len())?;
     let bytes = decoded(alloc, &body);
     write_decoded_size(alloc, out, &bytes)?;
     write_headers(alloc, out, part.headers.as_slice(), tables)?;

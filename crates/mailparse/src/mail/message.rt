@@ -69,7 +69,7 @@ impl<'a> ParsedMail<'a> {
     ///
     /// let raw = b"Content-Type: multipart/mixed; boundary=b\n\n--b\n\none\n--b--\n";
     /// let mail = parse_mail(alloc, raw)?;
-    /// assert_eq!(rt; mail.byte_range(), 0..57);
+    /// assert_eq!(rt; mail.byte_range(), 0..58);
     /// assert_eq!(rt; &raw[mail.subparts[0].byte_range()], b"\none".as_slice());
     /// ```
     pub fn byte_range(&self) -> Range<usize>

@@ -5,7 +5,9 @@ use Rattle.mailparse.specs.Mail.{root}
 use Rattle.mailparse.specs.Views.{tree_of}
 use Rattle.mail_json.specs.Mail.{mail_text, IsMailText}
 use Rattle.mail_json.specs.Origin.{origin_of}
-use Rattle.mail_json.specs.Part.{AreJoined, IsPartText, places}
+use Rattle.mailparse.specs.Placement.{Placement}
+use Rattle.mail_data.specs.PartPlaces.{places}
+use Rattle.mail_json.specs.Part.{AreJoined, IsPartText}
 use Rattle.mail_json.proofs.lemmas.Written.{writes_one, writes_then}
 use Rattle.mail_json.proofs.mail.write_mail.Goals as goal
 
@@ -22,4 +24,4 @@ returns g c =
     let front = Appends-trans _ _ _ _ _ ids c.in_ok-write_word.ensures in
     let written = writes_then _ _ _ _ _ _ (Appends-trans _ _ _ _ _ front parts.2) c.write_word-2.ensures in
     writes_one (IsMailText known origin mail) _ _ _ (mail_text known origin (root mail) parts.0)
-    (parts.0, subst (λ (path : List ℕ). AreJoined (IsPartText known) (places path origin.start mail) parts.0) c.whole_path.ensures parts.1, refl) written
+    (parts.0, subst (λ (found : List Placement). AreJoined (IsPartText known origin.start) (places mail found) parts.0) c.requires.placed parts.1, refl) written

@@ -11,7 +11,9 @@ use Rattle.mailparse.specs.Mail.{root, shown_as_in}
 use Rattle.mailparse.specs.Views.{disposition, tree_of}
 use Rattle.mail_data.specs.Files.{is_leaf}
 use Rattle.mail_data.specs.lenient.Encoding.{lenient_body_kind}
-use Rattle.mail_json.specs.Part.{IsTypeText, body_text, disposition_text, headers_text, is_attachment, part_end, place_text, Place, IsPartText, part_text}
+use Rattle.mail_json.specs.Part.{IsTypeText, body_text, disposition_text, headers_text, is_attachment, place_text, IsPartText, part_text, saturating_add}
+use Rattle.mail_json.specs.Strings.{json_text}
+use Rattle.mail_data.specs.PlaceViews.{place_view}
 use Rattle.mail_json.specs.Body.{encoding_text}
 use Rattle.mail_json.proofs.lemmas.Fields.{ok_same}
 use Rattle.mail_json.proofs.lemmas.Written.{appends_as, writes_one, writes_then}
@@ -21,18 +23,21 @@ use Rattle.mail_json.proofs.part.write_part.Goals as goal
 pub returns : goal.returns
 returns g c =
     let known = charsets_with c.args.tables.now in
-    let m = c.args.part.now in
+    let m = c.args.place.now.part.now in
     let node = root (tree_of m) in
     let kind = lenient_body_kind node in
     let given = content_of node in
-    let place : Place = record { path = c.args.path.now; start = c.args.start; part = tree_of m } in
+    let place = place_view c.args.place.now in
+    let begin = saturating_add c.args.start place.placement.whole.start in
+    let end = saturating_add c.args.start place.placement.whole.end in
     let type = c.in_ok-write_type.ensures in
     let is_body = c.in_ok-body.ensures.read in
     let read = c.decoded-bytes.ensures kind given is_body in
     let places =
-    ap (λ (name : List ℕ). place_text name c.args.start c.part_end-end.result (length c.get_raw.result.now)) (c.encoding_name.ensures kind given is_body)
-    ∙ ap (λ e. place_text (encoding_text kind) c.args.start e (length c.get_raw.result.now)) c.part_end-end.ensures
-    ∙ ap (λ (raw : List ℕ). place_text (encoding_text kind) c.args.start (part_end c.args.start node) (length raw)) (c.get_raw.ensures.made kind given is_body) in
+    ap (λ (name : List ℕ). place_text name c.saturating_add-begin.result c.saturating_add-end.result (length c.get_raw.result.now)) (c.encoding_name.ensures kind given is_body)
+    ∙ ap (λ n. place_text (encoding_text kind) n c.saturating_add-end.result (length c.get_raw.result.now)) c.saturating_add-begin.ensures
+    ∙ ap (λ n. place_text (encoding_text kind) begin n (length c.get_raw.result.now)) c.saturating_add-end.ensures
+    ∙ ap (λ (raw : List ℕ). place_text (encoding_text kind) begin end (length raw)) (c.get_raw.ensures.made kind given is_body) in
     let headers = ap (headers_text known) (c.as_slice.ensures.value ∙ headers-out m) in
     let same : shown_as_in known node ≡ disposition c.in_ok-disposition.disposition = ok_same _ _ c.in_ok-disposition.ensures in
     let attached = c.is_attachment-is_attachment.ensures ∙ ap (is_attachment (tree_of m)) (sym same) in
@@ -41,7 +46,7 @@ returns g c =
     ∙ ap (disposition_text (shown_as_in known node) node) attached in
     let is_read = c.is_read-is_read.ensures ∙ ap (λ is. not is && is_leaf (tree_of m) && stands (codes "text/") node.ctype.mimetype) attached in
     let body = ap (λ is. body_text known is kind given) is_read in
-    let one = Appends-trans _ _ _ _ _ c.in_ok-write_word.ensures c.in_ok-write_text.ensures in
+    let one = Appends-trans _ _ _ _ _ c.in_ok-write_word.ensures (appends_as _ _ _ _ (ap json_text c.as_str.ensures.value) c.in_ok-write_text.ensures) in
     let two = Appends-trans _ _ _ _ _ one type.2 in
     let three = Appends-trans _ _ _ _ _ two (appends_as _ _ _ _ members c.in_ok-write_disposition.ensures) in
     let four = Appends-trans _ _ _ _ _ three (appends_as _ _ _ _ places c.in_ok-write_place.ensures) in
@@ -50,19 +55,19 @@ returns g c =
     let seven = Appends-trans _ _ _ _ _ six c.in_ok-write_word-2.ensures in
     let eight = Appends-trans _ _ _ _ _ seven (appends_as _ _ _ _ body (c.in_ok-write_body_text.ensures kind given read (sym (ctype-out m)))) in
     let written = writes_then _ _ _ _ _ _ eight c.write_word-3.ensures in
-    writes_one (IsPartText known place) _ _ _ (part_text known place type.0)
+    writes_one (IsPartText known c.args.start place) _ _ _ (part_text known c.args.start place type.0)
     (type.0, subst (λ (t : ContentType). IsTypeText t type.0) (ctype-out m) type.1, refl) written
 
 pub returns-in_err-write_decoded_size : goal.returns-in_err-write_decoded_size
 returns-in_err-write_decoded_size g c =
-    let node = root (tree_of c.args.part.now) in
+    let node = root (tree_of c.args.place.now.part.now) in
     let p = err_from_is_err_and c.from_residual-in_err-write_decoded_size.result c.from_residual-in_err-write_decoded_size.ensures.1 in
     let read = c.decoded-bytes.ensures (lenient_body_kind node) (content_of node) c.in_ok-body.ensures.read in
     rw (p.1, p.2) (c.in_err-write_decoded_size.ensures (lenient_body_kind node) node.body read)
 
 pub returns-in_err-write_body_text : goal.returns-in_err-write_body_text
 returns-in_err-write_body_text g c =
-    let node = root (tree_of c.args.part.now) in
+    let node = root (tree_of c.args.place.now.part.now) in
     let p = err_from_is_err_and c.from_residual-in_err-write_body_text.result c.from_residual-in_err-write_body_text.ensures.1 in
     let read = c.decoded-bytes.ensures (lenient_body_kind node) (content_of node) c.in_ok-body.ensures.read in
-    rw (p.1, p.2) (c.in_err-write_body_text.ensures (lenient_body_kind node) (content_of node) read (sym (ctype-out c.args.part.now)))
+    rw (p.1, p.2) (c.in_err-write_body_text.ensures (lenient_body_kind node) (content_of node) read (sym (ctype-out c.args.place.now.part.now)))
