@@ -4,9 +4,9 @@ use crate::calls::tables::all_tables;
 use crate::notation::{Answer, FORM, Row};
 use mail_data::files::{
     Attachment, attachments, attachments_with, describes_attachment, file_name, file_name_with,
-    filled_parameter, is_attachment, is_attachment_with, is_leaf, named_file, path_under,
-    safe_file_name, whole_path,
+    filled_parameter, is_attachment, is_attachment_with, is_leaf, named_file, safe_file_name,
 };
+use mail_data::places::{Place, places};
 use mailparse::{
     MailParseError, ParsedContentDisposition, ParsedContentType, ParsedMail,
     parse_content_disposition, parse_content_type, parse_mail, parse_mail_with,
@@ -19,11 +19,11 @@ pub fn make(alloc: Global, row: &Row, answer: &mut Answer) -> Result<bool, MailP
     let outcome = match row.call.as_str() {
         "attachments" => list_files(alloc, row, answer),
         "attachments_with" => list_named_files(alloc, row, answer),
-        "file_name" | "is_attachment" | "is_leaf" | "whole_path" => look_at(alloc, row, answer),
+        "file_name" | "is_attachment" | "is_leaf" => look_at(alloc, row, answer),
         "file_name_with" | "is_attachment_with" => look_at_with(alloc, row, answer),
         "named_file" | "describes_attachment" => describe(alloc, row, answer),
         "filled_parameter" => get_parameter(alloc, row, answer),
-        "path_under" => write_path(alloc, row, answer),
+        "part_places" => list_places(alloc, row, answer),
         "safe_file_name" => write_safe_name(alloc, row, answer),
         _ => return Ok(false),
     };
@@ -73,16 +73,14 @@ fn write_file(
     answer.bytes_or_refusal(file.part.get_body_raw(alloc))
 }
 
-/// `file_name MAIL PART => NAME`, `is_attachment MAIL PART => TRUTH`, `is_leaf MAIL PART => TRUTH`
-/// and `whole_path MAIL PART => PATH`
+/// `file_name MAIL PART => NAME`, `is_attachment MAIL PART => TRUTH` and `is_leaf MAIL PART => TRUTH`
 fn look_at(alloc: Global, row: &Row, answer: &mut Answer) -> Result<(), MailParseError> {
     let mail = parse_mail(alloc, row.bytes(0)?)?;
     let part = part_at(alloc, &mail, row.number(1)?)?;
     match row.call.as_str() {
         "file_name" => answer.optional_text(file_name(alloc, part)?.as_deref())?,
         "is_attachment" => answer.truth(is_attachment(alloc, part)?)?,
-        "is_leaf" => answer.truth(is_leaf(part))?,
-        _ => answer.text(whole_path(part))?,
+        _ => answer.truth(is_leaf(part))?,
     }
     Ok(())
 }
@@ -138,10 +136,23 @@ fn get_parameter(alloc: Global, row: &Row, answer: &mut Answer) -> Result<(), Ma
     Ok(())
 }
 
-/// `path_under PATH NUMBER => PATH`
-fn write_path(alloc: Global, row: &Row, answer: &mut Answer) -> Result<(), MailParseError> {
-    let path = path_under(alloc, row.text(0)?, row.number(1)?)?;
-    Ok(answer.text(path.as_str())?)
+/// `part_places MAIL => PATH START END START END` for the mail and each part: where it stands, and then
+/// where its body does.
+fn list_places(alloc: Global, row: &Row, answer: &mut Answer) -> Result<(), MailParseError> {
+    let mail = parse_mail(alloc, row.bytes(0)?)?;
+    for place in &places(alloc, &mail)? {
+        write_place(place, answer)?;
+    }
+    Ok(())
+}
+
+/// Writes a path, and where the message and its body stand.
+fn write_place(place: &Place<'_, '_>, answer: &mut Answer) -> Result<(), MailParseError> {
+    answer.text(place.path.as_str())?;
+    answer.number(place.byte_range.start)?;
+    answer.number(place.byte_range.end)?;
+    answer.number(place.body_range.start)?;
+    Ok(answer.number(place.body_range.end)?)
 }
 
 /// `safe_file_name NAME => NAME`

@@ -1,7 +1,6 @@
-//! The calls on mailboxes, and on the lines that they are cut at.
+//! The calls on mailboxes.
 
 use crate::notation::{Answer, Row};
-use mail_data::lines::empty_line;
 use mail_data::mailbox::read_mailbox;
 use mailparse::MailParseError;
 use std::alloc::Global;
@@ -10,7 +9,6 @@ use std::alloc::Global;
 pub fn make(_alloc: Global, row: &Row, answer: &mut Answer) -> Result<bool, MailParseError> {
     match row.call.as_str() {
         "read_mailbox" => list_mails(row, answer)?,
-        "empty_line" => answer.number(empty_line(row.bytes(0)?))?,
         _ => return Ok(false),
     }
     Ok(true)

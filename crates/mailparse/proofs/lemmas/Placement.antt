@@ -1,5 +1,5 @@
 -- Where a message and its parts stand: a message by itself, and its parts one after another.
-use Rattle.std.proofs.Common.{◌≡◌, ℕ, ◌+◌, ◌≤◌, List, [], ◌∷◌, ◌++◌, length, map, take, Option, Some, None, refl, sym, ap, ◌∙◌, arith, append_assoc}
+use Rattle.std.proofs.Common.{◌≡◌, ℕ, ◌+◌, ◌≤◌, List, [], ◌∷◌, ◌++◌, length, map, take, Option, Some, None, sym, ap, ◌∙◌, arith, append_assoc}
 use Rattle.std.specs.List.{flat_map}
 use Rattle.std.specs.Option.{option_map_or}
 use Rattle.std.proofs.lemmas.List.{map-append, append-nil, length-take}
@@ -14,7 +14,7 @@ use Rattle.mailparse.specs.Views.{placement_of, placements_of, placements_step, 
 use Rattle.mailparse.specs.declared.mail.message.ParsedMail.{ParsedMail}
 use Rattle.mailparse.specs.declared.mail.message.ParsedMail.TheFolds.{fold_out-ParsedMail}
 use Rattle.mailparse.specs.declared.mail.message.ParsedMail.TheViews.{out-ParsedMail}
-use Rattle.mailparse.proofs.lemmas.Delimiters.{part_ranges, part_ranges-none, part_ranges-some}
+use Rattle.mailparse.proofs.lemmas.Delimiters.{part_ranges, part_ranges-some}
 use Rattle.mailparse.proofs.lemmas.Mail.{forest_and, forest_and-push, forest_and-none}
 
 -- a message that is cut so
