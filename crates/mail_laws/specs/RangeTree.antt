@@ -1,6 +1,6 @@
 -- The tree of a message as ranges of the mail: where the message and each of its parts stand, and in each its header block with the blank line,
 -- the keys and values of its headers, and its body. All places are counted from the first byte of the mail; the project's own words.
-use Rattle.std.specs.Prelude.{◌≡◌, ℕ, zero, suc, ◌+◌, ◌<◌, ◌≤◌, Bool, false, List, [], ◌∷◌, ◌++◌, length, map, Ok, Err}
+use Rattle.std.specs.Prelude.{◌≡◌, ℕ, zero, suc, ◌<◌, ◌≤◌, Bool, false, List, [], ◌∷◌, ◌++◌, length, map, Ok, Err}
 use Rattle.std.specs.List.{flat_map}
 use Rattle.mail_codec.specs.Charset.{Charsets}
 use Rattle.mail_codec.specs.Places.{values_below}

@@ -1,6 +1,6 @@
 -- Lemmas on the texts of parts, and on the parameters of a type.
-use Rattle.std.proofs.Common.{◌≡◌, ℕ, suc, ◌+◌, ◌<◌, ◌≤◌, Bool, true, false, List, [], ◌∷◌, ◌++◌, length, drop, get_or, map, Some, option_map, cond, String, refl, sym, ap, subst, ◌∙◌, append_assoc, add-one}
-use Rattle.std.proofs.lemmas.List.{append-nil, drop_all}
+use Rattle.std.proofs.Common.{◌≡◌, ℕ, Bool, true, false, List, [], ◌∷◌, ◌++◌, map, Some, option_map, cond, String, refl, sym, ap, subst, ◌∙◌, append_assoc}
+use Rattle.std.proofs.lemmas.List.{append-nil}
 use Rattle.std.proofs.lemmas.Map.Text.{is_eq-slice_cmp}
 use Rattle.std.specs.Prelude.{codes}
 use Rattle.std.specs.BTreeMap.{BTreeMap, IsOrdered}
@@ -12,16 +12,14 @@ use Rattle.std.specs.Map.{keys_of, lookup}
 use Rattle.std.specs.Ordering.{is_eq, nat_cmp}
 use Rattle.std.specs.Str.{bytes_eq}
 use Rattle.std.specs.String.{string_bytes, string_cmp}
-use Rattle.mailparse.specs.Mail.{Node, Tree, Forest, tree, root, forest}
+use Rattle.mailparse.specs.Mail.{Tree, root}
 use Rattle.mailparse.specs.Pairs.{text_at}
 use Rattle.mailparse.specs.Views.{content_type, tree_of, tree_step}
 use Rattle.mailparse.specs.declared.mail.message.ParsedMail.{ParsedMail}
 use Rattle.mailparse.specs.declared.mail.message.ParsedMail.TheFolds.{fold_out-ParsedMail}
 use Rattle.mailparse.specs.declared.mail.message.ParsedMail.TheViews.{out-ParsedMail}
-use Rattle.mail_data.specs.Files.{path_under}
 use Rattle.mail_json.specs.Part.{Lists, AreAfterCommas, AreJoined}
 use Rattle.mail_json.specs.Strings.{comma}
-use Rattle.mail_json.proofs.lemmas.Strings.{drop_next}
 
 -- ---- the objects, a comma between two
 

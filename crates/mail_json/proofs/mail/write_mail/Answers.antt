@@ -1,4 +1,4 @@
-use Rattle.std.proofs.Common.{List, ℕ, refl, subst}
+use Rattle.std.proofs.Common.{List, refl, subst}
 use Rattle.std.proofs.KnownBytes.{Appends-trans}
 use Rattle.mail_codec.specs.Tables.{charsets_with}
 use Rattle.mailparse.specs.Mail.{root}

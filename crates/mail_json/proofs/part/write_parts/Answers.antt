@@ -1,10 +1,9 @@
-use Rattle.std.proofs.Common.{◌≡◌, ◌+◌, List, ℕ, [], ◌++◌, ◌∷◌, drop, map, refl, sym, ap, subst, ◌∙◌, arith}
+use Rattle.std.proofs.Common.{◌+◌, List, [], ◌++◌, drop, map, refl, ap, subst, ◌∙◌, arith}
 use Rattle.std.proofs.KnownBytes.{Appends-nil, Appends-trans}
 use Rattle.std.proofs.lemmas.List.{drop_all}
 use Rattle.mail_codec.specs.Tables.{charsets_with}
 use Rattle.mail_data.specs.PartPlaces as words
 use Rattle.mail_data.specs.PlaceViews.{place_view}
-use Rattle.mail_data.specs.declared.places.Place.{Place}
 use Rattle.mail_json.specs.Part.{AreJoined, IsPartText}
 use Rattle.mail_json.specs.Strings.{comma}
 use Rattle.mail_json.proofs.lemmas.Part.{joins_end, joins_more}
