@@ -6,5 +6,6 @@ pub mod Forwarding
 pub mod Lines
 pub mod lenient
 pub mod Mailbox
+pub mod MailboxJoined
 pub mod PartPlaces
 pub mod Separator

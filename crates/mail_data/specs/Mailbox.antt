@@ -1,6 +1,7 @@
 -- Mailboxes of mails one after another: the mbox format (RFC 4155, appendix A), where a line `From `, an address and a
 -- time separates mails if it is the first line or follows an empty line.
-use Rattle.std.specs.Prelude.{ℕ, zero, suc, ◌+◌, Bool, ◌&&◌, ◌||◌, List, [], ◌∷◌, ◌++◌, length, take, drop, if◌then◌else◌}
+use Rattle.std.specs.Prelude.{◌≡◌, ◌⊎◌, ℕ, zero, suc, ◌+◌, Bool, ◌&&◌, ◌||◌, List, [], ◌∷◌, ◌++◌, length, take, drop, if◌then◌else◌}
+use Rattle.mail_codec.specs.Ascii.{carriage_return, line_feed}
 use Rattle.mail_codec.specs.Places.{is_empty}
 use Rattle.mail_data.specs.Lines.{after_empty_line, after_line, empty_line, is_empty_line, line_length, line_place}
 use Rattle.mail_data.specs.Separator.{is_separator}
@@ -57,3 +58,14 @@ front_length bytes = if is_separator bytes then 0 else mail_length bytes + empty
 -- the mails of a mailbox
 abbrev pub entries : List ℕ → List Entry
 entries bytes = entries_from (drop (front_length bytes) bytes)
+
+-- the bytes of one empty line
+abbrev pub IsEmptyLine : List ℕ → Type 0
+IsEmptyLine bytes = (bytes ≡ line_feed ∷ []) ⊎ (bytes ≡ carriage_return ∷ line_feed ∷ [])
+
+-- the bytes end in an empty line: it follows a LF
+pub record EndsEmpty (bytes : List ℕ) : Type 0 where
+  pub front : List ℕ
+  pub line : List ℕ
+  pub is_empty : IsEmptyLine line
+  pub whole : bytes ≡ front ++ (line_feed ∷ line)

@@ -6,6 +6,7 @@ ghost use Rattle.mail_data.specs.Mailbox.{entry_bytes, front_length, mail_length
 ghost use Rattle.mail_data.specs.Mailbox.{next_entry};
 ghost use Rattle.mail_data.specs.MailboxViews.{entries_left};
 
+pub mod laws;
 mod separator;
 
 use crate::lines::{empty_line, line_length, line_place};
@@ -155,14 +156,14 @@ impl<'a> Iterator for Mailbox<'a> {
 /// ```rust
 /// use mail_data::mailbox::read_mailbox;
 ///
-/// let bytes = b"From a Fri Jul  8 12:08:34 2011\nS: 1\n\none\n\nFrom c Fri Jul  8 12:08 2011\nS: 2\n\ntwo\n";
+/// let bytes = b"From a Fri Jul 8 12:08 2011\nS: 1\n\none\n\nFrom c Fri Jul 8 12:09 2011\n\ntwo\n";
 /// let mut mails = Vec::new(alloc);
 /// for entry in read_mailbox(bytes) {
 ///     mails.push(entry.mail())?;
 /// }
 /// assert_eq!(rt; mails.len(), 2);
 /// assert_eq!(rt; mails[0], b"S: 1\n\none\n".as_slice());
-/// assert_eq!(rt; mails[1], b"S: 2\n\ntwo\n".as_slice());
+/// assert_eq!(rt; mails[1], b"\ntwo\n".as_slice());
 /// ```
 pub fn read_mailbox(bytes: &[u8]) -> Mailbox<'_>
     ensures read { entries_left result ≡ entries bytes.now }

@@ -50,10 +50,10 @@ unfolding mail_length
 mail_length-≤ bytes = line_place-≤ ends_mail bytes
 
 -- the bytes are at their end or begin with a separator
-abbrev opens : List ℕ → Bool
+abbrev pub opens : List ℕ → Bool
 opens bytes = is_empty bytes || is_separator bytes
 
-ends_mail-opens : (bytes : List ℕ) → ends_mail bytes ≡ true → opens (after_empty_line bytes) ≡ true
+pub ends_mail-opens : (bytes : List ℕ) → ends_mail bytes ≡ true → opens (after_empty_line bytes) ≡ true
 unfolding ends_mail
 ends_mail-opens bytes h = (and_parts (nat_lt 0 (empty_line bytes)) (opens (after_empty_line bytes)) h).1
 
@@ -66,7 +66,7 @@ unfolding empty_line
 after_empty_line-nil = refl
 
 -- after a mail and its empty line stands a separator or nothing
-after_opens : (bytes : List ℕ) → opens (after_empty_line (after_mail bytes)) ≡ true
+pub after_opens : (bytes : List ℕ) → opens (after_empty_line (after_mail bytes)) ≡ true
 after_opens bytes = elim (cases_Bool (nat_lt (mail_length bytes) (length bytes))) [
   | inl l ↦ ends_mail-opens (after_mail bytes) (mail_ended bytes (ltb-true (mail_length bytes) (length bytes) l))
   | inr g ↦ let none : after_mail bytes ≡ [] = drop_all (mail_length bytes) bytes (grind (arith, g)) in
@@ -79,7 +79,7 @@ stands-some [] h = absurd (false≢true h)
 stands-some (b ∷ bytes) h = omega arith
 
 -- each mail takes some bytes
-next_entry-shorter : (bytes : List ℕ) → is_separator bytes ≡ true → length (next_entry bytes) < length bytes
+pub next_entry-shorter : (bytes : List ℕ) → is_separator bytes ≡ true → length (next_entry bytes) < length bytes
 next_entry-shorter bytes h =
     let some = line_length-some_bytes bytes (stands-some bytes h) in
     let low = stands-some bytes h in

@@ -1,0 +1,319 @@
+-- Lemmas on a mailbox that is cut before a separator behind an empty line: the mails of the two halves are those of the whole.
+use Rattle.std.proofs.Common.{◌≡◌, ℕ, zero, suc, ◌+◌, ◌-◌, ◌<◌, ◌≤◌, Bool, true, false, cond, List, [], ◌∷◌, ◌++◌, ◌&&◌, ◌||◌, length, take, drop, refl, sym, ap, subst, ◌∙◌, arith, length-drop, length-append, inl, inr}
+use Rattle.std.specs.Prelude.{nat_lt, ◌==◌}
+use Rattle.std.proofs.lemmas.Bool.{cases_Bool, cases_lt, or_right, false≢true}
+use Rattle.std.proofs.lemmas.List.{append_assoc, drop-append-le, drop-drop, drop_all, take-append-le}
+use Rattle.std.proofs.Math.Seq.{drop-append_seam, drop-append-add}
+use Rattle.mail_codec.specs.Places.{begins, first_place, is_empty, least, stands}
+use Rattle.mail_codec.proofs.lemmas.Places.{least-before, least-is, least-passes, true_not_false}
+use Rattle.mail_data.specs.Lines.{after_line, empty_line, line_length, line_place, starts_line}
+use Rattle.mail_data.specs.Mailbox.{EndsEmpty, Entry, IsEmptyLine, after_mail, ends_mail, entries, entries_from, entry_at, front_length, mail_length, next_entry}
+use Rattle.mail_data.specs.Separator.{has_time, is_separator, mark}
+use Rattle.mail_data.proofs.lemmas.Lines.{is_line}
+use Rattle.mail_data.proofs.lemmas.Mailbox.{after_opens, entries_from-none, entries_from-some, front_length-none, next_entry-shorter, opens}
+
+-- ---- bytes that end in LF, with more bytes behind them
+
+-- the bytes with a LF at their end
+abbrev closed : List ℕ → List ℕ
+closed front = front ++ (10 ∷ [])
+
+length-closed : (front : List ℕ) → length (closed front) ≡ length front + 1
+length-closed front = length-append front (10 ∷ [])
+
+drop-closed : (front : List ℕ) (n : ℕ) → n ≤ length front → drop n (closed front) ≡ closed (drop n front)
+drop-closed front n within = drop-append-le n front (10 ∷ []) within
+
+empty_line-joined : (front more : List ℕ) → empty_line (closed front ++ more) ≡ empty_line (closed front)
+unfolding empty_line
+empty_line-joined [] more = refl
+empty_line-joined (b ∷ []) more = refl
+empty_line-joined (b ∷ c ∷ front) more = refl
+
+stands-joined : (front more : List ℕ) → stands mark (closed front ++ more) ≡ stands mark (closed front)
+stands-joined [] more = refl
+stands-joined (a ∷ []) more = refl
+stands-joined (a ∷ b ∷ []) more = refl
+stands-joined (a ∷ b ∷ c ∷ []) more = refl
+stands-joined (a ∷ b ∷ c ∷ d ∷ []) more = refl
+stands-joined (a ∷ b ∷ c ∷ d ∷ e ∷ front) more = refl
+
+first_place-joined : (front more : List ℕ) → first_place (begins (λ b. b == 10)) (closed front ++ more) ≡ first_place (begins (λ b. b == 10)) (closed front)
+first_place-joined [] more = refl
+first_place-joined (b ∷ front) more = ap (λ (n : ℕ). cond (b == 10) 0 (suc n)) (first_place-joined front more)
+
+-- the first LF stands no later than any other
+first_place-low : (front rest : List ℕ) → first_place (begins (λ b. b == 10)) (front ++ (10 ∷ rest)) ≤ length front
+first_place-low [] rest = omega arith
+first_place-low (b ∷ front) rest =
+    let low = first_place-low front rest in
+    elim (b == 10) as (λ t. cond t 0 (suc (first_place (begins (λ b. b == 10)) (front ++ (10 ∷ rest)))) ≤ length (b ∷ front)) [
+      | true ↦ omega arith
+      | false ↦ omega arith
+    ]
+
+line_length-≤ : (bytes : List ℕ) → line_length bytes ≤ length bytes
+unfolding line_length
+line_length-≤ bytes = omega arith
+
+line_length-low : (front rest : List ℕ) → line_length (front ++ (10 ∷ rest)) ≤ length front + 1
+unfolding line_length
+line_length-low front rest = let low = first_place-low front rest in omega arith
+
+line_length-joined : (front more : List ℕ) → line_length (closed front ++ more) ≡ line_length (closed front)
+unfolding line_length
+line_length-joined front more =
+    let same = first_place-joined front more in
+    let low = first_place-low front [] in
+    let size = length-closed front in
+    let all = length-append (closed front) more in
+    omega arith
+
+-- ---- what a length says of the bytes, with more bytes behind them
+
+take-joined : (f : List ℕ → ℕ) (bytes more : List ℕ) → f (bytes ++ more) ≡ f bytes → f bytes ≤ length bytes → take (f (bytes ++ more)) (bytes ++ more) ≡ take (f bytes) bytes
+take-joined f bytes more same within = ap (λ (n : ℕ). take n (bytes ++ more)) same ∙ take-append-le (f bytes) bytes more within
+
+drop-joined : (f : List ℕ → ℕ) (bytes more : List ℕ) → f (bytes ++ more) ≡ f bytes → f bytes ≤ length bytes → drop (f (bytes ++ more)) (bytes ++ more) ≡ drop (f bytes) bytes ++ more
+drop-joined f bytes more same within = ap (λ (n : ℕ). drop n (bytes ++ more)) same ∙ drop-append-le (f bytes) bytes more within
+
+is_separator-joined : (front more : List ℕ) → is_separator (closed front ++ more) ≡ is_separator (closed front)
+unfolding is_separator
+is_separator-joined front more =
+    ap (λ (t : Bool). t && has_time (take (line_length (closed front ++ more)) (closed front ++ more))) (stands-joined front more)
+    ∙ ap (λ (line : List ℕ). stands mark (closed front) && has_time line) (take-joined line_length (closed front) more (line_length-joined front more) (line_length-≤ (closed front)))
+
+opens-closed : (front more : List ℕ) → opens (closed front ++ more) ≡ opens (closed front)
+opens-closed [] more = is_separator-joined [] more
+opens-closed (b ∷ front) more = is_separator-joined (b ∷ front) more
+
+opens-joined : (front more : List ℕ) (n : ℕ) → n ≤ length (closed front) → is_separator more ≡ true → opens (drop n (closed front ++ more)) ≡ opens (drop n (closed front))
+opens-joined front more n within marked = elim (cases_lt (length front) n) [
+  | inl past ↦
+      let size = length-closed front in
+      let all : n ≡ length (closed front) = omega arith in
+      ap (λ (k : ℕ). opens (drop k (closed front ++ more))) all ∙ ap opens (drop-append_seam (closed front) more) ∙ or_right (is_empty more) (is_separator more) marked
+      ∙ sym (ap opens (drop_all n (closed front) (omega arith)))
+  | inr low ↦
+      ap opens (drop-append-le n (closed front) more within) ∙ ap (λ (r : List ℕ). opens (r ++ more)) (drop-closed front n low) ∙ opens-closed (drop n front) more
+      ∙ sym (ap opens (drop-closed front n low))
+]
+
+at_most_two : (t u : Bool) (k : ℕ) → 2 ≤ k → cond t 1 (cond u 2 0) ≤ k
+at_most_two true u k h = omega arith
+at_most_two false true k h = omega arith
+at_most_two false false k h = omega arith
+
+empty_line-≤ : (front : List ℕ) → empty_line (closed front) ≤ length (closed front)
+unfolding empty_line
+empty_line-≤ [] = omega arith
+empty_line-≤ (b ∷ front) = let size = length-closed front in at_most_two _ _ (length (closed (b ∷ front))) (omega arith)
+
+ends_mail-joined : (front more : List ℕ) → is_separator more ≡ true → ends_mail (closed front ++ more) ≡ ends_mail (closed front)
+unfolding ends_mail
+ends_mail-joined front more marked =
+    ap (λ (k : ℕ). nat_lt 0 k && opens (drop k (closed front ++ more))) (empty_line-joined front more)
+    ∙ ap (λ (t : Bool). nat_lt 0 (empty_line (closed front)) && t) (opens-joined front more (empty_line (closed front)) (empty_line-≤ front) marked)
+
+begins-closed : (front more : List ℕ) → begins (λ b. b == 10) (closed front ++ more) ≡ begins (λ b. b == 10) (closed front)
+begins-closed [] more = refl
+begins-closed (b ∷ front) more = refl
+
+-- what follows a place within the bytes
+after_place : (front more : List ℕ) (n : ℕ) → n ≤ length front → drop n (closed front ++ more) ≡ closed (drop n front) ++ more
+after_place front more n within =
+    let size = length-closed front in
+    drop-append-le n (closed front) more (omega arith) ∙ ap (λ (r : List ℕ). r ++ more) (drop-closed front n within)
+
+is_line-joined : (front more : List ℕ) (n : ℕ) → n ≤ length front → is_separator more ≡ true → is_line ends_mail (closed front ++ more) n ≡ is_line ends_mail (closed front) n
+is_line-joined front more n within marked =
+    let before : n - 1 ≤ length front = omega arith in
+    ap (λ (r : List ℕ). ((n == 0) || begins (λ b. b == 10) r) && ends_mail (drop n (closed front ++ more))) (after_place front more (n - 1) before)
+    ∙ ap (λ (t : Bool). ((n == 0) || t) && ends_mail (drop n (closed front ++ more))) (begins-closed (drop (n - 1) front) more)
+    ∙ ap (λ (r : List ℕ). ((n == 0) || begins (λ b. b == 10) r) && ends_mail (drop n (closed front ++ more))) (sym (drop-closed front (n - 1) before))
+    ∙ ap (λ (r : List ℕ). starts_line (closed front) n && ends_mail r) (after_place front more n within)
+    ∙ ap (λ (t : Bool). starts_line (closed front) n && t) (ends_mail-joined (drop n front) more marked)
+    ∙ ap (λ (r : List ℕ). starts_line (closed front) n && ends_mail r) (sym (drop-closed front n within))
+
+-- ---- where a mail ends
+
+mail_length-joined : (front more : List ℕ) → is_separator more ≡ true → mail_length (closed front) < length (closed front) → mail_length (closed front ++ more) ≡ mail_length (closed front)
+unfolding mail_length
+mail_length-joined front more marked low =
+    let size = length-closed front in
+    let all = length-append (closed front) more in
+    least-is (is_line ends_mail (closed front ++ more)) (length (closed front ++ more)) (line_place ends_mail (closed front)) (omega arith)
+    (λ k l. is_line-joined front more k (omega arith) marked ∙ least-before (is_line ends_mail (closed front)) (length (closed front)) k l)
+    (λ l. is_line-joined front more (line_place ends_mail (closed front)) (omega arith) marked ∙ least-passes (is_line ends_mail (closed front)) (length (closed front)) low)
+
+found-low : (bytes : List ℕ) (n : ℕ) → n < length bytes → is_line ends_mail bytes n ≡ true → mail_length bytes < length bytes
+unfolding mail_length
+found-low bytes n low found = elim (cases_lt (line_place ends_mail bytes) (length bytes)) [
+  | inl l ↦ l
+  | inr g ↦ absurd (true_not_false found (least-before (is_line ends_mail bytes) (length bytes) n (omega arith)))
+]
+
+-- ---- the empty line at the end
+
+ends_mail-line : (line : List ℕ) → IsEmptyLine line → ends_mail line ≡ true
+unfolding ends_mail empty_line
+ends_mail-line line (inl e) = ap ends_mail e
+ends_mail-line line (inr e) = ap ends_mail e
+
+unmarked : (line : List ℕ) (n : ℕ) → IsEmptyLine line → is_separator (drop n line) ≡ false
+unfolding is_separator
+unmarked line zero (inl e) = ap is_separator e
+unmarked line (suc n) (inl e) = ap (λ (r : List ℕ). is_separator (drop (suc n) r)) e ∙ ap is_separator (drop_all {X = ℕ} n [] (omega arith))
+unmarked line zero (inr e) = ap is_separator e
+unmarked line (suc zero) (inr e) = ap (λ (r : List ℕ). is_separator (drop 1 r)) e
+unmarked line (suc (suc n)) (inr e) = ap (λ (r : List ℕ). is_separator (drop (suc (suc n)) r)) e ∙ ap is_separator (drop_all {X = ℕ} n [] (omega arith))
+
+-- what stands before the last LF of the bytes
+abbrev before_last : List ℕ → List ℕ → List ℕ
+before_last front line = front ++ take (length line) (10 ∷ line)
+
+closed-line : (line : List ℕ) → IsEmptyLine line → (10 ∷ line ≡ closed (take (length line) (10 ∷ line))) × (0 < length line)
+closed-line line (inl e) = (subst (λ (r : List ℕ). 10 ∷ r ≡ closed (take (length r) (10 ∷ r))) (sym e) refl, omega (arith, ap length e))
+closed-line line (inr e) = (subst (λ (r : List ℕ). 10 ∷ r ≡ closed (take (length r) (10 ∷ r))) (sym e) refl, omega (arith, ap length e))
+
+closed-bytes : (front line : List ℕ) → IsEmptyLine line → front ++ (10 ∷ line) ≡ closed (before_last front line)
+closed-bytes front line is =
+    ap (λ (r : List ℕ). front ++ r) (closed-line line is).0 ∙ sym (append_assoc front (take (length line) (10 ∷ line)) (10 ∷ []))
+
+-- behind a line that ends no later than the last LF but one, a mail ends before the end
+body-low : (front line : List ℕ) (n : ℕ) → IsEmptyLine line → n ≤ length front + 1
+    → mail_length (drop n (front ++ (10 ∷ line))) < length (drop n (front ++ (10 ∷ line)))
+body-low front line n is within = elim (cases_lt (length front) n) [
+  | inl past ↦
+      let some = (closed-line line is).1 in
+      let all : n ≡ length front + 1 = omega arith in
+      let rest : drop n (front ++ (10 ∷ line)) ≡ line = ap (λ (k : ℕ). drop k (front ++ (10 ∷ line))) all ∙ drop-append-add front (10 ∷ line) 1 in
+      subst (λ (r : List ℕ). mail_length r < length r) (sym rest) (found-low line 0 some (ends_mail-line line is))
+  | inr low ↦ subst (λ (r : List ℕ). mail_length r < length r) (sym (drop-append-le n front (10 ∷ line) low)) (within_text (drop n front))
+]
+  where
+    within_text : (text : List ℕ) → mail_length (text ++ (10 ∷ line)) < length (text ++ (10 ∷ line))
+    within_text text =
+        let some = (closed-line line is).1 in
+        let all = length-append text (10 ∷ line) in
+        let place : length text + 1 - 1 ≡ length text = omega arith in
+        let starts : starts_line (text ++ (10 ∷ line)) (length text + 1) ≡ true =
+          or_right (length text + 1 == 0) _ (ap (λ (k : ℕ). begins (λ b. b == 10) (drop k (text ++ (10 ∷ line)))) place ∙ ap (begins (λ b. b == 10)) (drop-append_seam text (10 ∷ line))) in
+        let ends : ends_mail (drop (length text + 1) (text ++ (10 ∷ line))) ≡ true = ap ends_mail (drop-append-add text (10 ∷ line) 1) ∙ ends_mail-line line is in
+        found-low (text ++ (10 ∷ line)) (length text + 1) (omega arith)
+        (ap (λ (t : Bool). t && ends_mail (drop (length text + 1) (text ++ (10 ∷ line)))) starts ∙ ends)
+
+-- ---- the mail at the front
+
+pub record Joined (bytes more : List ℕ) : Type 0 where
+  pub separator : is_separator (bytes ++ more) ≡ is_separator bytes
+  pub entry : entry_at (bytes ++ more) ≡ entry_at bytes
+  pub next : next_entry (bytes ++ more) ≡ next_entry bytes ++ more
+
+entry-joined : (front more : List ℕ) → is_separator more ≡ true → line_length (closed front) ≤ length front
+    → mail_length (after_line (closed front)) < length (after_line (closed front)) → Joined (closed front) more
+entry-joined front more marked short low =
+    let bytes = closed front in
+    let n = line_length bytes in
+    let body = drop n front in
+    let body_is : after_line bytes ≡ closed body = drop-closed front n short in
+    let low_body : mail_length (closed body) < length (closed body) = subst (λ (r : List ℕ). mail_length r < length r) body_is low in
+    let m = mail_length (closed body) in
+    let size = length-closed body in
+    let rest = drop m body in
+    let rest_is : after_mail (closed body) ≡ closed rest = drop-closed body m (omega arith) in
+    let line_same = line_length-joined front more in
+    let mail_same = mail_length-joined body more marked low_body in
+    let end_same = empty_line-joined rest more in
+    let body_more : after_line (bytes ++ more) ≡ closed body ++ more = drop-joined line_length bytes more line_same (line_length-≤ bytes) ∙ ap (λ (r : List ℕ). r ++ more) body_is in
+    let rest_more : after_mail (after_line (bytes ++ more)) ≡ closed rest ++ more =
+      ap after_mail body_more ∙ drop-joined mail_length (closed body) more mail_same (omega arith) ∙ ap (λ (r : List ℕ). r ++ more) rest_is in
+    let rest_here : after_mail (after_line bytes) ≡ closed rest = ap after_mail body_is ∙ rest_is in
+    let s : take (line_length (bytes ++ more)) (bytes ++ more) ≡ take n bytes = take-joined line_length bytes more line_same (line_length-≤ bytes) in
+    let t : take (mail_length (after_line (bytes ++ more))) (after_line (bytes ++ more)) ≡ take (mail_length (after_line bytes)) (after_line bytes) =
+      ap (λ (r : List ℕ). take (mail_length r) r) body_more ∙ take-joined mail_length (closed body) more mail_same (omega arith) ∙ sym (ap (λ (r : List ℕ). take (mail_length r) r) body_is) in
+    let u : take (empty_line (after_mail (after_line (bytes ++ more)))) (after_mail (after_line (bytes ++ more))) ≡ take (empty_line (after_mail (after_line bytes))) (after_mail (after_line bytes)) =
+      ap (λ (r : List ℕ). take (empty_line r) r) rest_more ∙ take-joined empty_line (closed rest) more end_same (empty_line-≤ rest) ∙ sym (ap (λ (r : List ℕ). take (empty_line r) r) rest_here) in
+    let same : entry_at (bytes ++ more) ≡ entry_at bytes = λ i. record { separator = s i; mail = t i; ending = u i } in
+    record {
+      separator = is_separator-joined front more;
+      entry = same;
+      next =
+        ap (λ (r : List ℕ). drop (empty_line r) r) rest_more ∙ drop-joined empty_line (closed rest) more end_same (empty_line-≤ rest)
+        ∙ ap (λ (r : List ℕ). drop (empty_line r) r ++ more) (sym rest_here);
+    }
+
+front-joined : (bytes more : List ℕ) → EndsEmpty bytes → is_separator more ≡ true → Joined bytes more
+front-joined bytes more ends marked =
+    let whole : bytes ≡ closed (before_last ends.front ends.line) = ends.whole ∙ closed-bytes ends.front ends.line ends.is_empty in
+    let some = (closed-line ends.line ends.is_empty).1 in
+    let low = line_length-low ends.front ends.line in
+    let size = ap length (closed-bytes ends.front ends.line ends.is_empty) in
+    let all = length-append ends.front (10 ∷ ends.line) in
+    let one = length-closed (before_last ends.front ends.line) in
+    let same : line_length (closed (before_last ends.front ends.line)) ≡ line_length (ends.front ++ (10 ∷ ends.line)) = ap line_length (sym (closed-bytes ends.front ends.line ends.is_empty)) in
+    subst (λ (r : List ℕ). Joined r more) (sym whole)
+    (entry-joined (before_last ends.front ends.line) more marked (omega arith)
+      (subst (λ (r : List ℕ). mail_length (after_line r) < length (after_line r)) (closed-bytes ends.front ends.line ends.is_empty)
+        (body-low ends.front ends.line (line_length (ends.front ++ (10 ∷ ends.line))) ends.is_empty low)))
+
+-- ---- all mails
+
+-- what begins with a separator behind the front of such bytes ends as they do
+ends-later : (bytes : List ℕ) (n : ℕ) → EndsEmpty bytes → is_separator (drop n bytes) ≡ true → EndsEmpty (drop n bytes)
+ends-later bytes n ends marked = elim (cases_lt (length ends.front) n) [
+  | inl past ↦
+      let place : n ≡ length ends.front + suc (n - length ends.front - 1) = omega arith in
+      let rest : drop n bytes ≡ drop (n - length ends.front - 1) ends.line =
+        ap (drop n) ends.whole ∙ ap (λ (k : ℕ). drop k (ends.front ++ (10 ∷ ends.line))) place ∙ drop-append-add ends.front (10 ∷ ends.line) (suc (n - length ends.front - 1)) in
+      absurd (true_not_false marked (ap is_separator rest ∙ unmarked ends.line (n - length ends.front - 1) ends.is_empty))
+  | inr low ↦ record { front = drop n ends.front; line = ends.line; is_empty = ends.is_empty; whole = ap (drop n) ends.whole ∙ drop-append-le n ends.front (10 ∷ ends.line) low }
+]
+
+-- what follows the mail at the front is the bytes from some place on
+next-place : (bytes : List ℕ) → (n : ℕ) × (next_entry bytes ≡ drop n bytes)
+next-place bytes =
+    let body = after_line bytes in
+    let rest = after_mail body in
+    (line_length bytes + (mail_length body + empty_line rest),
+     drop-drop (empty_line rest) (mail_length body) body ∙ drop-drop (mail_length body + empty_line rest) (line_length bytes) bytes)
+
+nothing : (bytes : List ℕ) → is_separator bytes ≡ false → opens bytes ≡ true → bytes ≡ []
+nothing [] fails h = refl
+nothing (b ∷ bytes) fails h = absurd (false≢true (sym fails ∙ h))
+
+unmarked-nil : is_separator [] ≡ false
+unfolding is_separator
+unmarked-nil = refl
+
+all-joined : (n : ℕ) (bytes more : List ℕ) → length bytes ≤ n → is_separator bytes ≡ true → EndsEmpty bytes → is_separator more ≡ true
+    → entries_from (bytes ++ more) ≡ entries_from bytes ++ entries_from more
+all-joined zero bytes more fits first ends marked = let less = next_entry-shorter bytes first in absurd (omega arith)
+all-joined (suc n) bytes more fits first ends marked =
+    let joined = front-joined bytes more ends marked in
+    let less = next_entry-shorter bytes first in
+    let whole : entries_from (bytes ++ more) ≡ entry_at bytes ∷ entries_from (next_entry bytes ++ more) =
+      entries_from-some (bytes ++ more) (joined.separator ∙ first) ∙ ap (λ (e : Entry). e ∷ entries_from (next_entry (bytes ++ more))) joined.entry
+      ∙ ap (λ (r : List ℕ). entry_at bytes ∷ entries_from r) joined.next in
+    let here : entries_from bytes ≡ entry_at bytes ∷ entries_from (next_entry bytes) = entries_from-some bytes first in
+    let rest : entries_from (next_entry bytes ++ more) ≡ entries_from (next_entry bytes) ++ entries_from more =
+      elim (cases_Bool (is_separator (next_entry bytes))) [
+        | inl again ↦
+            let place = next-place bytes in
+            let later : EndsEmpty (next_entry bytes) = subst EndsEmpty (sym place.1) (ends-later bytes place.0 ends (ap is_separator (sym place.1) ∙ again)) in
+            all-joined n (next_entry bytes) more (omega arith) again later marked
+        | inr over ↦
+            let none : next_entry bytes ≡ [] = nothing (next_entry bytes) over (after_opens (after_line bytes)) in
+            ap (λ (r : List ℕ). entries_from (r ++ more)) none ∙ sym (ap (λ (r : List ℕ). entries_from r ++ entries_from more) none ∙ ap (λ (r : List Entry). r ++ entries_from more) (entries_from-none [] unmarked-nil))
+      ] in
+    whole ∙ ap (λ (r : List Entry). entry_at bytes ∷ r) rest ∙ sym (ap (λ (r : List Entry). r ++ entries_from more) here)
+
+-- a mailbox that begins with a separator has nothing before it
+entries-here : (bytes : List ℕ) → is_separator bytes ≡ true → entries bytes ≡ entries_from bytes
+entries-here bytes first = ap (λ (n : ℕ). entries_from (drop n bytes)) (sym (front_length-none bytes (sym first)))
+
+pub entries-joined : (bytes more : List ℕ) → is_separator bytes ≡ true → EndsEmpty bytes → is_separator more ≡ true → entries (bytes ++ more) ≡ entries bytes ++ entries more
+entries-joined bytes more first ends marked =
+    let joined = front-joined bytes more ends marked in
+    entries-here (bytes ++ more) (joined.separator ∙ first) ∙ all-joined (length bytes) bytes more (omega arith) first ends marked
+    ∙ ap (λ (r : List Entry). r ++ entries_from more) (sym (entries-here bytes first)) ∙ ap (λ (r : List Entry). entries bytes ++ r) (sym (entries-here more marked))
