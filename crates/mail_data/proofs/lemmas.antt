@@ -8,4 +8,5 @@ pub mod lenient
 pub mod Mailbox
 pub mod MailboxJoined
 pub mod PartPlaces
+pub mod MailboxParts
 pub mod Separator

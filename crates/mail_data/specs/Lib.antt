@@ -6,6 +6,7 @@ pub mod PlaceViews
 pub mod Lines
 pub mod Separator
 pub mod Mailbox
+pub mod MailboxParts
 pub mod MailboxViews
 pub mod lenient
 pub mod Texts

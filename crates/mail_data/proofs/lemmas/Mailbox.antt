@@ -45,7 +45,7 @@ ends_mail-marked bytes after n r s e some same is fails marked =
 
 -- ---- the mails
 
-mail_length-≤ : (bytes : List ℕ) → mail_length bytes ≤ length bytes
+pub mail_length-≤ : (bytes : List ℕ) → mail_length bytes ≤ length bytes
 unfolding mail_length
 mail_length-≤ bytes = line_place-≤ ends_mail bytes
 
@@ -121,7 +121,7 @@ entries_from-some bytes h =
 cut_twice : (n m : ℕ) (bytes : List ℕ) → take n bytes ++ (take m (drop n bytes) ++ drop m (drop n bytes)) ≡ bytes
 cut_twice n m bytes = ap (λ (r : List ℕ). take n bytes ++ r) (take-append-drop m (drop n bytes)) ∙ take-append-drop n bytes
 
-entry-spans : (bytes : List ℕ) → entry_bytes (entry_at bytes) ++ next_entry bytes ≡ bytes
+pub entry-spans : (bytes : List ℕ) → entry_bytes (entry_at bytes) ++ next_entry bytes ≡ bytes
 entry-spans bytes =
     let body = after_line bytes in
     let line = take (line_length bytes) bytes in

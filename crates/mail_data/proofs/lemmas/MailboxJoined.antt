@@ -198,7 +198,7 @@ body-low front line n is within = elim (cases_lt (length front) n) [
         let all = length-append text (10 ∷ line) in
         let place : length text + 1 - 1 ≡ length text = omega arith in
         let starts : starts_line (text ++ (10 ∷ line)) (length text + 1) ≡ true =
-          or_right (length text + 1 == 0) _ (ap (λ (k : ℕ). begins (λ b. b == 10) (drop k (text ++ (10 ∷ line)))) place ∙ ap (begins (λ b. b == 10)) (drop-append_seam text (10 ∷ line))) in
+        or_right (length text + 1 == 0) _ (ap (λ (k : ℕ). begins (λ b. b == 10) (drop k (text ++ (10 ∷ line)))) place ∙ ap (begins (λ b. b == 10)) (drop-append_seam text (10 ∷ line))) in
         let ends : ends_mail (drop (length text + 1) (text ++ (10 ∷ line))) ≡ true = ap ends_mail (drop-append-add text (10 ∷ line) 1) ∙ ends_mail-line line is in
         found-low (text ++ (10 ∷ line)) (length text + 1) (omega arith)
         (ap (λ (t : Bool). t && ends_mail (drop (length text + 1) (text ++ (10 ∷ line)))) starts ∙ ends)
@@ -227,20 +227,20 @@ entry-joined front more marked short low =
     let end_same = empty_line-joined rest more in
     let body_more : after_line (bytes ++ more) ≡ closed body ++ more = drop-joined line_length bytes more line_same (line_length-≤ bytes) ∙ ap (λ (r : List ℕ). r ++ more) body_is in
     let rest_more : after_mail (after_line (bytes ++ more)) ≡ closed rest ++ more =
-      ap after_mail body_more ∙ drop-joined mail_length (closed body) more mail_same (omega arith) ∙ ap (λ (r : List ℕ). r ++ more) rest_is in
+    ap after_mail body_more ∙ drop-joined mail_length (closed body) more mail_same (omega arith) ∙ ap (λ (r : List ℕ). r ++ more) rest_is in
     let rest_here : after_mail (after_line bytes) ≡ closed rest = ap after_mail body_is ∙ rest_is in
     let s : take (line_length (bytes ++ more)) (bytes ++ more) ≡ take n bytes = take-joined line_length bytes more line_same (line_length-≤ bytes) in
     let t : take (mail_length (after_line (bytes ++ more))) (after_line (bytes ++ more)) ≡ take (mail_length (after_line bytes)) (after_line bytes) =
-      ap (λ (r : List ℕ). take (mail_length r) r) body_more ∙ take-joined mail_length (closed body) more mail_same (omega arith) ∙ sym (ap (λ (r : List ℕ). take (mail_length r) r) body_is) in
+    ap (λ (r : List ℕ). take (mail_length r) r) body_more ∙ take-joined mail_length (closed body) more mail_same (omega arith) ∙ sym (ap (λ (r : List ℕ). take (mail_length r) r) body_is) in
     let u : take (empty_line (after_mail (after_line (bytes ++ more)))) (after_mail (after_line (bytes ++ more))) ≡ take (empty_line (after_mail (after_line bytes))) (after_mail (after_line bytes)) =
-      ap (λ (r : List ℕ). take (empty_line r) r) rest_more ∙ take-joined empty_line (closed rest) more end_same (empty_line-≤ rest) ∙ sym (ap (λ (r : List ℕ). take (empty_line r) r) rest_here) in
+    ap (λ (r : List ℕ). take (empty_line r) r) rest_more ∙ take-joined empty_line (closed rest) more end_same (empty_line-≤ rest) ∙ sym (ap (λ (r : List ℕ). take (empty_line r) r) rest_here) in
     let same : entry_at (bytes ++ more) ≡ entry_at bytes = λ i. record { separator = s i; mail = t i; ending = u i } in
     record {
       separator = is_separator-joined front more;
       entry = same;
       next =
-        ap (λ (r : List ℕ). drop (empty_line r) r) rest_more ∙ drop-joined empty_line (closed rest) more end_same (empty_line-≤ rest)
-        ∙ ap (λ (r : List ℕ). drop (empty_line r) r ++ more) (sym rest_here);
+          ap (λ (r : List ℕ). drop (empty_line r) r) rest_more ∙ drop-joined empty_line (closed rest) more end_same (empty_line-≤ rest)
+          ∙ ap (λ (r : List ℕ). drop (empty_line r) r ++ more) (sym rest_here);
     }
 
 front-joined : (bytes more : List ℕ) → EndsEmpty bytes → is_separator more ≡ true → Joined bytes more
@@ -254,8 +254,8 @@ front-joined bytes more ends marked =
     let same : line_length (closed (before_last ends.front ends.line)) ≡ line_length (ends.front ++ (10 ∷ ends.line)) = ap line_length (sym (closed-bytes ends.front ends.line ends.is_empty)) in
     subst (λ (r : List ℕ). Joined r more) (sym whole)
     (entry-joined (before_last ends.front ends.line) more marked (omega arith)
-      (subst (λ (r : List ℕ). mail_length (after_line r) < length (after_line r)) (closed-bytes ends.front ends.line ends.is_empty)
-        (body-low ends.front ends.line (line_length (ends.front ++ (10 ∷ ends.line))) ends.is_empty low)))
+    (subst (λ (r : List ℕ). mail_length (after_line r) < length (after_line r)) (closed-bytes ends.front ends.line ends.is_empty)
+    (body-low ends.front ends.line (line_length (ends.front ++ (10 ∷ ends.line))) ends.is_empty low)))
 
 -- ---- all mails
 
@@ -265,7 +265,7 @@ ends-later bytes n ends marked = elim (cases_lt (length ends.front) n) [
   | inl past ↦
       let place : n ≡ length ends.front + suc (n - length ends.front - 1) = omega arith in
       let rest : drop n bytes ≡ drop (n - length ends.front - 1) ends.line =
-        ap (drop n) ends.whole ∙ ap (λ (k : ℕ). drop k (ends.front ++ (10 ∷ ends.line))) place ∙ drop-append-add ends.front (10 ∷ ends.line) (suc (n - length ends.front - 1)) in
+      ap (drop n) ends.whole ∙ ap (λ (k : ℕ). drop k (ends.front ++ (10 ∷ ends.line))) place ∙ drop-append-add ends.front (10 ∷ ends.line) (suc (n - length ends.front - 1)) in
       absurd (true_not_false marked (ap is_separator rest ∙ unmarked ends.line (n - length ends.front - 1) ends.is_empty))
   | inr low ↦ record { front = drop n ends.front; line = ends.line; is_empty = ends.is_empty; whole = ap (drop n) ends.whole ∙ drop-append-le n ends.front (10 ∷ ends.line) low }
 ]
@@ -274,9 +274,10 @@ ends-later bytes n ends marked = elim (cases_lt (length ends.front) n) [
 next-place : (bytes : List ℕ) → (n : ℕ) × (next_entry bytes ≡ drop n bytes)
 next-place bytes =
     let body = after_line bytes in
-    let rest = after_mail body in
-    (line_length bytes + (mail_length body + empty_line rest),
-     drop-drop (empty_line rest) (mail_length body) body ∙ drop-drop (mail_length body + empty_line rest) (line_length bytes) bytes)
+    let rest = after_mail body in (
+      line_length bytes + (mail_length body + empty_line rest),
+      drop-drop (empty_line rest) (mail_length body) body ∙ drop-drop (mail_length body + empty_line rest) (line_length bytes) bytes,
+    )
 
 nothing : (bytes : List ℕ) → is_separator bytes ≡ false → opens bytes ≡ true → bytes ≡ []
 nothing [] fails h = refl
@@ -293,19 +294,19 @@ all-joined (suc n) bytes more fits first ends marked =
     let joined = front-joined bytes more ends marked in
     let less = next_entry-shorter bytes first in
     let whole : entries_from (bytes ++ more) ≡ entry_at bytes ∷ entries_from (next_entry bytes ++ more) =
-      entries_from-some (bytes ++ more) (joined.separator ∙ first) ∙ ap (λ (e : Entry). e ∷ entries_from (next_entry (bytes ++ more))) joined.entry
-      ∙ ap (λ (r : List ℕ). entry_at bytes ∷ entries_from r) joined.next in
+    entries_from-some (bytes ++ more) (joined.separator ∙ first) ∙ ap (λ (e : Entry). e ∷ entries_from (next_entry (bytes ++ more))) joined.entry
+    ∙ ap (λ (r : List ℕ). entry_at bytes ∷ entries_from r) joined.next in
     let here : entries_from bytes ≡ entry_at bytes ∷ entries_from (next_entry bytes) = entries_from-some bytes first in
     let rest : entries_from (next_entry bytes ++ more) ≡ entries_from (next_entry bytes) ++ entries_from more =
-      elim (cases_Bool (is_separator (next_entry bytes))) [
-        | inl again ↦
-            let place = next-place bytes in
-            let later : EndsEmpty (next_entry bytes) = subst EndsEmpty (sym place.1) (ends-later bytes place.0 ends (ap is_separator (sym place.1) ∙ again)) in
-            all-joined n (next_entry bytes) more (omega arith) again later marked
-        | inr over ↦
-            let none : next_entry bytes ≡ [] = nothing (next_entry bytes) over (after_opens (after_line bytes)) in
-            ap (λ (r : List ℕ). entries_from (r ++ more)) none ∙ sym (ap (λ (r : List ℕ). entries_from r ++ entries_from more) none ∙ ap (λ (r : List Entry). r ++ entries_from more) (entries_from-none [] unmarked-nil))
-      ] in
+    elim (cases_Bool (is_separator (next_entry bytes))) [
+      | inl again ↦
+          let place = next-place bytes in
+          let later : EndsEmpty (next_entry bytes) = subst EndsEmpty (sym place.1) (ends-later bytes place.0 ends (ap is_separator (sym place.1) ∙ again)) in
+          all-joined n (next_entry bytes) more (omega arith) again later marked
+      | inr over ↦
+          let none : next_entry bytes ≡ [] = nothing (next_entry bytes) over (after_opens (after_line bytes)) in
+          ap (λ (r : List ℕ). entries_from (r ++ more)) none ∙ sym (ap (λ (r : List ℕ). entries_from r ++ entries_from more) none ∙ ap (λ (r : List Entry). r ++ entries_from more) (entries_from-none [] unmarked-nil))
+    ] in
     whole ∙ ap (λ (r : List Entry). entry_at bytes ∷ r) rest ∙ sym (ap (λ (r : List Entry). r ++ entries_from more) here)
 
 -- a mailbox that begins with a separator has nothing before it

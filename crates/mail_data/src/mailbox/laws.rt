@@ -1,6 +1,9 @@
 //! Laws on mailboxes. Each function does nothing; its contract is the law.
-ghost use Rattle.std.specs.Prelude.{◌++◌, ◌≡◌, List, ℕ, true};
+ghost use Rattle.std.specs.Prelude.{◌++◌, ◌<◌, ◌≡◌, List, ℕ, true};
+ghost use Rattle.std.specs.List.{flat_map};
+ghost use Rattle.mail_codec.specs.Places.{values_below};
 ghost use Rattle.mail_data.specs.Mailbox.{EndsEmpty, entries};
+ghost use Rattle.mail_data.specs.MailboxParts.{part_mails, placed};
 ghost use Rattle.mail_data.specs.Separator.{is_separator};
 
 /// A mailbox may be cut before a separator that follows an empty line: the mails of the two
@@ -9,4 +12,11 @@ pub fn mailboxes_join()
     ensures { (first second : List ℕ) → is_separator first ≡ true → EndsEmpty first →
         is_separator second ≡ true →
         entries (first ++ second) ≡ entries first ++ entries second }
+{}
+
+/// A mailbox may be read in equal parts, each of the mails whose separator begins in it: one after
+/// another they are all mails in order, each with its place.
+pub fn mailbox_parts_join()
+    ensures { (bytes : List ℕ) (count : ℕ) → 0 < count →
+        flat_map (λ mails. mails) (values_below count (part_mails bytes count)) ≡ placed bytes }
 {}
