@@ -253,7 +253,7 @@ def check_places():
         front = FROM + b"Subject: 1\n\none\n\n" + FROM
         found = objects(["--mbox"], front + raw + b"\n\n", 0, f"places {turn} in a mailbox")
         place = [found[1][name] for name in ORIGIN]
-        same(place, [2, None, 2, len(front), len(front + raw)], f"places {turn} in a mailbox")
+        same(place, [2, None, 2, len(front), len(front + raw) + 1], f"places {turn} in a mailbox")
         starts = [part["start"] for part in found[1]["parts"]]
         same(starts, [len(front) + at for _path, _part, at in places], f"places {turn} in a mailbox")
 
