@@ -1,6 +1,11 @@
 pub mod Strings
+pub mod Escapes
+pub mod Texts
+pub mod Plain
+pub mod Values
 pub mod Written
 pub mod Fields
 pub mod Part
 pub mod Mail
 pub mod Lines
+pub mod JsonLines

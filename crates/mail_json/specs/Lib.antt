@@ -6,3 +6,4 @@ pub mod Body
 pub mod Part
 pub mod Mail
 pub mod Lines
+pub mod Values

@@ -1,6 +1,5 @@
 -- The object of a mail; the program's own form.
 use Rattle.std.specs.Prelude.{◌≡◌, ℕ, ℤ, List, ◌++◌, Option, Some, None, option_map, Ok, Err, codes}
-use Rattle.std.specs.Fmt.{signed_decimal}
 use Rattle.mail_codec.specs.Charset.{Charsets}
 use Rattle.mail_codec.specs.Latin1.{latin1_text}
 use Rattle.mailparse.specs.Mail.{Node, Tree, root}
@@ -13,7 +12,7 @@ use Rattle.mail_data.specs.declared.lenient.date.error.DateError.TheVariants.{Da
 use Rattle.mail_json.specs.Fields.{value_of, ids_of}
 use Rattle.mail_json.specs.Origin.{Origin, origin_text}
 use Rattle.mail_json.specs.Part.{IsPartText, AreJoined}
-use Rattle.mail_json.specs.Strings.{json_text, text_or_null, json_texts}
+use Rattle.mail_json.specs.Strings.{json_text, seconds_text, text_or_null, json_texts}
 
 -- what is missing in a date, or wrong in it
 abbrev pub date_fault_text : DateError → List ℕ
@@ -27,7 +26,7 @@ date_fault_text TrailingText = codes "text after the zone"
 -- the member of a date: its seconds, or `null` where there is none or it is refused, and then why
 abbrev pub date_text : Option (Dated ℤ) → List ℕ
 date_text None = codes ",\"date\":null"
-date_text (Some (Ok seconds)) = codes ",\"date\":" ++ signed_decimal seconds
+date_text (Some (Ok seconds)) = codes ",\"date\":" ++ seconds_text seconds
 date_text (Some (Err fault)) = codes ",\"date\":null,\"date_error\":" ++ json_text (date_fault_text fault)
 
 -- the first value with a name as it stands in the mail, after these words: each byte is the character of its number

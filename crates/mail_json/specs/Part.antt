@@ -1,5 +1,5 @@
 -- The text that is written of each part of a mail; the program's own form.
-use Rattle.std.specs.Prelude.{◌≡◌, ℕ, ◌+◌, ◌^◌, ◌-◌, min, Bool, true, false, not, ◌&&◌, List, [], ◌∷◌, ◌++◌, length, map, Ok, Err, codes, decimal}
+use Rattle.std.specs.Prelude.{◌≡◌, ℕ, ◌+◌, ◌^◌, ◌-◌, min, Bool, true, false, not, ◌&&◌, List, [], ◌∷◌, ◌++◌, length, map, Ok, Err, codes}
 use Rattle.std.specs.Cmp.Lexicographic.{slice_cmp}
 use Rattle.std.specs.List.Sorted.{IsStrictlySortedBy}
 use Rattle.std.specs.Map.{lookup}
@@ -21,7 +21,7 @@ use Rattle.mail_data.specs.PartPlaces.{Place}
 use Rattle.mail_data.specs.lenient.Encoding.{lenient_body_kind}
 use Rattle.mail_json.specs.Body.{encoding_text, decoded_size}
 use Rattle.mail_json.specs.Fields.{refusal_text, disposition_name}
-use Rattle.mail_json.specs.Strings.{json_text, text_or_null, joined}
+use Rattle.mail_json.specs.Strings.{json_text, number_text, text_or_null, joined}
 
 -- a sum, or the greatest number of 64 bits, where no file ends
 abbrev pub saturating_add : ℕ → ℕ → ℕ
@@ -65,11 +65,12 @@ disposition_text disposition node is_attachment =
 -- the members of an encoding by its name, of where a part stands, and of how many bytes its body has
 abbrev pub place_text : List ℕ → ℕ → ℕ → ℕ → List ℕ
 place_text name start end size =
-    codes ",\"encoding\":\"" ++ name ++ codes "\",\"start\":" ++ decimal start ++ codes ",\"end\":" ++ decimal end ++ codes ",\"size\":" ++ decimal size
+    codes ",\"encoding\":\"" ++ name ++ codes "\",\"start\":" ++ number_text start ++ codes ",\"end\":" ++ number_text end
+    ++ codes ",\"size\":" ++ number_text size
 
 -- the member of how many bytes a body stands for, or of why it is refused
 abbrev pub size_text : Reads ℕ → List ℕ
-size_text (Ok size) = codes ",\"decoded_size\":" ++ decimal size
+size_text (Ok size) = codes ",\"decoded_size\":" ++ number_text size
 size_text (Err refusal) = codes ",\"decoded_size\":null,\"error\":" ++ json_text (refusal_text refusal)
 
 -- the text of a body, or `null` where it is refused

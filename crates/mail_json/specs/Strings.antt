@@ -1,7 +1,8 @@
 -- JSON text of strings, of lists and of what is not there (RFC 8259, sections 5 and 7), as this program writes it.
-use Rattle.std.specs.Prelude.{ℕ, ◌^◌, ◌-◌, Bool, true, false, ◌&&◌, ◌||◌, ◌==◌, nat_lt, List, [], ◌∷◌, ◌++◌, flat_map, Option, Some, None, codes, chars, if◌then◌else◌}
+use Rattle.std.specs.Prelude.{ℕ, suc, ◌^◌, ◌-◌, min, ℤ, pos, negsuc, Bool, true, false, ◌&&◌, ◌||◌, ◌==◌, nat_lt, List, [], ◌∷◌, ◌++◌, flat_map, Option, Some, None, codes, chars, decimal, if◌then◌else◌}
 use Rattle.std.specs.Char.{encode_utf8}
 use Rattle.std.specs.Fmt.{digits, padded_integral, format_spec}
+use Rattle.std.specs.Str.{is_utf8}
 use Rattle.json.specs.Print.{quoted}
 
 -- a character, which JSON lets stand, that moves a terminal or ends a line for some readers: DEL, the controls from U+0080 to U+009F, and
@@ -22,8 +23,21 @@ unfoldable pub escaped : List ℕ → List ℕ
 escaped json = flat_map character_text (chars json)
 
 -- a string: within quotation marks, with `"`, `\` and controls escaped, each by the shortest escape; and hidden characters
+unfoldable pub utf8_text : List ℕ → List ℕ
+utf8_text text = escaped (quoted text)
+
+-- the same of any bytes: hidden characters are escaped where the bytes are UTF-8, as those of each text are that is written
 unfoldable pub json_text : List ℕ → List ℕ
-json_text text = escaped (quoted text)
+json_text text = if is_utf8 text then utf8_text text else quoted text
+
+-- a number in decimal digits, or the greatest of 64 bits, which no size and no place of an input exceeds
+unfoldable pub number_text : ℕ → List ℕ
+number_text n = decimal (min n (2 ^ 64 - 1))
+
+-- seconds in decimal digits, within 64 bits with a sign, which no date exceeds
+unfoldable pub seconds_text : ℤ → List ℕ
+seconds_text (pos n) = decimal (min n (2 ^ 63 - 1))
+seconds_text (negsuc n) = codes "-" ++ decimal (min (suc n) (2 ^ 63))
 
 -- a string, or `null` where there is none
 abbrev pub text_or_null : Option (List ℕ) → List ℕ

@@ -1,5 +1,5 @@
 //! The object of a mail.
-ghost use Rattle.std.specs.Prelude.{◌≡◌, codes, option_map};
+ghost use Rattle.std.specs.Prelude.{◌≡◌, ◌++◌, codes, option_map};
 ghost use Rattle.mail_codec.specs.Tables.{charsets_with};
 ghost use Rattle.mailparse.specs.Mail.{root};
 ghost use Rattle.mailparse.specs.Placement.{placements};
@@ -9,6 +9,7 @@ ghost use Rattle.mail_json.specs.Fields.{value_of};
 ghost use Rattle.mail_json.specs.Mail.{IsMailText, date_fault_text, date_text, id_list_text};
 ghost use Rattle.mail_json.specs.Mail.{ids_text, raw_text, raw_value_text, value_text, values_text};
 ghost use Rattle.mail_json.specs.Origin.{origin_of};
+ghost use Rattle.mail_json.specs.Strings.{seconds_text};
 ghost use Rattle.mail_json.specs.Written.{Writes, WritesOne};
 
 use crate::fields::{ids_of, value_of};
@@ -164,15 +165,21 @@ fn write_date<W: Write>(
         return write_word(out, ",\"date\":null");
     };
     match date_of(date.as_str()) {
-        Ok(seconds) => {
-            write!(out, ",\"date\":{seconds}")?;
-            Ok(())
-        }
+        Ok(seconds) => write_seconds(out, seconds),
         Err(error) => {
             write_word(out, ",\"date\":null,\"date_error\":")?;
             write_text(alloc, out, date_fault(error))
         }
     }
+}
+
+/// Writes a date by its seconds.
+fn write_seconds<W: Write>(out: &mut W, seconds: i64) -> Result<(), Fault>
+    ensures { Writes (W.contents out.old) (W.contents out.new) result
+        (codes ",\"date\":" ++ seconds_text seconds) }
+{
+    write!(out, ",\"date\":{seconds}")?;
+    Ok(())
 }
 
 /// Returns what is missing in a date or wrong in it, as `Display` shows it.

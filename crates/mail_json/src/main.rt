@@ -3,6 +3,7 @@
 
 mod body;
 mod fields;
+pub mod laws;
 mod lines;
 mod mail;
 mod origin;

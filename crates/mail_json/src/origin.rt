@@ -1,6 +1,8 @@
 //! Where a line is from.
 ghost use Rattle.std.specs.Prelude.{option_map};
-ghost use Rattle.mail_json.specs.Origin.{error_line, number_or_null, origin_of, origin_text, unread_line};
+ghost use Rattle.mail_json.specs.Origin.{bounds_text, error_line, number_or_null, origin_of};
+ghost use Rattle.mail_json.specs.Origin.{origin_text, unread_line};
+ghost use Rattle.mail_json.specs.Strings.{number_text};
 ghost use Rattle.mail_json.specs.Written.{Writes};
 
 use crate::strings::{write_name, write_text, write_word};
@@ -34,23 +36,34 @@ pub fn write_origin<W: Write>(alloc: Global, out: &mut W, origin: &Origin<'_>) -
     write_word(out, "{\"schema\":2,\"file\":")?;
     write_name(alloc, out, origin.file)?;
     write_word(out, ",\"number\":")?;
-    write_number(out, origin.number)?;
-    let (start, end) = (origin.start, origin.end);
+    write_number_or_null(out, origin.number)?;
+    write_bounds(out, origin.start, origin.end)
+}
+
+/// Writes the members of where a mail begins and ends.
+fn write_bounds<W: Write>(out: &mut W, start: usize, end: usize) -> Result<(), Fault>
+    ensures { Writes (W.contents out.old) (W.contents out.new) result (bounds_text start end) }
+{
     write!(out, ",\"start\":{start},\"end\":{end}")?;
     Ok(())
 }
 
 /// Writes a number, or `null` where there is none.
-fn write_number<W: Write>(out: &mut W, number: Option<usize>) -> Result<(), Fault>
+fn write_number_or_null<W: Write>(out: &mut W, number: Option<usize>) -> Result<(), Fault>
     ensures { Writes (W.contents out.old) (W.contents out.new) result (number_or_null number) }
 {
     match number {
-        Some(number) => {
-            write!(out, "{number}")?;
-            Ok(())
-        }
+        Some(number) => write_number(out, number),
         None => write_word(out, "null"),
     }
+}
+
+/// Writes a number.
+fn write_number<W: Write>(out: &mut W, number: usize) -> Result<(), Fault>
+    ensures { Writes (W.contents out.old) (W.contents out.new) result (number_text number) }
+{
+    write!(out, "{number}")?;
+    Ok(())
 }
 
 /// Writes the line of an error.

@@ -1,7 +1,7 @@
 //! JSON text of strings and of members of an object (RFC 8259, sections 4, 5 and 7).
 ghost use Rattle.std.specs.Prelude.{◌≡◌, ◌++◌, false, map, option_map, string_bytes, IfOk, OnOk};
 ghost use Rattle.mail_json.specs.Strings.{character_text, comma, escaped, is_hidden, json_text};
-ghost use Rattle.mail_json.specs.Strings.{json_texts, text_or_null};
+ghost use Rattle.mail_json.specs.Strings.{json_texts, text_or_null, utf8_text};
 ghost use Rattle.mail_json.specs.Written.{Writes};
 ghost use Rattle.mailparse.specs.Map.{text_found};
 
@@ -28,10 +28,18 @@ pub fn write_text<W: Write>(alloc: Global, out: &mut W, text: &str) -> Result<()
 ///
 /// `Fault::Output` where a write fails, and `Fault::Mail` with `MailParseError::Memory` where it runs
 /// out of memory.
-#[tactic(auto, unfolding(crate::specs::Strings::json_text))]
 pub fn write_owned<W: Write>(alloc: Global, out: &mut W, text: String) -> Result<(), Fault>
     ensures { Writes (W.contents out.old) (W.contents out.new) result
         (json_text (string_bytes text)) }
+{
+    write_quoted(alloc, out, text)
+}
+
+/// Does what `write_owned` does. Its contract says that the text is UTF-8.
+#[tactic(auto, unfolding(crate::specs::Strings::utf8_text))]
+fn write_quoted<W: Write>(alloc: Global, out: &mut W, text: String) -> Result<(), Fault>
+    ensures { Writes (W.contents out.old) (W.contents out.new) result
+        (utf8_text (string_bytes text)) }
 {
     let json = Value::String(text).to_string(alloc)?;
     if has_hidden(json.as_str()) {

@@ -1,16 +1,17 @@
 -- Lemmas on JSON text, and on items with commas.
-use Rattle.std.proofs.Common.{◌≡◌, ℕ, suc, ◌+◌, ◌<◌, Bool, true, false, List, [], ◌∷◌, ◌++◌, length, drop, get_or, Option, sym, ap, subst, ◌∙◌, append_assoc, add-one, drop-cons}
+use Rattle.std.proofs.Common.{◌≡◌, ℕ, suc, ◌+◌, ◌<◌, Bool, true, false, List, [], ◌∷◌, ◌++◌, length, drop, get_or, min, ℤ, pos, negsuc, Option, String, Global, FitsSigned, w64, decimal, arith, string_bytes, sym, ap, subst, ◌∙◌, append_assoc, add-one, drop-cons}
 use Rattle.std.proofs.KnownBytes.{Appends-nil, Appends-trans}
 use Rattle.std.proofs.lemmas.Bool.{cond-true, cond-false}
 use Rattle.std.proofs.lemmas.List.{append-nil}
-use Rattle.std.proofs.lemmas.Str.{chars-nil, chars_past_char}
+use Rattle.std.proofs.lemmas.Str.{chars-nil, chars_past_char, is_utf8-from_IsUtf8, IsUtf8-string_bytes}
 use Rattle.std.specs.Prelude.{◌^◌, ◌-◌, option_map, codes}
 use Rattle.std.specs.Char.{encode_utf8}
-use Rattle.std.specs.Fmt.{padded_integral, format_spec}
+use Rattle.std.specs.Fmt.{padded_integral, format_spec, signed_decimal}
 use Rattle.std.specs.Io.KnownBytes.{Appends}
 use Rattle.std.specs.List.{flat_map}
-use Rattle.std.specs.Str.{chars, IsUtf8}
-use Rattle.mail_json.specs.Strings.{is_hidden, hexadecimal, character_text, escaped, comma, after_commas, joined}
+use Rattle.std.specs.Str.{chars, is_utf8, IsUtf8}
+use Rattle.json.specs.Print.{quoted}
+use Rattle.mail_json.specs.Strings.{is_hidden, hexadecimal, character_text, escaped, json_text, utf8_text, number_text, seconds_text, comma, after_commas, joined}
 
 -- a character that stands as it is, and one that is escaped
 pub character_plain : (c : ℕ) → is_hidden c ≡ false → character_text c ≡ encode_utf8 c
@@ -48,6 +49,23 @@ escaped_past all written rest next new c utf8 e push here =
 
 pub escaped_end : (all written rest : List ℕ) → rest ≡ [] → written ++ escaped rest ≡ all → written ≡ all
 escaped_end all written rest none here = sym (append-nil written) ∙ ap (λ t. written ++ t) (sym (escaped_nil rest none)) ∙ here
+
+-- a `String` is UTF-8
+pub json_text_string : (text : String Global) → json_text (string_bytes text) ≡ utf8_text (string_bytes text)
+unfolding json_text
+json_text_string text =
+    cond-true (is_utf8 (string_bytes text)) (utf8_text (string_bytes text)) (quoted (string_bytes text))
+    (is_utf8-from_IsUtf8 (string_bytes text) (IsUtf8-string_bytes text))
+
+-- numbers of 64 bits are written as they are
+pub number_text-fits : (n : ℕ) → n < 2 ^ 64 → decimal n ≡ number_text n
+unfolding number_text
+number_text-fits n h = let e : n ≡ min n (2 ^ 64 - 1) = omega arith in ap decimal e
+
+pub seconds_text-fits : (z : ℤ) → FitsSigned w64 z → signed_decimal z ≡ seconds_text z
+unfolding seconds_text
+seconds_text-fits (pos n) h = let e : n ≡ min n (2 ^ 63 - 1) = omega (arith, h.sfits) in ap decimal e
+seconds_text-fits (negsuc n) h = let e : suc n ≡ min (suc n) (2 ^ 63) = omega (arith, h.sfits) in ap (λ k. 45 ∷ decimal k) e
 
 -- ---- items with commas
 

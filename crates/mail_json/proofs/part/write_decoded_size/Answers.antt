@@ -7,6 +7,7 @@ use Rattle.mailparse.specs.Refusal.{◌>>=◌}
 use Rattle.mail_json.specs.Strings.{json_text}
 use Rattle.mail_json.specs.Part.{size_text}
 use Rattle.mail_json.proofs.lemmas.Fields.{refused_or_memory}
+use Rattle.mail_json.proofs.lemmas.Strings.{number_text-fits}
 use Rattle.mail_json.proofs.lemmas.Written.{appends_as, writes_as, writes_then}
 use Rattle.mail_json.proofs.part.write_decoded_size.Goals as goal
 
@@ -15,7 +16,7 @@ returns-in_ok-write-in-Ok g c = λ kind raw is.
     let given = subst (λ r. AnswersOrMemory (cow_slice_items {X = ℕ}) r (decoded kind raw)) c.in-Ok.is is in
     let size = ap (λ r. r >>= (λ (bytes : List ℕ). Ok (length bytes))) given in
     let why = size ∙ ap Ok (sym c.len-size.ensures) in
-    appends_as _ _ _ _ (ap size_text (sym why)) c.in_ok-write-in-Ok.ensures.bytes
+    appends_as _ _ _ _ (ap (λ t. codes ",\"decoded_size\":" ++ t) (number_text-fits c.len-size.result c.len-size.type_inv) ∙ ap size_text (sym why)) c.in_ok-write-in-Ok.ensures.bytes
 
 pub returns-in_ok-write_word-in-Err : goal.returns-in_ok-write_word-in-Err
 returns-in_ok-write_word-in-Err g c = λ kind raw is.
