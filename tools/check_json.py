@@ -19,7 +19,10 @@ import subprocess
 import sys
 import tempfile
 
-import jsonschema
+try:
+    import jsonschema
+except ImportError:
+    sys.exit("check_json.py: this needs Python's jsonschema (Debian: python3-jsonschema)")
 
 from read_by_email import mail_object, part_object, parts_of
 from shared.programs import built_program
