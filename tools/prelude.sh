@@ -40,6 +40,7 @@ check_arguments() {
         fi
         case $word in
             -h | --help) help; exit 0 ;;
+            '') usage 'an argument is empty' ;;
             -) given=$((given + 1)) ;;
             --) are_names=1 ;;
             -*)

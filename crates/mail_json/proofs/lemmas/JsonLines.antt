@@ -30,9 +30,9 @@ use Rattle.mail_json.specs.Fields.{refusal_text, disposition_name, value_of, ids
 use Rattle.mail_json.specs.Mail.{IsMailText, date_text, date_fault_text, ids_text, raw_text, values_text}
 use Rattle.mail_json.specs.Part.{AreAfterCommas, AreJoined, IsPartText, body_text, disposition_text, flag_text, header_text, headers_text, is_attachment, parameter_text, part_text, place_text, read_text, saturating_add, size_text, type_text}
 use Rattle.mail_json.specs.Lines.{AreLines, AreMailboxLines, IsFront, IsLineOf}
-use Rattle.mail_json.specs.Origin.{Origin, bounds_text, error_line, number_or_null, origin_text, unread_line}
+use Rattle.mail_json.specs.Origin.{Origin, error_line, number_or_null, origin_text, unread_line}
 use Rattle.mail_json.specs.Strings.{json_text, number_text, text_or_null, json_texts, after_commas, joined}
-use Rattle.mail_json.specs.Values.{AreJsonLines, AreValues, IsJsonLine, IsLineValue, IsMailValue, IsPartValue, body_value, content_members, date_members, disposition_members, error_value, file_members, front_members, header_value, ids_members, list_of, mail_members, number_or_null_value, number_value, object_of, one, origin_members, parameter_member, part_members, place_members, raw_member, raw_members, read_value, size_members, string_or_null, strings, type_members, unread_value, values_members}
+use Rattle.mail_json.specs.Values.{AreJsonLines, AreValues, IsJsonLine, IsLineValue, IsMailValue, IsPartValue, body_value, content_members, date_members, disposition_members, error_value, file_members, front_members, header_value, ids_members, list_of, mail_members, number_or_null_value, number_value, object_of, one, origin_members, parameter_member, part_members, place_members, raw_members, read_value, size_members, string_or_null, strings, type_members, unread_value, values_members}
 use Rattle.mail_json.proofs.lemmas.Lines.{origin_at}
 use Rattle.mail_json.proofs.lemmas.Strings.{number_text-fits}
 use Rattle.mail_json.proofs.lemmas.Plain.{are_plain, json_text-plain}

@@ -1,7 +1,5 @@
-use Rattle.std.proofs.Common.{ap₂, sym, ◌∙◌, ◌++◌, ap, List, ℕ}
+use Rattle.std.proofs.Common.{◌∙◌, ◌++◌}
 use Rattle.std.specs.Prelude.{codes}
-use Rattle.mail_json.specs.Part.{place_text}
-use Rattle.mail_json.specs.Strings.{number_text}
 use Rattle.mail_json.proofs.lemmas.Strings.{number_text-fits}
 use Rattle.mail_json.proofs.lemmas.Written.{appends_as, grouped}
 use Rattle.mail_json.proofs.part.write_place.Goals as goal
