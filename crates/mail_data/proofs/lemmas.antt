@@ -9,4 +9,5 @@ pub mod Mailbox
 pub mod MailboxJoined
 pub mod PartPlaces
 pub mod MailboxParts
+pub mod MailboxFound
 pub mod Separator

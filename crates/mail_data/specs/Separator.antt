@@ -1,12 +1,12 @@
 -- The lines that separate the mails of a mailbox: `From `, an address, and a time (RFC 4155, appendix A), also in the
 -- forms that real mailboxes have.
-use Rattle.std.specs.Prelude.{ℕ, Bool, false, ◌&&◌, ◌||◌, ◌==◌, List, [], ◌∷◌, length, take, drop, not, codes, if◌then◌else◌}
+use Rattle.std.specs.Prelude.{ℕ, Bool, false, ◌&&◌, ◌||◌, ◌==◌, List, [], ◌∷◌, take, drop, not, codes, if◌then◌else◌}
 use Rattle.std.specs.Char.{is_ascii_alphabetic, is_ascii_digit, is_ascii_whitespace}
 use Rattle.std.specs.Cmp.Lexicographic.{pointwise}
 use Rattle.std.specs.List.{list_all, list_any, prefix_len}
 use Rattle.std.specs.Str.{bytes_eq}
 use Rattle.mail_codec.specs.Ascii.{digit_0, space}
-use Rattle.mail_codec.specs.Places.{is_empty, stands, trimmed_at_start}
+use Rattle.mail_codec.specs.Places.{stands, trimmed_at_start}
 use Rattle.mail_data.specs.Lines.{line_length}
 
 -- what a separator begins with

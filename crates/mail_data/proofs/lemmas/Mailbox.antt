@@ -1,11 +1,10 @@
 -- Lemmas on mailboxes: where a mail ends, and that the mails make up the mailbox.
-use Rattle.std.proofs.Common.{◌≡◌, ℕ, zero, suc, ◌+◌, ◌-◌, ◌<◌, ◌≤◌, Bool, true, false, List, [], ◌∷◌, ◌&&◌, ◌||◌, length, take, drop, Some, None, refl, sym, ap, ◌∙◌, arith, length-drop, ◌++◌, inl, inr}
-use Rattle.std.specs.Prelude.{nat_lt, nat_eq, ◌==◌}
+use Rattle.std.proofs.Common.{◌≡◌, ℕ, zero, suc, ◌+◌, ◌-◌, ◌<◌, ◌≤◌, Bool, true, false, List, [], ◌∷◌, ◌&&◌, ◌||◌, length, take, drop, refl, sym, ap, ◌∙◌, arith, length-drop, ◌++◌, inl, inr}
+use Rattle.std.specs.Prelude.{nat_lt, nat_eq}
 use Rattle.std.specs.List.{flat_map}
 use Rattle.std.proofs.lemmas.Bool.{cond-true, cond-false, cases_Bool, lt-ltb, ltb-true, ne_eqb, and_parts, and_left, or_right, false≢true}
 use Rattle.std.proofs.lemmas.List.{append_assoc, drop-drop, drop_all, take_rest, take-append-drop}
-use Rattle.mail_codec.specs.Places.{stands, begins, byte_place, is_empty}
-use Rattle.mail_codec.proofs.lemmas.PlacesSearches.{place_none, place_some}
+use Rattle.mail_codec.specs.Places.{is_empty}
 use Rattle.mail_data.specs.Lines.{after_empty_line, after_line, empty_line, line_length}
 use Rattle.mail_data.specs.Mailbox.{ends_mail, mail_length, entry_bytes, after_mail, entry_at, next_entry, entries_within, entries_from, front_length, entries}
 use Rattle.mail_data.specs.Separator.{is_separator}
@@ -61,7 +60,7 @@ mail_ended : (bytes : List ℕ) → mail_length bytes < length bytes → ends_ma
 unfolding mail_length
 mail_ended bytes l = line_place-passes ends_mail bytes l
 
-after_empty_line-nil : after_empty_line [] ≡ []
+pub after_empty_line-nil : after_empty_line [] ≡ []
 unfolding empty_line
 after_empty_line-nil = refl
 
@@ -73,7 +72,7 @@ after_opens bytes = elim (cases_Bool (nat_lt (mail_length bytes) (length bytes))
       ap (λ (r : List ℕ). opens (after_empty_line r)) none ∙ ap opens after_empty_line-nil
 ]
 
-stands-some : (bytes : List ℕ) → is_separator bytes ≡ true → 0 < length bytes
+pub stands-some : (bytes : List ℕ) → is_separator bytes ≡ true → 0 < length bytes
 unfolding is_separator
 stands-some [] h = absurd (false≢true h)
 stands-some (b ∷ bytes) h = omega arith

@@ -1,13 +1,13 @@
 -- Lemmas on a mailbox that is cut before a separator behind an empty line: the mails of the two halves are those of the whole.
-use Rattle.std.proofs.Common.{◌≡◌, ℕ, zero, suc, ◌+◌, ◌-◌, ◌<◌, ◌≤◌, Bool, true, false, cond, List, [], ◌∷◌, ◌++◌, ◌&&◌, ◌||◌, length, take, drop, refl, sym, ap, subst, ◌∙◌, arith, length-drop, length-append, inl, inr}
+use Rattle.std.proofs.Common.{◌≡◌, ℕ, zero, suc, ◌+◌, ◌-◌, ◌<◌, ◌≤◌, Bool, true, false, cond, List, [], ◌∷◌, ◌++◌, ◌&&◌, ◌||◌, length, take, drop, refl, sym, ap, subst, ◌∙◌, arith, length-append, inl, inr}
 use Rattle.std.specs.Prelude.{nat_lt, ◌==◌}
 use Rattle.std.proofs.lemmas.Bool.{cases_Bool, cases_lt, or_right, false≢true}
 use Rattle.std.proofs.lemmas.List.{append_assoc, drop-append-le, drop-drop, drop_all, take-append-le}
 use Rattle.std.proofs.Math.Seq.{drop-append_seam, drop-append-add}
-use Rattle.mail_codec.specs.Places.{begins, first_place, is_empty, least, stands}
+use Rattle.mail_codec.specs.Places.{begins, first_place, is_empty, stands}
 use Rattle.mail_codec.proofs.lemmas.Places.{least-before, least-is, least-passes, true_not_false}
 use Rattle.mail_data.specs.Lines.{after_line, empty_line, line_length, line_place, starts_line}
-use Rattle.mail_data.specs.Mailbox.{EndsEmpty, Entry, IsEmptyLine, after_mail, ends_mail, entries, entries_from, entry_at, front_length, mail_length, next_entry}
+use Rattle.mail_data.specs.Mailbox.{EndsEmpty, Entry, IsEmptyLine, after_mail, ends_mail, entries, entries_from, entry_at, mail_length, next_entry}
 use Rattle.mail_data.specs.Separator.{has_time, is_separator, mark}
 use Rattle.mail_data.proofs.lemmas.Lines.{is_line}
 use Rattle.mail_data.proofs.lemmas.Mailbox.{after_opens, entries_from-none, entries_from-some, front_length-none, next_entry-shorter, opens}
@@ -15,7 +15,7 @@ use Rattle.mail_data.proofs.lemmas.Mailbox.{after_opens, entries_from-none, entr
 -- ---- bytes that end in LF, with more bytes behind them
 
 -- the bytes with a LF at their end
-abbrev closed : List ℕ → List ℕ
+abbrev pub closed : List ℕ → List ℕ
 closed front = front ++ (10 ∷ [])
 
 length-closed : (front : List ℕ) → length (closed front) ≡ length front + 1
@@ -77,7 +77,7 @@ take-joined f bytes more same within = ap (λ (n : ℕ). take n (bytes ++ more))
 drop-joined : (f : List ℕ → ℕ) (bytes more : List ℕ) → f (bytes ++ more) ≡ f bytes → f bytes ≤ length bytes → drop (f (bytes ++ more)) (bytes ++ more) ≡ drop (f bytes) bytes ++ more
 drop-joined f bytes more same within = ap (λ (n : ℕ). drop n (bytes ++ more)) same ∙ drop-append-le (f bytes) bytes more within
 
-is_separator-joined : (front more : List ℕ) → is_separator (closed front ++ more) ≡ is_separator (closed front)
+pub is_separator-joined : (front more : List ℕ) → is_separator (closed front ++ more) ≡ is_separator (closed front)
 unfolding is_separator
 is_separator-joined front more =
     ap (λ (t : Bool). t && has_time (take (line_length (closed front ++ more)) (closed front ++ more))) (stands-joined front more)
@@ -243,7 +243,7 @@ entry-joined front more marked short low =
           ∙ ap (λ (r : List ℕ). drop (empty_line r) r ++ more) (sym rest_here);
     }
 
-front-joined : (bytes more : List ℕ) → EndsEmpty bytes → is_separator more ≡ true → Joined bytes more
+pub front-joined : (bytes more : List ℕ) → EndsEmpty bytes → is_separator more ≡ true → Joined bytes more
 front-joined bytes more ends marked =
     let whole : bytes ≡ closed (before_last ends.front ends.line) = ends.whole ∙ closed-bytes ends.front ends.line ends.is_empty in
     let some = (closed-line ends.line ends.is_empty).1 in
@@ -283,7 +283,7 @@ nothing : (bytes : List ℕ) → is_separator bytes ≡ false → opens bytes �
 nothing [] fails h = refl
 nothing (b ∷ bytes) fails h = absurd (false≢true (sym fails ∙ h))
 
-unmarked-nil : is_separator [] ≡ false
+pub unmarked-nil : is_separator [] ≡ false
 unfolding is_separator
 unmarked-nil = refl
 

@@ -1,0 +1,147 @@
+-- Lemmas on a mail whose next separator was read: it stays the same whatever follows.
+use Rattle.std.proofs.Common.{◌≡◌, ℕ, suc, ◌+◌, ◌-◌, ◌<◌, ◌≤◌, Bool, true, false, cond, List, [], ◌∷◌, ◌++◌, ◌||◌, length, take, drop, refl, sym, ap, subst, ◌∙◌, arith, length-drop, inl, inr}
+use Rattle.std.specs.Prelude.{nat_eq, nat_lt, ◌==◌}
+use Rattle.std.specs.Cmp.Lexicographic.{same_text}
+use Rattle.std.proofs.lemmas.Bool.{and_parts, cases_Bool, cases_lt, cond-false, cond-true, eqb-true, false≢true, ne_eqb}
+use Rattle.std.proofs.lemmas.List.{append_assoc, drop-drop, drop_all, take-append-drop}
+use Rattle.mail_codec.specs.Places.{begins, first_place, stands}
+use Rattle.mail_codec.proofs.lemmas.Places.{first_place-passes, least-passes, true_not_false}
+use Rattle.mail_data.specs.Lines.{after_empty_line, after_line, empty_line, line_length, line_place, starts_line}
+use Rattle.mail_data.specs.Mailbox.{EndsEmpty, IsEmptyLine, after_mail, ends_mail, entry_at, mail_length, next_entry}
+use Rattle.mail_data.specs.Separator.{is_separator}
+use Rattle.mail_data.proofs.lemmas.Lines.{is_line}
+use Rattle.mail_data.proofs.lemmas.Mailbox.{after_empty_line-nil, opens, stands-some}
+use Rattle.mail_data.proofs.lemmas.MailboxJoined.{closed, front-joined, is_separator-joined, unmarked-nil}
+
+-- ---- what stands at the end of a line and of a mail
+
+line_feed_first : (bytes : List ℕ) → begins (λ b. b == 10) bytes ≡ true → bytes ≡ 10 ∷ drop 1 bytes
+line_feed_first [] h = absurd (false≢true h)
+line_feed_first (b ∷ bytes) h = let same : b ≡ 10 = eqb-true b 10 h in ap (λ (x : ℕ). x ∷ bytes) same
+
+line-end : (bytes : List ℕ) → line_length bytes < length bytes → (begins (λ b. b == 10) (drop (line_length bytes - 1) bytes) ≡ true) × (0 < line_length bytes)
+unfolding line_length
+line-end bytes low =
+    let f = first_place (begins (λ b. b == 10)) bytes in
+    let within : f < length bytes = omega arith in
+    let place : f ≡ line_length bytes - 1 = omega arith in
+    (ap (λ (k : ℕ). begins (λ b. b == 10) (drop k bytes)) (sym place) ∙ first_place-passes (begins (λ b. b == 10)) bytes within, omega arith)
+
+mail-end : (body : List ℕ) → mail_length body < length body → (starts_line body (mail_length body) ≡ true) × (nat_lt 0 (empty_line (after_mail body)) ≡ true)
+unfolding mail_length ends_mail
+mail-end body low =
+    let found = and_parts (starts_line body (line_place ends_mail body)) (ends_mail (drop (line_place ends_mail body) body)) (least-passes (is_line ends_mail body) (length body) low) in
+    let rest = drop (line_place ends_mail body) body in
+    (found.0, (and_parts (nat_lt 0 (empty_line rest)) (opens (after_empty_line rest)) found.1).0)
+
+empty_line-shape : (rest : List ℕ) → nat_lt 0 (empty_line rest) ≡ true → IsEmptyLine (take (empty_line rest) rest)
+unfolding empty_line
+empty_line-shape rest some = elim (cases_Bool (stands (10 ∷ []) rest)) [
+  | inl lf ↦
+      inl (ap (λ (k : ℕ). take k rest) (cond-true (stands (10 ∷ []) rest) 1 (cond (stands (13 ∷ 10 ∷ []) rest) 2 0) lf) ∙ sym (same_text (10 ∷ []) (take 1 rest) (sym lf)))
+  | inr other ↦
+      let second = cond-false (stands (10 ∷ []) rest) 1 (cond (stands (13 ∷ 10 ∷ []) rest) 2 0) other in
+      elim (cases_Bool (stands (13 ∷ 10 ∷ []) rest)) [
+        | inl cr ↦ inr (ap (λ (k : ℕ). take k rest) (second ∙ cond-true (stands (13 ∷ 10 ∷ []) rest) 2 0 cr) ∙ sym (same_text (13 ∷ 10 ∷ []) (take 2 rest) (sym cr)))
+        | inr none ↦ absurd (true_not_false some (ap (nat_lt 0) (second ∙ cond-false (stands (13 ∷ 10 ∷ []) rest) 2 0 none)))
+      ]
+]
+
+-- ---- the bytes of the mail at the front, where a separator follows it
+
+record Cut (bytes : List ℕ) : Type 0 where
+  first : List ℕ
+  ends : EndsEmpty first
+  whole : first ++ next_entry bytes ≡ bytes
+
+mail-low : (body : List ℕ) → is_separator (after_empty_line (after_mail body)) ≡ true → mail_length body < length body
+mail-low body marked = elim (cases_lt (mail_length body) (length body)) [
+  | inl l ↦ l
+  | inr g ↦
+      let none : after_empty_line (after_mail body) ≡ [] = ap after_empty_line (drop_all (mail_length body) body g) ∙ after_empty_line-nil in
+      absurd (true_not_false marked (ap is_separator none ∙ unmarked-nil))
+]
+
+-- a LF stands before the empty line that ends the mail
+feed-before : (bytes : List ℕ) → is_separator (next_entry bytes) ≡ true
+    → (begins (λ b. b == 10) (drop (line_length bytes + mail_length (after_line bytes) - 1) bytes) ≡ true) × (0 < line_length bytes)
+feed-before bytes marked =
+    let l = line_length bytes in
+    let body = after_line bytes in
+    let m = mail_length body in
+    let low = mail-low body marked in
+    let size = length-drop l bytes in
+    let line = line-end bytes (omega arith) in
+    let some = line.1 in
+    elim (cases_lt 0 m) [
+      | inl more ↦
+          let place : l + (m - 1) ≡ l + m - 1 = omega arith in
+          let start : starts_line body m ≡ true = (mail-end body low).0 in
+          let begun : begins (λ b. b == 10) (drop (m - 1) body) ≡ true =
+            ap (λ (t : Bool). t || begins (λ b. b == 10) (drop (m - 1) body)) (sym (ne_eqb m 0 (λ e. absurd (omega arith)))) ∙ start in
+          (ap (λ (k : ℕ). begins (λ b. b == 10) (drop k bytes)) (sym place) ∙ ap (begins (λ b. b == 10)) (sym (drop-drop (m - 1) l bytes)) ∙ begun, some)
+      | inr none ↦
+          let place : l - 1 ≡ l + m - 1 = omega arith in
+          (ap (λ (k : ℕ). begins (λ b. b == 10) (drop k bytes)) (sym place) ∙ line.0, some)
+    ]
+
+cut-found : (bytes : List ℕ) → is_separator (next_entry bytes) ≡ true → Cut bytes
+cut-found bytes marked =
+    let l = line_length bytes in
+    let body = after_line bytes in
+    let m = mail_length body in
+    let rest = after_mail body in
+    let q = l + m - 1 in
+    let feed = feed-before bytes marked in
+    let some = feed.1 in
+    let place : q + 1 ≡ l + m = omega arith in
+    let end = take (empty_line rest) rest in
+    let behind : drop 1 (drop q bytes) ≡ rest = drop-drop 1 q bytes ∙ ap (λ (k : ℕ). drop k bytes) place ∙ sym (drop-drop m l bytes) in
+    let split : rest ≡ end ++ next_entry bytes = sym (take-append-drop (empty_line rest) rest) in
+    record {
+      first = take q bytes ++ (10 ∷ end);
+      ends = record { front = take q bytes; line = end; is_empty = empty_line-shape rest (mail-end body (mail-low body marked)).1; whole = refl };
+      whole =
+        append_assoc (take q bytes) (10 ∷ end) (next_entry bytes)
+        ∙ ap (λ (r : List ℕ). take q bytes ++ (10 ∷ r)) (sym split)
+        ∙ ap (λ (r : List ℕ). take q bytes ++ (10 ∷ r)) (sym behind)
+        ∙ ap (λ (r : List ℕ). take q bytes ++ r) (sym (line_feed_first (drop q bytes) feed.0))
+        ∙ take-append-drop q bytes;
+    }
+
+-- ---- a separator whose line was read
+
+separator-stays : (bytes more : List ℕ) → line_length bytes < length bytes → is_separator (bytes ++ more) ≡ is_separator bytes
+separator-stays bytes more low =
+    let l = line_length bytes in
+    let end = line-end bytes low in
+    let some = end.1 in
+    let place : l - 1 + 1 ≡ l = omega arith in
+    let rest = drop l bytes in
+    let behind : drop 1 (drop (l - 1) bytes) ≡ rest = drop-drop 1 (l - 1) bytes ∙ ap (λ (k : ℕ). drop k bytes) place in
+    let front = take (l - 1) bytes in
+    let whole : closed front ++ rest ≡ bytes =
+      append_assoc front (10 ∷ []) rest ∙ ap (λ (r : List ℕ). front ++ (10 ∷ r)) (sym behind)
+      ∙ ap (λ (r : List ℕ). front ++ r) (sym (line_feed_first (drop (l - 1) bytes) end.0)) ∙ take-append-drop (l - 1) bytes in
+    ap (λ (r : List ℕ). is_separator (r ++ more)) (sym whole) ∙ ap is_separator (append_assoc (closed front) rest more)
+    ∙ is_separator-joined front (rest ++ more) ∙ sym (is_separator-joined front rest) ∙ ap is_separator whole
+
+-- ---- the mail
+
+pub found-entry : (bytes more : List ℕ) → is_separator (next_entry bytes) ≡ true → line_length (next_entry bytes) < length (next_entry bytes) → entry_at (bytes ++ more) ≡ entry_at bytes
+found-entry bytes more marked past =
+    let cut = cut-found bytes marked in
+    let next = next_entry bytes in
+    let here = front-joined cut.first next cut.ends marked in
+    let there = front-joined cut.first (next ++ more) cut.ends (separator-stays next more past ∙ marked) in
+    ap (λ (r : List ℕ). entry_at (r ++ more)) (sym cut.whole) ∙ ap entry_at (append_assoc cut.first next more) ∙ there.entry ∙ sym here.entry ∙ ap entry_at cut.whole
+
+pub found-next : (bytes more : List ℕ) → is_separator (next_entry bytes) ≡ true → line_length (next_entry bytes) < length (next_entry bytes)
+    → next_entry (bytes ++ more) ≡ next_entry bytes ++ more
+found-next bytes more marked past =
+    let cut = cut-found bytes marked in
+    let next = next_entry bytes in
+    let here = front-joined cut.first next cut.ends marked in
+    let there = front-joined cut.first (next ++ more) cut.ends (separator-stays next more past ∙ marked) in
+    ap (λ (r : List ℕ). next_entry (r ++ more)) (sym cut.whole) ∙ ap next_entry (append_assoc cut.first next more) ∙ there.next
+    ∙ sym (append_assoc (next_entry cut.first) next more) ∙ ap (λ (r : List ℕ). r ++ more) (sym here.next ∙ ap next_entry cut.whole)
