@@ -1,6 +1,6 @@
 -- Mailboxes of mails one after another: the mbox format (RFC 4155, appendix A), where a line `From `, an address and a
 -- time separates mails if it is the first line or follows an empty line.
-use Rattle.std.specs.Prelude.{◌≡◌, ◌⊎◌, ℕ, zero, suc, ◌+◌, Bool, ◌&&◌, ◌||◌, List, [], ◌∷◌, ◌++◌, length, take, drop, if◌then◌else◌}
+use Rattle.std.specs.Prelude.{◌≡◌, ◌⊎◌, ℕ, zero, suc, ◌+◌, Bool, ◌&&◌, ◌||◌, nat_lt, Option, Some, None, List, [], ◌∷◌, ◌++◌, length, take, drop, if◌then◌else◌}
 use Rattle.mail_codec.specs.Ascii.{carriage_return, line_feed}
 use Rattle.mail_codec.specs.Places.{is_empty}
 use Rattle.mail_data.specs.Lines.{after_empty_line, after_line, empty_line, is_empty_line, line_length, line_place}
@@ -69,3 +69,12 @@ pub record EndsEmpty (bytes : List ℕ) : Type 0 where
   pub line : List ℕ
   pub is_empty : IsEmptyLine line
   pub whole : bytes ≡ front ++ (line_feed ∷ line)
+
+-- a separator stands here with its whole line and at least one byte more
+unfoldable pub is_before_text : List ℕ → Bool
+is_before_text bytes = is_separator bytes && nat_lt (line_length bytes) (length bytes)
+
+-- the mail at the front and what follows it, if the next separator follows so that it was read to its end
+unfoldable pub settled_entry : List ℕ → Option (Entry × List ℕ)
+settled_entry bytes =
+    if is_separator bytes && is_before_text (next_entry bytes) then Some (entry_at bytes, next_entry bytes) else None

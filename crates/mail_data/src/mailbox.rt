@@ -1,9 +1,9 @@
 //! Mailboxes: the mails of an mbox file (RFC 4155, appendix A).
-ghost use Rattle.std.specs.Prelude.{◌≡◌, ◌++◌, ◌≤◌, length, drop, take};
+ghost use Rattle.std.specs.Prelude.{◌≡◌, ◌++◌, ◌≤◌, length, drop, option_map, take};
 ghost use Rattle.std.specs.List.{flat_map};
 ghost use Rattle.mail_data.specs.Mailbox.{Entry, ends_mail, entries, entry_at};
 ghost use Rattle.mail_data.specs.Mailbox.{entry_bytes, front_length, mail_length};
-ghost use Rattle.mail_data.specs.Mailbox.{next_entry};
+ghost use Rattle.mail_data.specs.Mailbox.{is_before_text, next_entry, settled_entry};
 ghost use Rattle.mail_data.specs.MailboxViews.{entries_left};
 
 pub mod laws;
@@ -172,6 +172,46 @@ pub fn read_mailbox(bytes: &[u8]) -> Mailbox<'_>
 {
     let (front, rest) = bytes.split_at(front_length(bytes));
     Mailbox { front, rest }
+}
+
+/// Returns the mail at the front of what was read of a mailbox so far, and the bytes after it, if no
+/// bytes that follow can change them.
+///
+/// That is so where the bytes begin with a separator and the next separator stands behind the mail
+/// with its whole line and at least one byte more. Otherwise it returns `None`: read more, or at the
+/// end of the mailbox take `read_mailbox`. Each call searches the mail from its start, so call it
+/// again once twice as many bytes were read. Takes no memory.
+///
+/// # Examples
+///
+/// ```rust
+/// use mail_data::mailbox::settled_entry;
+///
+/// let read = b"From a Fri Jul  8 12:08 2011\n\none\n\nFrom b Fri Jul  8 12:09 2011\n\ntw";
+/// let Some((entry, rest)) = settled_entry(read) else {
+///     return Err("the mail is not settled".into());
+/// };
+/// assert_eq!(rt; entry.mail(), b"\none\n".as_slice());
+/// assert!(rt; settled_entry(rest).is_none());
+/// ```
+#[tactic(auto, unfolding(crate::specs::Mailbox::settled_entry))]
+pub fn settled_entry(bytes: &[u8]) -> Option<(MailboxEntry<'_>, &[u8])>
+    ensures { option_map (λ found. (found.0, found.1.now)) result ≡ settled_entry bytes.now }
+{
+    let (entry, rest) = cut_entry(bytes);
+    if is_separator(bytes) && is_before_text(rest) {
+        Some((entry, rest))
+    } else {
+        None
+    }
+}
+
+/// Whether a separator stands at the front with its whole line and at least one byte more.
+#[tactic(auto, unfolding(crate::specs::Mailbox::is_before_text))]
+fn is_before_text(bytes: &[u8]) -> bool
+    ensures { result ≡ is_before_text bytes.now }
+{
+    is_separator(bytes) && line_length(bytes) < bytes.len()
 }
 
 /// How many bytes stand before the first separator.

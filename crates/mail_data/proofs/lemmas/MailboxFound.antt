@@ -1,17 +1,17 @@
 -- Lemmas on a mail whose next separator was read: it stays the same whatever follows.
-use Rattle.std.proofs.Common.{◌≡◌, ℕ, suc, ◌+◌, ◌-◌, ◌<◌, ◌≤◌, Bool, true, false, cond, List, [], ◌∷◌, ◌++◌, ◌||◌, length, take, drop, refl, sym, ap, subst, ◌∙◌, arith, length-drop, inl, inr}
+use Rattle.std.proofs.Common.{◌≡◌, ℕ, suc, ◌+◌, ◌-◌, ◌<◌, ◌≤◌, Bool, true, false, cond, List, [], ◌∷◌, ◌++◌, ◌&&◌, ◌||◌, Some, None, Option, length, take, drop, refl, sym, ap, subst, ◌∙◌, arith, length-drop, inl, inr}
 use Rattle.std.specs.Prelude.{nat_eq, nat_lt, ◌==◌}
 use Rattle.std.specs.Cmp.Lexicographic.{same_text}
-use Rattle.std.proofs.lemmas.Bool.{and_parts, cases_Bool, cases_lt, cond-false, cond-true, eqb-true, false≢true, ne_eqb}
+use Rattle.std.proofs.lemmas.Bool.{and_parts, cases_Bool, cases_lt, cond-false, cond-true, eqb-true, false≢true, ltb-true, ne_eqb}
 use Rattle.std.proofs.lemmas.List.{append_assoc, drop-drop, drop_all, take-append-drop}
 use Rattle.mail_codec.specs.Places.{begins, first_place, stands}
 use Rattle.mail_codec.proofs.lemmas.Places.{first_place-passes, least-passes, true_not_false}
 use Rattle.mail_data.specs.Lines.{after_empty_line, after_line, empty_line, line_length, line_place, starts_line}
-use Rattle.mail_data.specs.Mailbox.{EndsEmpty, IsEmptyLine, after_mail, ends_mail, entry_at, mail_length, next_entry}
+use Rattle.mail_data.specs.Mailbox.{EndsEmpty, Entry, IsEmptyLine, after_mail, ends_mail, entries, entries_from, entry_at, is_before_text, mail_length, next_entry, settled_entry}
 use Rattle.mail_data.specs.Separator.{is_separator}
 use Rattle.mail_data.proofs.lemmas.Lines.{is_line}
-use Rattle.mail_data.proofs.lemmas.Mailbox.{after_empty_line-nil, opens, stands-some}
-use Rattle.mail_data.proofs.lemmas.MailboxJoined.{closed, front-joined, is_separator-joined, unmarked-nil}
+use Rattle.mail_data.proofs.lemmas.Mailbox.{after_empty_line-nil, entries_from-some, opens}
+use Rattle.mail_data.proofs.lemmas.MailboxJoined.{Joined, closed, entries-here, front-joined, is_separator-joined, unmarked-nil}
 
 -- ---- what stands at the end of a line and of a mail
 
@@ -78,7 +78,7 @@ feed-before bytes marked =
           let place : l + (m - 1) ≡ l + m - 1 = omega arith in
           let start : starts_line body m ≡ true = (mail-end body low).0 in
           let begun : begins (λ b. b == 10) (drop (m - 1) body) ≡ true =
-            ap (λ (t : Bool). t || begins (λ b. b == 10) (drop (m - 1) body)) (sym (ne_eqb m 0 (λ e. absurd (omega arith)))) ∙ start in
+          ap (λ (t : Bool). t || begins (λ b. b == 10) (drop (m - 1) body)) (sym (ne_eqb m 0 (λ e. absurd (omega arith)))) ∙ start in
           (ap (λ (k : ℕ). begins (λ b. b == 10) (drop k bytes)) (sym place) ∙ ap (begins (λ b. b == 10)) (sym (drop-drop (m - 1) l bytes)) ∙ begun, some)
       | inr none ↦
           let place : l - 1 ≡ l + m - 1 = omega arith in
@@ -102,11 +102,11 @@ cut-found bytes marked =
       first = take q bytes ++ (10 ∷ end);
       ends = record { front = take q bytes; line = end; is_empty = empty_line-shape rest (mail-end body (mail-low body marked)).1; whole = refl };
       whole =
-        append_assoc (take q bytes) (10 ∷ end) (next_entry bytes)
-        ∙ ap (λ (r : List ℕ). take q bytes ++ (10 ∷ r)) (sym split)
-        ∙ ap (λ (r : List ℕ). take q bytes ++ (10 ∷ r)) (sym behind)
-        ∙ ap (λ (r : List ℕ). take q bytes ++ r) (sym (line_feed_first (drop q bytes) feed.0))
-        ∙ take-append-drop q bytes;
+          append_assoc (take q bytes) (10 ∷ end) (next_entry bytes)
+          ∙ ap (λ (r : List ℕ). take q bytes ++ (10 ∷ r)) (sym split)
+          ∙ ap (λ (r : List ℕ). take q bytes ++ (10 ∷ r)) (sym behind)
+          ∙ ap (λ (r : List ℕ). take q bytes ++ r) (sym (line_feed_first (drop q bytes) feed.0))
+          ∙ take-append-drop q bytes;
     }
 
 -- ---- a separator whose line was read
@@ -121,27 +121,54 @@ separator-stays bytes more low =
     let behind : drop 1 (drop (l - 1) bytes) ≡ rest = drop-drop 1 (l - 1) bytes ∙ ap (λ (k : ℕ). drop k bytes) place in
     let front = take (l - 1) bytes in
     let whole : closed front ++ rest ≡ bytes =
-      append_assoc front (10 ∷ []) rest ∙ ap (λ (r : List ℕ). front ++ (10 ∷ r)) (sym behind)
-      ∙ ap (λ (r : List ℕ). front ++ r) (sym (line_feed_first (drop (l - 1) bytes) end.0)) ∙ take-append-drop (l - 1) bytes in
+    append_assoc front (10 ∷ []) rest ∙ ap (λ (r : List ℕ). front ++ (10 ∷ r)) (sym behind)
+    ∙ ap (λ (r : List ℕ). front ++ r) (sym (line_feed_first (drop (l - 1) bytes) end.0)) ∙ take-append-drop (l - 1) bytes in
     ap (λ (r : List ℕ). is_separator (r ++ more)) (sym whole) ∙ ap is_separator (append_assoc (closed front) rest more)
     ∙ is_separator-joined front (rest ++ more) ∙ sym (is_separator-joined front rest) ∙ ap is_separator whole
 
 -- ---- the mail
 
-pub found-entry : (bytes more : List ℕ) → is_separator (next_entry bytes) ≡ true → line_length (next_entry bytes) < length (next_entry bytes) → entry_at (bytes ++ more) ≡ entry_at bytes
-found-entry bytes more marked past =
+-- what the cut of the mail at the front says, whatever follows
+found : (bytes more : List ℕ) → is_separator (next_entry bytes) ≡ true → line_length (next_entry bytes) < length (next_entry bytes) → Joined bytes more
+found bytes more marked past =
     let cut = cut-found bytes marked in
     let next = next_entry bytes in
     let here = front-joined cut.first next cut.ends marked in
     let there = front-joined cut.first (next ++ more) cut.ends (separator-stays next more past ∙ marked) in
-    ap (λ (r : List ℕ). entry_at (r ++ more)) (sym cut.whole) ∙ ap entry_at (append_assoc cut.first next more) ∙ there.entry ∙ sym here.entry ∙ ap entry_at cut.whole
+    record {
+      separator =
+          ap (λ (r : List ℕ). is_separator (r ++ more)) (sym cut.whole) ∙ ap is_separator (append_assoc cut.first next more) ∙ there.separator
+          ∙ sym here.separator ∙ ap is_separator cut.whole;
+      entry = ap (λ (r : List ℕ). entry_at (r ++ more)) (sym cut.whole) ∙ ap entry_at (append_assoc cut.first next more) ∙ there.entry ∙ sym here.entry ∙ ap entry_at cut.whole;
+      next =
+          ap (λ (r : List ℕ). next_entry (r ++ more)) (sym cut.whole) ∙ ap next_entry (append_assoc cut.first next more) ∙ there.next
+          ∙ sym (append_assoc (next_entry cut.first) next more) ∙ ap (λ (r : List ℕ). r ++ more) (sym here.next ∙ ap next_entry cut.whole);
+    }
 
-pub found-next : (bytes more : List ℕ) → is_separator (next_entry bytes) ≡ true → line_length (next_entry bytes) < length (next_entry bytes)
-    → next_entry (bytes ++ more) ≡ next_entry bytes ++ more
-found-next bytes more marked past =
-    let cut = cut-found bytes marked in
+settled-first : (bytes more : List ℕ) → is_separator bytes ≡ true → is_before_text (next_entry bytes) ≡ true
+    → entries (bytes ++ more) ≡ entry_at bytes ∷ entries (next_entry bytes ++ more)
+unfolding is_before_text
+settled-first bytes more first before =
     let next = next_entry bytes in
-    let here = front-joined cut.first next cut.ends marked in
-    let there = front-joined cut.first (next ++ more) cut.ends (separator-stays next more past ∙ marked) in
-    ap (λ (r : List ℕ). next_entry (r ++ more)) (sym cut.whole) ∙ ap next_entry (append_assoc cut.first next more) ∙ there.next
-    ∙ sym (append_assoc (next_entry cut.first) next more) ∙ ap (λ (r : List ℕ). r ++ more) (sym here.next ∙ ap next_entry cut.whole)
+    let parts = and_parts (is_separator next) (nat_lt (line_length next) (length next)) before in
+    let past = ltb-true (line_length next) (length next) parts.1 in
+    let joined = found bytes more parts.0 past in
+    let whole : is_separator (bytes ++ more) ≡ true = joined.separator ∙ first in
+    entries-here (bytes ++ more) whole ∙ entries_from-some (bytes ++ more) whole
+    ∙ ap (λ (e : Entry). e ∷ entries_from (next_entry (bytes ++ more))) joined.entry
+    ∙ ap (λ (r : List ℕ). entry_at bytes ∷ entries_from r) joined.next
+    ∙ ap (λ (r : List Entry). entry_at bytes ∷ r) (sym (entries-here (next ++ more) (separator-stays next more past ∙ parts.0)))
+
+pub settled-stays : (bytes more rest : List ℕ) (entry : Entry) → settled_entry bytes ≡ Some (entry, rest) → entries (bytes ++ more) ≡ entry ∷ entries (rest ++ more)
+unfolding settled_entry
+settled-stays bytes more rest entry is = elim (cases_Bool (is_separator bytes && is_before_text (next_entry bytes))) [
+  | inl yes_it_is ↦
+      let parts = and_parts (is_separator bytes) (is_before_text (next_entry bytes)) yes_it_is in
+      let same : Some (entry_at bytes, next_entry bytes) ≡ Some (entry, rest) = sym (cond-true _ (Some (entry_at bytes, next_entry bytes)) None yes_it_is) ∙ is in
+      let pair : (entry_at bytes, next_entry bytes) ≡ (entry, rest) = cc in
+      settled-first bytes more parts.0 parts.1
+      ∙ ap (λ (p : Entry × List ℕ). p.0 ∷ entries (p.1 ++ more)) pair
+  | inr not_so ↦
+      let none : None ≡ Some (entry, rest) = sym (cond-false _ (Some (entry_at bytes, next_entry bytes)) None not_so) ∙ is in
+      absurd (cc)
+]

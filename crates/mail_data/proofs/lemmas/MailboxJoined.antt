@@ -310,7 +310,7 @@ all-joined (suc n) bytes more fits first ends marked =
     whole ∙ ap (λ (r : List Entry). entry_at bytes ∷ r) rest ∙ sym (ap (λ (r : List Entry). r ++ entries_from more) here)
 
 -- a mailbox that begins with a separator has nothing before it
-entries-here : (bytes : List ℕ) → is_separator bytes ≡ true → entries bytes ≡ entries_from bytes
+pub entries-here : (bytes : List ℕ) → is_separator bytes ≡ true → entries bytes ≡ entries_from bytes
 entries-here bytes first = ap (λ (n : ℕ). entries_from (drop n bytes)) (sym (front_length-none bytes (sym first)))
 
 pub entries-joined : (bytes more : List ℕ) → is_separator bytes ≡ true → EndsEmpty bytes → is_separator more ≡ true → entries (bytes ++ more) ≡ entries bytes ++ entries more

@@ -1,9 +1,8 @@
 //! Laws on mailboxes. Each function does nothing; its contract is the law.
-ghost use Rattle.std.specs.Prelude.{◌++◌, ◌<◌, ◌≡◌, length, List, ℕ, true};
+ghost use Rattle.std.specs.Prelude.{◌++◌, ◌<◌, ◌≡◌, ◌∷◌, List, Some, ℕ, true};
 ghost use Rattle.std.specs.List.{flat_map};
 ghost use Rattle.mail_codec.specs.Places.{values_below};
-ghost use Rattle.mail_data.specs.Lines.{line_length};
-ghost use Rattle.mail_data.specs.Mailbox.{EndsEmpty, entries, entry_at, next_entry};
+ghost use Rattle.mail_data.specs.Mailbox.{EndsEmpty, Entry, entries, settled_entry};
 ghost use Rattle.mail_data.specs.MailboxParts.{part_mails, placed};
 ghost use Rattle.mail_data.specs.Separator.{is_separator};
 
@@ -22,13 +21,10 @@ pub fn mailbox_parts_join()
         flat_map (λ mails. mails) (values_below count (part_mails bytes count)) ≡ placed bytes }
 {}
 
-/// The mail at the front of what was read so far stays the same whatever follows, once the whole
-/// line of the next separator was read, and something after it.
-pub fn found_mail_stays()
-    ensures entry { (read more : List ℕ) → is_separator (next_entry read) ≡ true →
-        line_length (next_entry read) < length (next_entry read) →
-        entry_at (read ++ more) ≡ entry_at read }
-    ensures next { (read more : List ℕ) → is_separator (next_entry read) ≡ true →
-        line_length (next_entry read) < length (next_entry read) →
-        next_entry (read ++ more) ≡ next_entry read ++ more }
+/// The mail at the front of what was read so far, and that `settled_entry` returns, is the first one
+/// whatever follows; the mails behind it are those of the rest and of what follows.
+pub fn settled_mail_stays()
+    ensures { (read more rest : List ℕ) (entry : Entry) →
+        settled_entry read ≡ Some (entry, rest) →
+        entries (read ++ more) ≡ entry ∷ entries (rest ++ more) }
 {}

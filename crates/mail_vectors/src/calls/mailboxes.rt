@@ -1,7 +1,7 @@
 //! The calls on mailboxes.
 
 use crate::notation::{Answer, Row};
-use mail_data::mailbox::read_mailbox;
+use mail_data::mailbox::{read_mailbox, settled_entry};
 use mailparse::MailParseError;
 use std::alloc::Global;
 
@@ -9,6 +9,7 @@ use std::alloc::Global;
 pub fn make(_alloc: Global, row: &Row, answer: &mut Answer) -> Result<bool, MailParseError> {
     match row.call.as_str() {
         "read_mailbox" => list_mails(row, answer)?,
+        "settled_entry" => settle(row, answer)?,
         _ => return Ok(false),
     }
     Ok(true)
@@ -23,5 +24,18 @@ fn list_mails(row: &Row, answer: &mut Answer) -> Result<(), MailParseError> {
         answer.bytes(entry.mail())?;
         answer.bytes(entry.ending())?;
     }
+    Ok(())
+}
+
+/// `settled_entry BYTES => SEPARATOR MAIL ENDING REST`, or `none`.
+fn settle(row: &Row, answer: &mut Answer) -> Result<(), MailParseError> {
+    let Some((entry, rest)) = settled_entry(row.bytes(0)?) else {
+        answer.word("none")?;
+        return Ok(());
+    };
+    answer.bytes(entry.separator())?;
+    answer.bytes(entry.mail())?;
+    answer.bytes(entry.ending())?;
+    answer.bytes(rest)?;
     Ok(())
 }
