@@ -45,7 +45,8 @@ check_program() {
         check 0 out "$program" no/such/argument -h
         check 2 err "$program" mail ''
         "$program" < mail > wanted
-        if "./$1" < mail | cmp -s - wanted && "./$1" mail | cmp -s - wanted; then
+        "$program" mail > named
+        if "./$1" < mail | cmp -s - wanted && "./$1" mail | cmp -s - named; then
             pass
         else
             fail "$1 through a symbolic link is not what the program writes"
