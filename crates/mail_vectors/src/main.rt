@@ -8,7 +8,6 @@
 #![tactic(auto)]
 
 mod calls;
-mod notation;
 mod replay;
 
 use replay::Tally;

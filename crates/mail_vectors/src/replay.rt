@@ -1,7 +1,7 @@
 //! A replay of the rows of a file.
 
 use crate::calls;
-use crate::notation::{Answer, Row};
+use mail_suite::{Answer, Row};
 use mailparse::MailParseError;
 use std::alloc::{AllocError, Global};
 
@@ -75,15 +75,28 @@ impl Tally {
     /// take memory is made once.
     fn make_call(&mut self, alloc: Global, row: &Row, times: u32) -> Result<(), AllocError> {
         for _turn in 0..times {
-            match returned(alloc, row) {
-                Err(MailParseError::Memory(_e)) => self.refused = self.refused.saturating_add(1),
-                outcome => return self.judge(alloc, row, outcome),
+            if self.has_returned(alloc, row)? {
+                return Ok(());
             }
             if row.is_free {
                 return self.fail(row.name.as_str(), "takes memory");
             }
         }
         self.judge(alloc, row, returned(alloc, row))
+    }
+
+    /// Makes the call of a row, and counts the row unless memory ran out.
+    fn has_returned(&mut self, alloc: Global, row: &Row) -> Result<bool, AllocError> {
+        match returned(alloc, row) {
+            Err(MailParseError::Memory(_e)) => {
+                self.refused = self.refused.saturating_add(1);
+                Ok(false)
+            }
+            outcome => {
+                self.judge(alloc, row, outcome)?;
+                Ok(true)
+            }
+        }
     }
 
     /// Counts a row whose call returned.
@@ -125,7 +138,7 @@ impl Tally {
 
 /// What the call of a row returns.
 fn returned(alloc: Global, row: &Row) -> Result<Answer, MailParseError> {
-    let mut answer = Answer::new(alloc)?;
+    let mut answer = Answer::new(alloc, row)?;
     calls::make(alloc, row, &mut answer)?;
     Ok(answer)
 }

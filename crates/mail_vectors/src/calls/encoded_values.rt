@@ -1,7 +1,7 @@
 //! The calls on encoded values.
 
-use crate::notation::{Answer, FORM, Row};
 use mail_laws::render::encode_value;
+use mail_suite::{Answer, FORM, Row};
 use mailparse::{MailParseError, parse_header};
 use std::alloc::Global;
 
@@ -42,7 +42,10 @@ fn count_characters(alloc: Global, row: &Row, answer: &mut Answer) -> Result<(),
 
 /// The number of a character that an input writes.
 fn code_point(row: &Row, at: usize) -> Result<u32, MailParseError> {
-    u32::try_from(row.number(at)?).map_err(|_e| FORM)
+    match u32::try_from(row.number(at)?) {
+        Ok(number) => Ok(number),
+        Err(_) => Err(FORM),
+    }
 }
 
 /// 1 where a character reads back after a front, otherwise 0.

@@ -1,12 +1,11 @@
 //! The calls on files. A part is the one at a number of `parts`, the whole mail at 0.
 
-use crate::calls::tables::all_tables;
-use crate::notation::{Answer, FORM, Row};
 use mail_data::files::{
     Attachment, attachments, attachments_with, describes_attachment, file_name, file_name_with,
     filled_parameter, is_attachment, is_attachment_with, is_leaf, named_file, safe_file_name,
 };
 use mail_data::places::{Place, places};
+use mail_suite::{Answer, FORM, Row, all_tables};
 use mailparse::{
     MailParseError, ParsedContentDisposition, ParsedContentType, ParsedMail,
     parse_content_disposition, parse_content_type, parse_mail, parse_mail_with,

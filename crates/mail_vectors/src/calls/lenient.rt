@@ -1,8 +1,8 @@
 //! The calls that read leniently.
 
 use crate::calls::files::part_at;
-use crate::notation::{Answer, Row};
 use mail_data::lenient::{DateError, base64_front, date_of, ids_in, lenient_body};
+use mail_suite::{Answer, Row};
 use mailparse::body::Body;
 use mailparse::{MailParseError, parse_mail};
 use std::alloc::Global;

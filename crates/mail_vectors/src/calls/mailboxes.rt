@@ -1,7 +1,7 @@
 //! The calls on mailboxes.
 
-use crate::notation::{Answer, Row};
 use mail_data::mailbox::{read_mailbox, settled_entry};
+use mail_suite::{Answer, Row};
 use mailparse::MailParseError;
 use std::alloc::Global;
 

@@ -9,9 +9,9 @@
 mod compare;
 mod steps;
 
-use crate::notation::{Answer, Row};
 use compare::is_message_of;
 use mail_laws::render::{Outline, is_well_formed, render};
+use mail_suite::{Answer, Row, least_levels};
 use mailparse::{MAX_LEVELS, MailParseError, parse_mail, parse_mail_limited};
 use std::alloc::Global;
 use steps::outline_of;
@@ -63,31 +63,36 @@ fn write_all(alloc: Global, row: &Row, answer: &mut Answer) -> Result<(), MailPa
 fn read_back(alloc: Global, outline: &Outline, answer: &mut Answer) -> Result<(), MailParseError> {
     let bytes = render(alloc, outline)?;
     let levels = least_levels(alloc, bytes.as_slice())?;
-    let limited = parse_mail_limited(alloc, bytes.as_slice(), levels.min(MAX_LEVELS))?;
-    let mail = parse_mail(alloc, bytes.as_slice())?;
-    if is_message_of(alloc, outline, &limited)? && is_message_of(alloc, outline, &mail)? {
+    if is_read_under(alloc, outline, bytes.as_slice(), levels)? {
         answer.number(usize::from(levels))?;
-        Ok(answer.number(mail.parts(alloc)?.count())?)
+        write_mail(alloc, outline, bytes.as_slice(), answer)
     } else {
         Ok(answer.word("differs")?)
     }
 }
 
-/// The least limit on levels that does not refuse the bytes, or the greatest limit.
-fn least_levels(alloc: Global, bytes: &[u8]) -> Result<u8, MailParseError> {
-    for levels in 0..MAX_LEVELS {
-        if !is_too_deep(alloc, bytes, levels)? {
-            return Ok(levels);
-        }
-    }
-    Ok(MAX_LEVELS)
+/// Whether these bytes are read, under a limit on levels, as the mail that an outline stands for.
+fn is_read_under(
+    alloc: Global,
+    outline: &Outline,
+    bytes: &[u8],
+    levels: u8,
+) -> Result<bool, MailParseError> {
+    let mail = parse_mail_limited(alloc, bytes, levels.min(MAX_LEVELS))?;
+    is_message_of(alloc, outline, &mail)
 }
 
-/// Whether the bytes are refused under this limit, since a part stands too deep.
-fn is_too_deep(alloc: Global, bytes: &[u8], levels: u8) -> Result<bool, MailParseError> {
-    match parse_mail_limited(alloc, bytes, levels.min(MAX_LEVELS)) {
-        Err(MailParseError::Generic(text)) => Ok(text == "Recursion limit reached"),
-        Err(MailParseError::Memory(e)) => Err(MailParseError::Memory(e)),
-        _ => Ok(false),
+/// Writes how many messages a mail holds, or the word `differs`.
+fn write_mail(
+    alloc: Global,
+    outline: &Outline,
+    bytes: &[u8],
+    answer: &mut Answer,
+) -> Result<(), MailParseError> {
+    let mail = parse_mail(alloc, bytes)?;
+    if is_message_of(alloc, outline, &mail)? {
+        Ok(answer.number(mail.parts(alloc)?.count())?)
+    } else {
+        Ok(answer.word("differs")?)
     }
 }

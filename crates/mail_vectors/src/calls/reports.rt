@@ -1,7 +1,7 @@
 //! The calls on delivery reports.
 
-use crate::notation::{Answer, Row};
 use mail_data::bounce::{Recipient, recipients};
+use mail_suite::{Answer, Row};
 use mailparse::{MailParseError, parse_mail};
 use std::alloc::{AllocError, Global};
 

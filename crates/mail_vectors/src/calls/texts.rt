@@ -1,10 +1,9 @@
 //! The calls on the texts of mails, and on the mails inside them.
 
 use crate::calls::files::part_at;
-use crate::calls::tables::all_tables;
-use crate::notation::{Answer, FORM, Row};
 use mail_data::forwarding::{forwarded, mails_inside};
 use mail_data::texts::{text_part, text_part_with};
+use mail_suite::{Answer, FORM, Row, all_tables};
 use mailparse::{MAX_LEVELS, MailParseError, ParsedMail, parse_mail, parse_mail_with};
 use std::alloc::Global;
 
@@ -63,5 +62,8 @@ fn list_mails(alloc: Global, row: &Row, answer: &mut Answer) -> Result<(), MailP
 
 /// The number of levels that an input writes.
 fn level(row: &Row, at: usize) -> Result<u8, MailParseError> {
-    u8::try_from(row.number(at)?).map_err(|_e| FORM)
+    match u8::try_from(row.number(at)?) {
+        Ok(levels) => Ok(levels),
+        Err(_) => Err(FORM),
+    }
 }

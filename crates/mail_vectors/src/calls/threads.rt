@@ -1,7 +1,7 @@
 //! The calls on threads.
 
-use crate::notation::{Answer, Row};
 use mail_data::archive::{message_id, parents};
+use mail_suite::{Answer, Row};
 use mailparse::{MailParseError, parse_mail};
 use std::alloc::Global;
 

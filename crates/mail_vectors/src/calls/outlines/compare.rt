@@ -12,8 +12,7 @@ pub fn is_message_of(
     outline: &Outline,
     mail: &ParsedMail<'_>,
 ) -> Result<bool, MailParseError> {
-    let bytes = render(alloc, outline)?;
-    if mail.raw_bytes != bytes.as_slice() || !are_headers_of(alloc, outline, mail)? {
+    if !stands_as(alloc, outline, mail)? || !are_headers_of(alloc, outline, mail)? {
         return Ok(false);
     }
     match &outline.kind {
@@ -21,7 +20,7 @@ pub fn is_message_of(
             Ok(mail.subparts.is_empty() && has_body(alloc, mail, body.as_slice())?)
         }
         OutlineKind::Branch { boundary: _, parts } => {
-            if mail.subparts.len() != parts.len() || !has_body(alloc, mail, b"")? {
+            if !has_body(alloc, mail, b"")? {
                 return Ok(false);
             }
             let mut read = mail.subparts.iter();
@@ -33,9 +32,19 @@ pub fn is_message_of(
                     return Ok(false);
                 }
             }
-            Ok(true)
+            Ok(read.next().is_none())
         }
     }
+}
+
+/// Whether a message has the bytes that an outline is written as.
+fn stands_as(
+    alloc: Global,
+    outline: &Outline,
+    mail: &ParsedMail<'_>,
+) -> Result<bool, MailParseError> {
+    let bytes = render(alloc, outline)?;
+    Ok(mail.raw_bytes == bytes.as_slice())
 }
 
 /// Whether a message has the headers of an outline, in order.
@@ -66,13 +75,23 @@ fn is_header(
     let Ok(text) = from_utf8(value) else {
         return Ok(false);
     };
-    let written = encode_value(alloc, text)?;
-    let shown = header.get_value(alloc)?;
     Ok(
         header.get_key_raw() == key
-            && header.get_value_raw() == written.as_bytes()
-            && shown.as_str() == text,
+            && is_written(alloc, text, header)?
+            && is_shown(alloc, text, header)?,
     )
+}
+
+/// Whether the value of a header is the one that a text is written as.
+fn is_written(alloc: Global, text: &str, header: &MailHeader<'_>) -> Result<bool, MailParseError> {
+    let written = encode_value(alloc, text)?;
+    Ok(header.get_value_raw() == written.as_bytes())
+}
+
+/// Whether the value of a header shows a text.
+fn is_shown(alloc: Global, text: &str, header: &MailHeader<'_>) -> Result<bool, MailParseError> {
+    let shown = header.get_value(alloc)?;
+    Ok(shown.as_str() == text)
 }
 
 /// Whether the body of a message stands as these bytes.

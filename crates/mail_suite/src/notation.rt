@@ -3,6 +3,7 @@
 
 use mailparse::MailParseError;
 use std::alloc::{AllocError, Global};
+use std::borrow::CowStr;
 
 /// A row that does not follow the notation, or whose inputs are not those of its call.
 pub const FORM: MailParseError = MailParseError::Generic("not a row of the suite");
@@ -31,6 +32,8 @@ pub struct Row {
     pub wanted: Answer,
     /// Whether the call must not take memory.
     pub is_free: bool,
+    /// Whether an error is to show its Debug, and that of what it wraps.
+    is_debug: bool,
 }
 
 /// What stands in a row between spaces.
@@ -49,41 +52,65 @@ enum Part {
 }
 
 impl Row {
-    /// Reads `NAME: CALL INPUT.. => ITEM.. ! MARK..`, where the name and the marks may be left out.
+    /// Reads `NAME: CALL INPUT.. => ITEM.. ! MARK..`, where the name and the marks may be left out,
+    /// and `refusal` may stand before the call.
     pub fn read(alloc: Global, text: &str) -> Result<Row, MailParseError> {
         let (name, rest) = name_and_rest(text);
+        let (is_debug, rest) = match rest.strip_prefix("refusal ") {
+            Some(rest) => (true, rest),
+            None => (false, rest),
+        };
         let (call, rest) = rest.split_once(' ').unwrap_or((rest, ""));
-        let mut inputs = Items::new(alloc);
-        let mut answer = Items::new(alloc);
-        let mut is_free = false;
+        let mut row = Row {
+            name: String::from_str(alloc, name)?,
+            call: String::from_str(alloc, call)?,
+            inputs: Vec::new(alloc),
+            wanted: Answer::empty(alloc),
+            is_free: false,
+            is_debug,
+        };
+        row.take_items(alloc, rest)?;
+        Ok(row)
+    }
+
+    /// Reads the inputs, the answer and the marks.
+    fn take_items(&mut self, alloc: Global, text: &str) -> Result<(), MailParseError> {
+        let mut items = Items::new(alloc);
         let mut part = Part::Inputs;
-        let mut rest = rest;
+        let mut rest = text;
         for _turn in 0..text.len() {
             let Some((token, after)) = next_token(rest)? else {
                 break;
             };
             rest = after;
-            match token {
-                Token::Word("=>") => part = Part::Answer,
-                Token::Word("!") => part = Part::Marks,
-                Token::Word("no_memory") => is_free = true,
-                token => match part {
-                    Part::Inputs => inputs.take(alloc, token)?,
-                    Part::Answer => answer.take(alloc, token)?,
-                    Part::Marks => {}
-                },
-            }
+            part = self.take(alloc, &mut items, part, token)?;
         }
         if part == Part::Inputs {
             return Err(FORM);
         }
-        Ok(Row {
-            name: String::from_str(alloc, name)?,
-            call: String::from_str(alloc, call)?,
-            inputs: inputs.list,
-            wanted: answer.written(alloc)?,
-            is_free,
-        })
+        items.write(&mut self.wanted)
+    }
+
+    /// Takes the next token, which belongs to this part, and returns the part that the next one
+    /// belongs to.
+    fn take(
+        &mut self,
+        alloc: Global,
+        items: &mut Items,
+        part: Part,
+        token: Token<'_>,
+    ) -> Result<Part, MailParseError> {
+        match (token, part) {
+            (Token::Word("=>"), _) => {
+                self.inputs = items.end(alloc);
+                return Ok(Part::Answer);
+            }
+            (Token::Word("!"), _) => return Ok(Part::Marks),
+            (Token::Word("no_memory"), _) => self.is_free = true,
+            (_, Part::Marks) => {}
+            (token, _) => items.take(alloc, token)?,
+        }
+        Ok(part)
     }
 
     /// The bytes of an input.
@@ -96,7 +123,7 @@ impl Row {
 
     /// The text of an input.
     pub fn text(&self, at: usize) -> Result<&str, MailParseError> {
-        std::str::from_utf8(self.bytes(at)?).map_err(|_e| FORM)
+        text_of(self.bytes(at)?)
     }
 
     /// The text of an input, or nothing where the word `none` stands.
@@ -115,12 +142,23 @@ impl Row {
 
     /// The number that an input writes.
     pub fn number(&self, at: usize) -> Result<usize, MailParseError> {
-        self.text(at)?.parse::<usize>().map_err(|_e| FORM)
+        match self.text(at)?.parse::<usize>() {
+            Ok(number) => Ok(number),
+            Err(_) => Err(FORM),
+        }
     }
 
     /// How many inputs there are.
     pub fn count(&self) -> usize {
         self.inputs.len()
+    }
+}
+
+/// The text of these bytes.
+fn text_of(bytes: &[u8]) -> Result<&str, MailParseError> {
+    match std::str::from_utf8(bytes) {
+        Ok(text) => Ok(text),
+        Err(_) => Err(FORM),
     }
 }
 
@@ -238,17 +276,30 @@ impl Items {
         }
     }
 
-    /// The items as an answer writes them.
-    fn written(&self, alloc: Global) -> Result<Answer, MailParseError> {
-        let mut answer = Answer::empty(alloc);
+    /// The items so far, after which others begin.
+    fn end(&mut self, alloc: Global) -> Vec<Item> {
+        self.is_joined = false;
+        std::mem::replace(&mut self.list, Vec::new(alloc))
+    }
+
+    /// Writes the items as an answer does.
+    fn write(&self, answer: &mut Answer) -> Result<(), MailParseError> {
         for item in &self.list {
-            if item.is_text {
-                answer.bytes(item.bytes.as_slice())?;
-            } else {
-                answer.word(std::str::from_utf8(item.bytes.as_slice()).map_err(|_e| FORM)?)?;
-            }
+            item.write(answer)?;
         }
-        Ok(answer)
+        Ok(())
+    }
+}
+
+impl Item {
+    /// Writes the item as an answer does.
+    fn write(&self, answer: &mut Answer) -> Result<(), MailParseError> {
+        if self.is_text {
+            answer.bytes(self.bytes.as_slice())?;
+        } else {
+            answer.word(text_of(self.bytes.as_slice())?)?;
+        }
+        Ok(())
     }
 }
 
@@ -297,16 +348,17 @@ fn push_both(bytes: &mut Vec<u8>, byte: u8, rest: &[u8]) -> Result<(), AllocErro
 
 /// The byte that two hexadecimal digits write.
 fn byte_of(high: u8, low: u8) -> Result<u8, MailParseError> {
-    let digits = [high, low];
-    let Ok(digits) = std::str::from_utf8(&digits) else {
-        return Err(FORM);
-    };
-    u8::from_str_radix(digits, 16).map_err(|_e| FORM)
+    match u8::from_str_radix(text_of(&[high, low])?, 16) {
+        Ok(byte) => Ok(byte),
+        Err(_) => Err(FORM),
+    }
 }
 
 /// Adds the UTF-8 of the character with this number in hexadecimal.
 fn push_char(bytes: &mut Vec<u8>, digits: &str) -> Result<(), MailParseError> {
-    let number = u32::from_str_radix(digits, 16).map_err(|_e| FORM)?;
+    let Ok(number) = u32::from_str_radix(digits, 16) else {
+        return Err(FORM);
+    };
     let character = char::from_u32(number).ok_or(FORM)?;
     let mut room = [0; 4];
     bytes.extend_from_slice(character.encode_utf8(&mut room).as_bytes())?;
@@ -318,14 +370,17 @@ fn push_char(bytes: &mut Vec<u8>, digits: &str) -> Result<(), MailParseError> {
 #[derive(Drop)]
 pub struct Answer {
     written: Vec<u8>,
+    /// Whether errors show their Debug.
+    is_debug: bool,
     alloc: Global,
 }
 
 impl Answer {
-    /// An answer without items.
-    pub fn new(alloc: Global) -> Result<Answer, AllocError> {
+    /// An answer without items, which shows errors as a row wants them.
+    pub fn new(alloc: Global, row: &Row) -> Result<Answer, AllocError> {
         Ok(Answer {
             written: Vec::with_capacity(alloc, ROOM)?,
+            is_debug: row.is_debug,
             alloc,
         })
     }
@@ -334,6 +389,7 @@ impl Answer {
     pub fn empty(alloc: Global) -> Answer {
         Answer {
             written: Vec::new(alloc),
+            is_debug: false,
             alloc,
         }
     }
@@ -393,6 +449,21 @@ impl Answer {
         self.written.extend_from_slice(b" ")
     }
 
+    /// Adds a text that is made, unless memory ran out.
+    pub fn made(&mut self, text: Result<String, AllocError>) -> Result<(), AllocError> {
+        let text = text?;
+        self.text(text.as_str())
+    }
+
+    /// Adds a text, and whether it is borrowed.
+    pub fn cow(&mut self, text: &CowStr<'_>) -> Result<(), AllocError> {
+        self.word(match text {
+            CowStr::Borrowed(_) => "borrowed",
+            CowStr::Owned(_) => "owned",
+        })?;
+        self.text(text.as_str())
+    }
+
     /// Adds `true` or `false`.
     pub fn truth(&mut self, holds: bool) -> Result<(), AllocError> {
         self.word(if holds { "true" } else { "false" })
@@ -406,17 +477,34 @@ impl Answer {
         }
     }
 
-    /// Adds `error` and the text of a refusal. That memory ran out is none.
+    /// Adds `error` and the text of a refusal, or its Debug and source where the row asks for them.
+    /// That memory ran out is none.
     pub fn refusal(&mut self, error: MailParseError) -> Result<(), MailParseError> {
-        match &error {
-            MailParseError::Memory(_) => return Err(error),
-            MailParseError::Generic(text) => self.error(text)?,
-            _ => {
-                let text = format!(in self.alloc; "{error}")?;
-                self.error(text.as_str())?;
-            }
+        if let MailParseError::Memory(_) = &error {
+            return Err(error);
         }
-        Ok(())
+        Ok(self.shown(&error)?)
+    }
+
+    /// Adds how an error shows itself.
+    fn shown(&mut self, error: &MailParseError) -> Result<(), AllocError> {
+        if self.is_debug {
+            self.made(format!(in self.alloc; "{error:?}"))?;
+            return self.source(error);
+        }
+        self.word("error")?;
+        match error {
+            MailParseError::Generic(text) => self.text(text),
+            _ => self.made(format!(in self.alloc; "{error}")),
+        }
+    }
+
+    /// Adds the Debug text of the fault that an error wraps, or the word `none`.
+    pub fn source(&mut self, error: &MailParseError) -> Result<(), AllocError> {
+        match error.source() {
+            Some(source) => self.made(format!(in self.alloc; "{source:?}")),
+            None => self.word("none"),
+        }
     }
 
     /// Adds `error` and a text.

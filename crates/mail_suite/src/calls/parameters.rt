@@ -3,6 +3,8 @@
 //! - `parse_content_type TEXT => TYPE CHARSET`, and then PARAMS
 //! - `parse_content_disposition TEXT => KIND`, and then PARAMS. KIND is `inline`, `attachment`,
 //!   `form-data`, or `extension` and the name of another kind.
+//! - `parse_many_parameters COUNT => COUNT NAME VALUE`: a type with so many parameters `n0=v0`,
+//!   `n1=v1` and so on; how many there are, and the last that was written.
 //!
 //! PARAMS are the names of the parameters, each with its value, in the order of the names' bytes.
 
@@ -25,6 +27,7 @@ pub fn make(alloc: Global, row: &Row, answer: &mut Answer) -> Result<bool, MailP
             let disposition = parse_content_disposition(alloc, row.text(0)?)?;
             push_disposition(answer, &disposition)?;
         }
+        "parse_many_parameters" => push_many(alloc, answer, row.number(0)?)?,
         _ => return Ok(false),
     }
     Ok(true)
@@ -69,4 +72,21 @@ pub fn push_params(
 fn push_pair(answer: &mut Answer, name: &str, value: &str) -> Result<(), AllocError> {
     answer.text(name)?;
     answer.text(value)
+}
+
+/// Writes how many parameters a type has that was made with so many, and the last of them.
+fn push_many(alloc: Global, answer: &mut Answer, count: usize) -> Result<(), MailParseError> {
+    let mut text = String::from_str(alloc, "x")?;
+    for number in 0..count {
+        write!(text, "; n{number}=v{number}")?;
+    }
+    let found = parse_content_type(alloc, text.as_str())?;
+    answer.number(found.params.len())?;
+    let name = format!(in alloc; "n{}", count.saturating_sub(1))?;
+    answer.text(name.as_str())?;
+    let value = found.params.get(name.as_str());
+    match value {
+        Some(value) => Ok(answer.text(value.as_str())?),
+        None => Ok(answer.word("none")?),
+    }
 }

@@ -4,8 +4,7 @@
 //! - `nodes MAIL => part SUBPARTS HEADERS MIMETYPE BODY`, the body as text.
 //! - `types MAIL => MIMETYPE CHARSET`.
 //! - `get_raw_bytes MAIL => part RAW BLOCK HEADERS`: the bytes of the part, those of its block with the
-//!   blank line, and how many headers there are; `get_raw_bytes_each BYTES` reads each byte alone as a
-//!   mail.
+//!   blank line, and how many headers there are.
 //! - `get_body MAIL => TEXT`, `get_body_raw MAIL => BYTES`.
 //! - `get_content_disposition MAIL => part KIND`, then NAME VALUE of each parameter.
 //! - `next_parts MAIL TIMES => MIMETYPE`, or the word `none`, each time that the next part is asked for.
@@ -20,7 +19,7 @@
 use crate::calls::headers::push_field;
 use crate::calls::parameters::push_disposition;
 use crate::notation::{Answer, Row};
-use mailparse::{MailParseError, ParsedMail, parse_mail};
+use mailparse::{MailHeader, MailParseError, ParsedMail, parse_mail};
 use std::alloc::{AllocError, Global};
 
 /// Makes the call of a row, if it is one of these.
@@ -38,7 +37,6 @@ pub fn make(alloc: Global, row: &Row, answer: &mut Answer) -> Result<bool, MailP
         "without_headers" | "without_parts" | "under_charset" => {
             push_changed(alloc, row, answer)?;
         }
-        "get_raw_bytes_each" => push_each_mail(alloc, answer, row.bytes(0)?)?,
         _ => return Ok(false),
     }
     Ok(true)
@@ -118,13 +116,9 @@ fn push_whole(alloc: Global, row: &Row, answer: &mut Answer) -> Result<(), MailP
         "get_headers" => Ok(push_listed(answer, &mail)?),
         "debug_headers" => {
             let block = mail.get_headers();
-            let shown = format!(in alloc; "{block:?}")?;
-            Ok(answer.text(shown.as_str())?)
+            Ok(answer.made(format!(in alloc; "{block:?}"))?)
         }
-        _ => {
-            let shown = format!(in alloc; "{mail:?}")?;
-            Ok(answer.text(shown.as_str())?)
-        }
+        _ => Ok(answer.made(format!(in alloc; "{mail:?}"))?),
     }
 }
 
@@ -189,10 +183,18 @@ impl Held {
 
 /// Writes the headers as the block gives them.
 fn push_listed(answer: &mut Answer, mail: &ParsedMail<'_>) -> Result<(), AllocError> {
-    for header in mail.get_headers() {
-        push_field(answer, header)?;
+    let mut headers = mail.get_headers().into_iter();
+    for _turn in 0..=mail.headers.len() {
+        push_next_field(answer, headers.next())?;
     }
     Ok(())
+}
+
+fn push_next_field(answer: &mut Answer, header: Option<&MailHeader<'_>>) -> Result<(), AllocError> {
+    match header {
+        Some(header) => push_field(answer, header),
+        None => Ok(()),
+    }
 }
 
 /// Writes what a call says of a mail that was changed.
@@ -217,19 +219,5 @@ fn push_changed(alloc: Global, row: &Row, answer: &mut Answer) -> Result<(), Mai
             ctype.charset = String::from_str(alloc, row.text(1)?)?;
             answer.text_or_refusal(mail.get_body(alloc))
         }
-    }
-}
-
-fn push_each_mail(alloc: Global, answer: &mut Answer, bytes: &[u8]) -> Result<(), MailParseError> {
-    for byte in bytes {
-        push_mail_of(alloc, answer, &[*byte])?;
-    }
-    Ok(())
-}
-
-fn push_mail_of(alloc: Global, answer: &mut Answer, raw: &[u8]) -> Result<(), MailParseError> {
-    match parse_mail(alloc, raw) {
-        Ok(mail) => push_tree(alloc, answer, "get_raw_bytes", &mail),
-        Err(error) => answer.refusal(error),
     }
 }

@@ -14,7 +14,6 @@ use crate::notation::{Answer, Row};
 use mail_codec::charset::{Charset, decode_ascii, decode_latin1};
 use mailparse::MailParseError;
 use std::alloc::{AllocError, Global};
-use std::borrow::CowStr;
 
 /// Makes the call of a row, if it is one of these.
 pub fn make(alloc: Global, row: &Row, answer: &mut Answer) -> Result<bool, MailParseError> {
@@ -22,8 +21,8 @@ pub fn make(alloc: Global, row: &Row, answer: &mut Answer) -> Result<bool, MailP
         "charset_for_label" => find_charsets(row, answer)?,
         "decode" | "decode_without_bom_handling" => decode(alloc, row, answer)?,
         "utf_16" => decode_units(alloc, row, answer)?,
-        "decode_latin1" => write_cow(answer, decode_latin1(alloc, row.bytes(0)?)?)?,
-        "decode_ascii" => write_cow(answer, decode_ascii(alloc, row.bytes(0)?)?)?,
+        "decode_latin1" => answer.cow(&decode_latin1(alloc, row.bytes(0)?)?)?,
+        "decode_ascii" => answer.cow(&decode_ascii(alloc, row.bytes(0)?)?)?,
         _ => return Ok(false),
     }
     Ok(true)
@@ -53,12 +52,11 @@ fn decode(alloc: Global, row: &Row, answer: &mut Answer) -> Result<(), MailParse
     let Some(charset) = Charset::for_label(row.bytes(0)?) else {
         return Ok(answer.word("none")?);
     };
-    let text = if row.call.as_str() == "decode" {
-        charset.decode(alloc, row.bytes(1)?)?
-    } else {
-        charset.decode_without_bom_handling(alloc, row.bytes(1)?)?
-    };
-    Ok(answer.text(text.as_str())?)
+    let bytes = row.bytes(1)?;
+    Ok(match row.call.as_str() {
+        "decode" => answer.made(charset.decode(alloc, bytes))?,
+        _ => answer.made(charset.decode_without_bom_handling(alloc, bytes))?,
+    })
 }
 
 /// The texts of units in both orders of bytes.
@@ -80,13 +78,4 @@ fn write_other(answer: &mut Answer, text: &str, same: &str) -> Result<(), AllocE
     } else {
         answer.text(text)
     }
-}
-
-/// Adds a text, and whether it is borrowed.
-fn write_cow(answer: &mut Answer, text: CowStr<'_>) -> Result<(), AllocError> {
-    answer.word(match &text {
-        CowStr::Borrowed(_) => "borrowed",
-        CowStr::Owned(_) => "owned",
-    })?;
-    answer.text(text.as_str())
 }

@@ -4,7 +4,7 @@
 //! - `get_value_utf8 RAW => TEXT`, or a refusal
 
 use crate::notation::{Answer, Row};
-use mailparse::{MailHeader, MailParseError, parse_header};
+use mailparse::{MailParseError, parse_header};
 use std::alloc::Global;
 
 /// Makes the call of a row, if it is one of these.
@@ -13,7 +13,7 @@ pub fn make(alloc: Global, row: &Row, answer: &mut Answer) -> Result<bool, MailP
         "get_value" => {
             let raw = raw_header(alloc, row.bytes(0)?)?;
             let (header, _) = parse_header(raw.as_slice())?;
-            push_value(alloc, answer, &header)?;
+            answer.text_or_refusal(header.get_value(alloc))?;
         }
         "get_value_utf8" => {
             let raw = raw_header(alloc, row.bytes(0)?)?;
@@ -31,14 +31,4 @@ pub fn raw_header(alloc: Global, value: &[u8]) -> Result<Vec<u8>, MailParseError
     raw.extend_from_slice(b"X:")?;
     raw.extend_from_slice(value)?;
     Ok(raw)
-}
-
-/// Writes the text of a value.
-fn push_value(
-    alloc: Global,
-    answer: &mut Answer,
-    header: &MailHeader<'_>,
-) -> Result<(), MailParseError> {
-    let text = header.get_value(alloc)?;
-    Ok(answer.text(text.as_str())?)
 }

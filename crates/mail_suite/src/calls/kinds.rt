@@ -29,13 +29,11 @@ pub fn make(alloc: Global, row: &Row, answer: &mut Answer) -> Result<bool, MailP
     match row.call.as_str() {
         "debug_content_type" => {
             let found = parse_content_type(alloc, row.text(0)?)?;
-            let shown = format!(in alloc; "{found:?}")?;
-            answer.text(shown.as_str())?;
+            answer.made(format!(in alloc; "{found:?}"))?;
         }
         "debug_content_disposition" => {
             let found = parse_content_disposition(alloc, row.text(0)?)?;
-            let shown = format!(in alloc; "{found:?}")?;
-            answer.text(shown.as_str())?;
+            answer.made(format!(in alloc; "{found:?}"))?;
         }
         "get_content_type" => push_type(alloc, row, answer)?,
         "equal_dispositions" => push_equal(alloc, row, answer)?,
@@ -58,8 +56,7 @@ fn push_default(alloc: Global, call: &str, answer: &mut Answer) -> Result<bool, 
             answer.text(found.mimetype.as_str())?;
             answer.text(found.charset.as_str())?;
             answer.number(found.params.len())?;
-            let shown = format!(in alloc; "{found:?}")?;
-            answer.text(shown.as_str())?;
+            answer.made(format!(in alloc; "{found:?}"))?;
         }
         "default_disposition" => {
             let found = ParsedContentDisposition::default(alloc);
@@ -69,8 +66,7 @@ fn push_default(alloc: Global, call: &str, answer: &mut Answer) -> Result<bool, 
         }
         "debug_default_disposition" => {
             let found = ParsedContentDisposition::default(alloc);
-            let shown = format!(in alloc; "{found:?}")?;
-            answer.text(shown.as_str())?;
+            answer.made(format!(in alloc; "{found:?}"))?;
         }
         _ => return Ok(false),
     }
@@ -119,10 +115,8 @@ fn list_of(
 
 fn push_shown(alloc: Global, row: &Row, answer: &mut Answer) -> Result<(), MailParseError> {
     let list = list_of(alloc, row, 0, row.count())?;
-    let shown = format!(in alloc; "{list}")?;
-    answer.text(shown.as_str())?;
-    let shown = format!(in alloc; "{list:?}")?;
-    Ok(answer.text(shown.as_str())?)
+    answer.made(format!(in alloc; "{list}"))?;
+    Ok(answer.made(format!(in alloc; "{list:?}"))?)
 }
 
 fn push_copied(alloc: Global, row: &Row, answer: &mut Answer) -> Result<(), MailParseError> {

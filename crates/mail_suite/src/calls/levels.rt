@@ -19,11 +19,15 @@ pub fn make(alloc: Global, row: &Row, answer: &mut Answer) -> Result<bool, MailP
     match row.call.as_str() {
         "max_levels" => answer.number(usize::from(MAX_LEVELS))?,
         "parse_mail_limited" => {
-            let levels = u8::try_from(row.number(0)?).map_err(|_e| FORM)?;
+            let Ok(levels) = u8::try_from(row.number(0)?) else {
+                return Err(FORM);
+            };
             push_count(answer, count_under(alloc, row.bytes(1)?, levels))?;
         }
         "levels" => {
-            push_least(alloc, answer, row.bytes(0)?)?;
+            let levels = least_levels(alloc, row.bytes(0)?)?;
+            answer.number(usize::from(levels))?;
+            push_count(answer, count_under(alloc, row.bytes(0)?, levels))?;
             push_count(answer, count_of(alloc, row.bytes(0)?))?;
         }
         "truncated" => push_truncated(alloc, answer, row.bytes(0)?)?,
@@ -57,23 +61,22 @@ fn push_count(
     }
 }
 
-fn push_least(alloc: Global, answer: &mut Answer, raw: &[u8]) -> Result<(), MailParseError> {
+/// The least limit on levels under which a mail is not refused for its depth, or the greatest.
+pub fn least_levels(alloc: Global, raw: &[u8]) -> Result<u8, MailParseError> {
     for levels in 0..MAX_LEVELS {
-        let found = count_under(alloc, raw, levels);
-        if !is_too_deep(&found) {
-            answer.number(usize::from(levels))?;
-            return push_count(answer, found);
+        if !is_too_deep(count_under(alloc, raw, levels))? {
+            return Ok(levels);
         }
     }
-    answer.number(usize::from(MAX_LEVELS))?;
-    push_count(answer, count_under(alloc, raw, MAX_LEVELS))
+    Ok(MAX_LEVELS)
 }
 
 /// Whether a mail is refused for its depth.
-fn is_too_deep(found: &Result<usize, MailParseError>) -> bool {
+fn is_too_deep(found: Result<usize, MailParseError>) -> Result<bool, MailParseError> {
     match found {
-        Err(MailParseError::Generic(text)) => *text == "Recursion limit reached",
-        _ => false,
+        Err(MailParseError::Generic(text)) => Ok(text == "Recursion limit reached"),
+        Err(MailParseError::Memory(e)) => Err(MailParseError::Memory(e)),
+        _ => Ok(false),
     }
 }
 

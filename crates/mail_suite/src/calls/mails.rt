@@ -61,6 +61,6 @@ fn push_header(
     header: &MailHeader<'_>,
 ) -> Result<(), MailParseError> {
     answer.word("header")?;
-    answer.text(header.get_key(alloc)?.as_str())?;
-    Ok(answer.text(header.get_value(alloc)?.as_str())?)
+    answer.text_or_refusal(header.get_key(alloc))?;
+    answer.text_or_refusal(header.get_value(alloc))
 }

@@ -7,7 +7,6 @@
 //! ```text
 //! table_for_label TABLES LABEL.. => NUMBER | none ..
 //! labels_of_table NUMBER => LABEL.. | none          of the tables of `mail_tables`
-//! decode_table LABEL BYTES => TEXT | none           the same, without a look for a byte order mark
 //! decode_with TABLES LABEL BYTES => TEXT | none     after a look for a byte order mark
 //! decode_without_bom_handling_with TABLES LABEL BYTES => TEXT | none
 //! get_value_with TABLES RAW => TEXT                 RAW stands after `X:`
@@ -38,21 +37,21 @@ use std::alloc::{AllocError, Global};
 pub fn make(alloc: Global, row: &Row, answer: &mut Answer) -> Result<bool, MailParseError> {
     match row.call.as_str() {
         "labels_of_table" => write_labels(row, answer)?,
-        "decode_table" => {
-            let text = text_under(alloc, row.bytes(0)?, all_tables(), row.bytes(1)?)?;
-            answer.optional_text(text.as_deref())?;
-        }
-        "mail_with" => read_mail(alloc, row, answer)?,
         "table_for_label"
         | "decode_with"
         | "decode_without_bom_handling_with"
         | "get_value_with"
         | "parse_content_type_with"
         | "parse_content_disposition_with"
-        | "body_with" => {
-            let made_up = made_up(alloc, row.text(0)?)?;
-            let own = own_tables(alloc, made_up.as_slice())?;
-            call_with(alloc, row, answer, tables(row.text(0)?, own.as_slice()))?;
+        | "body_with"
+        | "mail_with" => {
+            if row.text(0)? == "all" {
+                call_with(alloc, row, answer, all_tables())?;
+            } else {
+                let made_up = made_up(alloc, row.text(0)?)?;
+                let tables = own_tables(alloc, made_up.as_slice())?;
+                call_with(alloc, row, answer, tables.as_slice())?;
+            }
         }
         _ => return Ok(false),
     }
@@ -68,13 +67,11 @@ fn call_with(
 ) -> Result<(), MailParseError> {
     match row.call.as_str() {
         "table_for_label" => find_tables(row, answer, tables),
-        "decode_with" => {
-            let text = marked_text_under(alloc, row.bytes(1)?, tables, row.bytes(2)?)?;
-            Ok(answer.optional_text(text.as_deref())?)
-        }
-        "decode_without_bom_handling_with" => {
-            let text = text_under(alloc, row.bytes(1)?, tables, row.bytes(2)?)?;
-            Ok(answer.optional_text(text.as_deref())?)
+        "decode_with" | "decode_without_bom_handling_with" => {
+            match table_of(row.bytes(1)?, tables) {
+                Some(table) => decode(alloc, row, answer, table),
+                None => Ok(answer.word("none")?),
+            }
         }
         "get_value_with" => read_value(alloc, row, answer, tables),
         "parse_content_type_with" => {
@@ -85,7 +82,8 @@ fn call_with(
             let shown = parse_content_disposition_with(alloc, row.text(1)?, tables)?;
             Ok(push_disposition(answer, &shown)?)
         }
-        _ => read_body(alloc, row, answer, tables),
+        "body_with" => read_body(alloc, row, answer, tables),
+        _ => read_mail(alloc, row, answer, tables),
     }
 }
 
@@ -146,11 +144,6 @@ pub fn all_tables() -> &'static [SingleByteTable<'static>] {
     &TABLES
 }
 
-/// The tables that a text names.
-fn tables<'s, 't>(text: &str, own: &'s [SingleByteTable<'t>]) -> &'s [SingleByteTable<'t>] {
-    if text == "all" { &TABLES } else { own }
-}
-
 /// The number of the table for each label.
 fn find_tables(
     row: &Row,
@@ -190,29 +183,17 @@ fn table_of<'s, 't>(
     tables.get(table_for_label(label, tables)?)
 }
 
-/// The text of bytes under the table of a label.
-fn text_under(
+/// The text of bytes under a table.
+fn decode(
     alloc: Global,
-    label: &[u8],
-    tables: &[SingleByteTable<'_>],
-    bytes: &[u8],
-) -> Result<Option<String>, AllocError> {
-    match table_of(label, tables) {
-        Some(table) => Ok(Some(table.decode_without_bom_handling(alloc, bytes)?)),
-        None => Ok(None),
-    }
-}
-
-/// The same after a look for a byte order mark.
-fn marked_text_under(
-    alloc: Global,
-    label: &[u8],
-    tables: &[SingleByteTable<'_>],
-    bytes: &[u8],
-) -> Result<Option<String>, AllocError> {
-    match table_of(label, tables) {
-        Some(table) => Ok(Some(table.decode(alloc, bytes)?)),
-        None => Ok(None),
+    row: &Row,
+    answer: &mut Answer,
+    table: &SingleByteTable<'_>,
+) -> Result<(), MailParseError> {
+    let bytes = row.bytes(2)?;
+    match row.call.as_str() {
+        "decode_with" => Ok(answer.made(table.decode(alloc, bytes))?),
+        _ => Ok(answer.made(table.decode_without_bom_handling(alloc, bytes))?),
     }
 }
 
@@ -225,8 +206,7 @@ fn read_value(
 ) -> Result<(), MailParseError> {
     let raw = raw_header(alloc, row.bytes(1)?)?;
     let (header, _) = parse_header(raw.as_slice())?;
-    let value = header.get_value_with(alloc, tables)?;
-    Ok(answer.text(value.as_str())?)
+    answer.text_or_refusal(header.get_value_with(alloc, tables))
 }
 
 /// The text of a body.
@@ -258,14 +238,18 @@ fn text_of(
 }
 
 /// A mail that is parsed under tables, and read under others.
-fn read_mail(alloc: Global, row: &Row, answer: &mut Answer) -> Result<(), MailParseError> {
-    let first_made_up = made_up(alloc, row.text(0)?)?;
-    let others_made_up = made_up(alloc, row.text(1)?)?;
-    let first = own_tables(alloc, first_made_up.as_slice())?;
-    let others = own_tables(alloc, others_made_up.as_slice())?;
-    let first = tables(row.text(0)?, first.as_slice());
-    let others = tables(row.text(1)?, others.as_slice());
-    write_mail(alloc, answer, row.bytes(2)?, first, others)
+fn read_mail(
+    alloc: Global,
+    row: &Row,
+    answer: &mut Answer,
+    first: &[SingleByteTable<'_>],
+) -> Result<(), MailParseError> {
+    if row.text(1)? == "all" {
+        return write_mail(alloc, answer, row.bytes(2)?, first, all_tables());
+    }
+    let made_up = made_up(alloc, row.text(1)?)?;
+    let others = own_tables(alloc, made_up.as_slice())?;
+    write_mail(alloc, answer, row.bytes(2)?, first, others.as_slice())
 }
 
 /// Adds a mail that is parsed under tables, and read under others, or its refusal.
@@ -321,8 +305,6 @@ fn write_header(
     tables: &[SingleByteTable<'_>],
 ) -> Result<(), MailParseError> {
     answer.word("header")?;
-    let key = header.get_key(alloc)?;
-    answer.text(key.as_str())?;
-    let value = header.get_value_with(alloc, tables)?;
-    Ok(answer.text(value.as_str())?)
+    answer.text_or_refusal(header.get_key(alloc))?;
+    answer.text_or_refusal(header.get_value_with(alloc, tables))
 }

@@ -111,9 +111,18 @@ fn push_names(
     let (headers, _) = parse_headers(alloc, raw)?;
     let mut found = String::new(alloc);
     for name in names.split(BETWEEN) {
-        if headers.get_first_header(name).is_some() {
-            found.push_str(name.strip_prefix('K').unwrap_or(name))?;
-        }
+        push_if_named(&mut found, &headers, name)?;
     }
     Ok(answer.text(found.as_str())?)
+}
+
+fn push_if_named(
+    found: &mut String,
+    headers: &Vec<MailHeader<'_>>,
+    name: &str,
+) -> Result<(), AllocError> {
+    match headers.get_first_header(name) {
+        Some(_) => found.push_str(name.strip_prefix('K').unwrap_or(name)),
+        None => Ok(()),
+    }
 }
