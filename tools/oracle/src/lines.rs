@@ -21,20 +21,9 @@ pub fn bytes(out: &mut String, word: &str, bytes: &[u8]) {
     let _ = writeln!(out, "{word} {}", hex(bytes));
 }
 
-/// The text of a refusal. One of Base64 is told by its group of four letters, counted from 0.
-pub fn shown(e: &MailParseError) -> String {
-    match e {
-        MailParseError::Base64DecodeError(fault) => {
-            let group = fault.position / 4;
-            format!("Base64 decode error: group {group} is no Base64 group")
-        }
-        e => e.to_string(),
-    }
-}
-
 /// A line of a word and a refusal.
 pub fn refusal(out: &mut String, word: &str, e: &MailParseError) {
-    let _ = writeln!(out, "{word} err {}", shown(e));
+    let _ = writeln!(out, "{word} err {e}");
 }
 
 /// A line of a word and bytes, or a refusal.

@@ -70,7 +70,7 @@ fn run() -> Result<ExitCode, Fault> {
         "show" => match shown_mail(&input) {
             Ok(text) => output = text,
             Err(e) => {
-                eprintln!("mail_show: {}", lines::shown(&e));
+                eprintln!("mail_show: {e}");
                 return Ok(ExitCode::FAILURE);
             }
         },
