@@ -70,9 +70,17 @@ pub record EndsEmpty (bytes : List ℕ) : Type 0 where
   pub is_empty : IsEmptyLine line
   pub whole : bytes ≡ front ++ (line_feed ∷ line)
 
+-- the first line is here whole, with at least one byte more
+abbrev pub has_line : List ℕ → Bool
+has_line bytes = nat_lt (line_length bytes) (length bytes)
+
 -- a separator stands here with its whole line and at least one byte more
 unfoldable pub is_before_text : List ℕ → Bool
-is_before_text bytes = is_separator bytes && nat_lt (line_length bytes) (length bytes)
+is_before_text bytes = is_separator bytes && has_line bytes
+
+-- what stands before the first separator is here whole: that separator follows it, with its whole line and at least one byte more
+unfoldable pub has_front : List ℕ → Bool
+has_front bytes = is_before_text (drop (front_length bytes) bytes)
 
 -- the mail at the front and what follows it, if the next separator follows so that it was read to its end
 unfoldable pub settled_entry : List ℕ → Option (Entry × List ℕ)

@@ -1,10 +1,12 @@
 //! Mailboxes: the mails of an mbox file (RFC 4155, appendix A).
-ghost use Rattle.std.specs.Prelude.{◌≡◌, ◌++◌, ◌≤◌, length, drop, option_map, take};
+ghost use Rattle.std.specs.Prelude.{◌<◌, ◌≡◌, ◌++◌, ◌≤◌, IfSome, length, drop, option_map, take};
 ghost use Rattle.std.specs.List.{flat_map};
 ghost use Rattle.mail_data.specs.Mailbox.{Entry, ends_mail, entries, entry_at};
 ghost use Rattle.mail_data.specs.Mailbox.{entry_bytes, front_length, mail_length};
-ghost use Rattle.mail_data.specs.Mailbox.{is_before_text, next_entry, settled_entry};
+ghost use Rattle.mail_data.specs.Mailbox.{has_front, has_line, is_before_text, next_entry};
+ghost use Rattle.mail_data.specs.Mailbox.{settled_entry};
 ghost use Rattle.mail_data.specs.MailboxViews.{entries_left};
+ghost use Rattle.mail_data.specs.Separator.{is_separator};
 
 pub mod laws;
 mod separator;
@@ -196,7 +198,8 @@ pub fn read_mailbox(bytes: &[u8]) -> Mailbox<'_>
 /// ```
 #[tactic(auto, unfolding(crate::specs::Mailbox::settled_entry))]
 pub fn settled_entry(bytes: &[u8]) -> Option<(MailboxEntry<'_>, &[u8])>
-    ensures { option_map (λ found. (found.0, found.1.now)) result ≡ settled_entry bytes.now }
+    ensures value { option_map (λ found. (found.0, found.1.now)) result ≡ settled_entry bytes.now }
+    ensures shorter { IfSome result (λ found. length found.1.now < length bytes.now) }
 {
     let (entry, rest) = cut_entry(bytes);
     if is_separator(bytes) && is_before_text(rest) {
@@ -206,12 +209,69 @@ pub fn settled_entry(bytes: &[u8]) -> Option<(MailboxEntry<'_>, &[u8])>
     }
 }
 
+/// Returns whether the bytes begin with a separator, as a mailbox does (RFC 4155, appendix A).
+///
+/// Takes no memory.
+///
+/// # Examples
+///
+/// ```rust
+/// use mail_data::mailbox::is_mailbox;
+///
+/// assert!(rt; is_mailbox(b"From a Fri Jul  8 12:08:34 2011\nSubject: 1\n"));
+/// assert!(rt; !is_mailbox(b"Subject: 1\n"));
+/// ```
+pub fn is_mailbox(bytes: &[u8]) -> bool
+    ensures { result ≡ is_separator bytes.now }
+{
+    is_separator(bytes)
+}
+
+/// Returns whether the first line was read with at least one byte more: what follows then does not
+/// change whether `is_mailbox`.
+///
+/// Takes no memory.
+///
+/// # Examples
+///
+/// ```rust
+/// use mail_data::mailbox::has_line;
+///
+/// assert!(rt; has_line(b"Subject: 1\n\n"));
+/// assert!(rt; !has_line(b"Subject: 1\n"));
+/// ```
+pub fn has_line(bytes: &[u8]) -> bool
+    ensures { result ≡ has_line bytes.now }
+{
+    line_length(bytes) < bytes.len()
+}
+
+/// Returns whether the first separator of a mailbox was read with its whole line and at least one
+/// byte more: what follows then does not change what stands before it.
+///
+/// Takes no memory.
+///
+/// # Examples
+///
+/// ```rust
+/// use mail_data::mailbox::has_front;
+///
+/// assert!(rt; has_front(b"junk\n\nFrom a Fri Jul  8 12:08:34 2011\n\n"));
+/// assert!(rt; !has_front(b"junk\n\nFrom a Fri Jul  8 12:08"));
+/// ```
+#[tactic(auto, unfolding(crate::specs::Mailbox::has_front))]
+pub fn has_front(bytes: &[u8]) -> bool
+    ensures { result ≡ has_front bytes.now }
+{
+    is_before_text(&bytes[front_length(bytes)..])
+}
+
 /// Whether a separator stands at the front with its whole line and at least one byte more.
 #[tactic(auto, unfolding(crate::specs::Mailbox::is_before_text))]
 fn is_before_text(bytes: &[u8]) -> bool
     ensures { result ≡ is_before_text bytes.now }
 {
-    is_separator(bytes) && line_length(bytes) < bytes.len()
+    is_separator(bytes) && has_line(bytes)
 }
 
 /// How many bytes stand before the first separator.

@@ -1,5 +1,5 @@
 -- Lemmas on a mail whose next separator was read: it stays the same whatever follows.
-use Rattle.std.proofs.Common.{◌≡◌, ℕ, ◌+◌, ◌-◌, ◌<◌, Bool, true, cond, List, [], ◌∷◌, ◌++◌, ◌&&◌, ◌||◌, Some, None, length, take, drop, refl, sym, ap, ◌∙◌, arith, length-drop, inl, inr}
+use Rattle.std.proofs.Common.{◌≡◌, ℕ, ◌+◌, ◌-◌, ◌<◌, Bool, true, false, cond, List, [], ◌∷◌, ◌++◌, ◌&&◌, ◌||◌, Some, None, length, take, drop, refl, sym, ap, subst, ◌∙◌, arith, length-append, length-drop, inl, inr}
 use Rattle.std.specs.Prelude.{nat_lt, ◌==◌}
 use Rattle.std.specs.Cmp.Lexicographic.{same_text}
 use Rattle.std.proofs.lemmas.Bool.{and_parts, cases_Bool, cases_lt, cond-false, cond-true, eqb-true, false≢true, ltb-true, ne_eqb}
@@ -7,11 +7,12 @@ use Rattle.std.proofs.lemmas.List.{append_assoc, drop-drop, drop_all, take-appen
 use Rattle.mail_codec.specs.Places.{begins, first_place, stands}
 use Rattle.mail_codec.proofs.lemmas.Places.{first_place-passes, least-passes, true_not_false}
 use Rattle.mail_data.specs.Lines.{after_empty_line, after_line, empty_line, line_length, line_place, starts_line}
-use Rattle.mail_data.specs.Mailbox.{EndsEmpty, Entry, IsEmptyLine, after_mail, ends_mail, entries, entries_from, entry_at, is_before_text, mail_length, next_entry, settled_entry}
+use Rattle.mail_data.specs.Mailbox.{EndsEmpty, Entry, IsEmptyLine, after_mail, ends_mail, entries, entries_from, entry_at, front_length, has_front, has_line, is_before_text, mail_length, next_entry, settled_entry}
 use Rattle.mail_data.specs.Separator.{is_separator}
 use Rattle.mail_data.proofs.lemmas.Lines.{is_line}
-use Rattle.mail_data.proofs.lemmas.Mailbox.{after_empty_line-nil, entries_from-some, opens}
-use Rattle.mail_data.proofs.lemmas.MailboxJoined.{Joined, closed, entries-here, front-joined, is_separator-joined, unmarked-nil}
+use Rattle.mail_data.proofs.lemmas.Mailbox.{after_empty_line-nil, entries_from-some, front_length-none, opens}
+use Rattle.mail_data.proofs.lemmas.MailboxJoined.{Joined, after_place, before_last, closed, closed-bytes, closed-line, entries-here, front-joined, is_separator-joined, length-closed, unmarked-nil}
+use Rattle.mail_data.proofs.lemmas.MailboxParts.{front_length-≤}
 
 -- ---- what stands at the end of a line and of a mail
 
@@ -111,7 +112,7 @@ cut-found bytes marked =
 
 -- ---- a separator whose line was read
 
-separator-stays : (bytes more : List ℕ) → line_length bytes < length bytes → is_separator (bytes ++ more) ≡ is_separator bytes
+pub separator-stays : (bytes more : List ℕ) → line_length bytes < length bytes → is_separator (bytes ++ more) ≡ is_separator bytes
 separator-stays bytes more low =
     let l = line_length bytes in
     let end = line-end bytes low in
@@ -172,3 +173,74 @@ settled-stays bytes more rest entry is = elim (cases_Bool (is_separator bytes &&
       let none : None ≡ Some (entry, rest) = sym (cond-false _ (Some (entry_at bytes, next_entry bytes)) None not_so) ∙ is in
       absurd (cc)
 ]
+
+-- ---- what stands before the first separator
+
+line_length-feed : (bytes : List ℕ) → line_length (10 ∷ bytes) ≡ 1
+unfolding line_length
+line_length-feed bytes = omega arith
+
+-- with a line before it, that is a mail
+after-front : (bytes : List ℕ) → is_separator bytes ≡ false → next_entry (10 ∷ bytes) ≡ drop (front_length bytes) bytes
+unfolding front_length
+after-front bytes fails =
+    ap (λ (n : ℕ). after_empty_line (after_mail (drop n (10 ∷ bytes)))) (line_length-feed bytes)
+    ∙ drop-drop (empty_line (after_mail bytes)) (mail_length bytes) bytes
+    ∙ ap (λ (n : ℕ). drop n bytes) (sym (cond-false (is_separator bytes) 0 (mail_length bytes + empty_line (after_mail bytes)) fails))
+
+-- bytes before whose first separator a line ends begin with none, whatever follows
+none-stays : (bytes more : List ℕ) → is_separator (next_entry (10 ∷ bytes)) ≡ true → is_separator (bytes ++ more) ≡ is_separator bytes
+none-stays bytes more marked =
+    let cut = cut-found (10 ∷ bytes) marked in
+    let next = next_entry (10 ∷ bytes) in
+    let line = cut.ends.line in
+    let before = before_last cut.ends.front line in
+    let whole = cut.ends.whole ∙ closed-bytes cut.ends.front line cut.ends.is_empty in
+    let some = (closed-line line cut.ends.is_empty).1 in
+    let one = length-closed before in
+    let size = ap length (sym (closed-bytes cut.ends.front line cut.ends.is_empty)) in
+    let sum = length-append cut.ends.front (10 ∷ line) in
+    let body : bytes ≡ closed (drop 1 before) ++ next =
+    ap (drop 1) (sym cut.whole ∙ ap (λ (r : List ℕ). r ++ next) whole) ∙ after_place before next 1 (omega arith) in
+    ap (λ (r : List ℕ). is_separator (r ++ more)) body ∙ ap is_separator (append_assoc (closed (drop 1 before)) next more)
+    ∙ is_separator-joined (drop 1 before) (next ++ more) ∙ sym (is_separator-joined (drop 1 before) next) ∙ ap is_separator (sym body)
+
+abbrev FrontStays : List ℕ → List ℕ → Type 0
+FrontStays bytes more =
+    (front_length (bytes ++ more) ≡ front_length bytes) × (entries (bytes ++ more) ≡ entries (drop (front_length bytes) bytes ++ more))
+
+-- where the first mail begins behind the front
+front_later : (bytes more : List ℕ) → is_separator bytes ≡ false → is_separator (drop (front_length bytes) bytes) ≡ true
+    → line_length (drop (front_length bytes) bytes) < length (drop (front_length bytes) bytes) → FrontStays bytes more
+front_later bytes more fails marked past =
+    let n = front_length bytes in
+    let next = drop n bytes in
+    let all = bytes ++ more in
+    let here = after-front bytes fails in
+    let there : is_separator (next_entry (10 ∷ bytes)) ≡ true = ap is_separator here ∙ marked in
+    let joined = found (10 ∷ bytes) more there (subst (λ (r : List ℕ). line_length r < length r) (sym here) past) in
+    let rest : drop (front_length all) all ≡ next ++ more =
+    sym (after-front all (none-stays bytes more there ∙ fails)) ∙ joined.next ∙ ap (λ (r : List ℕ). r ++ more) here in
+    let within = front_length-≤ bytes in
+    let within_all = front_length-≤ all in
+    let left = length-drop (front_length all) all in
+    let sum = length-append bytes more in
+    let next_size = length-drop n bytes in
+    let next_sum = length-append next more in
+    let same = ap length rest in
+    (omega arith, ap entries_from rest ∙ sym (entries-here (next ++ more) (separator-stays next more past ∙ marked)))
+
+pub front-stays : (bytes more : List ℕ) → has_front bytes ≡ true → FrontStays bytes more
+unfolding has_front is_before_text
+front-stays bytes more h =
+    let next = drop (front_length bytes) bytes in
+    let parts = and_parts (is_separator next) (has_line next) h in
+    let past = ltb-true (line_length next) (length next) parts.1 in
+    elim (cases_Bool (is_separator bytes)) [
+      | inl is ↦
+          let none : front_length bytes ≡ 0 = sym (front_length-none bytes (sym is)) in
+          let low : line_length bytes < length bytes = subst (λ (k : ℕ). line_length (drop k bytes) < length (drop k bytes)) none past in
+          let whole = separator-stays bytes more low ∙ is in
+          (sym (front_length-none (bytes ++ more) (sym whole)) ∙ sym none, ap (λ (k : ℕ). entries (drop k bytes ++ more)) (sym none))
+      | inr fails ↦ front_later bytes more fails parts.0 past
+    ]

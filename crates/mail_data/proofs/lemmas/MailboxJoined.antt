@@ -18,7 +18,7 @@ use Rattle.mail_data.proofs.lemmas.Mailbox.{after_opens, entries_from-none, entr
 abbrev pub closed : List ℕ → List ℕ
 closed front = front ++ (10 ∷ [])
 
-length-closed : (front : List ℕ) → length (closed front) ≡ length front + 1
+pub length-closed : (front : List ℕ) → length (closed front) ≡ length front + 1
 length-closed front = length-append front (10 ∷ [])
 
 drop-closed : (front : List ℕ) (n : ℕ) → n ≤ length front → drop n (closed front) ≡ closed (drop n front)
@@ -120,7 +120,7 @@ begins-closed [] more = refl
 begins-closed (b ∷ front) more = refl
 
 -- what follows a place within the bytes
-after_place : (front more : List ℕ) (n : ℕ) → n ≤ length front → drop n (closed front ++ more) ≡ closed (drop n front) ++ more
+pub after_place : (front more : List ℕ) (n : ℕ) → n ≤ length front → drop n (closed front ++ more) ≡ closed (drop n front) ++ more
 after_place front more n within =
     let size = length-closed front in
     drop-append-le n (closed front) more (omega arith) ∙ ap (λ (r : List ℕ). r ++ more) (drop-closed front n within)
@@ -169,14 +169,14 @@ unmarked line (suc zero) (inr e) = ap (λ (r : List ℕ). is_separator (drop 1 r
 unmarked line (suc (suc n)) (inr e) = ap (λ (r : List ℕ). is_separator (drop (suc (suc n)) r)) e ∙ ap is_separator (drop_all {X = ℕ} n [] (omega arith))
 
 -- what stands before the last LF of the bytes
-abbrev before_last : List ℕ → List ℕ → List ℕ
+abbrev pub before_last : List ℕ → List ℕ → List ℕ
 before_last front line = front ++ take (length line) (10 ∷ line)
 
-closed-line : (line : List ℕ) → IsEmptyLine line → (10 ∷ line ≡ closed (take (length line) (10 ∷ line))) × (0 < length line)
+pub closed-line : (line : List ℕ) → IsEmptyLine line → (10 ∷ line ≡ closed (take (length line) (10 ∷ line))) × (0 < length line)
 closed-line line (inl e) = (subst (λ (r : List ℕ). 10 ∷ r ≡ closed (take (length r) (10 ∷ r))) (sym e) refl, omega (arith, ap length e))
 closed-line line (inr e) = (subst (λ (r : List ℕ). 10 ∷ r ≡ closed (take (length r) (10 ∷ r))) (sym e) refl, omega (arith, ap length e))
 
-closed-bytes : (front line : List ℕ) → IsEmptyLine line → front ++ (10 ∷ line) ≡ closed (before_last front line)
+pub closed-bytes : (front line : List ℕ) → IsEmptyLine line → front ++ (10 ∷ line) ≡ closed (before_last front line)
 closed-bytes front line is =
     ap (λ (r : List ℕ). front ++ r) (closed-line line is).0 ∙ sym (append_assoc front (take (length line) (10 ∷ line)) (10 ∷ []))
 

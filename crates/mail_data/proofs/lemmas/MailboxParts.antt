@@ -120,7 +120,7 @@ empty_line-≤ [] = omega arith
 empty_line-≤ (b ∷ []) = at_most_one _ _
 empty_line-≤ (b ∷ c ∷ bytes) = at_most_two _ _ (length (b ∷ c ∷ bytes)) (omega arith)
 
-front_length-≤ : (bytes : List ℕ) → front_length bytes ≤ length bytes
+pub front_length-≤ : (bytes : List ℕ) → front_length bytes ≤ length bytes
 unfolding front_length
 front_length-≤ bytes =
     let mail = mail_length-≤ bytes in

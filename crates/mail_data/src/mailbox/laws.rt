@@ -1,8 +1,9 @@
 //! Laws on mailboxes. Each function does nothing; its contract is the law.
-ghost use Rattle.std.specs.Prelude.{◌++◌, ◌<◌, ◌≡◌, ◌∷◌, List, Some, ℕ, true};
+ghost use Rattle.std.specs.Prelude.{◌++◌, ◌<◌, ◌≡◌, ◌∷◌, List, Some, drop, ℕ, true};
 ghost use Rattle.std.specs.List.{flat_map};
 ghost use Rattle.mail_codec.specs.Places.{values_below};
-ghost use Rattle.mail_data.specs.Mailbox.{EndsEmpty, Entry, entries, settled_entry};
+ghost use Rattle.mail_data.specs.Mailbox.{EndsEmpty, Entry, entries, front_length, has_front};
+ghost use Rattle.mail_data.specs.Mailbox.{has_line, settled_entry};
 ghost use Rattle.mail_data.specs.MailboxParts.{part_mails, placed};
 ghost use Rattle.mail_data.specs.Separator.{is_separator};
 
@@ -27,4 +28,20 @@ pub fn settled_mail_stays()
     ensures { (read more rest : List ℕ) (entry : Entry) →
         settled_entry read ≡ Some (entry, rest) →
         entries (read ++ more) ≡ entry ∷ entries (rest ++ more) }
+{}
+
+/// Whether a mailbox begins at the front of what was read so far stays as it is, whatever follows,
+/// once the first line was read with at least one byte more.
+pub fn settled_line_stays()
+    ensures { (read more : List ℕ) → has_line read ≡ true →
+        is_separator (read ++ more) ≡ is_separator read }
+{}
+
+/// What stands before the first separator of what was read so far is the same whatever follows, once
+/// that separator was read with its line and at least one byte more; the mails are those of the rest
+/// and of what follows.
+pub fn settled_front_stays()
+    ensures { (read more : List ℕ) → has_front read ≡ true →
+        (front_length (read ++ more) ≡ front_length read)
+        × (entries (read ++ more) ≡ entries (drop (front_length read) read ++ more)) }
 {}
