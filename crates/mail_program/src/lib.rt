@@ -7,4 +7,4 @@ mod streams;
 
 pub use command::{VERSION, Word, arguments};
 pub use fault::Fault;
-pub use streams::{read_input, write_output};
+pub use streams::{read_input, read_more, write_output};

@@ -1,8 +1,8 @@
 //! Reading to the end, and writing, over any reader and writer.
 ghost use Rattle.std.specs.Io.KnownBytes.{Appends};
-ghost use Rattle.std.specs.Prelude.{◌<◌, IfErr, IfOk, OnOk, vec_len};
+ghost use Rattle.std.specs.Prelude.{◌<◌, ◌≡◌, IfErr, IfOk, OnOk, false, vec_len};
 ghost use Rattle.mail_program.specs.Fault.{IsOutput};
-ghost use Rattle.mail_program.specs.Streams.{IsRead};
+ghost use Rattle.mail_program.specs.Streams.{IsRead, ReadsOn};
 
 use crate::fault::Fault;
 use std::alloc::{AllocError, Global};
@@ -33,17 +33,55 @@ const READ_SIZE: usize = 64 * 1024;
 pub fn read_input<R: Read>(alloc: Global, reader: &mut R) -> Result<Vec<u8>, Fault>
     ensures { IsRead (R.remaining reader.old) (R.remaining reader.new) result }
 {
-    let mut buffer = read_buffer(alloc)?;
     let mut input = Vec::new(alloc);
+    read_more(alloc, reader, &mut input, usize::MAX)?;
+    Ok(input)
+}
+
+/// Reads on, behind these bytes, until they are more than `most` or the reader is at its end. Returns
+/// whether it is at its end. An interrupted read is tried again.
+///
+/// Takes memory for the bytes.
+///
+/// # Errors
+///
+/// `Fault::Input` where a read fails, and `Fault::Mail` with `MailParseError::Memory` where it runs
+/// out of memory.
+///
+/// # Examples
+///
+/// ```rust
+/// use mail_program::read_more;
+///
+/// let mut reader = b"Subject: Hi\n".as_slice();
+/// let mut input = Vec::new(alloc);
+/// assert!(rt; !read_more(alloc, &mut reader, &mut input, 0)?);
+/// assert_eq!(rt; input.as_slice(), b"Subject: Hi\n".as_slice());
+/// assert!(rt; read_more(alloc, &mut reader, &mut input, 100)?);
+/// ```
+pub fn read_more<R: Read>(
+    alloc: Global,
+    reader: &mut R,
+    input: &mut Vec<u8>,
+    most: usize,
+) -> Result<bool, Fault>
+    ensures read { ReadsOn (R.remaining reader.old) (R.remaining reader.new)
+        input.old.items input.new.items result }
+    ensures enough { IfOk result (λ has_ended. has_ended ≡ false → most < vec_len input.new) }
+{
+    let mut buffer = read_buffer(alloc)?;
     for _turn in 0..u64::MAX {
         match reader.read(buffer.as_mut_slice()) {
-            Ok(0) => return Ok(input),
+            Ok(0) => return Ok(true),
             Ok(count) => input.extend_from_slice(&buffer[..count])?,
             Err(e) => {
                 if e.kind() != ErrorKind::Interrupted {
                     return Err(Fault::Input(e));
                 }
             }
+        }
+        if input.len() > most {
+            return Ok(false);
         }
     }
     Err(Fault::Input(io::Error::from(ErrorKind::Interrupted)))
