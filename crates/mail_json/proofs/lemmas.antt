@@ -8,4 +8,5 @@ pub mod Fields
 pub mod Part
 pub mod Mail
 pub mod Lines
+pub mod Stream
 pub mod JsonLines

@@ -6,4 +6,5 @@ pub mod Body
 pub mod Part
 pub mod Mail
 pub mod Lines
+pub mod Stream
 pub mod Values

@@ -11,6 +11,12 @@ IsEnd (Mail e) = IsMemory e
 IsEnd (Input e) = ⊥
 IsEnd (Output e) = Unit {0}
 
+-- memory ran out, or a read or a write failed
+abbrev pub IsFault : Fault → Type 0
+IsFault (Mail e) = IsMemory e
+IsFault (Input e) = Unit {0}
+IsFault (Output e) = Unit {0}
+
 -- the text was written and nothing else; otherwise memory ran out or a write failed
 abbrev pub Writes : {T : Type 0} → Option (List ℕ) → Option (List ℕ) → Result T Fault → List ℕ → Type 0
 Writes old new (Ok done) text = Appends old new text

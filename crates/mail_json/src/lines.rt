@@ -3,20 +3,47 @@ ghost use Rattle.std.specs.Prelude.{◌≡◌, option_map};
 ghost use Rattle.std.specs.Char.{is_ascii_whitespace};
 ghost use Rattle.std.specs.List.{list_all};
 ghost use Rattle.mail_codec.specs.Tables.{charsets_with};
+ghost use Rattle.mail_data.specs.MailboxParts.{placed_from};
 ghost use Rattle.mail_data.specs.MailboxViews.{entries_left};
 ghost use Rattle.mail_json.specs.Lines.{AreLines, AreMailboxLines, IsFront, IsLine, IsMailLine};
-ghost use Rattle.mail_json.specs.Lines.{WritesLines};
+ghost use Rattle.mail_json.specs.Lines.{WritesLines, after_entry, next_number, origin_at};
 ghost use Rattle.mail_json.specs.Origin.{origin_of};
 
 use crate::fields::refusal_text;
 use crate::mail::write_mail;
 use crate::origin::{Origin, write_error};
 use crate::strings::write_word;
-use mail_data::mailbox::{Mailbox, read_mailbox};
+use mail_data::mailbox::{Mailbox, MailboxEntry, read_mailbox};
 use mail_program::Fault;
 use mailparse::{SingleByteTable, parse_mail_with};
 use std::alloc::Global;
 use std::io::Write;
+
+/// The number and the place of a mail of a mailbox.
+#[derive(Clone, Copy)]
+pub struct Next {
+    /// Its number, counted from 1, or `None` where the mails are not numbered.
+    pub number: Option<usize>,
+    /// The offset in the input at which its separator begins.
+    pub at: usize,
+}
+
+impl Next {
+    /// Those of the mail behind this one.
+    pub fn after(self, entry: &MailboxEntry<'_>) -> Next
+        ensures number { result.number ≡ next_number self.number }
+        ensures at { result.at ≡ after_entry self.at entry.now }
+    {
+        let number = match self.number {
+            Some(number) => Some(number.saturating_add(1)),
+            None => None,
+        };
+        let start = self.at.saturating_add(entry.separator().len());
+        let end = start.saturating_add(entry.mail().len());
+        let at = end.saturating_add(entry.ending().len());
+        Next { number, at }
+    }
+}
 
 /// Writes the line of an input that is one mail. Returns whether it is not refused.
 ///
@@ -63,13 +90,22 @@ pub fn write_mailbox<W: Write>(
     let mails = read_mailbox(input);
     let front = mails.front();
     let is_all_whitespace = write_front(alloc, front, file, out)?;
-    let are_read = write_mails(alloc, mails, file, front.len(), out, tables)?;
+    let first = Next {
+        number: Some(1),
+        at: front.len(),
+    };
+    let are_read = write_mails(alloc, mails, first, file, out, tables)?;
     Ok(is_all_whitespace & are_read)
 }
 
 /// Writes an error for what stands before the first mail of a mailbox, unless it is whitespace.
 /// Returns whether it is.
-fn write_front<W: Write>(
+///
+/// # Errors
+///
+/// `Fault::Output` where a write fails, and `Fault::Mail` with `MailParseError::Memory` where it runs
+/// out of memory.
+pub fn write_front<W: Write>(
     alloc: Global,
     front: &[u8],
     file: Option<&str>,
@@ -103,38 +139,61 @@ fn is_all_whitespace(bytes: &[u8]) -> bool
     bytes.iter().all(|byte| byte.is_ascii_whitespace())
 }
 
-/// Writes each mail of a mailbox, the first of which begins at this offset with its separator.
-/// Returns whether none was refused.
-fn write_mails<W: Write>(
+/// Writes each mail of a mailbox, the first of which has this number and place. Returns whether none
+/// was refused.
+///
+/// # Errors
+///
+/// `Fault::Output` where a write fails, and `Fault::Mail` with `MailParseError::Memory` where it runs
+/// out of memory.
+pub fn write_mails<W: Write>(
     alloc: Global,
     mails: Mailbox<'_>,
+    first: Next,
     file: Option<&str>,
-    start: usize,
     out: &mut W,
     tables: &[SingleByteTable<'_>],
 ) -> Result<bool, Fault>
     ensures { WritesLines (W.contents out.old) (W.contents out.new) result
-        (AreLines (charsets_with tables.now) (option_map (λ name. name.now) file.entry) 1 start
-        (entries_left mails.entry)) }
+        (AreLines (charsets_with tables.now) (option_map (λ name. name.now) file.entry) first.number
+        (placed_from first.at (entries_left mails.entry))) }
 {
-    let mut number: usize = 1;
-    let mut at = start;
+    let mut next = first;
     let mut is_clean = true;
     for entry in mails {
-        let start = at.saturating_add(entry.separator().len());
-        let end = start.saturating_add(entry.mail().len());
-        let origin = Origin {
-            file,
-            number: Some(number),
-            start,
-            end,
-        };
-        let is_read = write_line(alloc, entry.mail(), &origin, out, tables)?;
+        let is_read = write_entry(alloc, &entry, next, file, out, tables)?;
         is_clean &= is_read;
-        at = end.saturating_add(entry.ending().len());
-        number = number.saturating_add(1);
+        next = next.after(&entry);
     }
     Ok(is_clean)
+}
+
+/// Writes the line of a mail of a mailbox. Returns whether it is not refused.
+///
+/// # Errors
+///
+/// `Fault::Output` where a write fails, and `Fault::Mail` with `MailParseError::Memory` where it runs
+/// out of memory.
+pub fn write_entry<W: Write>(
+    alloc: Global,
+    entry: &MailboxEntry<'_>,
+    next: Next,
+    file: Option<&str>,
+    out: &mut W,
+    tables: &[SingleByteTable<'_>],
+) -> Result<bool, Fault>
+    ensures { WritesLines (W.contents out.old) (W.contents out.new) result
+        (IsLine (charsets_with tables.now) (origin_at (option_map (λ name. name.now) file.entry)
+        next.number next.at entry.now) entry.now.mail) }
+{
+    let start = next.at.saturating_add(entry.separator().len());
+    let origin = Origin {
+        file,
+        number: next.number,
+        start,
+        end: start.saturating_add(entry.mail().len()),
+    };
+    write_line(alloc, entry.mail(), &origin, out, tables)
 }
 
 /// Writes the line of a mail from there. Returns whether it is not refused.

@@ -10,6 +10,7 @@ mod origin;
 mod part;
 mod request;
 mod run;
+mod stream;
 mod strings;
 
 use mail_program::{Fault, VERSION, arguments};

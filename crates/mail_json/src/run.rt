@@ -1,10 +1,9 @@
 //! A run over the inputs.
 
-use crate::lines::{write_mailbox, write_single};
 use crate::origin::write_unread;
 use crate::request::{Form, Request};
-use mail_data::mailbox::read_mailbox;
-use mail_program::{Fault, read_input};
+use crate::stream::write_input;
+use mail_program::Fault;
 use mail_tables::TABLES;
 use std::alloc::{AllocError, Global};
 use std::fs;
@@ -141,30 +140,10 @@ fn run_input<R: Read, W: Write>(
     reader: &mut R,
     out: &mut W,
 ) -> Result<Outcome, Fault> {
-    match read_input(rt.alloc(), reader) {
-        Ok(input) => write_input(rt.alloc(), form, file, input.as_slice(), out),
+    match write_input(rt.alloc(), reader, form, file, out, &TABLES) {
+        Ok(is_clean) => Ok(Outcome::of(is_clean)),
         Err(Fault::Input(error)) => fail(rt, file, &error, out),
         Err(fault) => Err(fault),
-    }
-}
-
-/// Writes the mails of the bytes of an input.
-fn write_input<W: Write>(
-    alloc: Global,
-    form: Form,
-    file: Option<&str>,
-    input: &[u8],
-    out: &mut W,
-) -> Result<Outcome, Fault> {
-    let is_mailbox = match form {
-        Form::Either => read_mailbox(input).front().is_empty() && !input.is_empty(),
-        Form::Mail => false,
-        Form::Mailbox => true,
-    };
-    if is_mailbox {
-        Ok(Outcome::of(write_mailbox(alloc, input, file, out, &TABLES)?))
-    } else {
-        Ok(Outcome::of(write_single(alloc, input, file, out, &TABLES)?))
     }
 }
 

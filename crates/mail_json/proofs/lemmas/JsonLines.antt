@@ -21,7 +21,8 @@ use Rattle.mailparse.specs.Placement.{placements}
 use Rattle.mailparse.specs.Refusal.{Reads}
 use Rattle.mailparse.specs.Value.{lenient_value_in}
 use Rattle.mail_data.specs.Files.{is_leaf, name_in}
-use Rattle.mail_data.specs.Mailbox.{Entry, entries, front_length}
+use Rattle.mail_data.specs.Mailbox.{front_length}
+use Rattle.mail_data.specs.MailboxParts.{Placed, placed}
 use Rattle.mail_data.specs.PartPlaces.{Place, places}
 use Rattle.mail_data.specs.lenient.Date.{Dated, date_of}
 use Rattle.mail_data.specs.lenient.Encoding.{lenient_body_kind}
@@ -29,11 +30,10 @@ use Rattle.mail_json.specs.Body.{encoding_text, decoded_size}
 use Rattle.mail_json.specs.Fields.{refusal_text, disposition_name, value_of, ids_of}
 use Rattle.mail_json.specs.Mail.{IsMailText, date_text, date_fault_text, ids_text, raw_text, values_text}
 use Rattle.mail_json.specs.Part.{AreAfterCommas, AreJoined, IsPartText, body_text, disposition_text, flag_text, header_text, headers_text, is_attachment, parameter_text, part_text, place_text, read_text, saturating_add, size_text, type_text}
-use Rattle.mail_json.specs.Lines.{AreLines, AreMailboxLines, IsFront, IsLineOf}
+use Rattle.mail_json.specs.Lines.{AreLines, AreMailboxLines, IsFront, IsLineOf, origin_at}
 use Rattle.mail_json.specs.Origin.{Origin, error_line, number_or_null, origin_text, unread_line}
 use Rattle.mail_json.specs.Strings.{json_text, number_text, text_or_null, json_texts, after_commas, joined}
 use Rattle.mail_json.specs.Values.{AreJsonLines, AreValues, IsJsonLine, IsLineValue, IsMailValue, IsPartValue, body_value, content_members, date_members, disposition_members, error_value, file_members, front_members, header_value, ids_members, list_of, mail_members, number_or_null_value, number_value, object_of, one, origin_members, parameter_member, part_members, place_members, raw_members, read_value, size_members, string_or_null, strings, type_members, unread_value, values_members}
-use Rattle.mail_json.proofs.lemmas.Lines.{origin_at}
 use Rattle.mail_json.proofs.lemmas.Strings.{number_text-fits}
 use Rattle.mail_json.proofs.lemmas.Plain.{are_plain, json_text-plain}
 use Rattle.mail_json.proofs.lemmas.Texts.{text_of}
@@ -376,12 +376,13 @@ lines_as a b e p = subst AreJsonLines (sym e) p
 
 -- Of a file.
 module _ (known : Charsets) (file : Option (List ℕ)) where
-  mails_are_lines : (es : List Entry) (number at : ℕ) (is_clean : Bool) (text : List ℕ) → AreLines known file number at es is_clean text → AreJsonLines text
-  mails_are_lines [] number at is_clean text is = lines_as text [] is.1 no_lines
-  mails_are_lines (entry ∷ es) number at is_clean text is =
+  mails_are_lines : (mails : List Placed) (number : Option ℕ) (is_clean : Bool) (text : List ℕ) → AreLines known file number mails is_clean text → AreJsonLines text
+  mails_are_lines [] number is_clean text is = lines_as text [] is.1 no_lines
+  mails_are_lines (mail ∷ mails) number is_clean text is =
       lines_as text (is.2 ++ is.3) is.7
-      (lines_then is.2 is.3 (one_json_line _ is.2 (line_is_json known (origin_at file number at entry) (read_mail_in known 100 entry.mail) is.0 is.2 is.4))
-      (mails_are_lines es _ _ is.1 is.3 is.5))
+      (lines_then is.2 is.3
+      (one_json_line _ is.2 (line_is_json known (origin_at file number mail.start mail.entry) (read_mail_in known 100 mail.entry.mail) is.0 is.2 is.4))
+      (mails_are_lines mails _ is.1 is.3 is.5))
 
   front_is_line : (front : List ℕ) (is_all_whitespace : Bool) (text : List ℕ) → IsFront file front is_all_whitespace text → AreJsonLines text
   front_is_line front true text is = lines_as text [] is.1 no_lines
@@ -394,4 +395,4 @@ pub mailbox_is_lines : (known : Charsets) (file : Option (List ℕ)) (bytes : Li
     → AreMailboxLines known file bytes is_clean text → AreJsonLines text
 mailbox_is_lines known file bytes is_clean text is =
     lines_as text (is.2 ++ is.3) is.7
-    (lines_then is.2 is.3 (front_is_line known file (take (front_length bytes) bytes) is.0 is.2 is.4) (mails_are_lines known file (entries bytes) _ _ is.1 is.3 is.5))
+    (lines_then is.2 is.3 (front_is_line known file (take (front_length bytes) bytes) is.0 is.2 is.4) (mails_are_lines known file (placed bytes) _ is.1 is.3 is.5))

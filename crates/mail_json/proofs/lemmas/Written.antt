@@ -3,7 +3,8 @@ use Rattle.std.proofs.Common.{◌≡◌, ℕ, List, ◌++◌, Option, Result, Ok
 use Rattle.std.proofs.KnownBytes.{Appends-trans}
 use Rattle.std.specs.Io.KnownBytes.{Appends}
 use Rattle.mail_program.specs.declared.fault.Fault.{Fault}
-use Rattle.mail_json.specs.Written.{Writes, WritesOne}
+use Rattle.mail_program.specs.declared.fault.Fault.TheVariants.{Input, Mail, Output}
+use Rattle.mail_json.specs.Written.{IsEnd, IsFault, Writes, WritesOne}
 
 pub writes_then : {T : Type 0} (old mid new : Option (List ℕ)) (r : Result T Fault) (a b : List ℕ) → Appends old mid a → Writes mid new r b
     → Writes old new r (a ++ b)
@@ -29,3 +30,8 @@ grouped a b c d e f g h =
     sym (append_assoc (a ++ b ++ c ++ d ++ e ++ f) g h ∙ append_assoc (a ++ b ++ c ++ d ++ e) f (g ++ h)
     ∙ append_assoc (a ++ b ++ c ++ d) e (f ++ (g ++ h)) ∙ append_assoc (a ++ b ++ c) d (e ++ (f ++ (g ++ h)))
     ∙ append_assoc (a ++ b) c (d ++ (e ++ (f ++ (g ++ h)))) ∙ append_assoc a b (c ++ (d ++ (e ++ (f ++ (g ++ h))))))
+
+pub end_is_fault : (fault : Fault) → IsEnd fault → IsFault fault
+end_is_fault (Mail e) h = h
+end_is_fault (Input e) h = tt
+end_is_fault (Output e) h = tt

@@ -1,0 +1,235 @@
+//! The lines of an input that is read in blocks.
+ghost use Rattle.std.specs.Prelude.{◌≡◌, ◌++◌, IfErr, IfOk, [], option_map, true};
+ghost use Rattle.mail_codec.specs.Tables.{charsets_with};
+ghost use Rattle.mail_data.specs.Mailbox.{has_front};
+ghost use Rattle.mail_json.specs.Lines.{AreInputLines, AreMailboxLines, WritesInput, WritesLines};
+ghost use Rattle.mail_json.specs.Lines.{is_mailbox};
+ghost use Rattle.mail_json.specs.Stream.{ReadsUntil, WritesSettled, first_wanted, is_there};
+ghost use Rattle.mail_json.specs.Written.{IsEnd, Writes};
+
+use crate::lines::{Next, write_entry, write_front, write_mailbox, write_mails, write_single};
+use crate::request::Form;
+use mail_data::mailbox::{self, has_front, has_line, read_mailbox, settled_entry};
+use mail_program::{Fault, read_more};
+use mailparse::SingleByteTable;
+use std::alloc::{AllocError, Global};
+use std::io::{self, ErrorKind, Read, Write};
+
+/// What is wanted of the bytes of an input before lines are written of it.
+#[derive(Clone, Copy)]
+pub enum Wanted {
+    /// Its first line, so that it shows whether it is a mailbox.
+    FirstLine,
+    /// What stands before the first separator of a mailbox.
+    Front,
+    /// The first mail of a mailbox.
+    FirstMail,
+    /// All bytes.
+    End,
+}
+
+/// What was written of the mails at the front of a mailbox.
+#[derive(Drop)]
+struct Settled<'a> {
+    /// The bytes behind them.
+    rest: &'a [u8],
+    /// The number and the place of the mail behind them.
+    next: Next,
+    /// Whether none of them was refused.
+    is_clean: bool,
+}
+
+/// Writes the lines of an input, each mail of a mailbox as soon as it was read. Returns whether there
+/// was no error.
+///
+/// # Errors
+///
+/// `Fault::Input` where a read fails, `Fault::Output` where a write fails, and `Fault::Mail` with
+/// `MailParseError::Memory` where it runs out of memory.
+pub fn write_input<R: Read, W: Write>(
+    alloc: Global,
+    reader: &mut R,
+    form: Form,
+    file: Option<&str>,
+    out: &mut W,
+    tables: &[SingleByteTable<'_>],
+) -> Result<bool, Fault>
+    ensures { WritesInput (R.remaining reader.old) (R.remaining reader.new)
+        (W.contents out.old) (W.contents out.new) result (AreInputLines
+        (charsets_with tables.now) form (option_map (λ name. name.now) file.entry)) }
+{
+    let mut read = Vec::new(alloc);
+    let has_ended = read_until(alloc, reader, &mut read, first_wanted(form))?;
+    if has_ended {
+        return write_whole(alloc, read.as_slice(), form, file, out, tables);
+    }
+    if is_mailbox(form, read.as_slice()) {
+        return write_following(alloc, reader, read.as_slice(), file, out, tables);
+    }
+    read_until(alloc, reader, &mut read, Wanted::End)?;
+    write_single(alloc, read.as_slice(), file, out, tables)
+}
+
+/// Writes the lines of an input that was read to its end. Returns whether there was no error.
+fn write_whole<W: Write>(
+    alloc: Global,
+    input: &[u8],
+    form: Form,
+    file: Option<&str>,
+    out: &mut W,
+    tables: &[SingleByteTable<'_>],
+) -> Result<bool, Fault>
+    ensures { WritesLines (W.contents out.old) (W.contents out.new) result (AreInputLines
+        (charsets_with tables.now) form (option_map (λ name. name.now) file.entry) input.now) }
+{
+    if is_mailbox(form, input) {
+        write_mailbox(alloc, input, file, out, tables)
+    } else {
+        write_single(alloc, input, file, out, tables)
+    }
+}
+
+/// Whether an input of this form that begins so is a mailbox.
+fn is_mailbox(form: Form, input: &[u8]) -> bool
+    ensures { result ≡ is_mailbox form input.now }
+{
+    match form {
+        Form::Either => mailbox::is_mailbox(input),
+        Form::Mail => false,
+        Form::Mailbox => true,
+    }
+}
+
+/// What is wanted before lines are written of an input of this form.
+fn first_wanted(form: Form) -> Wanted
+    ensures { result ≡ first_wanted form }
+{
+    match form {
+        Form::Either => Wanted::FirstLine,
+        Form::Mail => Wanted::End,
+        Form::Mailbox => Wanted::Front,
+    }
+}
+
+/// Reads on behind these bytes until what is wanted is there, or to the end. Returns whether it is
+/// the end. Between two looks the bytes are doubled, so the time is linear.
+fn read_until<R: Read>(
+    alloc: Global,
+    reader: &mut R,
+    bytes: &mut Vec<u8>,
+    wanted: Wanted,
+) -> Result<bool, Fault>
+    ensures { ReadsUntil wanted (R.remaining reader.old) (R.remaining reader.new)
+        bytes.old.items bytes.new.items result }
+{
+    for _turn in 0..u64::MAX {
+        if is_there(wanted, bytes.as_slice()) {
+            return Ok(false);
+        }
+        let most = bytes.len().saturating_mul(2);
+        if read_more(alloc, reader, bytes, most)? {
+            return Ok(true);
+        }
+    }
+    Err(Fault::Input(io::Error::from(ErrorKind::Interrupted)))
+}
+
+/// Whether what is wanted is there.
+fn is_there(wanted: Wanted, bytes: &[u8]) -> bool
+    ensures { result ≡ is_there wanted bytes.now }
+{
+    match wanted {
+        Wanted::FirstLine => has_line(bytes),
+        Wanted::Front => has_front(bytes),
+        Wanted::FirstMail => settled_entry(bytes).is_some(),
+        Wanted::End => false,
+    }
+}
+
+/// Writes the lines of a mailbox of which these bytes were read, the first separator among them.
+/// Returns whether there was no error.
+fn write_following<R: Read, W: Write>(
+    alloc: Global,
+    reader: &mut R,
+    read: &[u8],
+    file: Option<&str>,
+    out: &mut W,
+    tables: &[SingleByteTable<'_>],
+) -> Result<bool, Fault>
+    requires { has_front read.now ≡ true }
+    ensures { WritesInput (R.remaining reader.old) (R.remaining reader.new)
+        (W.contents out.old) (W.contents out.new) result (λ more. AreMailboxLines
+        (charsets_with tables.now) (option_map (λ name. name.now) file.entry)
+        (read.now ++ more)) }
+{
+    let front = read_mailbox(read).front();
+    let mut is_clean = write_front(alloc, front, file, out)?;
+    let mut next = Next {
+        number: Some(1),
+        at: front.len(),
+    };
+    let mut pending = copy(alloc, &read[front.len()..])?;
+    for _turn in 0..u64::MAX {
+        let has_ended = read_until(alloc, reader, &mut pending, Wanted::FirstMail)?;
+        if has_ended {
+            let mails = read_mailbox(pending.as_slice());
+            let are_read = write_mails(alloc, mails, next, file, out, tables)?;
+            return Ok(is_clean & are_read);
+        }
+        let settled = write_settled(alloc, pending.as_slice(), next, file, out, tables)?;
+        flush(out)?;
+        is_clean &= settled.is_clean;
+        next = settled.next;
+        pending = copy(alloc, settled.rest)?;
+    }
+    Err(Fault::Input(io::Error::from(ErrorKind::Interrupted)))
+}
+
+/// Writes the mails at the front of what was read that nothing which follows changes.
+fn write_settled<'a, W: Write>(
+    alloc: Global,
+    bytes: &'a [u8],
+    first: Next,
+    file: Option<&str>,
+    out: &mut W,
+    tables: &[SingleByteTable<'_>],
+) -> Result<Settled<'a>, Fault>
+    ensures written { IfOk result (λ s. WritesSettled (charsets_with tables.now)
+        (option_map (λ name. name.now) file.entry) (W.contents out.old) (W.contents out.new)
+        first.number first.at bytes.now s.next.number s.next.at s.rest.now s.is_clean) }
+    ensures failed { IfErr result IsEnd }
+{
+    let mut rest = bytes;
+    let mut next = first;
+    let mut is_clean = true;
+    'mails: while let Some((entry, after)) = settled_entry(rest) {
+        let is_read = write_entry(alloc, &entry, next, file, out, tables)?;
+        is_clean &= is_read;
+        next = next.after(&entry);
+        rest = after;
+    }
+    Ok(Settled {
+        rest,
+        next,
+        is_clean,
+    })
+}
+
+/// The bytes in a list.
+fn copy(alloc: Global, bytes: &[u8]) -> Result<Vec<u8>, AllocError>
+    ensures { IfOk result (λ copied. copied.items ≡ bytes.now) }
+{
+    let mut copied = Vec::new(alloc);
+    copied.extend_from_slice(bytes)?;
+    Ok(copied)
+}
+
+/// Hands on what was written.
+fn flush<W: Write>(out: &mut W) -> Result<(), Fault>
+    ensures { Writes (W.contents out.old) (W.contents out.new) result [] }
+{
+    match out.flush() {
+        Ok(()) => Ok(()),
+        Err(error) => Err(Fault::Output(error)),
+    }
+}
