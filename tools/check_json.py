@@ -15,6 +15,7 @@ import json
 import os
 import random
 import re
+import select
 import subprocess
 import sys
 import tempfile
@@ -287,6 +288,40 @@ def check_mailboxes():
     same(subjects(["--mail"], FROM + b"Subject: 1\n\n", 0, "--mail"), ["1"], "--mail")
 
 
+def in_pieces(data, size):
+    """What the program writes of bytes that come in pieces of this size."""
+    with tempfile.TemporaryFile() as out:
+        with subprocess.Popen([PROGRAM], stdin=subprocess.PIPE, stdout=out, bufsize=0) as process:
+            for at in range(0, len(data), size):
+                process.stdin.write(data[at : at + size])
+        out.seek(0)
+        return out.read()
+
+
+def check_pieces():
+    """Mailboxes that come in pieces: their lines are those of the whole, and the first one comes at once."""
+    random_ = random.Random(40)
+    mails = [FROM + b"Subject: %d\n\n" % n + b"x\n" * random_.randrange(40_000) + b"\n" for n in range(30)]
+    for size, data in (
+        (1, b"".join(mail[:300] + b"\n\n" for mail in mails)),
+        (977, b"".join(mails)),
+        (65_537, b"".join(mails)),
+        (4_095, b"Subject: 1\n\n" + b"".join(mails)),
+        (997, b"x" * 100_000),
+    ):
+        with tempfile.NamedTemporaryFile() as whole:
+            whole.write(data)
+            whole.flush()
+            found = run([whole.name]).stdout.replace(json.dumps(whole.name).encode(), b"null")
+        same(in_pieces(data, size), found, f"{len(data)} bytes in pieces of {size}")
+    same(subjects([], b"".join(mails), 0, "30 mails"), [str(n) for n in range(30)], "30 mails")
+    with subprocess.Popen([PROGRAM], stdin=subprocess.PIPE, stdout=subprocess.PIPE, bufsize=0) as process:
+        process.stdin.write(mails[0] + mails[1][:100])
+        judge(select.select([process.stdout], [], [], 10)[0] != [], "the first line before the end")
+        process.stdin.close()
+        process.stdout.read()
+
+
 def check_calls():
     """Arguments, files and streams."""
     ended = run(["--mbox", "--help"])
@@ -362,6 +397,7 @@ def main():
         check_edges,
         check_places,
         check_mailboxes,
+        check_pieces,
         check_calls,
     ):
         check()
