@@ -9,5 +9,6 @@ pub mod Mailbox
 pub mod MailboxJoined
 pub mod PartPlaces
 pub mod MailboxParts
+pub mod MailboxRange
 pub mod MailboxFound
 pub mod Separator

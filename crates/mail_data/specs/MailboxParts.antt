@@ -17,6 +17,10 @@ placed_from start (entry ∷ rest) =
 abbrev pub placed : List ℕ → List Placed
 placed bytes = placed_from (front_length bytes) (entries bytes)
 
+-- the mails of bytes that stand in a mailbox from a place on, with their places
+abbrev pub placed_at : ℕ → List ℕ → List Placed
+placed_at start bytes = placed_from (start + front_length bytes) (entries bytes)
+
 -- a mail begins in a range of places
 abbrev pub begins_in : ℕ → ℕ → Placed → Bool
 begins_in from to mail = not (nat_lt mail.start from) && nat_lt mail.start to

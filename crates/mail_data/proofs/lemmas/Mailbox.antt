@@ -145,7 +145,7 @@ entries-span (suc n) bytes fits h = elim (cases_Bool (is_separator bytes)) [
     none [] fails h = refl
     none (b ∷ bytes) fails h = absurd (false≢true (sym fails ∙ h))
 
-front-opens : (bytes : List ℕ) → opens (drop (front_length bytes) bytes) ≡ true
+pub front-opens : (bytes : List ℕ) → opens (drop (front_length bytes) bytes) ≡ true
 unfolding front_length
 front-opens bytes = elim (cases_Bool (is_separator bytes)) [
   | inl is ↦ ap (λ n. opens (drop n bytes)) (cond-true (is_separator bytes) 0 (mail_length bytes + empty_line (after_mail bytes)) is) ∙ or_right (is_empty bytes) (is_separator bytes) is

@@ -50,10 +50,10 @@ empty_line-shape rest some = elim (cases_Bool (stands (10 ∷ []) rest)) [
 
 -- ---- the bytes of the mail at the front, where a separator follows it
 
-record Cut (bytes : List ℕ) : Type 0 where
-  first : List ℕ
-  ends : EndsEmpty first
-  whole : first ++ next_entry bytes ≡ bytes
+pub record Cut (bytes : List ℕ) : Type 0 where
+  pub first : List ℕ
+  pub ends : EndsEmpty first
+  pub whole : first ++ next_entry bytes ≡ bytes
 
 mail-low : (body : List ℕ) → is_separator (after_empty_line (after_mail body)) ≡ true → mail_length body < length body
 mail-low body marked = elim (cases_lt (mail_length body) (length body)) [
@@ -86,7 +86,7 @@ feed-before bytes marked =
           (ap (λ (k : ℕ). begins (λ b. b == 10) (drop k bytes)) (sym place) ∙ line.0, some)
     ]
 
-cut-found : (bytes : List ℕ) → is_separator (next_entry bytes) ≡ true → Cut bytes
+pub cut-found : (bytes : List ℕ) → is_separator (next_entry bytes) ≡ true → Cut bytes
 cut-found bytes marked =
     let l = line_length bytes in
     let body = after_line bytes in
@@ -181,7 +181,7 @@ unfolding line_length
 line_length-feed bytes = omega arith
 
 -- with a line before it, that is a mail
-after-front : (bytes : List ℕ) → is_separator bytes ≡ false → next_entry (10 ∷ bytes) ≡ drop (front_length bytes) bytes
+pub after-front : (bytes : List ℕ) → is_separator bytes ≡ false → next_entry (10 ∷ bytes) ≡ drop (front_length bytes) bytes
 unfolding front_length
 after-front bytes fails =
     ap (λ (n : ℕ). after_empty_line (after_mail (drop n (10 ∷ bytes)))) (line_length-feed bytes)

@@ -260,7 +260,7 @@ front-joined bytes more ends marked =
 -- ---- all mails
 
 -- what begins with a separator behind the front of such bytes ends as they do
-ends-later : (bytes : List ℕ) (n : ℕ) → EndsEmpty bytes → is_separator (drop n bytes) ≡ true → EndsEmpty (drop n bytes)
+pub ends-later : (bytes : List ℕ) (n : ℕ) → EndsEmpty bytes → is_separator (drop n bytes) ≡ true → EndsEmpty (drop n bytes)
 ends-later bytes n ends marked = elim (cases_lt (length ends.front) n) [
   | inl past ↦
       let place : n ≡ length ends.front + suc (n - length ends.front - 1) = omega arith in
@@ -279,7 +279,7 @@ next-place bytes =
       drop-drop (empty_line rest) (mail_length body) body ∙ drop-drop (mail_length body + empty_line rest) (line_length bytes) bytes,
     )
 
-nothing : (bytes : List ℕ) → is_separator bytes ≡ false → opens bytes ≡ true → bytes ≡ []
+pub nothing : (bytes : List ℕ) → is_separator bytes ≡ false → opens bytes ≡ true → bytes ≡ []
 nothing [] fails h = refl
 nothing (b ∷ bytes) fails h = absurd (false≢true (sym fails ∙ h))
 
@@ -287,7 +287,7 @@ pub unmarked-nil : is_separator [] ≡ false
 unfolding is_separator
 unmarked-nil = refl
 
-all-joined : (n : ℕ) (bytes more : List ℕ) → length bytes ≤ n → is_separator bytes ≡ true → EndsEmpty bytes → is_separator more ≡ true
+pub all-joined : (n : ℕ) (bytes more : List ℕ) → length bytes ≤ n → is_separator bytes ≡ true → EndsEmpty bytes → is_separator more ≡ true
     → entries_from (bytes ++ more) ≡ entries_from bytes ++ entries_from more
 all-joined zero bytes more fits first ends marked = let less = next_entry-shorter bytes first in absurd (omega arith)
 all-joined (suc n) bytes more fits first ends marked =

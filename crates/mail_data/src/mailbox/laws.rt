@@ -1,10 +1,11 @@
 //! Laws on mailboxes. Each function does nothing; its contract is the law.
-ghost use Rattle.std.specs.Prelude.{◌++◌, ◌<◌, ◌≡◌, ◌∷◌, List, Some, drop, ℕ, true};
+ghost use Rattle.std.specs.Prelude.{◌++◌, ◌-◌, ◌<◌, ◌≡◌, ◌≤◌, ◌∷◌, List, Some, drop, length};
+ghost use Rattle.std.specs.Prelude.{ℕ, true};
 ghost use Rattle.std.specs.List.{flat_map};
 ghost use Rattle.mail_codec.specs.Places.{values_below};
 ghost use Rattle.mail_data.specs.Mailbox.{EndsEmpty, Entry, entries, front_length, has_front};
 ghost use Rattle.mail_data.specs.Mailbox.{has_line, settled_entry};
-ghost use Rattle.mail_data.specs.MailboxParts.{part_mails, placed};
+ghost use Rattle.mail_data.specs.MailboxParts.{in_range, part_mails, placed, placed_at};
 ghost use Rattle.mail_data.specs.Separator.{is_separator};
 
 /// A mailbox may be cut before a separator that follows an empty line: the mails of the two
@@ -20,6 +21,14 @@ pub fn mailboxes_join()
 pub fn mailbox_parts_join()
     ensures { (bytes : List ℕ) (count : ℕ) → 0 < count →
         flat_map (λ mails. mails) (values_below count (part_mails bytes count)) ≡ placed bytes }
+{}
+
+/// The mails that begin in a range of places are found without what stands more than three bytes
+/// before the range: before a separator stands an empty line of at most two bytes, and a LF.
+pub fn mailbox_range_stays()
+    ensures { (bytes : List ℕ) (from to : ℕ) → from ≤ length bytes →
+        in_range from to (placed_at (from - 3) (drop (from - 3) bytes))
+        ≡ in_range from to (placed bytes) }
 {}
 
 /// The mail at the front of what was read so far, and that `settled_entry` returns, is the first one
