@@ -34,7 +34,7 @@ written=$(copied | (
 }) || true
 first=$((($(cat "$work/first") - begun) / 1000000))
 tail -n 1 "$work/run" | awk -v bytes="$bytes" -v written="$written" -v first="$first" '{
-    printf "a mailbox of %d bytes: %.1f s, the first line after %.3f s, %d KB; ", bytes, $3, first / 1000, $1
+    printf "a mailbox of %.0f bytes: %.1f s, the first line after %.3f s, %d KB; ", bytes, $3, first / 1000, $1
     printf "%d lines; status %d\n", written, $2
 }'
 [ "$(awk 'END { print $2 }' "$work/run")" = 0 ] || fail 'the run failed'
