@@ -315,6 +315,9 @@ def check_pieces():
             found = run([whole.name]).stdout.replace(json.dumps(whole.name).encode(), b"null")
         same(in_pieces(data, size), found, f"{len(data)} bytes in pieces of {size}")
     same(subjects([], b"".join(mails), 0, "30 mails"), [str(n) for n in range(30)], "30 mails")
+    ended = run(["--progress"], b"".join(mails) * (80_000_000 // len(b"".join(mails)) + 1))
+    told = re.fullmatch(rb"mail_json: standard input: (\d+) bytes, \d+ mails\n", ended.stderr)
+    judge(told and 2**26 <= int(told[1]) < 2**26 + 2**20, "how far a run is")
     with subprocess.Popen([PROGRAM], stdin=subprocess.PIPE, stdout=subprocess.PIPE, bufsize=0) as process:
         process.stdin.write(mails[0] + mails[1][:100])
         judge(select.select([process.stdout], [], [], 10)[0] != [], "the first line before the end")

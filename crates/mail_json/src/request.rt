@@ -15,6 +15,7 @@ an option says which it is:
 
     --mail                       each input is one mail
     --mbox                       each input is a mailbox
+    --progress                   say on standard error how far a long mailbox is read
     --version, --help            print the version, or this help
     --                           what follows are names of files
 
@@ -24,7 +25,7 @@ something could not be read or written, and 2 where the arguments are wrong.
 ";
 
 /// What wrong arguments print.
-pub const USAGE: &str = "usage: mail_json [--mail|--mbox] [FILE|FOLDER..]";
+pub const USAGE: &str = "usage: mail_json [--mail|--mbox] [--progress] [FILE|FOLDER..]";
 
 /// What a run is to do.
 #[derive(Clone, Copy, PartialEq, Eq)]
@@ -50,13 +51,22 @@ pub enum Form {
     Mailbox,
 }
 
+/// How the inputs are read.
+#[derive(Clone, Copy)]
+pub struct How {
+    /// What each input is.
+    pub form: Form,
+    /// Whether a long run says on standard error how far it is.
+    pub tells: bool,
+}
+
 /// What the arguments ask for.
 #[derive(Drop)]
 pub struct Request<'w> {
     /// What the run is to do.
     pub task: Task,
-    /// What each input is.
-    pub form: Form,
+    /// How the inputs are read.
+    pub how: How,
     /// The inputs: `None` for standard input, otherwise a file or a folder.
     pub inputs: Vec<Option<&'w str>>,
     /// Whether `--` came.
@@ -67,7 +77,10 @@ pub struct Request<'w> {
 pub fn request_of<'w>(alloc: Global, words: &'w [String]) -> Result<Request<'w>, AllocError> {
     let mut request = Request {
         task: Task::Write,
-        form: Form::Either,
+        how: How {
+            form: Form::Either,
+            tells: false,
+        },
         inputs: Vec::new(alloc),
         are_names: false,
     };
@@ -95,8 +108,9 @@ impl<'w> Request<'w> {
     /// Takes an option.
     fn take_option(&mut self, option: &str) {
         match option {
-            "--mail" => self.form = Form::Mail,
-            "--mbox" => self.form = Form::Mailbox,
+            "--mail" => self.how.form = Form::Mail,
+            "--mbox" => self.how.form = Form::Mailbox,
+            "--progress" => self.how.tells = true,
             _ => self.decide(Task::Wrong),
         }
     }

@@ -1,14 +1,36 @@
 //! A run over the inputs.
 
 use crate::origin::write_unread;
-use crate::request::{Form, Request};
-use crate::stream::write_input;
+use crate::request::{Form, How, Request};
+use crate::stream::{Watch, write_input};
 use mail_program::Fault;
 use mail_tables::TABLES;
 use std::alloc::{AllocError, Global};
 use std::fs;
 use std::io::{self, BufWriter, ErrorKind, Read, Write};
 use std::rt::Files;
+
+/// After how many bytes of a mailbox a run says how far it is.
+const STEP: usize = 64 * 1024 * 1024;
+
+/// Says on standard error how far a mailbox is read, if that is wanted.
+#[derive(Drop)]
+struct Meter<'r, E: Eprint> {
+    rt: &'r E,
+    file: Option<&'r str>,
+    is_wanted: bool,
+    due: usize,
+}
+
+impl<'r, E: Eprint> Watch for Meter<'r, E> {
+    fn note(&mut self, bytes: usize, mails: usize) {
+        if self.is_wanted && bytes >= self.due {
+            self.due = bytes.saturating_add(STEP);
+            let name = self.file.unwrap_or("standard input");
+            let _ = eprintln!(self.rt; "mail_json: {name}: {bytes} bytes, {mails} mails");
+        }
+    }
+}
 
 /// How a run, or a part of it, went.
 #[derive(Clone, Copy, PartialEq, Eq)]
@@ -74,12 +96,12 @@ fn run_all(
     let mut out = BufWriter::new(rt.alloc(), io::writer(rt))?;
     let mut outcome = Outcome::Clean;
     if request.inputs.is_empty() {
-        outcome = run_input(rt, request.form, None, &mut rt.reader(), &mut out)?;
+        outcome = run_input(rt, request.how, None, &mut rt.reader(), &mut out)?;
     }
     for input in &request.inputs {
         let next = match input {
-            Some(name) => run_path(rt, request.form, name, &mut out)?,
-            None => run_input(rt, request.form, None, &mut rt.reader(), &mut out)?,
+            Some(name) => run_path(rt, request.how, name, &mut out)?,
+            None => run_input(rt, request.how, None, &mut rt.reader(), &mut out)?,
         };
         outcome = outcome.and(next);
     }
@@ -90,13 +112,13 @@ fn run_all(
 /// Writes the mails of a file or a folder.
 fn run_path<W: Write>(
     rt: &(impl Files + Eprint + AllocGlobal + Clone + Drop),
-    form: Form,
+    how: How,
     name: &str,
     out: &mut W,
 ) -> Result<Outcome, Fault> {
     match fs::metadata(rt, name) {
-        Ok(found) if found.is_dir() => run_folder(rt, form, name, out),
-        Ok(_) => run_file(rt, form, name, out),
+        Ok(found) if found.is_dir() => run_folder(rt, how, name, out),
+        Ok(_) => run_file(rt, how, name, out),
         Err(error) => fail(rt, Some(name), &error, out),
     }
 }
@@ -118,7 +140,7 @@ fn fail<W: Write>(
 /// Writes the mails of a file.
 fn run_file<W: Write>(
     rt: &(impl Files + Eprint + AllocGlobal),
-    form: Form,
+    how: How,
     name: &str,
     out: &mut W,
 ) -> Result<Outcome, Fault> {
@@ -127,7 +149,7 @@ fn run_file<W: Write>(
         return fail(rt, Some(name), &error, out);
     }
     match fs::open(rt, name) {
-        Ok(mut file) => run_input(rt, form, Some(name), &mut file, out),
+        Ok(mut file) => run_input(rt, how, Some(name), &mut file, out),
         Err(error) => fail(rt, Some(name), &error, out),
     }
 }
@@ -135,12 +157,18 @@ fn run_file<W: Write>(
 /// Writes the mails of an input.
 fn run_input<R: Read, W: Write>(
     rt: &(impl Eprint + AllocGlobal),
-    form: Form,
+    how: How,
     file: Option<&str>,
     reader: &mut R,
     out: &mut W,
 ) -> Result<Outcome, Fault> {
-    match write_input(rt.alloc(), reader, form, file, out, &TABLES) {
+    let mut meter = Meter {
+        rt,
+        file,
+        is_wanted: how.tells,
+        due: STEP,
+    };
+    match write_input(rt.alloc(), reader, how.form, file, out, &TABLES, &mut meter) {
         Ok(is_clean) => Ok(Outcome::of(is_clean)),
         Err(Fault::Input(error)) => fail(rt, file, &error, out),
         Err(fault) => Err(fault),
@@ -150,23 +178,27 @@ fn run_input<R: Read, W: Write>(
 /// Writes the mails of a folder: those of a Maildir, which has a folder `cur` or `new`, or each file.
 fn run_folder<W: Write>(
     rt: &(impl Files + Eprint + AllocGlobal + Clone + Drop),
-    form: Form,
+    how: How,
     name: &str,
     out: &mut W,
 ) -> Result<Outcome, Fault> {
     let mut outcome = Outcome::Clean;
     let mut is_maildir = false;
+    let mail = How {
+        form: Form::Mail,
+        tells: how.tells,
+    };
     for part in ["cur", "new"] {
         let path = format!(in rt.alloc(); "{name}/{part}")?;
         if is_folder(rt, path.as_str()) {
             is_maildir = true;
-            outcome = outcome.and(run_files(rt, Form::Mail, path.as_str(), out)?);
+            outcome = outcome.and(run_files(rt, mail, path.as_str(), out)?);
         }
     }
     if is_maildir {
         Ok(outcome)
     } else {
-        run_files(rt, form, name, out)
+        run_files(rt, how, name, out)
     }
 }
 
@@ -182,7 +214,7 @@ fn is_folder(rt: &impl Files, name: &str) -> bool {
 /// begin with a dot.
 fn run_files<W: Write>(
     rt: &(impl Files + Eprint + AllocGlobal + Clone + Drop),
-    form: Form,
+    how: How,
     folder: &str,
     out: &mut W,
 ) -> Result<Outcome, Fault> {
@@ -194,7 +226,7 @@ fn run_files<W: Write>(
     names.sort()?;
     for name in &names {
         if !is_folder(rt, name.as_str()) {
-            outcome = outcome.and(run_file(rt, form, name.as_str(), out)?);
+            outcome = outcome.and(run_file(rt, how, name.as_str(), out)?);
         }
     }
     Ok(outcome)

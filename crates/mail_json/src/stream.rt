@@ -28,6 +28,12 @@ pub enum Wanted {
     End,
 }
 
+/// What is told how far the lines of an input are.
+pub trait Watch {
+    /// Takes note of how many bytes of a mailbox are done, and how many mails.
+    fn note(&mut self, bytes: usize, mails: usize);
+}
+
 /// What was written of the mails at the front of a mailbox.
 #[derive(Drop)]
 struct Settled<'a> {
@@ -46,13 +52,14 @@ struct Settled<'a> {
 ///
 /// `Fault::Input` where a read fails, `Fault::Output` where a write fails, and `Fault::Mail` with
 /// `MailParseError::Memory` where it runs out of memory.
-pub fn write_input<R: Read, W: Write>(
+pub fn write_input<R: Read, W: Write, M: Watch>(
     alloc: Global,
     reader: &mut R,
     form: Form,
     file: Option<&str>,
     out: &mut W,
     tables: &[SingleByteTable<'_>],
+    watch: &mut M,
 ) -> Result<bool, Fault>
     ensures { WritesInput (R.remaining reader.old) (R.remaining reader.new)
         (W.contents out.old) (W.contents out.new) result (AreInputLines
@@ -64,7 +71,7 @@ pub fn write_input<R: Read, W: Write>(
         return write_whole(alloc, read.as_slice(), form, file, out, tables);
     }
     if is_mailbox(form, read.as_slice()) {
-        return write_following(alloc, reader, read.as_slice(), file, out, tables);
+        return write_following(alloc, reader, read.as_slice(), file, out, tables, watch);
     }
     read_until(alloc, reader, &mut read, Wanted::End)?;
     write_single(alloc, read.as_slice(), file, out, tables)
@@ -148,13 +155,14 @@ fn is_there(wanted: Wanted, bytes: &[u8]) -> bool
 
 /// Writes the lines of a mailbox of which these bytes were read, the first separator among them.
 /// Returns whether there was no error.
-fn write_following<R: Read, W: Write>(
+fn write_following<R: Read, W: Write, M: Watch>(
     alloc: Global,
     reader: &mut R,
     read: &[u8],
     file: Option<&str>,
     out: &mut W,
     tables: &[SingleByteTable<'_>],
+    watch: &mut M,
 ) -> Result<bool, Fault>
     requires { has_front read.now ≡ true }
     ensures { WritesInput (R.remaining reader.old) (R.remaining reader.new)
@@ -180,6 +188,7 @@ fn write_following<R: Read, W: Write>(
         flush(out)?;
         is_clean &= settled.is_clean;
         next = settled.next;
+        watch.note(next.at, next.number.unwrap_or(1).saturating_sub(1));
         pending = copy(alloc, settled.rest)?;
     }
     Err(Fault::Input(io::Error::from(ErrorKind::Interrupted)))

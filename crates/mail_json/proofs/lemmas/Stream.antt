@@ -13,7 +13,7 @@ use Rattle.mail_data.specs.Separator.{is_separator}
 use Rattle.mail_data.proofs.lemmas.Mailbox.{front_length-none}
 use Rattle.mail_data.proofs.lemmas.MailboxFound.{front-stays, separator-stays}
 use Rattle.mail_data.proofs.lemmas.MailboxParts.{front_length-≤}
-use Rattle.mail_json.specs.Lines.{AreLines, AreLinesOf, AreMailboxLines, IsFront, IsMailLine, Lines, WritesInput, WritesLines, is_mailbox}
+use Rattle.mail_json.specs.Lines.{AreLines, AreLinesOf, AreMailboxLines, IsFront, Lines, WritesInput, WritesLines, is_mailbox}
 use Rattle.mail_json.specs.Stream.{Continues, first_wanted, is_there}
 use Rattle.mail_json.specs.declared.request.Form.{Form}
 use Rattle.mail_json.specs.declared.request.Form.TheVariants.{Either, Mail, Mailbox}

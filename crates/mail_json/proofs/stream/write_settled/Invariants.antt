@@ -1,8 +1,6 @@
 -- Whatever follows, what was written is completed by the lines of the mails that are left.
-use Rattle.std.proofs.Common.{ℕ, List, ◌++◌, length, option_map}
-use Rattle.std.specs.Io.KnownBytes.{Appends}
+use Rattle.std.proofs.Common.{length, option_map}
 use Rattle.mail_codec.specs.Tables.{charsets_with}
-use Rattle.mail_data.specs.Mailbox.{entries}
 use Rattle.mail_json.specs.Stream.{WritesSettled}
 use Rattle.mail_json.proofs.stream.write_settled.Given as goal
 
