@@ -12,3 +12,4 @@ pub mod MailboxParts
 pub mod MailboxRange
 pub mod MailboxFound
 pub mod Separator
+pub mod QuotedLines

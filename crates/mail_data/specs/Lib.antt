@@ -5,6 +5,7 @@ pub mod PartPlaces
 pub mod PlaceViews
 pub mod Lines
 pub mod Separator
+pub mod QuotedLines
 pub mod Mailbox
 pub mod MailboxParts
 pub mod MailboxViews

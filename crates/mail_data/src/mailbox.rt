@@ -9,6 +9,7 @@ ghost use Rattle.mail_data.specs.MailboxViews.{entries_left};
 ghost use Rattle.mail_data.specs.Separator.{is_separator};
 
 pub mod laws;
+pub mod quoted;
 mod separator;
 
 use crate::lines::{empty_line, line_length, line_place};

@@ -1,0 +1,90 @@
+//! Mails of mailboxes in which a writer quotes each line that looks like a separator: the mboxrd
+//! format.
+ghost use Rattle.std.specs.Prelude.{◌≡◌, ◌≤◌, drop, length, IfOk, List, ℕ, true, false};
+ghost use Rattle.mail_data.specs.Lines.{starts_line};
+ghost use Rattle.mail_data.specs.QuotedLines.{is_marked, is_quoted, quote_length, quoted};
+ghost use Rattle.mail_data.specs.QuotedLines.{unquoted, unquoted_line, without_quote};
+
+use crate::lines::line_length;
+use std::alloc::{AllocError, Global};
+
+/// Returns the mail with one `>` taken off each line that is `>`s and then `From ` (the mboxrd
+/// format).
+///
+/// A writer of that format puts one `>` before each such line, and before each line that begins with
+/// `From `, so this is the mail as it was. Takes memory for the result.
+///
+/// # Errors
+///
+/// Where it runs out of memory.
+///
+/// # Examples
+///
+/// ```rust
+/// use mail_data::mailbox::quoted::unquoted;
+///
+/// let mail = unquoted(alloc, b"S: 1\n\n>From here\n>>From there\n> From\n")?;
+/// assert_eq!(rt; mail.as_slice(), b"S: 1\n\nFrom here\n>From there\n> From\n".as_slice());
+/// ```
+pub fn unquoted(alloc: Global, mail: &[u8]) -> Result<Vec<u8>, AllocError>
+    ensures { IfOk result (λ text. text.items ≡ unquoted mail.now) }
+{
+    let mut text = Vec::with_capacity(alloc, mail.len())?;
+    let mut rest = mail;
+    'lines: while !rest.is_empty() {
+        text.extend_from_slice(unquoted_line(rest))?;
+        rest = &rest[line_length(rest)..];
+    }
+    Ok(text)
+}
+
+/// A mail that was quoted and then unquoted is the mail.
+pub fn quoted_mail_returns()
+    ensures { (mail : List ℕ) → unquoted (quoted mail) ≡ mail }
+{}
+
+/// A mail none of whose lines is quoted stays as it is.
+pub fn plain_mail_stays()
+    ensures { (mail : List ℕ) → ((p : ℕ) → starts_line mail p ≡ true →
+        is_quoted (drop p mail) ≡ false) → unquoted mail ≡ mail }
+{}
+
+/// The first line without its `>`, if it is quoted.
+#[tactic(auto, unfolding(crate::specs::QuotedLines::unquoted_line))]
+fn unquoted_line(bytes: &[u8]) -> &[u8]
+    ensures { result.now ≡ unquoted_line bytes.now }
+{
+    let line = without_quote(bytes);
+    &line[..line_length(line)]
+}
+
+/// The bytes without the `>` of the first line, if it is quoted.
+fn without_quote(bytes: &[u8]) -> &[u8]
+    ensures { result.now ≡ without_quote bytes.now }
+{
+    let Some((byte, rest)) = bytes.split_first() else {
+        return bytes;
+    };
+    if *byte == b'>' && is_marked(rest) {
+        rest
+    } else {
+        bytes
+    }
+}
+
+/// Whether `From ` stands behind the `>`s at the front.
+#[tactic(auto, unfolding(crate::specs::QuotedLines::is_marked))]
+fn is_marked(bytes: &[u8]) -> bool
+    ensures { result ≡ is_marked bytes.now }
+{
+    bytes[quote_length(bytes)..].starts_with(b"From ")
+}
+
+/// How many `>` stand at the front.
+#[tactic(auto, unfolding(crate::specs::QuotedLines::quote_length))]
+fn quote_length(bytes: &[u8]) -> usize
+    ensures value { result ≡ quote_length bytes.now }
+    ensures bounds { result ≤ length bytes.now }
+{
+    bytes.iter().take_while(|byte| **byte == b'>').count()
+}
