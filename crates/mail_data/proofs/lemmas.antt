@@ -12,4 +12,6 @@ pub mod MailboxParts
 pub mod MailboxRange
 pub mod MailboxFound
 pub mod Separator
+pub mod CountedMails
+pub mod CountedFound
 pub mod QuotedLines

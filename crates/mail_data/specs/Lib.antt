@@ -9,6 +9,8 @@ pub mod QuotedLines
 pub mod Mailbox
 pub mod MailboxParts
 pub mod MailboxViews
+pub mod CountedMails
+pub mod CountedViews
 pub mod lenient
 pub mod Texts
 pub mod TextViews

@@ -1,6 +1,6 @@
 //! Lenient readings that recover what they can where the strict calls of `mailparse` refuse.
 mod base64;
-mod date;
+pub(crate) mod date;
 mod encoding;
 mod ids;
 

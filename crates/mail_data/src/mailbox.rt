@@ -8,6 +8,7 @@ ghost use Rattle.mail_data.specs.Mailbox.{settled_entry};
 ghost use Rattle.mail_data.specs.MailboxViews.{entries_left};
 ghost use Rattle.mail_data.specs.Separator.{is_separator};
 
+pub mod counted;
 pub mod laws;
 pub mod quoted;
 mod separator;

@@ -130,7 +130,7 @@ separator-stays bytes more low =
 -- ---- the mail
 
 -- what the cut of the mail at the front says, whatever follows
-found : (bytes more : List ℕ) → is_separator (next_entry bytes) ≡ true → line_length (next_entry bytes) < length (next_entry bytes) → Joined bytes more
+pub found : (bytes more : List ℕ) → is_separator (next_entry bytes) ≡ true → line_length (next_entry bytes) < length (next_entry bytes) → Joined bytes more
 found bytes more marked past =
     let cut = cut-found bytes marked in
     let next = next_entry bytes in

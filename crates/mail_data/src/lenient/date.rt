@@ -5,7 +5,7 @@ ghost use Rattle.mail_data.specs.lenient.Date.{date_of, since_1970};
 mod calendar;
 mod error;
 mod fields;
-mod numbers;
+pub(crate) mod numbers;
 mod whitespace;
 mod zones;
 

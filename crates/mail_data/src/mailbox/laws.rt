@@ -1,11 +1,14 @@
 //! Laws on mailboxes. Each function does nothing; its contract is the law.
 ghost use Rattle.std.specs.Prelude.{◌++◌, ◌-◌, ◌<◌, ◌≡◌, ◌≤◌, ◌∷◌, List, Some, drop, length};
-ghost use Rattle.std.specs.Prelude.{ℕ, true};
+ghost use Rattle.std.specs.Prelude.{false, ℕ, true};
 ghost use Rattle.std.specs.List.{flat_map};
 ghost use Rattle.mail_codec.specs.Places.{values_below};
 ghost use Rattle.mail_data.specs.Mailbox.{EndsEmpty, Entry, entries, front_length, has_front};
 ghost use Rattle.mail_data.specs.Mailbox.{has_line, settled_entry};
+ghost use Rattle.mail_data.specs.CountedMails.{counted, settled_counted};
+ghost use Rattle.mail_data.specs.Lines.{starts_line};
 ghost use Rattle.mail_data.specs.MailboxParts.{in_range, part_mails, placed, placed_at};
+ghost use Rattle.mail_data.specs.QuotedLines.{is_quoted, quoted, unquoted};
 ghost use Rattle.mail_data.specs.Separator.{is_separator};
 
 /// A mailbox may be cut before a separator that follows an empty line: the mails of the two
@@ -53,4 +56,23 @@ pub fn settled_front_stays()
     ensures { (read more : List ℕ) → has_front read ≡ true →
         (front_length (read ++ more) ≡ front_length read)
         × (entries (read ++ more) ≡ entries (drop (front_length read) read ++ more)) }
+{}
+
+/// The mail at the front of what was read so far, and that `settled_counted_entry` returns, is the
+/// first one whatever follows; the mails behind it are those of the rest and of what follows.
+pub fn settled_counted_mail_stays()
+    ensures { (read more rest : List ℕ) (entry : Entry) →
+        settled_counted read ≡ Some (entry, rest) →
+        counted (read ++ more) ≡ entry ∷ counted (rest ++ more) }
+{}
+
+/// A mail that was quoted and then unquoted is the mail.
+pub fn quoted_mail_returns()
+    ensures { (mail : List ℕ) → unquoted (quoted mail) ≡ mail }
+{}
+
+/// A mail none of whose lines is quoted stays as it is.
+pub fn plain_mail_stays()
+    ensures { (mail : List ℕ) → ((p : ℕ) → starts_line mail p ≡ true →
+        is_quoted (drop p mail) ≡ false) → unquoted mail ≡ mail }
 {}

@@ -1,8 +1,7 @@
 //! Mails of mailboxes in which a writer quotes each line that looks like a separator: the mboxrd
 //! format.
-ghost use Rattle.std.specs.Prelude.{◌≡◌, ◌≤◌, drop, length, IfOk, List, ℕ, true, false};
-ghost use Rattle.mail_data.specs.Lines.{starts_line};
-ghost use Rattle.mail_data.specs.QuotedLines.{is_marked, is_quoted, quote_length, quoted};
+ghost use Rattle.std.specs.Prelude.{◌≡◌, ◌≤◌, length, IfOk};
+ghost use Rattle.mail_data.specs.QuotedLines.{is_marked, quote_length};
 ghost use Rattle.mail_data.specs.QuotedLines.{unquoted, unquoted_line, without_quote};
 
 use crate::lines::line_length;
@@ -37,17 +36,6 @@ pub fn unquoted(alloc: Global, mail: &[u8]) -> Result<Vec<u8>, AllocError>
     }
     Ok(text)
 }
-
-/// A mail that was quoted and then unquoted is the mail.
-pub fn quoted_mail_returns()
-    ensures { (mail : List ℕ) → unquoted (quoted mail) ≡ mail }
-{}
-
-/// A mail none of whose lines is quoted stays as it is.
-pub fn plain_mail_stays()
-    ensures { (mail : List ℕ) → ((p : ℕ) → starts_line mail p ≡ true →
-        is_quoted (drop p mail) ≡ false) → unquoted mail ≡ mail }
-{}
 
 /// The first line without its `>`, if it is quoted.
 #[tactic(auto, unfolding(crate::specs::QuotedLines::unquoted_line))]

@@ -30,7 +30,7 @@ value-small ds i all short =
     let most = pow-le-pow_right {n = 10} (omega arith) {i = length ds} {j = 9} short in
     omega (arith, part, whole, most)
 
-digit_below : (b : ℕ) → is_ascii_digit b ≡ true → digit_value b < 10
+pub digit_below : (b : ℕ) → is_ascii_digit b ≡ true → digit_value b < 10
 digit_below b h =
     let low : 48 ≤ b = leb-true 48 b (and_left_true (leb 48 b) (leb b 57) h) in
     let high : b ≤ 57 = leb-true b 57 (and_right_true (leb 48 b) (leb b 57) h) in

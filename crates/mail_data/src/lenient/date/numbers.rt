@@ -25,7 +25,7 @@ pub(super) fn small_number(text: &[u8], most: u64) -> Option<(u64, &[u8])>
 }
 
 /// The number that at most nine digits write.
-pub(super) fn number_of(digits: &[u8]) -> u64
+pub(crate) fn number_of(digits: &[u8]) -> u64
     requires digits { AllDigits 10 digits.now }
     requires short { length digits.now ≤ 9 }
     ensures value { result ≡ digits_value 10 digits.now }

@@ -1,0 +1,124 @@
+-- Mailboxes whose mails say in a field Content-Length how many bytes their bodies have: the mboxcl and mboxcl2 formats.
+use Rattle.std.specs.Prelude.{ℕ, zero, suc, ◌+◌, Bool, true, ◌&&◌, ◌||◌, nat_le, nat_lt, Option, Some, None, option_and_then, List, [], ◌∷◌, length, take, drop, codes, if◌then◌else◌}
+use Rattle.std.specs.Char.{is_ascii_digit, is_ascii_whitespace}
+use Rattle.std.specs.Int.{is_in_range}
+use Rattle.std.specs.List.{list_all}
+use Rattle.std.specs.Option.{unwrap_or}
+use Rattle.std.specs.Str.{str_eq_ignore_ascii_case}
+use Rattle.std.specs.Str.Parse.{digits_value}
+use Rattle.mail_codec.specs.Places.{is_empty, trimmed_at_end, trimmed_at_start}
+use Rattle.mail_data.specs.Lines.{after_empty_line, after_line, empty_line, is_empty_line, line_length, line_place}
+use Rattle.mail_data.specs.Mailbox.{Entry, front_length, is_before_text, mail_length}
+use Rattle.mail_data.specs.Separator.{is_separator}
+
+-- ---- the field
+
+-- the name of the field and the colon behind it
+abbrev pub field_start : List ℕ
+field_start = codes "Content-Length:"
+
+-- that field begins here, in letters of any case
+unfoldable pub is_field : List ℕ → Bool
+is_field bytes = str_eq_ignore_ascii_case (take (length field_start) bytes) field_start
+
+-- where the empty line stands that ends the header block, or the length where none does
+unfoldable pub block_place : List ℕ → ℕ
+block_place mail = line_place is_empty_line mail
+
+-- the bytes of the header block, and of the empty line that ends it
+unfoldable pub block_length : List ℕ → ℕ
+block_length mail = block_place mail + empty_line (drop (block_place mail) mail)
+
+-- the number that digits write, 1 to 9 of them
+unfoldable pub number : List ℕ → Option ℕ
+number text = if is_in_range 1 9 (length text) && list_all is_ascii_digit text then Some (digits_value 10 text) else None
+
+-- what stands behind the colon, on the line of the field, without the whitespace round it
+unfoldable pub field_text : List ℕ → List ℕ
+field_text field =
+    trimmed_at_end is_ascii_whitespace
+    (trimmed_at_start is_ascii_whitespace (drop (length field_start) (take (line_length field) field)))
+
+-- the number that the first field Content-Length of a header block writes
+unfoldable pub content_length : List ℕ → Option ℕ
+content_length block = number (field_text (drop (line_place is_field block) block))
+
+-- ---- where a mail ends
+
+-- a separator of at most 1,000 bytes stands here
+unfoldable pub is_short_separator : List ℕ → Bool
+is_short_separator bytes = nat_le (line_length bytes) 1000 && is_separator bytes
+
+-- a counted mail may end here: behind an empty line, if one stands here, stands a separator or nothing
+unfoldable pub may_end : List ℕ → Bool
+may_end bytes =
+    let after = after_empty_line bytes in
+    is_empty after || is_short_separator after
+
+-- the place so many bytes behind the header block, if the mail may end there
+unfoldable pub counted_place : List ℕ → ℕ → Option ℕ
+counted_place mail count =
+    let place = block_length mail + count in
+    if nat_le place (length mail) && may_end (drop place mail) then Some place else None
+
+-- the length that the mail's Content-Length gives, or else that of a mail of any mailbox
+unfoldable pub counted_length : List ℕ → ℕ
+counted_length mail =
+    unwrap_or (option_and_then (counted_place mail) (content_length (take (block_place mail) mail))) (mail_length mail)
+
+-- ---- the mails
+
+-- what follows the mail at the front
+abbrev pub after_counted : List ℕ → List ℕ
+after_counted mail = drop (counted_length mail) mail
+
+-- the mail whose separator stands at the front
+abbrev pub counted_at : List ℕ → Entry
+counted_at bytes = record {
+  separator = take (line_length bytes) bytes;
+  mail = take (counted_length (after_line bytes)) (after_line bytes);
+  ending = take (empty_line (after_counted (after_line bytes))) (after_counted (after_line bytes));
+}
+
+-- what follows that mail
+abbrev pub next_counted : List ℕ → List ℕ
+next_counted bytes = after_empty_line (after_counted (after_line bytes))
+
+-- the mails of bytes that begin with a separator, or of none: no more than so many
+abbrev pub counted_within : ℕ → List ℕ → List Entry
+counted_within zero bytes = []
+counted_within (suc most) bytes =
+    if is_separator bytes then counted_at bytes ∷ counted_within most (next_counted bytes) else []
+
+-- all of them: there are no more than bytes
+unfoldable pub counted_from : List ℕ → List Entry
+counted_from bytes = counted_within (length bytes) bytes
+
+-- the mails of a mailbox
+abbrev pub counted : List ℕ → List Entry
+counted bytes = counted_from (drop (front_length bytes) bytes)
+
+-- ---- what was read so far
+
+-- whether a counted mail may end here is known: behind an empty line, if one stands here, stand more bytes than a separator has,
+-- or a line and at least one byte more
+unfoldable pub is_known : List ℕ → Bool
+is_known bytes =
+    let after = after_empty_line bytes in
+    nat_lt 1000 (length after) || nat_lt (line_length after) (length after)
+
+-- so many bytes behind the header block it is known
+unfoldable pub is_place_known : List ℕ → Option ℕ → Bool
+is_place_known mail None = true
+is_place_known mail (Some count) = is_known (drop (block_length mail + count) mail)
+
+-- it is known where the mail's Content-Length ends it: the empty line behind the header block was read, and its place
+unfoldable pub is_count_known : List ℕ → Bool
+is_count_known mail =
+    nat_lt (block_place mail) (length mail) && is_place_known mail (content_length (take (block_place mail) mail))
+
+-- the mail at the front and what follows it, if that is known and the next separator was read to its end
+unfoldable pub settled_counted : List ℕ → Option (Entry × List ℕ)
+settled_counted bytes =
+    if is_separator bytes && (is_count_known (after_line bytes) && is_before_text (next_counted bytes))
+    then Some (counted_at bytes, next_counted bytes) else None
