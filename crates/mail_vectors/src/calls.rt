@@ -3,6 +3,7 @@
 mod encoded_values;
 mod files;
 mod lenient;
+mod mailbox_forms;
 mod mailboxes;
 mod outlines;
 mod reports;
@@ -21,6 +22,7 @@ pub fn make(alloc: Global, row: &Row, answer: &mut Answer) -> Result<(), MailPar
         || outlines::make(alloc, row, answer)?
         || files::make(alloc, row, answer)?
         || mailboxes::make(alloc, row, answer)?
+        || mailbox_forms::make(alloc, row, answer)?
         || reports::make(alloc, row, answer)?
         || lenient::make(alloc, row, answer)?
         || texts::make(alloc, row, answer)?
