@@ -1,6 +1,6 @@
 //! The calls on mailboxes.
 
-use mail_data::mailbox::{read_mailbox, settled_entry};
+use mail_data::mailbox::{has_front, has_line, is_mailbox, read_mailbox, settled_entry};
 use mail_suite::{Answer, Row};
 use mailparse::MailParseError;
 use std::alloc::Global;
@@ -10,6 +10,7 @@ pub fn make(_alloc: Global, row: &Row, answer: &mut Answer) -> Result<bool, Mail
     match row.call.as_str() {
         "read_mailbox" => list_mails(row, answer)?,
         "settled_entry" => settle(row, answer)?,
+        "settled_front" => settle_front(row, answer)?,
         _ => return Ok(false),
     }
     Ok(true)
@@ -37,5 +38,14 @@ fn settle(row: &Row, answer: &mut Answer) -> Result<(), MailParseError> {
     answer.bytes(entry.mail())?;
     answer.bytes(entry.ending())?;
     answer.bytes(rest)?;
+    Ok(())
+}
+
+/// `settled_front BYTES => IS_MAILBOX HAS_LINE HAS_FRONT`.
+fn settle_front(row: &Row, answer: &mut Answer) -> Result<(), MailParseError> {
+    let bytes = row.bytes(0)?;
+    answer.truth(is_mailbox(bytes))?;
+    answer.truth(has_line(bytes))?;
+    answer.truth(has_front(bytes))?;
     Ok(())
 }
