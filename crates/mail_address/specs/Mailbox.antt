@@ -1,0 +1,104 @@
+-- One mailbox: RFC 5322, sections 3.4 and 4.4.
+use Rattle.std.specs.Prelude.{ℕ, suc, ◌+◌, ◌-◌, Bool, true, false, not, ◌&&◌, ◌||◌, ◌==◌, min, List, [], length, take, drop, Option, Some, None, if◌then◌else◌}
+use Rattle.mail_codec.specs.Ascii.{colon, comma}
+use Rattle.mail_codec.specs.Places.{begins}
+use Rattle.mail_address.specs.declared.tokens.Kind.{Kind}
+use Rattle.mail_address.specs.declared.tokens.Kind.TheVariants.{Blank, Comment, Atom, Quoted, Literal, Angle, Dot, At, Comma, Semicolon, Colon, Opening, Closing, Other}
+use Rattle.mail_address.specs.declared.tokens.Span.{Span}
+use Rattle.mail_address.specs.declared.tokens.Span.TheVariants.{White, Phrase, Word, Atoms, Literals, BeforeAt, BeforeColon, BeforeComma, BeforeSeparator, BeforeMark, InGroup}
+use Rattle.mail_address.specs.Tokens.{at_sign, dot, far, is_all_white, is_in, run, step, front_token}
+
+-- the bytes of a word with the whitespace and comments around it, or 0 where none stands at the front
+unfoldable pub word_len : Span → List ℕ → ℕ
+word_len span text =
+    let white = run White text in
+    let len = step span (drop white text) in
+    if len == 0 then 0 else white + len + run White (drop (white + len) text)
+
+-- the bytes of a dot and the word behind it
+unfoldable pub dot_word_len : Span → List ℕ → ℕ
+dot_word_len span text =
+    let len = word_len span (drop 1 text) in
+    if begins (λ b. b == dot) text && not (len == 0) then 1 + len else 0
+
+-- the bytes are one word
+unfoldable pub is_word : Span → List ℕ → Bool
+is_word span text = not (word_len span text == 0) && word_len span text == length text
+
+-- the bytes are words with dots between them
+unfoldable pub is_dotted : Span → List ℕ → Bool
+is_dotted span text =
+    let len = word_len span text in
+    not (len == 0) && len + far (dot_word_len span) (drop len text) == length text
+
+-- a local part (local-part and obs-local-part in RFC 5322)
+abbrev pub is_local_part : List ℕ → Bool
+is_local_part text = is_dotted Word text
+
+-- a domain (domain and obs-domain)
+unfoldable pub is_domain : List ℕ → Bool
+is_domain text = is_dotted Atoms text || is_word Literals text
+
+-- what follows the whitespace and comments at the front
+unfoldable pub after_white : List ℕ → List ℕ
+after_white text = drop (run White text) text
+
+-- one stop of a route: an `@` and a domain, or nothing
+unfoldable pub is_stop : List ℕ → Bool
+is_stop text =
+    is_all_white text || (begins (λ b. b == at_sign) (after_white text) && is_domain (drop 1 (after_white text)))
+
+-- the bytes of a stop and the comma behind it
+unfoldable pub stop_len : List ℕ → ℕ
+stop_len text =
+    let len = run BeforeComma text in
+    if is_stop (take len text) then min (suc len) (length text) else 0
+
+-- the bytes are a route (obs-domain-list): stops with commas between them, the first with a domain
+unfoldable pub is_route : List ℕ → Bool
+is_route text = begins (λ b. b == at_sign) (after_white text) && far stop_len text == length text
+
+-- what follows the route and its colon (obs-route), or the whole where none stands
+unfoldable pub after_route : List ℕ → List ℕ
+after_route text =
+    let len = run BeforeColon text in
+    if begins (λ b. b == colon) (drop len text) && is_route (take len text) then drop (suc len) text else text
+
+-- a phrase (phrase and obs-phrase): words, and dots after the first word
+unfoldable pub is_phrase : List ℕ → Bool
+is_phrase text = is_in Word (front_token (after_white text)).kind && run Phrase text == length text
+
+-- the parts of a mailbox: what stands for its display name, its local part and its domain, as they are written
+pub record Parts : Type 0 where
+  pub display_name : List ℕ
+  pub local_part : List ℕ
+  pub domain : List ℕ
+
+-- the mailbox of an address (addr-spec): a local part, an `@` and a domain
+unfoldable pub spec_mailbox : List ℕ → List ℕ → Option Parts
+spec_mailbox name text =
+    let len = run BeforeAt text in
+    if begins (λ b. b == at_sign) (drop len text) && (is_local_part (take len text) && is_domain (drop (suc len) text))
+    then Some (record { display_name = name; local_part = take len text; domain = drop (suc len) text }) else None
+
+-- a token in angle brackets
+abbrev pub is_enclosed : Kind → Bool
+is_enclosed Angle = true
+is_enclosed _ = false
+
+-- what stands within the first and the last byte
+abbrev pub within_ends : List ℕ → List ℕ
+within_ends text = take (length text - 2) (drop 1 text)
+
+-- the mailbox of a name, perhaps an empty one, and an address in angle brackets
+unfoldable pub named_mailbox : List ℕ → List ℕ → Option Parts
+named_mailbox name rest =
+    let len = (front_token rest).len in
+    if (is_all_white name || is_phrase name) && is_all_white (drop len rest)
+    then spec_mailbox name (after_route (within_ends (take len rest))) else None
+
+-- the mailbox that a text is, if it is one (mailbox in RFC 5322)
+unfoldable pub mailbox_of : List ℕ → Option Parts
+mailbox_of text =
+    let len = run Phrase text in
+    if is_enclosed (front_token (drop len text)).kind then named_mailbox (take len text) (drop len text) else spec_mailbox [] text

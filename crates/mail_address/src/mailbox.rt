@@ -1,0 +1,244 @@
+//! One mailbox: a local part and a domain, perhaps with a display name.
+ghost use Rattle.std.specs.Prelude.{◌≡◌, ◌+◌, ◌<◌, ◌≤◌, length, option_map};
+ghost use Rattle.mail_address.specs.Mailbox.{after_route, after_white, dot_word_len, is_domain};
+ghost use Rattle.mail_address.specs.Mailbox.{is_dotted, is_enclosed, is_phrase, is_route, is_stop};
+ghost use Rattle.mail_address.specs.Mailbox.{is_word, mailbox_of, named_mailbox, spec_mailbox};
+ghost use Rattle.mail_address.specs.Mailbox.{stop_len, within_ends, word_len};
+ghost use Rattle.mail_address.specs.MailboxViews.{parts};
+ghost use Rattle.mail_address.specs.Tokens.{far};
+
+use crate::tokens::{Kind, Span, begins_at, front_token, is_all_white, is_in, run, step};
+
+/// The parts of a mailbox, as they are written.
+#[derive(Clone, Copy)]
+pub(crate) struct Parts<'a> {
+    pub display_name: &'a [u8],
+    pub local_part: &'a [u8],
+    pub domain: &'a [u8],
+}
+
+/// The bytes of a word with the whitespace and comments around it, or 0.
+#[tactic(auto, unfolding(crate::specs::Mailbox::word_len))]
+fn word_len(span: Span, text: &[u8]) -> usize
+    ensures value { result ≡ word_len span text.now }
+    ensures bounds { result ≤ length text.now }
+{
+    let white = run(Span::White, text);
+    let (_, rest) = text.split_at(white);
+    let len = step(span, rest);
+    if len == 0 {
+        return 0;
+    }
+    let (_, after) = text.split_at(white + len);
+    white + len + run(Span::White, after)
+}
+
+/// The bytes of a dot and the word behind it, or 0.
+#[tactic(auto, unfolding(crate::specs::Mailbox::dot_word_len))]
+fn dot_word_len(span: Span, text: &[u8]) -> usize
+    ensures value { result ≡ dot_word_len span text.now }
+    ensures bounds { result ≤ length text.now }
+{
+    if !begins_at(text, 0, b'.') {
+        return 0;
+    }
+    let (_, rest) = text.split_at(1);
+    let len = word_len(span, rest);
+    if len == 0 { 0 } else { 1 + len }
+}
+
+/// Whether the bytes are one word.
+#[tactic(auto, unfolding(crate::specs::Mailbox::is_word))]
+fn is_word(span: Span, text: &[u8]) -> bool
+    ensures { result ≡ is_word span text.now }
+{
+    let len = word_len(span, text);
+    len != 0 && len == text.len()
+}
+
+/// How many bytes the dots and words at the front have.
+fn dotted_len(span: Span, text: &[u8]) -> usize
+    ensures value { result ≡ far (dot_word_len span) text.now }
+    ensures bounds { result ≤ length text.now }
+{
+    let mut rest = text;
+    'words: loop {
+        let len = dot_word_len(span, rest);
+        if len == 0 {
+            return text.len() - rest.len();
+        }
+        let (_, after) = rest.split_at(len);
+        rest = after;
+    }
+}
+
+/// Whether the bytes are words with dots between them.
+#[tactic(auto, unfolding(crate::specs::Mailbox::is_dotted))]
+fn is_dotted(span: Span, text: &[u8]) -> bool
+    ensures { result ≡ is_dotted span text.now }
+{
+    let len = word_len(span, text);
+    let (_, rest) = text.split_at(len);
+    len != 0 && len + dotted_len(span, rest) == text.len()
+}
+
+/// Whether the bytes are a domain.
+#[tactic(auto, unfolding(crate::specs::Mailbox::is_domain))]
+fn is_domain(text: &[u8]) -> bool
+    ensures { result ≡ is_domain text.now }
+{
+    is_dotted(Span::Atoms, text) || is_word(Span::Literals, text)
+}
+
+/// What follows the whitespace and comments at the front.
+#[tactic(auto, unfolding(crate::specs::Mailbox::after_white))]
+pub(crate) fn after_white(text: &[u8]) -> &[u8]
+    ensures { result.now ≡ after_white text.now }
+{
+    let (_, rest) = text.split_at(run(Span::White, text));
+    rest
+}
+
+/// Whether the bytes are a stop of a route: an `@` and a domain, or nothing.
+#[tactic(auto, unfolding(crate::specs::Mailbox::is_stop))]
+fn is_stop(text: &[u8]) -> bool
+    ensures { result ≡ is_stop text.now }
+{
+    if is_all_white(text) {
+        return true;
+    }
+    let rest = after_white(text);
+    if !begins_at(rest, 0, b'@') {
+        return false;
+    }
+    let (_, domain) = rest.split_at(1);
+    is_domain(domain)
+}
+
+/// The bytes of a stop and the comma behind it, or 0.
+#[tactic(auto, unfolding(crate::specs::Mailbox::stop_len))]
+fn stop_len(text: &[u8]) -> usize
+    ensures value { result ≡ stop_len text.now }
+    ensures bounds { result ≤ length text.now }
+{
+    let len = run(Span::BeforeComma, text);
+    let (stop, _) = text.split_at(len);
+    if is_stop(stop) {
+        text.len().min(len + 1)
+    } else {
+        0
+    }
+}
+
+/// How many bytes the stops at the front have.
+fn stops_len(text: &[u8]) -> usize
+    ensures value { result ≡ far stop_len text.now }
+    ensures bounds { result ≤ length text.now }
+{
+    let mut rest = text;
+    'stops: loop {
+        let len = stop_len(rest);
+        if len == 0 {
+            return text.len() - rest.len();
+        }
+        let (_, after) = rest.split_at(len);
+        rest = after;
+    }
+}
+
+/// Whether the bytes are a route.
+#[tactic(auto, unfolding(crate::specs::Mailbox::is_route))]
+fn is_route(text: &[u8]) -> bool
+    ensures { result ≡ is_route text.now }
+{
+    begins_at(after_white(text), 0, b'@') && stops_len(text) == text.len()
+}
+
+/// What follows the route and its colon, or the whole where none stands.
+#[tactic(auto, unfolding(crate::specs::Mailbox::after_route))]
+fn after_route(text: &[u8]) -> &[u8]
+    ensures { result.now ≡ after_route text.now }
+{
+    let len = run(Span::BeforeColon, text);
+    let (route, _) = text.split_at(len);
+    if begins_at(text, len, b':') && is_route(route) {
+        let (_, rest) = text.split_at(len + 1);
+        return rest;
+    }
+    text
+}
+
+/// Whether the bytes are a phrase.
+#[tactic(auto, unfolding(crate::specs::Mailbox::is_phrase))]
+pub(crate) fn is_phrase(text: &[u8]) -> bool
+    ensures { result ≡ is_phrase text.now }
+{
+    is_in(Span::Word, front_token(after_white(text)).kind) && run(Span::Phrase, text) == text.len()
+}
+
+/// The mailbox of a name and the bytes of an address, if they are one.
+#[tactic(auto, unfolding(crate::specs::Mailbox::spec_mailbox))]
+fn spec_mailbox<'a>(name: &'a [u8], text: &'a [u8]) -> Option<Parts<'a>>
+    ensures { option_map parts result ≡ spec_mailbox name.now text.now }
+{
+    let len = run(Span::BeforeAt, text);
+    if !begins_at(text, len, b'@') {
+        return None;
+    }
+    let (local_part, _) = text.split_at(len);
+    let (_, domain) = text.split_at(len + 1);
+    if is_dotted(Span::Word, local_part) && is_domain(domain) {
+        Some(Parts {
+            display_name: name,
+            local_part,
+            domain,
+        })
+    } else {
+        None
+    }
+}
+
+/// Whether a token stands in angle brackets.
+fn is_enclosed(kind: Kind) -> bool
+    ensures { result ≡ is_enclosed kind }
+{
+    matches!(kind, Kind::Angle)
+}
+
+/// What stands within the first and the last byte.
+fn within_ends(text: &[u8]) -> &[u8]
+    ensures { result.now ≡ within_ends text.now }
+{
+    if text.len() < 2 {
+        return &text[..0];
+    }
+    let (_, rest) = text.split_at(1);
+    let (inner, _) = rest.split_at(text.len() - 2);
+    inner
+}
+
+/// The mailbox of a name and an address in angle brackets, if they are one.
+#[tactic(auto, unfolding(crate::specs::Mailbox::named_mailbox))]
+fn named_mailbox<'a>(name: &'a [u8], rest: &'a [u8]) -> Option<Parts<'a>>
+    ensures { option_map parts result ≡ named_mailbox name.now rest.now }
+{
+    let (enclosed, after) = rest.split_at(front_token(rest).len);
+    if (is_all_white(name) || is_phrase(name)) && is_all_white(after) {
+        spec_mailbox(name, after_route(within_ends(enclosed)))
+    } else {
+        None
+    }
+}
+
+/// The mailbox that a text is, if it is one.
+#[tactic(auto, unfolding(crate::specs::Mailbox::mailbox_of))]
+pub(crate) fn mailbox_of(text: &[u8]) -> Option<Parts<'_>>
+    ensures { option_map parts result ≡ mailbox_of text.now }
+{
+    let (name, rest) = text.split_at(run(Span::Phrase, text));
+    if is_enclosed(front_token(rest).kind) {
+        named_mailbox(name, rest)
+    } else {
+        spec_mailbox(&text[..0], text)
+    }
+}
