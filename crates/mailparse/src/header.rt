@@ -253,6 +253,58 @@ impl<'a> MailHeader<'a> {
     }
 }
 
+/// Returns the text that some bytes show as the value of a header, as `get_value` reads it (RFC
+/// 5322, section 2.2.3; RFC 2047, sections 2, 4 and 6.2), as for a part of a value.
+///
+/// Takes memory for the text. Control characters stay in it, as with `get_value`.
+///
+/// # Errors
+///
+/// `MailParseError::Memory` where it runs out of memory.
+///
+/// # Examples
+///
+/// ```rust
+/// use mailparse::value_text;
+///
+/// assert_eq!(rt; value_text(alloc, b"=?utf-8?Q?caf=C3=A9?=")?.as_str(), "café");
+/// ```
+pub fn value_text(alloc: Global, value: &[u8]) -> Result<String, MailParseError>
+    ensures { GivesText result (lenient_value value.now) }
+{
+    let header = MailHeader { key: value, value };
+    header.get_value(alloc)
+}
+
+/// Returns the text that some bytes show as the value of a header, as `get_value_with` reads it
+/// (RFC 2047, section 2).
+///
+/// Takes memory for the text. Control characters stay in it, as with `get_value`.
+///
+/// # Errors
+///
+/// `MailParseError::Memory` where it runs out of memory.
+///
+/// # Examples
+///
+/// ```rust
+/// use mailparse::{SingleByteTable, value_text_with};
+///
+/// let tables = [SingleByteTable { labels: &["x-euro"], high: &['€'; 128] }];
+/// let text = value_text_with(alloc, b"=?X-Euro?Q?5_=80?=", &tables)?;
+/// assert_eq!(rt; text.as_str(), "5 €");
+/// ```
+pub fn value_text_with(
+    alloc: Global,
+    value: &[u8],
+    tables: &[SingleByteTable<'_>],
+) -> Result<String, MailParseError>
+    ensures { GivesText result (lenient_value_in (charsets_with tables.now) value.now) }
+{
+    let header = MailHeader { key: value, value };
+    header.get_value_with(alloc, tables)
+}
+
 /// Shows the key and the value, with U+FFFD for bytes that are not UTF-8.
 impl fmt::Debug for MailHeader<'_> {
     fn fmt<W: fmt::Write>(&self, f: &mut fmt::Formatter<W>) -> fmt::Result {

@@ -37,7 +37,7 @@ pub use disposition::{
     parse_content_disposition_with,
 };
 pub use error::{Base64Fault, MailParseError, QuotedPrintableFault, Wrapped};
-pub use header::MailHeader;
+pub use header::{MailHeader, value_text, value_text_with};
 pub use header::parse::parse_header;
 pub use headers::block::parse_headers;
 pub use headers::map::MailHeaderMap;
