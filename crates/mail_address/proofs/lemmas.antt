@@ -1,2 +1,4 @@
 pub mod Tokens
 pub mod Addresses
+pub mod Text
+pub mod Order

@@ -3,5 +3,11 @@ pub mod Mailbox
 pub mod MailboxViews
 pub mod Addresses
 pub mod AddressViews
+pub mod Text
+pub mod Order
 pub use Rattle.mail_codec.specs.Ascii
 pub use Rattle.mail_codec.specs.Places
+pub use Rattle.mail_codec.specs.Charset
+pub use Rattle.mail_codec.specs.Tables
+pub use Rattle.mailparse.specs.Outcome
+pub use Rattle.mailparse.specs.Value

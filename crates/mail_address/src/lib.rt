@@ -8,8 +8,10 @@
 //! The examples stand in a function that has the runtime `rt` and its allocator `alloc`.
 #![tactic(auto)]
 
+pub mod laws;
 mod list;
 mod mailbox;
+mod text;
 mod tokens;
 
 pub use list::{Address, AddressList, Group, Mailbox, Member, Unknown, read_addresses};

@@ -1,7 +1,12 @@
 //! A list of addresses: mailboxes, groups, and what is no address.
 ghost use Rattle.std.specs.Prelude.{◌≡◌, ◌++◌, ◌+◌, ◌<◌, ◌≤◌, ◌^◌, ◌==◌, true, length, map, IfOk, OnOk};
 ghost use Rattle.std.specs.Prelude.{IfSome, MatchOption, ◌∷◌, [], take, option_map, drop};
+ghost use Rattle.std.specs.Prelude.{string_bytes};
 ghost use Rattle.mail_codec.specs.Places.{begins};
+ghost use Rattle.mail_codec.specs.Tables.{charsets_with};
+ghost use Rattle.mailparse.specs.Outcome.{GivesText};
+ghost use Rattle.mailparse.specs.Value.{lenient_value, lenient_value_in, value_text};
+ghost use Rattle.mail_address.specs.Text.{address_bytes, phrase_text};
 ghost use Rattle.mail_address.specs.Addresses.{addresses, after_name, element_at, element_len};
 ghost use Rattle.mail_address.specs.Addresses.{group_at, group_len, inner_len, is_group};
 ghost use Rattle.mail_address.specs.Addresses.{is_separator, member_at, member_len, members_at};
@@ -9,7 +14,9 @@ ghost use Rattle.mail_address.specs.Addresses.{name_len, separator_len, single_a
 ghost use Rattle.mail_address.specs.AddressViews.{element_view, group_view, member_view};
 
 use crate::mailbox::{is_phrase, mailbox_of};
+use crate::text::{address_text, name_text, name_text_with};
 use crate::tokens::{Span, begins_at, is_all_white, run};
+use mailparse::{MailParseError, SingleByteTable};
 use std::alloc::{AllocError, Global};
 
 /// A mailbox (RFC 5322, section 3.4). Its parts are the bytes as they are written, with the
@@ -26,6 +33,95 @@ pub struct Mailbox<'a> {
     pub local_part: &'a [u8],
     /// What follows the `@`.
     pub domain: &'a [u8],
+}
+
+impl<'a> Mailbox<'a> {
+    /// Returns the display name as text: without quotes and comments, with one space for
+    /// whitespace, and then with its encoded words decoded (RFC 5322, section 3.4; RFC 2047).
+    ///
+    /// The text is empty where there is no name. Whatever it holds, as `<` or a comma, it is a name
+    /// and no address. Takes memory for the text.
+    ///
+    /// # Errors
+    ///
+    /// `MailParseError::Memory` where it runs out of memory.
+    ///
+    /// # Examples
+    ///
+    /// ```rust
+    /// use mail_address::{Address, read_addresses};
+    ///
+    /// for address in &read_addresses(alloc, b"=?utf-8?q?Doe=2C_Ann?= <ann@example.org>")? {
+    ///     if let Address::Mailbox(mailbox) = address {
+    ///         assert_eq!(rt; mailbox.get_display_name(alloc)?.as_str(), "Doe, Ann");
+    ///     }
+    /// }
+    /// ```
+    pub fn get_display_name(&self, alloc: Global) -> Result<String, MailParseError>
+        ensures { GivesText result (lenient_value (phrase_text self.now.display_name.now)) }
+    {
+        name_text(alloc, self.display_name)
+    }
+
+    /// Returns the display name as `get_display_name` does, where encoded words may also be in the
+    /// charsets of some tables (RFC 2047, section 2).
+    ///
+    /// Takes memory for the text.
+    ///
+    /// # Errors
+    ///
+    /// `MailParseError::Memory` where it runs out of memory.
+    ///
+    /// # Examples
+    ///
+    /// ```rust
+    /// use mail_address::{Address, read_addresses};
+    /// use mailparse::SingleByteTable;
+    ///
+    /// let tables = [SingleByteTable { labels: &["x-euro"], high: &['€'; 128] }];
+    /// for address in &read_addresses(alloc, b"=?x-euro?q?=80?= <ann@example.org>")? {
+    ///     if let Address::Mailbox(mailbox) = address {
+    ///         assert_eq!(rt; mailbox.get_display_name_with(alloc, &tables)?.as_str(), "€");
+    ///     }
+    /// }
+    /// ```
+    pub fn get_display_name_with(
+        &self,
+        alloc: Global,
+        tables: &[SingleByteTable<'_>],
+    ) -> Result<String, MailParseError>
+        ensures { GivesText result (lenient_value_in (charsets_with tables.now)
+            (phrase_text self.now.display_name.now)) }
+    {
+        name_text_with(alloc, self.display_name, tables)
+    }
+
+    /// Returns the address in canonical form, `local@domain`: without comments and whitespace, and
+    /// with quotes only where the local part needs them (RFC 5322, section 3.4.1).
+    ///
+    /// Bytes that are not UTF-8 are read as Latin-1. Takes memory for the text.
+    ///
+    /// # Errors
+    ///
+    /// Where it runs out of memory.
+    ///
+    /// # Examples
+    ///
+    /// ```rust
+    /// use mail_address::{Address, read_addresses};
+    ///
+    /// for address in &read_addresses(alloc, b"\"ann\"@(home)example . org")? {
+    ///     if let Address::Mailbox(mailbox) = address {
+    ///         assert_eq!(rt; mailbox.get_address(alloc)?.as_str(), "ann@example.org");
+    ///     }
+    /// }
+    /// ```
+    pub fn get_address(&self, alloc: Global) -> Result<String, AllocError>
+        ensures { IfOk result (λ text. string_bytes text
+            ≡ value_text (address_bytes self.now.local_part.now self.now.domain.now)) }
+    {
+        address_text(alloc, self.local_part, self.domain)
+    }
 }
 
 /// What stands between two commas and is no address.
@@ -57,6 +153,67 @@ pub struct Group<'a> {
     pub display_name: &'a [u8],
     /// Its members, in order.
     pub members: Vec<Member<'a>>,
+}
+
+impl<'a> Group<'a> {
+    /// Returns the display name as text: without quotes and comments, with one space for
+    /// whitespace, and then with its encoded words decoded (RFC 5322, section 3.4; RFC 2047).
+    ///
+    /// Takes memory for the text.
+    ///
+    /// # Errors
+    ///
+    /// `MailParseError::Memory` where it runs out of memory.
+    ///
+    /// # Examples
+    ///
+    /// ```rust
+    /// use mail_address::{Address, read_addresses};
+    ///
+    /// for address in &read_addresses(alloc, b"=?utf-8?q?All=2C?=:;")? {
+    ///     if let Address::Group(group) = address {
+    ///         assert_eq!(rt; group.get_display_name(alloc)?.as_str(), "All,");
+    ///     }
+    /// }
+    /// ```
+    pub fn get_display_name(&self, alloc: Global) -> Result<String, MailParseError>
+        ensures { GivesText result (lenient_value (phrase_text self.now.display_name.now)) }
+    {
+        name_text(alloc, self.display_name)
+    }
+
+    /// Returns the display name as `get_display_name` does, where encoded words may also be in the
+    /// charsets of some tables (RFC 2047, section 2).
+    ///
+    /// Takes memory for the text.
+    ///
+    /// # Errors
+    ///
+    /// `MailParseError::Memory` where it runs out of memory.
+    ///
+    /// # Examples
+    ///
+    /// ```rust
+    /// use mail_address::{Address, read_addresses};
+    /// use mailparse::SingleByteTable;
+    ///
+    /// let tables = [SingleByteTable { labels: &["x-euro"], high: &['€'; 128] }];
+    /// for address in &read_addresses(alloc, b"=?x-euro?q?=80?=:;")? {
+    ///     if let Address::Group(group) = address {
+    ///         assert_eq!(rt; group.get_display_name_with(alloc, &tables)?.as_str(), "€");
+    ///     }
+    /// }
+    /// ```
+    pub fn get_display_name_with(
+        &self,
+        alloc: Global,
+        tables: &[SingleByteTable<'_>],
+    ) -> Result<String, MailParseError>
+        ensures { GivesText result (lenient_value_in (charsets_with tables.now)
+            (phrase_text self.now.display_name.now)) }
+    {
+        name_text_with(alloc, self.display_name, tables)
+    }
 }
 
 /// An element of a list of addresses.

@@ -74,7 +74,7 @@ fn dotted_len(span: Span, text: &[u8]) -> usize
 
 /// Whether the bytes are words with dots between them.
 #[tactic(auto, unfolding(crate::specs::Mailbox::is_dotted))]
-fn is_dotted(span: Span, text: &[u8]) -> bool
+pub(crate) fn is_dotted(span: Span, text: &[u8]) -> bool
     ensures { result ≡ is_dotted span text.now }
 {
     let len = word_len(span, text);
@@ -206,7 +206,7 @@ fn is_enclosed(kind: Kind) -> bool
 }
 
 /// What stands within the first and the last byte.
-fn within_ends(text: &[u8]) -> &[u8]
+pub(crate) fn within_ends(text: &[u8]) -> &[u8]
     ensures { result.now ≡ within_ends text.now }
 {
     if text.len() < 2 {

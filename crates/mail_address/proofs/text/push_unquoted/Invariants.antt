@@ -1,0 +1,7 @@
+-- The text so far, and then what the rest stands for, is the whole text.
+use Rattle.std.proofs.Common.{◌≡◌, ◌++◌, false, drop}
+use Rattle.mail_address.specs.Text.{unquoted}
+use Rattle.mail_address.proofs.text.push_unquoted.Given as goal
+
+abbrev pub invariant-loop-byte : goal.invariant-loop-byte
+invariant-loop-byte l = l.text.items ++ unquoted l.is_quoted (drop l.byte-index l.bytes) ≡ l.fn.text.items ++ unquoted false l.bytes

@@ -1,0 +1,235 @@
+//! The text of names and addresses, without quotes, comments and folding.
+ghost use Rattle.std.specs.Prelude.{◌≡◌, ◌++◌, ◌<◌, ◌≤◌, ◌||◌, ◌==◌, false, length, flat_map, IfOk, OnOk, string_bytes};
+ghost use Rattle.std.specs.List.{list_all};
+ghost use Rattle.mail_codec.specs.Tables.{charsets_with};
+ghost use Rattle.mailparse.specs.Outcome.{GivesText};
+ghost use Rattle.mailparse.specs.Value.{lenient_value, lenient_value_in, value_text};
+ghost use Rattle.mail_address.specs.Text.{address_bytes, bare, escaped_byte, front_len};
+ghost use Rattle.mail_address.specs.Text.{front_meaning, local_text, meaning, needs_no_quotes};
+ghost use Rattle.mail_address.specs.Text.{phrase_text, quoted_text, unquoted, word_or_space};
+ghost use Rattle.mail_address.specs.Text.{word_or_white_len, words_text};
+ghost use Rattle.mail_address.specs.Tokens.{dot, is_atom_byte};
+
+use crate::mailbox::{after_white, is_dotted, within_ends};
+use crate::tokens::{Kind, Span, front_token, is_all_white, is_atom_byte, run, step};
+use mail_codec::charset::{SingleByteTable, decode_latin1};
+use mailparse::{MailParseError, value_text, value_text_with};
+use std::alloc::{AllocError, Global};
+use std::str;
+
+/// Appends the bytes without each backslash that quotes the byte behind it.
+fn push_unquoted(text: &mut Vec<u8>, bytes: &[u8]) -> Result<(), AllocError>
+    ensures { OnOk result (text.new.items ≡ text.old.items ++ unquoted false bytes.now) }
+{
+    let mut is_quoted = false;
+    for byte in bytes {
+        let byte = *byte;
+        if !is_quoted && byte == b'\\' {
+            is_quoted = true;
+        } else {
+            is_quoted = false;
+            text.push(byte)?;
+        }
+    }
+    Ok(())
+}
+
+/// Appends what a token stands for.
+fn push_meaning(text: &mut Vec<u8>, kind: Kind, bytes: &[u8]) -> Result<(), AllocError>
+    ensures { OnOk result (text.new.items ≡ text.old.items ++ meaning kind bytes.now) }
+{
+    match kind {
+        Kind::Quoted => push_unquoted(text, within_ends(bytes)),
+        Kind::Blank | Kind::Comment => Ok(()),
+        _ => Ok(text.extend_from_slice(bytes)?),
+    }
+}
+
+/// The bytes of the token at the front.
+#[tactic(auto, unfolding(crate::specs::Text::front_len))]
+fn front_len(bytes: &[u8]) -> usize
+    ensures value { result ≡ front_len bytes.now }
+    ensures bounds { result ≤ length bytes.now }
+    ensures some { 0 < length bytes.now → 0 < result }
+{
+    front_token(bytes).len
+}
+
+/// Appends what the token at the front stands for.
+#[tactic(auto, unfolding(crate::specs::Text::front_meaning))]
+fn push_front(text: &mut Vec<u8>, bytes: &[u8]) -> Result<(), AllocError>
+    ensures { OnOk result (text.new.items ≡ text.old.items ++ front_meaning bytes.now) }
+{
+    let (front, _) = bytes.split_at(front_len(bytes));
+    push_meaning(text, front_token(bytes).kind, front)
+}
+
+/// What a local part or a domain stands for.
+#[tactic(auto, unfolding(crate::specs::Text::bare))]
+fn bare(alloc: Global, bytes: &[u8]) -> Result<Vec<u8>, AllocError>
+    ensures { IfOk result (λ text. text.items ≡ bare bytes.now) }
+{
+    let mut text = Vec::new(alloc);
+    let mut rest = bytes;
+    'tokens: while !rest.is_empty() {
+        push_front(&mut text, rest)?;
+        let len = front_len(rest);
+        let (_, after) = rest.split_at(len);
+        rest = after;
+    }
+    Ok(text)
+}
+
+/// The bytes of the token at the front, or of the whitespace and comments.
+#[tactic(auto, unfolding(crate::specs::Text::word_or_white_len))]
+fn word_or_white_len(bytes: &[u8]) -> usize
+    ensures value { result ≡ word_or_white_len bytes.now }
+    ensures bounds { result ≤ length bytes.now }
+{
+    if step(Span::White, bytes) == 0 {
+        front_len(bytes)
+    } else {
+        run(Span::White, bytes)
+    }
+}
+
+/// Appends what stands at the front of a phrase: a space for whitespace and comments, except at the
+/// end.
+#[tactic(auto, unfolding(crate::specs::Text::word_or_space))]
+fn push_word(text: &mut Vec<u8>, bytes: &[u8]) -> Result<(), AllocError>
+    ensures { OnOk result (text.new.items ≡ text.old.items ++ word_or_space bytes.now) }
+{
+    if is_all_white(bytes) {
+        return Ok(());
+    }
+    if step(Span::White, bytes) == 0 {
+        return push_front(text, bytes);
+    }
+    text.push(b' ')?;
+    Ok(())
+}
+
+/// What a phrase stands for, before its encoded words are decoded.
+#[tactic(auto, unfolding(crate::specs::Text::phrase_text))]
+fn phrase_text(alloc: Global, bytes: &[u8]) -> Result<Vec<u8>, AllocError>
+    ensures { IfOk result (λ text. text.items ≡ phrase_text bytes.now) }
+{
+    words_text(alloc, after_white(bytes))
+}
+
+/// What a phrase stands for that begins with a word.
+fn words_text(alloc: Global, phrase: &[u8]) -> Result<Vec<u8>, AllocError>
+    ensures { IfOk result (λ text. text.items ≡ words_text phrase.now) }
+{
+    let mut text = Vec::new(alloc);
+    let mut rest = phrase;
+    'words: while !rest.is_empty() {
+        push_word(&mut text, rest)?;
+        let len = word_or_white_len(rest);
+        let (_, after) = rest.split_at(len);
+        rest = after;
+    }
+    Ok(text)
+}
+
+/// Whether a local part needs no quotes.
+#[tactic(auto, unfolding(crate::specs::Text::needs_no_quotes))]
+fn needs_no_quotes(text: &[u8]) -> bool
+    ensures { result ≡ needs_no_quotes text.now }
+{
+    is_plain(text) && is_dotted(Span::Atoms, text)
+}
+
+/// Whether all bytes are those of atoms, or dots.
+fn is_plain(text: &[u8]) -> bool
+    ensures { result ≡ list_all (λ b. is_atom_byte b || b == dot) text.now }
+{
+    text.iter().all(|byte| is_atom_byte(*byte) || *byte == b'.')
+}
+
+/// Appends a text as it is written within quotes.
+fn push_escaped(out: &mut Vec<u8>, text: &[u8]) -> Result<(), AllocError>
+    ensures { OnOk result (out.new.items ≡ out.old.items ++ flat_map escaped_byte text.now) }
+{
+    for byte in text {
+        let byte = *byte;
+        if byte == b'"' || byte == b'\\' {
+            out.push(b'\\')?;
+        }
+        out.push(byte)?;
+    }
+    Ok(())
+}
+
+/// Appends a local part in canonical form.
+#[tactic(auto, unfolding(crate::specs::Text::local_text, crate::specs::Text::quoted_text))]
+fn push_local(alloc: Global, out: &mut Vec<u8>, local_part: &[u8]) -> Result<(), AllocError>
+    ensures { OnOk result (out.new.items ≡ out.old.items ++ local_text local_part.now) }
+{
+    let text = bare(alloc, local_part)?;
+    if needs_no_quotes(text.as_slice()) {
+        out.extend_from_slice(text.as_slice())?;
+        return Ok(());
+    }
+    out.push(b'"')?;
+    push_escaped(out, text.as_slice())?;
+    out.push(b'"')?;
+    Ok(())
+}
+
+/// An address in canonical form, as bytes.
+#[tactic(auto, unfolding(crate::specs::Text::address_bytes))]
+fn address_bytes(alloc: Global, local_part: &[u8], domain: &[u8]) -> Result<Vec<u8>, AllocError>
+    ensures { IfOk result (λ out. out.items ≡ address_bytes local_part.now domain.now) }
+{
+    let mut out = Vec::new(alloc);
+    push_local(alloc, &mut out, local_part)?;
+    out.push(b'@')?;
+    let domain = bare(alloc, domain)?;
+    out.extend_from_slice(domain.as_slice())?;
+    Ok(out)
+}
+
+/// The text of some bytes: UTF-8, or Latin-1 where they are not that.
+fn bytes_text(alloc: Global, bytes: &[u8]) -> Result<String, AllocError>
+    ensures { IfOk result (λ text. string_bytes text ≡ value_text bytes.now) }
+{
+    match str::from_utf8(bytes) {
+        Ok(text) => Ok(String::from_str(alloc, text)?),
+        Err(_) => Ok(decode_latin1(alloc, bytes)?.into_owned(alloc)?),
+    }
+}
+
+/// The text of an address in canonical form.
+pub(crate) fn address_text(
+    alloc: Global,
+    local_part: &[u8],
+    domain: &[u8],
+) -> Result<String, AllocError>
+    ensures { IfOk result (λ text.
+        string_bytes text ≡ value_text (address_bytes local_part.now domain.now)) }
+{
+    let bytes = address_bytes(alloc, local_part, domain)?;
+    Ok(bytes_text(alloc, bytes.as_slice())?)
+}
+
+/// The text of a phrase: its encoded words are decoded last.
+pub(crate) fn name_text(alloc: Global, phrase: &[u8]) -> Result<String, MailParseError>
+    ensures { GivesText result (lenient_value (phrase_text phrase.now)) }
+{
+    let text = phrase_text(alloc, phrase)?;
+    value_text(alloc, text.as_slice())
+}
+
+/// The text of a phrase, under the tables too.
+pub(crate) fn name_text_with(
+    alloc: Global,
+    phrase: &[u8],
+    tables: &[SingleByteTable<'_>],
+) -> Result<String, MailParseError>
+    ensures { GivesText result
+        (lenient_value_in (charsets_with tables.now) (phrase_text phrase.now)) }
+{
+    let text = phrase_text(alloc, phrase)?;
+    value_text_with(alloc, text.as_slice(), tables)
+}
