@@ -1,6 +1,7 @@
 #!/bin/sh
-# check_scripts.sh: calls each script of this folder, and mail_show and mail_json through symbolic links from
-# another folder, with `--help` and with wrong arguments; a program also with a file that is missing.
+# check_scripts.sh: calls each script of this folder, and mail_show, mail_json and mail_extract through
+# symbolic links from another folder, with `--help` and with wrong arguments; a program also with a file that
+# is missing.
 #
 # A call for help has to write to standard output alone and end with status 0. Another call has to write to
 # standard error alone and end with status 2, or 1 where a file is missing. Each has 20 seconds. Where a
@@ -33,20 +34,29 @@ check_calls() {
     check 2 err "$1" --no-such-option
 }
 
+# fresh COMMAND..: runs it where the folder `into` is empty
+fresh() {
+    rm -rf into
+    mkdir into
+    "$@"
+}
+
 # check_program NAME: the calls of a program and of its link
 check_program() {
     ln -s "$top/$1" "$1"
     check_calls "./$1"
     check 2 err "./$1" ''
-    # of a file that is missing mail_json writes a line too
-    [ "$1" = mail_json ] || check 1 err env BUILT=only "./$1" no/such/file
+    # of a file that is missing mail_json and mail_extract write a line too
+    [ "$1" != mail_show ] || check 1 err env BUILT=only "./$1" no/such/file
     if program=$(BUILT=only "$here/program.sh" "$1" 2> /dev/null); then
         check_calls "$program"
         check 0 out "$program" no/such/argument -h
         check 2 err "$program" mail ''
-        "$program" < mail > wanted
-        "$program" mail > named
-        if "./$1" < mail | cmp -s - wanted && "./$1" mail | cmp -s - named; then
+        into=
+        [ "$1" != mail_extract ] || into='--into into'
+        # shellcheck disable=SC2086
+        if fresh "$program" $into < mail > wanted && fresh "$program" $into mail > named &&
+            fresh "./$1" $into < mail | cmp -s - wanted && fresh "./$1" $into mail | cmp -s - named; then
             pass
         else
             fail "$1 through a symbolic link is not what the program writes"
@@ -65,5 +75,6 @@ cp "$top/samples/attachment.eml" mail
 check_program mail_show
 check 2 err ./mail_show mail mail
 check_program mail_json
+check_program mail_extract
 check_calls "$top/test"
 finish

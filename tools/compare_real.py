@@ -1,10 +1,12 @@
 #!/usr/bin/env python3
-"""Compares what mail_json and mail_jobs say of real mails with what Python's email package reads of them.
+"""Compares what mail_json, mail_jobs and mail_extract make of real mails with what Python's email package does.
 
 Each PLACE is a mail, a mailbox (a file that begins with `From `) or a folder of such files. The mails are read
-for four jobs: the index (subject, from, date, id), the attachments (names and sizes), the recipients that a
+for five jobs: the index (subject, from, to, cc, date, id), the texts of parts, the attachments (names and sizes;
+the bytes that mail_extract saves; and whether these have all that `iter_attachments` gives), the recipients that a
 delivery report says were not reached, and the threads (the ids of the mails before it). Both sides read
 the same mailbox, into which all are put; so a line that begins with `From ` begins with `>From ` there.
+tools/fetch_real.sh fetches mails to compare.
 
 For each item it prints in how many mails it differs, in how many of these it is refused here and in how many
 by Python, and some of them: the mail, what is said here, and what Python says. The item `mail` are those that are
@@ -14,17 +16,22 @@ mail_jobs reads of it. The last line says how many mails agree in all. The statu
 import argparse
 import collections
 import email
+import email.policy
 import json
 import os
 import re
 import subprocess
 import sys
+import tempfile
 
-from read_by_email import ids, is_file, body_of, mails_of, parts_of, raw_value, seconds, value_of
+from read_by_email import body_of, ids, is_file, mails_of, parts_of, raw_value, seconds, shown, text_of, value_of
 from shared.programs import built_program
 
 BATCH = 1000
-ITEMS = ("mail", "subject", "from", "date", "id", "attachments", "not reached", "parents")
+ITEMS = (
+    "mail", "subject", "from", "to", "cc", "date", "id", "texts", "attachments", "bytes", "iter_attachments",
+    "not reached", "parents",
+)
 ESCAPE = re.compile(r"\\(u\{([0-9a-f]+)\}|.)")
 FILE = re.compile(r'^file ([0-9.]*): ".*", ([0-9]+) bytes', re.M)
 NAMED = {"n": "\n", "r": "\r", "t": "\t", "0": "\0"}
@@ -71,9 +78,9 @@ def quoted(mail):
 
 
 def ran(words, data):
-    """What a program writes of a mailbox, with the status 1 where a mail is refused."""
+    """What a program writes of a mailbox, with the status 3, or 1, where a mail is refused."""
     ended = subprocess.run(words, input=data, stdout=subprocess.PIPE, check=False)
-    if ended.returncode not in (0, 1):
+    if ended.returncode not in (0, 1, 3):
         sys.exit(f"{words[0]} ended with status {ended.returncode}")
     return ended.stdout.decode("utf-8")
 
@@ -99,8 +106,9 @@ def unescaped(text):
     return ESCAPE.sub(lambda found: chr(int(found[2], 16)) if found[2] else NAMED.get(found[1], found[1]), text[1:-1])
 
 
-def said_here(line, job):
-    """What is said here of each item of a mail: its line of mail_json, and its lines of mail_jobs."""
+def said_here(line, job, saved):
+    """What is said here of each item of a mail: its line of mail_json, its lines of mail_jobs, and the bytes that
+    mail_extract saved, by their paths."""
     mail = json.loads(line)
     if "error" in mail:
         return {"mail": Refused(mail["error"])}
@@ -111,11 +119,16 @@ def said_here(line, job):
         "mail": None,
         "subject": mail["subject"],
         "from": mail["from"],
+        "to": mail["to"],
+        "cc": mail["cc"],
         "date": Refused(mail["date_error"]) if "date_error" in mail else mail["date"],
         "id": mail["message_id"][0] if mail["message_id"] else None,
         "attachments": [
             (part["file_name"], read.get(part["path"]) if "error" in part else part["decoded_size"]) for part in files
         ],
+        "texts": [(part["path"], part["text"]) for part in mail["parts"] if part["text"] is not None],
+        "bytes": saved,
+        "iter_attachments": set(saved.values()),
         "not reached": [unescaped(text) for text in missed],
         "parents": once(mail["references"] + mail["in_reply_to"]),
     }
@@ -137,12 +150,39 @@ def sizes(mail):
     return [(part.get_filename(), len(body_of(part))) for _path, part in parts_of(mail) if is_file(part)]
 
 
+def own_id(mail):
+    """The id of a mail, which may have no `@`."""
+    found = re.search(r"<([^<>]*)>", shown(raw_value(mail, "message-id")) or "")
+    return found[1] if found else None
+
+
+def texts(mail):
+    """The texts of a mail with the paths of their parts."""
+    found = ((path, text_of(part, body_of(part))) for path, part in parts_of(mail) if not part.is_multipart())
+    return [(path, text) for path, text in found if text is not None]
+
+
+def contents(mail):
+    """The bytes of the files of a mail, by their paths."""
+    return {path: body_of(part) for path, part in parts_of(mail) if is_file(part)}
+
+
+def attachments(data):
+    """The bytes of what `iter_attachments` gives of a mail, but for forwarded mails and what has parts."""
+    mail = email.message_from_bytes(data, policy=email.policy.default)
+    return {body_of(part) for part in mail.iter_attachments() if not part.is_multipart()}
+
+
 READERS = {
     "subject": lambda mail: value_of(mail, "subject"),
     "from": lambda mail: value_of(mail, "from"),
+    "to": lambda mail: value_of(mail, "to"),
+    "cc": lambda mail: value_of(mail, "cc"),
     "date": lambda mail: seconds(raw_value(mail, "date")),
-    "id": lambda mail: next(iter(ids(raw_value(mail, "message-id"))), None),
+    "id": own_id,
+    "texts": texts,
     "attachments": sizes,
+    "bytes": contents,
     "not reached": not_reached,
     "parents": lambda mail: once(ids(raw_value(mail, "references")) + ids(raw_value(mail, "in-reply-to"))),
 }
@@ -156,7 +196,30 @@ def said_there(data):
             said[item] = reader(email.message_from_bytes(data))
         except Exception as error:  # what the package raises is not said anywhere
             said[item] = Refused(f"{type(error).__name__}: {error}")
+    try:
+        said["iter_attachments"] = attachments(data)
+    except Exception as error:  # as above
+        said["iter_attachments"] = Refused(f"{type(error).__name__}: {error}")
     return said
+
+
+def differs(item, here, there):
+    """Whether both sides differ in an item. We save more than `iter_attachments` gives, which enters no part."""
+    if item == "iter_attachments" and isinstance(here, set) and isinstance(there, set):
+        return not there <= here
+    return here != there
+
+
+def saved_by(program, mailbox):
+    """The bytes of the files that mail_extract saves of a mailbox: by the number of the mail, and by the path."""
+    found = collections.defaultdict(dict)
+    with tempfile.TemporaryDirectory() as folder:
+        for line in ran([program, "--into", folder], mailbox).splitlines():
+            saved = json.loads(line)
+            if saved["saved"] is not None:
+                with open(os.path.join(folder, saved["saved"]), "rb") as file:
+                    found[saved["number"]][saved["path"]] = file.read()
+    return found
 
 
 class Counts:
@@ -172,7 +235,7 @@ class Counts:
     def add(self, name, here, there):
         """Counts a mail."""
         self.mails += 1
-        wrong = [item for item in here if here[item] != there[item]]
+        wrong = [item for item in here if differs(item, here[item], there[item])]
         self.same += not wrong
         for item in wrong:
             self.differ[item, "all"] += 1
@@ -198,8 +261,9 @@ def compare(batch, programs, counts):
     jobs = list(records(ran([programs["mail_jobs"]], mailbox)))
     if not len(lines) == len(jobs) == len(batch):
         sys.exit(f"{len(batch)} mails are {len(lines)} lines of mail_json and {len(jobs)} records of mail_jobs")
-    for (name, mail), line, job in zip(batch, lines, jobs):
-        counts.add(name, said_here(line, job), said_there(mail))
+    saved = saved_by(programs["mail_extract"], mailbox)
+    for number, ((name, mail), line, job) in enumerate(zip(batch, lines, jobs), 1):
+        counts.add(name, said_here(line, job, saved[number]), said_there(mail))
 
 
 def main():
@@ -211,7 +275,7 @@ def main():
     missing = [place for place in asked.places if not os.path.exists(place)]
     if missing:
         parser.error(f"{missing[0]} is not there")
-    programs = {name: built_program(name) for name in ("mail_json", "mail_jobs")}
+    programs = {name: built_program(name) for name in ("mail_json", "mail_jobs", "mail_extract")}
     counts = Counts(asked.show)
     batch = []
     for name, mail in mails_at(asked.places):

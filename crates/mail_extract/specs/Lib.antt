@@ -1,0 +1,7 @@
+pub mod Names
+pub mod Folder
+pub mod Content
+pub mod Save
+pub mod SaveViews
+pub mod Lines
+pub mod LineViews

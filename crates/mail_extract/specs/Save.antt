@@ -1,0 +1,68 @@
+-- What saving the files of a mail does to a folder; the program's own rule.
+use Rattle.std.specs.Prelude.{◌≡◌, ℕ, suc, ◌+◌, ◌-◌, ◌^◌, ◌<◌, ◌≤◌, ◌⊎◌, Bool, true, false, List, [], ◌∷◌, ◌++◌, length, map, Option, Some, None, is_some}
+use Rattle.mail_codec.specs.Charset.{Charsets}
+use Rattle.mailparse.specs.Mail.{Tree, root}
+use Rattle.mailparse.specs.Refusal.{Refusal}
+use Rattle.mail_data.specs.Files.{attachments_in, file_name_in}
+use Rattle.mail_extract.specs.Content.{Content, content}
+use Rattle.mail_extract.specs.Folder.{File, has_file}
+use Rattle.mail_extract.specs.Names.{IsNumbered, wanted_name}
+
+-- a file that is to be saved: the path of its part, the name that is wanted, and its content
+pub record Wanted : Type 0 where
+  pub path : List ℕ
+  pub name : List ℕ
+  pub content : Content
+
+-- what became of it: its path, the name under which it was saved if it was, how many bytes it has, and whether there is an error
+pub record Outcome : Type 0 where
+  pub path : List ℕ
+  pub saved : Option (List ℕ)
+  pub size : ℕ
+  pub has_error : Bool
+
+-- Of a folder that may fail or not, and the name that is wanted for a file.
+module _ (can_fail : Bool) (name : List ℕ) where
+  -- the name with each number from there on and below a bound is taken
+  abbrev pub AreTaken : List File → ℕ → ℕ → Type 0
+  AreTaken files from bound = (n : ℕ) → from ≤ n → n < bound → (text : List ℕ) × IsNumbered name n text × (has_file text files ≡ true)
+
+  -- a file was saved under the name with the least number from there on that is free; or it was not, since the folder failed or no such number is
+  -- below 2^64 - 1. The next number is the one after it
+  abbrev pub IsKeptNumbered : List File → List ℕ → ℕ → Option (List ℕ) → ℕ → List File → Type 0
+  IsKeptNumbered files bytes from (Some text) next now =
+      (n : ℕ) × (next ≡ n + 1) × (from ≤ n) × AreTaken files from n × IsNumbered name n text × (has_file text files ≡ false)
+      × (now ≡ files ++ (text, bytes) ∷ [])
+  IsKeptNumbered files bytes from None next now = (now ≡ files) × ((can_fail ≡ true) ⊎ AreTaken files from (2 ^ 64 - 1))
+
+  -- the same under the name itself where that is free
+  abbrev pub IsKept : List File → List ℕ → ℕ → Option (List ℕ) → ℕ → List File → Type 0
+  IsKept files bytes from saved next now =
+      ((has_file name files ≡ false) × (saved ≡ Some name) × (next ≡ from) × (now ≡ files ++ (name, bytes) ∷ []))
+      ⊎ ((has_file name files ≡ true) × IsKeptNumbered files bytes from saved next now)
+      ⊎ ((can_fail ≡ true) × (saved ≡ None) × (now ≡ files))
+
+-- Of a folder that may fail or not.
+module _ (can_fail : Bool) where
+  -- a file was saved, and this was said of it
+  pub record IsSaved (files : List File) (wanted : Wanted) (from : ℕ) (outcome : Outcome) (next : ℕ) (now : List File) : Type 0 where
+    pub kept : IsKept can_fail wanted.name files wanted.content.bytes from outcome.saved next now
+    pub path : outcome.path ≡ wanted.path
+    pub size : outcome.size ≡ length wanted.content.bytes
+    pub damaged : is_some wanted.content.refusal ≡ true → outcome.has_error ≡ true
+    pub failed : outcome.saved ≡ None → outcome.has_error ≡ true
+
+  -- files were saved one after another
+  abbrev pub AreSaved : List File → List Wanted → ℕ → List Outcome → ℕ → List File → Type 0
+  AreSaved files [] from [] next now = (next ≡ from) × (now ≡ files)
+  AreSaved files (wanted ∷ others) from (outcome ∷ outcomes) next now =
+      (then : List File) × (number : ℕ) × IsSaved files wanted from outcome number then × AreSaved then others number outcomes next now
+  AreSaved files _ from _ next now = ⊥
+
+-- a part as it is to be saved, under the charsets that are known
+abbrev pub wanted : Charsets → List ℕ × Tree → Wanted
+wanted known p = record { path = p.0; name = wanted_name (file_name_in known (root p.1)); content = content (root p.1) }
+
+-- the files of a mail as they are to be saved
+abbrev pub wanted_files : Charsets → Tree → List Wanted
+wanted_files known mail = map (wanted known) (attachments_in known mail)

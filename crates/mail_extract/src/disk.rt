@@ -1,0 +1,51 @@
+//! A folder of the file system.
+ghost use Rattle.std.specs.Prelude.{true, None};
+
+use crate::folder::{Created, Folder};
+use std::alloc::AllocError;
+use std::fs::{self, File};
+use std::io::{ErrorKind, Write};
+use std::rt::Files;
+
+/// A folder of the file system. No contract sees what it holds.
+#[derive(Drop)]
+pub struct Disk<'r, R> {
+    /// What reaches the file system.
+    pub rt: &'r R,
+    /// The path of the folder.
+    pub path: &'r str,
+}
+
+impl<'r, R: Files + AllocGlobal> Folder for Disk<'r, R> {
+    ghost held = { λ disk. None };
+
+    ghost can_fail = { true };
+
+    /// A file that could not be written to its end is taken away again.
+    fn create(&mut self, name: &str, bytes: &[u8]) -> Result<Created, AllocError> {
+        let folder = self.path;
+        let path = format!(in self.rt.alloc(); "{folder}/{name}")?;
+        Ok(write_new(self.rt, path.as_str(), bytes))
+    }
+}
+
+/// Makes a file at this path, unless something is there.
+fn write_new(rt: &impl Files, path: &str, bytes: &[u8]) -> Created {
+    let mut file = match File::create_new(rt, path) {
+        Ok(file) => file,
+        Err(error) => {
+            return if error.kind() == ErrorKind::AlreadyExists {
+                Created::Taken
+            } else {
+                Created::Failed(error)
+            };
+        }
+    };
+    match file.write_all(bytes) {
+        Ok(()) => Created::Made,
+        Err(error) => {
+            let _ = fs::remove_file(rt, path);
+            Created::Failed(error)
+        }
+    }
+}

@@ -1,0 +1,55 @@
+//! Saves the files that mails carry: `mail_extract [--into FOLDER] [FILE..]`.
+#![tactic(auto)]
+
+mod content;
+mod disk;
+mod folder;
+mod lines;
+mod names;
+mod request;
+mod run;
+mod save;
+
+use mail_program::{Fault, VERSION, arguments};
+use request::{HELP, Task, USAGE, request_of};
+use run::{Outcome, run};
+use std::io;
+use std::process::ExitCode;
+
+fn main(rt: HostRuntime) -> ExitCode {
+    let words = match arguments(&rt) {
+        Ok(words) => words,
+        Err(error) => {
+            let _ = eprintln!(rt; "mail_extract: the arguments could not be read: {error}");
+            return ExitCode::FAILURE;
+        }
+    };
+    let Ok(request) = request_of(rt.alloc(), words.as_slice()) else {
+        let _ = eprintln!(rt; "mail_extract: out of memory");
+        return ExitCode::FAILURE;
+    };
+    match request.task {
+        Task::Help => printed(&rt, rt.print(HELP)),
+        Task::Version => printed(&rt, println!(rt; "mail_extract {VERSION}")),
+        Task::Wrong => {
+            let _ = eprintln!(rt; "{USAGE}");
+            ExitCode::from(2)
+        }
+        Task::Save => match run(&rt, &request) {
+            Outcome::Clean => ExitCode::SUCCESS,
+            Outcome::Refused => ExitCode::from(3),
+            Outcome::Failed => ExitCode::FAILURE,
+        },
+    }
+}
+
+/// The status where something was to be printed; says on standard error why it was not.
+fn printed(rt: &impl Eprint, outcome: io::Result<()>) -> ExitCode {
+    match outcome {
+        Ok(()) => ExitCode::SUCCESS,
+        Err(error) => {
+            let _ = eprintln!(rt; "mail_extract: {}", Fault::Output(error));
+            ExitCode::FAILURE
+        }
+    }
+}

@@ -1,0 +1,84 @@
+//! The names under which files are saved.
+ghost use Rattle.std.specs.Prelude.{◌≡◌, IfOk, string_bytes};
+ghost use Rattle.mail_codec.specs.Places.{begins};
+ghost use Rattle.mailparse.specs.Map.{text_found};
+ghost use Rattle.mail_data.specs.FileNames.{IsSafeName};
+ghost use Rattle.mail_extract.specs.Names.{IsNumbered, IsNumberedBefore, is_refused_first};
+ghost use Rattle.mail_extract.specs.Names.{visible_name, wanted_name};
+
+use mail_data::files::safe_file_name;
+use std::alloc::{AllocError, Global};
+
+/// The most bytes of a name that stay before a number.
+const MOST_STEM: usize = 200;
+
+/// The name that is wanted for a file to which its sender gave this name.
+pub fn wanted_name(alloc: Global, name: Option<String>) -> Result<String, AllocError>
+    ensures read { IfOk result (λ text. string_bytes text ≡ wanted_name (text_found name)) }
+    ensures safe { IfOk result (λ text. IsSafeName (string_bytes text)) }
+{
+    match name {
+        Some(name) => visible_name(alloc, name.as_str()),
+        None => visible_name(alloc, "unnamed"),
+    }
+}
+
+/// A name made safe, after `_` where it begins with `.` or `-`.
+#[tactic(auto, unfolding(crate::specs::Names::visible_name))]
+fn visible_name(alloc: Global, name: &str) -> Result<String, AllocError>
+    ensures read { IfOk result (λ text. string_bytes text ≡ visible_name name.now) }
+    ensures safe { IfOk result (λ text. IsSafeName (string_bytes text)) }
+{
+    if is_refused_first(name.as_bytes()) {
+        let name = format!(in alloc; "_{name}")?;
+        let safe = safe_file_name(alloc, name.as_str())?;
+        return Ok(safe);
+    }
+    let safe = safe_file_name(alloc, name)?;
+    Ok(safe)
+}
+
+/// Whether a name begins with `.` or `-`.
+fn is_refused_first(name: &[u8]) -> bool
+    ensures { result ≡ begins is_refused_first name.now }
+{
+    match name {
+        [first, ..] => *first == b'.' || *first == b'-',
+        [] => false,
+    }
+}
+
+/// A name with a hyphen and a number before its ending.
+pub fn numbered(alloc: Global, name: &str, number: u64) -> Result<String, AllocError>
+    ensures read { IfOk result (λ text. IsNumbered name.now number (string_bytes text)) }
+    ensures safe { IfOk result (λ text. IsSafeName (string_bytes text)) }
+{
+    match name.rsplit_once('.') {
+        Some((stem, rest)) => {
+            let ending = format!(in alloc; ".{rest}")?;
+            let text = numbered_before(alloc, stem, number, ending.as_str())?;
+            Ok(text)
+        }
+        None => {
+            let text = numbered_before(alloc, name, number, "")?;
+            Ok(text)
+        }
+    }
+}
+
+/// A text with a hyphen and a number before an ending.
+fn numbered_before(
+    alloc: Global,
+    stem: &str,
+    number: u64,
+    ending: &str,
+) -> Result<String, AllocError>
+    ensures read { IfOk result (λ text.
+        IsNumberedBefore stem.now ending.now number (string_bytes text)) }
+    ensures safe { IfOk result (λ text. IsSafeName (string_bytes text)) }
+{
+    let (front, _) = stem.split_at(stem.floor_char_boundary(MOST_STEM));
+    let text = format!(in alloc; "{front}-{number}{ending}")?;
+    let safe = safe_file_name(alloc, text.as_str())?;
+    Ok(safe)
+}

@@ -1,0 +1,64 @@
+#!/bin/sh
+# fetch_real.sh FOLDER: takes mails out of Debian's source packages, the test data of mail software, and
+# puts them into FOLDER, which must not be there, in a folder for each package.
+#
+# It needs apt-get, dpkg-source and a way to Debian's registry, and changes nothing of the system. A file
+# counts as a mail if it stands among tests and its first line is a header, or a separator of a mailbox. A
+# package that cannot be fetched is left out and named. The mails are not ours: commit none of them.
+#
+# The last line is `N mails of M packages`; the status is 1 where there is none.
+arguments='FOLDER'
+. "$(dirname "$0")/prelude.sh"
+packages='python3.11 notmuch gmime kmime kf5-messagelib rspamd spamassassin maildir-utils mailman3
+    libmime-tools-perl libemail-mime-perl libmail-box-perl'
+[ ! -e "$1" ] || usage "$1 is there"
+mkdir "$1" 2> /dev/null || usage "$1 cannot be made"
+folder=$(cd "$1" && pwd)
+make_work
+cd "$work"
+mkdir -p lists/partial cache/archives/partial
+cat > sources.list << 'EOF'
+deb-src http://deb.debian.org/debian bookworm main
+EOF
+
+# apt WORD..: apt-get with lists of its own
+apt() {
+    apt-get -q -q -o "Dir::Etc::sourcelist=$work/sources.list" -o Dir::Etc::sourceparts=- \
+        -o "Dir::State::lists=$work/lists" -o "Dir::Cache=$work/cache" "$@"
+}
+
+# take NAME: puts the mails of an unpacked source into the folder, numbered in the order of their paths
+take() {
+    mkdir -p "$folder/$1"
+    number=0
+    find source -type f -size -2000k | LC_ALL=C sort > files
+    while read -r file; do
+        case $file in
+            */t/* | */test/* | */tests/* | */test_* | */testdata/* | */testmsgs/* | */autotests/*) ;;
+            *) continue ;;
+        esac
+        if head -n 1 "$file" | LC_ALL=C grep -aqE '^(From |[A-Za-z][A-Za-z0-9-]*:( |$))' &&
+            head -n 60 "$file" | LC_ALL=C grep -aqiE '^(from|to|date|subject|received|message-id|content-type|mime-version):'; then
+            number=$((number + 1))
+            cp "$file" "$folder/$1/$(printf '%04d' "$number")-$(basename "$file")"
+        fi
+    done < files
+    echo "$1: $number mails" >&2
+    [ "$number" -gt 0 ] || rmdir "$folder/$1"
+}
+
+apt update
+taken=0
+for name in $packages; do
+    rm -rf source ./*.dsc ./*.tar.* ./*.diff.gz
+    if apt source --download-only "$name" > log 2>&1 &&
+        dpkg-source --no-check --skip-patches -x ./*.dsc source > log 2>&1; then
+        take "$name"
+        [ ! -d "$folder/$name" ] || taken=$((taken + 1))
+    else
+        echo "$name could not be fetched: $(tail -n 1 log)" >&2
+    fi
+done
+mails=$(find "$folder" -type f | wc -l)
+echo "$mails mails of $taken packages"
+[ "$mails" -gt 0 ]
