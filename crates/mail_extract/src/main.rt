@@ -5,10 +5,14 @@ mod content;
 mod disk;
 mod folder;
 mod lines;
+#[cfg(test)]
+mod memory;
 mod names;
 mod request;
 mod run;
 mod save;
+#[cfg(test)]
+mod tests;
 
 use mail_program::{Fault, VERSION, arguments};
 use request::{HELP, Task, USAGE, request_of};

@@ -1,9 +1,9 @@
 -- Lemmas on files that are saved one after another.
-use Rattle.std.proofs.Common.{◌≡◌, ℕ, ◌+◌, ◌<◌, ◌≤◌, Bool, true, List, [], ◌∷◌, ◌++◌, length, map, Option, Some, None, is_some, option_and_then, Ok, refl, sym, ap, subst, append_assoc, arith, ⊎_elim, ◌∙◌}
+use Rattle.std.proofs.Common.{◌≡◌, ℕ, ◌+◌, ◌<◌, ◌≤◌, Bool, true, ◌||◌, List, [], ◌∷◌, ◌++◌, length, map, Option, Some, None, is_some, option_and_then, Ok, refl, sym, ap, subst, append_assoc, arith, ⊎_elim, ◌∙◌}
 use Rattle.std.proofs.lemmas.Bool.{cases_lt}
 use Rattle.std.proofs.lemmas.List.{append-nil, map_push}
 use Rattle.std.proofs.lemmas.List.Elements.{All-push}
-use Rattle.std.specs.List.{All}
+use Rattle.std.specs.List.{All, list_any}
 use Rattle.mailparse.specs.Refusal.{Reads}
 use Rattle.mail_extract.specs.Content.{Content}
 use Rattle.mail_extract.specs.Folder.{Creates, File, has_file}
@@ -91,3 +91,8 @@ module _ (can_fail : Bool) (files : List File) (all : List Wanted) (from : ℕ) 
       subst (λ (os : List Outcome). Continues os (map wants rest) next now) (sym (ap (map view) made ∙ map_push view xs x))
       (saved_more (map view xs) (wants b) (map wants rest) number next mid now (view x) one
       (subst (λ (bs : List _). Continues (map view xs) (map wants bs) number mid) e here))
+
+-- whether one of them passes a test, seen by a view
+pub list_any_map : {A B : Type 0} (p : B → Bool) (f : A → B) (xs : List A) → list_any p (map f xs) ≡ list_any (λ x. p (f x)) xs
+list_any_map p f [] = refl
+list_any_map p f (x ∷ xs) = ap (λ t. p (f x) || t) (list_any_map p f xs)
