@@ -1,21 +1,29 @@
 //! Mails inside mails.
-ghost use Rattle.std.specs.Prelude.{◌≡◌, ◌≤◌, ◌++◌, option_map, IfErr, IfOk, OnOk, Ok};
+ghost use Rattle.std.specs.Prelude.{◌≡◌, ◌≤◌, ◌||◌, ◌++◌, option_map, IfErr, IfOk, OnOk, Ok};
+ghost use Rattle.mail_codec.specs.Tables.{charsets_with};
 ghost use Rattle.mailparse.specs.Mail.{root};
 ghost use Rattle.mailparse.specs.Outcome.{AnswersOrMemory, IsMemory};
 ghost use Rattle.mailparse.specs.Views.{tree_of};
-ghost use Rattle.mail_data.specs.Forwarding.{bytes_inside, forwarded, forwards, mail_inside};
-ghost use Rattle.mail_data.specs.Forwarding.{mails_inside};
+ghost use Rattle.mail_data.specs.Forwarding.{bytes_inside, forwarded, forwarded_bytes};
+ghost use Rattle.mail_data.specs.Forwarding.{forwarded_in, forwards, mail_inside, mails_inside};
+ghost use Rattle.mail_data.specs.Forwarding.{readable};
 ghost use Rattle.mail_data.specs.ForwardingViews.{bytes_of_each};
+ghost use Rattle.mail_data.specs.lenient.Encoding.{lenient_body_kind};
 
-use mailparse::{MAX_LEVELS, MailParseError, ParsedMail, parse_mail, parse_mail_limited};
+use crate::lenient::{base64_front, lenient_body};
+use mailparse::body::Body;
+use mailparse::{
+    MAX_LEVELS, MailParseError, ParsedMail, SingleByteTable, parse_mail, parse_mail_limited,
+    parse_mail_with,
+};
 use std::alloc::Global;
 
 /// Returns the mail that a part forwards, read as `parse_mail_limited` reads it with parts at most
 /// `levels` levels below it, or `None` where the part forwards none: its type has to be
-/// `message/rfc822` (RFC 2046, section 5.2.1).
+/// `message/rfc822` (RFC 2046, section 5.2.1) or `message/global` (RFC 6532, section 3.7).
 ///
-/// The mail borrows the bytes of the part's body as they are: a transfer encoding, which such a
-/// part must not have, is not undone. A forwarded mail may itself forward another; that one is read
+/// The mail borrows the bytes of the part's body as they are: a transfer encoding is not undone, as
+/// `forwarded_bytes` does. A forwarded mail may itself forward another; that one is read
 /// by a further call, so the caller decides how deep to go. The caller proves that `levels` is at
 /// most `MAX_LEVELS`. Takes memory as `parse_mail_limited` does, and for the name of the transfer
 /// encoding.
@@ -53,6 +61,98 @@ pub fn forwarded<'m>(
     match parse_mail_limited(alloc, raw, levels) {
         Ok(mail) => Ok(Some(mail)),
         Err(error) => Err(error),
+    }
+}
+
+/// Returns the mail that a part forwards as `forwarded` does, but read as `parse_mail_with` reads it,
+/// so types may also be in the charsets of some tables (RFC 2046, section 5.2.1; RFC 2231, section
+/// 4).
+///
+/// Takes memory as `parse_mail_with` does, and for the name of the transfer encoding.
+///
+/// # Errors
+///
+/// Those of `parse_mail_with`: `MailParseError::Generic` where the mail that is forwarded is
+/// refused, and `MailParseError::Memory` where it runs out of memory.
+///
+/// # Examples
+///
+/// ```rust
+/// use mail_data::forwarding::forwarded_with;
+/// use mailparse::parse_mail;
+///
+/// let mail = parse_mail(alloc, b"Content-Type: message/global\n\nSubject: inside\n\nHi")?;
+/// let inside = forwarded_with(alloc, &mail, &[])?.ok_or("no mail")?;
+/// assert_eq!(rt; inside.headers.len(), 1);
+/// ```
+pub fn forwarded_with<'m>(
+    alloc: Global,
+    part: &'m ParsedMail<'_>,
+    tables: &[SingleByteTable<'_>],
+) -> Result<Option<ParsedMail<'m>>, MailParseError>
+    ensures { AnswersOrMemory (λ mail. option_map tree_of mail) result
+        (forwarded_in (charsets_with tables.now) 100 (root (tree_of part.now))) }
+{
+    if !forwards(part) {
+        return Ok(None);
+    }
+    let raw = raw_body(alloc, part)?;
+    match parse_mail_with(alloc, raw, tables) {
+        Ok(mail) => Ok(Some(mail)),
+        Err(error) => Err(error),
+    }
+}
+
+/// Returns the bytes of the mail that a part forwards, or `None` where it forwards none (RFC 2046,
+/// section 5.2.1; RFC 6532, section 3.7). A transfer encoding is undone, as `lenient_body` finds it.
+///
+/// Some programs send a forwarded mail in Base64 or quoted-printable; `parse_mail` reads the bytes
+/// that are returned. Of a Base64 that is damaged they are those before the damage. Takes memory
+/// for the bytes and for the name of the transfer encoding.
+///
+/// # Errors
+///
+/// `MailParseError::Memory` where it runs out of memory.
+///
+/// # Examples
+///
+/// ```rust
+/// use mail_data::forwarding::forwarded_bytes;
+/// use mailparse::parse_mail;
+///
+/// let raw = b"Content-Type: message/rfc822\nContent-Transfer-Encoding: base64\n\nUzogYQoKSGk=";
+/// let mail = parse_mail(alloc, raw)?;
+/// let bytes = forwarded_bytes(alloc, &mail)?.ok_or("no mail")?;
+/// assert_eq!(rt; bytes.as_slice(), b"S: a\n\nHi".as_slice());
+/// ```
+#[tactic(auto, unfolding(crate::specs::Forwarding::forwarded_bytes))]
+pub fn forwarded_bytes(
+    alloc: Global,
+    part: &ParsedMail<'_>,
+) -> Result<Option<Vec<u8>>, MailParseError>
+    ensures { AnswersOrMemory (λ mail. option_map (λ bytes. bytes.items) mail) result
+        (Ok (forwarded_bytes (root (tree_of part.now)))) }
+{
+    if !forwards(part) {
+        return Ok(None);
+    }
+    let bytes = readable_bytes(alloc, part)?;
+    Ok(Some(bytes))
+}
+
+/// The bytes of the body of a part as far as they can be read.
+#[tactic(auto, unfolding(mailparse::specs::Body::decoded))]
+fn readable_bytes(alloc: Global, part: &ParsedMail<'_>) -> Result<Vec<u8>, MailParseError>
+    ensures { let node = root (tree_of part.now) in
+        AnswersOrMemory (λ bytes. bytes.items) result
+        (Ok (readable (lenient_body_kind node) node.body)) }
+{
+    match lenient_body(alloc, part)? {
+        Body::Base64(body) => Ok(base64_front(alloc, body.get_raw())?.bytes),
+        Body::QuotedPrintable(body) => Ok(body.get_decoded(alloc)?),
+        Body::SevenBit(body) => Ok(body.get_raw().to_vec(alloc)?),
+        Body::EightBit(body) => Ok(body.get_raw().to_vec(alloc)?),
+        Body::Binary(body) => Ok(body.get_raw().to_vec(alloc)?),
     }
 }
 
@@ -163,7 +263,8 @@ fn mail_inside<'m>(
 fn forwards(part: &ParsedMail<'_>) -> bool
     ensures { result ≡ forwards (root (tree_of part.now)) }
 {
-    part.ctype.mimetype.as_str() == "message/rfc822"
+    let mimetype = part.ctype.mimetype.as_str();
+    mimetype == "message/rfc822" || mimetype == "message/global"
 }
 
 /// The bytes of the body of a part, as they stand.
