@@ -2,6 +2,7 @@ pub mod Archive
 pub mod Bounce
 pub mod FileNames
 pub mod Files
+pub mod FileTexts
 pub mod Forwarding
 pub mod Lines
 pub mod lenient

@@ -1,25 +1,48 @@
 -- The files that a mail carries (RFC 2183, section 2.3; RFC 2046, section 5.2.1), and the paths of its parts (RFC 3501,
--- section 6.4.5).
-use Rattle.std.specs.Prelude.{ℕ, suc, Bool, true, false, ◌&&◌, ◌||◌, List, [], ◌∷◌, ◌++◌, filter, Option, Some, None, is_some, codes, decimal, if◌then◌else◌}
-use Rattle.mail_codec.specs.Charset.{Charsets, four_charsets}
+-- section 6.4.5). How a name is read whose charset is not known (RFC 2231, section 4) is the crate's own rule.
+use Rattle.std.specs.Prelude.{ℕ, suc, Bool, true, false, ◌&&◌, ◌||◌, List, [], ◌∷◌, ◌++◌, filter, Option, Some, None, is_some, option_map, codes, decimal, if◌then◌else◌}
+use Rattle.std.specs.List.{after_first, list_any}
+use Rattle.std.specs.Str.{is_utf8, trim}
+use Rattle.mail_codec.specs.Charset.{Charsets, four_charsets, text_of}
 use Rattle.mail_codec.specs.Places.{is_empty}
 use Rattle.mailparse.specs.ContentType.{ContentType}
 use Rattle.mailparse.specs.Disposition.{Disposition, Kind, attachment}
+use Rattle.mailparse.specs.ExtendedValues.{is_apostrophe, text_in}
 use Rattle.mailparse.specs.Mail.{Node, Tree, Forest, tree, no_parts, part_and, root, shown_as_in}
+use Rattle.mailparse.specs.Pairs.{Texts}
+use Rattle.mail_codec.specs.declared.charset.built_in.Charset.TheVariants.{Windows1252}
+use Rattle.percent_encoding.specs.Percent.{percent_decode}
 
 -- the first of two texts that is there
 abbrev pub first_text : Option (List ℕ) → Option (List ℕ) → Option (List ℕ)
 first_text (Some text) other = Some text
 first_text None other = other
 
--- a text that is there and not empty
+-- a text that is there and not whitespace alone
 abbrev pub filled : Option (List ℕ) → Option (List ℕ)
 filled None = None
-filled (Some text) = if is_empty text then None else Some text
+filled (Some text) = if is_empty (trim text) then None else Some text
 
--- the name of a file that a disposition or else a type has: the one's `filename`, otherwise the other's `name`; an empty one counts as none
+-- an extended value without its charset and its language: what stands after its second apostrophe; the whole value where it has fewer
+unfoldable pub untagged : List ℕ → List ℕ
+untagged value = if list_any is_apostrophe (after_first is_apostrophe value) then text_in value else value
+
+-- the text of bytes whose charset is not known: UTF-8 if they are, otherwise windows-1252
+unfoldable pub text_of_octets : List ℕ → List ℕ
+text_of_octets bytes = if is_utf8 bytes then bytes else text_of Windows1252 bytes
+
+-- the text of an extended value whose charset is not known
+unfoldable pub left_over_text : List ℕ → List ℕ
+left_over_text value = text_of_octets (percent_decode (untagged value))
+
+-- the name that parameters have: the text of the one key, otherwise the value that is left over at its extended key; whitespace alone counts as none
+abbrev pub name_among : Texts → List ℕ → List ℕ → Option (List ℕ)
+name_among params key extended = first_text (filled (params key)) (filled (option_map left_over_text (params extended)))
+
+-- the name of a file that a disposition or else a type has: the one's `filename`, otherwise the other's `name`
 abbrev pub name_in : Disposition → ContentType → Option (List ℕ)
-name_in disposition ctype = first_text (filled (disposition.params (codes "filename"))) (filled (ctype.params (codes "name")))
+name_in disposition ctype =
+    first_text (name_among disposition.params (codes "filename") (codes "filename*")) (name_among ctype.params (codes "name") (codes "name*"))
 
 -- the disposition is `attachment`
 abbrev pub is_attachment_disposition : Kind → Bool

@@ -1,5 +1,5 @@
 //! The files that a mail carries.
-ghost use Rattle.std.specs.Prelude.{◌≡◌, ◌++◌, map, option_map, string_bytes, [], ◌∷◌, IfErr, IfOk, OnOk, Ok};
+ghost use Rattle.std.specs.Prelude.{◌≡◌, ◌++◌, map, option_map, string_bytes, Some, [], ◌∷◌, IfErr, IfOk, OnOk, Ok};
 ghost use Rattle.mail_codec.specs.Tables.{charsets_with};
 ghost use Rattle.mailparse.specs.Mail.{root};
 ghost use Rattle.mailparse.specs.Map.{text_found};
@@ -10,11 +10,14 @@ ghost use Rattle.mailparse.specs.Views.{content_type, kind, tree_of};
 ghost use Rattle.mail_data.specs.Files.{attachments, attachments_in, attachments_under};
 ghost use Rattle.mail_data.specs.Files.{describes_attachment, file_name, file_name_in, files_among};
 ghost use Rattle.mail_data.specs.Files.{filled, is_attachment, is_attachment_disposition};
-ghost use Rattle.mail_data.specs.Files.{is_attachment_in, is_leaf, name_in, path_under, whole_path};
+ghost use Rattle.mail_data.specs.Files.{is_attachment_in, is_leaf, name_among, name_in, path_under};
+ghost use Rattle.mail_data.specs.Files.{whole_path};
 ghost use Rattle.mail_data.specs.FileViews.{attachment_view};
 
+mod left_over;
 mod names;
 
+use left_over::left_over_text;
 use mailparse::{
     DispositionType, MailParseError, ParsedContentDisposition, ParsedContentType, ParsedMail,
     SingleByteTable,
@@ -36,8 +39,8 @@ pub struct Attachment<'m, 'a> {
 }
 
 /// Returns the file name of a part: the parameter `filename` of its disposition (RFC 2183, section
-/// 2.3), otherwise the parameter `name` of its type, or `None` if it has neither. An empty parameter
-/// counts as none.
+/// 2.3), otherwise the parameter `name` of its type, or `None` if it has neither, as `named_file`
+/// says. A parameter of whitespace alone counts as none.
 ///
 /// The name is as the sender wrote it: `safe_file_name` makes it fit to be used. The disposition is
 /// read in the four charsets that are always known; `file_name_with` knows others. Takes memory for
@@ -79,7 +82,7 @@ pub fn file_name(alloc: Global, part: &ParsedMail<'_>) -> Result<Option<String>,
 /// use mailparse::{SingleByteTable, parse_mail};
 ///
 /// let tables = [SingleByteTable { labels: &["x-euro"], high: &['€'; 128] }];
-/// let raw = b"Content-Disposition: attachment; filename*=x-euro''5%80.txt\n\n";
+/// let raw = b"Content-Disposition: attachment; filename*=x-euro''5%E4.txt\n\n";
 /// let mail = parse_mail(alloc, raw)?;
 /// let name = file_name_with(alloc, &mail, &tables)?.ok_or("no name")?;
 /// assert_eq!(rt; name.as_str(), "5€.txt");
@@ -94,15 +97,21 @@ pub fn file_name_with(
         (Ok (file_name_in (charsets_with tables.now) (root (tree_of part.now)))) }
 {
     let disposition = part.get_content_disposition_with(alloc, tables)?;
-    match named_file(&disposition, &part.ctype) {
-        Some(name) => Ok(Some(String::from_str(alloc, name)?)),
-        None => Ok(None),
-    }
+    let name = named_file(alloc, &disposition, &part.ctype)?;
+    Ok(name)
 }
 
 /// Returns the name of a file that a disposition or else a type has: the one's parameter `filename`,
-/// otherwise the other's parameter `name`, or `None` if there is neither (RFC 2183, section 2.3). An
-/// empty parameter counts as none. Takes no memory.
+/// otherwise the other's parameter `name`, or `None` if there is neither (RFC 2183, section 2.3). A
+/// parameter of whitespace alone counts as none.
+///
+/// Where there is only an extended value whose charset is blank, unknown or missing (RFC 2231,
+/// section 4), as `filename*=''a%20b.txt`, its text after the second apostrophe is read: UTF-8 where
+/// the bytes are, otherwise windows-1252. Takes memory for the name.
+///
+/// # Errors
+///
+/// Where it runs out of memory.
 ///
 /// # Examples
 ///
@@ -112,25 +121,57 @@ pub fn file_name_with(
 ///
 /// let ctype = parse_content_type(alloc, "image/png; name=a.png")?;
 /// let disposition = parse_content_disposition(alloc, "inline")?;
-/// assert_eq!(rt; named_file(&disposition, &ctype), Some("a.png"));
-/// let disposition = parse_content_disposition(alloc, "inline; filename=b.png")?;
-/// assert_eq!(rt; named_file(&disposition, &ctype), Some("b.png"));
+/// assert_eq!(rt; named_file(alloc, &disposition, &ctype)?.as_deref(), Some("a.png"));
+/// let disposition = parse_content_disposition(alloc, "inline; filename*=''b%2Epng")?;
+/// assert_eq!(rt; named_file(alloc, &disposition, &ctype)?.as_deref(), Some("b.png"));
 /// ```
-pub fn named_file<'n>(
-    disposition: &'n ParsedContentDisposition,
-    ctype: &'n ParsedContentType,
-) -> Option<&'n str>
-    ensures { option_map (λ name. name.now) result
-        ≡ name_in (views.disposition disposition.now) (content_type ctype.now) }
+pub fn named_file(
+    alloc: Global,
+    disposition: &ParsedContentDisposition,
+    ctype: &ParsedContentType,
+) -> Result<Option<String>, AllocError>
+    ensures { IfOk result (λ name. text_found name
+        ≡ name_in (views.disposition disposition.now) (content_type ctype.now)) }
 {
-    match filled_parameter(&disposition.params, "filename") {
-        Some(name) => Some(name),
-        None => filled_parameter(&ctype.params, "name"),
+    if let Some(name) = name_among(alloc, &disposition.params, "filename", "filename*")? {
+        return Ok(Some(name));
+    }
+    let name = name_among(alloc, &ctype.params, "name", "name*")?;
+    Ok(name)
+}
+
+/// The text of a key, otherwise the value that is left over at its extended key.
+fn name_among(
+    alloc: Global,
+    parameters: &BTreeMap<String, String>,
+    key: &str,
+    extended: &str,
+) -> Result<Option<String>, AllocError>
+    ensures { IfOk result (λ found. text_found found
+        ≡ name_among (text_at parameters.now) key.now extended.now) }
+{
+    if let Some(text) = filled_parameter(parameters, key) {
+        return Ok(Some(String::from_str(alloc, text)?));
+    }
+    match parameters.get(extended) {
+        Some(value) => Ok(filled(left_over_text(alloc, value.as_str())?)),
+        None => Ok(None),
+    }
+}
+
+/// The text, unless it is whitespace alone.
+fn filled(text: String) -> Option<String>
+    ensures { text_found result ≡ filled (Some (string_bytes text)) }
+{
+    if text.as_str().trim().is_empty() {
+        None
+    } else {
+        Some(text)
     }
 }
 
 /// Returns the text of a parameter of a type or a disposition, or `None` where it is missing or
-/// empty. Takes no memory.
+/// whitespace alone. Takes no memory.
 ///
 /// # Examples
 ///
@@ -146,7 +187,7 @@ pub fn filled_parameter<'p>(parameters: &'p BTreeMap<String, String>, name: &str
     ensures { option_map (λ text. text.now) result ≡ filled (text_at parameters.now name.now) }
 {
     match parameters.get(name) {
-        Some(text) if !text.is_empty() => Some(text.as_str()),
+        Some(text) if !text.trim().is_empty() => Some(text.as_str()),
         _ => None,
     }
 }
@@ -195,7 +236,7 @@ pub fn is_attachment(alloc: Global, part: &ParsedMail<'_>) -> Result<bool, MailP
 /// use mailparse::{SingleByteTable, parse_mail};
 ///
 /// let tables = [SingleByteTable { labels: &["x-euro"], high: &['€'; 128] }];
-/// let mail = parse_mail(alloc, b"Content-Disposition: inline; filename*=x-euro''%80\n\n")?;
+/// let mail = parse_mail(alloc, b"Content-Disposition: =?x-euro?Q?attachment?=\n\n")?;
 /// assert!(rt; is_attachment_with(alloc, &mail, &tables)?);
 /// assert!(rt; !is_attachment(alloc, &mail)?);
 /// ```
@@ -211,7 +252,8 @@ pub fn is_attachment_with(
         return Ok(false);
     }
     let disposition = part.get_content_disposition_with(alloc, tables)?;
-    Ok(describes_attachment(&disposition, &part.ctype))
+    let is_file = describes_attachment(alloc, &disposition, &part.ctype)?;
+    Ok(is_file)
 }
 
 /// Returns whether a message has no parts (RFC 2046, section 5.1). A forwarded message
@@ -235,7 +277,12 @@ pub fn is_leaf(part: &ParsedMail<'_>) -> bool
 
 /// Returns whether a disposition and a type are those of a file, if the part has no parts of its
 /// own: the disposition is `attachment`, or there is a file name (RFC 2183, sections 2.2 and 2.3).
-/// Takes no memory.
+///
+/// Takes memory for the name.
+///
+/// # Errors
+///
+/// Where it runs out of memory.
 ///
 /// # Examples
 ///
@@ -245,22 +292,37 @@ pub fn is_leaf(part: &ParsedMail<'_>) -> bool
 ///
 /// let ctype = parse_content_type(alloc, "text/plain")?;
 /// let disposition = parse_content_disposition(alloc, "attachment")?;
-/// assert!(rt; describes_attachment(&disposition, &ctype));
+/// assert!(rt; describes_attachment(alloc, &disposition, &ctype)?);
 /// let disposition = parse_content_disposition(alloc, "inline")?;
-/// assert!(rt; !describes_attachment(&disposition, &ctype));
+/// assert!(rt; !describes_attachment(alloc, &disposition, &ctype)?);
 /// ```
 pub fn describes_attachment(
+    alloc: Global,
     disposition: &ParsedContentDisposition,
     ctype: &ParsedContentType,
-) -> bool
-    ensures { result
-        ≡ describes_attachment (views.disposition disposition.now) (content_type ctype.now) }
+) -> Result<bool, AllocError>
+    ensures { IfOk result (λ is. is
+        ≡ describes_attachment (views.disposition disposition.now) (content_type ctype.now)) }
 {
-    is_attachment_disposition(&disposition.disposition) || named_file(disposition, ctype).is_some()
+    if is_attachment_disposition(&disposition.disposition) {
+        return Ok(true);
+    }
+    let name = named_file(alloc, disposition, ctype)?;
+    Ok(name.is_some())
 }
 
-/// Whether a disposition is `attachment`.
-fn is_attachment_disposition(disposition: &DispositionType) -> bool
+/// Returns whether a disposition is `attachment` (RFC 2183, section 2.2). Takes no memory.
+///
+/// # Examples
+///
+/// ```rust
+/// use mail_data::files::is_attachment_disposition;
+/// use mailparse::DispositionType;
+///
+/// assert!(rt; is_attachment_disposition(&DispositionType::Attachment));
+/// assert!(rt; !is_attachment_disposition(&DispositionType::Inline));
+/// ```
+pub fn is_attachment_disposition(disposition: &DispositionType) -> bool
     ensures { result ≡ is_attachment_disposition (kind disposition.now) }
 {
     match disposition {
@@ -318,7 +380,7 @@ pub fn attachments<'m, 'a>(
 /// use mailparse::{SingleByteTable, parse_mail};
 ///
 /// let tables = [SingleByteTable { labels: &["x-euro"], high: &['€'; 128] }];
-/// let mail = parse_mail(alloc, b"Content-Disposition: inline; filename*=x-euro''%80\n\n")?;
+/// let mail = parse_mail(alloc, b"Content-Disposition: =?x-euro?Q?attachment?=\n\n")?;
 /// assert_eq!(rt; attachments_with(alloc, &mail, &tables)?.len(), 1);
 /// ```
 pub fn attachments_with<'m, 'a>(

@@ -102,8 +102,8 @@ fn describe(alloc: Global, row: &Row, answer: &mut Answer) -> Result<(), MailPar
     let disposition = disposition_of(alloc, row)?;
     let ctype = type_of(alloc, row, 1)?;
     match row.call.as_str() {
-        "named_file" => answer.optional_text(named_file(&disposition, &ctype))?,
-        _ => answer.truth(describes_attachment(&disposition, &ctype))?,
+        "named_file" => answer.optional_text(named_file(alloc, &disposition, &ctype)?.as_deref())?,
+        _ => answer.truth(describes_attachment(alloc, &disposition, &ctype)?)?,
     }
     Ok(())
 }

@@ -1,0 +1,52 @@
+//! Extended parameters whose charset is not known.
+ghost use Rattle.std.specs.Prelude.{◌≡◌, IfOk, string_bytes};
+ghost use Rattle.mail_data.specs.Files.{left_over_text, text_of_octets, untagged};
+ghost use Rattle.percent_encoding.specs.Percent.{percent_decode};
+
+use mail_codec::charset::Charset;
+use percent_encoding::percent_decode;
+use std::alloc::{AllocError, Global};
+
+/// The text of an extended value whose charset is blank, unknown or missing.
+#[tactic(auto, unfolding(crate::specs::Files::left_over_text))]
+pub(super) fn left_over_text(alloc: Global, value: &str) -> Result<String, AllocError>
+    ensures { IfOk result (λ text. string_bytes text ≡ left_over_text value.now) }
+{
+    let bytes = octets_of(alloc, untagged(value))?;
+    let text = text_of_octets(alloc, bytes.as_slice())?;
+    Ok(text)
+}
+
+/// What stands after the second apostrophe of an extended value; the whole value where it has fewer.
+#[tactic(auto, unfolding(crate::specs::Files::untagged))]
+fn untagged(value: &str) -> &str
+    ensures { result.now ≡ untagged value.now }
+{
+    let Some((_, rest)) = value.split_once('\'') else {
+        return value;
+    };
+    match rest.split_once('\'') {
+        Some((_, text)) => text,
+        None => value,
+    }
+}
+
+/// The bytes that percent pairs write.
+fn octets_of(alloc: Global, encoded: &str) -> Result<Vec<u8>, AllocError>
+    ensures { IfOk result (λ bytes. bytes.items ≡ percent_decode encoded.now) }
+{
+    let mut bytes = Vec::new(alloc);
+    percent_decode(encoded.as_bytes()).append_to(&mut bytes)?;
+    Ok(bytes)
+}
+
+/// The text of bytes whose charset is not known.
+#[tactic(auto, unfolding(crate::specs::Files::text_of_octets))]
+fn text_of_octets(alloc: Global, bytes: &[u8]) -> Result<String, AllocError>
+    ensures { IfOk result (λ text. string_bytes text ≡ text_of_octets bytes.now) }
+{
+    match str::from_utf8(bytes) {
+        Ok(text) => String::from_str(alloc, text),
+        Err(_) => Charset::Windows1252.decode_without_bom_handling(alloc, bytes),
+    }
+}
