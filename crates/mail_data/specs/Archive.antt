@@ -4,7 +4,8 @@ use Rattle.std.specs.Option.{option_map_or}
 use Rattle.std.specs.Str.{bytes_eq}
 use Rattle.mailparse.specs.Mail.{Node}
 use Rattle.mailparse.specs.Map.{first_value}
-use Rattle.mail_data.specs.lenient.Ids.{ids_in}
+use Rattle.mailparse.specs.Header.{Header}
+use Rattle.mail_data.specs.lenient.Ids.{ids_in, own_ids_in}
 
 -- the ids in the first header that has this name
 unfoldable pub ids_of : List ℕ → Node → List (List ℕ)
@@ -15,9 +16,12 @@ abbrev pub first_id : List (List ℕ) → Option (List ℕ)
 first_id [] = None
 first_id (id ∷ ids) = Some id
 
--- the id of a mail: the first in its `Message-ID`
-unfoldable pub message_id : Node → Option (List ℕ)
-message_id node = first_id (ids_of (codes "Message-ID") node)
+-- the id of a mail with these headers: the first in its `Message-ID`, with or without an `@`
+unfoldable pub id_among : List Header → Option (List ℕ)
+id_among headers = option_map_or (λ text. first_id (own_ids_in text)) (first_value (codes "Message-ID") headers) None
+
+abbrev pub message_id : Node → Option (List ℕ)
+message_id node = id_among node.headers
 
 -- a list without repeats: its first id, and then the others, where that one does not stand again
 abbrev pub without_repeats : List (List ℕ) → List (List ℕ)

@@ -6,15 +6,15 @@ ghost use Rattle.mailparse.specs.Mail.{root};
 ghost use Rattle.mailparse.specs.Map.{text_found};
 ghost use Rattle.mailparse.specs.Outcome.{AnswersOrMemory, GivesTexts, IsMemory};
 ghost use Rattle.mailparse.specs.Views.{tree_of};
-ghost use Rattle.mail_data.specs.Archive.{ids_of, message_id, parents, without_repeats};
+ghost use Rattle.mail_data.specs.Archive.{id_among, ids_of, message_id, parents, without_repeats};
 
-use crate::lenient::ids_in;
-use mailparse::{MailHeaderMap, MailParseError, ParsedMail};
+use crate::lenient::{ids_in, own_ids_in};
+use mailparse::{MailHeader, MailHeaderMap, MailParseError, ParsedMail};
 use std::alloc::{AllocError, Global};
 use std::collections::BTreeSet;
 
-/// Returns the id of a mail, or `None` where it has none: the first that `ids_in` finds in the
-/// first header `Message-ID` (RFC 5322, section 3.6.4).
+/// Returns the id of a mail, or `None` where it has none: the first that `own_ids_in` finds in the
+/// first header `Message-ID` (RFC 5322, section 3.6.4). It may be without an `@`.
 ///
 /// Takes memory for the value of the header and the ids in it.
 ///
@@ -32,11 +32,26 @@ use std::collections::BTreeSet;
 /// let id = message_id(alloc, &mail)?.ok_or("no id")?;
 /// assert_eq!(rt; id.as_str(), "one@example.org");
 /// ```
-#[tactic(auto, unfolding(crate::specs::Archive::message_id))]
 pub fn message_id(alloc: Global, mail: &ParsedMail<'_>) -> Result<Option<String>, MailParseError>
     ensures { AnswersOrMemory text_found result (Ok (message_id (root (tree_of mail.now)))) }
 {
-    let ids = ids_of(alloc, mail, "Message-ID")?;
+    let id = id_among(alloc, &mail.headers)?;
+    Ok(id)
+}
+
+/// The id of a mail with these headers.
+#[tactic(auto, unfolding(crate::specs::Archive::id_among))]
+pub(crate) fn id_among(
+    alloc: Global,
+    headers: &Vec<MailHeader<'_>>,
+) -> Result<Option<String>, MailParseError>
+    ensures read { IfOk result (λ id. text_found id ≡ id_among headers.now.items) }
+    ensures only_memory { IfErr result IsMemory }
+{
+    let Some(text) = headers.get_first_value(alloc, "Message-ID")? else {
+        return Ok(None);
+    };
+    let ids = own_ids_in(alloc, text.as_str())?;
     Ok(ids.into_iter().next())
 }
 

@@ -7,4 +7,4 @@ mod ids;
 pub use base64::{Base64Front, base64_front};
 pub use date::{DateError, date_of};
 pub use encoding::lenient_body;
-pub use ids::ids_in;
+pub use ids::{ids_in, own_ids_in};

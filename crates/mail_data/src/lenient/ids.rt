@@ -2,7 +2,8 @@
 ghost use Rattle.std.specs.Prelude.{◌≡◌, ◌++◌, ◌<◌, true, false, [], ◌∷◌, length, map, string_bytes, IfOk, IfSome, MatchOption, OnOk};
 ghost use Rattle.std.specs.List.{before_first, list_any, slice_split};
 ghost use Rattle.mailparse.specs.MessageIds.{is_closing};
-ghost use Rattle.mail_data.specs.lenient.Ids.{id_at, ids_in, is_at, is_opening};
+ghost use Rattle.mail_data.specs.lenient.Ids.{found_in, id_at, ids_in, is_id, is_opening};
+ghost use Rattle.mail_data.specs.lenient.Ids.{own_ids_in};
 
 use std::alloc::{AllocError, Global};
 
@@ -31,16 +32,47 @@ use std::alloc::{AllocError, Global};
 pub fn ids_in(alloc: Global, text: &str) -> Result<Vec<String>, AllocError>
     ensures { IfOk result (λ ids. map string_bytes ids.items ≡ ids_in text.now) }
 {
+    found_in(alloc, text, true)
+}
+
+/// Returns the ids that a mail gives itself in a text, as `ids_in` does, but without an `@` too
+/// (following RFC 5322, section 3.6.4): `<1234>` has the id `1234`. Empty brackets have none.
+///
+/// Takes memory for the list and the ids.
+///
+/// # Errors
+///
+/// Where it runs out of memory.
+///
+/// # Examples
+///
+/// ```rust
+/// use mail_data::lenient::own_ids_in;
+///
+/// let ids = own_ids_in(alloc, "<20100101.1234> (sent twice)")?;
+/// assert_eq!(rt; ids.len(), 1);
+/// assert_eq!(rt; ids[0].as_str(), "20100101.1234");
+/// ```
+pub fn own_ids_in(alloc: Global, text: &str) -> Result<Vec<String>, AllocError>
+    ensures { IfOk result (λ ids. map string_bytes ids.items ≡ own_ids_in text.now) }
+{
+    found_in(alloc, text, false)
+}
+
+/// What stands within brackets in a text, where an `@` is needed or not.
+fn found_in(alloc: Global, text: &str, needs_at: bool) -> Result<Vec<String>, AllocError>
+    ensures { IfOk result (λ ids. map string_bytes ids.items ≡ found_in needs_at text.now) }
+{
     let mut ids = Vec::new(alloc);
     let Some((_, first)) = cut_at_opening(text) else {
         return Ok(ids);
     };
     let mut rest = first;
     'pieces: while let Some((piece, after)) = cut_at_opening(rest) {
-        push_id(alloc, &mut ids, piece)?;
+        push_id(alloc, &mut ids, piece, needs_at)?;
         rest = after;
     }
-    push_id(alloc, &mut ids, rest)?;
+    push_id(alloc, &mut ids, rest, needs_at)?;
     Ok(ids)
 }
 
@@ -54,24 +86,30 @@ fn cut_at_opening(text: &str) -> Option<(&str, &str)>
 }
 
 /// Appends the id that a text without `<` begins with, if there is one.
-fn push_id(alloc: Global, ids: &mut Vec<String>, text: &str) -> Result<(), AllocError>
-    ensures { OnOk result
-        (map string_bytes ids.new.items ≡ map string_bytes ids.old.items ++ id_at text.now) }
+fn push_id(
+    alloc: Global,
+    ids: &mut Vec<String>,
+    text: &str,
+    needs_at: bool,
+) -> Result<(), AllocError>
+    ensures { OnOk result (map string_bytes ids.new.items
+        ≡ map string_bytes ids.old.items ++ id_at needs_at text.now) }
 {
-    if let Some(id) = id_at(text) {
+    if let Some(id) = id_at(text, needs_at) {
         ids.push(String::from_str(alloc, id)?)?;
     }
     Ok(())
 }
 
 /// The id that a text without `<` begins with, if there is one.
-fn id_at(text: &str) -> Option<&str>
-    ensures { MatchOption result (id_at text.now ≡ []) (λ id. id_at text.now ≡ id.now ∷ []) }
+fn id_at(text: &str, needs_at: bool) -> Option<&str>
+    ensures { MatchOption result (id_at needs_at text.now ≡ [])
+        (λ id. id_at needs_at text.now ≡ id.now ∷ []) }
 {
     let Some(id) = before_closing(text) else {
         return None;
     };
-    if !has_at(id) {
+    if !is_id(id, needs_at) {
         return None;
     }
     Some(id)
@@ -89,9 +127,13 @@ fn before_closing(text: &str) -> Option<&str>
     Some(id)
 }
 
-/// Whether a text has an `@`.
-fn has_at(text: &str) -> bool
-    ensures { result ≡ list_any is_at text.now }
+/// Whether what stands within brackets is an id.
+fn is_id(text: &str, needs_at: bool) -> bool
+    ensures { result ≡ is_id needs_at text.now }
 {
-    text.as_bytes().contains(&b'@')
+    if needs_at {
+        text.as_bytes().contains(&b'@')
+    } else {
+        !text.is_empty()
+    }
 }

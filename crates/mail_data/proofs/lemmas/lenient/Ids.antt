@@ -8,7 +8,7 @@ use Rattle.std.proofs.lemmas.Bool.{lt-ltb, le-ltb, cond-true, cond-false, and_fr
 use Rattle.std.proofs.lemmas.List.{append-nil}
 use Rattle.mailparse.proofs.lemmas.EncodedWord.{any_from_place}
 use Rattle.mailparse.specs.MessageIds.{is_closing}
-use Rattle.mail_data.specs.lenient.Ids.{id_at, ids_in, is_at, is_opening}
+use Rattle.mail_data.specs.lenient.Ids.{found_in, id_at, is_id, is_opening}
 
 -- ---- a text cut at a byte
 
@@ -66,40 +66,40 @@ closing-some bytes h = any_from_place is_closing bytes ∙ lt-ltb _ _ h
 
 -- ---- one id
 
-pub id_at-open : (text : List ℕ) → list_any is_closing text ≡ false → id_at text ≡ []
-id_at-open text h = cond-false _ _ _ (and_left (list_any is_closing text) (list_any is_at (before_first is_closing text)) h)
+pub id_at-open : (needs : Bool) (text : List ℕ) → list_any is_closing text ≡ false → id_at needs text ≡ []
+id_at-open needs text h = cond-false _ _ _ (and_left (list_any is_closing text) (is_id needs (before_first is_closing text)) h)
 
-pub id_at-plain : (text id : List ℕ) → id ≡ before_first is_closing text → false ≡ list_any is_at id → id_at text ≡ []
-id_at-plain text id e h =
-    cond-false _ _ _ (and_right (list_any is_closing text) (list_any is_at (before_first is_closing text)) (ap (list_any is_at) (sym e) ∙ sym h))
+pub id_at-plain : (needs : Bool) (text id : List ℕ) → id ≡ before_first is_closing text → false ≡ is_id needs id → id_at needs text ≡ []
+id_at-plain needs text id e h =
+    cond-false _ _ _ (and_right (list_any is_closing text) (is_id needs (before_first is_closing text)) (ap (is_id needs) (sym e) ∙ sym h))
 
-pub id_at-is : (text id : List ℕ) → list_any is_closing text ≡ true → id ≡ before_first is_closing text → true ≡ list_any is_at id → id_at text ≡ id ∷ []
-id_at-is text id closed e h =
-    cond-true _ _ _ (and_from (list_any is_closing text) (list_any is_at (before_first is_closing text)) closed (ap (list_any is_at) (sym e) ∙ sym h))
+pub id_at-is : (needs : Bool) (text id : List ℕ) → list_any is_closing text ≡ true → id ≡ before_first is_closing text → true ≡ is_id needs id → id_at needs text ≡ id ∷ []
+id_at-is needs text id closed e h =
+    cond-true _ _ _ (and_from (list_any is_closing text) (is_id needs (before_first is_closing text)) closed (ap (is_id needs) (sym e) ∙ sym h))
     ∙ ap (λ (i : List ℕ). i ∷ []) (sym e)
 
 -- ---- the ids of a text
 
 -- the ids so far, and then those of a text that a `<` opened
-abbrev pub ids_with : List (List ℕ) → List ℕ → List (List ℕ)
-ids_with ids rest = ids ++ flat_map id_at (slice_split is_opening rest)
+abbrev pub ids_with : Bool → List (List ℕ) → List ℕ → List (List ℕ)
+ids_with needs ids rest = ids ++ flat_map (id_at needs) (slice_split is_opening rest)
 
-pub ids-none : (text : List ℕ) → slice_split is_opening text ≡ text ∷ [] → [] ≡ ids_in text
-unfolding ids_in
-ids-none text h = sym (ap (λ (ps : List (List ℕ)). flat_map id_at (drop 1 ps)) h)
+pub ids-none : (needs : Bool) (text : List ℕ) → slice_split is_opening text ≡ text ∷ [] → [] ≡ found_in needs text
+unfolding found_in
+ids-none needs text h = sym (ap (λ (ps : List (List ℕ)). flat_map (id_at needs) (drop 1 ps)) h)
 
-pub ids-start : (text piece rest : List ℕ) (ids : List (List ℕ)) → slice_split is_opening text ≡ piece ∷ slice_split is_opening rest → ids ≡ [] → ids_with ids rest ≡ ids_in text
-unfolding ids_in
-ids-start text piece rest ids h none =
-    ap (λ (i : List (List ℕ)). i ++ flat_map id_at (slice_split is_opening rest)) none ∙ sym (ap (λ (ps : List (List ℕ)). flat_map id_at (drop 1 ps)) h)
+pub ids-start : (needs : Bool) (text piece rest : List ℕ) (ids : List (List ℕ)) → slice_split is_opening text ≡ piece ∷ slice_split is_opening rest → ids ≡ [] → ids_with needs ids rest ≡ found_in needs text
+unfolding found_in
+ids-start needs text piece rest ids h none =
+    ap (λ (i : List (List ℕ)). i ++ flat_map (id_at needs) (slice_split is_opening rest)) none ∙ sym (ap (λ (ps : List (List ℕ)). flat_map (id_at needs) (drop 1 ps)) h)
 
-pub ids-next : (rest piece after : List ℕ) (ids new : List (List ℕ)) → slice_split is_opening rest ≡ piece ∷ slice_split is_opening after → new ≡ ids ++ id_at piece
-    → ids_with new after ≡ ids_with ids rest
-ids-next rest piece after ids new h push =
-    ap (λ (i : List (List ℕ)). i ++ flat_map id_at (slice_split is_opening after)) push
-    ∙ append_assoc ids (id_at piece) (flat_map id_at (slice_split is_opening after))
-    ∙ ap (λ (ps : List (List ℕ)). ids ++ flat_map id_at ps) (sym h)
+pub ids-next : (needs : Bool) (rest piece after : List ℕ) (ids new : List (List ℕ)) → slice_split is_opening rest ≡ piece ∷ slice_split is_opening after → new ≡ ids ++ id_at needs piece
+    → ids_with needs new after ≡ ids_with needs ids rest
+ids-next needs rest piece after ids new h push =
+    ap (λ (i : List (List ℕ)). i ++ flat_map (id_at needs) (slice_split is_opening after)) push
+    ∙ append_assoc ids (id_at needs piece) (flat_map (id_at needs) (slice_split is_opening after))
+    ∙ ap (λ (ps : List (List ℕ)). ids ++ flat_map (id_at needs) ps) (sym h)
 
-pub ids-end : (rest : List ℕ) (ids new : List (List ℕ)) → slice_split is_opening rest ≡ rest ∷ [] → new ≡ ids ++ id_at rest → new ≡ ids_with ids rest
-ids-end rest ids new h push =
-    push ∙ ap (λ (i : List (List ℕ)). ids ++ i) (sym (append-nil (id_at rest))) ∙ ap (λ (ps : List (List ℕ)). ids ++ flat_map id_at ps) (sym h)
+pub ids-end : (needs : Bool) (rest : List ℕ) (ids new : List (List ℕ)) → slice_split is_opening rest ≡ rest ∷ [] → new ≡ ids ++ id_at needs rest → new ≡ ids_with needs ids rest
+ids-end needs rest ids new h push =
+    push ∙ ap (λ (i : List (List ℕ)). ids ++ i) (sym (append-nil (id_at needs rest))) ∙ ap (λ (ps : List (List ℕ)). ids ++ flat_map (id_at needs) ps) (sym h)
