@@ -1,6 +1,6 @@
 -- The recipients of a delivery status notification (RFC 3464, sections 2.1 to 2.3): the fields that its part
 -- `message/delivery-status` has on each of them.
-use Rattle.std.specs.Prelude.{ℕ, zero, suc, Bool, not, ◌==◌, List, [], ◌∷◌, length, take, drop, map, filter, Option, Some, None, option_map, Result, Ok, Err, codes, if◌then◌else◌}
+use Rattle.std.specs.Prelude.{ℕ, zero, suc, Bool, not, ◌==◌, ◌||◌, List, [], ◌∷◌, length, take, drop, map, filter, Option, Some, None, option_map, Result, Ok, Err, codes, if◌then◌else◌}
 use Rattle.std.specs.List.{list_any, after_first}
 use Rattle.std.specs.Option.{option_map_or}
 use Rattle.std.specs.Str.{bytes_eq, trim}
@@ -11,21 +11,32 @@ use Rattle.mailparse.specs.Header.{Header}
 use Rattle.mailparse.specs.Mail.{Node, Tree, Forest, tree, no_parts, part_and, root}
 use Rattle.mailparse.specs.Map.{first_value}
 use Rattle.mailparse.specs.Refusal.{Refusal}
+use Rattle.mail_data.specs.Archive.{id_among}
+use Rattle.mail_data.specs.lenient.Comments.{without_comments}
 use Rattle.mail_data.specs.Lines.{is_empty_line, after_empty_line, line_place}
 
 -- a message has this type
 abbrev pub has_type : List ℕ → Node → Bool
 has_type mimetype node = bytes_eq node.ctype.mimetype mimetype
 
--- the first of some parts that has this type
-abbrev pub first_of_type : List ℕ → Forest → Option Tree
-first_of_type mimetype no_parts = None
-first_of_type mimetype (part_and t ts) = if has_type mimetype (root t) then Some t else first_of_type mimetype ts
+-- a part has the status of a delivery; in a mail with addresses in UTF-8 its type is another one (RFC 6533, section 4)
+abbrev pub has_status : Node → Bool
+has_status node = has_type (codes "message/delivery-status") node || has_type (codes "message/global-delivery-status") node
 
--- the part that has the status of a delivery: of a `multipart/report`, the first of its own parts that is a `message/delivery-status`
-abbrev pub status_part : Tree → Option Tree
-status_part (tree node parts) =
-    if has_type (codes "multipart/report") node then first_of_type (codes "message/delivery-status") parts else None
+-- a part is the mail that was returned, or its headers (RFC 3464, section 2; RFC 6533, section 3)
+abbrev pub has_original : Node → Bool
+has_original node =
+    has_type (codes "message/rfc822") node
+    || (has_type (codes "text/rfc822-headers") node || (has_type (codes "message/global") node || has_type (codes "message/global-headers") node))
+
+-- the first of some parts that passes a test
+abbrev pub first_part : (Node → Bool) → Forest → Option Tree
+first_part test no_parts = None
+first_part test (part_and t ts) = if test (root t) then Some t else first_part test ts
+
+-- of a `multipart/report`, the first of its own parts that passes a test
+abbrev pub report_part : (Node → Bool) → Tree → Option Tree
+report_part test (tree node parts) = if has_type (codes "multipart/report") node then first_part test parts else None
 
 -- how many bytes stand before the first empty line
 unfoldable pub block_length : List ℕ → ℕ
@@ -57,9 +68,9 @@ headers_or_none (Err refusal) = []
 unfoldable pub fields : List ℕ → List Header
 fields block = headers_or_none (read_headers block)
 
--- the text of the first field that has this name, without whitespace around it
+-- the text of the first field that has this name, without comments and without whitespace around it
 unfoldable pub text_of : List ℕ → List Header → Option (List ℕ)
-text_of name headers = option_map trim (first_value name headers)
+text_of name headers = option_map (λ text. trim (without_comments text)) (first_value name headers)
 
 -- what follows the first `;` of a text, or the whole text where there is none
 unfoldable pub after_type : List ℕ → List ℕ
@@ -68,6 +79,10 @@ after_type text = if list_any (λ b. b == semicolon) text then after_first (λ b
 -- the text of such a field after the type that a `;` ends, without whitespace around it
 unfoldable pub typed_text_of : List ℕ → List Header → Option (List ℕ)
 typed_text_of name headers = option_map (λ text. trim (after_type text)) (first_value name headers)
+
+-- the address in such a field: what follows the type, without comments
+unfoldable pub address_of : List ℕ → List Header → Option (List ℕ)
+address_of name headers = option_map (λ text. trim (after_type (without_comments text))) (first_value name headers)
 
 -- what a report says of a recipient
 pub record Delivery : Type 0 where
@@ -80,8 +95,8 @@ pub record Delivery : Type 0 where
 -- what these fields say
 abbrev pub delivery_in : List Header → Delivery
 delivery_in headers = record {
-  final_recipient = typed_text_of (codes "Final-Recipient") headers;
-  original_recipient = typed_text_of (codes "Original-Recipient") headers;
+  final_recipient = address_of (codes "Final-Recipient") headers;
+  original_recipient = address_of (codes "Original-Recipient") headers;
   action = text_of (codes "Action") headers;
   status = text_of (codes "Status") headers;
   diagnostic_code = typed_text_of (codes "Diagnostic-Code") headers;
@@ -93,4 +108,8 @@ deliveries status = map (λ block. delivery_in (fields block)) (drop 1 (blocks s
 
 -- what a mail reports of each recipient; nothing where it is no report
 unfoldable pub recipients : Tree → List Delivery
-recipients t = option_map_or (λ part. deliveries (root part).body) (status_part t) []
+recipients t = option_map_or (λ part. deliveries (root part).body) (report_part has_status t) []
+
+-- the id of the mail that a report is about, by the headers that it returns
+unfoldable pub original_message_id : Tree → Option (List ℕ)
+original_message_id t = option_map_or (λ part. id_among (fields (root part).body)) (report_part has_original t) None

@@ -3,5 +3,6 @@ pub mod Base64
 pub mod Base64Views
 pub mod Ids
 pub mod Encoding
+pub mod Comments
 pub mod Date
 pub mod DateViews

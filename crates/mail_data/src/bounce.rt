@@ -1,15 +1,19 @@
 //! The recipients that a delivery status notification (RFC 3464), or delivery report, names.
 ghost use Rattle.std.specs.Prelude.{◌≡◌, ◌≤◌, codes, drop, length, map, IfErr, IfOk, Ok};
+ghost use Rattle.mailparse.specs.Mail.{root};
 ghost use Rattle.mailparse.specs.Map.{text_found};
 ghost use Rattle.mailparse.specs.Outcome.{AnswersOrMemory, IsMemory};
 ghost use Rattle.mailparse.specs.Views.{tree_of};
 ghost use Rattle.mail_data.specs.Bounce.{after_block, after_type, block_at, block_length, blocks};
-ghost use Rattle.mail_data.specs.Bounce.{deliveries, delivery_in, fields, recipients, status_part};
+ghost use Rattle.mail_data.specs.Bounce.{deliveries, delivery_in, fields, has_original, has_status};
+ghost use Rattle.mail_data.specs.Bounce.{address_of, original_message_id, recipients, report_part};
 ghost use Rattle.mail_data.specs.Bounce.{text_of, typed_text_of};
 ghost use Rattle.mail_data.specs.BounceViews.{delivery};
 ghost use Rattle.mail_data.specs.TextViews.{tree_found};
 
+use crate::archive::id_among;
 use crate::forwarding::raw_body;
+use crate::lenient::without_comments;
 use crate::lines::{empty_line, is_empty_line, line_place};
 use mailparse::{MailHeader, MailHeaderMap, MailParseError, ParsedMail, parse_headers};
 use std::alloc::{AllocError, Global};
@@ -34,11 +38,12 @@ pub struct Recipient {
 /// 2.3), or an empty list if the mail is not such a report.
 ///
 /// The mail has to be a `multipart/report`, and the first of its own parts that is a
-/// `message/delivery-status` is used. Its fields are in blocks separated by empty lines: the first
-/// block is about the message, and each other block is about one recipient. A field is found by its
-/// name, ignoring ASCII case, and its text is read like a header's value, without whitespace around
-/// it. In an address or a diagnostic code, the text up to the first `;` is its type, and is left
-/// out. A block that `parse_headers` refuses counts as one without fields. A transfer encoding,
+/// `message/delivery-status` or a `message/global-delivery-status` (RFC 6533) is used. Its fields
+/// are in blocks separated by empty lines: the first block is about the message, and each other
+/// block is about one recipient. A field is found by its name, ignoring ASCII case, and its text is
+/// read like a header's value, without whitespace around it. In an address or a diagnostic code, the
+/// text up to the first `;` is its type, and is left out. Comments in parentheses are left out of
+/// addresses, actions and status codes. A block that `parse_headers` refuses counts as one without fields. A transfer encoding,
 /// which such a part must not have, is not undone. Takes memory for the blocks, their headers and
 /// the texts.
 ///
@@ -75,19 +80,93 @@ pub fn recipients(alloc: Global, mail: &ParsedMail<'_>) -> Result<Vec<Recipient>
     Ok(found)
 }
 
+/// Returns the id of the mail that a delivery report is about, or `None` where the report does not
+/// say it (RFC 3464, section 2; RFC 6533, section 3).
+///
+/// The mail has to be a `multipart/report`, and the first of its own parts that is a
+/// `message/rfc822`, a `text/rfc822-headers`, a `message/global` or a `message/global-headers` is
+/// used: its id is read as `archive::message_id` reads one. Headers that `parse_headers` refuses
+/// have none. A transfer encoding is not undone. Takes memory for the headers and the id.
+///
+/// # Errors
+///
+/// `MailParseError::Memory` where it runs out of memory.
+///
+/// # Examples
+///
+/// ```rust
+/// use mail_data::bounce::original_message_id;
+/// use mailparse::parse_mail;
+///
+/// let raw = b"Content-Type: multipart/report; boundary=b\n\n\
+///     --b\nContent-Type: text/rfc822-headers\n\nMessage-ID: <one@example.org>\n\n--b--\n";
+/// let mail = parse_mail(alloc, raw)?;
+/// let id = original_message_id(alloc, &mail)?.ok_or("no id")?;
+/// assert_eq!(rt; id.as_str(), "one@example.org");
+/// ```
+#[tactic(auto, unfolding(crate::specs::Bounce::original_message_id))]
+pub fn original_message_id(
+    alloc: Global,
+    mail: &ParsedMail<'_>,
+) -> Result<Option<String>, MailParseError>
+    ensures { AnswersOrMemory text_found result (Ok (original_message_id (tree_of mail.now))) }
+{
+    let Some(part) = original_part(mail) else {
+        return Ok(None);
+    };
+    let raw = raw_body(alloc, part)?;
+    let headers = fields(alloc, raw)?;
+    let id = id_among(alloc, &headers)?;
+    Ok(id)
+}
+
 /// The part that has the status of a delivery, if there is one.
 fn status_part<'m, 'a>(mail: &'m ParsedMail<'a>) -> Option<&'m ParsedMail<'a>>
-    ensures { tree_found result ≡ status_part (tree_of mail.now) }
+    ensures { tree_found result ≡ report_part has_status (tree_of mail.now) }
 {
     if mail.ctype.mimetype.as_str() != "multipart/report" {
         return None;
     }
     for part in &mail.subparts {
-        if part.ctype.mimetype.as_str() == "message/delivery-status" {
+        if has_status(part) {
             return Some(part);
         }
     }
     None
+}
+
+/// The part that is the returned mail or its headers, if there is one.
+fn original_part<'m, 'a>(mail: &'m ParsedMail<'a>) -> Option<&'m ParsedMail<'a>>
+    ensures { tree_found result ≡ report_part has_original (tree_of mail.now) }
+{
+    if mail.ctype.mimetype.as_str() != "multipart/report" {
+        return None;
+    }
+    for part in &mail.subparts {
+        if has_original(part) {
+            return Some(part);
+        }
+    }
+    None
+}
+
+/// Whether a part has the status of a delivery.
+fn has_status(part: &ParsedMail<'_>) -> bool
+    ensures { result ≡ has_status (root (tree_of part.now)) }
+{
+    let mimetype = part.ctype.mimetype.as_str();
+    mimetype == "message/delivery-status" || mimetype == "message/global-delivery-status"
+}
+
+/// Whether a part is the returned mail or its headers.
+fn has_original(part: &ParsedMail<'_>) -> bool
+    ensures { result ≡ has_original (root (tree_of part.now)) }
+{
+    let mimetype = part.ctype.mimetype.as_str();
+    mimetype == "message/rfc822"
+        || mimetype == "text/rfc822-headers"
+        || mimetype == "message/global"
+        || mimetype == "message/global-headers"
 }
 
 /// What the status of a delivery says of each recipient.
@@ -161,15 +240,15 @@ fn recipient_in(alloc: Global, headers: &Vec<MailHeader<'_>>) -> Result<Recipien
     ensures only_memory { IfErr result IsMemory }
 {
     Ok(Recipient {
-        final_recipient: typed_text_of(alloc, headers, "Final-Recipient")?,
-        original_recipient: typed_text_of(alloc, headers, "Original-Recipient")?,
+        final_recipient: address_of(alloc, headers, "Final-Recipient")?,
+        original_recipient: address_of(alloc, headers, "Original-Recipient")?,
         action: text_of(alloc, headers, "Action")?,
         status: text_of(alloc, headers, "Status")?,
         diagnostic_code: typed_text_of(alloc, headers, "Diagnostic-Code")?,
     })
 }
 
-/// The text of the first field that has this name, without whitespace around it.
+/// The text of the first field that has this name, without comments and whitespace around it.
 #[tactic(auto, unfolding(crate::specs::Bounce::text_of))]
 fn text_of(
     alloc: Global,
@@ -180,7 +259,10 @@ fn text_of(
     ensures only_memory { IfErr result IsMemory }
 {
     match headers.get_first_value(alloc, name)? {
-        Some(text) => Ok(Some(String::from_str(alloc, text.as_str().trim())?)),
+        Some(text) => {
+            let text = without_comments(alloc, text.as_str())?;
+            Ok(Some(String::from_str(alloc, text.as_str().trim())?))
+        }
         None => Ok(None),
     }
 }
@@ -200,6 +282,26 @@ fn typed_text_of(
         Some(text) => {
             let text = after_type(text.as_str()).trim();
             Ok(Some(String::from_str(alloc, text)?))
+        }
+        None => Ok(None),
+    }
+}
+
+/// The address in such a field: what follows the type, without comments.
+#[tactic(auto, unfolding(crate::specs::Bounce::address_of))]
+fn address_of(
+    alloc: Global,
+    headers: &Vec<MailHeader<'_>>,
+    name: &str,
+) -> Result<Option<String>, MailParseError>
+    ensures read { IfOk result (λ found. text_found found ≡ address_of name.now headers.now.items) }
+    ensures only_memory { IfErr result IsMemory }
+{
+    match headers.get_first_value(alloc, name)? {
+        Some(text) => {
+            let text = without_comments(alloc, text.as_str())?;
+            let address = after_type(text.as_str()).trim();
+            Ok(Some(String::from_str(alloc, address)?))
         }
         None => Ok(None),
     }

@@ -7,7 +7,7 @@ use Rattle.std.specs.List.{after_first, position_or_len}
 use Rattle.mailparse.proofs.lemmas.EncodedWord.{any_from_place}
 use Rattle.mailparse.specs.Header.{Header}
 use Rattle.mail_codec.specs.Places.{is_empty}
-use Rattle.mail_data.specs.Bounce.{Delivery, after_block, after_type, block_at, block_length, blocks, deliveries, delivery_in, fields, pieces_within, text_of, typed_text_of}
+use Rattle.mail_data.specs.Bounce.{Delivery, after_block, after_type, block_at, block_length, blocks, deliveries, delivery_in, fields, pieces_within, address_of, text_of, typed_text_of}
 use Rattle.mail_data.specs.Lines.{empty_line, is_empty_line}
 use Rattle.mail_data.proofs.lemmas.Lines.{line_place-passes}
 
@@ -113,8 +113,8 @@ blocks-end rest found all r is none before =
 
 -- ---- what the fields say
 
-pub delivery-is : (headers : List Header) (final original action status code : Option (List ℕ)) → final ≡ typed_text_of (codes "Final-Recipient") headers
-    → original ≡ typed_text_of (codes "Original-Recipient") headers → action ≡ text_of (codes "Action") headers → status ≡ text_of (codes "Status") headers
+pub delivery-is : (headers : List Header) (final original action status code : Option (List ℕ)) → final ≡ address_of (codes "Final-Recipient") headers
+    → original ≡ address_of (codes "Original-Recipient") headers → action ≡ text_of (codes "Action") headers → status ≡ text_of (codes "Status") headers
     → code ≡ typed_text_of (codes "Diagnostic-Code") headers
     → ◌≡◌ {A = Delivery} (record { final_recipient = final; original_recipient = original; action = action; status = status; diagnostic_code = code }) (delivery_in headers)
 delivery-is headers final original action status code a b c d e = rw (a, b, c, d, e) refl

@@ -1,4 +1,5 @@
 pub mod Base64
 pub mod Encoding
+pub mod Comments
 pub mod Date
 pub mod Ids

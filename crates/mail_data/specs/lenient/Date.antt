@@ -6,9 +6,10 @@ use Rattle.std.specs.Int.{is_in_range}
 use Rattle.std.specs.List.{prefix_len}
 use Rattle.std.specs.Option.{option_map_or}
 use Rattle.std.specs.Str.Parse.{digits_value}
-use Rattle.mail_codec.specs.Ascii.{opening_parenthesis, closing_parenthesis, backslash, comma, colon}
+use Rattle.mail_codec.specs.Ascii.{opening_parenthesis, backslash, comma, colon}
 use Rattle.mail_codec.specs.Places.{is_empty}
 use Rattle.mailparse.specs.Date.{look_up, month_lengths, months, year_length, zone_size}
+use Rattle.mail_data.specs.lenient.Comments.{depth_after}
 use Rattle.mail_data.specs.declared.lenient.date.error.DateError.{DateError}
 use Rattle.mail_data.specs.declared.lenient.date.error.DateError.TheVariants.{Day, Month, Year, Time, Zone, TrailingText}
 
@@ -27,13 +28,6 @@ abbrev pub ◌>>=◌ : {A B : Type 0} → Dated A → (A → Dated B) → Dated 
 -- a byte that is no whitespace and opens no comment, where no comment is open
 abbrev pub ends_whitespace : ℕ → ℕ → Bool
 ends_whitespace depth b = depth == 0 && not (is_ascii_whitespace b || b == opening_parenthesis)
-
--- how many comments are open after a byte, where so many are open before it; a byte that is quoted opens and closes none
-abbrev pub depth_after : Bool → ℕ → ℕ → ℕ
-depth_after quoted depth b =
-    if quoted then depth else
-    if b == opening_parenthesis then suc depth else
-    if b == closing_parenthesis then depth - 1 else depth
 
 -- what follows whitespace and comments, where so many comments are open, and the first byte is quoted or not: a backslash
 -- quotes the byte after it

@@ -3,7 +3,9 @@ ghost use Rattle.std.specs.Prelude.{◌≡◌, ◌+◌, ◌≤◌, ◌<◌, ◌^
 ghost use Rattle.std.specs.Char.{is_ascii_alphabetic, is_ascii_digit};
 ghost use Rattle.std.specs.List.{prefix_len};
 ghost use Rattle.std.specs.Str.Parse.{AllDigits};
-ghost use Rattle.mail_data.specs.lenient.Date.{after_comments, after_mark, depth_after, ends_whitespace, run_at};
+ghost use Rattle.mail_data.specs.lenient.Date.{after_comments, after_mark, ends_whitespace, run_at};
+
+use crate::lenient::comments::depth_after;
 
 /// What follows the whitespace and the comments at the front.
 #[tactic(auto, unfolding(crate::specs::lenient::Date::after_comments))]
@@ -18,7 +20,7 @@ pub(super) fn after_comments(text: &[u8]) -> &[u8]
             let (_, rest) = text.split_at(place);
             return rest;
         }
-        depth = depth_after(is_quoted, depth, byte);
+        depth = depth_after(is_quoted, depth, char::from(byte));
         is_quoted = !is_quoted && byte == b'\\';
     }
     let (_, rest) = text.split_at(text.len());
@@ -30,24 +32,6 @@ fn ends_whitespace(depth: usize, byte: u8) -> bool
     ensures { result ≡ ends_whitespace depth byte }
 {
     depth == 0 && !(byte.is_ascii_whitespace() || byte == b'(')
-}
-
-/// How many comments are open after a byte.
-fn depth_after(is_quoted: bool, depth: usize, byte: u8) -> usize
-    requires { depth < 2 ^ 63 }
-    ensures value { result ≡ depth_after is_quoted depth byte }
-    ensures bounds { result ≤ depth + 1 }
-{
-    if is_quoted {
-        return depth;
-    }
-    if byte == b'(' {
-        return depth + 1;
-    }
-    if byte == b')' {
-        return depth.saturating_sub(1);
-    }
-    depth
 }
 
 /// What follows the byte at the front, after whitespace and comments, if it is that one.

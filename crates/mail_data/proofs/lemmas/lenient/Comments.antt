@@ -1,0 +1,43 @@
+-- Lemmas on comments.
+use Rattle.std.proofs.Common.{◌≡◌, ℕ, ◌<◌, length, arith, length-append, Bool, true, false, eqb, cond, ◌&&◌, List, [], ◌∷◌, ◌++◌, refl, sym, ap, ◌∙◌, append_assoc}
+use Rattle.std.proofs.lemmas.List.{append-nil}
+use Rattle.std.proofs.lemmas.Str.{chars-nil, chars_past_char, len_utf8_bounds, length-encode}
+use Rattle.std.specs.Char.{encode_utf8}
+use Rattle.std.specs.Str.{chars, encode_utf8_all, IsUtf8}
+use Rattle.mail_data.specs.lenient.Comments.{depth_beside, outside_comments, quotes_next, string_after, without_comments}
+
+-- what was kept, and then what is kept of the rest
+abbrev pub kept_with : List ℕ → Bool → Bool → ℕ → List ℕ → List ℕ
+kept_with kept in_string quoted depth rest = kept ++ encode_utf8_all (outside_comments in_string quoted depth (chars rest))
+
+pub kept-start : (text kept rest : List ℕ) → kept ≡ [] → rest ≡ text → kept_with kept false false 0 rest ≡ without_comments text
+unfolding without_comments
+kept-start text kept rest none all =
+    ap (λ (k : List ℕ). kept_with k false false 0 rest) none ∙ ap (λ (r : List ℕ). encode_utf8_all (outside_comments false false 0 (chars r))) all
+
+pub kept-end : (kept rest : List ℕ) (in_string quoted : Bool) (depth : ℕ) → rest ≡ [] → kept_with kept in_string quoted depth rest ≡ kept
+kept-end kept rest in_string quoted depth none =
+    ap (λ (r : List ℕ). kept ++ encode_utf8_all (outside_comments in_string quoted depth r)) (ap chars none ∙ chars-nil) ∙ append-nil kept
+
+one : (t : Bool) (kept more : List ℕ) (c : ℕ) → kept ++ encode_utf8_all (cond t (c ∷ []) [] ++ more) ≡ (kept ++ cond t (encode_utf8 c) []) ++ encode_utf8_all more
+one true kept more c = sym (append_assoc kept (encode_utf8 c) (encode_utf8_all more))
+one false kept more c = ap (λ (k : List ℕ). k ++ encode_utf8_all more) (sym (append-nil kept))
+
+pub shorter : (rest next : List ℕ) (c : ℕ) → rest ≡ encode_utf8 c ++ next → length next < length rest
+shorter rest next c e =
+    let all = ap length e ∙ length-append (encode_utf8 c) next in
+    let width = length-encode c in
+    let some = len_utf8_bounds c in
+    omega (arith, all, width, some.0)
+
+-- one character more
+pub kept-next : (kept new rest next : List ℕ) (in_string quoted in_string_next quoted_next : Bool) (depth after c : ℕ) → IsUtf8 rest → rest ≡ encode_utf8 c ++ next
+    → after ≡ depth_beside in_string quoted depth c → in_string_next ≡ string_after in_string quoted depth c → quoted_next ≡ quotes_next quoted c → new ≡ kept ++ cond (eqb depth 0 && eqb after 0) (encode_utf8 c) []
+    → kept_with new in_string_next quoted_next after next ≡ kept_with kept in_string quoted depth rest
+kept-next kept new rest next in_string quoted in_string_next quoted_next depth after c utf8 e is within quotes push =
+    rw (within, quotes) (
+    let more = outside_comments (string_after in_string quoted depth c) (quotes_next quoted c) after (chars next) in
+    ap (λ (k : List ℕ). k ++ encode_utf8_all more) push ∙ sym (one (eqb depth 0 && eqb after 0) kept more c)
+    ∙ ap (λ (a : ℕ). kept ++ encode_utf8_all (cond (eqb depth 0 && eqb a 0) (c ∷ []) []
+    ++ outside_comments (string_after in_string quoted depth c) (quotes_next quoted c) a (chars next))) is
+    ∙ ap (λ (cs : List ℕ). kept ++ encode_utf8_all (outside_comments in_string quoted depth cs)) (sym (chars_past_char rest next c utf8 e)))

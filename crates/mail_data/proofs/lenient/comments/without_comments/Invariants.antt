@@ -1,0 +1,14 @@
+-- What was kept, and then what is kept of the rest, is what is kept of all.
+use Rattle.std.proofs.Common.{◌≡◌, ◌+◌, ◌≤◌, length}
+use Rattle.std.specs.Str.{IsUtf8}
+use Rattle.std.specs.String.{string_bytes}
+use Rattle.mail_data.specs.lenient.Comments.{without_comments}
+use Rattle.mail_data.proofs.lemmas.lenient.Comments.{kept_with}
+use Rattle.mail_data.proofs.lenient.comments.without_comments.Given as goal
+
+abbrev pub invariant-loop-c : goal.invariant-loop-c
+invariant-loop-c l = record {
+  utf8 : IsUtf8 l.c-iterator.rest.now;
+  small : l.depth + length l.c-iterator.rest.now ≤ length l.text;
+  kept : kept_with (string_bytes l.kept) l.in_string l.is_quoted l.depth l.c-iterator.rest.now ≡ without_comments l.text;
+}

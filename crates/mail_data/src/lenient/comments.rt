@@ -1,0 +1,83 @@
+//! Comments in structured text (RFC 5322, section 3.2.2).
+ghost use Rattle.std.specs.Prelude.{◌≡◌, ◌+◌, ◌≤◌, ◌<◌, ◌^◌, ◌++◌, ◌==◌, ◌&&◌, [], encode_utf8, if◌then◌else◌, IfOk, OnOk, string_bytes};
+ghost use Rattle.mail_data.specs.lenient.Comments.{depth_after, depth_beside, quotes_next, string_after};
+ghost use Rattle.mail_data.specs.lenient.Comments.{without_comments};
+
+use std::alloc::{AllocError, Global};
+
+/// A text without its comments.
+pub(crate) fn without_comments(alloc: Global, text: &str) -> Result<String, AllocError>
+    ensures { IfOk result (λ kept. string_bytes kept ≡ without_comments text.now) }
+{
+    let mut kept = String::new(alloc);
+    let mut in_string = false;
+    let mut is_quoted = false;
+    let mut depth = 0;
+    for c in text.chars() {
+        let after = depth_beside(in_string, is_quoted, depth, c);
+        push_outside(&mut kept, depth, after, c)?;
+        in_string = string_after(in_string, is_quoted, depth, c);
+        is_quoted = quotes_next(is_quoted, c);
+        depth = after;
+    }
+    Ok(kept)
+}
+
+/// Appends a character that stands in no comment, by how many are open before and after it.
+fn push_outside(kept: &mut String, depth: usize, after: usize, c: char) -> Result<(), AllocError>
+    ensures { OnOk result (string_bytes kept.new ≡ string_bytes kept.old
+        ++ (if depth == 0 && after == 0 then encode_utf8 c else [])) }
+{
+    if depth == 0 && after == 0 {
+        kept.push(c)?;
+    }
+    Ok(())
+}
+
+/// How many comments are open after a character, where a quoted string may be open.
+fn depth_beside(in_string: bool, is_quoted: bool, depth: usize, c: char) -> usize
+    requires { depth < 2 ^ 63 }
+    ensures value { result ≡ depth_beside in_string is_quoted depth c }
+    ensures bounds { result ≤ depth + 1 }
+{
+    if in_string {
+        return depth;
+    }
+    depth_after(is_quoted, depth, c)
+}
+
+/// How many comments are open after a character.
+pub(super) fn depth_after(is_quoted: bool, depth: usize, c: char) -> usize
+    requires { depth < 2 ^ 63 }
+    ensures value { result ≡ depth_after is_quoted depth c }
+    ensures bounds { result ≤ depth + 1 }
+{
+    if is_quoted {
+        return depth;
+    }
+    if c == '(' {
+        return depth + 1;
+    }
+    if c == ')' {
+        return depth.saturating_sub(1);
+    }
+    depth
+}
+
+/// Whether a character quotes the next one.
+fn quotes_next(is_quoted: bool, c: char) -> bool
+    ensures { result ≡ quotes_next is_quoted c }
+{
+    !is_quoted && c == '\\'
+}
+
+/// Whether a quoted string is open after a character.
+fn string_after(in_string: bool, is_quoted: bool, depth: usize, c: char) -> bool
+    ensures { result ≡ string_after in_string is_quoted depth c }
+{
+    if !is_quoted && depth == 0 && c == '"' {
+        !in_string
+    } else {
+        in_string
+    }
+}
