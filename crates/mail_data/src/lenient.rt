@@ -7,6 +7,6 @@ mod ids;
 
 pub use base64::{Base64Front, base64_front};
 pub(crate) use comments::without_comments;
-pub use date::{DateError, date_of};
+pub use date::{DateError, date_in, date_of};
 pub use encoding::lenient_body;
 pub use ids::{ids_in, own_ids_in};

@@ -1,10 +1,11 @@
 -- Dates as mail writes them: RFC 5322, section 3.3, and the obsolete forms of section 4.3. What is read where the standard
 -- leaves it open, and the faults, are the crate's own rule.
-use Rattle.std.specs.Prelude.{ℕ, zero, suc, ◌+◌, ◌*◌, ◌%◌, ◌-◌, Bool, false, not, ◌&&◌, ◌||◌, ◌==◌, nat_lt, nat_le, List, [], ◌∷◌, length, take, drop, sum, ℤ, pos, ◌+ℤ◌, neg_ℤ, Option, Some, None, ok_or, unwrap_or, Result, Ok, Err, codes, slice_index_or, if◌then◌else◌}
+use Rattle.std.specs.Prelude.{ℕ, zero, suc, ◌+◌, ◌*◌, ◌%◌, ◌-◌, Bool, true, false, not, ◌&&◌, ◌||◌, ◌==◌, nat_lt, nat_le, List, [], ◌∷◌, length, take, drop, sum, ℤ, pos, ◌+ℤ◌, neg_ℤ, Option, Some, None, option_map, is_some, ok_or, unwrap_or, Result, Ok, Err, codes, slice_index_or, if◌then◌else◌}
 use Rattle.std.specs.Char.{is_ascii_alphabetic, is_ascii_digit, is_ascii_whitespace}
 use Rattle.std.specs.Int.{is_in_range}
 use Rattle.std.specs.List.{prefix_len}
 use Rattle.std.specs.Option.{option_map_or}
+use Rattle.std.specs.Str.{str_eq_ignore_ascii_case}
 use Rattle.std.specs.Str.Parse.{digits_value}
 use Rattle.mail_codec.specs.Ascii.{opening_parenthesis, backslash, comma, colon}
 use Rattle.mail_codec.specs.Places.{is_empty}
@@ -132,13 +133,23 @@ after_colon most bytes = do
 unfoldable pub second_at : List ℕ → Dated (ℕ × List ℕ)
 second_at bytes = option_map_or (λ rest. ok_or (small_number 60 rest) Time) (after_mark colon bytes) (Ok (0, bytes))
 
+-- the hour of the day, by the hour that is written and the word after the time, and what follows: before noon 12 is 0, after noon
+-- 1 to 11 are 13 to 23, and another hour stays as it is
+unfoldable pub clock_hour : ℕ → List ℕ → ℕ × List ℕ
+clock_hour hour bytes =
+    let run = run_at is_ascii_alphabetic bytes in
+    if str_eq_ignore_ascii_case run.0 (codes "AM") then (if hour == 12 then 0 else hour, run.1) else
+    if str_eq_ignore_ascii_case run.0 (codes "PM") then (if is_in_range 1 11 hour then hour + 12 else hour, run.1) else
+    (hour, bytes)
+
 -- the seconds from the start of the day to a time
 unfoldable pub time_at : List ℕ → Dated (ℕ × List ℕ)
 time_at bytes = do
-  hour ← ok_or (small_number 23 bytes) Time
-  minute ← after_colon 59 hour.1
+  written ← ok_or (small_number 23 bytes) Time
+  minute ← after_colon 59 written.1
   second ← second_at minute.1
-  Ok (3600 * hour.0 + 60 * minute.0 + second.0, second.1)
+  let hour = clock_hour written.0 second.1 in
+      Ok (3600 * hour.0 + 60 * minute.0 + second.0, hour.1)
 
 -- Zones.
 
@@ -148,19 +159,6 @@ offset_at bytes =
     let run = run_at is_ascii_digit bytes in
     let n = digits_value 10 run.0 in
     if length run.0 == 4 && nat_lt (n % 100) 60 then Ok (zone_size n, run.1) else Err Zone
-
--- the names of zones, with the hours that they are west of Greenwich
-abbrev pub zone_names : List (List ℕ × ℕ)
-zone_names =
-    (codes "EDT", 4) ∷ (codes "EST", 5) ∷ (codes "CDT", 5) ∷ (codes "CST", 6)
-    ∷ (codes "MDT", 6) ∷ (codes "MST", 7) ∷ (codes "PDT", 7) ∷ (codes "PST", 8) ∷ []
-
--- the seconds that a zone with a name is west of Greenwich: none where the name is none of those; and none without a zone
-unfoldable pub named_zone_at : List ℕ → Dated (ℕ × List ℕ)
-named_zone_at bytes =
-    let run = run_at is_ascii_alphabetic bytes in
-    if is_empty run.0 && not (is_empty run.1) then Err Zone
-    else Ok (3600 * unwrap_or (look_up zone_names run.0) 0, run.1)
 
 -- what a zone in the west adds to the seconds, and what one in the east does
 abbrev pub west : ℕ × List ℕ → Dated (ℤ × List ℕ)
@@ -176,12 +174,65 @@ plus_sign = 43
 abbrev pub minus_sign : ℕ
 minus_sign = 45
 
--- what a zone adds to the seconds: after `+` it is in the east, after `-` and with a name in the west
-unfoldable pub zone_at : List ℕ → Dated (ℤ × List ℕ)
+-- what so many minutes in the west of Greenwich add to the seconds, and so many in the east
+abbrev pub west_by : ℕ → ℤ
+west_by minutes = pos (60 * minutes)
+
+abbrev pub east_by : ℕ → ℤ
+east_by minutes = neg_ℤ (pos (60 * minutes))
+
+-- the names of zones that are known, with what each adds to the seconds: those of the standard, those whose abbreviation means one
+-- offset in the time zone database of IANA (RFC 6557), and the German names MEZ and MESZ
+abbrev pub zone_names : List (List ℕ × ℤ)
+zone_names =
+    (codes "UTC", pos 0) ∷ (codes "UT", pos 0) ∷ (codes "GMT", pos 0) ∷ (codes "Z", pos 0)
+    ∷ (codes "EDT", west_by 240) ∷ (codes "EST", west_by 300) ∷ (codes "CDT", west_by 300)
+    ∷ (codes "CST", west_by 360) ∷ (codes "MDT", west_by 360) ∷ (codes "MST", west_by 420)
+    ∷ (codes "PDT", west_by 420) ∷ (codes "PST", west_by 480) ∷ (codes "NST", west_by 210)
+    ∷ (codes "NDT", west_by 150) ∷ (codes "AST", west_by 240) ∷ (codes "ADT", west_by 180)
+    ∷ (codes "AKST", west_by 540) ∷ (codes "AKDT", west_by 480) ∷ (codes "HST", west_by 600) ∷ (codes "WET", pos 0)
+    ∷ (codes "WEST", east_by 60) ∷ (codes "BST", east_by 60) ∷ (codes "CET", east_by 60) ∷ (codes "CEST", east_by 120)
+    ∷ (codes "MET", east_by 60) ∷ (codes "MEST", east_by 120) ∷ (codes "MEZ", east_by 60)
+    ∷ (codes "MESZ", east_by 120) ∷ (codes "EET", east_by 120) ∷ (codes "EEST", east_by 180)
+    ∷ (codes "MSK", east_by 180) ∷ (codes "MSD", east_by 240) ∷ (codes "WAT", east_by 60) ∷ (codes "CAT", east_by 120)
+    ∷ (codes "SAST", east_by 120) ∷ (codes "EAT", east_by 180) ∷ (codes "PKT", east_by 300)
+    ∷ (codes "WIB", east_by 420) ∷ (codes "HKT", east_by 480) ∷ (codes "AWST", east_by 480)
+    ∷ (codes "JST", east_by 540) ∷ (codes "KST", east_by 540) ∷ (codes "ACST", east_by 570)
+    ∷ (codes "ACDT", east_by 630) ∷ (codes "AEST", east_by 600) ∷ (codes "AEDT", east_by 660)
+    ∷ (codes "NZST", east_by 720) ∷ (codes "NZDT", east_by 780) ∷ []
+
+-- a zone: what it adds to the seconds, and whether it is known
+abbrev pub Zoned : Type 0
+Zoned = ℤ × Bool
+
+-- the digits after a sign, if one stands there: after `+` a zone is in the east, after `-` in the west; a name after them says nothing more
+unfoldable pub signed_at : List ℕ → Option (Dated (ℤ × List ℕ))
+signed_at bytes =
+    option_map_or (λ rest. Some (offset_at rest >>= east)) (after_mark plus_sign bytes)
+    (option_map (λ rest. offset_at rest >>= west) (after_mark minus_sign bytes))
+
+-- a name that digits may follow
+abbrev pub is_universal : List ℕ → Bool
+is_universal name =
+    str_eq_ignore_ascii_case name (codes "GMT") || str_eq_ignore_ascii_case name (codes "UTC") || str_eq_ignore_ascii_case name (codes "UT")
+
+-- the zone of a name, with what follows it: UTC where the name is not known, and where there is no zone
+unfoldable pub named_zone : List ℕ → List ℕ → Dated (Zoned × List ℕ)
+named_zone name rest =
+    if is_empty name && not (is_empty rest) then Err Zone
+    else Ok ((unwrap_or (look_up zone_names name) (pos 0), is_some (look_up zone_names name)), rest)
+
+-- a zone with digits is known; what follows it is the name that they may have
+abbrev pub zone_of_digits : ℤ × List ℕ → Dated (Zoned × List ℕ)
+zone_of_digits offset = Ok ((offset.0, true), (run_at is_ascii_alphabetic offset.1).1)
+
+-- the zone at the front: a sign and digits, perhaps after `GMT` or `UTC`, or a name, or nothing
+unfoldable pub zone_at : List ℕ → Dated (Zoned × List ℕ)
 zone_at bytes =
-    option_map_or (λ rest. offset_at rest >>= east) (after_mark plus_sign bytes)
-    (option_map_or (λ rest. offset_at rest >>= west) (after_mark minus_sign bytes)
-    (named_zone_at bytes >>= west))
+    let run = run_at is_ascii_alphabetic bytes in
+    if is_empty run.0 || is_universal run.0
+    then option_map_or (λ offset. offset >>= zone_of_digits) (signed_at run.1) (named_zone run.0 run.1)
+    else named_zone run.0 run.1
 
 -- The date.
 
@@ -189,11 +240,17 @@ zone_at bytes =
 abbrev pub since_1970 : ℕ → ℤ
 since_1970 seconds = pos seconds +ℤ neg_ℤ (pos (86400 * day_number 1970 0 1))
 
--- the seconds from 1 January 1970, 0 h UTC, to the date of a text
-unfoldable pub date_of : List ℕ → Dated ℤ
-date_of text = do
+-- the seconds from 1 January 1970, 0 h UTC, to the date of a text, and whether its zone is known
+unfoldable pub date_in : List ℕ → Dated Zoned
+date_in text = do
   day ← day_at text
   time ← time_at day.1
   zone ← zone_at time.1
   if is_empty (after_comments zone.1)
-      then Ok (since_1970 (86400 * day.0 + time.0) +ℤ zone.0) else Err TrailingText
+      then Ok (since_1970 (86400 * day.0 + time.0) +ℤ zone.0.0, zone.0.1) else Err TrailingText
+
+-- the seconds alone
+abbrev pub date_of : List ℕ → Dated ℤ
+date_of text = do
+  date ← date_in text
+  Ok date.0

@@ -1,6 +1,6 @@
 //! Dates as mail writes them (RFC 5322, sections 3.3 and 4.3).
 ghost use Rattle.std.specs.Prelude.{◌≡◌, ◌<◌, ◌^◌, neg_ℤ, pos, ◌≤ℤ◌, ◌+ℤ◌};
-ghost use Rattle.mail_data.specs.lenient.Date.{date_of, since_1970};
+ghost use Rattle.mail_data.specs.lenient.Date.{date_in, date_of, since_1970};
 
 mod calendar;
 mod error;
@@ -22,9 +22,10 @@ use zones::zone_at;
 /// letters or `Sept`, in any case; a year; a time of day, whose seconds may be left out; and a
 /// zone. A year of two digits is from 1950 to 2049, one of three is counted from 1900, and one of
 /// four to nine has to be at least 1900. The second may be 60. A zone is a sign and four digits,
-/// the last two below 60, or a name: `EST`, `EDT`, `CST`, `CDT`, `MST`, `MDT`, `PST` and `PDT` have
-/// their offset, and every other name, a single letter or `PM` among them, is UTC, and so is a date
-/// without a zone. ASCII whitespace and comments may stand between words, numbers and marks and at
+/// the last two below 60, or a name: the names of the standard and the common ones of the time zone
+/// database, as `EST`, `CEST` and `JST`, have their offset, and every other name, a single letter
+/// among them, is UTC, and so is a date without a zone. Digits may follow `GMT` and `UTC`, and a
+/// name may follow digits. `AM` or `PM` may follow the time. ASCII whitespace and comments may stand between words, numbers and marks and at
 /// both ends; a comment may hold comments.
 ///
 /// Unlike `mailparse::dateparse`, this reads `20:57 +0200`, without seconds, as it is meant. Takes
@@ -44,17 +45,41 @@ use zones::zone_at;
 /// assert_eq!(rt; date_of("21 Nov 97 09:55:06 GMT").ok(), Some(880_106_106));
 /// assert_eq!(rt; date_of("30 Feb 2012 20:57 +0200").err(), Some(DateError::Day));
 /// ```
-#[tactic(auto, unfolding(crate::specs::lenient::Date::date_of))]
 pub fn date_of(text: &str) -> Result<i64, DateError>
     ensures { result ≡ date_of text.now }
 {
+    let (seconds, _) = date_in(text)?;
+    Ok(seconds)
+}
+
+/// Returns the seconds that `date_of` returns, and whether the zone of the date is known (RFC 5322,
+/// section 4.3): false where its name is none that `date_of` knows, and where there is no zone.
+///
+/// Takes no memory.
+///
+/// # Errors
+///
+/// Those of `date_of`.
+///
+/// # Examples
+///
+/// ```rust
+/// use mail_data::lenient::date_in;
+///
+/// assert_eq!(rt; date_in("1 Jan 1970 09:00 JST").ok(), Some((0, true)));
+/// assert_eq!(rt; date_in("1 Jan 1970 00:00 XYZ").ok(), Some((0, false)));
+/// ```
+#[tactic(auto, unfolding(crate::specs::lenient::Date::date_in))]
+pub fn date_in(text: &str) -> Result<(i64, bool), DateError>
+    ensures { result ≡ date_in text.now }
+{
     let (day, rest) = day_at(text.as_bytes())?;
     let (time, rest) = time_at(rest)?;
-    let (zone, rest) = zone_at(rest)?;
+    let ((zone, is_known), rest) = zone_at(rest)?;
     if !after_comments(rest).is_empty() {
         return Err(DateError::TrailingText);
     }
-    Ok(since_1970(86_400 * day + time, zone))
+    Ok((since_1970(86_400 * day + time, zone), is_known))
 }
 
 /// The seconds from 1 January 1970, 0 h UTC, to so many seconds after the start of 1900 in a zone

@@ -1,7 +1,9 @@
 //! The calls that read leniently.
 
 use crate::calls::files::part_at;
-use mail_data::lenient::{DateError, base64_front, date_of, ids_in, lenient_body};
+use mail_data::lenient::{
+    DateError, base64_front, date_in, date_of, ids_in, lenient_body, own_ids_in,
+};
 use mail_suite::{Answer, Row};
 use mailparse::body::Body;
 use mailparse::{MailParseError, parse_mail};
@@ -13,7 +15,9 @@ pub fn make(alloc: Global, row: &Row, answer: &mut Answer) -> Result<bool, MailP
         "base64_front" => read_front(alloc, row, answer),
         "lenient_body" => read_body(alloc, row, answer),
         "ids_in" => find_ids(alloc, row, answer),
+        "own_ids_in" => find_own_ids(alloc, row, answer),
         "date_of" => read_date(alloc, row, answer),
+        "date_in" => read_zoned_date(alloc, row, answer),
         _ => return Ok(false),
     };
     if let Err(error) = outcome {
@@ -73,10 +77,30 @@ fn find_ids(alloc: Global, row: &Row, answer: &mut Answer) -> Result<(), MailPar
     Ok(())
 }
 
+/// `own_ids_in TEXT => ID..`
+fn find_own_ids(alloc: Global, row: &Row, answer: &mut Answer) -> Result<(), MailParseError> {
+    for id in &own_ids_in(alloc, row.text(0)?)? {
+        answer.text(id.as_str())?;
+    }
+    Ok(())
+}
+
 /// `date_of TEXT => SECONDS`
 fn read_date(alloc: Global, row: &Row, answer: &mut Answer) -> Result<(), MailParseError> {
     match date_of(row.text(0)?) {
         Ok(seconds) => answer.signed(seconds)?,
+        Err(fault) => write_fault(alloc, fault, answer)?,
+    }
+    Ok(())
+}
+
+/// `date_in TEXT => SECONDS KNOWN`, KNOWN whether the zone is known.
+fn read_zoned_date(alloc: Global, row: &Row, answer: &mut Answer) -> Result<(), MailParseError> {
+    match date_in(row.text(0)?) {
+        Ok((seconds, is_known)) => {
+            answer.signed(seconds)?;
+            answer.truth(is_known)?;
+        }
         Err(fault) => write_fault(alloc, fault, answer)?,
     }
     Ok(())

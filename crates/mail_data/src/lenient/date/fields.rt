@@ -1,7 +1,8 @@
 //! The day and the time of a date.
-ghost use Rattle.std.specs.Prelude.{◌≡◌, ◌≤◌, ◌<◌, ◌*◌, ◌^◌, length, IfOk};
+ghost use Rattle.std.specs.Prelude.{◌≡◌, ◌≤◌, ◌<◌, ◌*◌, ◌^◌, ◌+◌, ◌==◌, if◌then◌else◌, length, IfOk};
+ghost use Rattle.std.specs.Int.{is_in_range};
 ghost use Rattle.std.specs.Str.Parse.{AllDigits};
-ghost use Rattle.mail_data.specs.lenient.Date.{after_colon, after_day_name, day_at, month_at};
+ghost use Rattle.mail_data.specs.lenient.Date.{after_colon, after_day_name, clock_hour, day_at, month_at};
 ghost use Rattle.mail_data.specs.lenient.Date.{second_at, time_at, year_at, year_of};
 ghost use Rattle.mail_data.specs.lenient.DateViews.{part_read};
 
@@ -98,12 +99,52 @@ pub(super) fn time_at(text: &[u8]) -> Result<(u64, &[u8]), DateError>
     ensures read { part_read result ≡ time_at text.now }
     ensures bounds { IfOk result (λ p. p.0 < 86401) }
 {
-    let Some((hour, rest)) = small_number(text, 23) else {
+    let Some((written, rest)) = small_number(text, 23) else {
         return Err(DateError::Time);
     };
     let (minute, rest) = after_colon(rest, 59)?;
     let (second, rest) = second_at(rest)?;
+    let (hour, rest) = clock_hour(written, rest);
     Ok((3600 * hour + 60 * minute + second, rest))
+}
+
+/// The hour of the day, by the hour that is written and the word after the time, and what follows.
+#[tactic(auto, unfolding(crate::specs::lenient::Date::clock_hour))]
+fn clock_hour(hour: u64, text: &[u8]) -> (u64, &[u8])
+    requires { hour ≤ 23 }
+    ensures value { (result.0, result.1.now) ≡ clock_hour hour text.now }
+    ensures bounds { result.0 ≤ 23 }
+{
+    let (word, rest) = letters_at(text);
+    if word.eq_ignore_ascii_case(b"AM") {
+        return (morning_hour(hour), rest);
+    }
+    if word.eq_ignore_ascii_case(b"PM") {
+        return (evening_hour(hour), rest);
+    }
+    (hour, text)
+}
+
+/// The hour of the day before noon.
+fn morning_hour(hour: u64) -> u64
+    requires { hour ≤ 23 }
+    ensures value { result ≡ (if hour == 12 then 0 else hour) }
+    ensures bounds { result ≤ 23 }
+{
+    if hour == 12 { 0 } else { hour }
+}
+
+/// The hour of the day after noon.
+fn evening_hour(hour: u64) -> u64
+    requires { hour ≤ 23 }
+    ensures value { result ≡ (if is_in_range 1 11 hour then hour + 12 else hour) }
+    ensures bounds { result ≤ 23 }
+{
+    if hour >= 1 && hour <= 11 {
+        hour + 12
+    } else {
+        hour
+    }
 }
 
 /// The number after a colon, if it is at most that, and what follows it.

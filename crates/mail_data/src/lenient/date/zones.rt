@@ -1,6 +1,8 @@
 //! The zone of a date.
-ghost use Rattle.std.specs.Prelude.{◌≡◌, ◌≤◌, ◌<◌, ◌^◌, neg_ℤ, pos, ◌≤ℤ◌, IfOk};
-ghost use Rattle.mail_data.specs.lenient.Date.{named_zone_at, offset_at, zone_at};
+ghost use Rattle.std.specs.Prelude.{◌≡◌, ◌≤◌, ◌<◌, ◌^◌, neg_ℤ, pos, ◌≤ℤ◌, option_map, IfOk, IfSome};
+ghost use Rattle.mail_data.specs.lenient.Date.{is_universal, named_zone, offset_at, signed_at, zone_at};
+ghost use Rattle.mail_data.specs.lenient.Date.{zone_names};
+ghost use Rattle.mailparse.specs.Date.{look_up};
 ghost use Rattle.mail_data.specs.lenient.DateViews.{part_read};
 
 use super::error::DateError;
@@ -8,34 +10,97 @@ use super::numbers::number_of;
 use super::whitespace::{after_mark, digits_at, letters_at};
 use mailparse::names::look_up;
 
-/// The names of zones, with the hours that they are west of Greenwich.
-static ZONES: [(&str, u64); 8] = [
-    ("EDT", 4),
-    ("EST", 5),
-    ("CDT", 5),
-    ("CST", 6),
-    ("MDT", 6),
-    ("MST", 7),
-    ("PDT", 7),
-    ("PST", 8),
+/// The names of zones that are known, with the seconds that each adds: a clock in the west of
+/// Greenwich is behind.
+static ZONES: [(&str, i32); 48] = [
+    ("UTC", 0),
+    ("UT", 0),
+    ("GMT", 0),
+    ("Z", 0),
+    ("EDT", 14_400),
+    ("EST", 18_000),
+    ("CDT", 18_000),
+    ("CST", 21_600),
+    ("MDT", 21_600),
+    ("MST", 25_200),
+    ("PDT", 25_200),
+    ("PST", 28_800),
+    ("NST", 12_600),
+    ("NDT", 9_000),
+    ("AST", 14_400),
+    ("ADT", 10_800),
+    ("AKST", 32_400),
+    ("AKDT", 28_800),
+    ("HST", 36_000),
+    ("WET", 0),
+    ("WEST", -3_600),
+    ("BST", -3_600),
+    ("CET", -3_600),
+    ("CEST", -7_200),
+    ("MET", -3_600),
+    ("MEST", -7_200),
+    ("MEZ", -3_600),
+    ("MESZ", -7_200),
+    ("EET", -7_200),
+    ("EEST", -10_800),
+    ("MSK", -10_800),
+    ("MSD", -14_400),
+    ("WAT", -3_600),
+    ("CAT", -7_200),
+    ("SAST", -7_200),
+    ("EAT", -10_800),
+    ("PKT", -18_000),
+    ("WIB", -25_200),
+    ("HKT", -28_800),
+    ("AWST", -28_800),
+    ("JST", -32_400),
+    ("KST", -32_400),
+    ("ACST", -34_200),
+    ("ACDT", -37_800),
+    ("AEST", -36_000),
+    ("AEDT", -39_600),
+    ("NZST", -43_200),
+    ("NZDT", -46_800),
 ];
 
-/// The seconds that the zone at the front adds, and what follows it.
+/// The seconds that the zone at the front adds, whether it is known, and what follows it.
 #[tactic(auto, unfolding(crate::specs::lenient::Date::zone_at))]
-pub(super) fn zone_at(text: &[u8]) -> Result<(i64, &[u8]), DateError>
+pub(super) fn zone_at(text: &[u8]) -> Result<((i64, bool), &[u8]), DateError>
     ensures read { part_read result ≡ zone_at text.now }
-    ensures bounds { IfOk result (λ p. (neg_ℤ (pos (10 ^ 11)) ≤ℤ p.0) × (p.0 ≤ℤ pos (10 ^ 11))) }
+    ensures bounds { IfOk result (λ p.
+        (neg_ℤ (pos (10 ^ 11)) ≤ℤ p.0.0) × (p.0.0 ≤ℤ pos (10 ^ 11))) }
+{
+    let (name, rest) = letters_at(text);
+    if name.is_empty() || is_universal(name) {
+        if let Some(signed) = signed_at(rest) {
+            let (offset, rest) = signed?;
+            let (_, rest) = letters_at(rest);
+            return Ok(((offset, true), rest));
+        }
+    }
+    named_zone(name, rest)
+}
+
+/// The seconds that the digits after a sign add, and what follows them, if a sign stands there.
+#[tactic(auto, unfolding(crate::specs::lenient::Date::signed_at))]
+fn signed_at(text: &[u8]) -> Option<Result<(i64, &[u8]), DateError>>
+    ensures read { option_map part_read result ≡ signed_at text.now }
+    ensures bounds { IfSome result (λ signed. IfOk signed (λ p.
+        (neg_ℤ (pos (10 ^ 11)) ≤ℤ p.0) × (p.0 ≤ℤ pos (10 ^ 11)))) }
 {
     if let Some(rest) = after_mark(text, b'+') {
-        let (offset, rest) = offset_at(rest)?;
-        return Ok((-(offset as i64), rest));
+        return match offset_at(rest) {
+            Ok((offset, rest)) => Some(Ok((-(offset as i64), rest))),
+            Err(error) => Some(Err(error)),
+        };
     }
     if let Some(rest) = after_mark(text, b'-') {
-        let (offset, rest) = offset_at(rest)?;
-        return Ok((offset as i64, rest));
+        return match offset_at(rest) {
+            Ok((offset, rest)) => Some(Ok((offset as i64, rest))),
+            Err(error) => Some(Err(error)),
+        };
     }
-    let (offset, rest) = named_zone_at(text)?;
-    Ok((offset as i64, rest))
+    None
 }
 
 /// The seconds that the four digits at the front write, and what follows them.
@@ -55,19 +120,34 @@ fn offset_at(text: &[u8]) -> Result<(u64, &[u8]), DateError>
     Ok((3600 * (number / 100) + 60 * (number % 100), rest))
 }
 
-/// The seconds that the zone whose name stands at the front is west of Greenwich, and what follows
-/// it; none without a zone.
-#[tactic(auto, unfolding(crate::specs::lenient::Date::named_zone_at))]
-fn named_zone_at(text: &[u8]) -> Result<(u64, &[u8]), DateError>
-    ensures read { part_read result ≡ named_zone_at text.now }
-    ensures bounds { IfOk result (λ p. p.0 ≤ 10 ^ 11) }
+/// Whether digits may follow a name.
+fn is_universal(name: &[u8]) -> bool
+    ensures { result ≡ is_universal name.now }
 {
-    let (name, rest) = letters_at(text);
+    name.eq_ignore_ascii_case(b"GMT")
+        || name.eq_ignore_ascii_case(b"UTC")
+        || name.eq_ignore_ascii_case(b"UT")
+}
+
+/// The zone of a name, with what follows it: UTC where the name is not known, and without a zone.
+#[tactic(auto, unfolding(crate::specs::lenient::Date::named_zone))]
+fn named_zone<'t>(name: &[u8], rest: &'t [u8]) -> Result<((i64, bool), &'t [u8]), DateError>
+    ensures read { part_read result ≡ named_zone name.now rest.now }
+    ensures bounds { IfOk result (λ p.
+        (neg_ℤ (pos (10 ^ 11)) ≤ℤ p.0.0) × (p.0.0 ≤ℤ pos (10 ^ 11))) }
+{
     if name.is_empty() && !rest.is_empty() {
         return Err(DateError::Zone);
     }
-    match look_up(&ZONES, name) {
-        Some(hours) => Ok((3600 * hours, rest)),
-        None => Ok((0, rest)),
+    match zone_named(name) {
+        Some(added) => Ok(((i64::from(added), true), rest)),
+        None => Ok(((0, false), rest)),
     }
+}
+
+/// The seconds that the zone of a name adds, if it is known.
+fn zone_named(name: &[u8]) -> Option<i32>
+    ensures { result ≡ look_up zone_names name.now }
+{
+    look_up(&ZONES, name)
 }
