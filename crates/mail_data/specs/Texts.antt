@@ -1,28 +1,42 @@
 -- The text of a mail that is to be read (RFC 2046, sections 4.1 and 5.1.4).
-use Rattle.std.specs.Prelude.{ℕ, Bool, not, ◌&&◌, List, find, Option, Some, None, codes}
+use Rattle.std.specs.Prelude.{ℕ, Bool, true, false, not, ◌&&◌, List, find, Option, Some, None, codes, if◌then◌else◌}
 use Rattle.std.specs.Str.{bytes_eq}
 use Rattle.mail_codec.specs.Charset.{Charsets, four_charsets}
-use Rattle.mailparse.specs.Mail.{Tree, root, trees_within}
-use Rattle.mail_data.specs.Files.{is_attachment_in}
+use Rattle.mailparse.specs.Mail.{Tree, root, shown_as_in, trees_within}
+use Rattle.mail_data.specs.Files.{is_attachment_disposition, is_attachment_in}
 
 -- the first of two trees that is there
 abbrev pub first_tree : Option Tree → Option Tree → Option Tree
 first_tree (Some t) other = Some t
 first_tree None other = other
 
+-- the type of a text: `text` alone is plain text (RFC 2045, section 5.2)
+abbrev pub text_type : List ℕ → List ℕ
+text_type mimetype = if bytes_eq mimetype (codes "text") then codes "text/plain" else mimetype
+
 -- Under the charsets that are known.
 module _ (known : Charsets) where
-  -- a part has this type and is no file
-  unfoldable pub is_text_of_type : List ℕ → Tree → Bool
-  is_text_of_type mimetype t = bytes_eq (root t).ctype.mimetype mimetype && not (is_attachment_in known t)
+  -- a part is no text: it is marked as an attachment; or it is a file, where a text may not have a name
+  unfoldable pub is_no_text : Bool → Tree → Bool
+  is_no_text true t = is_attachment_disposition (shown_as_in known (root t)).kind
+  is_no_text false t = is_attachment_in known t
 
-  -- the first part of a mail that has this type and is no file; the mail itself comes first, and each part before its own parts
-  unfoldable pub first_text_of_type : List ℕ → Tree → Option Tree
-  first_text_of_type mimetype t = find (is_text_of_type mimetype) (trees_within t)
+  -- a part is a text of this type
+  unfoldable pub is_text_of_type : Bool → List ℕ → Tree → Bool
+  is_text_of_type may_have_name mimetype t = bytes_eq (text_type (root t).ctype.mimetype) mimetype && not (is_no_text may_have_name t)
 
-  -- the part that is to be read: the first `text/plain` that is no file, otherwise the first `text/html`
+  -- the first text of this type in a mail; the mail itself comes first, and each part before its own parts
+  unfoldable pub first_text_of_type : Bool → List ℕ → Tree → Option Tree
+  first_text_of_type may_have_name mimetype t = find (is_text_of_type may_have_name mimetype) (trees_within t)
+
+  -- the first `text/plain`, otherwise the first `text/html`
+  unfoldable pub first_text : Bool → Tree → Option Tree
+  first_text may_have_name t =
+      first_tree (first_text_of_type may_have_name (codes "text/plain") t) (first_text_of_type may_have_name (codes "text/html") t)
+
+  -- the part that is to be read: the first text without a name, otherwise the first with one
   unfoldable pub text_part_in : Tree → Option Tree
-  text_part_in t = first_tree (first_text_of_type (codes "text/plain") t) (first_text_of_type (codes "text/html") t)
+  text_part_in t = first_tree (first_text false t) (first_text true t)
 
 -- the same under the four charsets
 abbrev pub text_part : Tree → Option Tree

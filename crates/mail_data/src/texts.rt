@@ -3,23 +3,24 @@ ghost use Rattle.std.specs.Prelude.{◌≡◌, Ok};
 ghost use Rattle.mail_codec.specs.Tables.{charsets_with};
 ghost use Rattle.mailparse.specs.Outcome.{AnswersOrMemory};
 ghost use Rattle.mailparse.specs.Views.{tree_of};
-ghost use Rattle.mail_data.specs.Texts.{first_text_of_type, is_text_of_type, text_part, text_part_in};
+ghost use Rattle.mail_data.specs.Texts.{first_text, first_text_of_type, is_no_text};
+ghost use Rattle.mail_data.specs.Texts.{is_text_of_type, text_part, text_part_in, text_type};
 ghost use Rattle.mail_data.specs.TextViews.{tree_found};
 
-use crate::files::is_attachment_with;
+use crate::files::{is_attachment_disposition, is_attachment_with};
 use mailparse::{MailParseError, ParsedMail, SingleByteTable};
 use std::alloc::Global;
 
 /// Returns the part of a mail that is to be read as its text, or `None` where there is none: the
-/// first `text/plain` that is no file, otherwise the first `text/html` (RFC 2046, sections 4.1 and
-/// 5.1.4).
+/// first `text/plain`, otherwise the first `text/html` (RFC 2046, sections 4.1 and 5.1.4).
 ///
 /// The mail itself is looked at first, and then its parts, each before its own parts. So for a
 /// `multipart/alternative` it is the plain text, if there is one. In any other multipart, too, a
 /// plain text without a file name, such as a mailing-list footer, takes precedence over an HTML
-/// text beside it. A text that has a file name is a file, as `files::is_attachment` says.
-/// `ParsedMail::get_body` returns the text of the part. Takes memory for the list of parts and the
-/// dispositions.
+/// text beside it. A text that has a file name is a file, as `files::is_attachment` says, and counts
+/// only where no other text is there and its disposition is not `attachment` (RFC 2183, section
+/// 2.1). The type `text` alone is plain text. `lenient::body_text` returns the text of the part.
+/// Takes memory for the list of parts and the dispositions.
 ///
 /// # Errors
 ///
@@ -63,7 +64,7 @@ pub fn text_part<'m, 'a>(
 /// use mailparse::{SingleByteTable, parse_mail};
 ///
 /// let tables = [SingleByteTable { labels: &["x-euro"], high: &['€'; 128] }];
-/// let mail = parse_mail(alloc, b"Content-Disposition: inline; filename*=x-euro''%80\n\nHi")?;
+/// let mail = parse_mail(alloc, b"Content-Disposition: =?x-euro?Q?attachment?=\n\nHi")?;
 /// assert!(rt; text_part_with(alloc, &mail, &tables)?.is_none());
 /// assert!(rt; text_part(alloc, &mail)?.is_some());
 /// ```
@@ -76,45 +77,104 @@ pub fn text_part_with<'m, 'a>(
     ensures { AnswersOrMemory tree_found result
         (Ok (text_part_in (charsets_with tables.now) (tree_of mail.now))) }
 {
-    if let Some(part) = first_text_of_type(alloc, mail, "text/plain", tables)? {
+    if let Some(part) = first_text(alloc, mail, false, tables)? {
         return Ok(Some(part));
     }
-    let part = first_text_of_type(alloc, mail, "text/html", tables)?;
+    let part = first_text(alloc, mail, true, tables)?;
     Ok(part)
 }
 
-/// The first part that has this type and is no file.
+/// The first plain text, otherwise the first HTML text.
+#[tactic(auto, unfolding(crate::specs::Texts::first_text))]
+fn first_text<'m, 'a>(
+    alloc: Global,
+    mail: &'m ParsedMail<'a>,
+    may_have_name: bool,
+    tables: &[SingleByteTable<'_>],
+) -> Result<Option<&'m ParsedMail<'a>>, MailParseError>
+    ensures { AnswersOrMemory tree_found result
+        (Ok (first_text (charsets_with tables.now) may_have_name (tree_of mail.now))) }
+{
+    if let Some(part) = first_text_of_type(alloc, mail, may_have_name, "text/plain", tables)? {
+        return Ok(Some(part));
+    }
+    let part = first_text_of_type(alloc, mail, may_have_name, "text/html", tables)?;
+    Ok(part)
+}
+
+/// The first text of this type.
 #[tactic(auto, unfolding(crate::specs::Texts::first_text_of_type))]
 fn first_text_of_type<'m, 'a>(
     alloc: Global,
     mail: &'m ParsedMail<'a>,
+    may_have_name: bool,
     mimetype: &str,
     tables: &[SingleByteTable<'_>],
 ) -> Result<Option<&'m ParsedMail<'a>>, MailParseError>
-    ensures { AnswersOrMemory tree_found result
-        (Ok (first_text_of_type (charsets_with tables.now) mimetype.now (tree_of mail.now))) }
+    ensures { AnswersOrMemory tree_found result (Ok (first_text_of_type
+        (charsets_with tables.now) may_have_name mimetype.now (tree_of mail.now))) }
 {
     for part in mail.parts(alloc)? {
-        if is_text_of_type(alloc, part, mimetype, tables)? {
+        if is_text_of_type(alloc, part, may_have_name, mimetype, tables)? {
             return Ok(Some(part));
         }
     }
     Ok(None)
 }
 
-/// Whether a part has this type and is no file.
+/// Whether a part is a text of this type.
 #[tactic(auto, unfolding(crate::specs::Texts::is_text_of_type))]
 fn is_text_of_type(
     alloc: Global,
     part: &ParsedMail<'_>,
+    may_have_name: bool,
     mimetype: &str,
     tables: &[SingleByteTable<'_>],
 ) -> Result<bool, MailParseError>
-    ensures { AnswersOrMemory (λ is. is) result
-        (Ok (is_text_of_type (charsets_with tables.now) mimetype.now (tree_of part.now))) }
+    ensures { AnswersOrMemory (λ is. is) result (Ok (is_text_of_type
+        (charsets_with tables.now) may_have_name mimetype.now (tree_of part.now))) }
 {
-    if part.ctype.mimetype.as_str() != mimetype {
+    if text_type(part.ctype.mimetype.as_str()) != mimetype {
         return Ok(false);
     }
-    Ok(!is_attachment_with(alloc, part, tables)?)
+    Ok(!is_no_text(alloc, part, may_have_name, tables)?)
+}
+
+/// Whether a part is marked as an attachment, or is a file, where a text may not have a name.
+#[tactic(auto, unfolding(crate::specs::Texts::is_no_text))]
+fn is_no_text(
+    alloc: Global,
+    part: &ParsedMail<'_>,
+    may_have_name: bool,
+    tables: &[SingleByteTable<'_>],
+) -> Result<bool, MailParseError>
+    ensures { AnswersOrMemory (λ is. is) result
+        (Ok (is_no_text (charsets_with tables.now) may_have_name (tree_of part.now))) }
+{
+    if !may_have_name {
+        return is_attachment_with(alloc, part, tables);
+    }
+    let disposition = part.get_content_disposition_with(alloc, tables)?;
+    Ok(is_attachment_disposition(&disposition.disposition))
+}
+
+/// Returns the type of a text: `text` alone is `text/plain` (RFC 2045, section 5.2), and any other
+/// type is itself. Takes no memory.
+///
+/// # Examples
+///
+/// ```rust
+/// use mail_data::texts::text_type;
+///
+/// assert_eq!(rt; text_type("text"), "text/plain");
+/// assert_eq!(rt; text_type("text/html"), "text/html");
+/// ```
+pub fn text_type(mimetype: &str) -> &str
+    ensures { result.now ≡ text_type mimetype.now }
+{
+    if mimetype == "text" {
+        "text/plain"
+    } else {
+        mimetype
+    }
 }

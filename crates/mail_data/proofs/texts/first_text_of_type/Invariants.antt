@@ -8,4 +8,4 @@ use Rattle.mail_data.specs.Texts.{is_text_of_type}
 use Rattle.mail_data.proofs.texts.first_text_of_type.Given as goal
 
 abbrev pub invariant-loop-part : goal.invariant-loop-part
-invariant-loop-part l = find (is_text_of_type (charsets_with l.tables) l.mimetype) (trees_left l.part-iterator) ≡ find (is_text_of_type (charsets_with l.tables) l.mimetype) (trees_within (tree_of l.mail))
+invariant-loop-part l = find (is_text_of_type (charsets_with l.tables) l.may_have_name l.mimetype) (trees_left l.part-iterator) ≡ find (is_text_of_type (charsets_with l.tables) l.may_have_name l.mimetype) (trees_within (tree_of l.mail))
