@@ -6,3 +6,5 @@ pub mod Encoding
 pub mod Comments
 pub mod Date
 pub mod DateViews
+pub mod Texts
+pub mod TextViews

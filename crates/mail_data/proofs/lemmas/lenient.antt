@@ -3,3 +3,4 @@ pub mod Encoding
 pub mod Comments
 pub mod Date
 pub mod Ids
+pub mod Texts
