@@ -1,12 +1,12 @@
 -- What headers say, under the charsets that are known, and why something is refused; the program's own form.
-use Rattle.std.specs.Prelude.{ℕ, List, [], ◌++◌, Option, option_map, codes, decimal}
+use Rattle.std.specs.Prelude.{ℕ, Bool, List, [], ◌++◌, Option, option_map, codes, decimal}
 use Rattle.std.specs.Option.{option_map_or}
 use Rattle.mail_codec.specs.Charset.{Charsets}
 use Rattle.mailparse.specs.Disposition.{Disposition, Kind, inline, attachment, form_data, extension}
 use Rattle.mailparse.specs.Mail.{Node}
 use Rattle.mailparse.specs.Map.{first_value_in, first_with_key}
 use Rattle.mailparse.specs.Refusal.{Refusal, generic, encoding, base64_fault}
-use Rattle.mail_data.specs.lenient.Ids.{ids_in}
+use Rattle.mail_data.specs.lenient.Ids.{found_in}
 
 -- why something is refused
 unfoldable pub refusal_text : Refusal → List ℕ
@@ -31,6 +31,6 @@ module _ (known : Charsets) where
   abbrev pub value_of : List ℕ → Node → Option (List ℕ)
   value_of key node = first_value_in known key node.headers
 
-  -- the ids in it
-  abbrev pub ids_of : List ℕ → Node → List (List ℕ)
-  ids_of key node = option_map_or ids_in (value_of key node) []
+  -- the ids in it, each with an `@` where one is needed
+  abbrev pub ids_of : Bool → List ℕ → Node → List (List ℕ)
+  ids_of needs_at key node = option_map_or (found_in needs_at) (value_of key node) []

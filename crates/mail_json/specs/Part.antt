@@ -7,7 +7,7 @@ use Rattle.std.specs.Ordering.{nat_cmp}
 use Rattle.std.specs.Str.{bytes_eq}
 use Rattle.mail_codec.specs.Charset.{Charsets}
 use Rattle.mail_codec.specs.Places.{stands}
-use Rattle.mailparse.specs.Body.{BodyKind, decoded_text_in}
+use Rattle.mailparse.specs.Body.{BodyKind}
 use Rattle.mailparse.specs.BodyViews.{Content, content_of}
 use Rattle.mailparse.specs.ContentType.{ContentType}
 use Rattle.mailparse.specs.Disposition.{Disposition}
@@ -16,9 +16,11 @@ use Rattle.mailparse.specs.Mail.{Node, Tree, root, shown_as_in}
 use Rattle.mailparse.specs.Pairs.{Texts}
 use Rattle.mailparse.specs.Refusal.{Reads}
 use Rattle.mailparse.specs.Value.{lenient_value_in}
-use Rattle.mail_data.specs.Files.{describes_attachment, is_leaf, name_in}
+use Rattle.mail_data.specs.Files.{describes_attachment, is_attachment_disposition, is_leaf, name_in}
 use Rattle.mail_data.specs.PartPlaces.{Place}
+use Rattle.mail_data.specs.Texts.{text_type}
 use Rattle.mail_data.specs.lenient.Encoding.{lenient_body_kind}
+use Rattle.mail_data.specs.lenient.Texts.{charset_used, lenient_bytes, lenient_text, text_read}
 use Rattle.mail_json.specs.Body.{encoding_text, decoded_size}
 use Rattle.mail_json.specs.Fields.{refusal_text, disposition_name}
 use Rattle.mail_json.specs.Strings.{json_text, number_text, text_or_null, joined}
@@ -56,6 +58,11 @@ flag_text false = codes "false"
 abbrev pub is_attachment : Tree → Disposition → Bool
 is_attachment part disposition = is_leaf part && describes_attachment disposition (root part).ctype
 
+-- a part of this disposition has a text that is to be read: it is not marked as an attachment, has no parts, and its type is that of a text
+abbrev pub is_read : Tree → Disposition → Bool
+is_read part disposition =
+    not (is_attachment_disposition disposition.kind) && is_leaf part && stands (codes "text/") (text_type (root part).ctype.mimetype)
+
 -- the members of a disposition, of a file's name, and of whether the part is an attachment
 abbrev pub disposition_text : Disposition → Node → Bool → List ℕ
 disposition_text disposition node is_attachment =
@@ -73,10 +80,16 @@ abbrev pub size_text : Reads ℕ → List ℕ
 size_text (Ok size) = codes ",\"decoded_size\":" ++ number_text size
 size_text (Err refusal) = codes ",\"decoded_size\":null,\"error\":" ++ json_text (refusal_text refusal)
 
--- the text of a body, or `null` where it is refused
-abbrev pub read_text : Reads (List ℕ) → List ℕ
-read_text (Ok text) = json_text text
-read_text (Err refusal) = codes "null"
+-- the member that says that a body is damaged, where it is
+abbrev pub damaged_text : Bool → List ℕ
+damaged_text true = codes ",\"damaged\":true"
+damaged_text false = []
+
+-- the members of a text that is to be read, of the charset in which it is read, and of whether its body is damaged; otherwise `null`
+abbrev pub text_text : Bool → List ℕ → List ℕ → Bool → List ℕ
+text_text false text charset is_damaged = codes ",\"text\":null"
+text_text true text charset is_damaged =
+    codes ",\"text\":" ++ json_text text ++ codes ",\"text_charset\":" ++ json_text charset ++ damaged_text is_damaged
 
 -- Under the charsets that are known.
 module _ (known : Charsets) where
@@ -88,10 +101,15 @@ module _ (known : Charsets) where
   abbrev pub headers_text : List Header → List ℕ
   headers_text headers = codes ",\"headers\":[" ++ joined header_text headers ++ codes "]"
 
-  -- the text of a body that is to be read; otherwise `null`
+  -- the members of the text of bytes under a label
+  abbrev pub shown_text : List ℕ → List ℕ → Bool → List ℕ
+  shown_text label bytes is_damaged = text_text true (lenient_text known label bytes) (charset_used known label bytes) is_damaged
+
+  -- the members of the text of a body that is to be read or not
   abbrev pub body_text : Bool → BodyKind → Content → List ℕ
-  body_text false kind body = codes "null"
-  body_text true kind body = read_text (decoded_text_in known kind body.ctype.charset body.raw)
+  body_text shows kind body =
+      let read = text_read known body.ctype.charset (lenient_bytes kind body.raw) in
+      text_text shows read.text read.charset read.is_damaged
 
   -- the object of a part of a mail that begins there in the input, whose type has this text
   abbrev pub part_text : ℕ → Place → List ℕ → List ℕ
@@ -102,8 +120,8 @@ module _ (known : Charsets) where
       let attached = is_attachment place.part disposition in
       codes "{\"path\":" ++ json_text place.path ++ type ++ disposition_text disposition node attached
       ++ place_text (encoding_text kind) (saturating_add start place.placement.whole.start) (saturating_add start place.placement.whole.end) (length node.body)
-      ++ size_text (decoded_size kind node.body) ++ headers_text node.headers ++ codes ",\"text\":"
-      ++ body_text (not attached && is_leaf place.part && stands (codes "text/") node.ctype.mimetype) kind (content_of node) ++ codes "}"
+      ++ size_text (decoded_size kind node.body) ++ headers_text node.headers
+      ++ body_text (is_read place.part disposition) kind (content_of node) ++ codes "}"
 
   -- a text is that of the object of a part of a mail that begins there
   abbrev pub IsPartText : ℕ → Place → List ℕ → Type 0

@@ -1,13 +1,12 @@
 -- The values that the lines stand for, in the form that the kit's parser of JSON gives them; the program's own form.
-use Rattle.std.specs.Prelude.{◌≡◌, ℕ, ℤ, Bool, true, false, not, ◌&&◌, ◌==◌, List, [], ◌∷◌, ◌++◌, length, map, Option, Some, None, option_map, Ok, Err, codes}
+use Rattle.std.specs.Prelude.{◌≡◌, ℕ, ℤ, Bool, true, false, not, ◌==◌, List, [], ◌∷◌, ◌++◌, length, map, Option, Some, None, option_map, Ok, Err, codes}
 use Rattle.std.specs.List.{flat_map, list_all, AllByRecursion}
 use Rattle.json.specs.Json.{Json, null, boolean, number, string, array, object, Members, no_members, member, document}
 use Rattle.json.specs.Strict.{HasUniqueKeys}
 use Rattle.json.specs.Value.{items_of}
 use Rattle.mail_codec.specs.Charset.{Charsets}
 use Rattle.mail_codec.specs.Latin1.{latin1_text}
-use Rattle.mail_codec.specs.Places.{stands}
-use Rattle.mailparse.specs.Body.{BodyKind, decoded_text_in}
+use Rattle.mailparse.specs.Body.{BodyKind}
 use Rattle.mailparse.specs.BodyViews.{Content, content_of}
 use Rattle.mailparse.specs.Disposition.{Disposition}
 use Rattle.mailparse.specs.Header.{Header, key_text}
@@ -16,15 +15,16 @@ use Rattle.mailparse.specs.Map.{first_with_key}
 use Rattle.mailparse.specs.Placement.{placements}
 use Rattle.mailparse.specs.Refusal.{Reads}
 use Rattle.mailparse.specs.Value.{lenient_value_in}
-use Rattle.mail_data.specs.Files.{is_leaf, name_in}
+use Rattle.mail_data.specs.Files.{name_in}
 use Rattle.mail_data.specs.PartPlaces.{Place, places}
-use Rattle.mail_data.specs.lenient.Date.{Dated, date_of}
+use Rattle.mail_data.specs.lenient.Date.{Dated, Zoned, date_in}
 use Rattle.mail_data.specs.lenient.Encoding.{lenient_body_kind}
+use Rattle.mail_data.specs.lenient.Texts.{lenient_bytes, text_read}
 use Rattle.mail_json.specs.Body.{encoding_text, decoded_size}
 use Rattle.mail_json.specs.Fields.{refusal_text, disposition_name, value_of, ids_of}
 use Rattle.mail_json.specs.Mail.{date_fault_text}
 use Rattle.mail_json.specs.Origin.{Origin}
-use Rattle.mail_json.specs.Part.{Lists, is_attachment, saturating_add}
+use Rattle.mail_json.specs.Part.{Lists, is_attachment, is_read, saturating_add}
 use Rattle.mail_json.specs.Strings.{number_text, seconds_text}
 
 -- a byte that ends no line
@@ -77,7 +77,7 @@ number_or_null_value None = null
 
 -- the members of the number of this form and of a file
 abbrev pub file_members : Option (List ℕ) → List Member
-file_members file = one (codes "schema") (number_value 2) ++ one (codes "file") (string_or_null file)
+file_members file = one (codes "schema") (number_value 3) ++ one (codes "file") (string_or_null file)
 
 -- the members that the line of a mail begins with
 abbrev pub origin_members : Origin → List Member
@@ -120,15 +120,30 @@ abbrev pub size_members : Reads ℕ → List Member
 size_members (Ok size) = one (codes "decoded_size") (number_value size)
 size_members (Err refusal) = one (codes "decoded_size") null ++ one (codes "error") (string (refusal_text refusal))
 
--- the text of a body, or `null` where it is refused
-abbrev pub read_value : Reads (List ℕ) → Json
-read_value (Ok text) = string text
-read_value (Err refusal) = null
+-- the member that says that a body is damaged
+abbrev pub damaged_members : Bool → List Member
+damaged_members true = one (codes "damaged") (boolean true)
+damaged_members false = []
 
--- the member of a date, or of why it is refused
-abbrev pub date_members : Option (Dated ℤ) → List Member
+-- the members of a text that is to be read or not
+abbrev pub text_members : Bool → List ℕ → List ℕ → Bool → List Member
+text_members false text charset is_damaged = one (codes "text") null
+text_members true text charset is_damaged =
+    one (codes "text") (string text) ++ one (codes "text_charset") (string charset) ++ damaged_members is_damaged
+
+-- the seconds of a date
+abbrev pub seconds_value : ℤ → Json
+seconds_value seconds = number (seconds_text seconds)
+
+-- the member that says that the zone of a date is not known
+abbrev pub zone_members : Bool → List Member
+zone_members true = []
+zone_members false = one (codes "date_zone_unknown") (boolean true)
+
+-- the members of a date, or of why it is refused
+abbrev pub date_members : Option (Dated Zoned) → List Member
 date_members None = one (codes "date") null
-date_members (Some (Ok seconds)) = one (codes "date") (number (seconds_text seconds))
+date_members (Some (Ok date)) = one (codes "date") (seconds_value date.0) ++ zone_members date.1
 date_members (Some (Err fault)) = one (codes "date") null ++ one (codes "date_error") (string (date_fault_text fault))
 
 -- the member of a value as it stands in the mail
@@ -152,10 +167,11 @@ module _ (known : Charsets) where
   abbrev pub header_value : Header → Json
   header_value header = list_of (string (key_text header) ∷ string (lenient_value_in known header.value) ∷ [])
 
-  -- the text of a body that is to be read; otherwise `null`
-  abbrev pub body_value : Bool → BodyKind → Content → Json
-  body_value false kind body = null
-  body_value true kind body = read_value (decoded_text_in known kind body.ctype.charset body.raw)
+  -- the members of the text of a body that is to be read or not
+  abbrev pub body_members : Bool → BodyKind → Content → List Member
+  body_members shows kind body =
+      let read = text_read known body.ctype.charset (lenient_bytes kind body.raw) in
+      text_members shows read.text read.charset read.is_damaged
 
   -- the members of a part of a mail that begins there, whose type has these parameters: those before its sizes, and those after them
   abbrev pub front_members : ℕ → Place → List (List ℕ × List ℕ) → List Member
@@ -167,12 +183,14 @@ module _ (known : Charsets) where
       ++ place_members (lenient_body_kind node) (saturating_add start place.placement.whole.start) (saturating_add start place.placement.whole.end)
       (length node.body)
 
+  abbrev pub headers_member : Place → List Member
+  headers_member place = one (codes "headers") (list_of (map header_value (root place.part).headers))
+
   abbrev pub content_members : Place → List Member
   content_members place =
       let node = root place.part in
-      let attached = is_attachment place.part (shown_as_in known node) in
-      one (codes "headers") (list_of (map header_value node.headers))
-      ++ one (codes "text") (body_value (not attached && is_leaf place.part && stands (codes "text/") node.ctype.mimetype) (lenient_body_kind node) (content_of node))
+      headers_member place
+      ++ body_members (is_read place.part (shown_as_in known node)) (lenient_body_kind node) (content_of node)
 
   abbrev pub part_members : ℕ → Place → List (List ℕ × List ℕ) → List Member
   part_members start place pairs =
@@ -188,8 +206,8 @@ module _ (known : Charsets) where
   abbrev pub value_member : List ℕ → List ℕ → Node → List Member
   value_member name key node = one name (string_or_null (value_of known key node))
 
-  abbrev pub ids_member : List ℕ → List ℕ → Node → List Member
-  ids_member name key node = one name (strings (ids_of known key node))
+  abbrev pub ids_member : List ℕ → Bool → List ℕ → Node → List Member
+  ids_member name needs_at key node = one name (strings (ids_of known needs_at key node))
 
   -- the members that are values of headers; that are ids of headers
   abbrev pub values_members : Node → List Member
@@ -200,14 +218,14 @@ module _ (known : Charsets) where
 
   abbrev pub ids_members : Node → List Member
   ids_members node =
-      ids_member (codes "message_id") (codes "Message-ID") node ++ ids_member (codes "in_reply_to") (codes "In-Reply-To") node
-      ++ ids_member (codes "references") (codes "References") node
+      ids_member (codes "message_id") false (codes "Message-ID") node ++ ids_member (codes "in_reply_to") true (codes "In-Reply-To") node
+      ++ ids_member (codes "references") true (codes "References") node
 
   -- the members of a mail from there, whose parts have these values
   abbrev pub mail_members : Origin → Node → List Json → List Member
   mail_members origin node parts =
       origin_members origin ++ values_members node ++ one (codes "raw") (object_of (raw_members node))
-      ++ date_members (option_map date_of (value_of known (codes "Date") node)) ++ ids_members node ++ one (codes "parts") (list_of parts)
+      ++ date_members (option_map date_in (value_of known (codes "Date") node)) ++ ids_members node ++ one (codes "parts") (list_of parts)
 
   -- a value is the object of a mail from there
   abbrev pub IsMailValue : Origin → Tree → Json → Type 0

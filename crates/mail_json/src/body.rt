@@ -1,15 +1,13 @@
 //! What a body is.
 ghost use Rattle.std.specs.Prelude.{◌≡◌};
 ghost use Rattle.std.specs.Cow.{cow_slice_items};
-ghost use Rattle.mail_codec.specs.Tables.{charsets_with};
-ghost use Rattle.mailparse.specs.Body.{BodyKind, decoded, text_under_in};
+ghost use Rattle.mailparse.specs.Body.{BodyKind, decoded};
 ghost use Rattle.mailparse.specs.BodyViews.{Content, IsBody};
-ghost use Rattle.mailparse.specs.Outcome.{AnswersOrMemory, GivesText};
-ghost use Rattle.mailparse.specs.Views.{content_type};
+ghost use Rattle.mailparse.specs.Outcome.{AnswersOrMemory};
 ghost use Rattle.mail_json.specs.Body.{encoding_text};
 
+use mailparse::MailParseError;
 use mailparse::body::Body;
-use mailparse::{MailParseError, ParsedContentType, SingleByteTable};
 use std::alloc::Global;
 use std::borrow::CowSlice;
 
@@ -44,26 +42,5 @@ pub fn decoded<'b>(alloc: Global, body: &Body<'b>) -> Result<CowSlice<'b, u8>, M
         Body::SevenBit(body) => Ok(CowSlice::Borrowed(body.get_raw())),
         Body::EightBit(body) => Ok(CowSlice::Borrowed(body.get_raw())),
         Body::Binary(body) => Ok(CowSlice::Borrowed(body.get_raw())),
-    }
-}
-
-/// The text of decoded bytes of this type, where texts may also be in the charsets of some tables.
-///
-/// # Errors
-///
-/// `MailParseError::Memory` where it runs out of memory.
-#[tactic(auto, unfolding(mailparse::specs::Body::kind_named))]
-pub fn text_of(
-    alloc: Global,
-    bytes: &[u8],
-    ctype: &ParsedContentType,
-    tables: &[SingleByteTable<'_>],
-) -> Result<String, MailParseError>
-    ensures { GivesText result (text_under_in (charsets_with tables.now)
-        (content_type ctype.now).charset bytes.now) }
-{
-    match Body::new(bytes, ctype, &None) {
-        Body::SevenBit(body) => body.get_as_string_with(alloc, tables),
-        _ => unreachable!(),
     }
 }

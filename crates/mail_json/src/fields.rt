@@ -1,5 +1,5 @@
 //! What headers say, in the charsets of some tables too.
-ghost use Rattle.std.specs.Prelude.{◌≡◌, Some, option_map, string_bytes, IfOk, Ok};
+ghost use Rattle.std.specs.Prelude.{◌≡◌, Some, map, option_map, string_bytes, IfOk, Ok};
 ghost use Rattle.mail_codec.specs.Tables.{charsets_with};
 ghost use Rattle.mailparse.specs.Mail.{root};
 ghost use Rattle.mailparse.specs.Map.{text_found};
@@ -7,10 +7,11 @@ ghost use Rattle.mailparse.specs.Outcome.{AnswersOrMemory, GivesTexts, IsMemory,
 ghost use Rattle.mailparse.specs.Refusal.{Refusal};
 ghost use Rattle.mailparse.specs.Views as views;
 ghost use Rattle.mailparse.specs.Views.{kind, tree_of};
+ghost use Rattle.mail_data.specs.lenient.Ids.{found_in};
 ghost use Rattle.mail_json.specs.Fields.{disposition_name, ids_of, kind_text, refusal_text};
 ghost use Rattle.mail_json.specs.Fields.{value_of};
 
-use mail_data::lenient::ids_in;
+use mail_data::lenient::{ids_in, own_ids_in};
 use mailparse::{
     DispositionType, MailHeaderMap, MailParseError, ParsedContentDisposition, ParsedMail,
     SingleByteTable,
@@ -34,7 +35,8 @@ pub fn value_of(
     mail.headers.get_first_value_with(alloc, key, tables)
 }
 
-/// The message ids in the value of the first header with this name.
+/// The message ids in the value of the first header with this name, each with an `@` where one is
+/// needed.
 ///
 /// # Errors
 ///
@@ -43,14 +45,26 @@ pub fn ids_of(
     alloc: Global,
     mail: &ParsedMail<'_>,
     key: &str,
+    needs_at: bool,
     tables: &[SingleByteTable<'_>],
 ) -> Result<Vec<String>, MailParseError>
     ensures { GivesTexts result
-        (ids_of (charsets_with tables.now) key.now (root (tree_of mail.now))) }
+        (ids_of (charsets_with tables.now) needs_at key.now (root (tree_of mail.now))) }
 {
     match value_of(alloc, mail, key, tables)? {
-        Some(value) => Ok(ids_in(alloc, value.as_str())?),
+        Some(value) => Ok(found_in(alloc, value.as_str(), needs_at)?),
         None => Ok(Vec::new(alloc)),
+    }
+}
+
+/// The message ids in a text, each with an `@` where one is needed.
+fn found_in(alloc: Global, text: &str, needs_at: bool) -> Result<Vec<String>, AllocError>
+    ensures { IfOk result (λ ids. map string_bytes ids.items ≡ found_in needs_at text.now) }
+{
+    if needs_at {
+        ids_in(alloc, text)
+    } else {
+        own_ids_in(alloc, text)
     }
 }
 

@@ -4,10 +4,11 @@ ghost use Rattle.mail_codec.specs.Tables.{charsets_with};
 ghost use Rattle.mailparse.specs.Mail.{root};
 ghost use Rattle.mailparse.specs.Placement.{placements};
 ghost use Rattle.mailparse.specs.Views.{placements_of, tree_of};
-ghost use Rattle.mail_data.specs.lenient.Date.{date_of};
+ghost use Rattle.mail_data.specs.lenient.Date.{date_in};
 ghost use Rattle.mail_json.specs.Fields.{value_of};
 ghost use Rattle.mail_json.specs.Mail.{IsMailText, date_fault_text, date_text, id_list_text};
 ghost use Rattle.mail_json.specs.Mail.{ids_text, raw_text, raw_value_text, value_text, values_text};
+ghost use Rattle.mail_json.specs.Mail.{zone_text};
 ghost use Rattle.mail_json.specs.Origin.{origin_of};
 ghost use Rattle.mail_json.specs.Strings.{seconds_text};
 ghost use Rattle.mail_json.specs.Written.{Writes, WritesOne};
@@ -17,7 +18,7 @@ use crate::origin::{Origin, write_origin};
 use crate::part::write_parts;
 use crate::strings::{write_optional, write_text, write_texts, write_word};
 use mail_codec::charset::decode_latin1;
-use mail_data::lenient::{DateError, date_of};
+use mail_data::lenient::{DateError, date_in};
 use mail_program::Fault;
 use mailparse::{MailHeaderMap, ParsedMail, SingleByteTable};
 use std::alloc::Global;
@@ -129,29 +130,56 @@ fn write_ids<W: Write>(
     ensures { Writes (W.contents out.old) (W.contents out.new) result
         (ids_text (charsets_with tables.now) (root (tree_of mail.now))) }
 {
-    write_id_list(alloc, out, ",\"message_id\":", mail, "Message-ID", tables)?;
-    write_id_list(alloc, out, ",\"in_reply_to\":", mail, "In-Reply-To", tables)?;
-    write_id_list(alloc, out, ",\"references\":", mail, "References", tables)
+    write_id_list(
+        alloc,
+        out,
+        ",\"message_id\":",
+        mail,
+        "Message-ID",
+        false,
+        tables,
+    )?;
+    write_id_list(
+        alloc,
+        out,
+        ",\"in_reply_to\":",
+        mail,
+        "In-Reply-To",
+        true,
+        tables,
+    )?;
+    write_id_list(
+        alloc,
+        out,
+        ",\"references\":",
+        mail,
+        "References",
+        true,
+        tables,
+    )
 }
 
-/// Writes the ids in the first header with this name, after these words.
+/// Writes the ids in the first header with this name, after these words, each with an `@` where one
+/// is needed.
 fn write_id_list<W: Write>(
     alloc: Global,
     out: &mut W,
     before: &str,
     mail: &ParsedMail<'_>,
     key: &str,
+    needs_at: bool,
     tables: &[SingleByteTable<'_>],
 ) -> Result<(), Fault>
-    ensures { Writes (W.contents out.old) (W.contents out.new) result
-        (id_list_text (charsets_with tables.now) before.now key.now (root (tree_of mail.now))) }
+    ensures { Writes (W.contents out.old) (W.contents out.new) result (id_list_text
+        (charsets_with tables.now) before.now needs_at key.now (root (tree_of mail.now))) }
 {
-    let ids = ids_of(alloc, mail, key, tables)?;
+    let ids = ids_of(alloc, mail, key, needs_at, tables)?;
     write_word(out, before)?;
     write_texts(alloc, out, ids.as_slice())
 }
 
-/// Writes the date: its seconds, or `null` where there is none or it is refused, and then why.
+/// Writes the date: its seconds and whether its zone is not known, or `null` where there is none or
+/// it is refused, and then why.
 fn write_date<W: Write>(
     alloc: Global,
     out: &mut W,
@@ -159,17 +187,31 @@ fn write_date<W: Write>(
     tables: &[SingleByteTable<'_>],
 ) -> Result<(), Fault>
     ensures { Writes (W.contents out.old) (W.contents out.new) result (date_text (option_map
-        date_of (value_of (charsets_with tables.now) (codes "Date") (root (tree_of mail.now))))) }
+        date_in (value_of (charsets_with tables.now) (codes "Date") (root (tree_of mail.now))))) }
 {
     let Some(date) = value_of(alloc, mail, "Date", tables)? else {
         return write_word(out, ",\"date\":null");
     };
-    match date_of(date.as_str()) {
-        Ok(seconds) => write_seconds(out, seconds),
+    match date_in(date.as_str()) {
+        Ok((seconds, is_zone_known)) => {
+            write_seconds(out, seconds)?;
+            write_word(out, zone_text(is_zone_known))
+        }
         Err(error) => {
             write_word(out, ",\"date\":null,\"date_error\":")?;
             write_text(alloc, out, date_fault(error))
         }
+    }
+}
+
+/// The member that says that the zone of a date is not known, where it is not.
+fn zone_text(is_known: bool) -> &'static str
+    ensures { result.now ≡ zone_text is_known }
+{
+    if is_known {
+        ""
+    } else {
+        ",\"date_zone_unknown\":true"
     }
 }
 

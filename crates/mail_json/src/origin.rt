@@ -33,7 +33,7 @@ pub fn write_origin<W: Write>(alloc: Global, out: &mut W, origin: &Origin<'_>) -
     ensures { Writes (W.contents out.old) (W.contents out.new) result
         (origin_text (origin_of origin.now)) }
 {
-    write_word(out, "{\"schema\":2,\"file\":")?;
+    write_word(out, "{\"schema\":3,\"file\":")?;
     write_name(alloc, out, origin.file)?;
     write_word(out, ",\"number\":")?;
     write_number_or_null(out, origin.number)?;
@@ -102,7 +102,7 @@ pub fn write_unread<W: Write>(
     ensures { Writes (W.contents out.old) (W.contents out.new) result
         (unread_line (option_map (λ name. name.now) file.entry) error.now) }
 {
-    write_word(out, "{\"schema\":2,\"file\":")?;
+    write_word(out, "{\"schema\":3,\"file\":")?;
     write_name(alloc, out, file)?;
     write_word(
         out,

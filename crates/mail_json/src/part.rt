@@ -1,35 +1,38 @@
 //! The objects of the parts.
-ghost use Rattle.std.specs.Prelude.{◌≡◌, ◌&&◌, ℕ, List, codes, not};
+ghost use Rattle.std.specs.Prelude.{◌≡◌, ℕ, List, IfOk};
 ghost use Rattle.std.specs.Cow.{cow_slice_items};
-ghost use Rattle.mail_codec.specs.Places.{stands};
 ghost use Rattle.mail_codec.specs.Tables.{charsets_with};
 ghost use Rattle.mailparse.specs.Body.{BodyKind, decoded};
 ghost use Rattle.mailparse.specs.BodyViews.{Content};
 ghost use Rattle.mailparse.specs.Mail.{root};
-ghost use Rattle.mailparse.specs.Outcome.{AnswersOrMemory};
+ghost use Rattle.mailparse.specs.Outcome.{AnswersOrMemory, IsMemory};
 ghost use Rattle.mailparse.specs.Views as views;
 ghost use Rattle.mailparse.specs.Views.{content_type, placements_of, tree_of};
-ghost use Rattle.mail_data.specs.Files.{is_leaf};
 ghost use Rattle.mail_data.specs.PartPlaces.{places};
+ghost use Rattle.mail_data.specs.lenient.Base64.{base64_front};
 ghost use Rattle.mail_data.specs.PlaceViews.{place_view};
 ghost use Rattle.mail_json.specs.Body.{decoded_size};
-ghost use Rattle.mail_json.specs.Part.{AreJoined, IsPartText, IsTypeText, body_text};
+ghost use Rattle.mail_json.specs.Part.{AreJoined, IsPartText, IsTypeText, body_text, damaged_text};
+ghost use Rattle.mail_json.specs.Part.{shown_text};
 ghost use Rattle.mail_json.specs.Part.{disposition_text, flag_text, header_text, headers_text};
-ghost use Rattle.mail_json.specs.Part.{is_attachment, parameter_text, place_text, size_text};
+ghost use Rattle.mail_json.specs.Part.{is_attachment, is_read, parameter_text, place_text, size_text};
 ghost use Rattle.mail_json.specs.Written.{Writes, WritesOne};
 
-use crate::body::{decoded, encoding_name, text_of};
+use crate::body::{decoded, encoding_name};
 use crate::fields::{disposition_name, refusal_text};
-use crate::strings::{write_comma, write_name, write_owned, write_text, write_word};
-use mail_data::files::{describes_attachment, is_leaf, named_file};
-use mail_data::lenient::lenient_body;
+use crate::strings::{
+    write_comma, write_name, write_optional, write_owned, write_text, write_word,
+};
+use mail_data::files::{describes_attachment, is_attachment_disposition, is_leaf, named_file};
+use mail_data::lenient::{base64_front, charset_used, lenient_body, lenient_text};
 use mail_data::places::{Place, places};
+use mail_data::texts::text_type;
 use mail_program::Fault;
 use mailparse::{
     MailHeader, MailParseError, ParsedContentDisposition, ParsedContentType, ParsedMail,
     SingleByteTable,
 };
-use std::alloc::Global;
+use std::alloc::{AllocError, Global};
 use std::borrow::CowSlice;
 use std::io::Write;
 
@@ -77,7 +80,7 @@ fn write_part<W: Write>(
     write_text(alloc, out, place.path.as_str())?;
     write_type(alloc, out, &part.ctype)?;
     let disposition = part.get_content_disposition_with(alloc, tables)?;
-    let is_attachment = is_attachment(part, &disposition);
+    let is_attachment = is_attachment(alloc, part, &disposition)?;
     write_disposition(alloc, out, part, &disposition, is_attachment)?;
     let body = lenient_body(alloc, part)?;
     let begin = start.saturating_add(place.byte_range.start);
@@ -86,18 +89,26 @@ fn write_part<W: Write>(
     let bytes = decoded(alloc, &body);
     write_decoded_size(alloc, out, &bytes)?;
     write_headers(alloc, out, part.headers.as_slice(), tables)?;
-    write_word(out, ",\"text\":")?;
-    let is_read = is_read(part, is_attachment);
-    write_body_text(alloc, out, bytes, &part.ctype, is_read, tables)?;
+    let is_read = is_read(part, &disposition);
+    write_body_text(
+        alloc,
+        out,
+        bytes,
+        body.get_raw(),
+        &part.ctype,
+        is_read,
+        tables,
+    )?;
     write_word(out, "}")
 }
 
 /// Whether the body of a part is a text that is to be read.
-fn is_read(part: &ParsedMail<'_>, is_attachment: bool) -> bool
-    ensures { result ≡ (not is_attachment && is_leaf (tree_of part.now)
-        && stands (codes "text/") (root (tree_of part.now)).ctype.mimetype) }
+fn is_read(part: &ParsedMail<'_>, disposition: &ParsedContentDisposition) -> bool
+    ensures { result ≡ is_read (tree_of part.now) (views.disposition disposition.now) }
 {
-    !is_attachment && is_leaf(part) && part.ctype.mimetype.as_str().starts_with("text/")
+    !is_attachment_disposition(&disposition.disposition)
+        && is_leaf(part)
+        && text_type(part.ctype.mimetype.as_str()).starts_with("text/")
 }
 
 /// Writes the name of an encoding, where a part stands, and how many bytes its body has.
@@ -154,10 +165,18 @@ fn write_parameter<W: Write>(
 
 /// Whether a part of this disposition is an attachment: it has no parts of its own, and its
 /// disposition and its type are those of one.
-fn is_attachment(part: &ParsedMail<'_>, disposition: &ParsedContentDisposition) -> bool
-    ensures { result ≡ is_attachment (tree_of part.now) (views.disposition disposition.now) }
+fn is_attachment(
+    alloc: Global,
+    part: &ParsedMail<'_>,
+    disposition: &ParsedContentDisposition,
+) -> Result<bool, AllocError>
+    ensures { IfOk result (λ is.
+        is ≡ is_attachment (tree_of part.now) (views.disposition disposition.now)) }
 {
-    is_leaf(part) && describes_attachment(disposition, &part.ctype)
+    if !is_leaf(part) {
+        return Ok(false);
+    }
+    describes_attachment(alloc, disposition, &part.ctype)
 }
 
 /// Writes the disposition, the name of the file and whether the part is an attachment.
@@ -174,7 +193,8 @@ fn write_disposition<W: Write>(
     write_word(out, ",\"disposition\":")?;
     write_name(alloc, out, disposition_name(part, disposition))?;
     write_word(out, ",\"file_name\":")?;
-    write_name(alloc, out, named_file(disposition, &part.ctype))?;
+    let name = named_file(alloc, disposition, &part.ctype)?;
+    write_optional(alloc, out, name)?;
     write_word(out, ",\"attachment\":")?;
     write_word(out, flag_text(is_attachment))
 }
@@ -211,33 +231,71 @@ fn write_decoded_size<W: Write>(
     }
 }
 
-/// Writes the text of a body that is to be read, or `null` where it is refused or is not to be.
-#[tactic(auto, unfolding(mailparse::specs::Body::decoded_text_in))]
+/// Writes the members of the text of a body that is to be read, or `null` where it is not to be.
 fn write_body_text<W: Write>(
     alloc: Global,
     out: &mut W,
     bytes: Result<CowSlice<'_, u8>, MailParseError>,
+    raw: &[u8],
     ctype: &ParsedContentType,
     is_read: bool,
     tables: &[SingleByteTable<'_>],
 ) -> Result<(), Fault>
     ensures { (kind : BodyKind) (given : Content) →
         AnswersOrMemory cow_slice_items bytes.entry (decoded kind given.raw) →
-        given.ctype ≡ content_type ctype.now →
+        given.raw ≡ raw.now → given.ctype ≡ content_type ctype.now →
         Writes (W.contents out.old) (W.contents out.new) result
         (body_text (charsets_with tables.now) is_read kind given) }
 {
     if !is_read {
-        return write_word(out, "null");
+        return write_word(out, ",\"text\":null");
     }
     match bytes {
-        Ok(decoded) => {
-            let text = text_of(alloc, decoded.as_slice(), ctype, tables)?;
-            write_owned(alloc, out, text)
+        Ok(decoded) => write_read_text(alloc, out, decoded.as_slice(), ctype, false, tables),
+        Err(error) => {
+            let front = front_bytes(alloc, &error, raw)?;
+            write_read_text(alloc, out, front.as_slice(), ctype, true, tables)
         }
-        Err(MailParseError::Memory(error)) => Err(Fault::from(error)),
-        Err(_refusal) => write_word(out, "null"),
     }
+}
+
+/// The bytes of the front of a body in Base64 that is refused.
+fn front_bytes(alloc: Global, error: &MailParseError, raw: &[u8]) -> Result<Vec<u8>, AllocError>
+    ensures read { IfOk result (λ front. front.items ≡ (base64_front raw.now).bytes) }
+    ensures passed_on { IfOk result (λ front. IsMemory error.now → ⊥) }
+{
+    match error {
+        MailParseError::Memory(_) => Err(AllocError),
+        _ => Ok(base64_front(alloc, raw)?.bytes),
+    }
+}
+
+/// Writes the members of a text: the text, the charset in which it is read, and whether its body is
+/// damaged.
+fn write_read_text<W: Write>(
+    alloc: Global,
+    out: &mut W,
+    bytes: &[u8],
+    ctype: &ParsedContentType,
+    is_damaged: bool,
+    tables: &[SingleByteTable<'_>],
+) -> Result<(), Fault>
+    ensures { Writes (W.contents out.old) (W.contents out.new) result (shown_text
+        (charsets_with tables.now) (content_type ctype.now).charset bytes.now is_damaged) }
+{
+    write_word(out, ",\"text\":")?;
+    let text = lenient_text(alloc, bytes, ctype, tables)?;
+    write_owned(alloc, out, text)?;
+    write_word(out, ",\"text_charset\":")?;
+    write_text(alloc, out, charset_used(bytes, ctype, tables))?;
+    write_word(out, damaged_text(is_damaged))
+}
+
+/// The member that says that a body is damaged, where it is.
+fn damaged_text(is_damaged: bool) -> &'static str
+    ensures { result.now ≡ damaged_text is_damaged }
+{
+    if is_damaged { ",\"damaged\":true" } else { "" }
 }
 
 /// Writes the list of the headers.

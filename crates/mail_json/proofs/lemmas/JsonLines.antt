@@ -1,5 +1,5 @@
 -- Each line is JSON: the texts of parts, of mails and of errors are those of their values.
-use Rattle.std.proofs.Common.{◌≡◌, ℕ, ℤ, suc, Bool, true, false, not, ◌&&◌, List, [], ◌∷◌, ◌++◌, length, map, drop, take, Option, Some, None, Ok, Err, refl, sym, ap, subst, ◌∙◌, arith, append_assoc, append-nil}
+use Rattle.std.proofs.Common.{◌≡◌, ℕ, ℤ, suc, Bool, true, false, List, [], ◌∷◌, ◌++◌, length, map, drop, take, Option, Some, None, Ok, Err, refl, sym, ap, subst, ◌∙◌, arith, append_assoc, append-nil}
 use Rattle.std.proofs.lemmas.Fmt.{decimal_digit}
 use Rattle.std.proofs.lemmas.Grind.{flat_map-append}
 use Rattle.std.specs.Prelude.{codes, option_map}
@@ -10,9 +10,8 @@ use Rattle.std.specs.Ordering.{nat_cmp}
 use Rattle.json.specs.Json.{Json, null, boolean, string}
 use Rattle.mail_codec.specs.Charset.{Charsets}
 use Rattle.mail_codec.specs.Latin1.{latin1_text}
-use Rattle.mail_codec.specs.Places.{stands}
-use Rattle.mailparse.specs.Body.{BodyKind, in_base64, in_quoted_printable, in_7bit, in_8bit, in_binary, decoded_text_in}
-use Rattle.mailparse.specs.BodyViews.{Content, content_of}
+use Rattle.mailparse.specs.Body.{BodyKind, in_base64, in_quoted_printable, in_7bit, in_8bit, in_binary}
+use Rattle.mailparse.specs.BodyViews.{content_of}
 use Rattle.mailparse.specs.Disposition.{Disposition}
 use Rattle.mailparse.specs.Header.{Header, key_text}
 use Rattle.mailparse.specs.Mail.{Node, Tree, root, shown_as_in, read_mail_in}
@@ -20,20 +19,21 @@ use Rattle.mailparse.specs.Map.{first_with_key}
 use Rattle.mailparse.specs.Placement.{placements}
 use Rattle.mailparse.specs.Refusal.{Reads}
 use Rattle.mailparse.specs.Value.{lenient_value_in}
-use Rattle.mail_data.specs.Files.{is_leaf, name_in}
+use Rattle.mail_data.specs.Files.{name_in}
 use Rattle.mail_data.specs.Mailbox.{front_length}
 use Rattle.mail_data.specs.MailboxParts.{Placed, placed}
 use Rattle.mail_data.specs.PartPlaces.{Place, places}
-use Rattle.mail_data.specs.lenient.Date.{Dated, date_of}
+use Rattle.mail_data.specs.lenient.Date.{Dated, Zoned, date_in}
 use Rattle.mail_data.specs.lenient.Encoding.{lenient_body_kind}
+use Rattle.mail_data.specs.lenient.Texts.{lenient_bytes, text_read}
 use Rattle.mail_json.specs.Body.{encoding_text, decoded_size}
 use Rattle.mail_json.specs.Fields.{refusal_text, disposition_name, value_of, ids_of}
-use Rattle.mail_json.specs.Mail.{IsMailText, date_text, date_fault_text, ids_text, raw_text, values_text}
-use Rattle.mail_json.specs.Part.{AreAfterCommas, AreJoined, IsPartText, body_text, disposition_text, flag_text, header_text, headers_text, is_attachment, parameter_text, part_text, place_text, read_text, saturating_add, size_text, type_text}
+use Rattle.mail_json.specs.Mail.{IsMailText, date_text, date_fault_text, ids_text, raw_text, values_text, zone_text}
+use Rattle.mail_json.specs.Part.{AreAfterCommas, AreJoined, IsPartText, body_text, disposition_text, flag_text, header_text, headers_text, is_attachment, is_read, parameter_text, part_text, place_text, saturating_add, size_text, text_text, type_text}
 use Rattle.mail_json.specs.Lines.{AreLines, AreMailboxLines, IsFront, IsLineOf, origin_at}
 use Rattle.mail_json.specs.Origin.{Origin, error_line, number_or_null, origin_text, unread_line}
-use Rattle.mail_json.specs.Strings.{json_text, number_text, text_or_null, json_texts, after_commas, joined}
-use Rattle.mail_json.specs.Values.{AreJsonLines, AreValues, IsJsonLine, IsLineValue, IsMailValue, IsPartValue, body_value, content_members, date_members, disposition_members, error_value, file_members, front_members, header_value, ids_members, list_of, mail_members, number_or_null_value, number_value, object_of, one, origin_members, parameter_member, part_members, place_members, raw_members, read_value, size_members, string_or_null, strings, type_members, unread_value, values_members}
+use Rattle.mail_json.specs.Strings.{json_text, number_text, seconds_text, text_or_null, json_texts, after_commas, joined}
+use Rattle.mail_json.specs.Values.{AreJsonLines, AreValues, IsJsonLine, IsLineValue, IsMailValue, IsPartValue, content_members, date_members, disposition_members, error_value, file_members, front_members, header_value, headers_member, ids_members, list_of, mail_members, number_or_null_value, number_value, object_of, one, origin_members, parameter_member, part_members, place_members, raw_members, seconds_value, size_members, string_or_null, strings, text_members, type_members, unread_value, values_members, zone_members}
 use Rattle.mail_json.proofs.lemmas.Strings.{number_text-fits}
 use Rattle.mail_json.proofs.lemmas.Plain.{are_plain, json_text-plain}
 use Rattle.mail_json.proofs.lemmas.Texts.{text_of}
@@ -116,16 +116,25 @@ size_written d (Err refusal) =
     let size = one_written d (codes "decoded_size") refl null (codes "null") (null_written d) in
     more_written d _ _ (codes "error") refl (string why) (json_text why) size (string_written d why)
 
-read_written : (d : ℕ) (text : Reads (List ℕ)) → IsWritten d (read_value text) (read_text text)
-read_written d (Ok text) = string_written d text
-read_written d (Err refusal) = null_written d
+text_written : (d : ℕ) (shows : Bool) (text charset : List ℕ) (is_damaged : Bool)
+    → AreWritten d (text_members shows text charset is_damaged) (text_text shows text charset is_damaged)
+text_written d false text charset is_damaged = one_written d (codes "text") refl null (codes "null") (null_written d)
+text_written d true text charset false =
+    let first = one_written d (codes "text") refl (string text) (json_text text) (string_written d text) in
+    let second = more_written d _ _ (codes "text_charset") refl (string charset) (json_text charset) first (string_written d charset) in
+    let shown : List ℕ = codes ",\"text\":" ++ json_text text ++ codes ",\"text_charset\":" ++ json_text charset in
+    subst (λ (t : List ℕ). AreWritten d (one (codes "text") (string text) ++ one (codes "text_charset") (string charset)) t) (sym (append-nil shown)) second
+text_written d true text charset true =
+    let first = one_written d (codes "text") refl (string text) (json_text text) (string_written d text) in
+    let second = more_written d _ _ (codes "text_charset") refl (string charset) (json_text charset) first (string_written d charset) in
+    then_written d _ _ _ _ second (one_written d (codes "damaged") refl (boolean true) (flag_text true) (flag_written d true))
 
 -- ---- where a line is from
 
-file_written : (d : ℕ) (file : Option (List ℕ)) → AreWritten d (file_members file) (codes ",\"schema\":2,\"file\":" ++ text_or_null file)
+file_written : (d : ℕ) (file : Option (List ℕ)) → AreWritten d (file_members file) (codes ",\"schema\":3,\"file\":" ++ text_or_null file)
 file_written d file =
-    let two = subst (IsWritten d (number_value 2)) (sym (number_text-fits 2 (omega arith)) ∙ decimal_digit 2 (omega arith)) (number_written d 2) in
-    let schema = one_written d (codes "schema") refl (number_value 2) (codes "2") two in
+    let three = subst (IsWritten d (number_value 3)) (sym (number_text-fits 3 (omega arith)) ∙ decimal_digit 3 (omega arith)) (number_written d 3) in
+    let schema = one_written d (codes "schema") refl (number_value 3) (codes "3") three in
     more_written d _ _ (codes "file") refl (string_or_null file) (text_or_null file) schema (optional_written d file)
 
 number_or_null_written : (d : ℕ) (n : Option ℕ) → IsWritten d (number_or_null_value n) (number_or_null n)
@@ -163,11 +172,6 @@ raw_written d node =
     (object_written d (raw_members node) text members (distinct_names (names (raw_members node)) refl))
 
 module _ (known : Charsets) where
-  body_written : (d : ℕ) (is_read : Bool) (kind : BodyKind) (body : Content)
-      → IsWritten d (body_value known is_read kind body) (body_text known is_read kind body)
-  body_written d false kind body = null_written d
-  body_written d true kind body = read_written d (decoded_text_in known kind body.ctype.charset body.raw)
-
   header_written : (d : ℕ) (header : Header) → IsWritten (suc d) (header_value known header) (header_text known header)
   header_written d header =
       let key = key_text header in
@@ -183,11 +187,15 @@ module _ (known : Charsets) where
       enclosed_written (suc (suc d)) [] [] (codes "headers") refl (list_of (map (header_value known) headers)) (91 ∷ []) (joined (header_text known) headers) (93 ∷ [])
       (record { same = refl; good = tt }) (mapped_written (suc d) (header_value known) (header_text known) (header_written d) headers)
 
-  -- no name comes twice, whether the size is known or not
-  part_distinct : (start : ℕ) (place : Place) (pairs : List (List ℕ × List ℕ)) (size : Reads ℕ)
-      → all_distinct (names (front_members known start place pairs ++ size_members size ++ content_members known place)) ≡ true
-  part_distinct start place pairs (Ok size) = refl
-  part_distinct start place pairs (Err refusal) = refl
+  -- no name comes twice, whether the size is known or not, and whatever is said of the text
+  part_distinct : (start : ℕ) (place : Place) (pairs : List (List ℕ × List ℕ)) (size : Reads ℕ) (shows : Bool) (text charset : List ℕ) (is_damaged : Bool)
+      → all_distinct (names (front_members known start place pairs ++ size_members size ++ (headers_member known place ++ text_members shows text charset is_damaged))) ≡ true
+  part_distinct start place pairs (Ok size) false text charset is_damaged = refl
+  part_distinct start place pairs (Ok size) true text charset true = refl
+  part_distinct start place pairs (Ok size) true text charset false = refl
+  part_distinct start place pairs (Err refusal) false text charset is_damaged = refl
+  part_distinct start place pairs (Err refusal) true text charset true = refl
+  part_distinct start place pairs (Err refusal) true text charset false = refl
 
   -- the members of a part, each after a comma
   part_commas : (start : ℕ) (place : Place) (pairs : List (List ℕ × List ℕ)) → IsStrictlySortedBy (slice_cmp nat_cmp) (map (λ p. p.0) pairs)
@@ -198,25 +206,24 @@ module _ (known : Charsets) where
       let kind = lenient_body_kind node in
       let disposition = shown_as_in known node in
       let attached = is_attachment place.part disposition in
-      let is_read = not attached && is_leaf place.part && stands (codes "text/") node.ctype.mimetype in
+      let shows = is_read place.part disposition in
       let path = one_written 2 (codes "path") refl (string place.path) (json_text place.path) (string_written 2 place.path) in
       let type = then_written 2 _ _ _ _ path (type_written 1 node.ctype.mimetype node.ctype.charset pairs ordered) in
       let shown = then_written 2 _ _ _ _ type (disposition_written 2 disposition node attached) in
       let front = then_written 2 _ _ _ _ shown (place_written 2 kind (saturating_add start place.placement.whole.start) (saturating_add start place.placement.whole.end) (length node.body)) in
       let sized = then_written 2 (front_members known start place pairs) (size_members (decoded_size kind node.body)) _ _ front (size_written 2 (decoded_size kind node.body)) in
-      let content = more_written 2 _ _ (codes "text") refl (body_value known is_read kind (content_of node)) (body_text known is_read kind (content_of node))
-      (headers_written 0 node.headers) (body_written 2 is_read kind (content_of node)) in
+      let read = text_read known node.ctype.charset (lenient_bytes kind node.body) in
+      let content = then_written 2 (headers_member known place) (text_members shows read.text read.charset read.is_damaged) _ _ (headers_written 0 node.headers)
+      (text_written 2 shows read.text read.charset read.is_damaged) in
       let all = then_written 2 (front_members known start place pairs ++ size_members (decoded_size kind node.body)) (content_members known place) _ _ sized content in
       let before : List ℕ = codes ",\"path\":" ++ json_text place.path ++ type_text node.ctype.mimetype node.ctype.charset pairs
       ++ disposition_text disposition node attached ++ place_text (encoding_text kind) (saturating_add start place.placement.whole.start) (saturating_add start place.placement.whole.end) (length node.body)
       ++ size_text (decoded_size kind node.body) in
       let headers : List ℕ = headers_text known node.headers in
-      let words : List ℕ = before_value (codes "text") in
-      let body : List ℕ = body_text known is_read kind (content_of node) in (
-        before ++ ((headers ++ words) ++ body),
+      let body : List ℕ = body_text known shows kind (content_of node) in (
+        before ++ (headers ++ body),
         all,
-        ap (λ (t : List ℕ). 123 ∷ (drop 1 t ++ (125 ∷ [])))
-            (sym (append_assoc before (headers ++ words) body) ∙ ap (λ (t : List ℕ). t ++ body) (sym (append_assoc before headers words))),
+        ap (λ (t : List ℕ). 123 ∷ (drop 1 t ++ (125 ∷ []))) (sym (append_assoc before headers body)),
       )
 
   part_written : (start : ℕ) (place : Place) (text : List ℕ) → IsPartText known start place text → (value : Json) × IsPartValue known start place value × IsWritten 3 value text
@@ -225,8 +232,10 @@ module _ (known : Charsets) where
       let pairs = type.0 in
       let commas = part_commas start place pairs type.1.ordered in
       let node = root place.part in
+      let read = text_read known node.ctype.charset (lenient_bytes (lenient_body_kind node) node.body) in
       let object = object_written 2 (part_members known start place pairs) commas.0 commas.1
-      (distinct_names (names (part_members known start place pairs)) (part_distinct start place pairs (decoded_size (lenient_body_kind node) node.body))) in (
+      (distinct_names (names (part_members known start place pairs))
+      (part_distinct start place pairs (decoded_size (lenient_body_kind node) node.body) (is_read place.part (shown_as_in known node)) read.text read.charset read.is_damaged)) in (
         object_of (part_members known start place pairs),
         (pairs, type.1, refl),
         subst (IsWritten 3 (object_of (part_members known start place pairs))) (commas.2 ∙ ap (part_text known start place) (sym type.2) ∙ sym is.2) object,
@@ -264,32 +273,49 @@ module _ (known : Charsets) where
 
   ids_written : (d : ℕ) (node : Node) → AreWritten (suc d) (ids_members known node) (ids_text known node)
   ids_written d node =
-      let member = λ (name key : List ℕ) (plain : are_plain name ≡ true). one_written (suc d) name plain (strings (ids_of known key node))
-      (json_texts (ids_of known key node)) (mapped_written d (λ text. string text) json_text (string_written d) (ids_of known key node)) in
-      then_written (suc d) _ _ _ _ (then_written (suc d) _ _ _ _ (member (codes "message_id") (codes "Message-ID") refl)
-      (member (codes "in_reply_to") (codes "In-Reply-To") refl)) (member (codes "references") (codes "References") refl)
+      let member = λ (name : List ℕ) (needs_at : Bool) (key : List ℕ) (plain : are_plain name ≡ true). one_written (suc d) name plain (strings (ids_of known needs_at key node))
+      (json_texts (ids_of known needs_at key node)) (mapped_written d (λ text. string text) json_text (string_written d) (ids_of known needs_at key node)) in
+      then_written (suc d) _ _ _ _ (then_written (suc d) _ _ _ _ (member (codes "message_id") false (codes "Message-ID") refl)
+      (member (codes "in_reply_to") true (codes "In-Reply-To") refl)) (member (codes "references") true (codes "References") refl)
 
-  date_written : (d : ℕ) (date : Option (Dated ℤ)) → AreWritten d (date_members date) (date_text date)
+  zoned_written : (d : ℕ) (seconds : ℤ) (is_known : Bool)
+      → AreWritten d (one (codes "date") (seconds_value seconds) ++ zone_members is_known) (codes ",\"date\":" ++ seconds_text seconds ++ zone_text is_known)
+  zoned_written d seconds true =
+      let text : List ℕ = codes ",\"date\":" ++ seconds_text seconds in
+      subst (λ (t : List ℕ). AreWritten d (one (codes "date") (seconds_value seconds)) t) (sym (append-nil text))
+      (one_written d (codes "date") refl _ _ (seconds_written d seconds))
+  zoned_written d seconds false =
+      then_written d _ _ _ _ (one_written d (codes "date") refl (seconds_value seconds) (seconds_text seconds) (seconds_written d seconds))
+      (one_written d (codes "date_zone_unknown") refl (boolean true) (flag_text true) (flag_written d true))
+
+  date_written : (d : ℕ) (date : Option (Dated Zoned)) → AreWritten d (date_members date) (date_text date)
   date_written d None = one_written d (codes "date") refl null (codes "null") (null_written d)
-  date_written d (Some (Ok seconds)) = one_written d (codes "date") refl _ _ (seconds_written d seconds)
+  date_written d (Some (Ok date)) = zoned_written d date.0 date.1
   date_written d (Some (Err fault)) =
       let why = date_fault_text fault in
       let date = one_written d (codes "date") refl null (codes "null") (null_written d) in
       more_written d _ _ (codes "date_error") refl (string why) (json_text why) date (string_written d why)
 
-  -- no name comes twice, whether there is a date or not
-  mail_distinct : (origin : Origin) (node : Node) (parts : List Json) (date : Option (Dated ℤ))
+  -- no name comes twice, whether the zone of a date is known or not
+  zone_distinct : (origin : Origin) (node : Node) (parts : List Json) (seconds : ℤ) (is_known : Bool)
+      → all_distinct (names (origin_members origin ++ values_members known node ++ one (codes "raw") (object_of (raw_members node))
+      ++ (one (codes "date") (seconds_value seconds) ++ zone_members is_known) ++ ids_members known node ++ one (codes "parts") (list_of parts))) ≡ true
+  zone_distinct origin node parts seconds true = refl
+  zone_distinct origin node parts seconds false = refl
+
+  -- nor whether there is a date or not
+  mail_distinct : (origin : Origin) (node : Node) (parts : List Json) (date : Option (Dated Zoned))
       → all_distinct (names (origin_members origin ++ values_members known node ++ one (codes "raw") (object_of (raw_members node)) ++ date_members date
       ++ ids_members known node ++ one (codes "parts") (list_of parts))) ≡ true
   mail_distinct origin node parts None = refl
-  mail_distinct origin node parts (Some (Ok seconds)) = refl
+  mail_distinct origin node parts (Some (Ok date)) = zone_distinct origin node parts date.0 date.1
   mail_distinct origin node parts (Some (Err fault)) = refl
 
   mail_written : (origin : Origin) (mail : Tree) (text : List ℕ) → IsMailText known origin mail text
       → (value : Json) × IsMailValue known origin mail value × IsWritten 5 value text
   mail_written origin mail text is =
       let node = root mail in
-      let date = option_map date_of (value_of known (codes "Date") node) in
+      let date = option_map date_in (value_of known (codes "Date") node) in
       let parts = parts_joined origin.start (places mail (placements 0 mail)) is.0 is.1 in
       let members = mail_members known origin node parts.0 in
       let valued = then_written 4 (origin_members origin) (values_members known node) _ _ (origin_written 4 origin) (values_written 4 node) in
@@ -335,7 +361,7 @@ unread_is_json file text =
     let why = more_written 0 _ _ (codes "error") refl (string text) (json_text text) nulls (string_written 0 text) in
     let members = file_members file ++ (one (codes "number") null ++ one (codes "start") null ++ one (codes "end") null ++ one (codes "error") (string text)) in
     let rest : List ℕ = codes ",\"number\":null,\"start\":null,\"end\":null,\"error\":" in
-    let front : List ℕ = codes ",\"schema\":2,\"file\":" ++ text_or_null file in
+    let front : List ℕ = codes ",\"schema\":3,\"file\":" ++ text_or_null file in
     let all = then_written 0 (file_members file) _ front (rest ++ json_text text) (file_written 0 file) why in
     let object = object_written 0 members (front ++ (rest ++ json_text text)) all (distinct_names (names members) refl) in
     let shown : List ℕ = 123 ∷ (drop 1 front ++ rest ++ json_text text ++ codes "}") in

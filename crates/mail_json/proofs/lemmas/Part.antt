@@ -1,5 +1,5 @@
 -- Lemmas on the texts of parts, and on the parameters of a type.
-use Rattle.std.proofs.Common.{◌≡◌, ℕ, Bool, true, false, List, [], ◌∷◌, ◌++◌, map, Some, option_map, cond, String, refl, sym, ap, subst, ◌∙◌, append_assoc}
+use Rattle.std.proofs.Common.{◌≡◌, ℕ, Bool, true, false, List, [], ◌∷◌, ◌++◌, map, Some, Ok, Err, option_map, cond, String, refl, sym, ap, subst, ◌∙◌, append_assoc}
 use Rattle.std.proofs.lemmas.List.{append-nil}
 use Rattle.std.proofs.lemmas.Map.Text.{is_eq-slice_cmp}
 use Rattle.std.specs.Prelude.{codes}
@@ -18,7 +18,13 @@ use Rattle.mailparse.specs.Views.{content_type, tree_of, tree_step}
 use Rattle.mailparse.specs.declared.mail.message.ParsedMail.{ParsedMail}
 use Rattle.mailparse.specs.declared.mail.message.ParsedMail.TheFolds.{fold_out-ParsedMail}
 use Rattle.mailparse.specs.declared.mail.message.ParsedMail.TheViews.{out-ParsedMail}
-use Rattle.mail_json.specs.Part.{Lists, AreAfterCommas, AreJoined}
+use Rattle.mail_codec.specs.Charset.{Charsets}
+use Rattle.mailparse.specs.Body.{BodyKind, decoded}
+use Rattle.mailparse.specs.BodyViews.{Content}
+use Rattle.mailparse.specs.Refusal.{Refusal}
+use Rattle.mail_data.specs.lenient.Base64.{base64_front}
+use Rattle.mail_data.specs.lenient.Texts.{Read, lenient_bytes, read_or_front, text_read}
+use Rattle.mail_json.specs.Part.{Lists, AreAfterCommas, AreJoined, body_text, shown_text, text_text}
 use Rattle.mail_json.specs.Strings.{comma}
 
 -- ---- the objects, a comma between two
@@ -91,3 +97,28 @@ sorted-pairs (e ∷ es) h = (all-keys _ es h.0, sorted-pairs es h.1)
 -- the entries of a map list its texts
 pub lists-entries : (m : BTreeMap (String Global) (String Global)) → IsOrdered string_cmp m → Lists (text_at m) (map pair_of m.entries)
 lists-entries m h = record { ordered = sorted-pairs m.entries h; same = λ name. lookup-pairs name m.entries }
+
+-- ---- the text of a body
+
+pub text-hidden : (known : Charsets) (shows : Bool) (kind : BodyKind) (given : Content) → shows ≡ false → codes ",\"text\":null" ≡ body_text known shows kind given
+text-hidden known shows kind given e = rw e refl
+
+shown-read : (known : Charsets) (label : List ℕ) (a b : Read) → a ≡ b
+    → text_text true (text_read known label a).text (text_read known label a).charset (text_read known label a).is_damaged
+    ≡ text_text true (text_read known label b).text (text_read known label b).charset (text_read known label b).is_damaged
+shown-read known label a b e = ap (λ (r : Read). text_text true (text_read known label r).text (text_read known label r).charset (text_read known label r).is_damaged) e
+
+-- the text of a body that is read whole
+pub text-whole : (known : Charsets) (shows : Bool) (kind : BodyKind) (given : Content) (bytes : List ℕ) → shows ≡ true → decoded kind given.raw ≡ Ok bytes
+    → shown_text known given.ctype.charset bytes false ≡ body_text known shows kind given
+unfolding lenient_bytes
+text-whole known shows kind given bytes e is =
+    shown-read known given.ctype.charset (read_or_front given.raw (Ok bytes)) (lenient_bytes kind given.raw) (ap (read_or_front given.raw) (sym is)) ∙ rw e refl
+
+-- the text of the front of one that is refused
+pub text-front : (known : Charsets) (shows : Bool) (kind : BodyKind) (given : Content) (bytes : List ℕ) (refusal : Refusal) → shows ≡ true
+    → decoded kind given.raw ≡ Err refusal → bytes ≡ (base64_front given.raw).bytes → shown_text known given.ctype.charset bytes true ≡ body_text known shows kind given
+unfolding lenient_bytes
+text-front known shows kind given bytes refusal e is front =
+    ap (λ (b : List ℕ). shown_text known given.ctype.charset b true) front
+    ∙ shown-read known given.ctype.charset (read_or_front given.raw (Err refusal)) (lenient_bytes kind given.raw) (ap (read_or_front given.raw) (sym is)) ∙ rw e refl

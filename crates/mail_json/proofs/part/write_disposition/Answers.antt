@@ -12,7 +12,7 @@ returns g c =
     let given = disposition c.args.disposition.now in
     let kind = appends_as _ _ _ _ (ap text_or_null c.disposition_name.ensures) c.in_ok-write_name.ensures in
     let name =
-    appends_as _ _ _ _ (ap text_or_null (c.named_file.ensures ∙ ap (name_in given) (ctype-out c.args.part.now))) c.in_ok-write_name-2.ensures in
+    appends_as _ _ _ _ (ap text_or_null (c.in_ok-name.ensures ∙ ap (name_in given) (ctype-out c.args.part.now))) c.in_ok-write_optional.ensures in
     let flag = writes_as _ _ c.write_word-4.result _ _ c.flag_text.ensures c.write_word-4.ensures in
     let one = Appends-trans _ _ _ _ _ c.in_ok-write_word.ensures kind in
     let two = Appends-trans _ _ _ _ _ one c.in_ok-write_word-2.ensures in

@@ -1,17 +1,14 @@
-use Rattle.std.proofs.Common.{◌≡◌, not, ◌&&◌, List, ℕ, length, refl, sym, ap, subst, ◌∙◌}
+use Rattle.std.proofs.Common.{◌≡◌, List, ℕ, length, refl, sym, ap, subst, ◌∙◌}
 use Rattle.std.proofs.lemmas.Result.{err_from_is_err_and}
-use Rattle.std.specs.Prelude.{codes}
 use Rattle.std.proofs.KnownBytes.{Appends-trans}
-use Rattle.mail_codec.specs.Places.{stands}
 use Rattle.mail_codec.specs.Tables.{charsets_with}
 use Rattle.mailparse.specs.BodyViews.{content_of}
 use Rattle.mailparse.specs.ContentType.{ContentType}
 use Rattle.mailparse.specs.Disposition.{Disposition}
 use Rattle.mailparse.specs.Mail.{root, shown_as_in}
 use Rattle.mailparse.specs.Views.{disposition, tree_of}
-use Rattle.mail_data.specs.Files.{is_leaf}
 use Rattle.mail_data.specs.lenient.Encoding.{lenient_body_kind}
-use Rattle.mail_json.specs.Part.{IsTypeText, body_text, disposition_text, headers_text, is_attachment, place_text, IsPartText, part_text, saturating_add}
+use Rattle.mail_json.specs.Part.{IsTypeText, body_text, disposition_text, headers_text, is_attachment, is_read, place_text, IsPartText, part_text, saturating_add}
 use Rattle.mail_json.specs.Strings.{json_text}
 use Rattle.mail_data.specs.PlaceViews.{place_view}
 use Rattle.mail_json.specs.Body.{encoding_text}
@@ -40,21 +37,21 @@ returns g c =
     ∙ ap (λ (raw : List ℕ). place_text (encoding_text kind) begin end (length raw)) (c.get_raw.ensures.made kind given is_body) in
     let headers = ap (headers_text known) (c.as_slice.ensures.value ∙ headers-out m) in
     let same : shown_as_in known node ≡ disposition c.in_ok-disposition.disposition = ok_same _ _ c.in_ok-disposition.ensures in
-    let attached = c.is_attachment-is_attachment.ensures ∙ ap (is_attachment (tree_of m)) (sym same) in
+    let attached = c.in_ok-is_attachment.ensures ∙ ap (is_attachment (tree_of m)) (sym same) in
     let members =
-    ap (λ (d : Disposition). disposition_text d node c.is_attachment-is_attachment.result) (sym same)
+    ap (λ (d : Disposition). disposition_text d node c.in_ok-is_attachment.is_attachment) (sym same)
     ∙ ap (disposition_text (shown_as_in known node) node) attached in
-    let is_read = c.is_read-is_read.ensures ∙ ap (λ is. not is && is_leaf (tree_of m) && stands (codes "text/") node.ctype.mimetype) attached in
-    let body = ap (λ is. body_text known is kind given) is_read in
+    let shows = c.is_read-is_read.ensures ∙ ap (is_read (tree_of m)) (sym same) in
+    let raw = sym (c.get_raw-2.ensures.made kind given is_body) in
+    let body = ap (λ is. body_text known is kind given) shows in
     let one = Appends-trans _ _ _ _ _ c.in_ok-write_word.ensures (appends_as _ _ _ _ (ap json_text c.as_str.ensures.value) c.in_ok-write_text.ensures) in
     let two = Appends-trans _ _ _ _ _ one type.2 in
     let three = Appends-trans _ _ _ _ _ two (appends_as _ _ _ _ members c.in_ok-write_disposition.ensures) in
     let four = Appends-trans _ _ _ _ _ three (appends_as _ _ _ _ places c.in_ok-write_place.ensures) in
     let five = Appends-trans _ _ _ _ _ four (c.in_ok-write_decoded_size.ensures kind given.raw read) in
     let six = Appends-trans _ _ _ _ _ five (appends_as _ _ _ _ headers c.in_ok-write_headers.ensures) in
-    let seven = Appends-trans _ _ _ _ _ six c.in_ok-write_word-2.ensures in
-    let eight = Appends-trans _ _ _ _ _ seven (appends_as _ _ _ _ body (c.in_ok-write_body_text.ensures kind given read (sym (ctype-out m)))) in
-    let written = writes_then _ _ _ _ _ _ eight c.write_word-3.ensures in
+    let seven = Appends-trans _ _ _ _ _ six (appends_as _ _ _ _ body (c.in_ok-write_body_text.ensures kind given read raw (sym (ctype-out m)))) in
+    let written = writes_then _ _ _ _ _ _ seven c.write_word-2.ensures in
     writes_one (IsPartText known c.args.start place) _ _ _ (part_text known c.args.start place type.0)
     (type.0, subst (λ (t : ContentType). IsTypeText t type.0) (ctype-out m) type.1, refl) written
 
@@ -70,4 +67,4 @@ returns-in_err-write_body_text g c =
     let node = root (tree_of c.args.place.now.part.now) in
     let p = err_from_is_err_and c.from_residual-in_err-write_body_text.result c.from_residual-in_err-write_body_text.ensures.1 in
     let read = c.decoded-bytes.ensures (lenient_body_kind node) (content_of node) c.in_ok-body.ensures.read in
-    rw (p.1, p.2) (c.in_err-write_body_text.ensures (lenient_body_kind node) (content_of node) read (sym (ctype-out c.args.place.now.part.now)))
+    rw (p.1, p.2) (c.in_err-write_body_text.ensures (lenient_body_kind node) (content_of node) read (sym (c.get_raw-2.ensures.made (lenient_body_kind node) (content_of node) c.in_ok-body.ensures.read)) (sym (ctype-out c.args.place.now.part.now)))
