@@ -31,14 +31,14 @@ from shared.programs import built_program
 TOP = os.path.dirname(os.path.dirname(os.path.abspath(__file__)))
 ORIGIN = ["schema", "file", "number", "start", "end"]
 MEMBERS = ORIGIN + [
-    "subject", "from", "to", "cc", "reply_to", "raw", "date", "date_error", "message_id", "in_reply_to", "references",
+    "subject", "from", "to", "cc", "reply_to", "raw", "date", "date_zone_unknown", "date_error", "message_id", "in_reply_to", "references",
     "parts",
 ]
 PART_MEMBERS = [
     "path", "type", "charset", "params", "disposition", "file_name", "attachment", "encoding", "start", "end",
-    "size", "decoded_size", "error", "headers", "text",
+    "size", "decoded_size", "error", "headers", "text", "text_charset", "damaged",
 ]
-OPTIONAL = {"date_error", "error"}
+OPTIONAL = {"date_zone_unknown", "date_error", "error", "text_charset", "damaged"}
 # what no text escapes: the replacement character, marks that turn the direction of writing, four bytes of UTF-8
 SHOWN = "a\ufffd\u200f\u202e\ufeff\U0001f600\U0010ffff/..z"
 SPACE = "Header cannot start with a space; it is likely an overhanging line from a previous header"
@@ -109,6 +109,7 @@ def compare_part(found, path, part, data, what):
     wanted = part_object(path, part)
     if part.is_multipart():
         del wanted["decoded_size"], wanted["text"]
+        wanted.pop("text_charset", None)
     for name, value in wanted.items():
         same(found[name], value, f"{what}: {name}")
     again = email.message_from_bytes(data[found["start"]:found["end"]])
@@ -121,7 +122,7 @@ def compare(data, what):
     found = objects([], data, 0, what)
     same(len(found), 1, f"{what}: the number of lines")
     found = found[0]
-    same([found[name] for name in ORIGIN], [2, None, None, 0, len(data)], f"{what}: where it is from")
+    same([found[name] for name in ORIGIN], [3, None, None, 0, len(data)], f"{what}: where it is from")
     wanted = mail_object(data)
     parts = list(parts_of(email.message_from_bytes(data)))
     del wanted["parts"]
@@ -167,7 +168,7 @@ def check_characters():
 def check_faults():
     """A refused body, dates and mails."""
     found = objects([], b"Content-Transfer-Encoding: base64\n\naGVs**8=", 0, "a refused body")[0]["parts"][0]
-    same((found["size"], found["decoded_size"], found["text"]), (8, None, None), "a refused body")
+    same((found["size"], found["decoded_size"], found["damaged"]), (8, None, True), "a refused body")
     same(found["error"], "Base64 decode error: group 1 is no Base64 group", "a refused body")
     found = objects([], b"Date: 32 x\n\n", 0, "a refused date")[0]
     same((found["date"], found["date_error"]), (None, "no day of the month"), "a refused date")

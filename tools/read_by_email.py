@@ -48,9 +48,9 @@ def value_of(mail, name):
     return shown(raw_value(mail, name))
 
 
-def ids(value):
-    """The message ids of a value."""
-    return re.findall(r"<([^<>]*@[^<>]*)>", shown(value) or "")
+def ids(value, needs_at):
+    """The message ids of a value, each with an `@` where one is needed."""
+    return re.findall(r"<([^<>]*@[^<>]*)>" if needs_at else r"<([^<>]+)>", shown(value) or "")
 
 
 def seconds(value):
@@ -107,10 +107,22 @@ def body_of(part):
 
 
 def text_of(part, body):
-    """The text of a part, or None where it is no text, or a file."""
-    if part.get_content_maintype() != "text" or is_file(part):
-        return None
-    return body.decode(codec(charset_of(part)), "replace")
+    """The text of a part and the name of its charset, or None where it is no text or marked as an attachment."""
+    if part.get_content_maintype() != "text" or part.get_content_disposition() == "attachment":
+        return {"text": None}
+    charset = codec(charset_of(part))
+    if charset_of(part).lower() == "us-ascii" and is_utf8(body):
+        charset = "utf-8"
+    return {"text": body.decode(charset, "replace"), "text_charset": charset}
+
+
+def is_utf8(body):
+    """Whether bytes are UTF-8."""
+    try:
+        body.decode("utf-8")
+    except UnicodeDecodeError:
+        return False
+    return True
 
 
 def part_object(path, part):
@@ -127,7 +139,7 @@ def part_object(path, part):
         "encoding": (part.get("content-transfer-encoding") or "7bit").lower(),
         "decoded_size": len(body),
         "headers": [[name, shown(value)] for name, value in part.raw_items()],
-        "text": text_of(part, body),
+        **text_of(part, body),
     }
 
 
@@ -145,7 +157,7 @@ def mail_object(data):
     found = {name: value_of(mail, name.replace("_", "-")) for name in ("subject", "from", "to", "cc", "reply_to")}
     found.update(date_of(mail))
     for name in ("message_id", "in_reply_to", "references"):
-        found[name] = ids(raw_value(mail, name.replace("_", "-")))
+        found[name] = ids(raw_value(mail, name.replace("_", "-")), name != "message_id")
     found["parts"] = [part_object(path, part) for path, part in parts_of(mail)]
     return found
 
