@@ -1,11 +1,11 @@
 -- What a contract sees of an entry of an index.
-use Rattle.std.specs.Prelude.{◌≡◌, codes, string_bytes}
+use Rattle.std.specs.Prelude.{◌≡◌, codes, option_map}
 use Rattle.mail_codec.specs.Charset.{Charsets}
 use Rattle.mailparse.specs.Mail.{Tree, root}
 use Rattle.mailparse.specs.Map.{first_value_in, text_found}
 use Rattle.mail_data.specs.Archive.{message_id}
+use Rattle.mail_data.specs.lenient.TextViews.{text_view}
 use Rattle.mail_jobs.specs.Indexer as mail
-use Rattle.mail_jobs.specs.Outcomes.{AnswersIf}
 use Rattle.mail_jobs.specs.declared.indexer.IndexEntry.{IndexEntry}
 
 -- an entry is that of a mail, under the charsets that are known
@@ -14,4 +14,4 @@ pub record IsEntry (known : Charsets) (t : Tree) (entry : IndexEntry) : Type 0 w
   pub from : text_found entry.from ≡ first_value_in known (codes "From") (root t).headers
   pub date : entry.date ≡ mail.date known (root t)
   pub message_id : text_found entry.message_id ≡ message_id (root t)
-  pub text : AnswersIf (λ text. string_bytes text) entry.text (mail.text known t)
+  pub text : option_map text_view entry.text ≡ mail.text known t

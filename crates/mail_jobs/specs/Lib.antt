@@ -1,4 +1,3 @@
-pub mod Outcomes
 pub mod Indexer
 pub mod IndexerViews
 pub mod Attachments

@@ -1,22 +1,22 @@
 //! The index of a mail: what a list of mails shows, and the text that a search reads.
-ghost use Rattle.std.specs.Prelude.{◌≡◌, codes, string_bytes, IfErr, IfOk, Ok};
+ghost use Rattle.std.specs.Prelude.{◌≡◌, codes, option_map, IfErr, IfOk, Ok};
 ghost use Rattle.mail_codec.specs.Tables.{charsets_with};
 ghost use Rattle.mailparse.specs.Mail.{root};
 ghost use Rattle.mailparse.specs.Map.{first_value_in, text_found};
 ghost use Rattle.mailparse.specs.Outcome.{AnswersOrMemory, IsMemory};
 ghost use Rattle.mailparse.specs.Views.{tree_of};
+ghost use Rattle.mail_data.specs.lenient.TextViews.{text_view};
 ghost use Rattle.mail_jobs.specs.Indexer.{date, text};
 ghost use Rattle.mail_jobs.specs.IndexerViews.{IsEntry};
-ghost use Rattle.mail_jobs.specs.Outcomes.{AnswersIf};
 
 use mail_data::archive::message_id;
-use mail_data::lenient::{self, DateError};
+use mail_data::lenient::{self, BodyText, DateError, body_text};
 use mail_data::texts::text_part_with;
 use mailparse::{MailHeaderMap, MailParseError, ParsedMail, SingleByteTable};
 use std::alloc::Global;
 
-/// What an index keeps of a mail. What the mail does not have is `None`; a date or a text that is
-/// refused stays as its error, so that no mail is lost for one of them.
+/// What an index keeps of a mail. What the mail does not have is `None`; a date that is refused
+/// stays as its error, so that no mail is lost for it. The text says whether it is damaged.
 #[derive(Drop)]
 pub struct IndexEntry {
     pub subject: Option<String>,
@@ -25,7 +25,7 @@ pub struct IndexEntry {
     pub date: Option<Result<i64, DateError>>,
     /// The first id of `Message-ID`, without its angle brackets.
     pub message_id: Option<String>,
-    pub text: Option<Result<String, MailParseError>>,
+    pub text: Option<BodyText>,
 }
 
 /// What an index keeps of a mail, where texts may also be in the charsets of some tables.
@@ -74,21 +74,18 @@ fn date_of(
     }
 }
 
-/// The text that is to be read, or its error.
+/// The text that is to be read.
 fn text_of(
     alloc: Global,
     mail: &ParsedMail<'_>,
     tables: &[SingleByteTable<'_>],
-) -> Result<Option<Result<String, MailParseError>>, MailParseError>
-    ensures read { IfOk result (λ found.
-        AnswersIf (λ t. string_bytes t) found (text (charsets_with tables.now) (tree_of mail.now))) }
-    ensures only_memory { IfErr result IsMemory }
+) -> Result<Option<BodyText>, MailParseError>
+    ensures { AnswersOrMemory (λ found. option_map text_view found) result
+        (Ok (text (charsets_with tables.now) (tree_of mail.now))) }
 {
     let Some(part) = text_part_with(alloc, mail, tables)? else {
         return Ok(None);
     };
-    match part.get_body_with(alloc, tables) {
-        Err(MailParseError::Memory(error)) => Err(MailParseError::Memory(error)),
-        text => Ok(Some(text)),
-    }
+    let text = body_text(alloc, part, tables)?;
+    Ok(Some(text))
 }

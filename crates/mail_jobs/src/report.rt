@@ -48,8 +48,8 @@ fn push_entry(lines: &mut String, entry: &IndexEntry) -> Result<(), AllocError> 
     }
     push_text(lines, "id", &entry.message_id)?;
     match &entry.text {
-        Some(Ok(text)) => write!(lines, "text: {:?}\n", text.as_str()),
-        Some(Err(error)) => write!(lines, "text: refused: {error}\n"),
+        Some(text) if text.is_damaged => write!(lines, "damaged text: {:?}\n", text.text.as_str()),
+        Some(text) => write!(lines, "text: {:?}\n", text.text.as_str()),
         None => Ok(()),
     }
 }
