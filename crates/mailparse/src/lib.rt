@@ -37,8 +37,8 @@ pub use disposition::{
     parse_content_disposition_with,
 };
 pub use error::{Base64Fault, MailParseError, QuotedPrintableFault, Wrapped};
-pub use header::{MailHeader, value_text, value_text_with};
 pub use header::parse::parse_header;
+pub use header::{MailHeader, value_text, value_text_with};
 pub use headers::block::parse_headers;
 pub use headers::map::MailHeaderMap;
 pub use mail::{
