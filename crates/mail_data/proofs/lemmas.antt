@@ -15,4 +15,5 @@ pub mod MailboxFound
 pub mod Separator
 pub mod CountedMails
 pub mod CountedFound
+pub mod MailboxFormats
 pub mod QuotedLines

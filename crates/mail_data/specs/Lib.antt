@@ -10,7 +10,8 @@ pub mod Mailbox
 pub mod MailboxParts
 pub mod MailboxViews
 pub mod CountedMails
-pub mod CountedViews
+pub mod MailboxFormats
+pub mod FormatViews
 pub mod lenient
 pub mod Texts
 pub mod TextViews

@@ -8,7 +8,8 @@ ghost use Rattle.mail_data.specs.Mailbox.{settled_entry};
 ghost use Rattle.mail_data.specs.MailboxViews.{entries_left};
 ghost use Rattle.mail_data.specs.Separator.{is_separator};
 
-pub mod counted;
+mod counted;
+pub mod formats;
 pub mod laws;
 pub mod quoted;
 mod separator;

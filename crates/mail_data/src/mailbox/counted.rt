@@ -1,122 +1,23 @@
-//! Mailboxes whose mails say in a field Content-Length how many bytes their bodies have: the mboxcl
-//! and mboxcl2 formats.
-ghost use Rattle.std.specs.Prelude.{◌≡◌, ◌++◌, ◌<◌, ◌≤◌, ◌^◌, IfSome, length, nat_le, option_map};
-ghost use Rattle.std.specs.Prelude.{take};
+//! Mails that say in a field Content-Length how many bytes their bodies have: the mboxcl and mboxcl2
+//! formats.
+ghost use Rattle.std.specs.Prelude.{◌≡◌, ◌<◌, ◌≤◌, ◌^◌, IfSome, length, nat_le, option_map};
 ghost use Rattle.std.specs.Char.{is_ascii_digit};
-ghost use Rattle.std.specs.List.{flat_map, list_all};
+ghost use Rattle.std.specs.List.{list_all};
 ghost use Rattle.std.specs.Str.{str_eq_ignore_ascii_case};
 ghost use Rattle.mail_data.specs.CountedMails.{block_length, block_place, content_length};
-ghost use Rattle.mail_data.specs.CountedMails.{counted, counted_at, counted_length, counted_place};
+ghost use Rattle.mail_data.specs.CountedMails.{counted_at, counted_length, counted_place};
 ghost use Rattle.mail_data.specs.CountedMails.{field_text, is_count_known, is_field, is_known};
 ghost use Rattle.mail_data.specs.CountedMails.{is_place_known, is_short_separator, may_end};
 ghost use Rattle.mail_data.specs.CountedMails.{next_counted, number, settled_counted};
-ghost use Rattle.mail_data.specs.CountedViews.{counted_left};
 ghost use Rattle.mail_data.specs.Lines.{line_length, line_place};
-ghost use Rattle.mail_data.specs.Mailbox.{entry_bytes, front_length};
 
 use super::separator::is_separator;
-use super::{MailboxEntry, front_length, is_before_text, mail_length};
+use super::{MailboxEntry, is_before_text, mail_length};
 use crate::lenient::date::numbers::number_of;
 use crate::lines::{empty_line, is_empty_line, line_length, line_place};
 
-/// An iterator over the mails of a mailbox, as `read_counted_mailbox` returns it.
-///
-/// Nothing is copied, and no call takes memory.
-#[derive(Drop)]
-pub struct CountedMailbox<'a> {
-    front: &'a [u8],
-    rest: &'a [u8],
-}
-
-impl<'a> CountedMailbox<'a> {
-    /// Returns the bytes before the first separator: none in a mailbox that begins with one.
-    ///
-    /// Takes no memory.
-    ///
-    /// # Examples
-    ///
-    /// ```rust
-    /// use mail_data::mailbox::counted::read_counted_mailbox;
-    ///
-    /// let mails = read_counted_mailbox(b"junk\n\nFrom a Fri Jul  8 12:08:34 2011\n");
-    /// assert_eq!(rt; mails.front(), b"junk\n\n".as_slice());
-    /// ```
-    pub fn front(&self) -> &'a [u8]
-        ensures { result.now ≡ self.now.front.now }
-    {
-        self.front
-    }
-}
-
-impl<'a> Iterator for CountedMailbox<'a> {
-    ghost use Rattle.std.specs.Iterator.{YieldsFirst, item_count};
-    ghost use Rattle.mail_data.specs.CountedViews.{counted_left};
-
-    type Item = MailboxEntry<'a>;
-
-    ghost next_gives = { YieldsFirst counted_left };
-
-    ghost remaining = { item_count counted_left };
-
-    fn next(&mut self) -> Option<MailboxEntry<'a>> {
-        let rest = self.rest;
-        if !is_separator(rest) {
-            return None;
-        }
-        let (entry, after) = cut_counted(rest);
-        self.rest = after;
-        Some(entry)
-    }
-}
-
-/// Reads a mailbox whose mails say how long they are (the mboxcl and mboxcl2 formats).
-///
-/// The first field `Content-Length` of a mail's header block says how many bytes its body has, in 1
-/// to 9 digits on the line of the name. The mail ends so many bytes behind the block, whatever it
-/// holds, if the mailbox ends there or a separator of at most 1,000 bytes stands there, perhaps
-/// behind an empty line. Otherwise, and without such a field, it ends as `read_mailbox` says, and so
-/// does what stands before the first separator. Takes no memory.
-///
-/// # Examples
-///
-/// ```rust
-/// use mail_data::mailbox::counted::read_counted_mailbox;
-///
-/// let all = b"From a Fri Jul 8 12:08 2011\nContent-Length: 29\n\n\nFrom b Fri Jul 8 12:08 2011\n";
-/// for entry in read_counted_mailbox(all) {
-///     assert!(rt; entry.mail().ends_with(b"\n\nFrom b Fri Jul 8 12:08 2011\n"));
-/// }
-/// ```
-pub fn read_counted_mailbox(bytes: &[u8]) -> CountedMailbox<'_>
-    ensures read { counted_left result ≡ counted bytes.now }
-    ensures front { result.front.now ≡ take (front_length bytes.now) bytes.now }
-    ensures whole { result.front.now ++ flat_map entry_bytes (counted_left result) ≡ bytes.now }
-{
-    let (front, rest) = bytes.split_at(front_length(bytes));
-    CountedMailbox { front, rest }
-}
-
-/// Returns the mail at the front of what was read of such a mailbox so far, and the bytes after it,
-/// if no bytes that follow can change them.
-///
-/// That is so where the bytes begin with a separator, the mail's header block was read to its end,
-/// the place that its Content-Length gives was read with what decides whether the mail ends there,
-/// and the next separator stands behind the mail with its whole line and at least one byte more.
-/// Otherwise it returns `None`: read more, or at the end of the mailbox take
-/// `read_counted_mailbox`. Call it again once twice as many bytes were read. Takes no memory.
-///
-/// # Examples
-///
-/// ```rust
-/// use mail_data::mailbox::counted::settled_counted_entry;
-///
-/// let read = b"From a Fri Jul  8 12:08 2011\n\none\n\nFrom b Fri Jul  8 12:09 2011\n\ntw";
-/// let Some((entry, rest)) = settled_counted_entry(read) else {
-///     return Err("the mail is not settled".into());
-/// };
-/// assert_eq!(rt; entry.mail(), b"\none\n".as_slice());
-/// assert!(rt; settled_counted_entry(rest).is_none());
-/// ```
+/// The mail at the front of what was read so far, and the bytes after it, if no bytes that follow can
+/// change them.
 #[tactic(auto, unfolding(crate::specs::CountedMails::settled_counted))]
 pub fn settled_counted_entry(bytes: &[u8]) -> Option<(MailboxEntry<'_>, &[u8])>
     ensures value { option_map (λ found. (found.0, found.1.now)) result ≡ settled_counted bytes.now }
@@ -134,7 +35,7 @@ pub fn settled_counted_entry(bytes: &[u8]) -> Option<(MailboxEntry<'_>, &[u8])>
 }
 
 /// The mail at the front of bytes that begin with its separator, and the bytes after it.
-fn cut_counted(bytes: &[u8]) -> (MailboxEntry<'_>, &[u8])
+pub fn cut_counted(bytes: &[u8]) -> (MailboxEntry<'_>, &[u8])
     ensures entry { result.0 ≡ counted_at bytes.now }
     ensures after { result.1.now ≡ next_counted bytes.now }
 {

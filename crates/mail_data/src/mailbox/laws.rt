@@ -5,11 +5,12 @@ ghost use Rattle.std.specs.List.{flat_map};
 ghost use Rattle.mail_codec.specs.Places.{values_below};
 ghost use Rattle.mail_data.specs.Mailbox.{EndsEmpty, Entry, entries, front_length, has_front};
 ghost use Rattle.mail_data.specs.Mailbox.{has_line, settled_entry};
-ghost use Rattle.mail_data.specs.CountedMails.{counted, settled_counted};
 ghost use Rattle.mail_data.specs.Lines.{starts_line};
+ghost use Rattle.mail_data.specs.MailboxFormats.{entries_in, settled_in};
 ghost use Rattle.mail_data.specs.MailboxParts.{in_range, part_mails, placed, placed_at};
 ghost use Rattle.mail_data.specs.QuotedLines.{is_quoted, quoted, unquoted};
 ghost use Rattle.mail_data.specs.Separator.{is_separator};
+ghost use Rattle.mail_data.specs.declared.mailbox.formats.Format.{Format};
 
 /// A mailbox may be cut before a separator that follows an empty line: the mails of the two
 /// mailboxes, one after another, are those of the whole.
@@ -58,12 +59,12 @@ pub fn settled_front_stays()
         × (entries (read ++ more) ≡ entries (drop (front_length read) read ++ more)) }
 {}
 
-/// The mail at the front of what was read so far, and that `settled_counted_entry` returns, is the
-/// first one whatever follows; the mails behind it are those of the rest and of what follows.
-pub fn settled_counted_mail_stays()
-    ensures { (read more rest : List ℕ) (entry : Entry) →
-        settled_counted read ≡ Some (entry, rest) →
-        counted (read ++ more) ≡ entry ∷ counted (rest ++ more) }
+/// The mail at the front of what was read so far, and that `settled_entry_in` returns, is the first
+/// one of its format whatever follows; the mails behind it are those of the rest and of what follows.
+pub fn settled_mail_in_stays()
+    ensures { (format : Format) (read more rest : List ℕ) (entry : Entry) →
+        settled_in format read ≡ Some (entry, rest) →
+        entries_in format (read ++ more) ≡ entry ∷ entries_in format (rest ++ more) }
 {}
 
 /// A mail that was quoted and then unquoted is the mail.

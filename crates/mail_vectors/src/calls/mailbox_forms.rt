@@ -1,6 +1,6 @@
 //! The calls on mailboxes of other forms: mboxrd, mboxcl and mboxcl2.
 
-use mail_data::mailbox::counted::{read_counted_mailbox, settled_counted_entry};
+use mail_data::mailbox::formats::{Format, read_mailbox_in, settled_entry_in};
 use mail_data::mailbox::quoted::unquoted;
 use mail_suite::{Answer, Row};
 use mailparse::MailParseError;
@@ -19,7 +19,7 @@ pub fn make(alloc: Global, row: &Row, answer: &mut Answer) -> Result<bool, MailP
 
 /// `read_counted_mailbox BYTES => FRONT`, and `SEPARATOR MAIL ENDING` for each mail.
 fn list_mails(row: &Row, answer: &mut Answer) -> Result<(), MailParseError> {
-    let mails = read_counted_mailbox(row.bytes(0)?);
+    let mails = read_mailbox_in(Format::Counted, row.bytes(0)?);
     answer.bytes(mails.front())?;
     for entry in mails {
         answer.bytes(entry.separator())?;
@@ -31,7 +31,7 @@ fn list_mails(row: &Row, answer: &mut Answer) -> Result<(), MailParseError> {
 
 /// `settled_counted_entry BYTES => SEPARATOR MAIL ENDING REST`, or `none`.
 fn settle(row: &Row, answer: &mut Answer) -> Result<(), MailParseError> {
-    let Some((entry, rest)) = settled_counted_entry(row.bytes(0)?) else {
+    let Some((entry, rest)) = settled_entry_in(Format::Counted, row.bytes(0)?) else {
         answer.word("none")?;
         return Ok(());
     };
