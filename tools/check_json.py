@@ -287,6 +287,14 @@ def check_mailboxes():
         if data.startswith(FROM):
             same(subjects([], data, status, f"{data!r} by itself"), wanted, f"{data!r} by itself")
     same(subjects(["--mail"], FROM + b"Subject: 1\n\n", 0, "--mail"), ["1"], "--mail")
+    text = b"\n\nx\n\n" + FROM + b"\ny\n"
+    counted = FROM + b"Subject: 1\nContent-Length: %d" % (len(text) - 2) + text + b"\n" + FROM + b"Subject: 2\n"
+    same(subjects(["--mbox=cl"], counted, 0, "--mbox=cl"), ["1", "2"], "--mbox=cl")
+    same(subjects(["--mbox"], counted, 0, "counted, --mbox"), ["1", None, "2"], "counted, --mbox")
+    quoted = FROM + b"Subject: 1\n\n>From x\n>>From y\n"
+    for option, text in (("--mbox", ">From x\n>>From y\n"), ("--mbox=rd", "From x\n>From y\n")):
+        found = objects([option], quoted, 0, option)[0]
+        same([found["end"], found["parts"][0]["text"]], [len(quoted), text], option)
 
 
 def in_pieces(data, size):
@@ -332,7 +340,7 @@ def check_calls():
     judge(ended.returncode == 0 and b"--mbox" in ended.stdout and not ended.stderr, "--help")
     ended = run(["--version"])
     judge(ended.returncode == 0 and ended.stdout.startswith(b"mail_json ") and not ended.stderr, "--version")
-    for words in (["--no-such-option"], ["-x"], ["--mbox", "--mboxes"], [""]):
+    for words in (["--no-such-option"], ["-x"], ["--mbox", "--mboxes"], ["--mbox=x"], [""]):
         ended = run(words)
         judge(ended.returncode == 2 and not ended.stdout and ended.stderr, f"{words} is refused")
     names = [os.path.join(TOP, "samples", name) for name in ("plain.eml", "parts.eml")]

@@ -8,8 +8,11 @@ use Rattle.mailparse.specs.Mail.{Tree, read_mail_in}
 use Rattle.mailparse.specs.Refusal.{Reads}
 use Rattle.mail_program.specs.declared.fault.Fault.{Fault}
 use Rattle.mail_data.specs.Mailbox.{Entry, front_length}
-use Rattle.mail_data.specs.MailboxParts.{Placed, placed}
+use Rattle.mail_data.specs.MailboxFormats.{entries_in, mail_in}
+use Rattle.mail_data.specs.MailboxParts.{Placed, placed_from}
 use Rattle.mail_data.specs.Separator.{is_separator}
+use Rattle.mail_data.specs.declared.mailbox.formats.Format.{Format}
+use Rattle.mail_data.specs.declared.mailbox.formats.Format.TheVariants.{Plain}
 use Rattle.mail_json.specs.Fields.{refusal_text}
 use Rattle.mail_json.specs.Mail.{IsMailText}
 use Rattle.mail_json.specs.Origin.{Origin, error_line}
@@ -48,7 +51,13 @@ next_number number = option_map (λ n. saturating_add n 1) number
 abbrev pub is_mailbox : Form → List ℕ → Bool
 is_mailbox Either bytes = is_separator bytes
 is_mailbox Mail bytes = false
-is_mailbox Mailbox bytes = true
+is_mailbox (Mailbox format) bytes = true
+
+-- the format of such a mailbox: where the form does not say that it is one, that of RFC 4155
+abbrev pub format_of : Form → Format
+format_of Either = Plain
+format_of Mail = Plain
+format_of (Mailbox format) = format
 
 -- Under the charsets that are known.
 module _ (known : Charsets) where
@@ -65,29 +74,29 @@ module _ (known : Charsets) where
   abbrev pub IsMailLine : Option (List ℕ) → List ℕ → Lines
   IsMailLine file bytes = IsLine (record { file = file; number = None; start = 0; end = length bytes }) bytes
 
-  -- the lines of mails at their places, in order, the first of which has this number, if they are numbered
-  abbrev pub AreLines : Option (List ℕ) → Option ℕ → List Placed → Lines
-  AreLines file number [] is_clean text = (is_clean ≡ true) × (text ≡ [])
-  AreLines file number (mail ∷ rest) is_clean text =
+  -- the lines of mails in a format at their places, in order, the first of which has this number, if they are numbered
+  abbrev pub AreLines : Format → Option (List ℕ) → Option ℕ → List Placed → Lines
+  AreLines format file number [] is_clean text = (is_clean ≡ true) × (text ≡ [])
+  AreLines format file number (mail ∷ rest) is_clean text =
       (first : Bool) × (others : Bool) × (line : List ℕ) × (lines : List ℕ)
-      × IsLine (origin_at file number mail.start mail.entry) mail.entry.mail first line
-      × AreLines file (next_number number) rest others lines × (is_clean ≡ (first && others)) × (text ≡ line ++ lines)
+      × IsLine (origin_at file number mail.start mail.entry) (mail_in format mail.entry.mail) first line
+      × AreLines format file (next_number number) rest others lines × (is_clean ≡ (first && others)) × (text ≡ line ++ lines)
 
-  -- the lines of a mailbox: the error for what stands before the first mail, and then those of its mails
-  abbrev pub AreMailboxLines : Option (List ℕ) → List ℕ → Lines
-  AreMailboxLines file bytes is_clean text =
+  -- the lines of a mailbox in a format: the error for what stands before the first mail, and then those of its mails
+  abbrev pub AreMailboxLines : Format → Option (List ℕ) → List ℕ → Lines
+  AreMailboxLines format file bytes is_clean text =
       let front = take (front_length bytes) bytes in
       (is_all_whitespace : Bool) × (are_read : Bool) × (error : List ℕ) × (lines : List ℕ) × IsFront file front is_all_whitespace error
-      × AreLines file (Some 1) (placed bytes) are_read lines × (is_clean ≡ (is_all_whitespace && are_read)) × (text ≡ error ++ lines)
+      × AreLines format file (Some 1) (placed_from (front_length bytes) (entries_in format bytes)) are_read lines × (is_clean ≡ (is_all_whitespace && are_read)) × (text ≡ error ++ lines)
 
-  -- the lines of an input that is a mailbox, or one mail
-  abbrev pub AreLinesOf : Bool → Option (List ℕ) → List ℕ → Lines
-  AreLinesOf true file bytes = AreMailboxLines file bytes
-  AreLinesOf false file bytes = IsMailLine file bytes
+  -- the lines of an input that is a mailbox in a format, or one mail
+  abbrev pub AreLinesOf : Format → Bool → Option (List ℕ) → List ℕ → Lines
+  AreLinesOf format true file bytes = AreMailboxLines format file bytes
+  AreLinesOf format false file bytes = IsMailLine file bytes
 
   -- the lines of an input of this form
   abbrev pub AreInputLines : Form → Option (List ℕ) → List ℕ → Lines
-  AreInputLines form file bytes = AreLinesOf (is_mailbox form bytes) file bytes
+  AreInputLines form file bytes = AreLinesOf (format_of form) (is_mailbox form bytes) file bytes
 
 -- such lines were written, and nothing else, and the call returned whether no error is among them; otherwise memory ran out or a write failed
 abbrev pub WritesLines : Option (List ℕ) → Option (List ℕ) → Result Bool Fault → Lines → Type 0

@@ -2,6 +2,7 @@
 ghost use Rattle.std.specs.Prelude.{◌++◌, ◌≡◌, Bool, List, Option, codes, ℕ};
 ghost use Rattle.json.specs.Json.{Json};
 ghost use Rattle.mail_codec.specs.Charset.{Charsets};
+ghost use Rattle.mail_data.specs.declared.mailbox.formats.Format.{Format};
 ghost use Rattle.mailparse.specs.Mail.{Tree};
 ghost use Rattle.mailparse.specs.Refusal.{Reads};
 ghost use Rattle.mail_json.specs.Lines.{AreMailboxLines, IsLineOf};
@@ -17,8 +18,9 @@ pub fn lines_are_json()
         (text : List ℕ) → IsLineOf known origin mail is_clean text →
         (value : Json) × (object : List ℕ) × IsLineValue known origin mail value
         × IsJsonLine value object × (text ≡ object ++ codes "\n") }
-    ensures all { (known : Charsets) (file : Option (List ℕ)) (bytes : List ℕ) (is_clean : Bool)
-        (text : List ℕ) → AreMailboxLines known file bytes is_clean text → AreJsonLines text }
+    ensures all { (known : Charsets) (format : Format) (file : Option (List ℕ)) (bytes : List ℕ)
+        (is_clean : Bool) (text : List ℕ) → AreMailboxLines known format file bytes is_clean text →
+        AreJsonLines text }
     ensures unread { (file : Option (List ℕ)) (text : List ℕ) → (object : List ℕ)
         × IsJsonLine (unread_value file text) object
         × (unread_line file text ≡ object ++ codes "\n") }

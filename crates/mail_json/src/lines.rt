@@ -3,8 +3,9 @@ ghost use Rattle.std.specs.Prelude.{◌≡◌, option_map};
 ghost use Rattle.std.specs.Char.{is_ascii_whitespace};
 ghost use Rattle.std.specs.List.{list_all};
 ghost use Rattle.mail_codec.specs.Tables.{charsets_with};
+ghost use Rattle.mail_data.specs.FormatViews.{left_in};
+ghost use Rattle.mail_data.specs.MailboxFormats.{mail_in};
 ghost use Rattle.mail_data.specs.MailboxParts.{placed_from};
-ghost use Rattle.mail_data.specs.MailboxViews.{entries_left};
 ghost use Rattle.mail_json.specs.Lines.{AreLines, AreMailboxLines, IsFront, IsLine, IsMailLine};
 ghost use Rattle.mail_json.specs.Lines.{WritesLines, after_entry, next_number, origin_at};
 ghost use Rattle.mail_json.specs.Origin.{origin_of};
@@ -13,7 +14,9 @@ use crate::fields::refusal_text;
 use crate::mail::write_mail;
 use crate::origin::{Origin, write_error};
 use crate::strings::write_word;
-use mail_data::mailbox::{Mailbox, MailboxEntry, read_mailbox};
+use mail_data::mailbox::MailboxEntry;
+use mail_data::mailbox::formats::{Format, MailboxIn, read_mailbox_in};
+use mail_data::mailbox::quoted::unquoted;
 use mail_program::Fault;
 use mailparse::{SingleByteTable, parse_mail_with};
 use std::alloc::Global;
@@ -70,8 +73,8 @@ pub fn write_single<W: Write>(
     write_line(alloc, input, &origin, out, tables)
 }
 
-/// Writes each mail of a mailbox, and an error for what stands before the first one. Returns
-/// whether there was no error.
+/// Writes each mail of a mailbox in a format, and an error for what stands before the first one.
+/// Returns whether there was no error.
 ///
 /// # Errors
 ///
@@ -80,21 +83,22 @@ pub fn write_single<W: Write>(
 pub fn write_mailbox<W: Write>(
     alloc: Global,
     input: &[u8],
+    format: Format,
     file: Option<&str>,
     out: &mut W,
     tables: &[SingleByteTable<'_>],
 ) -> Result<bool, Fault>
     ensures { WritesLines (W.contents out.old) (W.contents out.new) result (AreMailboxLines
-        (charsets_with tables.now) (option_map (λ name. name.now) file.entry) input.now) }
+        (charsets_with tables.now) format (option_map (λ name. name.now) file.entry) input.now) }
 {
-    let mails = read_mailbox(input);
+    let mails = read_mailbox_in(format, input);
     let front = mails.front();
     let is_all_whitespace = write_front(alloc, front, file, out)?;
     let first = Next {
         number: Some(1),
         at: front.len(),
     };
-    let are_read = write_mails(alloc, mails, first, file, out, tables)?;
+    let are_read = write_mails(alloc, mails, format, first, file, out, tables)?;
     Ok(is_all_whitespace & are_read)
 }
 
@@ -139,8 +143,8 @@ fn is_all_whitespace(bytes: &[u8]) -> bool
     bytes.iter().all(|byte| byte.is_ascii_whitespace())
 }
 
-/// Writes each mail of a mailbox, the first of which has this number and place. Returns whether none
-/// was refused.
+/// Writes each mail of a mailbox in a format, the first of which has this number and place. Returns
+/// whether none was refused.
 ///
 /// # Errors
 ///
@@ -148,27 +152,28 @@ fn is_all_whitespace(bytes: &[u8]) -> bool
 /// out of memory.
 pub fn write_mails<W: Write>(
     alloc: Global,
-    mails: Mailbox<'_>,
+    mails: MailboxIn<'_>,
+    format: Format,
     first: Next,
     file: Option<&str>,
     out: &mut W,
     tables: &[SingleByteTable<'_>],
 ) -> Result<bool, Fault>
     ensures { WritesLines (W.contents out.old) (W.contents out.new) result
-        (AreLines (charsets_with tables.now) (option_map (λ name. name.now) file.entry) first.number
-        (placed_from first.at (entries_left mails.entry))) }
+        (AreLines (charsets_with tables.now) format (option_map (λ name. name.now) file.entry)
+        first.number (placed_from first.at (left_in mails.entry))) }
 {
     let mut next = first;
     let mut is_clean = true;
     for entry in mails {
-        let is_read = write_entry(alloc, &entry, next, file, out, tables)?;
+        let is_read = write_entry(alloc, &entry, format, next, file, out, tables)?;
         is_clean &= is_read;
         next = next.after(&entry);
     }
     Ok(is_clean)
 }
 
-/// Writes the line of a mail of a mailbox. Returns whether it is not refused.
+/// Writes the line of a mail of a mailbox in a format. Returns whether it is not refused.
 ///
 /// # Errors
 ///
@@ -177,6 +182,7 @@ pub fn write_mails<W: Write>(
 pub fn write_entry<W: Write>(
     alloc: Global,
     entry: &MailboxEntry<'_>,
+    format: Format,
     next: Next,
     file: Option<&str>,
     out: &mut W,
@@ -184,7 +190,7 @@ pub fn write_entry<W: Write>(
 ) -> Result<bool, Fault>
     ensures { WritesLines (W.contents out.old) (W.contents out.new) result
         (IsLine (charsets_with tables.now) (origin_at (option_map (λ name. name.now) file.entry)
-        next.number next.at entry.now) entry.now.mail) }
+        next.number next.at entry.now) (mail_in format entry.now.mail)) }
 {
     let start = next.at.saturating_add(entry.separator().len());
     let origin = Origin {
@@ -193,7 +199,13 @@ pub fn write_entry<W: Write>(
         start,
         end: start.saturating_add(entry.mail().len()),
     };
-    write_line(alloc, entry.mail(), &origin, out, tables)
+    match format {
+        Format::Plain | Format::Counted => write_line(alloc, entry.mail(), &origin, out, tables),
+        Format::Quoted => {
+            let mail = unquoted(alloc, entry.mail())?;
+            write_line(alloc, mail.as_slice(), &origin, out, tables)
+        }
+    }
 }
 
 /// Writes the line of a mail from there. Returns whether it is not refused.

@@ -1,5 +1,6 @@
 //! What the arguments ask for.
 
+use mail_data::mailbox::formats::Format;
 use mail_program::Word;
 use std::alloc::{AllocError, Global};
 
@@ -15,6 +16,8 @@ an option says which it is:
 
     --mail                       each input is one mail
     --mbox                       each input is a mailbox
+    --mbox=rd                    one in the mboxrd format, whose quoted lines lose a `>`
+    --mbox=cl                    one in the mboxcl or mboxcl2 format, with Content-Length
     --progress                   say on standard error how far a long mailbox is read
     --version, --help            print the version, or this help
     --                           what follows are names of files
@@ -25,7 +28,8 @@ something could not be read or written, and 2 where the arguments are wrong.
 ";
 
 /// What wrong arguments print.
-pub const USAGE: &str = "usage: mail_json [--mail|--mbox] [--progress] [FILE|FOLDER..]";
+pub const USAGE: &str =
+    "usage: mail_json [--mail|--mbox|--mbox=rd|--mbox=cl] [--progress] [FILE|FOLDER..]";
 
 /// What a run is to do.
 #[derive(Clone, Copy, PartialEq, Eq)]
@@ -47,8 +51,8 @@ pub enum Form {
     Either,
     /// One mail.
     Mail,
-    /// A mailbox.
-    Mailbox,
+    /// A mailbox in this format.
+    Mailbox(Format),
 }
 
 /// How the inputs are read.
@@ -109,7 +113,9 @@ impl<'w> Request<'w> {
     fn take_option(&mut self, option: &str) {
         match option {
             "--mail" => self.how.form = Form::Mail,
-            "--mbox" => self.how.form = Form::Mailbox,
+            "--mbox" => self.how.form = Form::Mailbox(Format::Plain),
+            "--mbox=rd" => self.how.form = Form::Mailbox(Format::Quoted),
+            "--mbox=cl" => self.how.form = Form::Mailbox(Format::Counted),
             "--progress" => self.how.tells = true,
             _ => self.decide(Task::Wrong),
         }

@@ -3,13 +3,14 @@ ghost use Rattle.std.specs.Prelude.{◌≡◌, ◌++◌, IfErr, IfOk, [], option
 ghost use Rattle.mail_codec.specs.Tables.{charsets_with};
 ghost use Rattle.mail_data.specs.Mailbox.{has_front};
 ghost use Rattle.mail_json.specs.Lines.{AreInputLines, AreMailboxLines, WritesInput, WritesLines};
-ghost use Rattle.mail_json.specs.Lines.{is_mailbox};
+ghost use Rattle.mail_json.specs.Lines.{format_of, is_mailbox};
 ghost use Rattle.mail_json.specs.Stream.{ReadsUntil, WritesSettled, first_wanted, is_there};
 ghost use Rattle.mail_json.specs.Written.{IsEnd, Writes};
 
 use crate::lines::{Next, write_entry, write_front, write_mailbox, write_mails, write_single};
 use crate::request::Form;
-use mail_data::mailbox::{self, has_front, has_line, read_mailbox, settled_entry};
+use mail_data::mailbox::formats::{Format, read_mailbox_in, settled_entry_in};
+use mail_data::mailbox::{self, has_front, has_line};
 use mail_program::{Fault, read_more};
 use mailparse::SingleByteTable;
 use std::alloc::{AllocError, Global};
@@ -22,8 +23,8 @@ pub enum Wanted {
     FirstLine,
     /// What stands before the first separator of a mailbox.
     Front,
-    /// The first mail of a mailbox.
-    FirstMail,
+    /// The first mail of a mailbox in this format.
+    FirstMail(Format),
     /// All bytes.
     End,
 }
@@ -71,7 +72,17 @@ pub fn write_input<R: Read, W: Write, M: Watch>(
         return write_whole(alloc, read.as_slice(), form, file, out, tables);
     }
     if is_mailbox(form, read.as_slice()) {
-        return write_following(alloc, reader, read.as_slice(), file, out, tables, watch);
+        let format = format_of(form);
+        return write_following(
+            alloc,
+            reader,
+            read.as_slice(),
+            format,
+            file,
+            out,
+            tables,
+            watch,
+        );
     }
     read_until(alloc, reader, &mut read, Wanted::End)?;
     write_single(alloc, read.as_slice(), file, out, tables)
@@ -90,7 +101,7 @@ fn write_whole<W: Write>(
         (charsets_with tables.now) form (option_map (λ name. name.now) file.entry) input.now) }
 {
     if is_mailbox(form, input) {
-        write_mailbox(alloc, input, file, out, tables)
+        write_mailbox(alloc, input, format_of(form), file, out, tables)
     } else {
         write_single(alloc, input, file, out, tables)
     }
@@ -103,7 +114,17 @@ fn is_mailbox(form: Form, input: &[u8]) -> bool
     match form {
         Form::Either => mailbox::is_mailbox(input),
         Form::Mail => false,
-        Form::Mailbox => true,
+        Form::Mailbox(_) => true,
+    }
+}
+
+/// The format of a mailbox of this form.
+fn format_of(form: Form) -> Format
+    ensures { result ≡ format_of form }
+{
+    match form {
+        Form::Either | Form::Mail => Format::Plain,
+        Form::Mailbox(format) => format,
     }
 }
 
@@ -114,7 +135,7 @@ fn first_wanted(form: Form) -> Wanted
     match form {
         Form::Either => Wanted::FirstLine,
         Form::Mail => Wanted::End,
-        Form::Mailbox => Wanted::Front,
+        Form::Mailbox(_) => Wanted::Front,
     }
 }
 
@@ -148,17 +169,18 @@ fn is_there(wanted: Wanted, bytes: &[u8]) -> bool
     match wanted {
         Wanted::FirstLine => has_line(bytes),
         Wanted::Front => has_front(bytes),
-        Wanted::FirstMail => settled_entry(bytes).is_some(),
+        Wanted::FirstMail(format) => settled_entry_in(format, bytes).is_some(),
         Wanted::End => false,
     }
 }
 
-/// Writes the lines of a mailbox of which these bytes were read, the first separator among them.
-/// Returns whether there was no error.
+/// Writes the lines of a mailbox in a format of which these bytes were read, the first separator
+/// among them. Returns whether there was no error.
 fn write_following<R: Read, W: Write, M: Watch>(
     alloc: Global,
     reader: &mut R,
     read: &[u8],
+    format: Format,
     file: Option<&str>,
     out: &mut W,
     tables: &[SingleByteTable<'_>],
@@ -167,10 +189,10 @@ fn write_following<R: Read, W: Write, M: Watch>(
     requires { has_front read.now ≡ true }
     ensures { WritesInput (R.remaining reader.old) (R.remaining reader.new)
         (W.contents out.old) (W.contents out.new) result (λ more. AreMailboxLines
-        (charsets_with tables.now) (option_map (λ name. name.now) file.entry)
+        (charsets_with tables.now) format (option_map (λ name. name.now) file.entry)
         (read.now ++ more)) }
 {
-    let front = read_mailbox(read).front();
+    let front = read_mailbox_in(format, read).front();
     let mut is_clean = write_front(alloc, front, file, out)?;
     let mut next = Next {
         number: Some(1),
@@ -178,13 +200,13 @@ fn write_following<R: Read, W: Write, M: Watch>(
     };
     let mut pending = copy(alloc, &read[front.len()..])?;
     for _turn in 0..u64::MAX {
-        let has_ended = read_until(alloc, reader, &mut pending, Wanted::FirstMail)?;
+        let has_ended = read_until(alloc, reader, &mut pending, Wanted::FirstMail(format))?;
         if has_ended {
-            let mails = read_mailbox(pending.as_slice());
-            let are_read = write_mails(alloc, mails, next, file, out, tables)?;
+            let mails = read_mailbox_in(format, pending.as_slice());
+            let are_read = write_mails(alloc, mails, format, next, file, out, tables)?;
             return Ok(is_clean & are_read);
         }
-        let settled = write_settled(alloc, pending.as_slice(), next, file, out, tables)?;
+        let settled = write_settled(alloc, pending.as_slice(), format, next, file, out, tables)?;
         flush(out)?;
         is_clean &= settled.is_clean;
         next = settled.next;
@@ -198,12 +220,13 @@ fn write_following<R: Read, W: Write, M: Watch>(
 fn write_settled<'a, W: Write>(
     alloc: Global,
     bytes: &'a [u8],
+    format: Format,
     first: Next,
     file: Option<&str>,
     out: &mut W,
     tables: &[SingleByteTable<'_>],
 ) -> Result<Settled<'a>, Fault>
-    ensures written { IfOk result (λ s. WritesSettled (charsets_with tables.now)
+    ensures written { IfOk result (λ s. WritesSettled (charsets_with tables.now) format
         (option_map (λ name. name.now) file.entry) (W.contents out.old) (W.contents out.new)
         first.number first.at bytes.now s.next.number s.next.at s.rest.now s.is_clean) }
     ensures failed { IfErr result IsEnd }
@@ -211,8 +234,8 @@ fn write_settled<'a, W: Write>(
     let mut rest = bytes;
     let mut next = first;
     let mut is_clean = true;
-    'mails: while let Some((entry, after)) = settled_entry(rest) {
-        let is_read = write_entry(alloc, &entry, next, file, out, tables)?;
+    'mails: while let Some((entry, after)) = settled_entry_in(format, rest) {
+        let is_read = write_entry(alloc, &entry, format, next, file, out, tables)?;
         is_clean &= is_read;
         next = next.after(&entry);
         rest = after;

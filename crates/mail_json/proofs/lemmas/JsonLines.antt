@@ -21,8 +21,10 @@ use Rattle.mailparse.specs.Refusal.{Reads}
 use Rattle.mailparse.specs.Value.{lenient_value_in}
 use Rattle.mail_data.specs.Files.{name_in}
 use Rattle.mail_data.specs.Mailbox.{front_length}
-use Rattle.mail_data.specs.MailboxParts.{Placed, placed}
+use Rattle.mail_data.specs.MailboxFormats.{entries_in, mail_in}
+use Rattle.mail_data.specs.MailboxParts.{Placed, placed_from}
 use Rattle.mail_data.specs.PartPlaces.{Place, places}
+use Rattle.mail_data.specs.declared.mailbox.formats.Format.{Format}
 use Rattle.mail_data.specs.lenient.Date.{Dated, Zoned, date_in}
 use Rattle.mail_data.specs.lenient.Encoding.{lenient_body_kind}
 use Rattle.mail_data.specs.lenient.Texts.{lenient_bytes, text_read}
@@ -400,14 +402,14 @@ no_lines = ([], tt, refl)
 lines_as : (a b : List ℕ) → a ≡ b → AreJsonLines b → AreJsonLines a
 lines_as a b e p = subst AreJsonLines (sym e) p
 
--- Of a file.
-module _ (known : Charsets) (file : Option (List ℕ)) where
-  mails_are_lines : (mails : List Placed) (number : Option ℕ) (is_clean : Bool) (text : List ℕ) → AreLines known file number mails is_clean text → AreJsonLines text
+-- Of a file that is a mailbox in a format.
+module _ (known : Charsets) (format : Format) (file : Option (List ℕ)) where
+  mails_are_lines : (mails : List Placed) (number : Option ℕ) (is_clean : Bool) (text : List ℕ) → AreLines known format file number mails is_clean text → AreJsonLines text
   mails_are_lines [] number is_clean text is = lines_as text [] is.1 no_lines
   mails_are_lines (mail ∷ mails) number is_clean text is =
       lines_as text (is.2 ++ is.3) is.7
       (lines_then is.2 is.3
-      (one_json_line _ is.2 (line_is_json known (origin_at file number mail.start mail.entry) (read_mail_in known 100 mail.entry.mail) is.0 is.2 is.4))
+      (one_json_line _ is.2 (line_is_json known (origin_at file number mail.start mail.entry) (read_mail_in known 100 (mail_in format mail.entry.mail)) is.0 is.2 is.4))
       (mails_are_lines mails _ is.1 is.3 is.5))
 
   front_is_line : (front : List ℕ) (is_all_whitespace : Bool) (text : List ℕ) → IsFront file front is_all_whitespace text → AreJsonLines text
@@ -417,8 +419,8 @@ module _ (known : Charsets) (file : Option (List ℕ)) where
       let why = codes "The mailbox does not begin with a separator" in
       lines_as text (error_line origin why) is.1 (one_json_line _ _ (error_is_line origin why))
 
-pub mailbox_is_lines : (known : Charsets) (file : Option (List ℕ)) (bytes : List ℕ) (is_clean : Bool) (text : List ℕ)
-    → AreMailboxLines known file bytes is_clean text → AreJsonLines text
-mailbox_is_lines known file bytes is_clean text is =
+pub mailbox_is_lines : (known : Charsets) (format : Format) (file : Option (List ℕ)) (bytes : List ℕ) (is_clean : Bool) (text : List ℕ)
+    → AreMailboxLines known format file bytes is_clean text → AreJsonLines text
+mailbox_is_lines known format file bytes is_clean text is =
     lines_as text (is.2 ++ is.3) is.7
-    (lines_then is.2 is.3 (front_is_line known file (take (front_length bytes) bytes) is.0 is.2 is.4) (mails_are_lines known file (placed bytes) _ is.1 is.3 is.5))
+    (lines_then is.2 is.3 (front_is_line known format file (take (front_length bytes) bytes) is.0 is.2 is.4) (mails_are_lines known format file (placed_from (front_length bytes) (entries_in format bytes)) _ is.1 is.3 is.5))

@@ -9,4 +9,4 @@ abbrev pub invariant-loop-turn : goal.invariant-loop-turn
 invariant-loop-turn g l =
     (more : List ℕ) × (done : List ℕ) × Consumes (g.R.Read.remaining l.fn.reader) (g.R.Read.remaining l.reader) more
     × Appends (g.W.Write.contents l.fn.out) (g.W.Write.contents l.out) done
-    × Follows (charsets_with l.tables) (option_map (λ name. name.now) l.fn.file) l.read more l.next.number l.next.at l.pending.items l.is_clean done
+    × Follows (charsets_with l.tables) l.format (option_map (λ name. name.now) l.fn.file) l.read more l.next.number l.next.at l.pending.items l.is_clean done
