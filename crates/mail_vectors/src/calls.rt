@@ -1,5 +1,6 @@
 //! The calls of the suite, by topic.
 
+mod addresses;
 mod encoded_values;
 mod files;
 mod lenient;
@@ -26,6 +27,7 @@ pub fn make(alloc: Global, row: &Row, answer: &mut Answer) -> Result<(), MailPar
         || reports::make(alloc, row, answer)?
         || lenient::make(alloc, row, answer)?
         || texts::make(alloc, row, answer)?
-        || threads::make(alloc, row, answer)?;
+        || threads::make(alloc, row, answer)?
+        || addresses::make(alloc, row, answer)?;
     if is_made { Ok(()) } else { Err(FORM) }
 }
