@@ -2,9 +2,9 @@
 
 use crate::calls::files::part_at;
 use mail_data::lenient::{
-    DateError, base64_front, date_in, date_of, ids_in, lenient_body, own_ids_in,
+    DateError, base64_front, body_text, date_in, date_of, ids_in, lenient_body, own_ids_in,
 };
-use mail_suite::{Answer, Row};
+use mail_suite::{Answer, Row, all_tables};
 use mailparse::body::Body;
 use mailparse::{MailParseError, parse_mail};
 use std::alloc::Global;
@@ -14,6 +14,7 @@ pub fn make(alloc: Global, row: &Row, answer: &mut Answer) -> Result<bool, MailP
     let outcome = match row.call.as_str() {
         "base64_front" => read_front(alloc, row, answer),
         "lenient_body" => read_body(alloc, row, answer),
+        "body_text" => read_text(alloc, row, answer),
         "ids_in" => find_ids(alloc, row, answer),
         "own_ids_in" => find_own_ids(alloc, row, answer),
         "date_of" => read_date(alloc, row, answer),
@@ -44,6 +45,15 @@ fn read_body(alloc: Global, row: &Row, answer: &mut Answer) -> Result<(), MailPa
     let part = part_at(alloc, &mail, row.number(1)?)?;
     let body = lenient_body(alloc, part)?;
     write_body(alloc, &body, answer)
+}
+
+/// `body_text MAIL => TEXT CHARSET DAMAGED` of the whole mail, under all tables.
+fn read_text(alloc: Global, row: &Row, answer: &mut Answer) -> Result<(), MailParseError> {
+    let mail = parse_mail(alloc, row.bytes(0)?)?;
+    let read = body_text(alloc, &mail, all_tables())?;
+    answer.text(read.text.as_str())?;
+    answer.text(read.charset.as_str())?;
+    Ok(answer.truth(read.is_damaged)?)
 }
 
 /// Writes a body.

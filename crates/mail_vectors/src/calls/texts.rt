@@ -1,8 +1,8 @@
 //! The calls on the texts of mails, and on the mails inside them.
 
 use crate::calls::files::part_at;
-use mail_data::forwarding::{forwarded, mails_inside};
-use mail_data::texts::{text_part, text_part_with};
+use mail_data::forwarding::{forwarded, forwarded_bytes, forwarded_with, mails_inside};
+use mail_data::texts::{text_part, text_part_with, text_type};
 use mail_suite::{Answer, FORM, Row, all_tables};
 use mailparse::{MAX_LEVELS, MailParseError, ParsedMail, parse_mail, parse_mail_with};
 use std::alloc::Global;
@@ -13,7 +13,10 @@ pub fn make(alloc: Global, row: &Row, answer: &mut Answer) -> Result<bool, MailP
         "text_part" => find_text(alloc, row, answer),
         "text_part_with" => find_text_with(alloc, row, answer),
         "forwarded" => read_forwarded(alloc, row, answer),
+        "forwarded_with" => read_forwarded_with(alloc, row, answer),
+        "forwarded_bytes" => copy_forwarded(alloc, row, answer),
         "mails_inside" => list_mails(alloc, row, answer),
+        "text_type" => name_type(row, answer),
         _ => return Ok(false),
     };
     if let Err(error) = outcome {
@@ -49,6 +52,39 @@ fn read_forwarded(alloc: Global, row: &Row, answer: &mut Answer) -> Result<(), M
         Some(inside) => answer.bytes_or_refusal(inside.get_body_raw(alloc)),
         None => Ok(answer.word("none")?),
     }
+}
+
+/// `forwarded_with MAIL => NAME BODY`, the parameter `name` of the mail inside or `none`, and the
+/// bytes of its body, under all tables; or `none`.
+fn read_forwarded_with(
+    alloc: Global,
+    row: &Row,
+    answer: &mut Answer,
+) -> Result<(), MailParseError> {
+    let mail = parse_mail_with(alloc, row.bytes(0)?, all_tables())?;
+    match forwarded_with(alloc, &mail, all_tables())? {
+        Some(inside) => {
+            let name = inside.ctype.params.get("name");
+            answer.optional_text(name.map(|name| name.as_str()))?;
+            answer.bytes_or_refusal(inside.get_body_raw(alloc))
+        }
+        None => Ok(answer.word("none")?),
+    }
+}
+
+/// `forwarded_bytes MAIL => BYTES`, or `none`.
+fn copy_forwarded(alloc: Global, row: &Row, answer: &mut Answer) -> Result<(), MailParseError> {
+    let mail = parse_mail(alloc, row.bytes(0)?)?;
+    match forwarded_bytes(alloc, &mail)? {
+        Some(bytes) => answer.bytes(bytes.as_slice())?,
+        None => answer.word("none")?,
+    }
+    Ok(())
+}
+
+/// `text_type TYPE => TYPE`
+fn name_type(row: &Row, answer: &mut Answer) -> Result<(), MailParseError> {
+    Ok(answer.text(text_type(row.text(0)?))?)
 }
 
 /// `mails_inside MAIL MOST => BYTES` for each mail.
