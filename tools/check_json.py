@@ -258,7 +258,7 @@ def check_places():
         front = FROM + b"Subject: 1\n\none\n\n" + FROM
         found = objects(["--mbox"], front + raw + b"\n\n", 0, f"places {turn} in a mailbox")
         place = [found[1][name] for name in ORIGIN]
-        same(place, [2, None, 2, len(front), len(front + raw) + 1], f"places {turn} in a mailbox")
+        same(place, [3, None, 2, len(front), len(front + raw) + 1], f"places {turn} in a mailbox")
         starts = [part["start"] for part in found[1]["parts"]]
         same(starts, [len(front) + at for _path, _part, at in places], f"places {turn} in a mailbox")
 
@@ -353,7 +353,7 @@ def check_calls():
     ended = run([names[0], "/no/such/file", names[1]])
     found = lines(ended.stdout, "a file that is missing")
     same((ended.returncode, len(found)), (1, 3), "a file that is missing")
-    same([found[1][name] for name in ORIGIN], [2, "/no/such/file", None, None, None], "a file that is missing")
+    same([found[1][name] for name in ORIGIN], [3, "/no/such/file", None, None, None], "a file that is missing")
     judge(b"/no/such/file" in ended.stderr, "a file that is missing is named")
     with open("/dev/full", "wb") as full:
         ended = run(names, stdout=full, stderr=subprocess.PIPE)

@@ -110,10 +110,10 @@ def text_of(part, body):
     """The text of a part and the name of its charset, or None where it is no text or marked as an attachment."""
     if part.get_content_maintype() != "text" or part.get_content_disposition() == "attachment":
         return {"text": None}
-    charset = codec(charset_of(part))
-    if charset_of(part).lower() == "us-ascii" and is_utf8(body):
-        charset = "utf-8"
-    return {"text": body.decode(charset, "replace"), "text_charset": charset}
+    label = charset_of(part)
+    if label.lower() == "us-ascii":
+        label = "utf-8" if is_utf8(body) else "windows-1252"
+    return {"text": body.decode(codec(label), "replace"), "text_charset": label}
 
 
 def is_utf8(body):
