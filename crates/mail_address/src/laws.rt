@@ -17,8 +17,8 @@ pub fn elements_stand_in_order()
     ensures { (raw : List ℕ) → StandFrom 0 raw (addresses raw) }
 {}
 
-/// Nothing within quotes separates: whatever stands in them, the search for the separator goes on
-/// behind them.
+/// Nothing within quotes separates: whatever stands in them but a quote or a backslash, the search
+/// for the separator goes on after them.
 ///
 /// # Examples
 ///
