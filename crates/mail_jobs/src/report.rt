@@ -4,9 +4,10 @@
 use crate::attachments::{StoredFile, stored_files};
 use crate::bounces::failed_recipients;
 use crate::indexer::{IndexEntry, index_entry};
-use crate::threads::thread_place;
+use crate::threads::{ThreadPlace, thread_place};
+use mail_data::bounce::Recipient;
 use mail_tables::TABLES;
-use mailparse::{MailParseError, parse_mail_with};
+use mailparse::{MailParseError, ParsedMail, parse_mail_with};
 use std::alloc::{AllocError, Global};
 
 /// The lines of a mail, or one that says why it is refused.
@@ -18,23 +19,48 @@ pub fn report(alloc: Global, mail: &[u8]) -> Result<String, AllocError> {
     }
 }
 
-/// The lines of a mail: its index, its files, who was not reached, its parents, and an empty one.
+/// The lines of a mail.
 fn lines_of(alloc: Global, mail: &[u8]) -> Result<String, MailParseError> {
-    let tables = &TABLES;
-    let mail = parse_mail_with(alloc, mail, tables)?;
+    let mail = parse_mail_with(alloc, mail, &TABLES)?;
     let mut lines = String::new(alloc);
-    push_entry(&mut lines, &index_entry(alloc, &mail, tables)?)?;
-    for file in stored_files(alloc, &mail, tables)?.as_slice() {
-        push_file(&mut lines, file)?;
+    push_lines(alloc, &mut lines, &mail)?;
+    Ok(lines)
+}
+
+/// Writes the lines of a mail: its index, its files, who was not reached, its parents, and an empty
+/// one.
+fn push_lines(
+    alloc: Global,
+    lines: &mut String,
+    mail: &ParsedMail<'_>,
+) -> Result<(), MailParseError> {
+    let tables = &TABLES;
+    push_entry(lines, &index_entry(alloc, mail, tables)?)?;
+    push_files(lines, &stored_files(alloc, mail, tables)?)?;
+    push_failed(lines, &failed_recipients(alloc, mail)?)?;
+    push_parents(lines, &thread_place(alloc, mail)?)?;
+    Ok(lines.push('\n')?)
+}
+
+fn push_files(lines: &mut String, files: &[StoredFile]) -> Result<(), AllocError> {
+    for file in files {
+        push_file(lines, file)?;
     }
-    for recipient in failed_recipients(alloc, &mail)?.as_slice() {
-        push_text(&mut lines, "not reached", &recipient.final_recipient)?;
+    Ok(())
+}
+
+fn push_failed(lines: &mut String, failed: &[Recipient]) -> Result<(), AllocError> {
+    for recipient in failed {
+        push_text(lines, "not reached", &recipient.final_recipient)?;
     }
-    for parent in thread_place(alloc, &mail)?.parents.as_slice() {
+    Ok(())
+}
+
+fn push_parents(lines: &mut String, place: &ThreadPlace) -> Result<(), AllocError> {
+    for parent in &place.parents {
         write!(lines, "parent: {:?}\n", parent.as_str())?;
     }
-    lines.push('\n')?;
-    Ok(lines)
+    Ok(())
 }
 
 /// Writes the lines of an index entry.
