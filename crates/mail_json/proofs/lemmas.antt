@@ -9,4 +9,5 @@ pub mod Part
 pub mod Mail
 pub mod Lines
 pub mod Stream
+pub mod Range
 pub mod JsonLines

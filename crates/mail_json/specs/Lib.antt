@@ -6,5 +6,7 @@ pub mod Body
 pub mod Part
 pub mod Mail
 pub mod Lines
+pub mod Chosen
 pub mod Stream
+pub mod Range
 pub mod Values

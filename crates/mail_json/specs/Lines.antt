@@ -32,6 +32,12 @@ IsFront file front is_all_whitespace text =
     (is_all_whitespace ≡ list_all is_ascii_whitespace front)
     × (text ≡ (if is_all_whitespace then [] else error_line origin (codes "The mailbox does not begin with a separator")))
 
+-- the error for what stands before the first mail of a mailbox, and then these lines
+abbrev pub AreAfterFront : Option (List ℕ) → List ℕ → Lines → Lines
+AreAfterFront file front Are is_clean text =
+    (is_all_whitespace : Bool) × (are_read : Bool) × (error : List ℕ) × (lines : List ℕ) × IsFront file front is_all_whitespace error
+    × Are are_read lines × (is_clean ≡ (is_all_whitespace && are_read)) × (text ≡ error ++ lines)
+
 -- where the mail of a mailbox stands whose separator begins there
 abbrev pub origin_at : Option (List ℕ) → Option ℕ → ℕ → Entry → Origin
 origin_at file number at entry =
@@ -84,10 +90,8 @@ module _ (known : Charsets) where
 
   -- the lines of a mailbox in a format: the error for what stands before the first mail, and then those of its mails
   abbrev pub AreMailboxLines : Format → Option (List ℕ) → List ℕ → Lines
-  AreMailboxLines format file bytes is_clean text =
-      let front = take (front_length bytes) bytes in
-      (is_all_whitespace : Bool) × (are_read : Bool) × (error : List ℕ) × (lines : List ℕ) × IsFront file front is_all_whitespace error
-      × AreLines format file (Some 1) (placed_from (front_length bytes) (entries_in format bytes)) are_read lines × (is_clean ≡ (is_all_whitespace && are_read)) × (text ≡ error ++ lines)
+  AreMailboxLines format file bytes =
+      AreAfterFront file (take (front_length bytes) bytes) (AreLines format file (Some 1) (placed_from (front_length bytes) (entries_in format bytes)))
 
   -- the lines of an input that is a mailbox in a format, or one mail
   abbrev pub AreLinesOf : Format → Bool → Option (List ℕ) → List ℕ → Lines

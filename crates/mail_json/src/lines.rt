@@ -6,10 +6,11 @@ ghost use Rattle.mail_codec.specs.Tables.{charsets_with};
 ghost use Rattle.mail_data.specs.FormatViews.{left_in};
 ghost use Rattle.mail_data.specs.MailboxFormats.{mail_in};
 ghost use Rattle.mail_data.specs.MailboxParts.{placed_from};
-ghost use Rattle.mail_json.specs.Lines.{AreLines, AreMailboxLines, IsFront, IsLine, IsMailLine};
-ghost use Rattle.mail_json.specs.Lines.{WritesLines, after_entry, next_number, origin_at};
+ghost use Rattle.mail_json.specs.Chosen.{AreChosen, AreMailboxChosen, IsEntryLine, number_of};
+ghost use Rattle.mail_json.specs.Lines.{IsFront, IsLine, IsMailLine, WritesLines, origin_at};
 ghost use Rattle.mail_json.specs.Origin.{origin_of};
 
+use crate::chosen::{Next, Which};
 use crate::fields::refusal_text;
 use crate::mail::write_mail;
 use crate::origin::{Origin, write_error};
@@ -21,32 +22,6 @@ use mail_program::Fault;
 use mailparse::{SingleByteTable, parse_mail_with};
 use std::alloc::Global;
 use std::io::Write;
-
-/// The number and the place of a mail of a mailbox.
-#[derive(Clone, Copy)]
-pub struct Next {
-    /// Its number, counted from 1, or `None` where the mails are not numbered.
-    pub number: Option<usize>,
-    /// The offset in the input at which its separator begins.
-    pub at: usize,
-}
-
-impl Next {
-    /// Those of the mail behind this one.
-    pub fn after(self, entry: &MailboxEntry<'_>) -> Next
-        ensures number { result.number ≡ next_number self.number }
-        ensures at { result.at ≡ after_entry self.at entry.now }
-    {
-        let number = match self.number {
-            Some(number) => Some(number.saturating_add(1)),
-            None => None,
-        };
-        let start = self.at.saturating_add(entry.separator().len());
-        let end = start.saturating_add(entry.mail().len());
-        let at = end.saturating_add(entry.ending().len());
-        Next { number, at }
-    }
-}
 
 /// Writes the line of an input that is one mail. Returns whether it is not refused.
 ///
@@ -73,8 +48,8 @@ pub fn write_single<W: Write>(
     write_line(alloc, input, &origin, out, tables)
 }
 
-/// Writes each mail of a mailbox in a format, and an error for what stands before the first one.
-/// Returns whether there was no error.
+/// Writes the mails of a mailbox in a format that are to have a line, and an error for what stands
+/// before the first mail. Returns whether there was no error.
 ///
 /// # Errors
 ///
@@ -84,18 +59,20 @@ pub fn write_mailbox<W: Write>(
     alloc: Global,
     input: &[u8],
     format: Format,
+    which: Which,
     file: Option<&str>,
     out: &mut W,
     tables: &[SingleByteTable<'_>],
 ) -> Result<bool, Fault>
-    ensures { WritesLines (W.contents out.old) (W.contents out.new) result (AreMailboxLines
-        (charsets_with tables.now) format (option_map (λ name. name.now) file.entry) input.now) }
+    ensures { WritesLines (W.contents out.old) (W.contents out.new) result
+        (AreMailboxChosen (charsets_with tables.now) format
+        (option_map (λ name. name.now) file.entry) which input.now) }
 {
     let mails = read_mailbox_in(format, input);
     let front = mails.front();
     let is_all_whitespace = write_front(alloc, front, file, out)?;
     let first = Next {
-        number: Some(1),
+        which,
         at: front.len(),
     };
     let are_read = write_mails(alloc, mails, format, first, file, out, tables)?;
@@ -143,7 +120,7 @@ fn is_all_whitespace(bytes: &[u8]) -> bool
     bytes.iter().all(|byte| byte.is_ascii_whitespace())
 }
 
-/// Writes each mail of a mailbox in a format, the first of which has this number and place. Returns
+/// Writes the mails of a mailbox in a format that are to have a line, from the first one on. Returns
 /// whether none was refused.
 ///
 /// # Errors
@@ -160,8 +137,8 @@ pub fn write_mails<W: Write>(
     tables: &[SingleByteTable<'_>],
 ) -> Result<bool, Fault>
     ensures { WritesLines (W.contents out.old) (W.contents out.new) result
-        (AreLines (charsets_with tables.now) format (option_map (λ name. name.now) file.entry)
-        first.number (placed_from first.at (left_in mails.entry))) }
+        (AreChosen (charsets_with tables.now) format (option_map (λ name. name.now) file.entry)
+        first.which (placed_from first.at (left_in mails.entry))) }
 {
     let mut next = first;
     let mut is_clean = true;
@@ -173,7 +150,8 @@ pub fn write_mails<W: Write>(
     Ok(is_clean)
 }
 
-/// Writes the line of a mail of a mailbox in a format. Returns whether it is not refused.
+/// Writes the line of the next mail of a mailbox in a format, if it is to have one. Returns whether
+/// it is not refused.
 ///
 /// # Errors
 ///
@@ -189,13 +167,34 @@ pub fn write_entry<W: Write>(
     tables: &[SingleByteTable<'_>],
 ) -> Result<bool, Fault>
     ensures { WritesLines (W.contents out.old) (W.contents out.new) result
+        (IsEntryLine (charsets_with tables.now) format (option_map (λ name. name.now) file.entry)
+        next.which next.at entry.now) }
+{
+    if next.is_wanted() {
+        write_wanted(alloc, entry, format, next, file, out, tables)
+    } else {
+        Ok(true)
+    }
+}
+
+/// Writes the line of the next mail of a mailbox in a format. Returns whether it is not refused.
+fn write_wanted<W: Write>(
+    alloc: Global,
+    entry: &MailboxEntry<'_>,
+    format: Format,
+    next: Next,
+    file: Option<&str>,
+    out: &mut W,
+    tables: &[SingleByteTable<'_>],
+) -> Result<bool, Fault>
+    ensures { WritesLines (W.contents out.old) (W.contents out.new) result
         (IsLine (charsets_with tables.now) (origin_at (option_map (λ name. name.now) file.entry)
-        next.number next.at entry.now) (mail_in format entry.now.mail)) }
+        (number_of next.which) next.at entry.now) (mail_in format entry.now.mail)) }
 {
     let start = next.at.saturating_add(entry.separator().len());
     let origin = Origin {
         file,
-        number: next.number,
+        number: next.number(),
         start,
         end: start.saturating_add(entry.mail().len()),
     };

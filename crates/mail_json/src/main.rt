@@ -2,12 +2,14 @@
 #![tactic(auto)]
 
 mod body;
+mod chosen;
 mod fields;
 pub mod laws;
 mod lines;
 mod mail;
 mod origin;
 mod part;
+mod range;
 mod request;
 mod run;
 mod stream;
@@ -41,6 +43,7 @@ fn main(rt: HostRuntime) -> ExitCode {
         Task::Write => match run(&rt, &request) {
             Outcome::Clean => ExitCode::SUCCESS,
             Outcome::Refused => ExitCode::from(3),
+            Outcome::Wrong => ExitCode::from(2),
             Outcome::Failed => ExitCode::FAILURE,
         },
     }

@@ -1,5 +1,6 @@
 //! What the arguments ask for.
 
+use crate::range::FilePart;
 use mail_data::mailbox::formats::Format;
 use mail_program::Word;
 use std::alloc::{AllocError, Global};
@@ -18,6 +19,8 @@ an option says which it is:
     --mbox                       each input is a mailbox
     --mbox=rd                    one in the mboxrd format, whose quoted lines lose a `>`
     --mbox=cl                    one in the mboxcl or mboxcl2 format, with Content-Length
+    --part K/N                   of each file the mails of a mailbox whose separator begins in the
+                                 K-th of N equal parts of it; their `number` is null
     --progress                   say on standard error how far a long mailbox is read
     --version, --help            print the version, or this help
     --                           what follows are names of files
@@ -29,7 +32,8 @@ something could not be read or written, and 2 where the arguments are wrong.
 
 /// What wrong arguments print.
 pub const USAGE: &str =
-    "usage: mail_json [--mail|--mbox|--mbox=rd|--mbox=cl] [--progress] [FILE|FOLDER..]";
+    "usage: mail_json [--mail|--mbox|--mbox=rd|--mbox=cl] [--progress] [FILE|FOLDER..]
+       mail_json --part K/N [--mbox|--mbox=rd] [--progress] FILE..";
 
 /// What a run is to do.
 #[derive(Clone, Copy, PartialEq, Eq)]
@@ -60,6 +64,8 @@ pub enum Form {
 pub struct How {
     /// What each input is.
     pub form: Form,
+    /// Which part of each file is wanted, if not the whole input.
+    pub part: Option<FilePart>,
     /// Whether a long run says on standard error how far it is.
     pub tells: bool,
 }
@@ -73,6 +79,8 @@ pub struct Request<'w> {
     pub how: How,
     /// The inputs: `None` for standard input, otherwise a file or a folder.
     pub inputs: Vec<Option<&'w str>>,
+    /// Whether the next word says which part is wanted.
+    is_part_next: bool,
     /// Whether `--` came.
     are_names: bool,
 }
@@ -83,13 +91,18 @@ pub fn request_of<'w>(alloc: Global, words: &'w [String]) -> Result<Request<'w>,
         task: Task::Write,
         how: How {
             form: Form::Either,
+            part: None,
             tells: false,
         },
         inputs: Vec::new(alloc),
+        is_part_next: false,
         are_names: false,
     };
     for word in words {
         request.take(word.as_str())?;
+    }
+    if request.is_part_next || (request.how.part.is_some() && !request.may_be_in_parts()) {
+        request.decide(Task::Wrong);
     }
     Ok(request)
 }
@@ -97,6 +110,11 @@ pub fn request_of<'w>(alloc: Global, words: &'w [String]) -> Result<Request<'w>,
 impl<'w> Request<'w> {
     /// Takes the next word.
     fn take(&mut self, word: &'w str) -> Result<(), AllocError> {
+        if self.is_part_next {
+            self.is_part_next = false;
+            self.take_part(word);
+            return Ok(());
+        }
         match Word::new(word, self.are_names) {
             Word::Help => self.decide(Task::Help),
             Word::Version => self.decide(Task::Version),
@@ -116,8 +134,28 @@ impl<'w> Request<'w> {
             "--mbox" => self.how.form = Form::Mailbox(Format::Plain),
             "--mbox=rd" => self.how.form = Form::Mailbox(Format::Quoted),
             "--mbox=cl" => self.how.form = Form::Mailbox(Format::Counted),
+            "--part" => self.is_part_next = true,
             "--progress" => self.how.tells = true,
             _ => self.decide(Task::Wrong),
+        }
+    }
+
+    /// Takes the word behind `--part`.
+    fn take_part(&mut self, word: &str) {
+        self.how.part = part_of(word);
+        if self.how.part.is_none() {
+            self.decide(Task::Wrong);
+        }
+    }
+
+    /// Whether parts of the inputs can be read: they are files, and no mail says how long it is.
+    fn may_be_in_parts(&self) -> bool {
+        let are_files = !self.inputs.is_empty() && self.inputs.iter().all(|input| input.is_some());
+        match self.how.form {
+            Form::Either | Form::Mailbox(Format::Plain) | Form::Mailbox(Format::Quoted) => {
+                are_files
+            }
+            Form::Mail | Form::Mailbox(Format::Counted) => false,
         }
     }
 
@@ -127,4 +165,26 @@ impl<'w> Request<'w> {
             self.task = task;
         }
     }
+}
+
+/// The part that a word `K/N` names, if there is one.
+fn part_of(word: &str) -> Option<FilePart> {
+    let (number, count) = word.split_once('/')?;
+    let part = FilePart {
+        number: number_of(number)?,
+        count: number_of(count)?,
+    };
+    if 1 <= part.number && part.number <= part.count {
+        Some(part)
+    } else {
+        None
+    }
+}
+
+/// The number that digits are.
+fn number_of(digits: &str) -> Option<usize> {
+    if digits.starts_with('+') {
+        return None;
+    }
+    digits.parse::<usize>().ok()
 }

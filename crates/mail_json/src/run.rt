@@ -1,13 +1,15 @@
 //! A run over the inputs.
 
+use crate::chosen::Next;
 use crate::origin::write_unread;
+use crate::range::{FilePart, shows_mailbox, write_first_part, write_range};
 use crate::request::{Form, How, Request};
-use crate::stream::{Watch, write_input};
+use crate::stream::{Watch, format_of, write_input};
 use mail_program::Fault;
 use mail_tables::TABLES;
 use std::alloc::{AllocError, Global};
-use std::fs;
-use std::io::{self, BufWriter, ErrorKind, Read, Write};
+use std::fs::{self, OpenFile};
+use std::io::{self, BufWriter, ErrorKind, Read, Seek, SeekFrom, Write};
 use std::rt::Files;
 
 /// After how many bytes of a mailbox a run says how far it is.
@@ -23,11 +25,21 @@ struct Meter<'r, E: Eprint> {
 }
 
 impl<'r, E: Eprint> Watch for Meter<'r, E> {
-    fn note(&mut self, bytes: usize, mails: usize) {
-        if self.is_wanted && bytes >= self.due {
-            self.due = bytes.saturating_add(STEP);
-            let name = self.file.unwrap_or("standard input");
-            let _ = eprintln!(self.rt; "mail_json: {name}: {bytes} bytes, {mails} mails");
+    fn note(&mut self, next: Next) {
+        let bytes = next.at;
+        if !self.is_wanted || bytes < self.due {
+            return;
+        }
+        self.due = bytes.saturating_add(STEP);
+        let name = self.file.unwrap_or("standard input");
+        match next.number() {
+            Some(number) => {
+                let mails = number.saturating_sub(1);
+                let _ = eprintln!(self.rt; "mail_json: {name}: {bytes} bytes, {mails} mails");
+            }
+            None => {
+                let _ = eprintln!(self.rt; "mail_json: {name}: {bytes} bytes");
+            }
         }
     }
 }
@@ -41,6 +53,8 @@ pub enum Outcome {
     Refused,
     /// Something could not be read or written.
     Failed,
+    /// Parts of inputs that are not files are wanted, and nothing was read.
+    Wrong,
 }
 
 impl Outcome {
@@ -69,6 +83,9 @@ pub fn run(
     rt: &(impl Files + Input + Print + Eprint + AllocGlobal + Clone + Drop),
     request: &Request<'_>,
 ) -> Outcome {
+    if request.how.part.is_some() && !are_files(rt, request.inputs.as_slice()) {
+        return Outcome::Wrong;
+    }
     match run_all(rt, request) {
         Ok(outcome) => outcome,
         Err(fault) => {
@@ -78,6 +95,21 @@ pub fn run(
             Outcome::Failed
         }
     }
+}
+
+/// Whether no input is a folder, a pipe or a device; says on standard error which is.
+fn are_files(rt: &(impl Files + Eprint + AllocGlobal), inputs: &[Option<&str>]) -> bool {
+    for input in inputs {
+        if let Some(name) = input {
+            if let Ok(found) = fs::metadata(rt, *name) {
+                if !found.is_file() {
+                    let _ = eprintln!(rt; "mail_json: {name}: --part reads files only");
+                    return false;
+                }
+            }
+        }
+    }
+    true
 }
 
 /// Whether whoever reads what is written has gone.
@@ -149,9 +181,69 @@ fn run_file<W: Write>(
         return fail(rt, Some(name), &error, out);
     }
     match fs::open(rt, name) {
-        Ok(mut file) => run_input(rt, how, Some(name), &mut file, out),
+        Ok(mut file) => match how.part {
+            Some(part) => {
+                let size = match file.metadata() {
+                    Ok(found) => found.len(),
+                    Err(error) => return fail(rt, Some(name), &error, out),
+                };
+                run_part(rt, how, part, size, name, &mut file, out)
+            }
+            None => run_input(rt, how, Some(name), &mut file, out),
+        },
         Err(error) => fail(rt, Some(name), &error, out),
     }
+}
+
+/// Writes the mails of a part of a file of this size.
+fn run_part<R: Read + Seek, W: Write>(
+    rt: &(impl Eprint + AllocGlobal),
+    how: How,
+    part: FilePart,
+    size: u64,
+    name: &str,
+    reader: &mut R,
+    out: &mut W,
+) -> Result<Outcome, Fault> {
+    match write_part(rt, how, part, size, name, reader, out) {
+        Ok(is_clean) => Ok(Outcome::of(is_clean)),
+        Err(Fault::Input(error)) => fail(rt, Some(name), &error, out),
+        Err(fault) => Err(fault),
+    }
+}
+
+/// Does what `run_part` does, but returns the fault of a read too.
+fn write_part<R: Read + Seek, W: Write>(
+    rt: &(impl Eprint + AllocGlobal),
+    how: How,
+    part: FilePart,
+    size: u64,
+    name: &str,
+    reader: &mut R,
+    out: &mut W,
+) -> Result<bool, Fault> {
+    let range = part.range(size as usize);
+    let file = Some(name);
+    let mut meter = Meter {
+        rt,
+        file,
+        is_wanted: how.tells,
+        due: range.from.saturating_add(STEP),
+    };
+    let alloc = rt.alloc();
+    if part.number == 1 {
+        return write_first_part(
+            alloc, reader, how.form, range.to, file, out, &TABLES, &mut meter,
+        );
+    }
+    if !shows_mailbox(alloc, reader, how.form)? {
+        return Ok(true);
+    }
+    let format = format_of(how.form);
+    if let Err(error) = reader.seek(SeekFrom::Start(range.reading_start() as u64)) {
+        return Err(Fault::Input(error));
+    }
+    write_range(alloc, reader, format, range, file, out, &TABLES, &mut meter)
 }
 
 /// Writes the mails of an input.
@@ -186,6 +278,7 @@ fn run_folder<W: Write>(
     let mut is_maildir = false;
     let mail = How {
         form: Form::Mail,
+        part: None,
         tells: how.tells,
     };
     for part in ["cur", "new"] {

@@ -2,12 +2,17 @@
 ghost use Rattle.std.specs.Prelude.{◌≡◌, ◌++◌, IfErr, IfOk, [], option_map, true};
 ghost use Rattle.mail_codec.specs.Tables.{charsets_with};
 ghost use Rattle.mail_data.specs.Mailbox.{has_front};
-ghost use Rattle.mail_json.specs.Lines.{AreInputLines, AreMailboxLines, WritesInput, WritesLines};
+ghost use Rattle.mail_data.specs.MailboxFormats.{entries_in};
+ghost use Rattle.mail_data.specs.MailboxParts.{placed_from};
+ghost use Rattle.mail_json.specs.Chosen.{AreChosen, AreInputChosen, AreMailboxChosen};
+ghost use Rattle.mail_json.specs.Lines.{AreInputLines, WritesInput, WritesLines};
 ghost use Rattle.mail_json.specs.Lines.{format_of, is_mailbox};
-ghost use Rattle.mail_json.specs.Stream.{ReadsUntil, WritesSettled, first_wanted, is_there};
+ghost use Rattle.mail_json.specs.Stream.{ReadsUntil, WritesChosen, WritesSettled};
+ghost use Rattle.mail_json.specs.Stream.{first_wanted, is_there};
 ghost use Rattle.mail_json.specs.Written.{IsEnd, Writes};
 
-use crate::lines::{Next, write_entry, write_front, write_mailbox, write_mails, write_single};
+use crate::chosen::{Next, Which};
+use crate::lines::{write_entry, write_front, write_mailbox, write_mails, write_single};
 use crate::request::Form;
 use mail_data::mailbox::formats::{Format, read_mailbox_in, settled_entry_in};
 use mail_data::mailbox::{self, has_front, has_line};
@@ -31,8 +36,8 @@ pub enum Wanted {
 
 /// What is told how far the lines of an input are.
 pub trait Watch {
-    /// Takes note of how many bytes of a mailbox are done, and how many mails.
-    fn note(&mut self, bytes: usize, mails: usize);
+    /// Takes note of which mail of a mailbox comes next, and at which place.
+    fn note(&mut self, next: Next);
 }
 
 /// What was written of the mails at the front of a mailbox.
@@ -40,7 +45,7 @@ pub trait Watch {
 struct Settled<'a> {
     /// The bytes behind them.
     rest: &'a [u8],
-    /// The number and the place of the mail behind them.
+    /// The mail behind them.
     next: Next,
     /// Whether none of them was refused.
     is_clean: bool,
@@ -66,10 +71,35 @@ pub fn write_input<R: Read, W: Write, M: Watch>(
         (W.contents out.old) (W.contents out.new) result (AreInputLines
         (charsets_with tables.now) form (option_map (λ name. name.now) file.entry)) }
 {
+    let which = Which::Numbered(1);
+    write_chosen(alloc, reader, form, which, file, out, tables, watch)
+}
+
+/// Writes the lines of an input, of a mailbox those of the mails that are to have one, each as soon as
+/// it was read. Returns whether there was no error.
+///
+/// # Errors
+///
+/// `Fault::Input` where a read fails, `Fault::Output` where a write fails, and `Fault::Mail` with
+/// `MailParseError::Memory` where it runs out of memory.
+pub fn write_chosen<R: Read, W: Write, M: Watch>(
+    alloc: Global,
+    reader: &mut R,
+    form: Form,
+    which: Which,
+    file: Option<&str>,
+    out: &mut W,
+    tables: &[SingleByteTable<'_>],
+    watch: &mut M,
+) -> Result<bool, Fault>
+    ensures { WritesChosen which (R.remaining reader.old) (R.remaining reader.new)
+        (W.contents out.old) (W.contents out.new) result (AreInputChosen
+        (charsets_with tables.now) form (option_map (λ name. name.now) file.entry) which) }
+{
     let mut read = Vec::new(alloc);
     let has_ended = read_until(alloc, reader, &mut read, first_wanted(form))?;
     if has_ended {
-        return write_whole(alloc, read.as_slice(), form, file, out, tables);
+        return write_whole(alloc, read.as_slice(), form, which, file, out, tables);
     }
     if is_mailbox(form, read.as_slice()) {
         let format = format_of(form);
@@ -78,6 +108,7 @@ pub fn write_input<R: Read, W: Write, M: Watch>(
             reader,
             read.as_slice(),
             format,
+            which,
             file,
             out,
             tables,
@@ -93,22 +124,24 @@ fn write_whole<W: Write>(
     alloc: Global,
     input: &[u8],
     form: Form,
+    which: Which,
     file: Option<&str>,
     out: &mut W,
     tables: &[SingleByteTable<'_>],
 ) -> Result<bool, Fault>
-    ensures { WritesLines (W.contents out.old) (W.contents out.new) result (AreInputLines
-        (charsets_with tables.now) form (option_map (λ name. name.now) file.entry) input.now) }
+    ensures { WritesLines (W.contents out.old) (W.contents out.new) result
+        (AreInputChosen (charsets_with tables.now) form
+        (option_map (λ name. name.now) file.entry) which input.now) }
 {
     if is_mailbox(form, input) {
-        write_mailbox(alloc, input, format_of(form), file, out, tables)
+        write_mailbox(alloc, input, format_of(form), which, file, out, tables)
     } else {
         write_single(alloc, input, file, out, tables)
     }
 }
 
 /// Whether an input of this form that begins so is a mailbox.
-fn is_mailbox(form: Form, input: &[u8]) -> bool
+pub fn is_mailbox(form: Form, input: &[u8]) -> bool
     ensures { result ≡ is_mailbox form input.now }
 {
     match form {
@@ -119,7 +152,7 @@ fn is_mailbox(form: Form, input: &[u8]) -> bool
 }
 
 /// The format of a mailbox of this form.
-fn format_of(form: Form) -> Format
+pub fn format_of(form: Form) -> Format
     ensures { result ≡ format_of form }
 {
     match form {
@@ -141,7 +174,7 @@ fn first_wanted(form: Form) -> Wanted
 
 /// Reads on behind these bytes until what is wanted is there, or to the end. Returns whether it is
 /// the end. Between two looks the bytes are doubled, so the time is linear.
-fn read_until<R: Read>(
+pub fn read_until<R: Read>(
     alloc: Global,
     reader: &mut R,
     bytes: &mut Vec<u8>,
@@ -181,25 +214,60 @@ fn write_following<R: Read, W: Write, M: Watch>(
     reader: &mut R,
     read: &[u8],
     format: Format,
+    which: Which,
     file: Option<&str>,
     out: &mut W,
     tables: &[SingleByteTable<'_>],
     watch: &mut M,
 ) -> Result<bool, Fault>
     requires { has_front read.now ≡ true }
-    ensures { WritesInput (R.remaining reader.old) (R.remaining reader.new)
-        (W.contents out.old) (W.contents out.new) result (λ more. AreMailboxLines
-        (charsets_with tables.now) format (option_map (λ name. name.now) file.entry)
+    ensures { WritesChosen which (R.remaining reader.old) (R.remaining reader.new)
+        (W.contents out.old) (W.contents out.new) result (λ more. AreMailboxChosen
+        (charsets_with tables.now) format (option_map (λ name. name.now) file.entry) which
         (read.now ++ more)) }
 {
     let front = read_mailbox_in(format, read).front();
-    let mut is_clean = write_front(alloc, front, file, out)?;
-    let mut next = Next {
-        number: Some(1),
+    let is_all_whitespace = write_front(alloc, front, file, out)?;
+    let first = Next {
+        which,
         at: front.len(),
     };
-    let mut pending = copy(alloc, &read[front.len()..])?;
+    let rest = &read[front.len()..];
+    let are_read = write_rest(alloc, reader, rest, format, first, file, out, tables, watch)?;
+    Ok(is_all_whitespace & are_read)
+}
+
+/// Writes the lines of the mails of a mailbox in a format from the first one on, of which these bytes
+/// were read. Returns whether none was refused. It ends before the input does where no mail that
+/// follows is to have a line.
+///
+/// # Errors
+///
+/// `Fault::Input` where a read fails, `Fault::Output` where a write fails, and `Fault::Mail` with
+/// `MailParseError::Memory` where it runs out of memory.
+pub fn write_rest<R: Read, W: Write, M: Watch>(
+    alloc: Global,
+    reader: &mut R,
+    read: &[u8],
+    format: Format,
+    first: Next,
+    file: Option<&str>,
+    out: &mut W,
+    tables: &[SingleByteTable<'_>],
+    watch: &mut M,
+) -> Result<bool, Fault>
+    ensures { WritesChosen first.which (R.remaining reader.old) (R.remaining reader.new)
+        (W.contents out.old) (W.contents out.new) result (λ more. AreChosen
+        (charsets_with tables.now) format (option_map (λ name. name.now) file.entry)
+        first.which (placed_from first.at (entries_in format (read.now ++ more)))) }
+{
+    let mut is_clean = true;
+    let mut next = first;
+    let mut pending = copy(alloc, read)?;
     for _turn in 0..u64::MAX {
+        if next.is_past() {
+            return Ok(is_clean);
+        }
         let has_ended = read_until(alloc, reader, &mut pending, Wanted::FirstMail(format))?;
         if has_ended {
             let mails = read_mailbox_in(format, pending.as_slice());
@@ -210,7 +278,7 @@ fn write_following<R: Read, W: Write, M: Watch>(
         flush(out)?;
         is_clean &= settled.is_clean;
         next = settled.next;
-        watch.note(next.at, next.number.unwrap_or(1).saturating_sub(1));
+        watch.note(next);
         pending = copy(alloc, settled.rest)?;
     }
     Err(Fault::Input(io::Error::from(ErrorKind::Interrupted)))
@@ -228,7 +296,7 @@ fn write_settled<'a, W: Write>(
 ) -> Result<Settled<'a>, Fault>
     ensures written { IfOk result (λ s. WritesSettled (charsets_with tables.now) format
         (option_map (λ name. name.now) file.entry) (W.contents out.old) (W.contents out.new)
-        first.number first.at bytes.now s.next.number s.next.at s.rest.now s.is_clean) }
+        first.which first.at bytes.now s.next.which s.next.at s.rest.now s.is_clean) }
     ensures failed { IfErr result IsEnd }
 {
     let mut rest = bytes;

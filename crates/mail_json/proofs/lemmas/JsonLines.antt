@@ -1,5 +1,5 @@
 -- Each line is JSON: the texts of parts, of mails and of errors are those of their values.
-use Rattle.std.proofs.Common.{◌≡◌, ℕ, ℤ, suc, Bool, true, false, List, [], ◌∷◌, ◌++◌, length, map, drop, take, Option, Some, None, Ok, Err, refl, sym, ap, subst, ◌∙◌, arith, append_assoc, append-nil}
+use Rattle.std.proofs.Common.{◌≡◌, ℕ, ℤ, zero, suc, Bool, true, false, List, [], ◌∷◌, ◌++◌, length, map, drop, take, Option, Some, None, Ok, Err, refl, sym, ap, subst, ◌∙◌, arith, append_assoc, append-nil}
 use Rattle.std.proofs.lemmas.Fmt.{decimal_digit}
 use Rattle.std.proofs.lemmas.Grind.{flat_map-append}
 use Rattle.std.specs.Prelude.{codes, option_map}
@@ -22,7 +22,7 @@ use Rattle.mailparse.specs.Value.{lenient_value_in}
 use Rattle.mail_data.specs.Files.{name_in}
 use Rattle.mail_data.specs.Mailbox.{front_length}
 use Rattle.mail_data.specs.MailboxFormats.{entries_in, mail_in}
-use Rattle.mail_data.specs.MailboxParts.{Placed, placed_from}
+use Rattle.mail_data.specs.MailboxParts.{Placed, in_range, part_start, placed_from}
 use Rattle.mail_data.specs.PartPlaces.{Place, places}
 use Rattle.mail_data.specs.declared.mailbox.formats.Format.{Format}
 use Rattle.mail_data.specs.lenient.Date.{Dated, Zoned, date_in}
@@ -32,10 +32,14 @@ use Rattle.mail_json.specs.Body.{encoding_text, decoded_size}
 use Rattle.mail_json.specs.Fields.{refusal_text, disposition_name, value_of, ids_of}
 use Rattle.mail_json.specs.Mail.{IsMailText, date_text, date_fault_text, ids_text, raw_text, values_text, zone_text}
 use Rattle.mail_json.specs.Part.{AreAfterCommas, AreJoined, IsPartText, body_text, disposition_text, flag_text, header_text, headers_text, is_attachment, is_read, parameter_text, part_text, place_text, saturating_add, size_text, text_text, type_text}
-use Rattle.mail_json.specs.Lines.{AreLines, AreMailboxLines, IsFront, IsLineOf, origin_at}
+use Rattle.mail_json.specs.Chosen.{AreChosenOf, OnlyIf}
+use Rattle.mail_json.specs.Lines.{AreLines, AreMailboxLines, IsFront, IsLineOf, format_of, is_mailbox, origin_at}
 use Rattle.mail_json.specs.Origin.{Origin, error_line, number_or_null, origin_text, unread_line}
+use Rattle.mail_json.specs.Range.{ArePartLines, placed_in}
 use Rattle.mail_json.specs.Strings.{json_text, number_text, seconds_text, text_or_null, json_texts, after_commas, joined}
 use Rattle.mail_json.specs.Values.{AreJsonLines, AreValues, IsJsonLine, IsLineValue, IsMailValue, IsPartValue, content_members, date_members, disposition_members, error_value, file_members, front_members, header_value, headers_member, ids_members, list_of, mail_members, number_or_null_value, number_value, object_of, one, origin_members, parameter_member, part_members, place_members, raw_members, seconds_value, size_members, string_or_null, strings, text_members, type_members, unread_value, values_members, zone_members}
+use Rattle.mail_json.specs.declared.chosen.Which.TheVariants.{Within}
+use Rattle.mail_json.specs.declared.request.Form.{Form}
 use Rattle.mail_json.proofs.lemmas.Strings.{number_text-fits}
 use Rattle.mail_json.proofs.lemmas.Plain.{are_plain, json_text-plain}
 use Rattle.mail_json.proofs.lemmas.Texts.{text_of}
@@ -424,3 +428,27 @@ pub mailbox_is_lines : (known : Charsets) (format : Format) (file : Option (List
 mailbox_is_lines known format file bytes is_clean text is =
     lines_as text (is.2 ++ is.3) is.7
     (lines_then is.2 is.3 (front_is_line known format file (take (front_length bytes) bytes) is.0 is.2 is.4) (mails_are_lines known format file (placed_from (front_length bytes) (entries_in format bytes)) _ is.1 is.3 is.5))
+
+-- the first part of an input that is a mailbox in a format, or one mail
+first_is_lines : (known : Charsets) (format : Format) (is_box : Bool) (file : Option (List ℕ)) (to : ℕ) (bytes : List ℕ) (is_clean : Bool) (text : List ℕ)
+    → AreChosenOf known format is_box file (Within 0 to) bytes is_clean text → AreJsonLines text
+first_is_lines known format true file to bytes is_clean text is =
+    lines_as text (is.2 ++ is.3) is.7
+    (lines_then is.2 is.3 (front_is_line known format file (take (front_length bytes) bytes) is.0 is.2 is.4) (mails_are_lines known format file (in_range 0 to (placed_in format bytes)) None is.1 is.3 is.5))
+first_is_lines known format false file to bytes is_clean text is =
+    let origin : Origin = record { file = file; number = None; start = 0; end = length bytes } in
+    one_json_line _ text (line_is_json known origin (read_mail_in known 100 bytes) is_clean text is)
+
+-- mails that have lines, or none
+wanted_is_lines : (known : Charsets) (format : Format) (wanted : Bool) (file : Option (List ℕ)) (mails : List Placed) (is_clean : Bool) (text : List ℕ)
+    → OnlyIf wanted (AreLines known format file None mails) is_clean text → AreJsonLines text
+wanted_is_lines known format true file mails is_clean text is = mails_are_lines known format file mails None is_clean text is
+wanted_is_lines known format false file mails is_clean text is = lines_as text [] is.1 no_lines
+
+pub part_is_lines : (known : Charsets) (form : Form) (file : Option (List ℕ)) (bytes : List ℕ) (count number : ℕ) (is_clean : Bool) (text : List ℕ)
+    → ArePartLines known form file bytes count number is_clean text → AreJsonLines text
+part_is_lines known form file bytes count zero is_clean text is =
+    first_is_lines known (format_of form) (is_mailbox form bytes) file (part_start bytes count 1) bytes is_clean text is
+part_is_lines known form file bytes count (suc number) is_clean text is =
+    wanted_is_lines known (format_of form) (is_mailbox form bytes) file
+    (in_range (part_start bytes count (suc number)) (part_start bytes count (suc (suc number))) (placed_in (format_of form) bytes)) is_clean text is

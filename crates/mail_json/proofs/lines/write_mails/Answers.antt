@@ -12,16 +12,16 @@ loop-entry-preserved g c =
     let after = c.after-next in (
       here.0 ++ line.0,
       Appends-trans _ _ _ here.0 line.0 here.1 line.2,
-      lines_more (charsets_with c.args.tables.now) c.args.format (option_map (λ name. name.now) c.args.file) c.args.first.number c.args.first.at c.loop-entry.next.number
-          after.result.number c.loop-entry.next.at after.result.at (left_in c.args.mails) (left_in c.loop-entry.entry-iterator) (left_in c.next.new.self)
-          c.in-Some.entry c.loop-entry.is_clean c.in_ok-is_read.is_read here.0 line.0 c.in-Some.ensures.steps after.ensures.number after.ensures.at line.1 here.2,
+      lines_more (charsets_with c.args.tables.now) c.args.format (option_map (λ name. name.now) c.args.file) c.args.first.which c.args.first.at c.loop-entry.next.which
+          after.result.which c.loop-entry.next.at after.result.at (left_in c.args.mails) (left_in c.loop-entry.entry-iterator) (left_in c.next.new.self)
+          c.in-Some.entry c.loop-entry.is_clean c.in_ok-is_read.is_read here.0 line.0 after.ensures.fits c.in-Some.ensures.steps after.ensures.which after.ensures.at line.1 here.2,
     )
 
 pub returns : goal.returns
 returns g c =
     let here = c.loop-entry.invariant in (
       here.0,
-      lines_end (charsets_with c.args.tables.now) c.args.format (option_map (λ name. name.now) c.args.file) c.args.first.number c.args.first.at c.loop-entry.next.number
+      lines_end (charsets_with c.args.tables.now) c.args.format (option_map (λ name. name.now) c.args.file) c.args.first.which c.args.first.at c.loop-entry.next.which
           c.loop-entry.next.at (left_in c.args.mails) (left_in c.loop-entry.entry-iterator) c.loop-entry.is_clean here.0 c.in-None.ensures.steps.0 here.2,
       here.1,
     )

@@ -9,5 +9,5 @@ use Rattle.mail_json.proofs.lines.write_mails.Given as goal
 abbrev pub invariant-loop-entry : goal.invariant-loop-entry
 invariant-loop-entry g l =
     (done : List ℕ) × Appends (g.W.Write.contents l.fn.out) (g.W.Write.contents l.out) done
-    × Continues (charsets_with l.tables) l.format (option_map (λ name. name.now) l.fn.file) l.fn.first.number l.fn.first.at (left_in l.fn.mails)
-    l.next.number l.next.at (left_in l.entry-iterator) l.is_clean done
+    × Continues (charsets_with l.tables) l.format (option_map (λ name. name.now) l.fn.file) l.fn.first.which l.fn.first.at (left_in l.fn.mails)
+    l.next.which l.next.at (left_in l.entry-iterator) l.is_clean done

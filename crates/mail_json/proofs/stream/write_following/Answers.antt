@@ -1,58 +1,22 @@
-use Rattle.std.proofs.Common.{◌++◌, [], ap, length, option_map, ◌∙◌}
-use Rattle.std.proofs.KnownBytes.{Appends-trans, Consumes-nil, Consumes-trans}
-use Rattle.std.proofs.lemmas.List.{append-nil, take_rest}
+use Rattle.std.proofs.Common.{◌++◌, length, option_map, ◌∙◌}
+use Rattle.std.proofs.KnownBytes.{Appends-trans}
+use Rattle.std.proofs.lemmas.List.{take_rest}
 use Rattle.mail_codec.specs.Tables.{charsets_with}
-use Rattle.mail_data.specs.FormatViews.{left_in}
-use Rattle.mail_data.specs.MailboxFormats.{entries_in}
-use Rattle.mail_json.proofs.lemmas.Stream.{follows_end, follows_front, follows_more, follows_settled}
-use Rattle.mail_json.proofs.lemmas.Written.{appends_as}
+use Rattle.mail_json.proofs.lemmas.Stream.{front_lines}
 use Rattle.mail_json.proofs.stream.write_following.Goals as goal
 
-pub loop-turn-init : goal.loop-turn-init
-loop-turn-init g c =
-    let front = c.in_ok-is_clean.ensures in
-    let bytes = c.front-front.result.now in (
-      [],
-      front.0,
-      Consumes-nil (g.R.Read.remaining c.args.reader.now),
-      front.2,
-      follows_front (charsets_with c.args.tables.now) c.args.format (option_map (λ name. name.now) c.args.file) c.args.read.now bytes c.in_ok-pending.pending.items
-          c.in_ok-is_clean.is_clean front.0 c.requires (c.front-front.ensures ∙ c.read_mailbox_in.ensures.front)
-          (c.in_ok-pending.ensures ∙ take_rest c.args.read.now (length bytes)) front.1,
-    )
-
-pub returns-then-has_ended : goal.returns-then-has_ended
-returns-then-has_ended g c =
-    let here = c.loop-turn.invariant in
-    let taken = c.in_ok-has_ended.ensures in
-    let lines = c.in_ok-are_read.ensures in
-    let mails = c.read_mailbox_in-mails in (
-      here.0 ++ taken.0,
-      Consumes-trans _ _ _ here.0 taken.0 here.2 taken.1,
-      taken.3 c.if-has_ended.true,
-      here.1 ++ lines.0,
-      follows_end (charsets_with c.args.tables.now) c.args.format (option_map (λ name. name.now) c.args.file) c.args.read.now here.0 taken.0 c.loop-turn.next.number
-          c.loop-turn.next.at c.loop-turn.pending.items c.read_until.new.bytes.items (left_in mails.result) c.loop-turn.is_clean c.in_ok-are_read.are_read here.1
-          lines.0 taken.2 (mails.ensures.read ∙ ap (entries_in c.args.format) c.as_slice.ensures.value) lines.1 here.4,
-      Appends-trans _ _ _ here.1 lines.0 here.3 lines.2,
-    )
-
-pub loop-turn-preserved : goal.loop-turn-preserved
-loop-turn-preserved g c =
-    let known = charsets_with c.args.tables.now in
-    let file = option_map (λ name. name.now) c.args.file in
-    let here = c.loop-turn.invariant in
-    let taken = c.in_ok-has_ended.ensures in
-    let settled = c.in_ok-settled.settled in
-    let written = c.in_ok-settled.ensures.written in
-    let bytes = c.as_slice-in-loop-turn.result.now in
-    let read = follows_more known c.args.format file c.args.read.now here.0 taken.0 c.loop-turn.next.number c.loop-turn.next.at c.loop-turn.pending.items bytes c.loop-turn.is_clean
-    here.1 (c.as_slice-in-loop-turn.ensures.value ∙ taken.2) here.4 in
-    let flushed = Appends-trans _ _ _ written.0 [] written.1 c.in_ok-flush.ensures in (
-      here.0 ++ taken.0,
-      here.1 ++ written.0,
-      Consumes-trans _ _ _ here.0 taken.0 here.2 taken.1,
-      Appends-trans _ _ _ here.1 written.0 here.3 (appends_as _ _ (written.0 ++ []) written.0 (append-nil written.0) flushed),
-      follows_settled known c.args.format file c.args.read.now (here.0 ++ taken.0) c.loop-turn.next.number settled.next.number c.loop-turn.next.at settled.next.at bytes
-          settled.rest.now c.in_ok-pending-2.pending.items c.loop-turn.is_clean settled.is_clean here.1 written.0 c.in_ok-pending-2.ensures written.2 read,
+pub returns : goal.returns
+returns g c =
+    let read = c.args.read.now in
+    let front = c.in_ok-is_all_whitespace.ensures in
+    let bytes = c.front-front.result.now in
+    let rest = c.in_ok-are_read.ensures in (
+      rest.0,
+      rest.1,
+      rest.2,
+      rest.3,
+      front.0 ++ rest.4,
+      front_lines (charsets_with c.args.tables.now) c.args.format (option_map (λ name. name.now) c.args.file) c.args.which read bytes _ c.in_ok-is_all_whitespace.is_all_whitespace
+          front.0 c.requires (c.front-front.ensures ∙ c.read_mailbox_in.ensures.front) (take_rest read (length bytes)) front.1 (rest.0 ++ rest.1) c.in_ok-are_read.are_read rest.4 rest.5,
+      Appends-trans _ _ _ front.0 rest.4 front.2 rest.6,
     )

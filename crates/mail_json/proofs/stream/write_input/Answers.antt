@@ -1,58 +1,8 @@
-use Rattle.std.proofs.Common.{◌≡◌, ◌++◌, List, ℕ, true, false, ap, option_map, subst, sym, ◌∙◌}
-use Rattle.std.proofs.KnownBytes.{Consumes-trans}
-use Rattle.std.specs.Io.KnownBytes.{Consumes}
+use Rattle.std.proofs.Common.{option_map}
 use Rattle.mail_codec.specs.Tables.{charsets_with}
-use Rattle.mail_data.specs.Mailbox.{has_front}
-use Rattle.mail_data.specs.declared.mailbox.formats.Format.{Format}
-use Rattle.mail_json.specs.Lines.{AreInputLines, AreMailboxLines, IsMailLine, format_of, is_mailbox}
-use Rattle.mail_json.specs.Stream.{first_wanted, is_there}
-use Rattle.mail_json.specs.declared.stream.Wanted.{Wanted}
-use Rattle.mail_json.proofs.lemmas.Stream.{all_read, form_front, input_after, input_lines, input_whole}
+use Rattle.mail_json.proofs.lemmas.Stream.{input_numbered}
 use Rattle.mail_json.proofs.stream.write_input.Goals as goal
-
-pub write_following-requires : goal.write_following-requires
-write_following-requires g c =
-    let form = c.args.form in
-    let read = c.read_until.new.bytes.items in
-    let there : is_there (first_wanted form) read ≡ true =
-    ap (λ (w : Wanted). is_there w read) (sym c.first_wanted.ensures) ∙ c.in_ok-has_ended.ensures.4 c.if-has_ended.false in
-    let which : is_mailbox form read ≡ true = ap (is_mailbox form) (sym c.as_slice-2.ensures.value) ∙ sym c.is_mailbox.ensures ∙ c.if-is_mailbox.true in
-    ap has_front c.as_slice-then-is_mailbox.ensures.value ∙ form_front form read there which
-
-pub returns-then-is_mailbox : goal.returns-then-is_mailbox
-returns-then-is_mailbox g c =
-    let known = charsets_with c.args.tables.now in
-    let file = option_map (λ name. name.now) c.args.file in
-    let form = c.args.form in
-    let read = c.read_until.new.bytes.items in
-    let bytes = c.as_slice-then-is_mailbox.result.now in
-    let taken = c.in_ok-has_ended.ensures in
-    let there : is_there (first_wanted form) read ≡ true =
-    ap (λ (w : Wanted). is_there w read) (sym c.first_wanted.ensures) ∙ taken.4 c.if-has_ended.false in
-    let which : is_mailbox form read ≡ true = ap (is_mailbox form) (sym c.as_slice-2.ensures.value) ∙ sym c.is_mailbox.ensures ∙ c.if-is_mailbox.true in
-    let whole : read ≡ taken.0 = taken.2 ∙ ap (λ (bs : List ℕ). bs ++ taken.0) c.new-read.ensures.items in
-    input_after _ _ _ _ _ c.write_following.result read (λ more. AreMailboxLines known c.format_of-format.result file (bytes ++ more)) (AreInputLines known form file)
-    (subst (λ (bs : List ℕ). Consumes (g.R.Read.remaining c.args.reader.now) (g.R.Read.remaining c.read_until.new.reader) bs) (sym whole) taken.1)
-    (λ more is_clean text h. input_lines known (format_of form) file form read more (bytes ++ more) true is_clean text
-    (ap (λ (bs : List ℕ). bs ++ more) c.as_slice-then-is_mailbox.ensures.value) there which
-    (subst (λ (f : Format). AreMailboxLines known f file (bytes ++ more) is_clean text) c.format_of-format.ensures h))
-    c.write_following.ensures
 
 pub returns : goal.returns
 returns g c =
-    let known = charsets_with c.args.tables.now in
-    let file = option_map (λ name. name.now) c.args.file in
-    let form = c.args.form in
-    let read = c.read_until.new.bytes.items in
-    let bytes = c.as_slice-3.result.now in
-    let taken = c.in_ok-has_ended.ensures in
-    let last = c.in_ok-read_until.ensures in
-    let there : is_there (first_wanted form) read ≡ true =
-    ap (λ (w : Wanted). is_there w read) (sym c.first_wanted.ensures) ∙ taken.4 c.if-has_ended.false in
-    let which : is_mailbox form read ≡ false = ap (is_mailbox form) (sym c.as_slice-2.ensures.value) ∙ sym c.is_mailbox.ensures ∙ c.if-is_mailbox.false in
-    let whole : read ≡ taken.0 = taken.2 ∙ ap (λ (bs : List ℕ). bs ++ taken.0) c.new-read.ensures.items in
-    let first = subst (λ (bs : List ℕ). Consumes (g.R.Read.remaining c.args.reader.now) (g.R.Read.remaining c.read_until.new.reader) bs) (sym whole) taken.1 in
-    input_whole _ _ _ _ c.write_single.result (read ++ last.0) (IsMailLine known file bytes) (AreInputLines known form file)
-    (Consumes-trans _ _ _ read last.0 first last.1) (all_read _ c.in_ok-read_until.field-0 last.3 last.4)
-    (λ is_clean text h. input_lines known (format_of form) file form read last.0 bytes false is_clean text (c.as_slice-3.ensures.value ∙ last.2) there which h)
-    c.write_single.ensures
+    input_numbered (charsets_with c.args.tables.now) c.args.form (option_map (λ name. name.now) c.args.file) _ _ _ _ c.write_chosen.result c.write_chosen.ensures

@@ -6,8 +6,8 @@ use Rattle.mail_json.proofs.stream.write_settled.Given as goal
 
 abbrev pub invariant-mails : goal.invariant-mails
 invariant-mails g l =
-    WritesSettled (charsets_with l.tables) l.format (option_map (λ name. name.now) l.fn.file) (g.W.Write.contents l.fn.out) (g.W.Write.contents l.out) l.fn.first.number l.fn.first.at
-    l.bytes l.next.number l.next.at l.rest l.is_clean
+    WritesSettled (charsets_with l.tables) l.format (option_map (λ name. name.now) l.fn.file) (g.W.Write.contents l.fn.out) (g.W.Write.contents l.out) l.fn.first.which l.fn.first.at
+    l.bytes l.next.which l.next.at l.rest l.is_clean
 
 abbrev pub decreases-mails : goal.decreases-mails
 decreases-mails g l = length l.rest
