@@ -2,9 +2,10 @@
 """Compares the lines that mail_json writes with what Python's email package reads of the same mails.
 
 The mails are those of samples/, and made ones: with control characters, with surrogates in UTF-8, with a
-refused body, of 100 levels and of 101, of 100,000 parts, of parts at places that are known, and mailboxes.
-Python's json reads each line, which may hold no control character (U+0000 to U+001F, U+007F to U+009F) and
-no U+2028 or U+2029, whose members stand in their order, and which has to be as docs/mail_json.schema.json says.
+refused body, of 100 levels and of 101, of 100,000 parts, of parts at places that are known, and mailboxes,
+which are also read in parts. Python's json reads each line, which may hold no control character (U+0000
+to U+001F, U+007F to U+009F) and no U+2028 or U+2029, whose members stand in their order, and which has to
+be as docs/mail_json.schema.json says.
 
 The last line is `N passed, N failed`; the status is 1 where a comparison failed.
 """
@@ -334,6 +335,81 @@ def check_pieces():
         process.stdout.read()
 
 
+def begin(data, line):
+    """The place at which the separator before the mail of a line begins."""
+    return data.rfind(b"\n", 0, line["start"] - 1) + 1
+
+
+def made_mailbox(random_):
+    """A mailbox of short mails, some of them refused or not separated, perhaps behind other lines."""
+    end = random_.choice([b"\n", b"\r\n"])
+    fronts = [b"", b"", b"", end, b"junk" + end, b"Subject: 1" + end + end + b"one" + end + end]
+    data = random_.choice(fronts)
+    for number in range(random_.randrange(8)):
+        data += FROM[:-1] + end
+        data += random_.choice([b"", b"Subject: %d" % number + end, b" x" + end, b"From the start" + end])
+        data += random_.choice([b"", end]) + random_.choice([b"", b"one" + end, b">From x" + end, FROM[:-1] + end])
+        data += random_.choice([b"", end, end, end, end + end, end + b"From here to there" + end + end])
+    return data
+
+
+def compare_parts(name, data, words, counts):
+    """Compares the lines of the parts of a file with those of the whole, cut at where their mails begin."""
+    with open(name, "wb") as file:
+        file.write(data)
+    whole = lines(run([*words, name]).stdout, f"{data!r:.300}")
+    for count in counts:
+        found = []
+        for number in range(1, count + 1):
+            what = f"{data!r:.300}, part {number} of {count}"
+            first, behind = len(data) * (number - 1) // count, len(data) * number // count
+            ended = run([*words, "--part", f"{number}/{count}", name])
+            part = lines(ended.stdout, what)
+            wanted = [
+                {**line, "number": None}
+                for line in whole
+                if (number == 1 if line["number"] is None else first <= begin(data, line) < behind)
+            ]
+            same(part, wanted, what)
+            same((ended.returncode, ended.stderr), (3 if any("error" in line for line in wanted) else 0, b""), what)
+            found += part
+        same(found, [{**line, "number": None} for line in whole], f"{data!r:.300} in {count} parts")
+
+
+def check_parts():
+    """Parts of files: together they are the whole, and each mail is in the part in which its separator begins."""
+    random_ = random.Random(97)
+    with tempfile.TemporaryDirectory() as folder:
+        name = os.path.join(folder, "file")
+        for turn in range(40):
+            words = [[], ["--mbox"], ["--mbox=rd"]][turn % 3]
+            compare_parts(name, made_mailbox(random_), words, range(1, 8))
+        for data in (FROM + b"\none\n\n" + FROM, b"\r\n" + FROM + b"\r\n" + FROM + b" x\n"):
+            compare_parts(name, data, ["--mbox"], [len(data), len(data) + 3])
+        for words in ([], ["--mbox"]):
+            for data in (b"", b"Subject: 1\n\none\n", b" x", b"\n"):
+                compare_parts(name, data, words, [1, 3, 40])
+        long_ = b"".join(FROM + b"Subject: %d\n\n" % n + b"x\n" * random_.randrange(60_000) + b"\n" for n in range(20))
+        compare_parts(name, long_ + FROM + b"x\n" * 1_000_000, [], [2, 16])
+        with open(name, "wb") as file:
+            file.write(long_ * (80_000_000 // len(long_) + 1))
+        ended = run(["--progress", "--part", "1/1", name])
+        told = re.fullmatch(rb"mail_json: .*/file: (\d+) bytes\n", ended.stderr)
+        judge(told and 2**26 <= int(told[1]) < 2**26 + 2**20, "how far a part is")
+        same(run(["--progress", "--part", "2/2", name]).stderr, b"", "how far a short part is")
+        os.mkfifo(os.path.join(folder, "pipe"))
+        wrong = [["--part"], ["--part", "1/2"], ["--part", "1/2", "-"], ["--part", "1/2", name, "-"]]
+        wrong += [["--part", word, name] for word in ("0/2", "3/2", "0/0", "1", "1/", "/1", "+1/2", "1/+2", "-1/2", "1/2/3", "a/b", "", "1 /2")]
+        wrong += [["--part", "1/2", option, name] for option in ("--mail", "--mbox=cl")]
+        wrong += [["--mail", "--part", "1/2", name], ["--part", "1/2", folder], ["--part", "1/2", name, os.path.join(folder, "pipe")]]
+        for words in wrong:
+            ended = run(words)
+            judge(ended.returncode == 2 and not ended.stdout and ended.stderr, f"{words} is refused")
+        ended = run(["--part", "2/2", "/no/such/file", name])
+        found = lines(ended.stdout, "a part of a file that is missing")
+        same((ended.returncode, found[0]["file"], len(found) > 1), (1, "/no/such/file", True), "a part of a file that is missing")
+
+
 def check_calls():
     """Arguments, files and streams."""
     ended = run(["--mbox", "--help"])
@@ -410,6 +486,7 @@ def main():
         check_places,
         check_mailboxes,
         check_pieces,
+        check_parts,
         check_calls,
     ):
         check()
