@@ -210,9 +210,13 @@ def by_oracle(program, rows):
     return [ORACLE[row.call][2](Lines(answer.removeprefix(".\n")), row) for row, answer in zip(rows, answers)]
 
 
+def as_bytes(text):
+    return str(text).encode("utf-8", "surrogateescape")
+
+
 def python_value(raw):
     message = email.message_from_bytes(b"X:" + raw + b"\n\n", policy=email.policy.default)
-    return [str(message["X"]).encode("utf-8", "surrogateescape")]
+    return [as_bytes(message["X"])]
 
 
 def python_type(text):
@@ -230,8 +234,20 @@ def python_date(text):
         return ["error"]
 
 
+def python_addresses(raw):
+    message = email.message_from_bytes(b"To: " + raw + b"\n\n", policy=email.policy.default)
+    items = []
+    for group in message["To"].groups:
+        if group.display_name is not None:
+            items += ["group", as_bytes(group.display_name), str(len(group.addresses))]
+        for it in group.addresses:
+            items += ["mailbox", as_bytes(it.display_name), as_bytes(it.addr_spec)]
+    return items
+
+
 # By call: what Python returns for the inputs.
 PYTHON = {
+    "addresses": lambda row: python_addresses(row.inputs[0]),
     "get_value": lambda row: python_value(row.inputs[0]),
     "parse_content_type": lambda row: python_type(row.inputs[0]),
     "date_of": lambda row: python_date(row.inputs[0]),
@@ -243,7 +259,7 @@ PYTHON = {
 def by_python(row):
     try:
         return PYTHON[row.call](row)
-    except (ValueError, LookupError, AttributeError, TypeError) as error:
+    except (ValueError, LookupError, AttributeError, TypeError, RecursionError) as error:
         return ["error", str(error).encode()]
 
 

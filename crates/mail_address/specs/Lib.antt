@@ -3,6 +3,7 @@ pub mod Mailbox
 pub mod MailboxViews
 pub mod Addresses
 pub mod AddressViews
+pub mod Headers
 pub mod Text
 pub mod Order
 pub use Rattle.mail_codec.specs.Ascii

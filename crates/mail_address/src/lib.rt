@@ -8,10 +8,12 @@
 //! The examples stand in a function that has the runtime `rt` and its allocator `alloc`.
 #![tactic(auto)]
 
+mod headers;
 pub mod laws;
 mod list;
 mod mailbox;
 mod text;
 mod tokens;
 
+pub use headers::{addresses_of, sender_of};
 pub use list::{Address, AddressList, Group, Mailbox, Member, Unknown, read_addresses};

@@ -1,28 +1,59 @@
-//! The calls on addresses.
+//! The calls on addresses. An ITEM is `mailbox NAME ADDRESS`, `group NAME COUNT` and its members, or
+//! `unknown BYTES`.
 //!
-//! `addresses VALUE => ITEM..`, where an item is `mailbox NAME ADDRESS`, `group NAME COUNT` and its
-//! members, or `unknown BYTES`.
+//! ```text
+//! addresses VALUE => ITEM..
+//! addresses_with VALUE => ITEM..           names are read under all tables
+//! addresses_of MAIL NAME => ITEM..         in all headers with this name
+//! sender_of MAIL => mailbox NAME ADDRESS | none
+//! ```
 
-use mail_address::{Address, Group, Mailbox, Member, read_addresses};
-use mail_suite::{Answer, Row};
-use mailparse::MailParseError;
+use mail_address::{Address, Group, Mailbox, Member, addresses_of, read_addresses, sender_of};
+use mail_suite::{Answer, Row, all_tables};
+use mailparse::{MailParseError, parse_mail};
 use std::alloc::Global;
 
-/// Makes the call of a row, if it is this one.
+/// Makes the call of a row, if it is one of these.
 pub fn make(alloc: Global, row: &Row, answer: &mut Answer) -> Result<bool, MailParseError> {
     match row.call.as_str() {
-        "addresses" => list_addresses(alloc, row, answer)?,
+        "addresses" => list_addresses(alloc, row, answer, false)?,
+        "addresses_with" => list_addresses(alloc, row, answer, true)?,
+        "addresses_of" => list_named(alloc, row, answer)?,
+        "sender_of" => find_sender(alloc, row, answer)?,
         _ => return Ok(false),
     }
     Ok(true)
 }
 
 /// Writes the elements of a list of addresses.
-fn list_addresses(alloc: Global, row: &Row, answer: &mut Answer) -> Result<(), MailParseError> {
+fn list_addresses(
+    alloc: Global,
+    row: &Row,
+    answer: &mut Answer,
+    has_tables: bool,
+) -> Result<(), MailParseError> {
     for address in &read_addresses(alloc, row.bytes(0)?)? {
-        write_address(alloc, address, answer)?;
+        write_address(alloc, address, answer, has_tables)?;
     }
     Ok(())
+}
+
+/// Writes the elements of all headers with a name.
+fn list_named(alloc: Global, row: &Row, answer: &mut Answer) -> Result<(), MailParseError> {
+    let mail = parse_mail(alloc, row.bytes(0)?)?;
+    for address in &addresses_of(alloc, &mail.headers, row.text(1)?)? {
+        write_address(alloc, address, answer, false)?;
+    }
+    Ok(())
+}
+
+/// Writes the sender of a mail.
+fn find_sender(alloc: Global, row: &Row, answer: &mut Answer) -> Result<(), MailParseError> {
+    let mail = parse_mail(alloc, row.bytes(0)?)?;
+    match sender_of(alloc, &mail.get_headers())? {
+        Some(mailbox) => write_mailbox(alloc, &mailbox, answer, false),
+        None => Ok(answer.word("none")?),
+    }
 }
 
 /// Writes an element of the list.
@@ -30,10 +61,11 @@ fn write_address(
     alloc: Global,
     address: &Address<'_>,
     answer: &mut Answer,
+    has_tables: bool,
 ) -> Result<(), MailParseError> {
     match address {
-        Address::Mailbox(mailbox) => write_mailbox(alloc, mailbox, answer),
-        Address::Group(group) => write_group(alloc, group, answer),
+        Address::Mailbox(mailbox) => write_mailbox(alloc, mailbox, answer, has_tables),
+        Address::Group(group) => write_group(alloc, group, answer, has_tables),
         Address::Unknown(unknown) => write_unknown(unknown.text, answer),
     }
 }
@@ -43,12 +75,17 @@ fn write_group(
     alloc: Global,
     group: &Group<'_>,
     answer: &mut Answer,
+    has_tables: bool,
 ) -> Result<(), MailParseError> {
     answer.word("group")?;
-    answer.text_or_refusal(group.get_display_name(alloc))?;
+    answer.text_or_refusal(if has_tables {
+        group.get_display_name_with(alloc, all_tables())
+    } else {
+        group.get_display_name(alloc)
+    })?;
     answer.number(group.members.len())?;
     for member in &group.members {
-        write_member(alloc, member, answer)?;
+        write_member(alloc, member, answer, has_tables)?;
     }
     Ok(())
 }
@@ -58,9 +95,10 @@ fn write_member(
     alloc: Global,
     member: &Member<'_>,
     answer: &mut Answer,
+    has_tables: bool,
 ) -> Result<(), MailParseError> {
     match member {
-        Member::Mailbox(mailbox) => write_mailbox(alloc, mailbox, answer),
+        Member::Mailbox(mailbox) => write_mailbox(alloc, mailbox, answer, has_tables),
         Member::Unknown(unknown) => write_unknown(unknown.text, answer),
     }
 }
@@ -70,9 +108,14 @@ fn write_mailbox(
     alloc: Global,
     mailbox: &Mailbox<'_>,
     answer: &mut Answer,
+    has_tables: bool,
 ) -> Result<(), MailParseError> {
     answer.word("mailbox")?;
-    answer.text_or_refusal(mailbox.get_display_name(alloc))?;
+    answer.text_or_refusal(if has_tables {
+        mailbox.get_display_name_with(alloc, all_tables())
+    } else {
+        mailbox.get_display_name(alloc)
+    })?;
     Ok(answer.made(mailbox.get_address(alloc))?)
 }
 
