@@ -2,4 +2,7 @@ pub mod Tokens
 pub mod Addresses
 pub mod Text
 pub mod Order
-pub mod Quotes
+pub mod Bounds
+pub mod MakeUp
+pub mod Enclosed
+pub mod Names

@@ -6,6 +6,8 @@ pub mod AddressViews
 pub mod Headers
 pub mod Text
 pub mod Order
+pub mod Enclosed
+pub mod Names
 pub use Rattle.mail_codec.specs.Ascii
 pub use Rattle.mail_codec.specs.Places
 pub use Rattle.mail_codec.specs.Charset

@@ -1,10 +1,13 @@
 //! What holds of every list of addresses. Each function does nothing; its contract is the law.
-ghost use Rattle.std.specs.Prelude.{◌≡◌, ◌≢◌, ◌+◌, ◌∷◌, ◌++◌, All, List, length, ℕ};
-ghost use Rattle.mail_codec.specs.Ascii.{backslash, quote};
-ghost use Rattle.mail_address.specs.Addresses.{addresses};
-ghost use Rattle.mail_address.specs.Order.{StandFrom};
-ghost use Rattle.mail_address.specs.Tokens.{run};
-ghost use Rattle.mail_address.specs.declared.tokens.Span.TheVariants.{BeforeSeparator};
+ghost use Rattle.std.specs.Prelude.{[], ◌≡◌, ◌+◌, ◌∷◌, ◌++◌, List, length, suc, true, ℕ};
+ghost use Rattle.mail_codec.specs.Ascii.{backslash, comma};
+ghost use Rattle.mail_address.specs.Addresses.{addresses, element_at, element_len, items};
+ghost use Rattle.mail_address.specs.Enclosed.{IsEnclosed, IsInAngles};
+ghost use Rattle.mail_address.specs.Names.{AreNameWords, bracketed, named};
+ghost use Rattle.mail_address.specs.Order.{MakeUp, StandFrom};
+ghost use Rattle.mail_address.specs.Tokens.{is_in, run};
+ghost use Rattle.mail_address.specs.declared.tokens.Kind.TheVariants.{Angle};
+ghost use Rattle.mail_address.specs.declared.tokens.Span.{Span};
 
 /// The elements stand in the text in order and apart: each has its bytes at its place.
 ///
@@ -17,16 +20,53 @@ pub fn elements_stand_in_order()
     ensures { (raw : List ℕ) → StandFrom 0 raw (addresses raw) }
 {}
 
-/// Nothing within quotes separates: whatever stands in them but a quote or a backslash, the search
-/// for the separator goes on after them.
+/// The elements and what stands around them make up the text. Before an element stand separators,
+/// each with nothing before it but whitespace and comments. What follows an element at once is a
+/// separator or the end; behind a group it may be anything.
 ///
 /// # Examples
 ///
 /// ```rust
-/// mail_address::laws::quotes_hide_separators();
+/// mail_address::laws::elements_make_up_the_text();
 /// ```
-pub fn quotes_hide_separators()
-    ensures { (text rest : List ℕ) → All (λ b. (b ≢ quote) × (b ≢ backslash)) text →
-        run BeforeSeparator (quote ∷ (text ++ quote ∷ rest))
-        ≡ length text + 2 + run BeforeSeparator rest }
+pub fn elements_make_up_the_text()
+    ensures { (raw : List ℕ) → MakeUp 0 raw (addresses raw) }
+{}
+
+/// Nothing within quotes, comments, domain literals and angle brackets separates, however comments
+/// nest and whatever a backslash quotes: the search for a mark goes on behind them. Outside of them
+/// it goes on behind what a backslash quotes.
+///
+/// The marks are those of each run of tokens that goes over angle brackets, so those that separate
+/// elements and members, an `@`, and the colon of a group and of a route.
+///
+/// # Examples
+///
+/// ```rust
+/// mail_address::laws::nothing_enclosed_separates();
+/// ```
+pub fn nothing_enclosed_separates()
+    ensures enclosed { (span : Span) (text rest : List ℕ) → is_in span Angle ≡ true → IsEnclosed text →
+        run span (text ++ rest) ≡ length text + run span rest }
+    ensures quoted { (span : Span) (b : ℕ) (rest : List ℕ) → is_in span Angle ≡ true →
+        run span (backslash ∷ b ∷ rest) ≡ 2 + run span rest }
+{}
+
+/// No display name forges an address. Take a name of quoted strings and atoms, as encoded words are,
+/// with a space behind each, and anything in angle brackets behind it. That is one element, whatever
+/// the name stands for: the mailbox of the address in the brackets, if they hold one. After a comma
+/// the list goes on.
+///
+/// # Examples
+///
+/// ```rust
+/// mail_address::laws::names_forge_nothing();
+/// ```
+pub fn names_forge_nothing()
+    ensures alone { (start : ℕ) (name inner : List ℕ) → AreNameWords name → IsInAngles inner →
+        items element_at element_len start (name ++ bracketed inner) ≡ named start name inner ∷ [] }
+    ensures first { (start : ℕ) (name inner rest : List ℕ) → AreNameWords name → IsInAngles inner →
+        items element_at element_len start ((name ++ bracketed inner) ++ comma ∷ rest)
+        ≡ named start name inner
+        ∷ items element_at element_len (start + suc (length (name ++ bracketed inner))) rest }
 {}

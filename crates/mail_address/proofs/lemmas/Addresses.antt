@@ -25,7 +25,7 @@ items-enough at len some (suc m) (suc n) start (x ∷ bytes) a b =
     ap (λ i. at start (x ∷ bytes) ++ i)
     (items-enough at len some m n (start + len (x ∷ bytes)) (drop (len (x ∷ bytes)) (x ∷ bytes)) (omega arith) (omega arith))
 
-items-more : {A : Type 0} (at : ℕ → List ℕ → List A) (len : List ℕ → ℕ) → ((b : List ℕ) → 0 < length b → 0 < len b) → (start : ℕ) (bytes : List ℕ) → 0 < length bytes
+pub items-more : {A : Type 0} (at : ℕ → List ℕ → List A) (len : List ℕ → ℕ) → ((b : List ℕ) → 0 < length b → 0 < len b) → (start : ℕ) (bytes : List ℕ) → 0 < length bytes
     → items at len start bytes ≡ at start bytes ++ items at len (start + len bytes) (drop (len bytes) bytes)
 unfolding items
 items-more at len some start [] low = absurd (omega arith)
@@ -70,7 +70,7 @@ MadeTo-end at len first bytes made start (b ∷ rest) m none = absurd (omega (ar
 
 -- ---- bounds
 
-begins-within : (test : ℕ → Bool) (n : ℕ) (bytes : List ℕ) → begins test (drop n bytes) ≡ true → n < length bytes
+pub begins-within : (test : ℕ → Bool) (n : ℕ) (bytes : List ℕ) → begins test (drop n bytes) ≡ true → n < length bytes
 begins-within test zero [] h = absurd (cc)
 begins-within test (suc n) [] h = absurd (cc)
 begins-within test zero (b ∷ bytes) h = omega arith

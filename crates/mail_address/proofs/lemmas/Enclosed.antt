@@ -1,0 +1,354 @@
+-- Lemmas on what nothing within separates.
+use Rattle.std.proofs.Common.{◌≡◌, ◌≢◌, ℕ, suc, ◌+◌, ◌-◌, ◌<◌, Bool, true, false, cond, eqb, ◌||◌, List, [], ◌∷◌, ◌++◌, length, drop, refl, sym, ap, ◌∙◌, arith, append_assoc, length-append}
+use Rattle.std.specs.Prelude.{min, nat_lt}
+use Rattle.std.specs.List.{prefix_len}
+use Rattle.std.proofs.lemmas.Bool.{and_parts, eq-eqb, false≢true, lt-ltb, ltb-true, ne_eqb}
+use Rattle.std.proofs.lemmas.List.{drop_at}
+use Rattle.mail_codec.specs.Places.{begins}
+use Rattle.mail_address.specs.declared.tokens.Kind.{Kind}
+use Rattle.mail_address.specs.declared.tokens.Kind.TheVariants.{Angle, At, Colon, Comma, Comment, Dot, Literal, Other, Quoted, Semicolon}
+use Rattle.mail_address.specs.declared.tokens.Span.{Span}
+use Rattle.mail_address.specs.declared.tokens.Span.TheVariants.{White, Phrase, Word, Atoms, Literals, BeforeAt, BeforeColon, BeforeComma, BeforeSeparator, BeforeMark, InGroup}
+use Rattle.mail_address.specs.Enclosed.{IsBetween, no_bytes, quoted_pair, plain_byte, IsCommented, comment_ends, comment_pair, comment_byte, comment_within, IsClosed, in_quotes, in_comment, in_literal, IsInAngles, angles_end, angles_pair, angles_byte, angles_closed, IsEnclosed, closed, in_angles, is_opener}
+use Rattle.mail_address.specs.Tokens.{angle_place, angle_step, angle_token, comment_place, comment_token, far, front_token, is_angle, is_atom_byte, is_in, is_white, literal_token, plain_token, quoted_token, run, single_kind, step, unquoted_place}
+use Rattle.mail_address.proofs.lemmas.Tokens.{far-more, far-stop}
+
+-- ---- where marks close
+
+-- of bytes between two marks the second mark is found right behind them
+module _ (one other : ℕ) (first : eqb 92 one ≡ false) (second : eqb 92 other ≡ false) where
+  between-place : {text : List ℕ} → IsBetween one other text → (rest : List ℕ) → unquoted_place one other false (text ++ other ∷ rest) ≡ length text
+  between-place no_bytes rest = rw (eq-eqb other other refl) (go (eqb other one))
+    where
+      go : (t : Bool) → cond (t || true) 0 (suc (unquoted_place one other (eqb other 92) rest)) ≡ 0
+      go true = refl
+      go false = refl
+  between-place (quoted_pair between) rest = let later = between-place between rest in rw (first, second) (ap suc (ap suc later))
+  between-place (plain_byte {b = b} not_one not_other no_backslash between) rest =
+      let later = between-place between rest in
+      rw (ne_eqb b one not_one, ne_eqb b other not_other, ne_eqb b 92 no_backslash) (ap suc later)
+
+-- a comment is passed over at any depth
+comment-passed : {text : List ℕ} → IsCommented text → (depth : ℕ) (rest : List ℕ) → comment_place false depth (text ++ rest) ≡ length text + comment_place false depth rest
+comment-passed comment_ends depth rest = omega arith
+comment-passed (comment_pair inner) depth rest = let later = comment-passed inner depth rest in omega (arith, later)
+comment-passed (comment_byte {b = b} not_open not_close no_backslash inner) depth rest =
+    let later = comment-passed inner depth rest in
+    rw (ne_eqb b 41 not_close, ne_eqb b 92 no_backslash, ne_eqb b 40 not_open) (omega (arith, later))
+comment-passed (comment_within {inner = inner} {rest = more} one two e) depth rest =
+    let within = comment-passed one (suc depth) (41 ∷ (more ++ rest)) in
+    let later = comment-passed two depth rest in
+    let len = length-append inner (41 ∷ more) in
+    ap (λ bytes. comment_place false depth (bytes ++ rest)) e
+    ∙ ap (λ bytes. suc (comment_place false (suc depth) bytes)) (append_assoc inner (41 ∷ more) rest)
+    ∙ (let closes = at_close depth (more ++ rest) in omega (arith, within, later, len, closes))
+    ∙ ap (λ bytes. length bytes + comment_place false depth rest) (sym e)
+  where
+    at_close : (depth : ℕ) (after : List ℕ) → comment_place false (suc depth) (41 ∷ after) ≡ suc (comment_place false depth after)
+    at_close depth after =
+        let down : suc depth - 1 ≡ depth = omega arith in
+        ap (λ t. cond t 0 (suc (comment_place false (suc depth - 1) after))) (ne_eqb (suc depth) 0 (λ n. absurd (omega arith)))
+        ∙ ap (λ d. suc (comment_place false d after)) down
+
+-- ---- the tokens
+
+-- what stands between marks, and then what follows
+marked : (first last : ℕ) (inner rest : List ℕ) → (first ∷ (inner ++ last ∷ [])) ++ rest ≡ first ∷ (inner ++ last ∷ rest)
+marked first last inner rest = ap (λ (l : List ℕ). first ∷ l) (append_assoc inner (last ∷ []) rest)
+
+-- its length
+pub marked-length : (first last : ℕ) (inner : List ℕ) → length (first ∷ (inner ++ last ∷ [])) ≡ length inner + 2
+marked-length first last inner = let len = length-append inner (last ∷ []) in omega arith
+
+-- the place of the closing mark is within
+closes-within : (place last : ℕ) (inner rest : List ℕ) → place ≡ length inner → nat_lt place (length (inner ++ last ∷ rest)) ≡ true
+closes-within place last inner rest at = let len = length-append inner (last ∷ rest) in lt-ltb place (length (inner ++ last ∷ rest)) (omega (arith, at, len))
+
+quoted-is : (inner rest : List ℕ) → IsBetween 34 34 inner → quoted_token (inner ++ 34 ∷ rest) ≡ record { kind = Quoted; len = length inner + 2 }
+unfolding quoted_token
+quoted-is inner rest between =
+    let at = between-place 34 34 refl refl between rest in
+    rw (closes-within (unquoted_place 34 34 false (inner ++ 34 ∷ rest)) 34 inner rest at) (ap (λ n. record { kind = Quoted; len = n + 2 }) at)
+
+comment-is : (inner rest : List ℕ) → IsCommented inner → comment_token (inner ++ 41 ∷ rest) ≡ record { kind = Comment; len = length inner + 2 }
+unfolding comment_token
+comment-is inner rest commented =
+    let at : comment_place false 0 (inner ++ 41 ∷ rest) ≡ length inner =
+    let passed = comment-passed commented 0 (41 ∷ rest) in omega (arith, passed) in
+    rw (closes-within (comment_place false 0 (inner ++ 41 ∷ rest)) 41 inner rest at) (ap (λ n. record { kind = Comment; len = n + 2 }) at)
+
+-- the byte behind some bytes
+behind : (place last : ℕ) (inner rest : List ℕ) → place ≡ length inner → begins (λ b. eqb b last) (drop place (inner ++ last ∷ rest)) ≡ true
+behind place last inner rest at = ap (begins (λ b. eqb b last)) (drop_at inner (last ∷ rest) place (sym at)) ∙ eq-eqb last last refl
+
+literal-is : (inner rest : List ℕ) → IsBetween 91 93 inner → literal_token (inner ++ 93 ∷ rest) ≡ record { kind = Literal; len = length inner + 2 }
+unfolding literal_token
+literal-is inner rest between =
+    let at = between-place 91 93 refl refl between rest in
+    rw (behind (unquoted_place 91 93 false (inner ++ 93 ∷ rest)) 93 inner rest at) (ap (λ n. record { kind = Literal; len = n + 2 }) at)
+
+-- a token of the kinds that are closed
+pub record ClosedToken (bytes rest : List ℕ) : Type 0 where
+  pub kind : Kind
+  pub token : plain_token (bytes ++ rest) ≡ record { kind = kind; len = length bytes }
+  pub front : front_token (bytes ++ rest) ≡ record { kind = kind; len = length bytes }
+  pub no_angle : is_angle kind ≡ false
+  pub passed : (span : Span) → is_in span Angle ≡ true → is_in span kind ≡ true
+  pub some : 0 < length bytes
+
+quoted-passed : (span : Span) → is_in span Angle ≡ true → is_in span Quoted ≡ true
+quoted-passed White h = absurd (false≢true h)
+quoted-passed Phrase h = absurd (false≢true h)
+quoted-passed Word h = absurd (false≢true h)
+quoted-passed Atoms h = absurd (false≢true h)
+quoted-passed Literals h = absurd (false≢true h)
+quoted-passed BeforeAt h = refl
+quoted-passed BeforeColon h = refl
+quoted-passed BeforeComma h = refl
+quoted-passed BeforeSeparator h = refl
+quoted-passed BeforeMark h = refl
+quoted-passed InGroup h = refl
+
+comment_kind-passed : (span : Span) → is_in span Angle ≡ true → is_in span Comment ≡ true
+comment_kind-passed White h = refl
+comment_kind-passed Phrase h = refl
+comment_kind-passed Word h = absurd (false≢true h)
+comment_kind-passed Atoms h = absurd (false≢true h)
+comment_kind-passed Literals h = absurd (false≢true h)
+comment_kind-passed BeforeAt h = refl
+comment_kind-passed BeforeColon h = refl
+comment_kind-passed BeforeComma h = refl
+comment_kind-passed BeforeSeparator h = refl
+comment_kind-passed BeforeMark h = refl
+comment_kind-passed InGroup h = refl
+
+literal-passed : (span : Span) → is_in span Angle ≡ true → is_in span Literal ≡ true
+literal-passed White h = absurd (false≢true h)
+literal-passed Phrase h = absurd (false≢true h)
+literal-passed Word h = absurd (false≢true h)
+literal-passed Atoms h = absurd (false≢true h)
+literal-passed Literals h = refl
+literal-passed BeforeAt h = refl
+literal-passed BeforeColon h = refl
+literal-passed BeforeComma h = refl
+literal-passed BeforeSeparator h = refl
+literal-passed BeforeMark h = refl
+literal-passed InGroup h = refl
+
+-- the token of a quoted string
+pub quoted-front : {inner bytes : List ℕ} → IsBetween 34 34 inner → bytes ≡ 34 ∷ (inner ++ 34 ∷ []) → (rest : List ℕ)
+    → front_token (bytes ++ rest) ≡ record { kind = Quoted; len = length bytes }
+unfolding front_token is_atom_byte
+quoted-front {inner} {bytes} between e rest =
+    ap (λ b. front_token (b ++ rest)) e ∙ ap front_token (marked 34 34 inner rest) ∙ quoted-is inner rest between
+    ∙ ap (λ n. record { kind = Quoted; len = n }) (sym (ap length e ∙ marked-length 34 34 inner))
+
+closed-token : {bytes : List ℕ} → IsClosed bytes → (rest : List ℕ) → ClosedToken bytes rest
+unfolding front_token is_atom_byte
+closed-token {bytes} (in_quotes {inner = inner} between e) rest =
+    let whole : bytes ++ rest ≡ 34 ∷ (inner ++ 34 ∷ rest) = ap (λ b. b ++ rest) e ∙ marked 34 34 inner rest in
+    let len : length bytes ≡ length inner + 2 = ap length e ∙ marked-length 34 34 inner in
+    let is : quoted_token (inner ++ 34 ∷ rest) ≡ record { kind = Quoted; len = length bytes } =
+    quoted-is inner rest between ∙ ap (λ n. record { kind = Quoted; len = n }) (sym len) in
+    record {
+      kind = Quoted;
+      token = ap plain_token whole ∙ is;
+      front = ap front_token whole ∙ is;
+      no_angle = refl;
+      passed = quoted-passed;
+      some = omega (arith, len);
+    }
+closed-token {bytes} (in_comment {inner = inner} commented e) rest =
+    let whole : bytes ++ rest ≡ 40 ∷ (inner ++ 41 ∷ rest) = ap (λ b. b ++ rest) e ∙ marked 40 41 inner rest in
+    let len : length bytes ≡ length inner + 2 = ap length e ∙ marked-length 40 41 inner in
+    let is : comment_token (inner ++ 41 ∷ rest) ≡ record { kind = Comment; len = length bytes } =
+    comment-is inner rest commented ∙ ap (λ n. record { kind = Comment; len = n }) (sym len) in
+    record {
+      kind = Comment;
+      token = ap plain_token whole ∙ is;
+      front = ap front_token whole ∙ is;
+      no_angle = refl;
+      passed = comment_kind-passed;
+      some = omega (arith, len);
+    }
+closed-token {bytes} (in_literal {inner = inner} between e) rest =
+    let whole : bytes ++ rest ≡ 91 ∷ (inner ++ 93 ∷ rest) = ap (λ b. b ++ rest) e ∙ marked 91 93 inner rest in
+    let len : length bytes ≡ length inner + 2 = ap length e ∙ marked-length 91 93 inner in
+    let is : literal_token (inner ++ 93 ∷ rest) ≡ record { kind = Literal; len = length bytes } =
+    literal-is inner rest between ∙ ap (λ n. record { kind = Literal; len = n }) (sym len) in
+    record {
+      kind = Literal;
+      token = ap plain_token whole ∙ is;
+      front = ap front_token whole ∙ is;
+      no_angle = refl;
+      passed = literal-passed;
+      some = omega (arith, len);
+    }
+
+-- ---- what a step passes
+
+-- a token at the front that a step passes, and then the rest
+far-token : (pass : List ℕ → ℕ) (bytes rest : List ℕ) → 0 < length bytes → pass (bytes ++ rest) ≡ length bytes → far pass (bytes ++ rest) ≡ length bytes + far pass rest
+far-token pass bytes rest some is =
+    let len = length-append bytes rest in
+    far-more pass (bytes ++ rest) (omega arith) (λ none. absurd (omega (arith, none, is)))
+    ∙ ap (λ n. n + far pass (drop n (bytes ++ rest))) is
+    ∙ ap (λ r. length bytes + far pass r) (drop_at bytes rest (length bytes) refl)
+
+-- ---- within angle brackets
+
+-- the first of a run of such bytes is passed like the rest of the run
+far-run : (pass : List ℕ → ℕ) (test : ℕ → Bool) → ((c : ℕ) (cs : List ℕ) → test c ≡ true → pass (c ∷ cs) ≡ suc (prefix_len test cs))
+    → (b : ℕ) (bytes : List ℕ) → test b ≡ true → far pass (b ∷ bytes) ≡ suc (far pass bytes)
+far-run pass test is b bytes h =
+    let here = is b bytes h in
+    far-more pass (b ∷ bytes) (omega arith) (λ none. absurd (omega (arith, none, here)))
+    ∙ ap (λ n. n + far pass (drop n (b ∷ bytes))) here
+    ∙ go bytes
+  where
+    next : (c : ℕ) (cs : List ℕ) (t : Bool) → test c ≡ t
+        → suc (cond t (1 + prefix_len test cs) 0) + far pass (drop (cond t (1 + prefix_len test cs) 0) (c ∷ cs)) ≡ suc (far pass (c ∷ cs))
+    next c cs true e =
+        let there = is c cs e in
+        let one : suc (prefix_len test cs) ≡ 1 + prefix_len test cs = omega arith in
+        let more = far-more pass (c ∷ cs) (omega arith) (λ none. absurd (omega (arith, none, there))) in
+        let same : pass (c ∷ cs) + far pass (drop (pass (c ∷ cs)) (c ∷ cs)) ≡ 1 + prefix_len test cs + far pass (drop (1 + prefix_len test cs) (c ∷ cs)) =
+        ap (λ n. n + far pass (drop n (c ∷ cs))) (there ∙ one) in
+        omega (arith, more, same)
+    next c cs false e = omega arith
+
+    go : (cs : List ℕ) → suc (prefix_len test cs) + far pass (drop (suc (prefix_len test cs)) (b ∷ cs)) ≡ suc (far pass cs)
+    go [] = omega arith
+    go (c ∷ cs) = next c cs (test c) refl
+
+white-step : (c : ℕ) (cs : List ℕ) → is_white c ≡ true → angle_step (c ∷ cs) ≡ suc (prefix_len is_white cs)
+white-step c cs h = rw h (omega arith)
+
+atom-is_not_white : (c : ℕ) → is_atom_byte c ≡ true → is_white c ≡ false
+unfolding is_atom_byte
+atom-is_not_white c h =
+    let low = ltb-true 32 c (and_parts (nat_lt 32 c) _ (and_parts _ _ h).0).0 in
+    rw (ne_eqb c 32 (λ e. absurd (omega (arith, low))), ne_eqb c 9 (λ e. absurd (omega (arith, low))), ne_eqb c 13 (λ e. absurd (omega (arith, low))), ne_eqb c 10 (λ e. absurd (omega (arith, low)))) refl
+
+atom-step : (c : ℕ) (cs : List ℕ) → is_atom_byte c ≡ true → angle_step (c ∷ cs) ≡ suc (prefix_len is_atom_byte cs)
+atom-step c cs h = rw (atom-is_not_white c h, h) (omega arith)
+
+single-is_no_angle : (b : ℕ) → eqb b 60 ≡ false → eqb b 62 ≡ false → is_angle (single_kind b) ≡ false
+unfolding single_kind
+single-is_no_angle b opening closing = rw (opening, closing) (go (eqb b 46) (eqb b 64) (eqb b 44) (eqb b 59) (eqb b 58))
+  where
+    go : (d a c s k : Bool) → is_angle (cond d Dot (cond a At (cond c Comma (cond s Semicolon (cond k Colon Other))))) ≡ false
+    go true a c s k = refl
+    go false true c s k = refl
+    go false false true s k = refl
+    go false false false true k = refl
+    go false false false false true = refl
+    go false false false false false = refl
+
+not_opener : (b mark : ℕ) → is_opener b ≡ false → is_opener mark ≡ true → eqb b mark ≡ false
+not_opener b mark h opens = ne_eqb b mark (λ e. false≢true (sym h ∙ ap is_opener e ∙ opens))
+
+-- a byte that opens nothing is passed by itself
+angle-byte : (b : ℕ) (bytes : List ℕ) → is_opener b ≡ false → far angle_step (b ∷ bytes) ≡ suc (far angle_step bytes)
+angle-byte b bytes h = by_white (is_white b) refl
+  where
+    one : (is_white b ≡ false) → (is_atom_byte b ≡ false) → angle_step (b ∷ bytes) ≡ 1
+    one no_white no_atom =
+        rw (no_white, no_atom, not_opener b 40 h refl, not_opener b 34 h refl, not_opener b 91 h refl, not_opener b 92 h refl)
+        (rw (single-is_no_angle b (not_opener b 60 h refl) (not_opener b 62 h refl)) refl)
+
+    by_atom : (t : Bool) → is_white b ≡ false → is_atom_byte b ≡ t → far angle_step (b ∷ bytes) ≡ suc (far angle_step bytes)
+    by_atom true no_white e = far-run angle_step is_atom_byte atom-step b bytes e
+    by_atom false no_white e = let passed = far-token angle_step (b ∷ []) bytes (omega arith) (one no_white e) in omega (arith, passed)
+
+    by_white : (t : Bool) → is_white b ≡ t → far angle_step (b ∷ bytes) ≡ suc (far angle_step bytes)
+    by_white true e = far-run angle_step is_white white-step b bytes e
+    by_white false e = by_atom (is_atom_byte b) e refl
+
+-- a backslash takes the byte behind it
+pair-step : (b : ℕ) (bytes : List ℕ) → angle_step (92 ∷ b ∷ bytes) ≡ 2
+unfolding is_atom_byte
+pair-step b bytes = omega arith
+
+closed-step : {bytes : List ℕ} → (rest : List ℕ) → ClosedToken bytes rest → angle_step (bytes ++ rest) ≡ length bytes
+closed-step rest token = rw (token.token) (rw (token.no_angle) refl)
+
+closing-step : (rest : List ℕ) → angle_step (62 ∷ rest) ≡ 0
+unfolding is_atom_byte single_kind
+closing-step rest = refl
+
+angles-passed : {text : List ℕ} → IsInAngles text → (rest : List ℕ) → far angle_step (text ++ rest) ≡ length text + far angle_step rest
+angles-passed angles_end rest = omega arith
+angles-passed (angles_pair {b = b} {rest = inner} more) rest =
+    let later = angles-passed more rest in
+    let here = far-token angle_step (92 ∷ b ∷ []) (inner ++ rest) (omega arith) (pair-step b (inner ++ rest)) in
+    omega (arith, here, later)
+angles-passed (angles_byte {b = b} {rest = inner} h more) rest =
+    let later = angles-passed more rest in
+    let here = angle-byte b (inner ++ rest) h in
+    omega (arith, here, later)
+angles-passed (angles_closed {closed = front} {rest = inner} {bytes = bytes} shut more e) rest =
+    let later = angles-passed more rest in
+    let token = closed-token shut (inner ++ rest) in
+    let here = far-token angle_step front (inner ++ rest) token.some (closed-step (inner ++ rest) token) in
+    let len : length bytes ≡ length front + length inner = ap length e ∙ length-append front inner in
+    let whole : far angle_step (bytes ++ rest) ≡ far angle_step (front ++ (inner ++ rest)) =
+    ap (λ b. far angle_step (b ++ rest)) e ∙ ap (far angle_step) (append_assoc front inner rest) in
+    omega (arith, whole, here, later, len)
+
+angle-is : (inner rest : List ℕ) → IsInAngles inner → angle_token (inner ++ 62 ∷ rest) ≡ record { kind = Angle; len = length inner + 2 }
+unfolding angle_token
+angle-is inner rest inside =
+    let at : angle_place (inner ++ 62 ∷ rest) ≡ length inner =
+    let passed = angles-passed inside (62 ∷ rest) in
+    let stops = far-stop angle_step (62 ∷ rest) (closing-step rest) in
+    omega (arith, passed, stops) in
+    rw (behind (angle_place (inner ++ 62 ∷ rest)) 62 inner rest at) (ap (λ n. record { kind = Angle; len = n + 2 }) at)
+
+pub angle-front : (inner rest : List ℕ) → IsInAngles inner → front_token (60 ∷ (inner ++ 62 ∷ rest)) ≡ record { kind = Angle; len = length inner + 2 }
+unfolding front_token
+angle-front inner rest inside = angle-is inner rest inside
+
+-- ---- a run over them
+
+step-token : (span : Span) (bytes : List ℕ) (len : ℕ) (kind : Kind) → front_token bytes ≡ record { kind = kind; len = len } → is_in span kind ≡ true → step span bytes ≡ len
+unfolding step
+step-token span bytes len kind is goes = rw is (rw goes refl)
+
+-- a token that a run goes over, and then the rest
+pub run-token : (span : Span) (bytes rest : List ℕ) (kind : Kind) → 0 < length bytes → front_token (bytes ++ rest) ≡ record { kind = kind; len = length bytes }
+    → is_in span kind ≡ true → run span (bytes ++ rest) ≡ length bytes + run span rest
+run-token span bytes rest kind some is goes = far-token (step span) bytes rest some (step-token span (bytes ++ rest) (length bytes) kind is goes)
+
+pub enclosed-passed : (span : Span) (text rest : List ℕ) → is_in span Angle ≡ true → IsEnclosed text → run span (text ++ rest) ≡ length text + run span rest
+enclosed-passed span text rest goes (closed shut) =
+    let token = closed-token shut rest in
+    run-token span text rest token.kind token.some token.front (token.passed span goes)
+enclosed-passed span text rest goes (in_angles {inner = inner} inside e) =
+    let whole : text ++ rest ≡ 60 ∷ (inner ++ 62 ∷ rest) = ap (λ b. b ++ rest) e ∙ marked 60 62 inner rest in
+    let len : length text ≡ length inner + 2 = ap length e ∙ marked-length 60 62 inner in
+    run-token span text rest Angle (omega (arith, len)) (ap front_token whole ∙ angle-front inner rest inside ∙ ap (λ n. record { kind = Angle; len = n }) (sym len)) goes
+
+other-passed : (span : Span) → is_in span Angle ≡ true → is_in span Other ≡ true
+other-passed White h = absurd (false≢true h)
+other-passed Phrase h = absurd (false≢true h)
+other-passed Word h = absurd (false≢true h)
+other-passed Atoms h = absurd (false≢true h)
+other-passed Literals h = absurd (false≢true h)
+other-passed BeforeAt h = refl
+other-passed BeforeColon h = refl
+other-passed BeforeComma h = refl
+other-passed BeforeSeparator h = refl
+other-passed BeforeMark h = refl
+other-passed InGroup h = refl
+
+pair-front : (b : ℕ) (rest : List ℕ) → front_token (92 ∷ b ∷ rest) ≡ record { kind = Other; len = 2 }
+unfolding front_token is_atom_byte
+pair-front b rest = ap (λ n. record { kind = Other; len = n }) (two rest)
+  where
+    two : (rest : List ℕ) → min 2 (1 + suc (length rest)) ≡ 2
+    two rest = omega arith
+
+-- outside of all of them a backslash takes the byte behind it
+pub pair-passed : (span : Span) (b : ℕ) (rest : List ℕ) → is_in span Angle ≡ true → run span (92 ∷ b ∷ rest) ≡ 2 + run span rest
+pair-passed span b rest goes = run-token span (92 ∷ b ∷ []) rest Other (omega arith) (pair-front b rest) (other-passed span goes)

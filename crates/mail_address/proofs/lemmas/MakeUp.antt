@@ -1,0 +1,192 @@
+-- Lemmas on what stands between the elements of a list of addresses.
+use Rattle.std.proofs.Common.{◌≡◌, ℕ, zero, suc, ◌+◌, ◌-◌, ◌<◌, ◌≤◌, ◌⊎◌, inl, inr, Bool, true, false, cond, List, [], ◌∷◌, ◌++◌, length, take, drop, map, refl, sym, ap, subst, ◌∙◌, arith, length-drop, append_assoc, length-append}
+use Rattle.std.specs.Prelude.{min}
+use Rattle.std.proofs.lemmas.Bool.{cases_lt, cond-true, cond-false}
+use Rattle.std.proofs.lemmas.List.{append-nil, drop_all, length-take-le, take_all, take-append-drop, drop-drop}
+use Rattle.mail_address.specs.declared.tokens.Span.TheVariants.{BeforeSeparator, White}
+use Rattle.mail_address.specs.Tokens.{far, is_all_white, run}
+use Rattle.mail_address.specs.Mailbox.{mailbox_of}
+use Rattle.mail_address.specs.Addresses.{addresses, after_group, after_name, Element, element_at, element_len, group, group_at, group_len, inner_len, is_group, is_separator, items, items_within, name_len, separator_len, single, single_at, Single}
+use Rattle.mail_address.specs.Order.{no_separators, next_separator, MayFollow, MakeUp, no_elements, next_element, start_of, text_of}
+use Rattle.mail_address.proofs.lemmas.Addresses.{element_len-some, is_group-within}
+use Rattle.mail_address.proofs.lemmas.Bounds.{BeginsSeparated, run-separates, run-within}
+
+-- nothing is whitespace
+nothing-white : is_all_white [] ≡ true
+unfolding is_all_white far
+nothing-white = refl
+
+-- a separator with nothing before it but whitespace and comments
+after_separator : (place : ℕ) (white rest bytes : List ℕ) (b : ℕ) {es : List Element} → is_all_white white ≡ true → is_separator b ≡ true → bytes ≡ white ++ b ∷ rest
+    → MakeUp (place + suc (length white)) rest es → MakeUp place bytes es
+after_separator place white rest bytes b is sep e (no_elements {empty = empty} last empties w cut) =
+    no_elements last (next_separator white b {bytes = white ++ b ∷ empty} is sep empties refl) w
+    (e ∙ ap (λ r. white ++ b ∷ r) cut ∙ sym (append_assoc white (b ∷ empty) last))
+after_separator place white rest bytes b is sep e (next_element {empty = empty} {rest = more} {e = element} empties starts follows later cut) =
+    next_element (next_separator white b {bytes = white ++ b ∷ empty} is sep empties refl)
+    (let len = length-append white (b ∷ empty) in omega (arith, starts, len)) follows later
+    (e ∙ ap (λ r. white ++ b ∷ r) cut ∙ sym (append_assoc white (b ∷ empty) (text_of element ++ more)))
+
+-- nothing but whitespace and comments up to the end
+only_white : (place : ℕ) (bytes : List ℕ) → is_all_white bytes ≡ true → MakeUp place bytes []
+only_white place bytes is = no_elements bytes no_separators is refl
+
+nothing_more : (place : ℕ) → MakeUp place [] []
+nothing_more place = only_white place [] nothing-white
+
+-- an element at the front
+element_first : (e : Element) (rest bytes : List ℕ) (es : List Element) → MayFollow e rest → MakeUp (start_of e + length (text_of e)) rest es → bytes ≡ text_of e ++ rest
+    → MakeUp (start_of e) bytes (e ∷ es)
+element_first e rest bytes es follows later cut = next_element no_separators (omega arith) follows later cut
+
+-- ---- a group
+
+group_len-within : (bytes : List ℕ) → is_group bytes ≡ true → group_len bytes ≤ length bytes
+unfolding group_len
+group_len-within bytes h =
+    let low = is_group-within bytes h in
+    let name = length-drop (suc (name_len bytes)) bytes in
+    let inner = length-drop (suc (inner_len bytes)) (after_name bytes) in
+    let white = run-within White (after_group bytes) in
+    let first = low.0 in
+    let second = low.1 in
+    omega (arith, name, inner, white, first, second)
+
+-- what follows a group, and a separator, if one stands there
+after_group_made : (place : ℕ) (rest : List ℕ) (es : List Element) → MakeUp (place + separator_len rest) (drop (separator_len rest) rest) es → MakeUp place rest es
+after_group_made place [] es later = subst (λ p. MakeUp p [] es) (omega arith) later
+after_group_made place (b ∷ rest) es later = go (is_separator b) refl later
+  where
+    go : (t : Bool) → is_separator b ≡ t → MakeUp (place + cond t 1 0) (drop (cond t 1 0) (b ∷ rest)) es → MakeUp place (b ∷ rest) es
+    go true e later = after_separator place [] rest (b ∷ rest) b nothing-white e refl later
+    go false e later = subst (λ p. MakeUp p (b ∷ rest) es) (omega arith) later
+
+-- ---- an element without members
+
+-- behind so many bytes stand a separator and the rest
+pub record Ended (bytes : List ℕ) (n : ℕ) : Type 0 where
+  pub mark : ℕ
+  pub separates : is_separator mark ≡ true
+  pub cut : drop n bytes ≡ mark ∷ drop (suc n) bytes
+
+ended : (bytes : List ℕ) (n : ℕ) → BeginsSeparated (drop n bytes) → Ended bytes n
+ended [] zero none = absurd none
+ended [] (suc n) none = absurd none
+ended (b ∷ bytes) zero sep = record { mark = b; separates = sep; cut = refl }
+ended (b ∷ bytes) (suc n) sep = let later = ended bytes n sep in record { mark = later.mark; separates = later.separates; cut = later.cut }
+
+single_len : (bytes : List ℕ) → is_group bytes ≡ false → element_len bytes ≡ min (suc (run BeforeSeparator bytes)) (length bytes)
+unfolding element_len
+single_len bytes h = cond-false (is_group bytes) (group_len bytes + separator_len (drop (group_len bytes) bytes)) (min (suc (run BeforeSeparator bytes)) (length bytes)) h
+
+group_element_len : (bytes : List ℕ) → is_group bytes ≡ true → element_len bytes ≡ group_len bytes + separator_len (drop (group_len bytes) bytes)
+unfolding element_len
+group_element_len bytes h = cond-true (is_group bytes) (group_len bytes + separator_len (drop (group_len bytes) bytes)) (min (suc (run BeforeSeparator bytes)) (length bytes)) h
+
+-- the bytes before a separator or the end, and the element that they are
+abbrev front : List ℕ → List ℕ
+front bytes = take (run BeforeSeparator bytes) bytes
+
+abbrev here : ℕ → List ℕ → Single
+here place bytes = record { start = place; text = front bytes; mailbox = mailbox_of (front bytes) }
+
+single_made : (place : ℕ) (bytes : List ℕ) (es : List Element) → is_group bytes ≡ false → MakeUp (place + element_len bytes) (drop (element_len bytes) bytes) es
+    → (drop (element_len bytes) bytes ≡ [] → es ≡ []) → (w : Bool) → is_all_white (front bytes) ≡ w
+    → MakeUp place bytes (map single (cond w [] (here place bytes ∷ [])) ++ es)
+single_made place bytes es alone later none w is = by_end (cases_lt (run BeforeSeparator bytes) (length bytes)) w is
+  where
+    len : length (front bytes) ≡ run BeforeSeparator bytes
+    len = length-take-le (run BeforeSeparator bytes) bytes (run-within BeforeSeparator bytes)
+
+    whole : bytes ≡ front bytes ++ drop (run BeforeSeparator bytes) bytes
+    whole = sym (take-append-drop (run BeforeSeparator bytes) bytes)
+
+    separated : Ended bytes (run BeforeSeparator bytes) → run BeforeSeparator bytes < length bytes → (w : Bool) → is_all_white (front bytes) ≡ w
+        → MakeUp place bytes (map single (cond w [] (here place bytes ∷ [])) ++ es)
+    separated end low w is = go w is
+      where
+        short : element_len bytes ≡ suc (run BeforeSeparator bytes)
+        short = let same = single_len bytes alone in omega (arith, same)
+
+        after : MakeUp (place + suc (run BeforeSeparator bytes)) (drop (suc (run BeforeSeparator bytes)) bytes) es
+        after = subst (λ k. MakeUp (place + k) (drop k bytes) es) short later
+
+        cut : bytes ≡ front bytes ++ end.mark ∷ drop (suc (run BeforeSeparator bytes)) bytes
+        cut = whole ∙ ap (λ r. front bytes ++ r) end.cut
+
+        go : (w : Bool) → is_all_white (front bytes) ≡ w → MakeUp place bytes (map single (cond w [] (here place bytes ∷ [])) ++ es)
+        go true is =
+            after_separator place (front bytes) (drop (suc (run BeforeSeparator bytes)) bytes) bytes end.mark is end.separates cut
+            (subst (λ k. MakeUp (place + suc k) (drop (suc (run BeforeSeparator bytes)) bytes) es) (sym len) after)
+        go false is =
+            element_first (single (here place bytes)) (end.mark ∷ drop (suc (run BeforeSeparator bytes)) bytes) bytes es end.separates
+            (after_separator (place + length (front bytes)) [] (drop (suc (run BeforeSeparator bytes)) bytes) (end.mark ∷ drop (suc (run BeforeSeparator bytes)) bytes) end.mark nothing-white
+            end.separates refl (subst (λ p. MakeUp p (drop (suc (run BeforeSeparator bytes)) bytes) es) (omega (arith, len)) after))
+            cut
+
+    last : length bytes ≤ run BeforeSeparator bytes → (w : Bool) → is_all_white (front bytes) ≡ w → MakeUp place bytes (map single (cond w [] (here place bytes ∷ [])) ++ es)
+    last high w is = go w is
+      where
+        all : front bytes ≡ bytes
+        all = take_all (run BeforeSeparator bytes) bytes high
+
+        over : es ≡ []
+        over = let same = single_len bytes alone in none (drop_all (element_len bytes) bytes (omega (arith, same)))
+
+        go : (w : Bool) → is_all_white (front bytes) ≡ w → MakeUp place bytes (map single (cond w [] (here place bytes ∷ [])) ++ es)
+        go true is = subst (λ es. MakeUp place bytes es) (sym over) (only_white place bytes (sym (ap is_all_white all) ∙ is))
+        go false is =
+            subst (λ es. MakeUp place bytes (single (here place bytes) ∷ es)) (sym over)
+            (element_first (single (here place bytes)) [] bytes [] tt (nothing_more (place + length (front bytes))) (sym all ∙ sym (append-nil (front bytes))))
+
+    by_end : (run BeforeSeparator bytes < length bytes) ⊎ (length bytes ≤ run BeforeSeparator bytes) → (w : Bool) → is_all_white (front bytes) ≡ w
+        → MakeUp place bytes (map single (cond w [] (here place bytes ∷ [])) ++ es)
+    by_end (inl low) w is = separated (ended bytes (run BeforeSeparator bytes) (run-separates bytes low)) low w is
+    by_end (inr high) w is = last high w is
+
+group_made : (place : ℕ) (bytes : List ℕ) (es : List Element) → is_group bytes ≡ true → MakeUp (place + element_len bytes) (drop (element_len bytes) bytes) es
+    → MakeUp place bytes (group (group_at place bytes) ∷ es)
+unfolding group_at
+group_made place bytes es stands later =
+    element_first (group (group_at place bytes)) (drop (group_len bytes) bytes) bytes es tt
+    (after_group_made (place + length (take (group_len bytes) bytes)) (drop (group_len bytes) bytes) es
+    (subst (λ p. MakeUp p (drop (separator_len (drop (group_len bytes) bytes)) (drop (group_len bytes) bytes)) es) (omega (arith, len, whole))
+    (subst (λ r. MakeUp (place + element_len bytes) r es) (ap (λ k. drop k bytes) whole ∙ sym (drop-drop (separator_len (drop (group_len bytes) bytes)) (group_len bytes) bytes)) later)))
+    (sym (take-append-drop (group_len bytes) bytes))
+  where
+    len : length (take (group_len bytes) bytes) ≡ group_len bytes
+    len = length-take-le (group_len bytes) bytes (group_len-within bytes stands)
+
+    whole : element_len bytes ≡ group_len bytes + separator_len (drop (group_len bytes) bytes)
+    whole = group_element_len bytes stands
+
+-- ---- all of them
+
+none_left : (most start : ℕ) (bytes : List ℕ) → bytes ≡ [] → items_within element_at element_len most start bytes ≡ []
+none_left zero start bytes e = refl
+none_left (suc most) start bytes e = ap (items_within element_at element_len (suc most) start) e
+
+-- those behind the first bytes
+abbrev left : ℕ → ℕ → List ℕ → List Element
+left most start bytes = items_within element_at element_len most (start + element_len bytes) (drop (element_len bytes) bytes)
+
+made : (most start : ℕ) (bytes : List ℕ) → length bytes ≤ most → MakeUp start bytes (items_within element_at element_len most start bytes)
+unfolding element_at single_at
+made zero start [] short = nothing_more start
+made zero start (b ∷ bytes) short = absurd (omega arith)
+made (suc most) start [] short = nothing_more start
+made (suc most) start (b ∷ bytes) short =
+    let some = element_len-some (b ∷ bytes) (omega arith) in
+    let cut = length-drop (element_len (b ∷ bytes)) (b ∷ bytes) in
+    by_group (is_group (b ∷ bytes)) refl (made most (start + element_len (b ∷ bytes)) (drop (element_len (b ∷ bytes)) (b ∷ bytes)) (omega (arith, some, cut)))
+  where
+    by_group : (g : Bool) → is_group (b ∷ bytes) ≡ g → MakeUp (start + element_len (b ∷ bytes)) (drop (element_len (b ∷ bytes)) (b ∷ bytes)) (left most start (b ∷ bytes))
+        → MakeUp start (b ∷ bytes) (cond g (group (group_at start (b ∷ bytes)) ∷ []) (map single (single_at start (front (b ∷ bytes)))) ++ left most start (b ∷ bytes))
+    by_group true e more = group_made start (b ∷ bytes) (left most start (b ∷ bytes)) e more
+    by_group false e more =
+        single_made start (b ∷ bytes) (left most start (b ∷ bytes)) e more
+        (none_left most (start + element_len (b ∷ bytes)) (drop (element_len (b ∷ bytes)) (b ∷ bytes))) (is_all_white (front (b ∷ bytes))) refl
+
+pub elements-make_up : (raw : List ℕ) → MakeUp 0 raw (addresses raw)
+unfolding items
+elements-make_up raw = made (length raw) 0 raw (omega arith)
