@@ -9,6 +9,7 @@ DATA = f"{TOP}/crates/mail_vectors/data"
 TOKEN = re.compile(r""" *(?:"([^"]*)"|'([^']*)'|([^ ]+))""")
 ESCAPE = re.compile(r"\\(?:u\{([0-9A-Fa-f]+)\}|x([0-9A-Fa-f]{2})|(.))", re.S)
 PLAIN = {"n": "\n", "r": "\r", "t": "\t", "0": "\0", "\\": "\\"}
+SHOWN = [chr(it) if 32 <= it < 127 and it not in b"\"\\" else f"\\x{it:02X}" for it in range(256)]
 
 
 @dataclass
@@ -89,8 +90,7 @@ def written(item):
     """A word as it is, or a text in quotes."""
     if isinstance(item, str):
         return item
-    shown = "".join(chr(it) if 32 <= it < 127 and it not in b"\"\\" else f"\\x{it:02X}" for it in item)
-    return f'"{shown}"'
+    return f'"{"".join(map(SHOWN.__getitem__, item))}"'
 
 
 def line_of(row):
