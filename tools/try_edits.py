@@ -133,10 +133,10 @@ class Run:
         shutil.copy2(f"{top}/crates.txt", to)
         shutil.copy2(f"{top}/HANDLES", to)
 
-    def rt(self, what, folder, *words):
+    def rt(self, what, folder, *words, jobs=1):
         """Runs rt on one processor (on four a check takes half as much again of them), and returns what it printed."""
         with self.lanes, tempfile.TemporaryFile("w+", encoding="utf-8", errors="replace") as output:
-            words = ["timeout", "--foreground", "3600", "rt", *words, "--jobs", "1"]
+            words = ["timeout", "--foreground", "3600", "rt", *words, "--jobs", str(jobs)]
             process = subprocess.Popen(words, cwd=folder, stdin=subprocess.DEVNULL, stdout=output, stderr=subprocess.STDOUT)
             _, process.returncode, usage = os.wait4(process.pid, 0)
             self.seconds.append(usage.ru_utime + usage.ru_stime)
@@ -145,11 +145,11 @@ class Run:
             return output.read()
 
     def prove(self, crate):
-        """Proves a crate as it is, once those below it are proved. What was kept is looked at by the checks above it."""
+        """Proves a crate as it is, on two processors, once those below are proved. The checks above look at what was kept."""
         for it in self.deps[crate]:
             self.proofs[it].result()
         folder = Path(f"{self.room}/base/crates/{crate}")
-        said = "" if (folder / "out/rlib/stamp").exists() else self.rt("proved as it is", folder, "lib")
+        said = "" if (folder / "out/rlib/stamp").exists() else self.rt("proved as it is", folder, "lib", jobs=2)
         if not (folder / "out/rlib/stamp").exists():
             raise Stopped(f"{crate} is not proved as it is: {said[-300:]}")
 
