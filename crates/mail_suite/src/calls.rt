@@ -1,11 +1,9 @@
 //! The calls of the codecs and of the port, by topic.
 
-mod bodies;
+pub mod bodies;
 mod charsets;
-mod dates;
 mod errors;
 mod headers;
-mod ids;
 mod kinds;
 pub mod levels;
 mod lookups;
@@ -19,29 +17,24 @@ mod transfer;
 mod values;
 
 use crate::notation::{Answer, Row};
-use mailparse::MailParseError;
 use std::alloc::Global;
 
 /// Makes the call that a row names, if it is one of these, and writes what it returns. Each topic
 /// makes its own calls, and says whether it knows the one that is asked for.
-pub fn make(alloc: Global, row: &Row, answer: &mut Answer) -> Result<bool, MailParseError> {
-    Ok(
-        values::make(alloc, row, answer)?
-            || dates::make(alloc, row, answer)?
-            || parameters::make(alloc, row, answer)?
-            || bodies::make(alloc, row, answer)?
-            || mails::make(alloc, row, answer)?
-            || headers::make(alloc, row, answer)?
-            || lookups::make(alloc, row, answer)?
-            || parts::make(alloc, row, answer)?
-            || levels::make(alloc, row, answer)?
-            || kinds::make(alloc, row, answer)?
-            || errors::make(alloc, row, answer)?
-            || ids::make(alloc, row, answer)?
-            || searches::make(alloc, row, answer)?
-            || charsets::make(alloc, row, answer)?
-            || transfer::make(alloc, row, answer)?
-            || tables::make(alloc, row, answer)?
-            || sweeps::make(alloc, row, answer)?,
-    )
+pub fn make(alloc: Global, row: &Row, answer: &mut Answer) -> bool {
+    values::make(alloc, row, answer)
+        || parameters::make(alloc, row, answer)
+        || bodies::make(alloc, row, answer)
+        || mails::make(alloc, row, answer)
+        || headers::make(alloc, row, answer)
+        || lookups::make(alloc, row, answer)
+        || parts::make(alloc, row, answer)
+        || levels::make(alloc, row, answer)
+        || kinds::make(alloc, row, answer)
+        || errors::make(alloc, row, answer)
+        || searches::make(alloc, row, answer)
+        || charsets::make(alloc, row, answer)
+        || transfer::make(alloc, row, answer)
+        || tables::make(alloc, row, answer)
+        || sweeps::make(alloc, row, answer)
 }

@@ -4,6 +4,7 @@
 mod calls;
 mod notation;
 
+pub use calls::bodies::push_raw;
 pub use calls::levels::least_levels;
 pub use calls::make;
 pub use calls::tables::all_tables;

@@ -4,6 +4,8 @@
 use mailparse::MailParseError;
 use std::alloc::{AllocError, Global};
 use std::borrow::CowStr;
+use std::cell::Cell;
+use std::str::from_utf8;
 
 /// A row that does not follow the notation, or whose inputs are not those of its call.
 pub const FORM: MailParseError = MailParseError::Generic("not a row of the suite");
@@ -14,7 +16,7 @@ const ROOM: usize = 48_611;
 
 /// An input, or an item of an answer.
 #[derive(Drop)]
-pub struct Item {
+struct Item {
     /// A text in quotes, and no word.
     is_text: bool,
     bytes: Vec<u8>,
@@ -34,16 +36,11 @@ pub struct Row {
     pub is_free: bool,
     /// Whether an error is to show its Debug, and that of what it wraps.
     is_debug: bool,
+    /// Whether a call asked for an input that is not there, or is not what the call takes.
+    is_malformed: Cell<bool>,
 }
 
-/// What stands in a row between spaces.
-#[derive(Clone, Copy)]
-enum Token<'a> {
-    Text(&'a str),
-    Word(&'a str),
-}
-
-/// The part of a row that a token belongs to.
+/// The part of a row that is read.
 #[derive(Clone, Copy, PartialEq, Eq)]
 enum Part {
     Inputs,
@@ -56,10 +53,8 @@ impl Row {
     /// and `refusal` may stand before the call.
     pub fn read(alloc: Global, text: &str) -> Result<Row, MailParseError> {
         let (name, rest) = name_and_rest(text);
-        let (is_debug, rest) = match rest.strip_prefix("refusal ") {
-            Some(rest) => (true, rest),
-            None => (false, rest),
-        };
+        let is_debug = rest.starts_with("refusal ");
+        let rest = rest.strip_prefix("refusal ").unwrap_or(rest);
         let (call, rest) = rest.split_once(' ').unwrap_or((rest, ""));
         let mut row = Row {
             name: String::from_str(alloc, name)?,
@@ -68,6 +63,7 @@ impl Row {
             wanted: Answer::empty(alloc),
             is_free: false,
             is_debug,
+            is_malformed: Cell::new(false),
         };
         row.take_items(alloc, rest)?;
         Ok(row)
@@ -76,75 +72,79 @@ impl Row {
     /// Reads the inputs, the answer and the marks.
     fn take_items(&mut self, alloc: Global, text: &str) -> Result<(), MailParseError> {
         let mut items = Items::new(alloc);
-        let mut part = Part::Inputs;
-        let mut rest = text;
+        let mut rest = text.trim_start();
         for _turn in 0..text.len() {
-            let Some((token, after)) = next_token(rest)? else {
+            if rest.is_empty() {
                 break;
-            };
-            rest = after;
-            part = self.take(alloc, &mut items, part, token)?;
+            }
+            rest = items.take(alloc, self, rest)?.trim_start();
         }
-        if part == Part::Inputs {
+        if items.part == Part::Inputs {
             return Err(FORM);
         }
-        items.write(&mut self.wanted)
+        self.want(items.list.as_slice())
     }
 
-    /// Takes the next token, which belongs to this part, and returns the part that the next one
-    /// belongs to.
-    fn take(
-        &mut self,
-        alloc: Global,
-        items: &mut Items,
-        part: Part,
-        token: Token<'_>,
-    ) -> Result<Part, MailParseError> {
-        match (token, part) {
-            (Token::Word("=>"), _) => {
-                self.inputs = items.end(alloc);
-                return Ok(Part::Answer);
-            }
-            (Token::Word("!"), _) => return Ok(Part::Marks),
-            (Token::Word("no_memory"), _) => self.is_free = true,
-            (_, Part::Marks) => {}
-            (token, _) => items.take(alloc, token)?,
+    /// Makes these items the wanted answer.
+    fn want(&mut self, items: &[Item]) -> Result<(), MailParseError> {
+        for item in items {
+            self.wanted.item(item);
         }
-        Ok(part)
+        self.wanted.outcome()
     }
 
     /// The bytes of an input.
-    pub fn bytes(&self, at: usize) -> Result<&[u8], MailParseError> {
+    ///
+    /// This call and the next ones return something empty where the row has no such input; `fits`
+    /// says so afterwards, once for all inputs.
+    pub fn bytes(&self, at: usize) -> &[u8] {
         match self.inputs.get(at) {
-            Some(item) => Ok(item.bytes.as_slice()),
-            None => Err(FORM),
+            Some(item) => item.bytes.as_slice(),
+            None => {
+                self.reject();
+                b""
+            }
         }
     }
 
     /// The text of an input.
-    pub fn text(&self, at: usize) -> Result<&str, MailParseError> {
-        text_of(self.bytes(at)?)
+    pub fn text(&self, at: usize) -> &str {
+        match from_utf8(self.bytes(at)) {
+            Ok(text) => text,
+            Err(_) => {
+                self.reject();
+                ""
+            }
+        }
     }
 
     /// The text of an input, or nothing where the word `none` stands.
-    pub fn optional_text(&self, at: usize) -> Result<Option<&str>, MailParseError> {
+    pub fn optional_text(&self, at: usize) -> Option<&str> {
         match self.inputs.get(at) {
-            Some(item) => {
-                if !item.is_text && item.bytes.as_slice() == b"none".as_slice() {
-                    Ok(None)
-                } else {
-                    Ok(Some(self.text(at)?))
-                }
-            }
-            None => Err(FORM),
+            Some(item) if !item.is_text && item.bytes.as_slice() == b"none".as_slice() => None,
+            _ => Some(self.text(at)),
         }
     }
 
     /// The number that an input writes.
-    pub fn number(&self, at: usize) -> Result<usize, MailParseError> {
-        match self.text(at)?.parse::<usize>() {
-            Ok(number) => Ok(number),
-            Err(_) => Err(FORM),
+    pub fn number(&self, at: usize) -> usize {
+        match self.text(at).parse::<usize>() {
+            Ok(number) => number,
+            Err(_) => {
+                self.reject();
+                0
+            }
+        }
+    }
+
+    /// The number of levels that an input writes.
+    pub fn levels(&self, at: usize) -> u8 {
+        match u8::try_from(self.number(at)) {
+            Ok(levels) => levels,
+            Err(_) => {
+                self.reject();
+                0
+            }
         }
     }
 
@@ -152,51 +152,30 @@ impl Row {
     pub fn count(&self) -> usize {
         self.inputs.len()
     }
-}
 
-/// The text of these bytes.
-fn text_of(bytes: &[u8]) -> Result<&str, MailParseError> {
-    match std::str::from_utf8(bytes) {
-        Ok(text) => Ok(text),
-        Err(_) => Err(FORM),
+    /// Says that the inputs are not those of the call.
+    pub fn reject(&self) {
+        self.is_malformed.set(true);
+    }
+
+    /// Whether the inputs that were asked for are those of the call.
+    pub fn fits(&self) -> bool {
+        !self.is_malformed.get()
     }
 }
 
 /// The name of a row, which ends in a colon before the first quote, and what follows it.
 fn name_and_rest(text: &str) -> (&str, &str) {
     match text.split_once(": ") {
-        Some((name, rest)) => {
-            if name.contains('"') || name.contains('\'') {
-                ("", text)
-            } else {
-                (name, rest)
-            }
-        }
-        None => ("", text),
+        Some((name, rest)) if !name.contains('"') && !name.contains('\'') => (name, rest),
+        _ => ("", text),
     }
-}
-
-/// The token at the front of a text, and what follows it; nothing where only spaces are left.
-fn next_token(text: &str) -> Result<Option<(Token<'_>, &str)>, MailParseError> {
-    let text = text.trim_start();
-    if let Some(after) = text.strip_prefix('"') {
-        let (raw, rest) = after.split_once('"').ok_or(FORM)?;
-        return Ok(Some((Token::Text(raw), rest)));
-    }
-    if let Some(after) = text.strip_prefix('\'') {
-        let (raw, rest) = after.split_once('\'').ok_or(FORM)?;
-        return Ok(Some((Token::Text(raw), rest)));
-    }
-    if text.is_empty() {
-        return Ok(None);
-    }
-    let (word, rest) = text.split_once(' ').unwrap_or((text, ""));
-    Ok(Some((Token::Word(word), rest)))
 }
 
 /// Items, as far as they are read.
 #[derive(Drop)]
 struct Items {
+    part: Part,
     list: Vec<Item>,
     /// The last quoted text as it stands alone, which may be repeated.
     last: Vec<u8>,
@@ -207,97 +186,92 @@ struct Items {
 impl Items {
     fn new(alloc: Global) -> Items {
         Items {
+            part: Part::Inputs,
             list: Vec::new(alloc),
             last: Vec::new(alloc),
             is_joined: false,
         }
     }
 
-    /// Takes the next token.
-    fn take(&mut self, alloc: Global, token: Token<'_>) -> Result<(), MailParseError> {
-        match token {
-            Token::Text(raw) => self.take_text(alloc, raw),
-            Token::Word("+") => {
-                self.is_joined = true;
-                Ok(())
-            }
-            Token::Word(word) => match word.strip_prefix('*') {
-                Some(count) => self.repeat(count),
-                None => self.take_word(alloc, word),
-            },
+    /// Takes the text or word at the front of a text, and returns what follows it.
+    fn take<'t>(
+        &mut self,
+        alloc: Global,
+        row: &mut Row,
+        text: &'t str,
+    ) -> Result<&'t str, MailParseError> {
+        let quote = text.chars().next().unwrap_or(' ');
+        if quote == '"' || quote == '\'' {
+            let Some((raw, rest)) = text.get(1..).unwrap_or("").split_once(quote) else {
+                return Err(FORM);
+            };
+            self.take_text(alloc, raw)?;
+            return Ok(rest);
         }
+        let (word, rest) = text.split_once(' ').unwrap_or((text, ""));
+        self.take_word(alloc, row, word)?;
+        Ok(rest)
     }
 
     /// Takes a quoted text, which a `+` joins to the one before.
     fn take_text(&mut self, alloc: Global, raw: &str) -> Result<(), MailParseError> {
-        let mut bytes = Vec::new(alloc);
-        push_decoded(&mut bytes, raw)?;
-        if self.is_joined {
-            self.is_joined = false;
-            self.append(bytes.as_slice())?;
-        } else {
+        self.last.clear();
+        push_decoded(&mut self.last, raw)?;
+        if !self.is_joined {
             self.list.push(Item {
                 is_text: true,
-                bytes: bytes.clone()?,
+                bytes: Vec::new(alloc),
             })?;
         }
-        self.last = bytes;
+        self.is_joined = false;
+        self.append(1)
+    }
+
+    /// Takes a word, which may be a sign of the notation.
+    fn take_word(
+        &mut self,
+        alloc: Global,
+        row: &mut Row,
+        word: &str,
+    ) -> Result<(), MailParseError> {
+        match word {
+            "=>" => {
+                self.part = Part::Answer;
+                self.is_joined = false;
+                row.inputs = std::mem::replace(&mut self.list, Vec::new(alloc));
+            }
+            "!" => self.part = Part::Marks,
+            "no_memory" => row.is_free = true,
+            "+" => self.is_joined = true,
+            _ if self.part == Part::Marks => {}
+            _ => return self.take_item(alloc, word),
+        }
         Ok(())
     }
 
-    /// Takes a word.
-    fn take_word(&mut self, alloc: Global, word: &str) -> Result<(), MailParseError> {
+    /// Takes a word that is an item, or says how often the last quoted text stands.
+    fn take_item(&mut self, alloc: Global, word: &str) -> Result<(), MailParseError> {
+        if let Some(count) = word.strip_prefix('*') {
+            let Ok(count) = count.parse::<usize>() else {
+                return Err(FORM);
+            };
+            return self.append(count.saturating_sub(1));
+        }
+        let bytes = word.as_bytes().to_vec(alloc)?;
         self.list.push(Item {
             is_text: false,
-            bytes: word.as_bytes().to_vec(alloc)?,
+            bytes,
         })?;
         Ok(())
     }
 
-    /// Repeats the last quoted text, so that it stands so many times.
-    fn repeat(&mut self, count: &str) -> Result<(), MailParseError> {
-        let Ok(count) = count.parse::<usize>() else {
+    /// Adds the last quoted text to the last item so many times.
+    fn append(&mut self, times: usize) -> Result<(), MailParseError> {
+        let Some(item) = self.list.last_mut() else {
             return Err(FORM);
         };
-        for _turn in 1..count {
-            match self.list.last_mut() {
-                Some(item) => item.bytes.extend_from_slice(self.last.as_slice())?,
-                None => return Err(FORM),
-            }
-        }
-        Ok(())
-    }
-
-    /// Joins bytes to the last item.
-    fn append(&mut self, bytes: &[u8]) -> Result<(), MailParseError> {
-        match self.list.last_mut() {
-            Some(item) => Ok(item.bytes.extend_from_slice(bytes)?),
-            None => Err(FORM),
-        }
-    }
-
-    /// The items so far, after which others begin.
-    fn end(&mut self, alloc: Global) -> Vec<Item> {
-        self.is_joined = false;
-        std::mem::replace(&mut self.list, Vec::new(alloc))
-    }
-
-    /// Writes the items as an answer does.
-    fn write(&self, answer: &mut Answer) -> Result<(), MailParseError> {
-        for item in &self.list {
-            item.write(answer)?;
-        }
-        Ok(())
-    }
-}
-
-impl Item {
-    /// Writes the item as an answer does.
-    fn write(&self, answer: &mut Answer) -> Result<(), MailParseError> {
-        if self.is_text {
-            answer.bytes(self.bytes.as_slice())?;
-        } else {
-            answer.word(text_of(self.bytes.as_slice())?)?;
+        for _turn in 0..times {
+            item.bytes.extend_from_slice(self.last.as_slice())?;
         }
         Ok(())
     }
@@ -323,85 +297,92 @@ fn push_decoded(bytes: &mut Vec<u8>, raw: &str) -> Result<(), MailParseError> {
 
 /// Adds what follows a backslash.
 fn push_escape(bytes: &mut Vec<u8>, piece: &str) -> Result<(), MailParseError> {
-    if let Some(rest) = piece.strip_prefix("u{") {
-        let (digits, rest) = rest.split_once('}').ok_or(FORM)?;
-        push_char(bytes, digits)?;
-        bytes.extend_from_slice(rest.as_bytes())?;
-        return Ok(());
+    let Some((letter, rest)) = piece.split_at_checked(1) else {
+        return Err(FORM);
+    };
+    match letter {
+        "n" => push_both(bytes, b'\n', rest),
+        "r" => push_both(bytes, b'\r', rest),
+        "t" => push_both(bytes, b'\t', rest),
+        "0" => push_both(bytes, 0, rest),
+        "x" => push_byte(bytes, rest),
+        "u" => push_char(bytes, rest),
+        _ => Err(FORM),
     }
-    match piece.as_bytes() {
-        [b'n', rest @ ..] => push_both(bytes, b'\n', rest)?,
-        [b'r', rest @ ..] => push_both(bytes, b'\r', rest)?,
-        [b't', rest @ ..] => push_both(bytes, b'\t', rest)?,
-        [b'0', rest @ ..] => push_both(bytes, 0, rest)?,
-        [b'x', high, low, rest @ ..] => push_both(bytes, byte_of(*high, *low)?, rest)?,
-        _ => return Err(FORM),
-    }
-    Ok(())
 }
 
 /// Adds a byte and what follows it.
-fn push_both(bytes: &mut Vec<u8>, byte: u8, rest: &[u8]) -> Result<(), AllocError> {
+fn push_both(bytes: &mut Vec<u8>, byte: u8, rest: &str) -> Result<(), MailParseError> {
     bytes.push(byte)?;
-    bytes.extend_from_slice(rest)
+    Ok(bytes.extend_from_slice(rest.as_bytes())?)
 }
 
-/// The byte that two hexadecimal digits write.
-fn byte_of(high: u8, low: u8) -> Result<u8, MailParseError> {
-    match u8::from_str_radix(text_of(&[high, low])?, 16) {
-        Ok(byte) => Ok(byte),
+/// Adds the byte that two hexadecimal digits write, and what follows them.
+fn push_byte(bytes: &mut Vec<u8>, text: &str) -> Result<(), MailParseError> {
+    let Some((digits, rest)) = text.split_at_checked(2) else {
+        return Err(FORM);
+    };
+    match u8::from_str_radix(digits, 16) {
+        Ok(byte) => push_both(bytes, byte, rest),
         Err(_) => Err(FORM),
     }
 }
 
-/// Adds the UTF-8 of the character with this number in hexadecimal.
-fn push_char(bytes: &mut Vec<u8>, digits: &str) -> Result<(), MailParseError> {
-    let Ok(number) = u32::from_str_radix(digits, 16) else {
+/// Adds the UTF-8 of the character whose number stands in braces, and what follows them.
+fn push_char(bytes: &mut Vec<u8>, text: &str) -> Result<(), MailParseError> {
+    let Some((digits, rest)) = text.strip_prefix('{').and_then(|text| text.split_once('}')) else {
         return Err(FORM);
     };
-    let character = char::from_u32(number).ok_or(FORM)?;
+    let number = u32::from_str_radix(digits, 16).unwrap_or(u32::MAX);
+    let Some(character) = char::from_u32(number) else {
+        return Err(FORM);
+    };
     let mut room = [0; 4];
     bytes.extend_from_slice(character.encode_utf8(&mut room).as_bytes())?;
-    Ok(())
+    Ok(bytes.extend_from_slice(rest.as_bytes())?)
 }
 
 /// What a call returned, item by item: a word as it is, and a text with its length before it, so that
 /// no two lists of items look the same.
+///
+/// No call of it fails, so that whoever writes an answer need not ask item by item whether memory ran
+/// out: the answer remembers that, and `outcome` says it once.
 #[derive(Drop)]
 pub struct Answer {
     written: Vec<u8>,
     /// Whether errors show their Debug.
     is_debug: bool,
+    /// Whether memory ran out, in a call or while the answer was written.
+    has_run_out: bool,
     alloc: Global,
 }
 
 impl Answer {
     /// An answer without items, which shows errors as a row wants them.
     pub fn new(alloc: Global, row: &Row) -> Result<Answer, AllocError> {
-        Ok(Answer {
-            written: Vec::with_capacity(alloc, ROOM)?,
-            is_debug: row.is_debug,
-            alloc,
-        })
+        let mut answer = Answer::empty(alloc);
+        answer.written = Vec::with_capacity(alloc, ROOM)?;
+        answer.is_debug = row.is_debug;
+        Ok(answer)
     }
 
     /// An answer without items that has no room yet.
-    pub fn empty(alloc: Global) -> Answer {
+    fn empty(alloc: Global) -> Answer {
         Answer {
             written: Vec::new(alloc),
             is_debug: false,
+            has_run_out: false,
             alloc,
         }
     }
 
-    /// Takes all items away.
-    pub fn clear(&mut self) {
-        self.written.clear();
-    }
-
-    /// Adds the items of another answer.
-    pub fn append(&mut self, other: &Answer) -> Result<(), AllocError> {
-        self.written.extend_from_slice(other.written.as_slice())
+    /// Whether the answer is whole: the error says that memory ran out.
+    pub fn outcome(&self) -> Result<(), MailParseError> {
+        if self.has_run_out {
+            Err(MailParseError::Memory(AllocError))
+        } else {
+            Ok(())
+        }
     }
 
     /// The answer as it is written.
@@ -409,98 +390,219 @@ impl Answer {
         self.written.as_slice()
     }
 
+    /// How many bytes are written.
+    pub fn len(&self) -> usize {
+        self.written.len()
+    }
+
+    /// Whether what is written from one place up to another is written again at a third one.
+    pub fn repeats(&self, from: usize, to: usize, again: usize) -> bool {
+        self.written.get(from..to) == self.written.get(again..)
+    }
+
+    /// Takes away what is written from a place on.
+    pub fn cut(&mut self, from: usize) {
+        self.written.truncate(from);
+    }
+
+    /// Adds bytes as they are.
+    fn push(&mut self, bytes: &[u8]) {
+        if self.written.extend_from_slice(bytes).is_err() {
+            self.has_run_out = true;
+        }
+    }
+
+    /// Adds an item of a row.
+    fn item(&mut self, item: &Item) {
+        if item.is_text {
+            self.bytes(item.bytes.as_slice());
+        } else {
+            self.push(item.bytes.as_slice());
+            self.push(b" ");
+        }
+    }
+
     /// Adds a word.
-    pub fn word(&mut self, word: &str) -> Result<(), AllocError> {
-        self.written.extend_from_slice(word.as_bytes())?;
-        self.written.extend_from_slice(b" ")
+    pub fn word(&mut self, word: &str) {
+        self.push(word.as_bytes());
+        self.push(b" ");
     }
 
     /// Adds bytes, or a text as its UTF-8.
-    pub fn bytes(&mut self, bytes: &[u8]) -> Result<(), AllocError> {
-        write_number(&mut self.written, bytes.len() as u64)?;
-        self.written.extend_from_slice(b":\"")?;
-        self.written.extend_from_slice(bytes)?;
-        self.written.extend_from_slice(b"\" ")
+    pub fn bytes(&mut self, bytes: &[u8]) {
+        self.digits(bytes.len() as u64);
+        self.push(b":\"");
+        self.push(bytes);
+        self.push(b"\" ");
     }
 
     /// Adds a text.
-    pub fn text(&mut self, text: &str) -> Result<(), AllocError> {
-        self.bytes(text.as_bytes())
+    pub fn text(&mut self, text: &str) {
+        self.bytes(text.as_bytes());
     }
 
-    /// Adds a number.
-    pub fn number(&mut self, number: usize) -> Result<(), AllocError> {
-        write_number(&mut self.written, number as u64)?;
-        self.written.extend_from_slice(b" ")
-    }
-
-    /// Adds a number with a minus sign.
-    pub fn negative(&mut self, number: usize) -> Result<(), AllocError> {
-        self.written.extend_from_slice(b"-")?;
-        self.number(number)
-    }
-
-    /// Adds a number that may be negative.
-    pub fn signed(&mut self, number: i64) -> Result<(), AllocError> {
-        if number < 0 {
-            self.written.push(b'-')?;
+    /// Adds texts.
+    pub fn texts(&mut self, texts: &[String]) {
+        for text in texts {
+            self.text(text.as_str());
         }
-        write_number(&mut self.written, number.unsigned_abs())?;
-        self.written.extend_from_slice(b" ")
-    }
-
-    /// Adds a text that is made, unless memory ran out.
-    pub fn made(&mut self, text: Result<String, AllocError>) -> Result<(), AllocError> {
-        let text = text?;
-        self.text(text.as_str())
-    }
-
-    /// Adds a text, and whether it is borrowed.
-    pub fn cow(&mut self, text: &CowStr<'_>) -> Result<(), AllocError> {
-        self.word(match text {
-            CowStr::Borrowed(_) => "borrowed",
-            CowStr::Owned(_) => "owned",
-        })?;
-        self.text(text.as_str())
-    }
-
-    /// Adds `true` or `false`.
-    pub fn truth(&mut self, holds: bool) -> Result<(), AllocError> {
-        self.word(if holds { "true" } else { "false" })
     }
 
     /// Adds a text, or the word `none`.
-    pub fn optional_text(&mut self, text: Option<&str>) -> Result<(), AllocError> {
+    pub fn optional_text(&mut self, text: Option<&str>) {
         match text {
             Some(text) => self.text(text),
             None => self.word("none"),
         }
     }
 
+    /// Adds a number.
+    pub fn number(&mut self, number: usize) {
+        self.digits(number as u64);
+        self.push(b" ");
+    }
+
+    /// Adds a number with a minus sign.
+    pub fn negative(&mut self, number: usize) {
+        self.push(b"-");
+        self.number(number);
+    }
+
+    /// Adds a number, or the word `none`.
+    pub fn optional_number(&mut self, number: Option<usize>) {
+        match number {
+            Some(number) => self.number(number),
+            None => self.word("none"),
+        }
+    }
+
+    /// Adds a number that may be negative.
+    pub fn signed(&mut self, number: i64) {
+        if number < 0 {
+            self.push(b"-");
+        }
+        self.digits(number.unsigned_abs());
+        self.push(b" ");
+    }
+
+    /// Writes a number in decimal.
+    fn digits(&mut self, number: u64) {
+        let mut digits = [0; 20];
+        let mut rest = number;
+        let mut front = digits.len();
+        for place in digits.iter_mut().rev() {
+            *place = b'0' + (rest % 10) as u8;
+            rest /= 10;
+            front = front.saturating_sub(1);
+            if rest == 0 {
+                break;
+            }
+        }
+        self.push(digits.get(front..).unwrap_or(&digits));
+    }
+
+    /// Adds `true` or `false`.
+    pub fn truth(&mut self, holds: bool) {
+        self.word(if holds { "true" } else { "false" });
+    }
+
+    /// Adds a text that is made, unless memory ran out.
+    pub fn made(&mut self, text: Result<String, AllocError>) {
+        match text {
+            Ok(text) => self.text(text.as_str()),
+            Err(_) => self.has_run_out = true,
+        }
+    }
+
+    /// Adds bytes that are made, unless memory ran out.
+    pub fn made_bytes(&mut self, bytes: Result<Vec<u8>, AllocError>) {
+        match bytes {
+            Ok(bytes) => self.bytes(bytes.as_slice()),
+            Err(_) => self.has_run_out = true,
+        }
+    }
+
+    /// Adds a text, and whether it is borrowed.
+    pub fn cow(&mut self, text: &CowStr<'_>) {
+        self.word(match text {
+            CowStr::Borrowed(_) => "borrowed",
+            CowStr::Owned(_) => "owned",
+        });
+        self.text(text.as_str());
+    }
+
+    /// Adds a text that is made, and whether it is borrowed, unless memory ran out.
+    pub fn made_cow(&mut self, text: Result<CowStr<'_>, AllocError>) {
+        match text {
+            Ok(text) => self.cow(&text),
+            Err(_) => self.has_run_out = true,
+        }
+    }
+
+    /// Adds the text that a call returned, or its refusal.
+    pub fn text_or_refusal(&mut self, outcome: Result<String, MailParseError>) {
+        match outcome {
+            Ok(text) => self.text(text.as_str()),
+            Err(error) => self.refusal(error),
+        }
+    }
+
+    /// Adds the bytes that a call returned, or its refusal.
+    pub fn bytes_or_refusal(&mut self, outcome: Result<Vec<u8>, MailParseError>) {
+        match outcome {
+            Ok(bytes) => self.bytes(bytes.as_slice()),
+            Err(error) => self.refusal(error),
+        }
+    }
+
+    /// Adds the texts that a call returned, or its refusal.
+    pub fn texts_or_refusal(&mut self, outcome: Result<Vec<String>, MailParseError>) {
+        match outcome {
+            Ok(texts) => self.texts(texts.as_slice()),
+            Err(error) => self.refusal(error),
+        }
+    }
+
+    /// Adds the text that a call returned, the word `none`, or its refusal.
+    pub fn optional_or_refusal(&mut self, outcome: Result<Option<String>, MailParseError>) {
+        match outcome {
+            Ok(text) => self.optional_text(text.as_deref()),
+            Err(error) => self.refusal(error),
+        }
+    }
+
+    /// Adds the number that a call returned, or its refusal.
+    pub fn number_or_refusal(&mut self, outcome: Result<usize, MailParseError>) {
+        match outcome {
+            Ok(number) => self.number(number),
+            Err(error) => self.refusal(error),
+        }
+    }
+
+    /// Adds the refusal of a call, if it refused.
+    pub fn end(&mut self, outcome: Result<(), MailParseError>) {
+        if let Err(error) = outcome {
+            self.refusal(error);
+        }
+    }
+
     /// Adds `error` and the text of a refusal, or its Debug and source where the row asks for them.
     /// That memory ran out is none.
-    pub fn refusal(&mut self, error: MailParseError) -> Result<(), MailParseError> {
-        if let MailParseError::Memory(_) = &error {
-            return Err(error);
-        }
-        Ok(self.shown(&error)?)
-    }
-
-    /// Adds how an error shows itself.
-    fn shown(&mut self, error: &MailParseError) -> Result<(), AllocError> {
-        if self.is_debug {
-            self.made(format!(in self.alloc; "{error:?}"))?;
-            return self.source(error);
-        }
-        self.word("error")?;
-        match error {
-            MailParseError::Generic(text) => self.text(text),
-            _ => self.made(format!(in self.alloc; "{error}")),
+    pub fn refusal(&mut self, error: MailParseError) {
+        match &error {
+            MailParseError::Memory(_) => self.has_run_out = true,
+            _ if self.is_debug => self.debug(&error),
+            MailParseError::Generic(text) => self.error(text),
+            _ => {
+                self.word("error");
+                self.made(format!(in self.alloc; "{error}"));
+            }
         }
     }
 
-    /// Adds the Debug text of the fault that an error wraps, or the word `none`.
-    pub fn source(&mut self, error: &MailParseError) -> Result<(), AllocError> {
+    /// Adds the Debug text of an error, and that of the fault that it wraps, or the word `none`.
+    pub fn debug(&mut self, error: &MailParseError) {
+        self.made(format!(in self.alloc; "{error:?}"));
         match error.source() {
             Some(source) => self.made(format!(in self.alloc; "{source:?}")),
             None => self.word("none"),
@@ -508,46 +610,8 @@ impl Answer {
     }
 
     /// Adds `error` and a text.
-    pub fn error(&mut self, text: &str) -> Result<(), AllocError> {
-        self.word("error")?;
-        self.text(text)
+    pub fn error(&mut self, text: &str) {
+        self.word("error");
+        self.text(text);
     }
-
-    /// Adds the text that a call returned, or its refusal.
-    pub fn text_or_refusal(
-        &mut self,
-        outcome: Result<String, MailParseError>,
-    ) -> Result<(), MailParseError> {
-        match outcome {
-            Ok(text) => Ok(self.text(text.as_str())?),
-            Err(error) => self.refusal(error),
-        }
-    }
-
-    /// Adds the bytes that a call returned, or its refusal.
-    pub fn bytes_or_refusal(
-        &mut self,
-        outcome: Result<Vec<u8>, MailParseError>,
-    ) -> Result<(), MailParseError> {
-        match outcome {
-            Ok(bytes) => Ok(self.bytes(bytes.as_slice())?),
-            Err(error) => self.refusal(error),
-        }
-    }
-}
-
-/// Writes a number in decimal.
-fn write_number(written: &mut Vec<u8>, number: u64) -> Result<(), AllocError> {
-    let mut digits = [0; 20];
-    let mut rest = number;
-    let mut front = digits.len();
-    for place in digits.iter_mut().rev() {
-        *place = b'0' + (rest % 10) as u8;
-        rest /= 10;
-        front = front.saturating_sub(1);
-        if rest == 0 {
-            break;
-        }
-    }
-    written.extend_from_slice(digits.get(front..).unwrap_or(&digits))
 }

@@ -1,7 +1,7 @@
 //! A replay of the rows of a file.
 
 use crate::calls;
-use mail_suite::{Answer, Row};
+use mail_suite::{Answer, FORM, Row};
 use mailparse::MailParseError;
 use std::alloc::{AllocError, Global};
 
@@ -136,9 +136,14 @@ impl Tally {
     }
 }
 
-/// What the call of a row returns.
+/// What the call of a row returns, unless memory ran out or there is no such call with such inputs.
 fn returned(alloc: Global, row: &Row) -> Result<Answer, MailParseError> {
     let mut answer = Answer::new(alloc, row)?;
-    calls::make(alloc, row, &mut answer)?;
-    Ok(answer)
+    let is_made = calls::make(alloc, row, &mut answer);
+    answer.outcome()?;
+    if is_made && row.fits() {
+        Ok(answer)
+    } else {
+        Err(FORM)
+    }
 }

@@ -5,79 +5,74 @@
 //!   the text of that; each of the last two may be a refusal.
 
 use crate::notation::{Answer, Row};
-use mailparse::body::{BinaryBody, Body, EncodedBody, TextBody};
+use mailparse::body::Body;
 use mailparse::{MailParseError, ParsedContentType};
 use std::alloc::Global;
 
-/// Makes the call of a row, if it is one of these.
-pub fn make(alloc: Global, row: &Row, answer: &mut Answer) -> Result<bool, MailParseError> {
+/// Makes the call of a row, if it is this one.
+pub fn make(alloc: Global, row: &Row, answer: &mut Answer) -> bool {
     if row.call.as_str() != "body" {
-        return Ok(false);
+        return false;
     }
-    let encoding = owned(alloc, row.optional_text(0)?)?;
-    let mut ctype = ParsedContentType::default(alloc)?;
-    ctype.charset = String::from_str(alloc, row.text(1)?)?;
-    push_body(alloc, answer, &Body::new(row.bytes(2)?, &ctype, &encoding))?;
-    Ok(true)
+    match Label::of(alloc, row, 0) {
+        Ok(label) => push_body(alloc, answer, &label.body(row.bytes(2))),
+        Err(error) => answer.refusal(error),
+    }
+    true
 }
 
-/// The text, if there is one, as one of its own.
-pub fn owned(alloc: Global, text: Option<&str>) -> Result<Option<String>, MailParseError> {
-    match text {
-        Some(text) => Ok(Some(String::from_str(alloc, text)?)),
-        None => Ok(None),
+/// What headers say of a body.
+#[derive(Drop)]
+pub struct Label {
+    encoding: Option<String>,
+    ctype: ParsedContentType,
+}
+
+impl Label {
+    /// The encoding and the charset that two inputs from a place on write.
+    pub fn of(alloc: Global, row: &Row, at: usize) -> Result<Label, MailParseError> {
+        let mut ctype = ParsedContentType::default(alloc)?;
+        ctype.charset = String::from_str(alloc, row.text(at.saturating_add(1)))?;
+        let encoding = match row.optional_text(at) {
+            Some(text) => Some(String::from_str(alloc, text)?),
+            None => None,
+        };
+        Ok(Label { encoding, ctype })
+    }
+
+    /// The body with these bytes.
+    pub fn body<'b>(&'b self, raw: &'b [u8]) -> Body<'b> {
+        Body::new(raw, &self.ctype, &self.encoding)
     }
 }
 
 /// Writes a body.
-pub fn push_body(
-    alloc: Global,
-    answer: &mut Answer,
-    body: &Body<'_>,
-) -> Result<(), MailParseError> {
+pub fn push_body(alloc: Global, answer: &mut Answer, body: &Body<'_>) {
+    push_raw(answer, body);
     match body {
-        Body::Base64(body) => push_encoded(alloc, answer, "base64", body),
-        Body::QuotedPrintable(body) => push_encoded(alloc, answer, "quoted-printable", body),
-        Body::SevenBit(body) => push_text(alloc, answer, "7bit", body),
-        Body::EightBit(body) => push_text(alloc, answer, "8bit", body),
-        Body::Binary(body) => push_binary(alloc, answer, body),
+        Body::Base64(body) | Body::QuotedPrintable(body) => {
+            answer.bytes_or_refusal(body.get_decoded(alloc));
+            answer.text_or_refusal(body.get_decoded_as_string(alloc));
+        }
+        Body::SevenBit(body) | Body::EightBit(body) => {
+            answer.bytes(body.get_raw());
+            answer.text_or_refusal(body.get_as_string(alloc));
+        }
+        Body::Binary(body) => {
+            answer.bytes(body.get_raw());
+            answer.text_or_refusal(body.get_as_string(alloc));
+        }
     }
 }
 
-/// Writes an encoded body.
-fn push_encoded(
-    alloc: Global,
-    answer: &mut Answer,
-    kind: &str,
-    body: &EncodedBody<'_>,
-) -> Result<(), MailParseError> {
-    answer.word(kind)?;
-    answer.bytes(body.get_raw())?;
-    answer.bytes_or_refusal(body.get_decoded(alloc))?;
-    answer.text_or_refusal(body.get_decoded_as_string(alloc))
-}
-
-/// Writes a body of text that is not encoded.
-fn push_text(
-    alloc: Global,
-    answer: &mut Answer,
-    kind: &str,
-    body: &TextBody<'_>,
-) -> Result<(), MailParseError> {
-    answer.word(kind)?;
-    answer.bytes(body.get_raw())?;
-    answer.bytes(body.get_raw())?;
-    answer.text_or_refusal(body.get_as_string(alloc))
-}
-
-/// Writes a body of bytes that is not encoded.
-fn push_binary(
-    alloc: Global,
-    answer: &mut Answer,
-    body: &BinaryBody<'_>,
-) -> Result<(), MailParseError> {
-    answer.word("binary")?;
-    answer.bytes(body.get_raw())?;
-    answer.bytes(body.get_raw())?;
-    answer.text_or_refusal(body.get_as_string(alloc))
+/// Writes the kind of a body, and its bytes as they stand.
+pub fn push_raw(answer: &mut Answer, body: &Body<'_>) {
+    answer.word(match body {
+        Body::Base64(_) => "base64",
+        Body::QuotedPrintable(_) => "quoted-printable",
+        Body::SevenBit(_) => "7bit",
+        Body::EightBit(_) => "8bit",
+        Body::Binary(_) => "binary",
+    });
+    answer.bytes(body.get_raw());
 }

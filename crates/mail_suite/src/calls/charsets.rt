@@ -12,70 +12,68 @@
 
 use crate::notation::{Answer, Row};
 use mail_codec::charset::{Charset, decode_ascii, decode_latin1};
-use mailparse::MailParseError;
 use std::alloc::{AllocError, Global};
 
 /// Makes the call of a row, if it is one of these.
-pub fn make(alloc: Global, row: &Row, answer: &mut Answer) -> Result<bool, MailParseError> {
+pub fn make(alloc: Global, row: &Row, answer: &mut Answer) -> bool {
     match row.call.as_str() {
-        "charset_for_label" => find_charsets(row, answer)?,
-        "decode" | "decode_without_bom_handling" => decode(alloc, row, answer)?,
-        "utf_16" => decode_units(alloc, row, answer)?,
-        "decode_latin1" => answer.cow(&decode_latin1(alloc, row.bytes(0)?)?)?,
-        "decode_ascii" => answer.cow(&decode_ascii(alloc, row.bytes(0)?)?)?,
-        _ => return Ok(false),
+        "charset_for_label" => find_charsets(row, answer),
+        "decode" | "decode_without_bom_handling" => decode(alloc, row, answer),
+        "utf_16" => decode_units(alloc, row, answer),
+        "decode_latin1" => answer.made_cow(decode_latin1(alloc, row.bytes(0))),
+        "decode_ascii" => answer.made_cow(decode_ascii(alloc, row.bytes(0))),
+        _ => return false,
     }
-    Ok(true)
+    true
 }
 
 /// The charset of each label.
-fn find_charsets(row: &Row, answer: &mut Answer) -> Result<(), MailParseError> {
+fn find_charsets(row: &Row, answer: &mut Answer) {
     for at in 0..row.count() {
-        answer.word(name_of(Charset::for_label(row.bytes(at)?)))?;
-    }
-    Ok(())
-}
-
-/// The name of a charset.
-fn name_of(charset: Option<Charset>) -> &'static str {
-    match charset {
-        Some(Charset::Utf8) => "utf-8",
-        Some(Charset::Windows1252) => "windows-1252",
-        Some(Charset::Utf16Be) => "utf-16be",
-        Some(Charset::Utf16Le) => "utf-16le",
-        None => "none",
+        answer.word(match Charset::for_label(row.bytes(at)) {
+            Some(Charset::Utf8) => "utf-8",
+            Some(Charset::Windows1252) => "windows-1252",
+            Some(Charset::Utf16Be) => "utf-16be",
+            Some(Charset::Utf16Le) => "utf-16le",
+            None => "none",
+        });
     }
 }
 
 /// The text of bytes under a label.
-fn decode(alloc: Global, row: &Row, answer: &mut Answer) -> Result<(), MailParseError> {
-    let Some(charset) = Charset::for_label(row.bytes(0)?) else {
-        return Ok(answer.word("none")?);
+fn decode(alloc: Global, row: &Row, answer: &mut Answer) {
+    let Some(charset) = Charset::for_label(row.bytes(0)) else {
+        return answer.word("none");
     };
-    let bytes = row.bytes(1)?;
-    Ok(match row.call.as_str() {
-        "decode" => answer.made(charset.decode(alloc, bytes))?,
-        _ => answer.made(charset.decode_without_bom_handling(alloc, bytes))?,
-    })
+    answer.made(match row.call.as_str() {
+        "decode" => charset.decode(alloc, row.bytes(1)),
+        _ => charset.decode_without_bom_handling(alloc, row.bytes(1)),
+    });
 }
 
 /// The texts of units in both orders of bytes.
-fn decode_units(alloc: Global, row: &Row, answer: &mut Answer) -> Result<(), MailParseError> {
-    let big = Charset::Utf16Be.decode(alloc, row.bytes(0)?)?;
-    let little = Charset::Utf16Le.decode(alloc, row.bytes(1)?)?;
-    let plain_big = Charset::Utf16Be.decode_without_bom_handling(alloc, row.bytes(0)?)?;
-    let plain_little = Charset::Utf16Le.decode_without_bom_handling(alloc, row.bytes(1)?)?;
-    answer.text(big.as_str())?;
-    write_other(answer, little.as_str(), big.as_str())?;
-    write_other(answer, plain_big.as_str(), big.as_str())?;
-    Ok(write_other(answer, plain_little.as_str(), big.as_str())?)
+fn decode_units(alloc: Global, row: &Row, answer: &mut Answer) {
+    let (big, little) = (row.bytes(0), row.bytes(1));
+    answer.made(Charset::Utf16Be.decode(alloc, big));
+    let end = answer.len();
+    push_other(answer, end, Charset::Utf16Le.decode(alloc, little));
+    push_other(
+        answer,
+        end,
+        Charset::Utf16Be.decode_without_bom_handling(alloc, big),
+    );
+    push_other(
+        answer,
+        end,
+        Charset::Utf16Le.decode_without_bom_handling(alloc, little),
+    );
 }
 
-/// Adds a text that is not as it should be.
-fn write_other(answer: &mut Answer, text: &str, same: &str) -> Result<(), AllocError> {
-    if text == same {
-        Ok(())
-    } else {
-        answer.text(text)
+/// Adds a text unless it is the first one, which ends at this place.
+fn push_other(answer: &mut Answer, end: usize, text: Result<String, AllocError>) {
+    let start = answer.len();
+    answer.made(text);
+    if answer.repeats(0, end, start) {
+        answer.cut(start);
     }
 }

@@ -13,72 +13,68 @@ use std::alloc::{AllocError, Global};
 use std::borrow::CowStr;
 
 /// Makes the call of a row, if it is one of these.
-pub fn make(alloc: Global, row: &Row, answer: &mut Answer) -> Result<bool, MailParseError> {
-    match row.call.as_str() {
-        "error" => {
-            let error = error_of(alloc, row)?;
-            answer.made(format!(in alloc; "{error}"))?;
-            answer.made(format!(in alloc; "{error:?}"))?;
-            answer.source(&error)?;
-        }
-        "from" => {
-            let error = made_from(alloc, row)?;
-            answer.made(format!(in alloc; "{error:?}"))?;
-        }
-        "fault" => push_fault(alloc, row, answer)?,
-        _ => return Ok(false),
-    }
-    Ok(true)
+pub fn make(alloc: Global, row: &Row, answer: &mut Answer) -> bool {
+    let outcome = match row.call.as_str() {
+        "error" => push_error(alloc, row, answer),
+        "from" => push_made(alloc, row, answer),
+        "fault" => push_fault(alloc, row, answer),
+        _ => return false,
+    };
+    answer.end(outcome);
+    true
 }
 
-/// The error of a kind.
-fn error_of(alloc: Global, row: &Row) -> Result<MailParseError, MailParseError> {
-    match row.text(0)? {
-        "generic" => Ok(MailParseError::Generic("a \"text\"")),
-        "encoding" => Ok(MailParseError::EncodingError(CowStr::Borrowed("x"))),
-        "owned_encoding" => {
-            let text = String::from_str(alloc, "x")?;
-            Ok(MailParseError::EncodingError(CowStr::Owned(text)))
-        }
-        "memory" => Ok(MailParseError::Memory(AllocError)),
-        "quoted-printable" => Ok(MailParseError::QuotedPrintableDecodeError(QuotedPrintableFault)),
-        "base64" => Ok(MailParseError::Base64DecodeError(fault_of(row)?)),
-        _ => Err(FORM),
-    }
+fn push_error(alloc: Global, row: &Row, answer: &mut Answer) -> Result<(), MailParseError> {
+    let error = match row.text(0) {
+        "generic" => MailParseError::Generic("a \"text\""),
+        "encoding" => MailParseError::EncodingError(CowStr::Borrowed("x")),
+        "owned_encoding" => MailParseError::EncodingError(owned(alloc)?),
+        "memory" => MailParseError::Memory(AllocError),
+        "quoted-printable" => MailParseError::QuotedPrintableDecodeError(QuotedPrintableFault),
+        "base64" => MailParseError::Base64DecodeError(fault_of(row)),
+        _ => return Err(FORM),
+    };
+    answer.made(format!(in alloc; "{error}"));
+    answer.debug(&error);
+    Ok(())
+}
+
+/// Writes the error that is made of what a row names.
+fn push_made(alloc: Global, row: &Row, answer: &mut Answer) -> Result<(), MailParseError> {
+    let error = match row.text(0) {
+        "encoding" => MailParseError::from(CowStr::Borrowed("x")),
+        "owned_encoding" => MailParseError::from(owned(alloc)?),
+        "memory" => MailParseError::from(AllocError),
+        "quoted-printable" => MailParseError::from(QuotedPrintableFault),
+        "base64" => MailParseError::from(fault_of(row)),
+        _ => return Err(FORM),
+    };
+    answer.made(format!(in alloc; "{error:?}"));
+    Ok(())
+}
+
+/// A text of its own.
+fn owned(alloc: Global) -> Result<CowStr<'static>, AllocError> {
+    Ok(CowStr::Owned(String::from_str(alloc, "x")?))
 }
 
 /// The fault in Base64 at the group that a row names.
-fn fault_of(row: &Row) -> Result<Base64Fault, MailParseError> {
-    Ok(Base64Fault {
-        group: row.number(1)?,
-    })
-}
-
-/// The error that is made of what a row names.
-fn made_from(alloc: Global, row: &Row) -> Result<MailParseError, MailParseError> {
-    match row.text(0)? {
-        "encoding" => Ok(MailParseError::from(CowStr::Borrowed("x"))),
-        "owned_encoding" => {
-            let text = String::from_str(alloc, "x")?;
-            Ok(MailParseError::from(CowStr::Owned(text)))
-        }
-        "memory" => Ok(MailParseError::from(AllocError)),
-        "quoted-printable" => Ok(MailParseError::from(QuotedPrintableFault)),
-        "base64" => Ok(MailParseError::from(fault_of(row)?)),
-        _ => Err(FORM),
+fn fault_of(row: &Row) -> Base64Fault {
+    Base64Fault {
+        group: row.number(1),
     }
 }
 
 fn push_fault(alloc: Global, row: &Row, answer: &mut Answer) -> Result<(), MailParseError> {
-    match row.text(0)? {
+    match row.text(0) {
         "base64" => {
-            let fault = fault_of(row)?;
-            answer.made(format!(in alloc; "{fault}"))?;
-            answer.made(format!(in alloc; "{fault:?}"))?;
+            let fault = fault_of(row);
+            answer.made(format!(in alloc; "{fault}"));
+            answer.made(format!(in alloc; "{fault:?}"));
         }
         "quoted-printable" => {
-            answer.made(format!(in alloc; "{QuotedPrintableFault}"))?;
-            answer.made(format!(in alloc; "{QuotedPrintableFault:?}"))?;
+            answer.made(format!(in alloc; "{QuotedPrintableFault}"));
+            answer.made(format!(in alloc; "{QuotedPrintableFault:?}"));
         }
         _ => return Err(FORM),
     }

@@ -11,110 +11,93 @@
 
 use crate::notation::{Answer, Row};
 use mailparse::{MailHeader, MailParseError, parse_header, parse_headers};
-use std::alloc::{AllocError, Global};
+use std::alloc::Global;
 
 /// Makes the call of a row, if it is one of these.
-pub fn make(alloc: Global, row: &Row, answer: &mut Answer) -> Result<bool, MailParseError> {
-    match row.call.as_str() {
-        "parse_header" => push_front(answer, row.bytes(0)?)?,
-        "parse_headers" => push_block(alloc, answer, row.bytes(0)?)?,
-        "different_headers" => push_different(alloc, answer, row.bytes(0)?)?,
+pub fn make(alloc: Global, row: &Row, answer: &mut Answer) -> bool {
+    let outcome = match row.call.as_str() {
+        "parse_header" => push_front(row, answer),
+        "parse_headers" | "different_headers" => push_block(alloc, row, answer),
         "get_key" | "get_key_ref" | "header" | "strict_value" | "debug_header" => {
-            let (header, _) = parse_header(row.bytes(0)?)?;
-            push_texts(alloc, answer, row.call.as_str(), &header)?;
+            push_texts(alloc, row, answer)
         }
-        _ => return Ok(false),
-    }
-    Ok(true)
+        _ => return false,
+    };
+    answer.end(outcome);
+    true
 }
 
-fn push_front(answer: &mut Answer, raw: &[u8]) -> Result<(), MailParseError> {
-    match parse_header(raw) {
-        Ok((header, length)) => {
-            push_field(answer, &header)?;
-            Ok(answer.number(length)?)
-        }
-        Err(error) => answer.refusal(error),
-    }
+fn push_front(row: &Row, answer: &mut Answer) -> Result<(), MailParseError> {
+    let (header, length) = parse_header(row.bytes(0))?;
+    push_field(answer, &header);
+    answer.number(length);
+    Ok(())
 }
 
 /// Writes KEY and VALUE, the bytes of a header.
-pub fn push_field(answer: &mut Answer, header: &MailHeader<'_>) -> Result<(), AllocError> {
-    answer.bytes(header.get_key_raw())?;
-    answer.bytes(header.get_value_raw())
+pub fn push_field(answer: &mut Answer, header: &MailHeader<'_>) {
+    answer.bytes(header.get_key_raw());
+    answer.bytes(header.get_value_raw());
 }
 
-fn push_block(alloc: Global, answer: &mut Answer, raw: &[u8]) -> Result<(), MailParseError> {
-    match parse_headers(alloc, raw) {
-        Ok((headers, end)) => {
-            answer.number(end)?;
-            Ok(push_fields(answer, headers.as_slice())?)
-        }
-        Err(error) => answer.refusal(error),
+fn push_block(alloc: Global, row: &Row, answer: &mut Answer) -> Result<(), MailParseError> {
+    let (headers, end) = parse_headers(alloc, row.bytes(0))?;
+    answer.number(end);
+    match row.call.as_str() {
+        "parse_headers" => push_fields(answer, headers.as_slice()),
+        _ => push_different(answer, headers.as_slice()),
     }
+    Ok(())
 }
 
 /// Writes KEY and VALUE of each header.
-fn push_fields(answer: &mut Answer, headers: &[MailHeader<'_>]) -> Result<(), AllocError> {
+fn push_fields(answer: &mut Answer, headers: &[MailHeader<'_>]) {
     for header in headers {
-        push_field(answer, header)?;
+        push_field(answer, header);
     }
-    Ok(())
 }
 
-fn push_different(alloc: Global, answer: &mut Answer, raw: &[u8]) -> Result<(), MailParseError> {
-    let (headers, end) = parse_headers(alloc, raw)?;
-    answer.number(end)?;
-    answer.number(headers.len())?;
-    if let Some(header) = headers.first() {
-        push_field(answer, header)?;
+/// Writes how many headers there are, and each that differs from the one before it.
+fn push_different(answer: &mut Answer, headers: &[MailHeader<'_>]) {
+    answer.number(headers.len());
+    push_fields(answer, headers.get(..1).unwrap_or(&[]));
+    for pair in headers.windows(2) {
+        push_second(answer, pair);
     }
-    for pair in headers.as_slice().windows(2) {
-        push_second(answer, pair)?;
-    }
-    Ok(())
 }
 
 /// Writes the second of two headers where its bytes are not those of the first.
-fn push_second(answer: &mut Answer, pair: &[MailHeader<'_>]) -> Result<(), MailParseError> {
+fn push_second(answer: &mut Answer, pair: &[MailHeader<'_>]) {
     if let [before, header] = pair {
         let is_same = before.get_key_raw() == header.get_key_raw()
             && before.get_value_raw() == header.get_value_raw();
         if !is_same {
-            push_field(answer, header)?;
+            push_field(answer, header);
+        }
+    }
+}
+
+/// Writes what a call says of a header.
+fn push_texts(alloc: Global, row: &Row, answer: &mut Answer) -> Result<(), MailParseError> {
+    let (header, _) = parse_header(row.bytes(0))?;
+    match row.call.as_str() {
+        "get_key" => answer.text_or_refusal(header.get_key(alloc)),
+        "get_key_ref" => answer.cow(&header.get_key_ref(alloc)?),
+        "strict_value" => push_strict(answer, header.get_value_utf8(alloc)),
+        "debug_header" => answer.made(format!(in alloc; "{header:?}")),
+        _ => {
+            answer.text_or_refusal(header.get_key(alloc));
+            answer.text_or_refusal(header.get_value(alloc));
+            answer.text_or_refusal(header.get_value_utf8(alloc));
         }
     }
     Ok(())
 }
 
-/// Writes what a call says of a header.
-fn push_texts(
-    alloc: Global,
-    answer: &mut Answer,
-    call: &str,
-    header: &MailHeader<'_>,
-) -> Result<(), MailParseError> {
-    match call {
-        "get_key" => answer.text_or_refusal(header.get_key(alloc)),
-        "get_key_ref" => Ok(answer.cow(&header.get_key_ref(alloc)?)?),
-        "strict_value" => push_strict(answer, header.get_value_utf8(alloc)),
-        "debug_header" => Ok(answer.made(format!(in alloc; "{header:?}"))?),
-        _ => {
-            answer.text_or_refusal(header.get_key(alloc))?;
-            answer.text_or_refusal(header.get_value(alloc))?;
-            answer.text_or_refusal(header.get_value_utf8(alloc))
-        }
-    }
-}
-
 /// Writes a text, or the text that the refusal holds.
-fn push_strict(
-    answer: &mut Answer,
-    outcome: Result<String, MailParseError>,
-) -> Result<(), MailParseError> {
+fn push_strict(answer: &mut Answer, outcome: Result<String, MailParseError>) {
     match outcome {
-        Ok(text) => Ok(answer.text(text.as_str())?),
-        Err(MailParseError::EncodingError(text)) => Ok(answer.error(text.as_str())?),
-        Err(error) => Err(error),
+        Err(MailParseError::EncodingError(text)) => answer.error(text.as_str()),
+        outcome => answer.text_or_refusal(outcome),
     }
 }

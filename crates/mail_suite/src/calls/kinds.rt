@@ -14,73 +14,72 @@
 //!   last id, which is taken off the list, whether both are equal then, and the ids of both.
 //! - `equal_ids ID ID => true`, or `false`: whether two lists of one id are equal.
 
-use crate::calls::bodies::owned;
+use crate::calls::bodies::Label;
 use crate::calls::parameters::push_disposition;
-use crate::notation::{Answer, FORM, Row};
+use crate::notation::{Answer, Row};
 use mailparse::body::Body;
 use mailparse::{
     DispositionType, MailParseError, MessageIdList, ParsedContentDisposition, ParsedContentType,
     parse_content_disposition, parse_content_type,
 };
-use std::alloc::{AllocError, Global};
+use std::alloc::Global;
 
 /// Makes the call of a row, if it is one of these.
-pub fn make(alloc: Global, row: &Row, answer: &mut Answer) -> Result<bool, MailParseError> {
-    match row.call.as_str() {
-        "debug_content_type" => {
-            let found = parse_content_type(alloc, row.text(0)?)?;
-            answer.made(format!(in alloc; "{found:?}"))?;
+pub fn make(alloc: Global, row: &Row, answer: &mut Answer) -> bool {
+    let outcome = match row.call.as_str() {
+        "debug_content_type" | "default_content_type" => show_type(alloc, row, answer),
+        "debug_content_disposition" | "debug_default_disposition" => {
+            show_disposition(alloc, row, answer)
         }
-        "debug_content_disposition" => {
-            let found = parse_content_disposition(alloc, row.text(0)?)?;
-            answer.made(format!(in alloc; "{found:?}"))?;
-        }
-        "get_content_type" => push_type(alloc, row, answer)?,
-        "equal_dispositions" => push_equal(alloc, row, answer)?,
-        "show_ids" => push_shown(alloc, row, answer)?,
-        "copy_ids" => push_copied(alloc, row, answer)?,
-        "equal_ids" => {
-            let first = list_of(alloc, row, 0, 1)?;
-            answer.truth(first == list_of(alloc, row, 1, 2)?)?;
-        }
-        call => return push_default(alloc, call, answer),
-    }
-    Ok(true)
+        "default_disposition" => push_default(alloc, answer),
+        "get_content_type" => push_type(alloc, row, answer),
+        "equal_dispositions" => push_equal(alloc, row, answer),
+        "show_ids" => show_ids(alloc, row, answer),
+        "copy_ids" => copy_ids(alloc, row, answer),
+        "equal_ids" => compare_ids(alloc, row, answer),
+        _ => return false,
+    };
+    answer.end(outcome);
+    true
 }
 
-/// Writes a default value, if the call asks for one.
-fn push_default(alloc: Global, call: &str, answer: &mut Answer) -> Result<bool, MailParseError> {
-    match call {
-        "default_content_type" => {
-            let found = ParsedContentType::default(alloc)?;
-            answer.text(found.mimetype.as_str())?;
-            answer.text(found.charset.as_str())?;
-            answer.number(found.params.len())?;
-            answer.made(format!(in alloc; "{found:?}"))?;
-        }
-        "default_disposition" => {
-            let found = ParsedContentDisposition::default(alloc);
-            push_disposition(answer, &found)?;
-            answer.truth(found.disposition.clone(alloc)? == found.disposition)?;
-            answer.truth(found.disposition == DispositionType::default())?;
-        }
-        "debug_default_disposition" => {
-            let found = ParsedContentDisposition::default(alloc);
-            answer.made(format!(in alloc; "{found:?}"))?;
-        }
-        _ => return Ok(false),
+fn show_type(alloc: Global, row: &Row, answer: &mut Answer) -> Result<(), MailParseError> {
+    let found = match row.call.as_str() {
+        "debug_content_type" => parse_content_type(alloc, row.text(0))?,
+        _ => ParsedContentType::default(alloc)?,
+    };
+    if row.call.as_str() == "default_content_type" {
+        answer.text(found.mimetype.as_str());
+        answer.text(found.charset.as_str());
+        answer.number(found.params.len());
     }
-    Ok(true)
+    answer.made(format!(in alloc; "{found:?}"));
+    Ok(())
+}
+
+fn show_disposition(alloc: Global, row: &Row, answer: &mut Answer) -> Result<(), MailParseError> {
+    let found = match row.call.as_str() {
+        "debug_content_disposition" => parse_content_disposition(alloc, row.text(0))?,
+        _ => ParsedContentDisposition::default(alloc),
+    };
+    answer.made(format!(in alloc; "{found:?}"));
+    Ok(())
+}
+
+fn push_default(alloc: Global, answer: &mut Answer) -> Result<(), MailParseError> {
+    let found = ParsedContentDisposition::default(alloc);
+    push_disposition(answer, &found);
+    answer.truth(found.disposition.clone(alloc)? == found.disposition);
+    answer.truth(found.disposition == DispositionType::default());
+    Ok(())
 }
 
 fn push_type(alloc: Global, row: &Row, answer: &mut Answer) -> Result<(), MailParseError> {
-    let mut ctype = ParsedContentType::default(alloc)?;
-    ctype.charset = String::from_str(alloc, row.text(1)?)?;
-    let encoding = owned(alloc, row.optional_text(0)?)?;
-    let body = Body::new(row.bytes(2)?, &ctype, &encoding);
-    let found = type_of(&body);
-    answer.text(found.mimetype.as_str())?;
-    Ok(answer.text(found.charset.as_str())?)
+    let label = Label::of(alloc, row, 0)?;
+    let found = type_of(&label.body(row.bytes(2)));
+    answer.text(found.mimetype.as_str());
+    answer.text(found.charset.as_str());
+    Ok(())
 }
 
 /// The type that a body was made with.
@@ -93,10 +92,11 @@ fn type_of<'a>(body: &Body<'a>) -> &'a ParsedContentType {
 }
 
 fn push_equal(alloc: Global, row: &Row, answer: &mut Answer) -> Result<(), MailParseError> {
-    let first = parse_content_disposition(alloc, row.text(0)?)?.disposition;
-    let second = parse_content_disposition(alloc, row.text(1)?)?.disposition;
-    answer.truth(first == second)?;
-    Ok(answer.truth(first.clone(alloc)? == second)?)
+    let first = parse_content_disposition(alloc, row.text(0))?;
+    let second = parse_content_disposition(alloc, row.text(1))?;
+    answer.truth(first.disposition == second.disposition);
+    answer.truth(first.disposition.clone(alloc)? == second.disposition);
+    Ok(())
 }
 
 /// The list of the ids that stand from one input up to another.
@@ -108,32 +108,32 @@ fn list_of(
 ) -> Result<MessageIdList, MailParseError> {
     let mut list = MessageIdList(Vec::new(alloc));
     for at in from..to {
-        list.push(String::from_str(alloc, row.text(at)?)?)?;
+        list.push(String::from_str(alloc, row.text(at))?)?;
     }
     Ok(list)
 }
 
-fn push_shown(alloc: Global, row: &Row, answer: &mut Answer) -> Result<(), MailParseError> {
+fn show_ids(alloc: Global, row: &Row, answer: &mut Answer) -> Result<(), MailParseError> {
     let list = list_of(alloc, row, 0, row.count())?;
-    answer.made(format!(in alloc; "{list}"))?;
-    Ok(answer.made(format!(in alloc; "{list:?}"))?)
+    answer.made(format!(in alloc; "{list}"));
+    answer.made(format!(in alloc; "{list:?}"));
+    Ok(())
 }
 
-fn push_copied(alloc: Global, row: &Row, answer: &mut Answer) -> Result<(), MailParseError> {
+fn copy_ids(alloc: Global, row: &Row, answer: &mut Answer) -> Result<(), MailParseError> {
     let mut list = list_of(alloc, row, 0, row.count())?;
     let copy = list.clone(alloc)?;
-    answer.truth(copy == list)?;
-    let last = list.pop().ok_or(FORM)?;
-    answer.text(last.as_str())?;
-    answer.truth(copy == list)?;
-    push_ids(answer, &list)?;
-    answer.word("copy")?;
-    Ok(push_ids(answer, &copy)?)
+    answer.truth(copy == list);
+    answer.optional_text(list.pop().as_deref());
+    answer.truth(copy == list);
+    answer.texts(list.0.as_slice());
+    answer.word("copy");
+    answer.texts(copy.0.as_slice());
+    Ok(())
 }
 
-fn push_ids(answer: &mut Answer, list: &MessageIdList) -> Result<(), AllocError> {
-    for id in list.iter() {
-        answer.text(id.as_str())?;
-    }
+fn compare_ids(alloc: Global, row: &Row, answer: &mut Answer) -> Result<(), MailParseError> {
+    let first = list_of(alloc, row, 0, 1)?;
+    answer.truth(first == list_of(alloc, row, 1, 2)?);
     Ok(())
 }

@@ -15,25 +15,17 @@ use mailparse::{MAX_LEVELS, MailParseError, ParsedMail, parse_mail, parse_mail_l
 use std::alloc::Global;
 
 /// Makes the call of a row, if it is one of these.
-pub fn make(alloc: Global, row: &Row, answer: &mut Answer) -> Result<bool, MailParseError> {
+pub fn make(alloc: Global, row: &Row, answer: &mut Answer) -> bool {
     match row.call.as_str() {
-        "max_levels" => answer.number(usize::from(MAX_LEVELS))?,
+        "max_levels" => answer.number(usize::from(MAX_LEVELS)),
         "parse_mail_limited" => {
-            let Ok(levels) = u8::try_from(row.number(0)?) else {
-                return Err(FORM);
-            };
-            push_count(answer, count_under(alloc, row.bytes(1)?, levels))?;
+            answer.number_or_refusal(count_under(alloc, row.bytes(1), row.levels(0)));
         }
-        "levels" => {
-            let levels = least_levels(alloc, row.bytes(0)?)?;
-            answer.number(usize::from(levels))?;
-            push_count(answer, count_under(alloc, row.bytes(0)?, levels))?;
-            push_count(answer, count_of(alloc, row.bytes(0)?))?;
-        }
-        "truncated" => push_truncated(alloc, answer, row.bytes(0)?)?,
-        _ => return Ok(false),
+        "levels" => push_levels(alloc, answer, row.bytes(0)),
+        "truncated" => push_truncated(alloc, answer, row.bytes(0)),
+        _ => return false,
     }
-    Ok(true)
+    true
 }
 
 /// How many parts a mail has, parts of parts among them, under a limit.
@@ -51,12 +43,13 @@ fn count_of(alloc: Global, raw: &[u8]) -> Result<usize, MailParseError> {
     Ok(mail.parts(alloc)?.count().saturating_sub(1))
 }
 
-fn push_count(
-    answer: &mut Answer,
-    found: Result<usize, MailParseError>,
-) -> Result<(), MailParseError> {
-    match found {
-        Ok(count) => Ok(answer.number(count)?),
+fn push_levels(alloc: Global, answer: &mut Answer, raw: &[u8]) {
+    match least_levels(alloc, raw) {
+        Ok(levels) => {
+            answer.number(usize::from(levels));
+            answer.number_or_refusal(count_under(alloc, raw, levels));
+            answer.number_or_refusal(count_of(alloc, raw));
+        }
         Err(error) => answer.refusal(error),
     }
 }
@@ -80,31 +73,30 @@ fn is_too_deep(found: Result<usize, MailParseError>) -> Result<bool, MailParseEr
     }
 }
 
-fn push_truncated(alloc: Global, answer: &mut Answer, raw: &[u8]) -> Result<(), MailParseError> {
+fn push_truncated(alloc: Global, answer: &mut Answer, raw: &[u8]) {
     let mut count = 0usize;
     for length in 0..=raw.len() {
-        let front = raw.get(..length).ok_or(FORM)?;
-        if is_read(alloc, answer, front)? {
+        if is_read(alloc, answer, raw.get(..length).unwrap_or(raw)) {
             count = count.saturating_add(1);
         }
     }
-    Ok(answer.number(count)?)
+    answer.number(count);
 }
 
 /// Whether the front of a mail is read and holds no more than its bytes; otherwise writes why not.
-fn is_read(alloc: Global, answer: &mut Answer, front: &[u8]) -> Result<bool, MailParseError> {
+fn is_read(alloc: Global, answer: &mut Answer, front: &[u8]) -> bool {
     match outcome(alloc, front) {
-        Ok(true) => return Ok(true),
+        Ok(true) => return true,
         Ok(false) => {
-            answer.number(front.len())?;
-            answer.word("more")?;
+            answer.number(front.len());
+            answer.word("more");
         }
         Err(error) => {
-            answer.number(front.len())?;
-            answer.refusal(error)?;
+            answer.number(front.len());
+            answer.refusal(error);
         }
     }
-    Ok(false)
+    false
 }
 
 /// Whether the front of a mail holds no more than its bytes.

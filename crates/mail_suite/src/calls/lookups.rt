@@ -13,86 +13,72 @@ use mailparse::{MailHeader, MailHeaderMap, MailParseError, parse_headers, parse_
 use std::alloc::{AllocError, Global};
 
 /// Makes the call of a row, if it is one of these.
-pub fn make(alloc: Global, row: &Row, answer: &mut Answer) -> Result<bool, MailParseError> {
-    match row.call.as_str() {
+pub fn make(alloc: Global, row: &Row, answer: &mut Answer) -> bool {
+    let outcome = match row.call.as_str() {
         "get_first_header"
         | "get_all_headers"
         | "get_first_value"
         | "get_all_values"
-        | "count_headers" => look_up(alloc, row, answer)?,
-        "names_of_each" => push_names_of_each(alloc, answer, row.bytes(0)?, row.text(1)?)?,
-        _ => return Ok(false),
-    }
-    Ok(true)
+        | "count_headers" => look_up(alloc, row, answer),
+        "names_of_each" => push_names_of_each(alloc, row, answer),
+        _ => return false,
+    };
+    answer.end(outcome);
+    true
 }
 
 fn look_up(alloc: Global, row: &Row, answer: &mut Answer) -> Result<(), MailParseError> {
-    let mail = parse_mail(alloc, row.bytes(0)?)?;
-    let (call, name) = (row.call.as_str(), row.text(1)?);
-    answer.word("list")?;
-    push_found(alloc, answer, &mail.headers, call, name)?;
-    answer.word("block")?;
-    push_found(alloc, answer, &mail.get_headers(), call, name)
+    let mail = parse_mail(alloc, row.bytes(0))?;
+    answer.word("list");
+    push_found(alloc, row, answer, &mail.headers);
+    answer.word("block");
+    push_found(alloc, row, answer, &mail.get_headers());
+    Ok(())
 }
 
 /// Writes what a call finds by a name.
-fn push_found<M: MailHeaderMap>(
-    alloc: Global,
-    answer: &mut Answer,
-    map: &M,
-    call: &str,
-    name: &str,
-) -> Result<(), MailParseError> {
+fn push_found<M: MailHeaderMap>(alloc: Global, row: &Row, answer: &mut Answer, map: &M) {
+    let (call, name) = (row.call.as_str(), row.text(1));
     match call {
-        "get_first_header" => Ok(push_header(answer, map.get_first_header(name))?),
-        "get_all_headers" => Ok(push_headers(answer, &map.get_all_headers(alloc, name)?)?),
-        "get_first_value" => Ok(push_value(answer, map.get_first_value(alloc, name)?)?),
-        "get_all_values" => Ok(push_values(answer, &map.get_all_values(alloc, name)?)?),
-        _ => Ok(answer.number(map.get_all_headers(alloc, name)?.len())?),
+        "get_first_header" => push_header(answer, map.get_first_header(name)),
+        "get_first_value" => answer.optional_or_refusal(map.get_first_value(alloc, name)),
+        "get_all_values" => answer.texts_or_refusal(map.get_all_values(alloc, name)),
+        _ => push_headers(answer, call, map.get_all_headers(alloc, name)),
     }
 }
 
-fn push_header(answer: &mut Answer, found: Option<&MailHeader<'_>>) -> Result<(), AllocError> {
+fn push_header(answer: &mut Answer, found: Option<&MailHeader<'_>>) {
     match found {
         Some(header) => answer.bytes(header.get_value_raw()),
         None => answer.word("none"),
     }
 }
 
-fn push_headers(answer: &mut Answer, found: &Vec<&MailHeader<'_>>) -> Result<(), AllocError> {
-    for header in found {
-        answer.bytes(header.get_value_raw())?;
-    }
-    Ok(())
-}
-
-fn push_value(answer: &mut Answer, found: Option<String>) -> Result<(), AllocError> {
-    match found {
-        Some(text) => answer.text(text.as_str()),
-        None => answer.word("none"),
-    }
-}
-
-fn push_values(answer: &mut Answer, found: &Vec<String>) -> Result<(), AllocError> {
-    for text in found {
-        answer.text(text.as_str())?;
-    }
-    Ok(())
-}
-
-fn push_names_of_each(
-    alloc: Global,
+/// Writes the values of headers, or how many there are.
+fn push_headers(
     answer: &mut Answer,
-    bytes: &[u8],
-    characters: &str,
-) -> Result<(), MailParseError> {
-    let mut names = String::new(alloc);
-    for character in characters.chars() {
-        names.push('K')?;
-        names.push(character)?;
-        names.push(BETWEEN)?;
+    call: &str,
+    found: Result<Vec<&MailHeader<'_>>, MailParseError>,
+) {
+    match found {
+        Ok(headers) if call == "count_headers" => answer.number(headers.len()),
+        Ok(headers) => push_values(answer, headers.as_slice()),
+        Err(error) => answer.refusal(error),
     }
-    for byte in bytes {
+}
+
+fn push_values(answer: &mut Answer, headers: &[&MailHeader<'_>]) {
+    for header in headers {
+        answer.bytes(header.get_value_raw());
+    }
+}
+
+fn push_names_of_each(alloc: Global, row: &Row, answer: &mut Answer) -> Result<(), MailParseError> {
+    let mut names = String::new(alloc);
+    for character in row.text(1).chars() {
+        write!(names, "K{character}{BETWEEN}")?;
+    }
+    for byte in row.bytes(0) {
         push_names(alloc, answer, &[b'k', *byte, b':', b'v'], names.as_str())?;
     }
     Ok(())
@@ -113,7 +99,8 @@ fn push_names(
     for name in names.split(BETWEEN) {
         push_if_named(&mut found, &headers, name)?;
     }
-    Ok(answer.text(found.as_str())?)
+    answer.text(found.as_str());
+    Ok(())
 }
 
 fn push_if_named(

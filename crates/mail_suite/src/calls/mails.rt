@@ -13,24 +13,19 @@ use mailparse::{MailHeader, MailParseError, ParsedMail, parse_mail};
 use std::alloc::Global;
 
 /// Makes the call of a row, if it is one of these.
-pub fn make(alloc: Global, row: &Row, answer: &mut Answer) -> Result<bool, MailParseError> {
-    match row.call.as_str() {
-        "mail" => match parse_mail(alloc, row.bytes(0)?) {
-            Ok(mail) => push_mail(alloc, answer, &mail)?,
-            Err(error) => answer.refusal(error)?,
-        },
-        "tables" => write_mail(alloc, answer, row.bytes(0)?, all_tables(), all_tables())?,
-        _ => return Ok(false),
-    }
-    Ok(true)
+pub fn make(alloc: Global, row: &Row, answer: &mut Answer) -> bool {
+    let outcome = match row.call.as_str() {
+        "mail" => push_mail(alloc, answer, row.bytes(0)),
+        "tables" => write_mail(alloc, answer, row.bytes(0), all_tables(), all_tables()),
+        _ => return false,
+    };
+    answer.end(outcome);
+    true
 }
 
 /// Writes a mail and its parts, each before its own parts.
-pub fn push_mail(
-    alloc: Global,
-    answer: &mut Answer,
-    mail: &ParsedMail<'_>,
-) -> Result<(), MailParseError> {
+fn push_mail(alloc: Global, answer: &mut Answer, raw: &[u8]) -> Result<(), MailParseError> {
+    let mail = parse_mail(alloc, raw)?;
     for part in mail.parts(alloc)? {
         push_part(alloc, answer, part)?;
     }
@@ -43,24 +38,20 @@ fn push_part(
     answer: &mut Answer,
     part: &ParsedMail<'_>,
 ) -> Result<(), MailParseError> {
-    answer.word("part")?;
-    answer.number(part.subparts.len())?;
-    answer.text(part.ctype.mimetype.as_str())?;
-    answer.text(part.ctype.charset.as_str())?;
+    answer.word("part");
+    answer.number(part.subparts.len());
+    answer.text(part.ctype.mimetype.as_str());
+    answer.text(part.ctype.charset.as_str());
     for header in &part.headers {
-        push_header(alloc, answer, header)?;
+        push_header(alloc, answer, header);
     }
-    let body = part.get_body_encoded(alloc)?;
-    push_body(alloc, answer, &body)
+    push_body(alloc, answer, &part.get_body_encoded(alloc)?);
+    Ok(())
 }
 
 /// Writes a header.
-fn push_header(
-    alloc: Global,
-    answer: &mut Answer,
-    header: &MailHeader<'_>,
-) -> Result<(), MailParseError> {
-    answer.word("header")?;
-    answer.text_or_refusal(header.get_key(alloc))?;
-    answer.text_or_refusal(header.get_value(alloc))
+fn push_header(alloc: Global, answer: &mut Answer, header: &MailHeader<'_>) {
+    answer.word("header");
+    answer.text_or_refusal(header.get_key(alloc));
+    answer.text_or_refusal(header.get_value(alloc));
 }

@@ -13,80 +13,85 @@ use mailparse::{
     DispositionType, MailParseError, ParsedContentDisposition, ParsedContentType,
     parse_content_disposition, parse_content_type,
 };
-use std::alloc::{AllocError, Global};
+use std::alloc::Global;
 use std::collections::BTreeMap;
 
 /// Makes the call of a row, if it is one of these.
-pub fn make(alloc: Global, row: &Row, answer: &mut Answer) -> Result<bool, MailParseError> {
-    match row.call.as_str() {
-        "parse_content_type" => {
-            let ctype = parse_content_type(alloc, row.text(0)?)?;
-            push_type(answer, &ctype)?;
-        }
+pub fn make(alloc: Global, row: &Row, answer: &mut Answer) -> bool {
+    let outcome = match row.call.as_str() {
+        "parse_content_type" => push_parsed_type(answer, parse_content_type(alloc, row.text(0))),
         "parse_content_disposition" => {
-            let disposition = parse_content_disposition(alloc, row.text(0)?)?;
-            push_disposition(answer, &disposition)?;
+            push_parsed_disposition(answer, parse_content_disposition(alloc, row.text(0)))
         }
-        "parse_many_parameters" => push_many(alloc, answer, row.number(0)?)?,
-        _ => return Ok(false),
-    }
-    Ok(true)
+        "parse_many_parameters" => push_many(alloc, answer, row.number(0)),
+        _ => return false,
+    };
+    answer.end(outcome);
+    true
 }
 
-/// Writes a type.
-pub fn push_type(answer: &mut Answer, ctype: &ParsedContentType) -> Result<(), AllocError> {
-    answer.text(ctype.mimetype.as_str())?;
-    answer.text(ctype.charset.as_str())?;
-    push_params(answer, &ctype.params)
-}
-
-/// Writes a disposition.
-pub fn push_disposition(
+/// Writes the type that a call returned.
+pub fn push_parsed_type(
     answer: &mut Answer,
-    found: &ParsedContentDisposition,
-) -> Result<(), AllocError> {
-    match &found.disposition {
-        DispositionType::Inline => answer.word("inline")?,
-        DispositionType::Attachment => answer.word("attachment")?,
-        DispositionType::FormData => answer.word("form-data")?,
-        DispositionType::Extension(name) => {
-            answer.word("extension")?;
-            answer.text(name.as_str())?;
-        }
-    }
-    push_params(answer, &found.params)
-}
-
-/// Writes parameters.
-pub fn push_params(
-    answer: &mut Answer,
-    params: &BTreeMap<String, String>,
-) -> Result<(), AllocError> {
-    for (name, value) in params {
-        push_pair(answer, name.as_str(), value.as_str())?;
-    }
+    found: Result<ParsedContentType, MailParseError>,
+) -> Result<(), MailParseError> {
+    push_type(answer, &found?);
     Ok(())
 }
 
-/// Writes a parameter.
-fn push_pair(answer: &mut Answer, name: &str, value: &str) -> Result<(), AllocError> {
-    answer.text(name)?;
-    answer.text(value)
+/// Writes a type.
+pub fn push_type(answer: &mut Answer, ctype: &ParsedContentType) {
+    answer.text(ctype.mimetype.as_str());
+    answer.text(ctype.charset.as_str());
+    push_params(answer, &ctype.params);
 }
 
-/// Writes how many parameters a type has that was made with so many, and the last of them.
-fn push_many(alloc: Global, answer: &mut Answer, count: usize) -> Result<(), MailParseError> {
+/// Writes the disposition that a call returned.
+pub fn push_parsed_disposition(
+    answer: &mut Answer,
+    found: Result<ParsedContentDisposition, MailParseError>,
+) -> Result<(), MailParseError> {
+    push_disposition(answer, &found?);
+    Ok(())
+}
+
+/// Writes a disposition.
+pub fn push_disposition(answer: &mut Answer, found: &ParsedContentDisposition) {
+    match &found.disposition {
+        DispositionType::Inline => answer.word("inline"),
+        DispositionType::Attachment => answer.word("attachment"),
+        DispositionType::FormData => answer.word("form-data"),
+        DispositionType::Extension(name) => {
+            answer.word("extension");
+            answer.text(name.as_str());
+        }
+    }
+    push_params(answer, &found.params);
+}
+
+/// Writes parameters.
+fn push_params(answer: &mut Answer, params: &BTreeMap<String, String>) {
+    for (name, value) in params {
+        answer.text(name.as_str());
+        answer.text(value.as_str());
+    }
+}
+
+/// A type with so many parameters.
+fn many_parameters(alloc: Global, count: usize) -> Result<ParsedContentType, MailParseError> {
     let mut text = String::from_str(alloc, "x")?;
     for number in 0..count {
         write!(text, "; n{number}=v{number}")?;
     }
-    let found = parse_content_type(alloc, text.as_str())?;
-    answer.number(found.params.len())?;
+    parse_content_type(alloc, text.as_str())
+}
+
+/// Writes how many parameters a type has that was made with so many, and the last of them.
+fn push_many(alloc: Global, answer: &mut Answer, count: usize) -> Result<(), MailParseError> {
+    let found = many_parameters(alloc, count)?;
+    answer.number(found.params.len());
     let name = format!(in alloc; "n{}", count.saturating_sub(1))?;
-    answer.text(name.as_str())?;
-    let value = found.params.get(name.as_str());
-    match value {
-        Some(value) => Ok(answer.text(value.as_str())?),
-        None => Ok(answer.word("none")?),
-    }
+    answer.text(name.as_str());
+    answer.optional_text(found.params.get(name.as_str()).map(|value| value.as_str()));
+    Ok(())
 }

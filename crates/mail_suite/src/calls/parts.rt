@@ -17,47 +17,35 @@
 //!   when the charset of the type was set.
 
 use crate::calls::headers::push_field;
-use crate::calls::parameters::push_disposition;
+use crate::calls::parameters::push_parsed_disposition;
 use crate::notation::{Answer, Row};
-use mailparse::{MailHeader, MailParseError, ParsedMail, parse_mail};
-use std::alloc::{AllocError, Global};
+use mailparse::{MailParseError, ParsedMail, parse_mail};
+use std::alloc::Global;
 
 /// Makes the call of a row, if it is one of these.
-pub fn make(alloc: Global, row: &Row, answer: &mut Answer) -> Result<bool, MailParseError> {
-    match row.call.as_str() {
+pub fn make(alloc: Global, row: &Row, answer: &mut Answer) -> bool {
+    let outcome = match row.call.as_str() {
         "nodes"
         | "types"
         | "get_raw_bytes"
         | "get_body"
         | "get_body_raw"
-        | "get_content_disposition" => push_parts(alloc, row, answer)?,
+        | "get_content_disposition" => push_parts(alloc, row, answer),
         "count_parts" | "next_parts" | "held" | "get_headers" | "debug_headers" | "debug_mail" => {
-            push_whole(alloc, row, answer)?;
+            push_whole(alloc, row, answer)
         }
-        "without_headers" | "without_parts" | "under_charset" => {
-            push_changed(alloc, row, answer)?;
-        }
-        _ => return Ok(false),
-    }
-    Ok(true)
+        "without_headers" | "without_parts" | "under_charset" => push_changed(alloc, row, answer),
+        _ => return false,
+    };
+    answer.end(outcome);
+    true
 }
 
 /// Writes what a call says of each part.
 fn push_parts(alloc: Global, row: &Row, answer: &mut Answer) -> Result<(), MailParseError> {
-    match parse_mail(alloc, row.bytes(0)?) {
-        Ok(mail) => push_tree(alloc, answer, row.call.as_str(), &mail),
-        Err(error) => answer.refusal(error),
-    }
-}
-
-fn push_tree(
-    alloc: Global,
-    answer: &mut Answer,
-    call: &str,
-    mail: &ParsedMail<'_>,
-) -> Result<(), MailParseError> {
+    let mail = parse_mail(alloc, row.bytes(0))?;
     for part in mail.parts(alloc)? {
-        push_part(alloc, answer, call, part)?;
+        push_part(alloc, answer, row.call.as_str(), part)?;
     }
     Ok(())
 }
@@ -71,55 +59,50 @@ fn push_part(
     match call {
         "nodes" => push_node(alloc, answer, part),
         "types" => {
-            answer.text(part.ctype.mimetype.as_str())?;
-            Ok(answer.text(part.ctype.charset.as_str())?)
+            answer.text(part.ctype.mimetype.as_str());
+            answer.text(part.ctype.charset.as_str());
         }
-        "get_raw_bytes" => Ok(push_raw_bytes(answer, part)?),
+        "get_raw_bytes" => push_raw_bytes(answer, part),
         "get_body" => answer.text_or_refusal(part.get_body(alloc)),
         "get_body_raw" => answer.bytes_or_refusal(part.get_body_raw(alloc)),
         _ => {
-            answer.word("part")?;
-            Ok(push_disposition(answer, &part.get_content_disposition(alloc)?)?)
+            answer.word("part");
+            return push_parsed_disposition(answer, part.get_content_disposition(alloc));
         }
     }
+    Ok(())
 }
 
-fn push_node(
-    alloc: Global,
-    answer: &mut Answer,
-    part: &ParsedMail<'_>,
-) -> Result<(), MailParseError> {
-    answer.word("part")?;
-    answer.number(part.subparts.len())?;
-    answer.number(part.headers.len())?;
-    answer.text(part.ctype.mimetype.as_str())?;
-    answer.text_or_refusal(part.get_body(alloc))
+fn push_node(alloc: Global, answer: &mut Answer, part: &ParsedMail<'_>) {
+    answer.word("part");
+    answer.number(part.subparts.len());
+    answer.number(part.headers.len());
+    answer.text(part.ctype.mimetype.as_str());
+    answer.text_or_refusal(part.get_body(alloc));
 }
 
-fn push_raw_bytes(answer: &mut Answer, part: &ParsedMail<'_>) -> Result<(), AllocError> {
-    answer.word("part")?;
-    answer.bytes(part.raw_bytes)?;
-    answer.bytes(part.get_headers().get_raw_bytes())?;
-    answer.number(part.headers.len())
+fn push_raw_bytes(answer: &mut Answer, part: &ParsedMail<'_>) {
+    answer.word("part");
+    answer.bytes(part.raw_bytes);
+    answer.bytes(part.get_headers().get_raw_bytes());
+    answer.number(part.headers.len());
 }
 
 /// Writes what a call says of the whole mail.
 fn push_whole(alloc: Global, row: &Row, answer: &mut Answer) -> Result<(), MailParseError> {
-    let mail = match parse_mail(alloc, row.bytes(0)?) {
-        Ok(mail) => mail,
-        Err(error) => return answer.refusal(error),
-    };
+    let mail = parse_mail(alloc, row.bytes(0))?;
     match row.call.as_str() {
-        "count_parts" => Ok(answer.number(mail.parts(alloc)?.count())?),
-        "next_parts" => push_next(alloc, answer, &mail, row.number(1)?),
-        "held" => push_held(alloc, answer, &mail),
-        "get_headers" => Ok(push_listed(answer, &mail)?),
+        "count_parts" => answer.number(mail.parts(alloc)?.count()),
+        "next_parts" => return push_next(alloc, answer, &mail, row.number(1)),
+        "held" => return push_held(alloc, answer, &mail),
+        "get_headers" => push_listed(answer, &mail),
         "debug_headers" => {
             let block = mail.get_headers();
-            Ok(answer.made(format!(in alloc; "{block:?}"))?)
+            answer.made(format!(in alloc; "{block:?}"));
         }
-        _ => Ok(answer.made(format!(in alloc; "{mail:?}"))?),
+        _ => answer.made(format!(in alloc; "{mail:?}")),
     }
+    Ok(())
 }
 
 fn push_next(
@@ -130,12 +113,12 @@ fn push_next(
 ) -> Result<(), MailParseError> {
     let mut parts = mail.parts(alloc)?;
     for _turn in 0..times {
-        push_mimetype(answer, parts.next())?;
+        push_mimetype(answer, parts.next());
     }
     Ok(())
 }
 
-fn push_mimetype(answer: &mut Answer, part: Option<&ParsedMail<'_>>) -> Result<(), AllocError> {
+fn push_mimetype(answer: &mut Answer, part: Option<&ParsedMail<'_>>) {
     match part {
         Some(part) => answer.text(part.ctype.mimetype.as_str()),
         None => answer.word("none"),
@@ -148,9 +131,10 @@ fn push_held(
     mail: &ParsedMail<'_>,
 ) -> Result<(), MailParseError> {
     let held = Held::of(alloc, mail)?;
-    answer.number(held.headers)?;
-    answer.number(held.bytes)?;
-    Ok(answer.number(held.parts)?)
+    answer.number(held.headers);
+    answer.number(held.bytes);
+    answer.number(held.parts);
+    Ok(())
 }
 
 /// What a mail and its parts hold together.
@@ -182,42 +166,37 @@ impl Held {
 }
 
 /// Writes the headers as the block gives them.
-fn push_listed(answer: &mut Answer, mail: &ParsedMail<'_>) -> Result<(), AllocError> {
+fn push_listed(answer: &mut Answer, mail: &ParsedMail<'_>) {
     let mut headers = mail.get_headers().into_iter();
     for _turn in 0..=mail.headers.len() {
-        push_next_field(answer, headers.next())?;
-    }
-    Ok(())
-}
-
-fn push_next_field(answer: &mut Answer, header: Option<&MailHeader<'_>>) -> Result<(), AllocError> {
-    match header {
-        Some(header) => push_field(answer, header),
-        None => Ok(()),
+        if let Some(header) = headers.next() {
+            push_field(answer, header);
+        }
     }
 }
 
 /// Writes what a call says of a mail that was changed.
 fn push_changed(alloc: Global, row: &Row, answer: &mut Answer) -> Result<(), MailParseError> {
-    let mut mail = parse_mail(alloc, row.bytes(0)?)?;
+    let mut mail = parse_mail(alloc, row.bytes(0))?;
     match row.call.as_str() {
         "without_headers" => {
             let headers = &mut mail.headers;
             headers.clear();
             let block = mail.get_headers();
             let raw = block.get_raw_bytes();
-            answer.number(block.into_iter().count())?;
-            Ok(answer.bytes(raw)?)
+            answer.number(block.into_iter().count());
+            answer.bytes(raw);
         }
         "without_parts" => {
             let subparts = &mut mail.subparts;
             subparts.clear();
-            Ok(answer.number(mail.parts(alloc)?.count())?)
+            answer.number(mail.parts(alloc)?.count());
         }
         _ => {
             let ctype = &mut mail.ctype;
-            ctype.charset = String::from_str(alloc, row.text(1)?)?;
-            answer.text_or_refusal(mail.get_body(alloc))
+            ctype.charset = String::from_str(alloc, row.text(1))?;
+            answer.text_or_refusal(mail.get_body(alloc));
         }
     }
+    Ok(())
 }

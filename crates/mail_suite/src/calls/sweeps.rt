@@ -22,7 +22,8 @@
 //! byte more, and so on. Each gives a front of WHOLE, of so many bytes fewer than went in, or `other`
 //! bytes.
 
-use super::searches;
+use super::searches::place;
+use super::transfer::push_invalid;
 use crate::notation::{Answer, FORM, Row};
 use mail_codec::bytescan::strip_ascii_whitespace;
 use mail_codec::charset::{Charset, decode_ascii, decode_latin1};
@@ -32,121 +33,59 @@ use std::alloc::{AllocError, Global};
 use std::borrow::CowStr;
 
 /// Makes the call of a row, if it is one of these.
-pub fn make(alloc: Global, row: &Row, answer: &mut Answer) -> Result<bool, MailParseError> {
-    let mut room = Room::new(alloc);
-    match row.call.as_str() {
-        "places" => go_over_places(alloc, &mut room, row, answer)?,
-        "around" => go_around(alloc, &mut room, row, answer)?,
-        "fronts" => go_on(alloc, &mut room, row, answer)?,
-        _ => return Ok(false),
-    }
-    room.runs.end(answer)?;
-    Ok(true)
+pub fn make(alloc: Global, row: &Row, answer: &mut Answer) -> bool {
+    let outcome = match row.call.as_str() {
+        "places" => go_over_places(alloc, row, answer),
+        "around" => go_around(alloc, row, answer),
+        "fronts" => go_on(alloc, row, answer),
+        _ => return false,
+    };
+    answer.end(outcome);
+    true
 }
 
-/// What came out of calls, in runs of equal items.
-#[derive(Drop)]
+/// The run of equal items at the end of an answer.
+#[derive(Clone, Copy)]
 pub struct Runs {
-    /// The item of the run that is not written yet, and how often it came.
-    last: Answer,
+    /// Where its item stands in the answer, and how often it came.
+    start: usize,
+    end: usize,
     times: usize,
-    /// The item that came now.
-    next: Answer,
 }
 
 impl Runs {
-    /// No runs.
-    pub fn new(alloc: Global) -> Runs {
+    /// No run yet.
+    pub fn new() -> Runs {
         Runs {
-            last: Answer::empty(alloc),
+            start: 0,
+            end: 0,
             times: 0,
-            next: Answer::empty(alloc),
         }
     }
 
-    /// Takes a place as counted from another, or that there is none.
-    pub fn place(
-        &mut self,
-        answer: &mut Answer,
-        found: Option<usize>,
-        start: usize,
-    ) -> Result<(), AllocError> {
-        self.next.clear();
+    /// Writes a place as counted from another, or that there is none.
+    pub fn place(&mut self, answer: &mut Answer, found: Option<usize>, start: usize) {
+        let from = answer.len();
         match found {
-            Some(place) => match place.checked_sub(start) {
-                Some(after) => self.next.number(after)?,
-                None => self.next.negative(start.saturating_sub(place))?,
-            },
-            None => self.next.word("none")?,
+            Some(place) if place < start => answer.negative(start.saturating_sub(place)),
+            Some(place) => answer.number(place.saturating_sub(start)),
+            None => answer.word("none"),
         }
-        self.take(answer)
+        self.take(answer, from);
     }
 
-    /// Takes bytes.
-    fn bytes(&mut self, answer: &mut Answer, bytes: &[u8]) -> Result<(), AllocError> {
-        self.next.clear();
-        self.next.bytes(bytes)?;
-        self.take(answer)
-    }
-
-    /// Takes a number, after a word if there is one.
-    fn number(&mut self, answer: &mut Answer, word: &str, number: usize) -> Result<(), AllocError> {
-        self.next.clear();
-        if !word.is_empty() {
-            self.next.word(word)?;
-        }
-        self.next.number(number)?;
-        self.take(answer)
-    }
-
-    /// Takes the item that came now.
-    fn take(&mut self, answer: &mut Answer) -> Result<(), AllocError> {
-        if self.next.as_bytes() != self.last.as_bytes() {
-            self.end(answer)?;
-            self.last.clear();
-            self.last.append(&self.next)?;
-            self.times = 0;
-        }
-        self.times = self.times.saturating_add(1);
-        Ok(())
-    }
-
-    /// Writes the last run.
-    pub fn end(&self, answer: &mut Answer) -> Result<(), AllocError> {
-        if self.times > 0 {
-            answer.append(&self.last)?;
-        }
-        if self.times > 1 {
-            answer.word("x")?;
-            answer.number(self.times)?;
-        }
-        Ok(())
-    }
-}
-
-/// Room for what a sweep makes.
-#[derive(Drop)]
-pub struct Room {
-    /// The text that a call is made on.
-    pub text: Vec<u8>,
-    /// What a decoder makes of it, and of the whole text.
-    read: Vec<u8>,
-    whole: Vec<u8>,
-    /// What came out at one place.
-    joined: Vec<u8>,
-    /// What came out.
-    pub runs: Runs,
-}
-
-impl Room {
-    /// Room that is empty.
-    pub fn new(alloc: Global) -> Room {
-        Room {
-            text: Vec::new(alloc),
-            read: Vec::new(alloc),
-            whole: Vec::new(alloc),
-            joined: Vec::new(alloc),
-            runs: Runs::new(alloc),
+    /// Takes the item that was written from a place on: where it stood last, too, it is written once,
+    /// with how often it came.
+    fn take(&mut self, answer: &mut Answer, from: usize) {
+        if self.times > 0 && answer.repeats(self.start, self.end, from) {
+            answer.cut(self.end);
+            self.times = self.times.saturating_add(1);
+            answer.word("x");
+            answer.number(self.times);
+        } else {
+            self.start = from;
+            self.end = answer.len();
+            self.times = 1;
         }
     }
 }
@@ -159,115 +98,94 @@ pub fn push_times(bytes: &mut Vec<u8>, piece: &[u8], times: usize) -> Result<(),
     Ok(())
 }
 
-/// The inputs of a sweep over places.
-#[derive(Clone, Copy)]
-struct Sweep<'r> {
-    call: &'r str,
-    lead: &'r [u8],
-    before: &'r [u8],
-    bytes: &'r [u8],
-    after: &'r [u8],
-    trail: &'r [u8],
-    /// The needle, or what a piece is read as.
-    read: &'r [u8],
-}
-
-impl<'r> Sweep<'r> {
-    /// Reads the inputs of a row.
-    fn of(row: &'r Row) -> Result<Sweep<'r>, MailParseError> {
-        Ok(Sweep {
-            call: row.text(0)?,
-            lead: row.bytes(1)?,
-            before: row.bytes(2)?,
-            bytes: row.bytes(3)?,
-            after: row.bytes(4)?,
-            trail: row.bytes(5)?,
-            read: row.bytes(8)?,
-        })
-    }
-
-    /// Whether this byte is one of those that are tried.
-    fn tries(self, byte: u8) -> bool {
-        self.bytes == b"any".as_slice() || self.bytes == [byte].as_slice()
-    }
-
-    /// Makes the text with a byte, so many pieces before its middle and so many after it.
-    fn fill(
-        self,
-        text: &mut Vec<u8>,
-        byte: u8,
-        lead: usize,
-        trail: usize,
-    ) -> Result<(), AllocError> {
-        text.clear();
-        push_times(text, self.lead, lead)?;
-        text.extend_from_slice(self.before)?;
-        text.push(byte)?;
-        text.extend_from_slice(self.after)?;
-        push_times(text, self.trail, trail)
-    }
+/// Adds a byte between two texts.
+fn push_between(
+    bytes: &mut Vec<u8>,
+    before: &[u8],
+    byte: u8,
+    after: &[u8],
+) -> Result<(), AllocError> {
+    bytes.extend_from_slice(before)?;
+    bytes.push(byte)?;
+    bytes.extend_from_slice(after)
 }
 
 /// Goes over all places.
-fn go_over_places(
-    alloc: Global,
-    room: &mut Room,
-    row: &Row,
-    answer: &mut Answer,
-) -> Result<(), MailParseError> {
-    let sweep = Sweep::of(row)?;
-    let (fewest, most) = (row.number(6)?, row.number(7)?);
+fn go_over_places(alloc: Global, row: &Row, answer: &mut Answer) -> Result<(), MailParseError> {
+    let mut sweep = Sweep {
+        text: Vec::new(alloc),
+        joined: Vec::new(alloc),
+        runs: Runs::new(),
+    };
+    let (fewest, most) = (row.number(6), row.number(7));
     for trail in 0..=most {
         for lead in fewest.saturating_sub(trail)..=most.saturating_sub(trail) {
-            go_over_bytes(alloc, room, sweep, answer, (lead, trail))?;
+            sweep.try_place(alloc, row, answer, (lead, trail))?;
         }
     }
     Ok(())
 }
 
-/// Tries each byte at a place.
-fn go_over_bytes(
-    alloc: Global,
-    room: &mut Room,
-    sweep: Sweep<'_>,
-    answer: &mut Answer,
-    pieces: (usize, usize),
-) -> Result<(), MailParseError> {
-    room.joined.clear();
-    for byte in 0..=255u8 {
-        try_byte(alloc, room, sweep, answer, pieces, byte)?;
-    }
-    if sweep.call.starts_with("find") {
-        Ok(())
-    } else {
-        Ok(room.runs.bytes(answer, room.joined.as_slice())?)
-    }
+/// A sweep over places.
+#[derive(Drop)]
+struct Sweep {
+    /// The text that a call is made on.
+    text: Vec<u8>,
+    /// What a decoder makes of the bytes at one place.
+    joined: Vec<u8>,
+    runs: Runs,
 }
 
-/// Tries a byte at a place.
-fn try_byte(
-    alloc: Global,
-    room: &mut Room,
-    sweep: Sweep<'_>,
-    answer: &mut Answer,
-    (lead, trail): (usize, usize),
-    byte: u8,
-) -> Result<(), MailParseError> {
-    if !sweep.tries(byte) {
-        return Ok(());
-    }
-    sweep.fill(&mut room.text, byte, lead, trail)?;
-    if sweep.call.starts_with("find") {
-        let found = searches::place(sweep.call, room.text.as_slice(), sweep.read)?;
-        let start = lead.saturating_mul(sweep.lead.len());
-        return Ok(room.runs.place(answer, found, start)?);
-    }
-    match decode(alloc, &mut room.read, sweep.call, room.text.as_slice())? {
-        None => {
-            let middle = without_pieces(room.read.as_slice(), sweep.read, lead, trail);
-            Ok(room.joined.extend_from_slice(middle)?)
+impl Sweep {
+    /// Tries the bytes at a place, with so many pieces before it and after it.
+    fn try_place(
+        &mut self,
+        alloc: Global,
+        row: &Row,
+        answer: &mut Answer,
+        pieces: (usize, usize),
+    ) -> Result<(), MailParseError> {
+        self.joined.clear();
+        for byte in 0..=255u8 {
+            if row.bytes(3) == b"any".as_slice() || row.bytes(3) == [byte].as_slice() {
+                self.try_byte(alloc, row, answer, byte, pieces)?;
+            }
         }
-        Some(_group) => Ok(room.joined.push(b'!')?),
+        if !row.text(0).starts_with("find") {
+            let from = answer.len();
+            answer.bytes(self.joined.as_slice());
+            self.runs.take(answer, from);
+        }
+        Ok(())
+    }
+
+    /// Tries a byte at a place.
+    fn try_byte(
+        &mut self,
+        alloc: Global,
+        row: &Row,
+        answer: &mut Answer,
+        byte: u8,
+        (lead, trail): (usize, usize),
+    ) -> Result<(), MailParseError> {
+        self.text.clear();
+        push_times(&mut self.text, row.bytes(1), lead)?;
+        push_between(&mut self.text, row.bytes(2), byte, row.bytes(4))?;
+        push_times(&mut self.text, row.bytes(5), trail)?;
+        if row.text(0).starts_with("find") {
+            let found = place(row, row.text(0), self.text.as_slice(), row.bytes(8));
+            let start = lead.saturating_mul(row.bytes(1).len());
+            self.runs.place(answer, found, start);
+            return Ok(());
+        }
+        match decode(alloc, row.text(0), self.text.as_slice())? {
+            Ok(read) => {
+                let middle = without_pieces(read.as_slice(), row.bytes(8), lead, trail);
+                self.joined.extend_from_slice(middle)?;
+            }
+            Err(_group) => self.joined.push(b'!')?,
+        }
+        Ok(())
     }
 }
 
@@ -296,127 +214,101 @@ fn before_pieces<'b>(bytes: &'b [u8], piece: &[u8], times: usize) -> Option<&'b 
     Some(rest)
 }
 
-/// Writes what a decoder makes of a text, or returns the group that it refuses. The borrows are the
-/// text where it is borrowed, and nothing where it is not.
+/// What a decoder makes of a text, or the group that it refuses. The borrows are the text where it is
+/// borrowed, and nothing where it is not.
 fn decode(
     alloc: Global,
-    read: &mut Vec<u8>,
     call: &str,
     text: &[u8],
-) -> Result<Option<usize>, MailParseError> {
-    read.clear();
-    match call {
-        "strip_ascii_whitespace" => *read = strip_ascii_whitespace(alloc, text)?,
-        "decode_base64" => return Ok(keep_groups(read, decode_base64(alloc, text)?)),
-        "decode_base64_body" => return Ok(keep_groups(read, decode_base64_body(alloc, text)?)),
-        "decode_quoted_printable" => *read = decode_quoted_printable(alloc, text)?,
-        "windows-1252" => {
-            let text = Charset::Windows1252.decode_without_bom_handling(alloc, text)?;
-            *read = text.into_bytes();
-        }
-        "decode_latin1" => read.extend_from_slice(decode_latin1(alloc, text)?.as_bytes())?,
-        "borrowed_latin1" => keep_borrowed(read, &decode_latin1(alloc, text)?)?,
-        "borrowed_ascii" => keep_borrowed(read, &decode_ascii(alloc, text)?)?,
+) -> Result<Result<Vec<u8>, usize>, MailParseError> {
+    let bytes = match call {
+        "decode_base64" => return Ok(decode_base64(alloc, text)?),
+        "decode_base64_body" => return Ok(decode_base64_body(alloc, text)?),
+        "strip_ascii_whitespace" => strip_ascii_whitespace(alloc, text),
+        "decode_quoted_printable" => decode_quoted_printable(alloc, text),
+        "windows-1252" => Charset::Windows1252
+            .decode_without_bom_handling(alloc, text)
+            .map(|text| text.into_bytes()),
+        "decode_latin1" => bytes_of(alloc, decode_latin1(alloc, text), true),
+        "borrowed_latin1" => bytes_of(alloc, decode_latin1(alloc, text), false),
+        "borrowed_ascii" => bytes_of(alloc, decode_ascii(alloc, text), false),
         _ => return Err(FORM),
-    }
-    Ok(None)
+    };
+    Ok(Ok(bytes?))
 }
 
-/// Keeps the bytes of groups, or returns the first invalid group.
-fn keep_groups(read: &mut Vec<u8>, groups: Result<Vec<u8>, usize>) -> Option<usize> {
-    match groups {
-        Ok(bytes) => {
-            *read = bytes;
-            None
-        }
-        Err(group) => Some(group),
-    }
-}
-
-/// Keeps the bytes of a text that is borrowed.
-fn keep_borrowed(read: &mut Vec<u8>, text: &CowStr<'_>) -> Result<(), AllocError> {
-    match text {
-        CowStr::Borrowed(text) => read.extend_from_slice(text.as_bytes()),
-        CowStr::Owned(_) => Ok(()),
+/// The bytes of a text, or nothing where it is not borrowed and only a borrow counts.
+fn bytes_of(
+    alloc: Global,
+    text: Result<CowStr<'_>, AllocError>,
+    takes_owned: bool,
+) -> Result<Vec<u8>, AllocError> {
+    match text? {
+        CowStr::Borrowed(text) => text.as_bytes().to_vec(alloc),
+        CowStr::Owned(text) if takes_owned => Ok(text.into_bytes()),
+        CowStr::Owned(_) => Ok(Vec::new(alloc)),
     }
 }
 
 /// Decodes two texts with each byte between them.
-fn go_around(
-    alloc: Global,
-    room: &mut Room,
-    row: &Row,
-    answer: &mut Answer,
-) -> Result<(), MailParseError> {
+fn go_around(alloc: Global, row: &Row, answer: &mut Answer) -> Result<(), MailParseError> {
+    let mut text = Vec::new(alloc);
+    let mut runs = Runs::new();
     for byte in 0..=255u8 {
-        room.text.clear();
-        room.text.extend_from_slice(row.bytes(1)?)?;
-        room.text.push(byte)?;
-        room.text.extend_from_slice(row.bytes(2)?)?;
-        write_between(alloc, room, row, answer)?;
+        text.clear();
+        push_between(&mut text, row.bytes(1), byte, row.bytes(2))?;
+        let from = answer.len();
+        write_between(row, answer, decode(alloc, row.text(0), text.as_slice())?);
+        runs.take(answer, from);
     }
     Ok(())
 }
 
 /// Adds what a decoder makes of a text between two sides, or the group that it refuses.
-fn write_between(
-    alloc: Global,
-    room: &mut Room,
-    row: &Row,
-    answer: &mut Answer,
-) -> Result<(), MailParseError> {
-    let sides = (row.bytes(3)?, row.bytes(4)?);
-    match decode(alloc, &mut room.read, row.text(0)?, room.text.as_slice())? {
-        None => Ok(
-            room.runs
-                .bytes(answer, between(room.read.as_slice(), sides))?,
-        ),
-        Some(group) => Ok(room.runs.number(answer, "error", group)?),
+fn write_between(row: &Row, answer: &mut Answer, read: Result<Vec<u8>, usize>) {
+    match read {
+        Ok(bytes) => answer.bytes(between(bytes.as_slice(), row.bytes(3), row.bytes(4))),
+        Err(group) => push_invalid(answer, group),
     }
 }
 
 /// The bytes without a front and a back, or all of them where they have others.
-fn between<'b>(bytes: &'b [u8], sides: (&[u8], &[u8])) -> &'b [u8] {
-    match bytes.strip_prefix(sides.0) {
-        Some(rest) => rest.strip_suffix(sides.1).unwrap_or(bytes),
+fn between<'b>(bytes: &'b [u8], front: &[u8], back: &[u8]) -> &'b [u8] {
+    match bytes.strip_prefix(front) {
+        Some(rest) => rest.strip_suffix(back).unwrap_or(bytes),
         None => bytes,
     }
 }
 
 /// Decodes a text, and then one front of it after another.
-fn go_on(
-    alloc: Global,
-    room: &mut Room,
-    row: &Row,
-    answer: &mut Answer,
-) -> Result<(), MailParseError> {
-    let (text, from) = (row.bytes(1)?, row.number(2)?);
-    decode(alloc, &mut room.whole, row.text(0)?, text)?;
-    answer.bytes(room.whole.as_slice())?;
-    for length in from..=text.len() {
-        write_front(alloc, room, row, answer, text.get(..length).unwrap_or(b""))?;
+fn go_on(alloc: Global, row: &Row, answer: &mut Answer) -> Result<(), MailParseError> {
+    let text = row.bytes(1);
+    let whole = decode(alloc, row.text(0), text)?.unwrap_or(Vec::new(alloc));
+    answer.bytes(whole.as_slice());
+    let mut runs = Runs::new();
+    for length in row.number(2)..=text.len() {
+        let front = text.get(..length).unwrap_or(text);
+        let from = answer.len();
+        write_front(
+            answer,
+            whole.as_slice(),
+            length,
+            decode(alloc, row.text(0), front)?,
+        );
+        runs.take(answer, from);
     }
     Ok(())
 }
 
-/// Adds what a decoder makes of a front of a text.
-fn write_front(
-    alloc: Global,
-    room: &mut Room,
-    row: &Row,
-    answer: &mut Answer,
-    front: &[u8],
-) -> Result<(), MailParseError> {
-    let (word, number) = match decode(alloc, &mut room.read, row.text(0)?, front)? {
-        None => (
-            if room.whole.starts_with(room.read.as_slice()) {
-                ""
-            } else {
-                "other"
-            },
-            front.len().saturating_sub(room.read.len()),
-        ),
-        Some(group) => ("error", group),
-    };
-    Ok(room.runs.number(answer, word, number)?)
+/// Adds what a decoder makes of a front of a text that has so many bytes.
+fn write_front(answer: &mut Answer, whole: &[u8], length: usize, read: Result<Vec<u8>, usize>) {
+    match read {
+        Ok(read) => {
+            if !whole.starts_with(read.as_slice()) {
+                answer.word("other");
+            }
+            answer.number(length.saturating_sub(read.len()));
+        }
+        Err(group) => push_invalid(answer, group),
+    }
 }

@@ -20,23 +20,28 @@
 //! DISPOSITION is `inline`, `attachment`, `form-data`, or `extension` and its name. `mail_with`
 //! parses under the tables, and reads what was parsed under the others.
 
-use crate::calls::bodies::owned;
-use crate::calls::parameters::{push_disposition, push_type};
+use crate::calls::bodies::Label;
+use crate::calls::parameters::{
+    push_disposition, push_parsed_disposition, push_parsed_type, push_type,
+};
 use crate::calls::values::raw_header;
-use crate::notation::{Answer, FORM, Row};
+use crate::notation::{Answer, Row};
 use mail_codec::charset::{SingleByteTable, table_for_label};
 use mail_tables::TABLES;
 use mailparse::body::Body;
 use mailparse::{
-    MailHeader, MailParseError, ParsedContentType, ParsedMail, parse_content_disposition_with,
+    MailHeader, MailParseError, ParsedMail, parse_content_disposition_with,
     parse_content_type_with, parse_header, parse_mail_with,
 };
 use std::alloc::{AllocError, Global};
 
 /// Makes the call of a row, if it is one of these.
-pub fn make(alloc: Global, row: &Row, answer: &mut Answer) -> Result<bool, MailParseError> {
-    match row.call.as_str() {
-        "labels_of_table" => write_labels(row, answer)?,
+pub fn make(alloc: Global, row: &Row, answer: &mut Answer) -> bool {
+    let outcome = match row.call.as_str() {
+        "labels_of_table" => {
+            push_labels(row, answer);
+            Ok(())
+        }
         "table_for_label"
         | "decode_with"
         | "decode_without_bom_handling_with"
@@ -44,18 +49,21 @@ pub fn make(alloc: Global, row: &Row, answer: &mut Answer) -> Result<bool, MailP
         | "parse_content_type_with"
         | "parse_content_disposition_with"
         | "body_with"
-        | "mail_with" => {
-            if row.text(0)? == "all" {
-                call_with(alloc, row, answer, all_tables())?;
-            } else {
-                let made_up = made_up(alloc, row.text(0)?)?;
-                let tables = own_tables(alloc, made_up.as_slice())?;
-                call_with(alloc, row, answer, tables.as_slice())?;
-            }
-        }
-        _ => return Ok(false),
+        | "mail_with" => choose_tables(alloc, row, answer),
+        _ => return false,
+    };
+    answer.end(outcome);
+    true
+}
+
+/// Makes the call of a row with the tables that it names.
+fn choose_tables(alloc: Global, row: &Row, answer: &mut Answer) -> Result<(), MailParseError> {
+    if row.text(0) == "all" {
+        return call_with(alloc, row, answer, all_tables());
     }
-    Ok(true)
+    let made_up = made_up(alloc, row.text(0))?;
+    let tables = own_tables(alloc, made_up.as_slice())?;
+    call_with(alloc, row, answer, tables.as_slice())
 }
 
 /// Makes the call of a row with tables.
@@ -66,25 +74,20 @@ fn call_with(
     tables: &[SingleByteTable<'_>],
 ) -> Result<(), MailParseError> {
     match row.call.as_str() {
-        "table_for_label" => find_tables(row, answer, tables),
-        "decode_with" | "decode_without_bom_handling_with" => {
-            match table_of(row.bytes(1)?, tables) {
-                Some(table) => decode(alloc, row, answer, table),
-                None => Ok(answer.word("none")?),
-            }
-        }
-        "get_value_with" => read_value(alloc, row, answer, tables),
+        "table_for_label" => push_numbers(row, answer, tables),
+        "decode_with" | "decode_without_bom_handling_with" => decode(alloc, row, answer, tables),
+        "get_value_with" => answer.text_or_refusal(value_of(alloc, row, tables)),
         "parse_content_type_with" => {
-            let ctype = parse_content_type_with(alloc, row.text(1)?, tables)?;
-            Ok(push_type(answer, &ctype)?)
+            return push_parsed_type(answer, parse_content_type_with(alloc, row.text(1), tables));
         }
         "parse_content_disposition_with" => {
-            let shown = parse_content_disposition_with(alloc, row.text(1)?, tables)?;
-            Ok(push_disposition(answer, &shown)?)
+            let found = parse_content_disposition_with(alloc, row.text(1), tables);
+            return push_parsed_disposition(answer, found);
         }
-        "body_with" => read_body(alloc, row, answer, tables),
-        _ => read_mail(alloc, row, answer, tables),
+        "body_with" => answer.text_or_refusal(body_text(alloc, row, tables)),
+        _ => return read_mail(alloc, row, answer, tables),
     }
+    Ok(())
 }
 
 /// A table that a row makes up.
@@ -99,29 +102,27 @@ fn made_up(alloc: Global, text: &str) -> Result<Vec<MadeUp<'_>>, MailParseError>
     let mut found = Vec::new(alloc);
     for table in text.split(';') {
         if let Some((labels, first)) = table.split_once(':') {
-            found.push(one_made_up(alloc, labels, first)?)?;
+            found.push(MadeUp {
+                labels: labels.split(',').collect(alloc)?,
+                high: characters_from(first.chars().next().unwrap_or(NO_CHARACTER)),
+            })?;
         }
     }
     Ok(found)
 }
 
-/// The table with these labels, and the characters from the first of a text on.
-fn one_made_up<'r>(
-    alloc: Global,
-    labels: &'r str,
-    first: &str,
-) -> Result<MadeUp<'r>, MailParseError> {
-    let first = u32::from(first.chars().next().ok_or(FORM)?);
-    let mut high = ['\u{FFFD}'; 128];
-    for place in 0..128u8 {
-        let number = first.saturating_add(u32::from(place));
-        high[place as usize] = char::from_u32(number).unwrap_or('\u{FFFD}');
+/// What a byte without a character reads as.
+const NO_CHARACTER: char = '\u{FFFD}';
+
+/// The characters from one on.
+fn characters_from(first: char) -> [char; 128] {
+    let mut characters = [NO_CHARACTER; 128];
+    let mut number = u32::from(first);
+    for character in &mut characters {
+        *character = char::from_u32(number).unwrap_or(NO_CHARACTER);
+        number = number.saturating_add(1);
     }
-    let mut list = Vec::new(alloc);
-    for label in labels.split(',') {
-        list.push(label)?;
-    }
-    Ok(MadeUp { labels: list, high })
+    characters
 }
 
 /// The same tables as the calls take them.
@@ -144,91 +145,59 @@ pub fn all_tables() -> &'static [SingleByteTable<'static>] {
     &TABLES
 }
 
-/// The number of the table for each label.
-fn find_tables(
-    row: &Row,
-    answer: &mut Answer,
-    tables: &[SingleByteTable<'_>],
-) -> Result<(), MailParseError> {
+/// Adds the number of the table for each label.
+fn push_numbers(row: &Row, answer: &mut Answer, tables: &[SingleByteTable<'_>]) {
     for at in 1..row.count() {
-        match table_for_label(row.bytes(at)?, tables) {
-            Some(number) => answer.number(number)?,
-            None => answer.word("none")?,
-        }
+        answer.optional_number(table_for_label(row.bytes(at), tables));
     }
-    Ok(())
 }
 
-/// The labels of a table of `mail_tables`.
-fn write_labels(row: &Row, answer: &mut Answer) -> Result<(), MailParseError> {
-    match all_tables().get(row.number(0)?) {
-        Some(table) => Ok(write_all(answer, table.labels)?),
-        None => Ok(answer.word("none")?),
+/// Adds the labels of a table of `mail_tables`.
+fn push_labels(row: &Row, answer: &mut Answer) {
+    match all_tables().get(row.number(0)) {
+        Some(table) => push_all(answer, table.labels),
+        None => answer.word("none"),
     }
 }
 
 /// Adds texts.
-fn write_all(answer: &mut Answer, texts: &[&str]) -> Result<(), AllocError> {
+fn push_all(answer: &mut Answer, texts: &[&str]) {
     for text in texts {
-        answer.text(text)?;
+        answer.text(text);
     }
-    Ok(())
 }
 
-/// The table of a label.
-fn table_of<'s, 't>(
-    label: &[u8],
-    tables: &'s [SingleByteTable<'t>],
-) -> Option<&'s SingleByteTable<'t>> {
-    tables.get(table_for_label(label, tables)?)
-}
-
-/// The text of bytes under a table.
-fn decode(
-    alloc: Global,
-    row: &Row,
-    answer: &mut Answer,
-    table: &SingleByteTable<'_>,
-) -> Result<(), MailParseError> {
-    let bytes = row.bytes(2)?;
-    match row.call.as_str() {
-        "decode_with" => Ok(answer.made(table.decode(alloc, bytes))?),
-        _ => Ok(answer.made(table.decode_without_bom_handling(alloc, bytes))?),
-    }
+/// Adds the text of bytes under the table of a label.
+fn decode(alloc: Global, row: &Row, answer: &mut Answer, tables: &[SingleByteTable<'_>]) {
+    let number = table_for_label(row.bytes(1), tables);
+    let Some(table) = number.and_then(|number| tables.get(number)) else {
+        return answer.word("none");
+    };
+    answer.made(match row.call.as_str() {
+        "decode_with" => table.decode(alloc, row.bytes(2)),
+        _ => table.decode_without_bom_handling(alloc, row.bytes(2)),
+    });
 }
 
 /// The text that a value shows.
-fn read_value(
+fn value_of(
     alloc: Global,
     row: &Row,
-    answer: &mut Answer,
     tables: &[SingleByteTable<'_>],
-) -> Result<(), MailParseError> {
-    let raw = raw_header(alloc, row.bytes(1)?)?;
+) -> Result<String, MailParseError> {
+    let raw = raw_header(alloc, row.bytes(1))?;
     let (header, _) = parse_header(raw.as_slice())?;
-    answer.text_or_refusal(header.get_value_with(alloc, tables))
+    header.get_value_with(alloc, tables)
 }
 
 /// The text of a body.
-fn read_body(
+fn body_text(
     alloc: Global,
     row: &Row,
-    answer: &mut Answer,
-    tables: &[SingleByteTable<'_>],
-) -> Result<(), MailParseError> {
-    let mut ctype = ParsedContentType::default(alloc)?;
-    ctype.charset = String::from_str(alloc, row.text(2)?)?;
-    let encoding = owned(alloc, row.optional_text(1)?)?;
-    let text = text_of(alloc, &Body::new(row.bytes(3)?, &ctype, &encoding), tables);
-    answer.text_or_refusal(text)
-}
-
-fn text_of(
-    alloc: Global,
-    body: &Body<'_>,
     tables: &[SingleByteTable<'_>],
 ) -> Result<String, MailParseError> {
-    match body {
+    let label = Label::of(alloc, row, 1)?;
+    match label.body(row.bytes(3)) {
         Body::Base64(body) | Body::QuotedPrintable(body) => {
             body.get_decoded_as_string_with(alloc, tables)
         }
@@ -237,44 +206,32 @@ fn text_of(
     }
 }
 
-/// A mail that is parsed under tables, and read under others.
+/// Adds a mail that is parsed under tables, and read under others.
 fn read_mail(
     alloc: Global,
     row: &Row,
     answer: &mut Answer,
     first: &[SingleByteTable<'_>],
 ) -> Result<(), MailParseError> {
-    if row.text(1)? == "all" {
-        return write_mail(alloc, answer, row.bytes(2)?, first, all_tables());
+    if row.text(1) == "all" {
+        return write_mail(alloc, answer, row.bytes(2), first, all_tables());
     }
-    let made_up = made_up(alloc, row.text(1)?)?;
+    let made_up = made_up(alloc, row.text(1))?;
     let others = own_tables(alloc, made_up.as_slice())?;
-    write_mail(alloc, answer, row.bytes(2)?, first, others.as_slice())
+    write_mail(alloc, answer, row.bytes(2), first, others.as_slice())
 }
 
-/// Adds a mail that is parsed under tables, and read under others, or its refusal.
+/// Adds a mail and its parts, parsed under tables, and read under others.
 pub fn write_mail(
     alloc: Global,
     answer: &mut Answer,
-    mail: &[u8],
+    raw: &[u8],
     tables: &[SingleByteTable<'_>],
     others: &[SingleByteTable<'_>],
 ) -> Result<(), MailParseError> {
-    match parse_mail_with(alloc, mail, tables) {
-        Ok(mail) => write_parts(alloc, answer, &mail, others),
-        Err(error) => answer.refusal(error),
-    }
-}
-
-/// Adds a mail and its parts.
-fn write_parts(
-    alloc: Global,
-    answer: &mut Answer,
-    mail: &ParsedMail<'_>,
-    tables: &[SingleByteTable<'_>],
-) -> Result<(), MailParseError> {
+    let mail = parse_mail_with(alloc, raw, tables)?;
     for part in mail.parts(alloc)? {
-        write_part(alloc, answer, part, tables)?;
+        write_part(alloc, answer, part, others)?;
     }
     Ok(())
 }
@@ -286,15 +243,15 @@ fn write_part(
     part: &ParsedMail<'_>,
     tables: &[SingleByteTable<'_>],
 ) -> Result<(), MailParseError> {
-    answer.word("part")?;
-    answer.number(part.subparts.len())?;
-    push_type(answer, &part.ctype)?;
+    answer.word("part");
+    answer.number(part.subparts.len());
+    push_type(answer, &part.ctype);
     for header in &part.headers {
-        write_header(alloc, answer, header, tables)?;
+        write_header(alloc, answer, header, tables);
     }
-    let shown = part.get_content_disposition_with(alloc, tables)?;
-    push_disposition(answer, &shown)?;
-    answer.text_or_refusal(part.get_body_with(alloc, tables))
+    push_disposition(answer, &part.get_content_disposition_with(alloc, tables)?);
+    answer.text_or_refusal(part.get_body_with(alloc, tables));
+    Ok(())
 }
 
 /// Adds a header.
@@ -303,8 +260,8 @@ fn write_header(
     answer: &mut Answer,
     header: &MailHeader<'_>,
     tables: &[SingleByteTable<'_>],
-) -> Result<(), MailParseError> {
-    answer.word("header")?;
-    answer.text_or_refusal(header.get_key(alloc))?;
-    answer.text_or_refusal(header.get_value_with(alloc, tables))
+) {
+    answer.word("header");
+    answer.text_or_refusal(header.get_key(alloc));
+    answer.text_or_refusal(header.get_value_with(alloc, tables));
 }

@@ -12,26 +12,29 @@ use mailparse::MailParseError;
 use std::alloc::{AllocError, Global};
 
 /// Makes the call of a row, if it is one of these.
-pub fn make(alloc: Global, row: &Row, answer: &mut Answer) -> Result<bool, MailParseError> {
+pub fn make(alloc: Global, row: &Row, answer: &mut Answer) -> bool {
     match row.call.as_str() {
-        "decode_base64" => write_groups(answer, decode_base64(alloc, row.bytes(0)?)?)?,
-        "decode_base64_body" => write_groups(answer, decode_base64_body(alloc, row.bytes(0)?)?)?,
+        "decode_base64" => push_groups(answer, decode_base64(alloc, row.bytes(0))),
+        "decode_base64_body" => push_groups(answer, decode_base64_body(alloc, row.bytes(0))),
         "decode_quoted_printable" => {
-            let bytes = decode_quoted_printable(alloc, row.bytes(0)?)?;
-            answer.bytes(bytes.as_slice())?;
+            answer.made_bytes(decode_quoted_printable(alloc, row.bytes(0)));
         }
-        _ => return Ok(false),
+        _ => return false,
     }
-    Ok(true)
+    true
 }
 
 /// Adds the bytes of groups, or the number of the first invalid one.
-fn write_groups(answer: &mut Answer, groups: Result<Vec<u8>, usize>) -> Result<(), AllocError> {
+fn push_groups(answer: &mut Answer, groups: Result<Result<Vec<u8>, usize>, AllocError>) {
     match groups {
-        Ok(bytes) => answer.bytes(bytes.as_slice()),
-        Err(group) => {
-            answer.word("error")?;
-            answer.number(group)
-        }
+        Ok(Ok(bytes)) => answer.bytes(bytes.as_slice()),
+        Ok(Err(group)) => push_invalid(answer, group),
+        Err(error) => answer.refusal(MailParseError::from(error)),
     }
+}
+
+/// Adds the number of an invalid group.
+pub fn push_invalid(answer: &mut Answer, group: usize) {
+    answer.word("error");
+    answer.number(group);
 }

@@ -1,10 +1,12 @@
 //! The calls on files. A part is the one at a number of `parts`, the whole mail at 0.
+//!
+//! `safe_file_name NAME => NAME`
 
 use mail_data::files::{
     Attachment, attachments, attachments_with, describes_attachment, file_name, file_name_with,
     filled_parameter, is_attachment, is_attachment_with, is_leaf, named_file, safe_file_name,
 };
-use mail_data::places::{Place, places};
+use mail_data::places::places;
 use mail_suite::{Answer, FORM, Row, all_tables};
 use mailparse::{
     MailParseError, ParsedContentDisposition, ParsedContentType, ParsedMail,
@@ -14,7 +16,7 @@ use std::alloc::Global;
 use std::collections::BTreeMap;
 
 /// Makes the call of a row, if it is one of these.
-pub fn make(alloc: Global, row: &Row, answer: &mut Answer) -> Result<bool, MailParseError> {
+pub fn make(alloc: Global, row: &Row, answer: &mut Answer) -> bool {
     let outcome = match row.call.as_str() {
         "attachments" => list_files(alloc, row, answer),
         "attachments_with" => list_named_files(alloc, row, answer),
@@ -23,13 +25,14 @@ pub fn make(alloc: Global, row: &Row, answer: &mut Answer) -> Result<bool, MailP
         "named_file" | "describes_attachment" => describe(alloc, row, answer),
         "filled_parameter" => get_parameter(alloc, row, answer),
         "part_places" => list_places(alloc, row, answer),
-        "safe_file_name" => write_safe_name(alloc, row, answer),
-        _ => return Ok(false),
+        "safe_file_name" => {
+            answer.made(safe_file_name(alloc, row.text(0)));
+            Ok(())
+        }
+        _ => return false,
     };
-    if let Err(error) = outcome {
-        answer.refusal(error)?;
-    }
-    Ok(true)
+    answer.end(outcome);
+    true
 }
 
 /// The part of a mail with this number, counted from the mail itself.
@@ -43,56 +46,49 @@ pub fn part_at<'m, 'a>(
 
 /// `attachments MAIL => PATH NAME BYTES` for each file, NAME as `file_name` returns it.
 fn list_files(alloc: Global, row: &Row, answer: &mut Answer) -> Result<(), MailParseError> {
-    let mail = parse_mail(alloc, row.bytes(0)?)?;
+    let mail = parse_mail(alloc, row.bytes(0))?;
     for file in &attachments(alloc, &mail)? {
-        write_file(alloc, file, file_name(alloc, file.part)?, answer)?;
+        write_file(alloc, file, file_name(alloc, file.part)?, answer);
     }
     Ok(())
 }
 
 /// `attachments_with MAIL => PATH NAME BYTES` likewise, under all tables.
 fn list_named_files(alloc: Global, row: &Row, answer: &mut Answer) -> Result<(), MailParseError> {
-    let mail = parse_mail_with(alloc, row.bytes(0)?, all_tables())?;
+    let mail = parse_mail_with(alloc, row.bytes(0), all_tables())?;
     for file in &attachments_with(alloc, &mail, all_tables())? {
         let name = file_name_with(alloc, file.part, all_tables())?;
-        write_file(alloc, file, name, answer)?;
+        write_file(alloc, file, name, answer);
     }
     Ok(())
 }
 
 /// Writes a file and its name.
-fn write_file(
-    alloc: Global,
-    file: &Attachment<'_, '_>,
-    name: Option<String>,
-    answer: &mut Answer,
-) -> Result<(), MailParseError> {
-    answer.text(file.path.as_str())?;
-    answer.optional_text(name.as_deref())?;
-    answer.bytes_or_refusal(file.part.get_body_raw(alloc))
+fn write_file(alloc: Global, file: &Attachment<'_, '_>, name: Option<String>, answer: &mut Answer) {
+    answer.text(file.path.as_str());
+    answer.optional_text(name.as_deref());
+    answer.bytes_or_refusal(file.part.get_body_raw(alloc));
 }
 
 /// `file_name MAIL PART => NAME`, `is_attachment MAIL PART => TRUTH` and `is_leaf MAIL PART => TRUTH`
 fn look_at(alloc: Global, row: &Row, answer: &mut Answer) -> Result<(), MailParseError> {
-    let mail = parse_mail(alloc, row.bytes(0)?)?;
-    let part = part_at(alloc, &mail, row.number(1)?)?;
+    let mail = parse_mail(alloc, row.bytes(0))?;
+    let part = part_at(alloc, &mail, row.number(1))?;
     match row.call.as_str() {
-        "file_name" => answer.optional_text(file_name(alloc, part)?.as_deref())?,
-        "is_attachment" => answer.truth(is_attachment(alloc, part)?)?,
-        _ => answer.truth(is_leaf(part))?,
+        "file_name" => answer.optional_or_refusal(file_name(alloc, part)),
+        "is_attachment" => answer.truth(is_attachment(alloc, part)?),
+        _ => answer.truth(is_leaf(part)),
     }
     Ok(())
 }
 
 /// `file_name_with MAIL PART => NAME` and `is_attachment_with MAIL PART => TRUTH`, under all tables.
 fn look_at_with(alloc: Global, row: &Row, answer: &mut Answer) -> Result<(), MailParseError> {
-    let mail = parse_mail_with(alloc, row.bytes(0)?, all_tables())?;
-    let part = part_at(alloc, &mail, row.number(1)?)?;
+    let mail = parse_mail_with(alloc, row.bytes(0), all_tables())?;
+    let part = part_at(alloc, &mail, row.number(1))?;
     match row.call.as_str() {
-        "file_name_with" => {
-            answer.optional_text(file_name_with(alloc, part, all_tables())?.as_deref())?;
-        }
-        _ => answer.truth(is_attachment_with(alloc, part, all_tables())?)?,
+        "file_name_with" => answer.optional_or_refusal(file_name_with(alloc, part, all_tables())),
+        _ => answer.truth(is_attachment_with(alloc, part, all_tables())?),
     }
     Ok(())
 }
@@ -102,15 +98,15 @@ fn describe(alloc: Global, row: &Row, answer: &mut Answer) -> Result<(), MailPar
     let disposition = disposition_of(alloc, row)?;
     let ctype = type_of(alloc, row, 1)?;
     match row.call.as_str() {
-        "named_file" => answer.optional_text(named_file(alloc, &disposition, &ctype)?.as_deref())?,
-        _ => answer.truth(describes_attachment(alloc, &disposition, &ctype)?)?,
+        "named_file" => answer.optional_text(named_file(alloc, &disposition, &ctype)?.as_deref()),
+        _ => answer.truth(describes_attachment(alloc, &disposition, &ctype)?),
     }
     Ok(())
 }
 
 /// The disposition that the first input writes; for `none` the default one, without memory.
 fn disposition_of(alloc: Global, row: &Row) -> Result<ParsedContentDisposition, MailParseError> {
-    match row.optional_text(0)? {
+    match row.optional_text(0) {
         Some(text) => parse_content_disposition(alloc, text),
         None => Ok(ParsedContentDisposition::default(alloc)),
     }
@@ -118,7 +114,7 @@ fn disposition_of(alloc: Global, row: &Row) -> Result<ParsedContentDisposition, 
 
 /// The type that an input writes; for `none` an empty one, without memory.
 fn type_of(alloc: Global, row: &Row, at: usize) -> Result<ParsedContentType, MailParseError> {
-    match row.optional_text(at)? {
+    match row.optional_text(at) {
         Some(text) => parse_content_type(alloc, text),
         None => Ok(ParsedContentType {
             mimetype: String::new(alloc),
@@ -131,31 +127,20 @@ fn type_of(alloc: Global, row: &Row, at: usize) -> Result<ParsedContentType, Mai
 /// `filled_parameter TYPE NAME => VALUE`
 fn get_parameter(alloc: Global, row: &Row, answer: &mut Answer) -> Result<(), MailParseError> {
     let ctype = type_of(alloc, row, 0)?;
-    answer.optional_text(filled_parameter(&ctype.params, row.text(1)?))?;
+    answer.optional_text(filled_parameter(&ctype.params, row.text(1)));
     Ok(())
 }
 
 /// `part_places MAIL => PATH START END START END` for the mail and each part: where it stands, and then
 /// where its body does.
 fn list_places(alloc: Global, row: &Row, answer: &mut Answer) -> Result<(), MailParseError> {
-    let mail = parse_mail(alloc, row.bytes(0)?)?;
+    let mail = parse_mail(alloc, row.bytes(0))?;
     for place in &places(alloc, &mail)? {
-        write_place(place, answer)?;
+        answer.text(place.path.as_str());
+        answer.number(place.byte_range.start);
+        answer.number(place.byte_range.end);
+        answer.number(place.body_range.start);
+        answer.number(place.body_range.end);
     }
     Ok(())
-}
-
-/// Writes a path, and where the message and its body stand.
-fn write_place(place: &Place<'_, '_>, answer: &mut Answer) -> Result<(), MailParseError> {
-    answer.text(place.path.as_str())?;
-    answer.number(place.byte_range.start)?;
-    answer.number(place.byte_range.end)?;
-    answer.number(place.body_range.start)?;
-    Ok(answer.number(place.body_range.end)?)
-}
-
-/// `safe_file_name NAME => NAME`
-fn write_safe_name(alloc: Global, row: &Row, answer: &mut Answer) -> Result<(), MailParseError> {
-    let name = safe_file_name(alloc, row.text(0)?)?;
-    Ok(answer.text(name.as_str())?)
 }

@@ -4,121 +4,90 @@ use crate::calls::files::part_at;
 use mail_data::lenient::{
     DateError, base64_front, body_text, date_in, date_of, ids_in, lenient_body, own_ids_in,
 };
-use mail_suite::{Answer, Row, all_tables};
+use mail_suite::{Answer, Row, all_tables, push_raw};
 use mailparse::body::Body;
 use mailparse::{MailParseError, parse_mail};
 use std::alloc::Global;
 
 /// Makes the call of a row, if it is one of these.
-pub fn make(alloc: Global, row: &Row, answer: &mut Answer) -> Result<bool, MailParseError> {
+pub fn make(alloc: Global, row: &Row, answer: &mut Answer) -> bool {
     let outcome = match row.call.as_str() {
         "base64_front" => read_front(alloc, row, answer),
         "lenient_body" => read_body(alloc, row, answer),
         "body_text" => read_text(alloc, row, answer),
-        "ids_in" => find_ids(alloc, row, answer),
-        "own_ids_in" => find_own_ids(alloc, row, answer),
+        "ids_in" | "own_ids_in" => find_ids(alloc, row, answer),
         "date_of" => read_date(alloc, row, answer),
         "date_in" => read_zoned_date(alloc, row, answer),
-        _ => return Ok(false),
+        _ => return false,
     };
-    if let Err(error) = outcome {
-        answer.refusal(error)?;
-    }
-    Ok(true)
+    answer.end(outcome);
+    true
 }
 
 /// `base64_front BODY => BYTES GROUP`, GROUP the index of the first invalid group or `none`.
 fn read_front(alloc: Global, row: &Row, answer: &mut Answer) -> Result<(), MailParseError> {
-    let front = base64_front(alloc, row.bytes(0)?)?;
-    answer.bytes(front.bytes.as_slice())?;
-    match front.fault {
-        Some(group) => answer.number(group)?,
-        None => answer.word("none")?,
-    }
+    let front = base64_front(alloc, row.bytes(0))?;
+    answer.bytes(front.bytes.as_slice());
+    answer.optional_number(front.fault);
     Ok(())
 }
 
 /// `lenient_body MAIL PART => KIND RAW`, and the decoded bytes where the kind is `base64` or
 /// `quoted-printable`. The whole mail is part 0.
 fn read_body(alloc: Global, row: &Row, answer: &mut Answer) -> Result<(), MailParseError> {
-    let mail = parse_mail(alloc, row.bytes(0)?)?;
-    let part = part_at(alloc, &mail, row.number(1)?)?;
+    let mail = parse_mail(alloc, row.bytes(0))?;
+    let part = part_at(alloc, &mail, row.number(1))?;
     let body = lenient_body(alloc, part)?;
-    write_body(alloc, &body, answer)
-}
-
-/// `body_text MAIL => TEXT CHARSET DAMAGED` of the whole mail, under all tables.
-fn read_text(alloc: Global, row: &Row, answer: &mut Answer) -> Result<(), MailParseError> {
-    let mail = parse_mail(alloc, row.bytes(0)?)?;
-    let read = body_text(alloc, &mail, all_tables())?;
-    answer.text(read.text.as_str())?;
-    answer.text(read.charset.as_str())?;
-    Ok(answer.truth(read.is_damaged)?)
-}
-
-/// Writes a body.
-fn write_body(alloc: Global, body: &Body<'_>, answer: &mut Answer) -> Result<(), MailParseError> {
-    match body {
-        Body::Base64(body) => {
-            write_raw("base64", body.get_raw(), answer)?;
-            answer.bytes_or_refusal(body.get_decoded(alloc))
-        }
-        Body::QuotedPrintable(body) => {
-            write_raw("quoted-printable", body.get_raw(), answer)?;
-            answer.bytes_or_refusal(body.get_decoded(alloc))
-        }
-        Body::SevenBit(body) => write_raw("7bit", body.get_raw(), answer),
-        Body::EightBit(body) => write_raw("8bit", body.get_raw(), answer),
-        Body::Binary(body) => write_raw("binary", body.get_raw(), answer),
-    }
-}
-
-/// Writes the kind of a body and its bytes as they stand.
-fn write_raw(kind: &str, raw: &[u8], answer: &mut Answer) -> Result<(), MailParseError> {
-    answer.word(kind)?;
-    Ok(answer.bytes(raw)?)
-}
-
-/// `ids_in TEXT => ID..`
-fn find_ids(alloc: Global, row: &Row, answer: &mut Answer) -> Result<(), MailParseError> {
-    for id in &ids_in(alloc, row.text(0)?)? {
-        answer.text(id.as_str())?;
+    push_raw(answer, &body);
+    if let Body::Base64(body) | Body::QuotedPrintable(body) = &body {
+        answer.bytes_or_refusal(body.get_decoded(alloc));
     }
     Ok(())
 }
 
-/// `own_ids_in TEXT => ID..`
-fn find_own_ids(alloc: Global, row: &Row, answer: &mut Answer) -> Result<(), MailParseError> {
-    for id in &own_ids_in(alloc, row.text(0)?)? {
-        answer.text(id.as_str())?;
-    }
+/// `body_text MAIL => TEXT CHARSET DAMAGED` of the whole mail, under all tables.
+fn read_text(alloc: Global, row: &Row, answer: &mut Answer) -> Result<(), MailParseError> {
+    let mail = parse_mail(alloc, row.bytes(0))?;
+    let read = body_text(alloc, &mail, all_tables())?;
+    answer.text(read.text.as_str());
+    answer.text(read.charset.as_str());
+    answer.truth(read.is_damaged);
+    Ok(())
+}
+
+/// `ids_in TEXT => ID..` and `own_ids_in TEXT => ID..`
+fn find_ids(alloc: Global, row: &Row, answer: &mut Answer) -> Result<(), MailParseError> {
+    let ids = match row.call.as_str() {
+        "ids_in" => ids_in(alloc, row.text(0))?,
+        _ => own_ids_in(alloc, row.text(0))?,
+    };
+    answer.texts(ids.as_slice());
     Ok(())
 }
 
 /// `date_of TEXT => SECONDS`
 fn read_date(alloc: Global, row: &Row, answer: &mut Answer) -> Result<(), MailParseError> {
-    match date_of(row.text(0)?) {
-        Ok(seconds) => answer.signed(seconds)?,
-        Err(fault) => write_fault(alloc, fault, answer)?,
+    match date_of(row.text(0)) {
+        Ok(seconds) => answer.signed(seconds),
+        Err(fault) => write_fault(alloc, fault, answer),
     }
     Ok(())
 }
 
 /// `date_in TEXT => SECONDS KNOWN`, KNOWN whether the zone is known.
 fn read_zoned_date(alloc: Global, row: &Row, answer: &mut Answer) -> Result<(), MailParseError> {
-    match date_in(row.text(0)?) {
+    match date_in(row.text(0)) {
         Ok((seconds, is_known)) => {
-            answer.signed(seconds)?;
-            answer.truth(is_known)?;
+            answer.signed(seconds);
+            answer.truth(is_known);
         }
-        Err(fault) => write_fault(alloc, fault, answer)?,
+        Err(fault) => write_fault(alloc, fault, answer),
     }
     Ok(())
 }
 
 /// Writes what is wrong in a date.
-fn write_fault(alloc: Global, fault: DateError, answer: &mut Answer) -> Result<(), MailParseError> {
-    let text = format!(in alloc; "{fault}")?;
-    answer.word("error")?;
-    Ok(answer.text(text.as_str())?)
+fn write_fault(alloc: Global, fault: DateError, answer: &mut Answer) {
+    answer.word("error");
+    answer.made(format!(in alloc; "{fault}"));
 }

@@ -1,51 +1,69 @@
-//! The calls on mailboxes.
+//! The calls on mailboxes, and on those of other forms: mboxrd, mboxcl and mboxcl2.
 
-use mail_data::mailbox::{has_front, has_line, is_mailbox, read_mailbox, settled_entry};
+use mail_data::mailbox::formats::{Format, read_mailbox_in, settled_entry_in};
+use mail_data::mailbox::quoted::unquoted;
+use mail_data::mailbox::{
+    MailboxEntry, has_front, has_line, is_mailbox, read_mailbox, settled_entry,
+};
 use mail_suite::{Answer, Row};
-use mailparse::MailParseError;
 use std::alloc::Global;
 
 /// Makes the call of a row, if it is one of these.
-pub fn make(_alloc: Global, row: &Row, answer: &mut Answer) -> Result<bool, MailParseError> {
+pub fn make(alloc: Global, row: &Row, answer: &mut Answer) -> bool {
     match row.call.as_str() {
-        "read_mailbox" => list_mails(row, answer)?,
-        "settled_entry" => settle(row, answer)?,
-        "settled_front" => settle_front(row, answer)?,
-        _ => return Ok(false),
+        "read_mailbox" => list_mails(row, answer),
+        "read_counted_mailbox" => list_counted_mails(row, answer),
+        "settled_entry" => settle(answer, settled_entry(row.bytes(0))),
+        "settled_counted_entry" => {
+            settle(answer, settled_entry_in(Format::Counted, row.bytes(0)));
+        }
+        "settled_front" => settle_front(row, answer),
+        "unquoted" => answer.made_bytes(unquoted(alloc, row.bytes(0))),
+        _ => return false,
     }
-    Ok(true)
+    true
 }
 
 /// `read_mailbox BYTES => FRONT`, and `SEPARATOR MAIL ENDING` for each mail.
-fn list_mails(row: &Row, answer: &mut Answer) -> Result<(), MailParseError> {
-    let mails = read_mailbox(row.bytes(0)?);
-    answer.bytes(mails.front())?;
+fn list_mails(row: &Row, answer: &mut Answer) {
+    let mails = read_mailbox(row.bytes(0));
+    answer.bytes(mails.front());
     for entry in mails {
-        answer.bytes(entry.separator())?;
-        answer.bytes(entry.mail())?;
-        answer.bytes(entry.ending())?;
+        write_entry(answer, &entry);
     }
-    Ok(())
 }
 
-/// `settled_entry BYTES => SEPARATOR MAIL ENDING REST`, or `none`.
-fn settle(row: &Row, answer: &mut Answer) -> Result<(), MailParseError> {
-    let Some((entry, rest)) = settled_entry(row.bytes(0)?) else {
-        answer.word("none")?;
-        return Ok(());
-    };
-    answer.bytes(entry.separator())?;
-    answer.bytes(entry.mail())?;
-    answer.bytes(entry.ending())?;
-    answer.bytes(rest)?;
-    Ok(())
+/// `read_counted_mailbox BYTES => FRONT`, and `SEPARATOR MAIL ENDING` for each mail.
+fn list_counted_mails(row: &Row, answer: &mut Answer) {
+    let mails = read_mailbox_in(Format::Counted, row.bytes(0));
+    answer.bytes(mails.front());
+    for entry in mails {
+        write_entry(answer, &entry);
+    }
+}
+
+/// Writes a mail, and what stands round it.
+fn write_entry(answer: &mut Answer, entry: &MailboxEntry<'_>) {
+    answer.bytes(entry.separator());
+    answer.bytes(entry.mail());
+    answer.bytes(entry.ending());
+}
+
+/// `settled_entry BYTES => SEPARATOR MAIL ENDING REST`, or `none`; likewise `settled_counted_entry`.
+fn settle(answer: &mut Answer, found: Option<(MailboxEntry<'_>, &[u8])>) {
+    match found {
+        Some((entry, rest)) => {
+            write_entry(answer, &entry);
+            answer.bytes(rest);
+        }
+        None => answer.word("none"),
+    }
 }
 
 /// `settled_front BYTES => IS_MAILBOX HAS_LINE HAS_FRONT`.
-fn settle_front(row: &Row, answer: &mut Answer) -> Result<(), MailParseError> {
-    let bytes = row.bytes(0)?;
-    answer.truth(is_mailbox(bytes))?;
-    answer.truth(has_line(bytes))?;
-    answer.truth(has_front(bytes))?;
-    Ok(())
+fn settle_front(row: &Row, answer: &mut Answer) {
+    let bytes = row.bytes(0);
+    answer.truth(is_mailbox(bytes));
+    answer.truth(has_line(bytes));
+    answer.truth(has_front(bytes));
 }

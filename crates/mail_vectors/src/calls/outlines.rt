@@ -17,57 +17,52 @@ use std::alloc::Global;
 use steps::outline_of;
 
 /// Makes the call of a row, if it is one of these.
-pub fn make(alloc: Global, row: &Row, answer: &mut Answer) -> Result<bool, MailParseError> {
+pub fn make(alloc: Global, row: &Row, answer: &mut Answer) -> bool {
     let outcome = match row.call.as_str() {
-        "render" => write_bytes(alloc, row, answer),
-        "is_well_formed" => judge(alloc, row, answer),
-        "read_outline" => read_back(alloc, &outline_of(alloc, row)?, answer),
-        "outline" => write_all(alloc, row, answer),
-        _ => return Ok(false),
+        "render" | "is_well_formed" | "read_outline" | "outline" => write_all(alloc, row, answer),
+        _ => return false,
     };
-    if let Err(error) = outcome {
-        answer.refusal(error)?;
-    }
-    Ok(true)
+    answer.end(outcome);
+    true
 }
 
-/// `render STEP.. => BYTES`
-fn write_bytes(alloc: Global, row: &Row, answer: &mut Answer) -> Result<(), MailParseError> {
-    let outline = outline_of(alloc, row)?;
-    answer.bytes_or_refusal(render(alloc, &outline))
-}
-
-/// `is_well_formed STEP.. => TRUTH`
-fn judge(alloc: Global, row: &Row, answer: &mut Answer) -> Result<(), MailParseError> {
-    let outline = outline_of(alloc, row)?;
-    Ok(answer.truth(is_well_formed(alloc, &outline)?)?)
-}
-
-/// `outline STEP.. => BYTES TRUTH`, the answers of the two calls above, and after `true` that of
-/// the call below.
+/// Writes what a call says of an outline.
+///
+/// - `render STEP.. => BYTES`
+/// - `is_well_formed STEP.. => TRUTH`
+/// - `read_outline STEP.. => LEVELS PARTS`: the least limit on levels under which the bytes of the
+///   outline are read, and how many messages the mail holds; or the word `differs` where it is not
+///   the mail that the outline stands for.
+/// - `outline STEP.. => BYTES TRUTH`, the answers of the first two calls, and after `true` that of the
+///   third.
 fn write_all(alloc: Global, row: &Row, answer: &mut Answer) -> Result<(), MailParseError> {
     let outline = outline_of(alloc, row)?;
-    answer.bytes_or_refusal(render(alloc, &outline))?;
-    let is_well_formed = is_well_formed(alloc, &outline)?;
-    answer.truth(is_well_formed)?;
-    if is_well_formed {
-        read_back(alloc, &outline, answer)
-    } else {
-        Ok(())
+    match row.call.as_str() {
+        "render" => answer.bytes_or_refusal(render(alloc, &outline)),
+        "is_well_formed" => answer.truth(is_well_formed(alloc, &outline)?),
+        "read_outline" => return read_back(alloc, &outline, answer),
+        _ => {
+            answer.bytes_or_refusal(render(alloc, &outline));
+            let is_well_formed = is_well_formed(alloc, &outline)?;
+            answer.truth(is_well_formed);
+            if is_well_formed {
+                return read_back(alloc, &outline, answer);
+            }
+        }
     }
+    Ok(())
 }
 
-/// `read_outline STEP.. => LEVELS PARTS`: the least limit on levels under which the bytes of the
-/// outline are read, and how many messages the mail holds; or the word `differs` where it is not
-/// the mail that the outline stands for.
+/// Writes LEVELS and PARTS.
 fn read_back(alloc: Global, outline: &Outline, answer: &mut Answer) -> Result<(), MailParseError> {
     let bytes = render(alloc, outline)?;
     let levels = least_levels(alloc, bytes.as_slice())?;
     if is_read_under(alloc, outline, bytes.as_slice(), levels)? {
-        answer.number(usize::from(levels))?;
+        answer.number(usize::from(levels));
         write_mail(alloc, outline, bytes.as_slice(), answer)
     } else {
-        Ok(answer.word("differs")?)
+        answer.word("differs");
+        Ok(())
     }
 }
 
@@ -91,8 +86,9 @@ fn write_mail(
 ) -> Result<(), MailParseError> {
     let mail = parse_mail(alloc, bytes)?;
     if is_message_of(alloc, outline, &mail)? {
-        Ok(answer.number(mail.parts(alloc)?.count())?)
+        answer.number(mail.parts(alloc)?.count());
     } else {
-        Ok(answer.word("differs")?)
+        answer.word("differs");
     }
+    Ok(())
 }

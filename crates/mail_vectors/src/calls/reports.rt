@@ -1,44 +1,47 @@
-//! The calls on delivery reports.
+//! The calls on delivery reports and on threads.
 
+use mail_data::archive::{message_id, parents};
 use mail_data::bounce::{Recipient, original_message_id, recipients};
 use mail_suite::{Answer, Row};
 use mailparse::{MailParseError, parse_mail};
-use std::alloc::{AllocError, Global};
+use std::alloc::Global;
 
 /// Makes the call of a row, if it is one of these.
-pub fn make(alloc: Global, row: &Row, answer: &mut Answer) -> Result<bool, MailParseError> {
+///
+/// - `recipients MAIL => FINAL ORIGINAL ACTION STATUS CODE` for each recipient
+/// - `original_message_id MAIL => ID`
+/// - `message_id MAIL => ID`
+/// - `parents MAIL => ID..`
+pub fn make(alloc: Global, row: &Row, answer: &mut Answer) -> bool {
     let outcome = match row.call.as_str() {
-        "recipients" => list_recipients(alloc, row, answer),
-        "original_message_id" => find_original(alloc, row, answer),
-        _ => return Ok(false),
+        "recipients" | "original_message_id" | "message_id" | "parents" => {
+            read_mail(alloc, row, answer)
+        }
+        _ => return false,
     };
-    if let Err(error) = outcome {
-        answer.refusal(error)?;
-    }
-    Ok(true)
+    answer.end(outcome);
+    true
 }
 
-/// `original_message_id MAIL => ID`
-fn find_original(alloc: Global, row: &Row, answer: &mut Answer) -> Result<(), MailParseError> {
-    let mail = parse_mail(alloc, row.bytes(0)?)?;
-    answer.optional_text(original_message_id(alloc, &mail)?.as_deref())?;
-    Ok(())
-}
-
-/// `recipients MAIL => FINAL ORIGINAL ACTION STATUS CODE` for each recipient.
-fn list_recipients(alloc: Global, row: &Row, answer: &mut Answer) -> Result<(), MailParseError> {
-    let mail = parse_mail(alloc, row.bytes(0)?)?;
-    for recipient in &recipients(alloc, &mail)? {
-        write_recipient(recipient, answer)?;
+/// Writes what a call says of a mail.
+fn read_mail(alloc: Global, row: &Row, answer: &mut Answer) -> Result<(), MailParseError> {
+    let mail = parse_mail(alloc, row.bytes(0))?;
+    match row.call.as_str() {
+        "recipients" => write_recipients(answer, recipients(alloc, &mail)?.as_slice()),
+        "original_message_id" => answer.optional_or_refusal(original_message_id(alloc, &mail)),
+        "message_id" => answer.optional_or_refusal(message_id(alloc, &mail)),
+        _ => answer.texts_or_refusal(parents(alloc, &mail)),
     }
     Ok(())
 }
 
-/// Writes the fields of a recipient.
-fn write_recipient(recipient: &Recipient, answer: &mut Answer) -> Result<(), AllocError> {
-    answer.optional_text(recipient.final_recipient.as_deref())?;
-    answer.optional_text(recipient.original_recipient.as_deref())?;
-    answer.optional_text(recipient.action.as_deref())?;
-    answer.optional_text(recipient.status.as_deref())?;
-    answer.optional_text(recipient.diagnostic_code.as_deref())
+/// Writes the fields of recipients.
+fn write_recipients(answer: &mut Answer, recipients: &[Recipient]) {
+    for recipient in recipients {
+        answer.optional_text(recipient.final_recipient.as_deref());
+        answer.optional_text(recipient.original_recipient.as_deref());
+        answer.optional_text(recipient.action.as_deref());
+        answer.optional_text(recipient.status.as_deref());
+        answer.optional_text(recipient.diagnostic_code.as_deref());
+    }
 }

@@ -1,14 +1,14 @@
-//! The calls on the texts of mails, and on the mails inside them.
+//! The calls on the texts of mails, and on the mails inside them; and `text_type TYPE => TYPE`.
 
 use crate::calls::files::part_at;
 use mail_data::forwarding::{forwarded, forwarded_bytes, forwarded_with, mails_inside};
 use mail_data::texts::{text_part, text_part_with, text_type};
-use mail_suite::{Answer, FORM, Row, all_tables};
+use mail_suite::{Answer, Row, all_tables};
 use mailparse::{MAX_LEVELS, MailParseError, ParsedMail, parse_mail, parse_mail_with};
 use std::alloc::Global;
 
 /// Makes the call of a row, if it is one of these.
-pub fn make(alloc: Global, row: &Row, answer: &mut Answer) -> Result<bool, MailParseError> {
+pub fn make(alloc: Global, row: &Row, answer: &mut Answer) -> bool {
     let outcome = match row.call.as_str() {
         "text_part" => find_text(alloc, row, answer),
         "text_part_with" => find_text_with(alloc, row, answer),
@@ -16,42 +16,46 @@ pub fn make(alloc: Global, row: &Row, answer: &mut Answer) -> Result<bool, MailP
         "forwarded_with" => read_forwarded_with(alloc, row, answer),
         "forwarded_bytes" => copy_forwarded(alloc, row, answer),
         "mails_inside" => list_mails(alloc, row, answer),
-        "text_type" => name_type(row, answer),
-        _ => return Ok(false),
+        "text_type" => {
+            answer.text(text_type(row.text(0)));
+            Ok(())
+        }
+        _ => return false,
     };
-    if let Err(error) = outcome {
-        answer.refusal(error)?;
-    }
-    Ok(true)
+    answer.end(outcome);
+    true
 }
 
 /// `text_part MAIL => TEXT`, the text that `get_body` returns of the part.
 fn find_text(alloc: Global, row: &Row, answer: &mut Answer) -> Result<(), MailParseError> {
-    let mail = parse_mail(alloc, row.bytes(0)?)?;
+    let mail = parse_mail(alloc, row.bytes(0))?;
     match text_part(alloc, &mail)? {
         Some(part) => answer.text_or_refusal(part.get_body(alloc)),
-        None => Ok(answer.word("none")?),
+        None => answer.word("none"),
     }
+    Ok(())
 }
 
 /// `text_part_with MAIL => TEXT` likewise, under all tables.
 fn find_text_with(alloc: Global, row: &Row, answer: &mut Answer) -> Result<(), MailParseError> {
-    let mail = parse_mail_with(alloc, row.bytes(0)?, all_tables())?;
+    let mail = parse_mail_with(alloc, row.bytes(0), all_tables())?;
     match text_part_with(alloc, &mail, all_tables())? {
         Some(part) => answer.text_or_refusal(part.get_body_with(alloc, all_tables())),
-        None => Ok(answer.word("none")?),
+        None => answer.word("none"),
     }
+    Ok(())
 }
 
 /// `forwarded MAIL PART LEVELS => BODY`, the bytes that `get_body_raw` returns of the mail inside,
 /// or `none`. The whole mail is part 0.
 fn read_forwarded(alloc: Global, row: &Row, answer: &mut Answer) -> Result<(), MailParseError> {
-    let mail = parse_mail(alloc, row.bytes(0)?)?;
-    let part = part_at(alloc, &mail, row.number(1)?)?;
-    match forwarded(alloc, part, level(row, 2)?.min(MAX_LEVELS))? {
+    let mail = parse_mail(alloc, row.bytes(0))?;
+    let part = part_at(alloc, &mail, row.number(1))?;
+    match forwarded(alloc, part, row.levels(2).min(MAX_LEVELS))? {
         Some(inside) => answer.bytes_or_refusal(inside.get_body_raw(alloc)),
-        None => Ok(answer.word("none")?),
+        None => answer.word("none"),
     }
+    Ok(())
 }
 
 /// `forwarded_with MAIL => NAME BODY`, the parameter `name` of the mail inside or `none`, and the
@@ -61,45 +65,33 @@ fn read_forwarded_with(
     row: &Row,
     answer: &mut Answer,
 ) -> Result<(), MailParseError> {
-    let mail = parse_mail_with(alloc, row.bytes(0)?, all_tables())?;
+    let mail = parse_mail_with(alloc, row.bytes(0), all_tables())?;
     match forwarded_with(alloc, &mail, all_tables())? {
         Some(inside) => {
             let name = inside.ctype.params.get("name");
-            answer.optional_text(name.map(|name| name.as_str()))?;
-            answer.bytes_or_refusal(inside.get_body_raw(alloc))
+            answer.optional_text(name.map(|name| name.as_str()));
+            answer.bytes_or_refusal(inside.get_body_raw(alloc));
         }
-        None => Ok(answer.word("none")?),
+        None => answer.word("none"),
     }
+    Ok(())
 }
 
 /// `forwarded_bytes MAIL => BYTES`, or `none`.
 fn copy_forwarded(alloc: Global, row: &Row, answer: &mut Answer) -> Result<(), MailParseError> {
-    let mail = parse_mail(alloc, row.bytes(0)?)?;
+    let mail = parse_mail(alloc, row.bytes(0))?;
     match forwarded_bytes(alloc, &mail)? {
-        Some(bytes) => answer.bytes(bytes.as_slice())?,
-        None => answer.word("none")?,
+        Some(bytes) => answer.bytes(bytes.as_slice()),
+        None => answer.word("none"),
     }
     Ok(())
-}
-
-/// `text_type TYPE => TYPE`
-fn name_type(row: &Row, answer: &mut Answer) -> Result<(), MailParseError> {
-    Ok(answer.text(text_type(row.text(0)?))?)
 }
 
 /// `mails_inside MAIL MOST => BYTES` for each mail.
 fn list_mails(alloc: Global, row: &Row, answer: &mut Answer) -> Result<(), MailParseError> {
-    let mail = parse_mail(alloc, row.bytes(0)?)?;
-    for inside in &mails_inside(alloc, &mail, level(row, 1)?)? {
-        answer.bytes(inside.as_slice())?;
+    let mail = parse_mail(alloc, row.bytes(0))?;
+    for inside in &mails_inside(alloc, &mail, row.levels(1))? {
+        answer.bytes(inside.as_slice());
     }
     Ok(())
-}
-
-/// The number of levels that an input writes.
-fn level(row: &Row, at: usize) -> Result<u8, MailParseError> {
-    match u8::try_from(row.number(at)?) {
-        Ok(levels) => Ok(levels),
-        Err(_) => Err(FORM),
-    }
 }

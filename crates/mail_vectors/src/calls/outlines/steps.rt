@@ -35,23 +35,23 @@ impl Made {
     /// Takes the step at this input, and returns how many inputs it has.
     fn take(&mut self, alloc: Global, row: &Row, at: usize) -> Result<usize, MailParseError> {
         let (second, third) = (at.saturating_add(1), at.saturating_add(2));
-        match row.text(at)? {
+        match row.text(at) {
             "header" => {
-                self.add_header(alloc, row.bytes(second)?, row.bytes(third)?)?;
+                self.add_header(alloc, row.bytes(second), row.bytes(third))?;
                 Ok(3)
             }
             "leaf" => {
-                let body = row.bytes(second)?.to_vec(alloc)?;
+                let body = row.bytes(second).to_vec(alloc)?;
                 self.add(alloc, OutlineKind::Leaf(body))?;
                 Ok(2)
             }
             "branch" => {
-                self.add_branch(alloc, row.bytes(second)?, row.number(third)?)?;
+                self.add_branch(alloc, row.bytes(second), row.number(third))?;
                 Ok(3)
             }
             "mixed" => {
-                self.add_type(alloc, row.bytes(second)?)?;
-                self.add_branch(alloc, row.bytes(second)?, row.number(third)?)?;
+                self.add_type(alloc, row.bytes(second))?;
+                self.add_branch(alloc, row.bytes(second), row.number(third))?;
                 Ok(3)
             }
             _ => Err(FORM),
