@@ -8,7 +8,10 @@ use std::cell::Cell;
 use std::str::from_utf8;
 
 /// A row that does not follow the notation, or whose inputs are not those of its call.
-pub const FORM: MailParseError = MailParseError::Generic("not a row of the suite");
+pub const FORM: MailParseError = MailParseError::Generic(NOT_A_ROW);
+
+/// What such a row is refused with.
+const NOT_A_ROW: &str = "not a row of the suite";
 
 /// How much room an answer has from the start, so that writing it takes no memory of its own.
 /// A tool that refuses memory knows the start of a row by this size.
@@ -345,8 +348,9 @@ fn push_char(bytes: &mut Vec<u8>, text: &str) -> Result<(), MailParseError> {
 /// What a call returned, item by item: a word as it is, and a text with its length before it, so that
 /// no two lists of items look the same.
 ///
-/// No call of it fails, so that whoever writes an answer need not ask item by item whether memory ran
-/// out: the answer remembers that, and `outcome` says it once.
+/// No call of it fails: an answer remembers that memory ran out, and `outcome` says so once. So a call
+/// is written down in straight lines, without a way out after each item, which is shorter and much
+/// cheaper to prove.
 #[derive(Drop)]
 pub struct Answer {
     written: Vec<u8>,
@@ -354,6 +358,8 @@ pub struct Answer {
     is_debug: bool,
     /// Whether memory ran out, in a call or while the answer was written.
     has_run_out: bool,
+    /// Whether the row is none of the suite.
+    is_malformed: bool,
     alloc: Global,
 }
 
@@ -372,14 +378,17 @@ impl Answer {
             written: Vec::new(alloc),
             is_debug: false,
             has_run_out: false,
+            is_malformed: false,
             alloc,
         }
     }
 
-    /// Whether the answer is whole: the error says that memory ran out.
+    /// Whether the answer is whole: the error says that memory ran out, or that the row is none.
     pub fn outcome(&self) -> Result<(), MailParseError> {
         if self.has_run_out {
             Err(MailParseError::Memory(AllocError))
+        } else if self.is_malformed {
+            Err(FORM)
         } else {
             Ok(())
         }
@@ -587,10 +596,11 @@ impl Answer {
     }
 
     /// Adds `error` and the text of a refusal, or its Debug and source where the row asks for them.
-    /// That memory ran out is none.
+    /// That memory ran out is none, nor is `FORM`.
     pub fn refusal(&mut self, error: MailParseError) {
         match &error {
             MailParseError::Memory(_) => self.has_run_out = true,
+            MailParseError::Generic(NOT_A_ROW) => self.is_malformed = true,
             _ if self.is_debug => self.debug(&error),
             MailParseError::Generic(text) => self.error(text),
             _ => {
