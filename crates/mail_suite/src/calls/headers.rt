@@ -97,7 +97,8 @@ fn push_texts(alloc: Global, row: &Row, answer: &mut Answer) -> Result<(), MailP
 /// Writes a text, or the text that the refusal holds.
 fn push_strict(answer: &mut Answer, outcome: Result<String, MailParseError>) {
     match outcome {
+        Ok(text) => answer.text(text.as_str()),
         Err(MailParseError::EncodingError(text)) => answer.error(text.as_str()),
-        outcome => answer.text_or_refusal(outcome),
+        Err(error) => answer.refusal(error),
     }
 }

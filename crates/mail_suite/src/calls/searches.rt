@@ -141,11 +141,12 @@ impl Sweep {
         middle: &[u8],
         [before, after]: [u8; 2],
     ) -> Result<(), AllocError> {
-        for lead in 0..=self.most {
+        let most = self.most;
+        for lead in 0..=most {
             self.text.clear();
             push_times(&mut self.text, &[before], lead)?;
             self.text.extend_from_slice(middle)?;
-            push_times(&mut self.text, &[after], self.most.saturating_sub(lead))?;
+            push_times(&mut self.text, &[after], most.saturating_sub(lead))?;
             let found = place_of(self.text.as_slice(), needle);
             self.runs.place(answer, found, lead);
         }
