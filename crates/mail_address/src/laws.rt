@@ -1,10 +1,11 @@
 //! What holds of every list of addresses. Each function does nothing; its contract is the law.
 ghost use Rattle.std.specs.Prelude.{[], ◌≡◌, ◌+◌, ◌∷◌, ◌++◌, List, length, suc, true, ℕ};
-ghost use Rattle.mail_codec.specs.Ascii.{backslash, comma};
+ghost use Rattle.mail_codec.specs.Ascii.{backslash, comma, space};
 ghost use Rattle.mail_address.specs.Addresses.{addresses, element_at, element_len, items};
 ghost use Rattle.mail_address.specs.Enclosed.{IsEnclosed, IsInAngles};
 ghost use Rattle.mail_address.specs.Names.{AreNameWords, bracketed, named};
 ghost use Rattle.mail_address.specs.Order.{MakeUp, StandFrom};
+ghost use Rattle.mail_address.specs.Text.{phrase_text, quoted_text};
 ghost use Rattle.mail_address.specs.Tokens.{is_in, run};
 ghost use Rattle.mail_address.specs.declared.tokens.Kind.TheVariants.{Angle};
 ghost use Rattle.mail_address.specs.declared.tokens.Span.{Span};
@@ -55,7 +56,7 @@ pub fn nothing_enclosed_separates()
 /// No display name forges an address. Take a name of quoted strings and atoms, as encoded words are,
 /// with a space behind each, and anything in angle brackets behind it. That is one element, whatever
 /// the name stands for: the mailbox of the address in the brackets, if they hold one. After a comma
-/// the list goes on.
+/// the list goes on. Every text is such a name as a quoted string, and the phrase stands for it.
 ///
 /// # Examples
 ///
@@ -69,4 +70,6 @@ pub fn names_forge_nothing()
         items element_at element_len start ((name ++ bracketed inner) ++ comma ∷ rest)
         ≡ named start name inner
         ∷ items element_at element_len (start + suc (length (name ++ bracketed inner))) rest }
+    ensures quoted { (text : List ℕ) → AreNameWords (quoted_text text ++ space ∷ []) }
+    ensures shown { (text : List ℕ) → phrase_text (quoted_text text ++ space ∷ []) ≡ text }
 {}

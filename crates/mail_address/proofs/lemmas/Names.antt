@@ -1,8 +1,8 @@
 -- Lemmas on mailboxes whose names may stand for anything.
-use Rattle.std.proofs.Common.{◌≡◌, ℕ, suc, ◌+◌, ◌-◌, ◌<◌, true, false, cond, eqb, ◌&&◌, ◌||◌, List, [], ◌∷◌, ◌++◌, None, length, take, drop, map, refl, sym, ap, subst, ◌∙◌, arith, append_assoc, length-append}
+use Rattle.std.proofs.Common.{◌≡◌, ℕ, suc, ◌+◌, ◌-◌, ◌<◌, Bool, true, false, cond, eqb, ◌&&◌, ◌||◌, List, [], ◌∷◌, ◌++◌, None, length, take, drop, map, refl, sym, ap, subst, ◌∙◌, arith, append_assoc, length-append}
 use Rattle.std.specs.Prelude.{min}
-use Rattle.std.specs.List.{list_all, prefix_len}
-use Rattle.std.proofs.lemmas.Bool.{and_parts, cond-false, eq-eqb, false≢true, ne_eqb, or_right}
+use Rattle.std.specs.List.{flat_map, list_all, prefix_len}
+use Rattle.std.proofs.lemmas.Bool.{and_parts, cond-false, eq-eqb, eqb-false, false≢true, ne_eqb, or_parts, or_right}
 use Rattle.std.proofs.lemmas.List.{append-nil, drop_all, drop_at, take_all, take_at}
 use Rattle.mail_codec.specs.Places.{begins}
 use Rattle.mail_address.specs.declared.tokens.Kind.{Kind}
@@ -10,12 +10,14 @@ use Rattle.mail_address.specs.declared.tokens.Kind.TheVariants.{Angle, Atom, Bla
 use Rattle.mail_address.specs.declared.tokens.Span.{Span}
 use Rattle.mail_address.specs.declared.tokens.Span.TheVariants.{BeforeMark, BeforeSeparator, Phrase, White, Word}
 use Rattle.mail_address.specs.Addresses.{after_name, element_at, element_len, inner_len, is_group, items, name_len, single, single_at}
-use Rattle.mail_address.specs.Enclosed.{IsInAngles, in_angles}
+use Rattle.mail_address.specs.Enclosed.{IsBetween, no_bytes, quoted_pair, plain_byte, IsInAngles, in_angles}
 use Rattle.mail_address.specs.Mailbox.{after_route, after_white, is_enclosed, is_phrase, mailbox_of, named_mailbox, spec_mailbox, within_ends}
 use Rattle.mail_address.specs.Names.{AreNameWords, bracketed, IsNameWord, atom_word, last_word, next_word, quoted_word}
+use Rattle.mail_address.specs.Text.{escaped_byte, front_len, front_meaning, meaning, phrase_text, quoted_text, unquoted, word_at, word_or_space, word_or_white_len, words_text}
 use Rattle.mail_address.specs.Tokens.{far, front_token, is_all_white, is_atom_byte, is_in, is_white, plain_token, run, single_kind, step}
 use Rattle.mail_address.proofs.lemmas.Addresses.{element_len-some, items-more}
 use Rattle.mail_address.proofs.lemmas.Enclosed.{angle-front, enclosed-passed, marked-length, quoted-front, run-token}
+use Rattle.mail_address.proofs.lemmas.Text.{word_or_white-some}
 use Rattle.mail_address.proofs.lemmas.Tokens.{far-stop}
 
 -- ---- one word
@@ -375,3 +377,99 @@ pub names-first : (start : ℕ) (name inner rest : List ℕ) → AreNameWords na
 names-first start name inner rest words inside =
     first-is name inner (44 ∷ rest) words inside refl start rest (suc (length (name ++ bracketed inner))) (comma-ends BeforeMark rest refl) (comma-ends BeforeSeparator rest refl) (omega arith)
     (behind (name ++ bracketed inner) rest)
+
+-- ---- a quoted name may hold anything
+
+escaped-between : (text : List ℕ) → IsBetween 34 34 (flat_map escaped_byte text)
+escaped-between [] = no_bytes
+escaped-between (b ∷ text) = go (eqb b 34 || eqb b 92) refl (escaped-between text)
+  where
+    go : (t : Bool) → (eqb b 34 || eqb b 92) ≡ t → IsBetween 34 34 (flat_map escaped_byte text)
+        → IsBetween 34 34 (cond t (92 ∷ b ∷ []) (b ∷ []) ++ flat_map escaped_byte text)
+    go true e later = quoted_pair later
+    go false e later =
+        let both = or_parts (eqb b 34) (eqb b 92) e in
+        plain_byte (eqb-false b 34 both.0) (eqb-false b 34 both.0) (eqb-false b 92 both.1) later
+
+unquoted-escaped : (text : List ℕ) → unquoted false (flat_map escaped_byte text) ≡ text
+unquoted-escaped [] = refl
+unquoted-escaped (b ∷ text) = go (eqb b 34 || eqb b 92) refl (unquoted-escaped text)
+  where
+    go : (t : Bool) → (eqb b 34 || eqb b 92) ≡ t → unquoted false (flat_map escaped_byte text) ≡ text
+        → unquoted false (cond t (92 ∷ b ∷ []) (b ∷ []) ++ flat_map escaped_byte text) ≡ b ∷ text
+    go true e later = ap (λ (r : List ℕ). b ∷ r) later
+    go false e later = rw ((or_parts (eqb b 34) (eqb b 92) e).1) (ap (λ (r : List ℕ). b ∷ r) later)
+
+quoted-is_word : (text : List ℕ) → IsNameWord (quoted_text text)
+unfolding quoted_text
+quoted-is_word text = quoted_word (escaped-between text) refl
+
+pub quoted-is_name : (text : List ℕ) → AreNameWords (quoted_text text ++ 32 ∷ [])
+quoted-is_name text = last_word (quoted-is_word text) refl
+
+quoted-token : (text rest : List ℕ) → front_token (quoted_text text ++ rest) ≡ record { kind = Quoted; len = length (quoted_text text) }
+unfolding quoted_text
+quoted-token text rest = quoted-front (escaped-between text) refl rest
+
+quoted-within : (text : List ℕ) → within_ends (quoted_text text) ≡ flat_map escaped_byte text
+unfolding quoted_text
+quoted-within text =
+    let len = marked-length 34 34 (flat_map escaped_byte text) in
+    take_at (flat_map escaped_byte text) (34 ∷ []) (length (quoted_text text) - 2) (omega (arith, len))
+
+-- what the quoted string stands for
+quoted-meaning : (text rest : List ℕ) → front_meaning (quoted_text text ++ rest) ≡ text
+unfolding front_meaning front_len
+quoted-meaning text rest =
+    ap (λ t. meaning t.kind (take t.len (quoted_text text ++ rest))) (quoted-token text rest)
+    ∙ ap (λ b. unquoted false (within_ends b)) (take_at (quoted_text text) rest (length (quoted_text text)) refl)
+    ∙ ap (unquoted false) (quoted-within text)
+    ∙ unquoted-escaped text
+
+quoted-len : (text rest : List ℕ) → front_len (quoted_text text ++ rest) ≡ length (quoted_text text)
+unfolding front_len
+quoted-len text rest = ap (λ t. t.len) (quoted-token text rest)
+
+-- a word at the front of a phrase is its meaning, and not whitespace
+word-meaning : (bytes : List ℕ) → Front bytes → 0 < length bytes → word_or_space bytes ≡ front_meaning bytes
+unfolding word_or_space
+word-meaning bytes front some = rw (all_white-not bytes front some) (rw (step-white bytes front) refl)
+
+word-len : (bytes : List ℕ) → Front bytes → word_or_white_len bytes ≡ front_len bytes
+unfolding word_or_white_len
+word-len bytes front = rw (step-white bytes front) refl
+
+-- the space at the end shows nothing
+space-shows : word_or_space (32 ∷ []) ≡ []
+unfolding word_or_space is_all_white far step front_token
+space-shows = refl
+
+space-len : word_or_white_len (32 ∷ []) ≡ 1
+unfolding word_or_white_len far step front_token
+space-len = refl
+
+no_words : (start : ℕ) → items word_at word_or_white_len start [] ≡ []
+unfolding items
+no_words start = refl
+
+space-words : (start : ℕ) → items word_at word_or_white_len start (32 ∷ []) ≡ []
+space-words start =
+    items-more word_at word_or_white_len word_or_white-some start (32 ∷ []) (omega arith)
+    ∙ ap (λ s. s ++ items word_at word_or_white_len (start + word_or_white_len (32 ∷ [])) (drop (word_or_white_len (32 ∷ [])) (32 ∷ []))) space-shows
+    ∙ ap (λ n. items word_at word_or_white_len (start + n) (drop n (32 ∷ []))) space-len
+    ∙ no_words (start + 1)
+
+pub quoted-shows : (text : List ℕ) → phrase_text (quoted_text text ++ 32 ∷ []) ≡ text
+unfolding phrase_text words_text
+quoted-shows text =
+    let words = quoted-is_name text in
+    let front : Front (quoted_text text ++ 32 ∷ []) = subst Front (append-nil (quoted_text text ++ 32 ∷ [])) (front-of words []) in
+    let len : word_or_white_len (quoted_text text ++ 32 ∷ []) ≡ length (quoted_text text) = word-len (quoted_text text ++ 32 ∷ []) front ∙ quoted-len text (32 ∷ []) in
+    ap (items word_at word_or_white_len 0) (after_white-same (quoted_text text ++ 32 ∷ []) front)
+    ∙ items-more word_at word_or_white_len word_or_white-some 0 (quoted_text text ++ 32 ∷ []) (names-some words)
+    ∙ ap (λ s. s ++ items word_at word_or_white_len (0 + word_or_white_len (quoted_text text ++ 32 ∷ [])) (drop (word_or_white_len (quoted_text text ++ 32 ∷ [])) (quoted_text text ++ 32 ∷ [])))
+    (word-meaning (quoted_text text ++ 32 ∷ []) front (names-some words) ∙ quoted-meaning text (32 ∷ []))
+    ∙ ap (λ n. text ++ items word_at word_or_white_len (0 + n) (drop n (quoted_text text ++ 32 ∷ []))) len
+    ∙ ap (λ r. text ++ items word_at word_or_white_len (0 + length (quoted_text text)) r) (drop_at (quoted_text text) (32 ∷ []) (length (quoted_text text)) refl)
+    ∙ ap (λ r. text ++ r) (space-words (0 + length (quoted_text text)))
+    ∙ append-nil text

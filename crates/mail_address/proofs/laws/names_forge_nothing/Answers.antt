@@ -1,4 +1,4 @@
-use Rattle.mail_address.proofs.lemmas.Names.{names-alone, names-first}
+use Rattle.mail_address.proofs.lemmas.Names.{names-alone, names-first, quoted-is_name, quoted-shows}
 use Rattle.mail_address.proofs.laws.names_forge_nothing.Goals as goal
 
 pub returns-clause-alone : goal.returns-clause-alone
@@ -6,3 +6,9 @@ returns-clause-alone c = names-alone
 
 pub returns-clause-first : goal.returns-clause-first
 returns-clause-first c = names-first
+
+pub returns-clause-quoted : goal.returns-clause-quoted
+returns-clause-quoted c = quoted-is_name
+
+pub returns-clause-shown : goal.returns-clause-shown
+returns-clause-shown c = quoted-shows
