@@ -11,5 +11,6 @@ line_view line = record {
   path = option_map (λ text. text.now) line.path;
   saved = option_map (λ text. text.now) line.saved;
   size = line.size;
+  sha256 = option_map (λ text. text.now) line.sha256;
   error = option_map (λ text. text.now) line.error;
 }

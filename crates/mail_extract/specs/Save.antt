@@ -1,11 +1,12 @@
 -- What saving the files of a mail does to a folder; the program's own rule.
-use Rattle.std.specs.Prelude.{◌≡◌, ℕ, suc, ◌+◌, ◌-◌, ◌^◌, ◌<◌, ◌≤◌, ◌⊎◌, Bool, true, false, List, [], ◌∷◌, ◌++◌, length, map, Option, Some, None, is_some}
+use Rattle.std.specs.Prelude.{◌≡◌, ℕ, suc, ◌+◌, ◌-◌, ◌^◌, ◌<◌, ◌≤◌, ◌⊎◌, Bool, true, false, List, [], ◌∷◌, ◌++◌, length, map, Option, Some, None, is_some, option_map, if◌then◌else◌}
 use Rattle.mail_codec.specs.Charset.{Charsets}
 use Rattle.mailparse.specs.Mail.{Tree, root}
 use Rattle.mailparse.specs.Refusal.{Refusal}
 use Rattle.mail_data.specs.Files.{attachments_in, file_name_in}
 use Rattle.mail_extract.specs.Content.{Content, content}
 use Rattle.mail_extract.specs.Folder.{File, has_file}
+use Rattle.mail_extract.specs.Hash.{hash_text}
 use Rattle.mail_extract.specs.Names.{IsNumbered, wanted_name}
 
 -- a file that is to be saved: the path of its part, the name that is wanted, and its content
@@ -14,11 +15,13 @@ pub record Wanted : Type 0 where
   pub name : List ℕ
   pub content : Content
 
--- what became of it: its path, the name under which it was saved if it was, how many bytes it has, and whether there is an error
+-- what became of it: its path, the name under which it was saved if it was, how many bytes it has, their SHA-256 if it is told, and whether there
+-- is an error
 pub record Outcome : Type 0 where
   pub path : List ℕ
   pub saved : Option (List ℕ)
   pub size : ℕ
+  pub sha256 : Option (List ℕ)
   pub has_error : Bool
 
 -- Of a folder that may fail or not, and the name that is wanted for a file.
@@ -42,13 +45,14 @@ module _ (can_fail : Bool) (name : List ℕ) where
       ⊎ ((has_file name files ≡ true) × IsKeptNumbered files bytes from saved next now)
       ⊎ ((can_fail ≡ true) × (saved ≡ None) × (now ≡ files))
 
--- Of a folder that may fail or not.
-module _ (can_fail : Bool) where
+-- Of a folder that may fail or not, where files are hashed or not.
+module _ (can_fail hashes : Bool) where
   -- a file was saved, and this was said of it
   pub record IsSaved (files : List File) (wanted : Wanted) (from : ℕ) (outcome : Outcome) (next : ℕ) (now : List File) : Type 0 where
     pub kept : IsKept can_fail wanted.name files wanted.content.bytes from outcome.saved next now
     pub path : outcome.path ≡ wanted.path
     pub size : outcome.size ≡ length wanted.content.bytes
+    pub hash : outcome.sha256 ≡ (if hashes then option_map (λ name. hash_text wanted.content.bytes) outcome.saved else None)
     pub damaged : is_some wanted.content.refusal ≡ true → outcome.has_error ≡ true
     pub failed : outcome.saved ≡ None → outcome.has_error ≡ true
 
@@ -56,7 +60,7 @@ module _ (can_fail : Bool) where
   abbrev pub AreSaved : List File → List Wanted → ℕ → List Outcome → ℕ → List File → Type 0
   AreSaved files [] from [] next now = (next ≡ from) × (now ≡ files)
   AreSaved files (wanted ∷ others) from (outcome ∷ outcomes) next now =
-      (then : List File) × (number : ℕ) × IsSaved files wanted from outcome number then × AreSaved then others number outcomes next now
+      (mid : List File) × (number : ℕ) × IsSaved files wanted from outcome number mid × AreSaved mid others number outcomes next now
   AreSaved files _ from _ next now = ⊥
 
 -- a part as it is to be saved, under the charsets that are known

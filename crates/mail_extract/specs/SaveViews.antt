@@ -20,4 +20,10 @@ kept_name (Nowhere error) = None
 
 -- what became of a file
 abbrev pub outcome : Saved → Outcome
-outcome saved = record { path = string_bytes saved.path; saved = text_found saved.name; size = saved.size; has_error = is_some saved.error }
+outcome saved = record {
+  path = string_bytes saved.path;
+  saved = text_found saved.name;
+  size = saved.size;
+  sha256 = text_found saved.sha256;
+  has_error = is_some saved.error;
+}

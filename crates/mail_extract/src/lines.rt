@@ -21,6 +21,8 @@ pub struct Line<'l> {
     pub saved: Option<&'l str>,
     /// How many bytes could be read of it.
     pub size: Option<usize>,
+    /// The SHA-256 of the bytes that were saved, in hexadecimal.
+    pub sha256: Option<&'l str>,
     /// Why it was not saved, or not wholly.
     pub error: Option<&'l str>,
 }
@@ -48,11 +50,13 @@ fn line_text(alloc: Global, line: &Line<'_>) -> Result<String, AllocError>
     let path = text_or_null(alloc, line.path)?;
     let saved = text_or_null(alloc, line.saved)?;
     let size = number_or_null(alloc, line.size)?;
+    let sha256 = text_or_null(alloc, line.sha256)?;
     let error = text_or_null(alloc, line.error)?;
     let origin = format!(in alloc; "{{\"file\":{file},\"number\":{number}")?;
     let name = format!(in alloc; ",\"path\":{path},\"saved\":{saved}")?;
-    let end = format!(in alloc; ",\"size\":{size},\"error\":{error}}}\n")?;
-    let text = format!(in alloc; "{origin}{name}{end}")?;
+    let bytes = format!(in alloc; ",\"size\":{size},\"sha256\":{sha256}")?;
+    let end = format!(in alloc; ",\"error\":{error}}}\n")?;
+    let text = format!(in alloc; "{origin}{name}{bytes}{end}")?;
     Ok(text)
 }
 

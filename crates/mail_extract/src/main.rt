@@ -1,9 +1,10 @@
-//! Saves the files that mails carry: `mail_extract [--into FOLDER] [FILE..]`.
+//! Saves the files that mails carry: `mail_extract [--into FOLDER] [--hash] [FILE..]`.
 #![tactic(auto)]
 
 mod content;
 mod disk;
 mod folder;
+mod hash;
 mod lines;
 #[cfg(test)]
 mod memory;

@@ -6,12 +6,13 @@ use std::alloc::{AllocError, Global};
 /// What `--help` prints.
 pub const HELP: &str = "Saves the files that mails carry, and writes a line of JSON for each.
 
-    mail_extract [--into FOLDER] < INPUT      those of the mail or the mailbox on standard input
-    mail_extract [--into FOLDER] FILE..       those of each file; `-` is standard input
+    mail_extract [OPTION..] < INPUT      those of the mail or the mailbox on standard input
+    mail_extract [OPTION..] FILE..       those of each file; `-` is standard input
 
 An input that begins with a separator of a mailbox is a mailbox, any other is one mail.
 
     --into FOLDER                where to save, the current folder if it is left out
+    --hash                       give each line the SHA-256 of the bytes that were saved
     --version, --help            print the version, or this help
     --                           what follows are names of files
 
@@ -23,7 +24,7 @@ something could not be read, saved or written, and 2 where the arguments are wro
 ";
 
 /// What wrong arguments print.
-pub const USAGE: &str = "usage: mail_extract [--into FOLDER] [FILE..]";
+pub const USAGE: &str = "usage: mail_extract [--into FOLDER] [--hash] [FILE..]";
 
 /// What a run is to do.
 #[derive(Clone, Copy, PartialEq, Eq)]
@@ -45,6 +46,8 @@ pub struct Request<'w> {
     pub task: Task,
     /// Where to save.
     pub folder: &'w str,
+    /// Whether lines have the SHA-256 of what was saved.
+    pub hashes: bool,
     /// The inputs: `None` for standard input, otherwise a file.
     pub inputs: Vec<Option<&'w str>>,
     /// Whether the next word is the folder.
@@ -58,6 +61,7 @@ pub fn request_of<'w>(alloc: Global, words: &'w [String]) -> Result<Request<'w>,
     let mut request = Request {
         task: Task::Save,
         folder: ".",
+        hashes: false,
         inputs: Vec::new(alloc),
         is_folder_next: false,
         are_names: false,
@@ -85,6 +89,7 @@ impl<'w> Request<'w> {
             Word::Empty => self.decide(Task::Wrong),
             Word::Names => self.are_names = true,
             Word::Option("--into") => self.is_folder_next = true,
+            Word::Option("--hash") => self.hashes = true,
             Word::Option(_) => self.decide(Task::Wrong),
             Word::Input => self.inputs.push(None)?,
             Word::File(name) => self.inputs.push(Some(name))?,

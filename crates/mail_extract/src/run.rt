@@ -1,7 +1,6 @@
 //! A run over the inputs.
 
 use crate::disk::Disk;
-use crate::folder::Folder;
 use crate::lines::{Line, write_line};
 use crate::request::Request;
 use crate::save::{Saved, save_files};
@@ -9,7 +8,6 @@ use mail_data::mailbox::read_mailbox;
 use mail_program::{Fault, read_input};
 use mail_tables::TABLES;
 use mailparse::{MailParseError, parse_mail_with};
-use std::alloc::Global;
 use std::fs;
 use std::io::{self, BufWriter, ErrorKind, Read, Write};
 use std::rt::Files;
@@ -70,168 +68,170 @@ fn run_all(
     request: &Request<'_>,
 ) -> Result<Outcome, Fault> {
     let folder = request.folder;
-    if !is_folder(rt, folder) {
-        let _ = eprintln!(rt; "mail_extract: {folder}: there is no such folder");
+    if let Err(error) = check_folder(rt, folder) {
+        let _ = eprintln!(rt; "mail_extract: {folder}: {error}");
         return Ok(Outcome::Failed);
     }
-    let mut out = BufWriter::new(rt.alloc(), io::writer(rt))?;
-    let mut disk = Disk { rt, path: folder };
-    let mut number = FIRST_NUMBER;
+    let mut saver = Saver {
+        rt,
+        disk: Disk { rt, path: folder },
+        number: FIRST_NUMBER,
+        hashes: request.hashes,
+        out: BufWriter::new(rt.alloc(), io::writer(rt))?,
+    };
     let mut outcome = Outcome::Clean;
     if request.inputs.is_empty() {
-        outcome = run_input(rt, None, &mut rt.reader(), &mut disk, &mut number, &mut out)?;
+        outcome = saver.save_input(None, &mut rt.reader())?;
     }
     for input in &request.inputs {
         let next = match input {
-            Some(name) => run_file(rt, name, &mut disk, &mut number, &mut out)?,
-            None => run_input(rt, None, &mut rt.reader(), &mut disk, &mut number, &mut out)?,
+            Some(name) => saver.save_file(name)?,
+            None => saver.save_input(None, &mut rt.reader())?,
         };
         outcome = outcome.and(next);
     }
-    out.flush()?;
+    saver.out.flush()?;
     Ok(outcome)
 }
 
-/// Whether there is a folder of this name.
-fn is_folder(rt: &impl Files, name: &str) -> bool {
-    match fs::metadata(rt, name) {
-        Ok(found) => found.is_dir(),
-        Err(_) => false,
+/// Refuses a path that is no folder.
+fn check_folder(rt: &impl Files, path: &str) -> io::Result<()> {
+    if fs::metadata(rt, path)?.is_dir() {
+        Ok(())
+    } else {
+        Err(io::Error::from(ErrorKind::NotADirectory))
     }
 }
 
-/// Saves the files of the mails of a file.
-fn run_file<F: Folder, W: Write>(
-    rt: &(impl Files + Eprint + AllocGlobal),
-    name: &str,
-    folder: &mut F,
-    number: &mut u64,
-    out: &mut W,
-) -> Result<Outcome, Fault> {
-    match fs::open(rt, name) {
-        Ok(mut file) => run_input(rt, Some(name), &mut file, folder, number, out),
-        Err(error) => fail(rt, Some(name), &error, out),
-    }
+/// What saves: where it saves files, and where it writes their lines.
+#[derive(Drop)]
+struct Saver<'r, R, W> {
+    /// What reaches files and standard error.
+    rt: &'r R,
+    /// The folder that files are saved into.
+    disk: Disk<'r, R>,
+    /// The next number for a name that is taken.
+    number: u64,
+    /// Whether lines have the SHA-256 of what was saved.
+    hashes: bool,
+    /// What takes the lines.
+    out: W,
 }
 
-/// Saves the files of the mails of an input.
-fn run_input<R: Read, F: Folder, W: Write>(
-    rt: &(impl Eprint + AllocGlobal),
-    file: Option<&str>,
-    reader: &mut R,
-    folder: &mut F,
-    number: &mut u64,
-    out: &mut W,
-) -> Result<Outcome, Fault> {
-    match read_input(rt.alloc(), reader) {
-        Ok(input) => save_input(rt.alloc(), file, input.as_slice(), folder, number, out),
-        Err(Fault::Input(error)) => fail(rt, file, &error, out),
-        Err(fault) => Err(fault),
-    }
-}
-
-/// Writes the line of an input that could not be read, and says the same on standard error.
-fn fail<W: Write>(
-    rt: &(impl Eprint + AllocGlobal),
-    file: Option<&str>,
-    error: &io::Error,
-    out: &mut W,
-) -> Result<Outcome, Fault> {
-    let text = format!(in rt.alloc(); "{error}")?;
-    let name = file.unwrap_or("input failed");
-    let _ = eprintln!(rt; "mail_extract: {name}: {text}");
-    write_error(rt.alloc(), file, None, text.as_str(), out)?;
-    Ok(Outcome::Failed)
-}
-
-/// Writes the line of an error that is none of a file.
-fn write_error<'l, W: Write>(
-    alloc: Global,
-    file: Option<&'l str>,
-    mail: Option<usize>,
-    error: &'l str,
-    out: &mut W,
-) -> Result<(), Fault> {
-    let line = Line {
-        file,
-        number: mail,
-        path: None,
-        saved: None,
-        size: None,
-        error: Some(error),
-    };
-    write_line(alloc, out, &line)
-}
-
-/// Saves the files of the bytes of an input: of one mail, or of the mails of a mailbox.
-fn save_input<F: Folder, W: Write>(
-    alloc: Global,
-    file: Option<&str>,
-    input: &[u8],
-    folder: &mut F,
-    number: &mut u64,
-    out: &mut W,
-) -> Result<Outcome, Fault> {
-    let mails = read_mailbox(input);
-    if input.is_empty() || !mails.front().is_empty() {
-        return save_mail(alloc, file, None, input, folder, number, out);
-    }
-    let mut outcome = Outcome::Clean;
-    let mut place = 0usize;
-    for entry in mails {
-        place = place.saturating_add(1);
-        let next = save_mail(alloc, file, Some(place), entry.mail(), folder, number, out)?;
-        outcome = outcome.and(next);
-    }
-    Ok(outcome)
-}
-
-/// Saves the files of a mail, and writes their lines.
-fn save_mail<F: Folder, W: Write>(
-    alloc: Global,
-    file: Option<&str>,
-    mail: Option<usize>,
-    raw: &[u8],
-    folder: &mut F,
-    number: &mut u64,
-    out: &mut W,
-) -> Result<Outcome, Fault> {
-    match parse_mail_with(alloc, raw, &TABLES) {
-        Ok(parsed) => {
-            let saved = save_files(alloc, folder, number, &parsed, &TABLES)?;
-            write_lines(alloc, file, mail, saved.as_slice(), out)
-        }
-        Err(MailParseError::Memory(error)) => Err(Fault::from(error)),
-        Err(error) => {
-            let text = format!(in alloc; "{error}")?;
-            write_error(alloc, file, mail, text.as_str(), out)?;
-            Ok(Outcome::Refused)
+impl<'r, R: Files + Eprint + AllocGlobal, W: Write> Saver<'r, R, W> {
+    /// Saves the files of the mails of a file.
+    fn save_file(&mut self, name: &str) -> Result<Outcome, Fault> {
+        match fs::open(self.rt, name) {
+            Ok(mut file) => self.save_input(Some(name), &mut file),
+            Err(error) => self.fail(Some(name), &error),
         }
     }
-}
 
-/// Writes the lines of the files of a mail.
-fn write_lines<'l, W: Write>(
-    alloc: Global,
-    file: Option<&'l str>,
-    mail: Option<usize>,
-    files: &'l [Saved],
-    out: &mut W,
-) -> Result<Outcome, Fault> {
-    let mut outcome = Outcome::Clean;
-    for saved in files {
+    /// Saves the files of the mails of an input: of one mail, or of those of a mailbox.
+    fn save_input<I: Read>(
+        &mut self,
+        file: Option<&str>,
+        reader: &mut I,
+    ) -> Result<Outcome, Fault> {
+        let input = match read_input(self.rt.alloc(), reader) {
+            Ok(input) => input,
+            Err(Fault::Input(error)) => return self.fail(file, &error),
+            Err(fault) => return Err(fault),
+        };
+        let mails = read_mailbox(input.as_slice());
+        if input.is_empty() || !mails.front().is_empty() {
+            return self.save_mail(file, None, input.as_slice());
+        }
+        let mut outcome = Outcome::Clean;
+        let mut place = 0usize;
+        for entry in mails {
+            place = place.saturating_add(1);
+            outcome = outcome.and(self.save_mail(file, Some(place), entry.mail())?);
+        }
+        Ok(outcome)
+    }
+
+    /// Writes the line of an input that could not be read, and says the same on standard error.
+    fn fail(&mut self, file: Option<&str>, error: &io::Error) -> Result<Outcome, Fault> {
+        let text = format!(in self.rt.alloc(); "{error}")?;
+        let name = file.unwrap_or("input failed");
+        let _ = eprintln!(self.rt; "mail_extract: {name}: {text}");
+        self.write_error(file, None, text.as_str())?;
+        Ok(Outcome::Failed)
+    }
+
+    /// Saves the files of a mail, and writes their lines.
+    fn save_mail(
+        &mut self,
+        file: Option<&str>,
+        mail: Option<usize>,
+        raw: &[u8],
+    ) -> Result<Outcome, Fault> {
+        let alloc = self.rt.alloc();
+        match parse_mail_with(alloc, raw, &TABLES) {
+            Ok(parsed) => {
+                let number = &mut self.number;
+                let saved = save_files(
+                    alloc,
+                    &mut self.disk,
+                    number,
+                    self.hashes,
+                    &parsed,
+                    &TABLES,
+                )?;
+                self.write_lines(file, mail, saved.as_slice())
+            }
+            Err(MailParseError::Memory(error)) => Err(Fault::from(error)),
+            Err(error) => {
+                let text = format!(in alloc; "{error}")?;
+                self.write_error(file, mail, text.as_str())?;
+                Ok(Outcome::Refused)
+            }
+        }
+    }
+
+    /// Writes the line of an error that is none of a file.
+    fn write_error<'l>(
+        &mut self,
+        file: Option<&'l str>,
+        mail: Option<usize>,
+        error: &'l str,
+    ) -> Result<(), Fault> {
         let line = Line {
             file,
             number: mail,
-            path: Some(saved.path.as_str()),
-            saved: saved.name.as_deref(),
-            size: Some(saved.size),
-            error: saved.error.as_deref(),
+            path: None,
+            saved: None,
+            size: None,
+            sha256: None,
+            error: Some(error),
         };
-        write_line(alloc, out, &line)?;
-        outcome = outcome.and(outcome_of(saved));
+        write_line(self.rt.alloc(), &mut self.out, &line)
     }
-    Ok(outcome)
+
+    /// Writes the lines of the files of a mail.
+    fn write_lines(
+        &mut self,
+        file: Option<&str>,
+        mail: Option<usize>,
+        files: &[Saved],
+    ) -> Result<Outcome, Fault> {
+        let mut outcome = Outcome::Clean;
+        for saved in files {
+            let line = Line {
+                file,
+                number: mail,
+                path: Some(saved.path.as_str()),
+                saved: saved.name.as_deref(),
+                size: Some(saved.size),
+                sha256: saved.sha256.as_deref(),
+                error: saved.error.as_deref(),
+            };
+            write_line(self.rt.alloc(), &mut self.out, &line)?;
+            outcome = outcome.and(outcome_of(saved));
+        }
+        Ok(outcome)
+    }
 }
 
 /// How the saving of a file went.

@@ -12,6 +12,7 @@ ghost use Rattle.mail_extract.specs.SaveViews.{kept_name, outcome};
 
 use crate::content::content_of;
 use crate::folder::{Created, Folder};
+use crate::hash::hash_if;
 use crate::names::{numbered, wanted_name};
 use mail_data::files::{Attachment, attachments_with, file_name_with};
 use mailparse::{MailParseError, ParsedMail, SingleByteTable};
@@ -27,6 +28,8 @@ pub struct Saved {
     pub name: Option<String>,
     /// How many bytes could be read of it.
     pub size: usize,
+    /// The SHA-256 of the bytes that were saved, in hexadecimal, if that is wanted.
+    pub sha256: Option<String>,
     /// Why it was not saved, or not wholly.
     pub error: Option<String>,
 }
@@ -41,7 +44,7 @@ enum Kept {
 }
 
 /// Saves the files of a mail into a folder, where names may also be in the charsets of some tables.
-/// A name that is taken gets a number, the next one to be tried.
+/// A name that is taken gets a number, the next one to be tried. Where it is wanted, files are hashed.
 ///
 /// # Errors
 ///
@@ -50,12 +53,13 @@ pub fn save_files<F: Folder>(
     alloc: Global,
     folder: &mut F,
     number: &mut u64,
+    hashes: bool,
     mail: &ParsedMail<'_>,
     tables: &[SingleByteTable<'_>],
 ) -> Result<Vec<Saved>, MailParseError>
     ensures saved { IfOk result (λ saved. (files : List File) → F.held folder.old ≡ Some files →
         (now : List File) × (F.held folder.new ≡ Some now)
-        × AreSaved F.can_fail files (wanted_files (charsets_with tables.now) (tree_of mail.now))
+        × AreSaved F.can_fail hashes files (wanted_files (charsets_with tables.now) (tree_of mail.now))
         number.old (map outcome saved.items) number.new now) }
     ensures safe { IfOk result (λ saved.
         All (λ file. IfSome file.name (λ name. IsSafeName (string_bytes name))) saved.items) }
@@ -63,7 +67,7 @@ pub fn save_files<F: Folder>(
 {
     let mut saved = Vec::new(alloc);
     for file in attachments_with(alloc, mail, tables)? {
-        saved.push(save_file(alloc, folder, number, file, tables)?)?;
+        saved.push(save_file(alloc, folder, number, hashes, file, tables)?)?;
     }
     Ok(saved)
 }
@@ -73,12 +77,13 @@ fn save_file<F: Folder>(
     alloc: Global,
     folder: &mut F,
     number: &mut u64,
+    hashes: bool,
     file: Attachment<'_, '_>,
     tables: &[SingleByteTable<'_>],
 ) -> Result<Saved, MailParseError>
     ensures saved { IfOk result (λ saved. (files : List File) → F.held folder.old ≡ Some files →
         (now : List File) × (F.held folder.new ≡ Some now)
-        × IsSaved F.can_fail files (wanted (charsets_with tables.now) (attachment_view file.entry))
+        × IsSaved F.can_fail hashes files (wanted (charsets_with tables.now) (attachment_view file.entry))
         number.old (outcome saved) number.new now) }
     ensures safe { IfOk result (λ saved.
         IfSome saved.name (λ name. IsSafeName (string_bytes name))) }
@@ -86,9 +91,11 @@ fn save_file<F: Folder>(
 {
     let content = content_of(alloc, file.part)?;
     let wanted = wanted_name(alloc, file_name_with(alloc, file.part, tables)?)?;
-    let kept = keep(alloc, folder, number, wanted, content.bytes.as_slice())?;
+    let bytes = content.bytes.as_slice();
+    let sha256 = hash_if(alloc, hashes, bytes)?;
+    let kept = keep(alloc, folder, number, wanted, bytes)?;
     let path = file.path;
-    let size = content.bytes.len();
+    let size = bytes.len();
     match kept {
         Kept::As(name) => {
             let error = text_of(alloc, content.error)?;
@@ -96,6 +103,7 @@ fn save_file<F: Folder>(
                 path,
                 name: Some(name),
                 size,
+                sha256,
                 error,
             })
         }
@@ -105,6 +113,7 @@ fn save_file<F: Folder>(
                 path,
                 name: None,
                 size,
+                sha256: None,
                 error: Some(error),
             })
         }

@@ -11,6 +11,9 @@ const MAIL: &[u8] = b"Content-Type: multipart/mixed; boundary=b\n\n\
     Content-Transfer-Encoding: base64\n\ndHdv!!!!\n\
     --b\nContent-Disposition: attachment; filename=\".b\"\n\n\n--b--";
 
+/// What Python's hashlib gives of `one`.
+const HASH_OF_ONE: &str = "7692c3ad3540bb803c020b3aee66cd8887123234ea0c6e7143c0add73ff431ed";
+
 #[test]
 fn files_of_one_name_get_numbers(rt: HostRuntime) -> Result<(), Fail> {
     let alloc = rt.alloc();
@@ -20,7 +23,7 @@ fn files_of_one_name_get_numbers(rt: HostRuntime) -> Result<(), Fail> {
     };
     let mut number = 2;
     let mail = parse_mail(alloc, MAIL)?;
-    let saved = save_files(alloc, &mut folder, &mut number, &mail, &[])?;
+    let saved = save_files(alloc, &mut folder, &mut number, true, &mail, &[])?;
     assert_eq!(rt; number, 3);
     assert_eq!(rt; folder.files.len(), 3);
     assert_eq!(rt; folder.files[0].name.as_str(), "_.._a.txt");
@@ -32,5 +35,6 @@ fn files_of_one_name_get_numbers(rt: HostRuntime) -> Result<(), Fail> {
     assert_eq!(rt; saved.len(), 3);
     assert!(rt; saved[0].error.is_none());
     assert!(rt; saved[1].error.is_some());
+    assert!(rt; saved[0].sha256.as_deref() == Some(HASH_OF_ONE));
     Ok(())
 }

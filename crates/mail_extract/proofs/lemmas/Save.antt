@@ -1,5 +1,5 @@
 -- Lemmas on files that are saved one after another.
-use Rattle.std.proofs.Common.{◌≡◌, ℕ, ◌+◌, ◌<◌, ◌≤◌, Bool, true, ◌||◌, List, [], ◌∷◌, ◌++◌, length, map, Option, Some, None, is_some, option_and_then, Ok, refl, sym, ap, subst, append_assoc, arith, ⊎_elim, ◌∙◌}
+use Rattle.std.proofs.Common.{◌≡◌, ℕ, ◌+◌, ◌<◌, ◌≤◌, Bool, true, false, ◌||◌, List, [], ◌∷◌, ◌++◌, length, map, Option, Some, None, is_some, option_and_then, Ok, refl, sym, ap, subst, append_assoc, arith, ⊎_elim, option_map, if◌then◌else◌, ◌∙◌}
 use Rattle.std.proofs.lemmas.Bool.{cases_lt}
 use Rattle.std.proofs.lemmas.List.{append-nil, map_push}
 use Rattle.std.proofs.lemmas.List.Elements.{All-push}
@@ -7,6 +7,7 @@ use Rattle.std.specs.List.{All, list_any}
 use Rattle.mailparse.specs.Refusal.{Reads}
 use Rattle.mail_extract.specs.Content.{Content}
 use Rattle.mail_extract.specs.Folder.{Creates, File, has_file}
+use Rattle.mail_extract.specs.Hash.{hash_text}
 use Rattle.mail_extract.specs.declared.folder.Created.{Created}
 use Rattle.mail_extract.specs.declared.folder.Created.TheVariants.{Taken}
 use Rattle.mail_extract.specs.Names.{IsNumbered}
@@ -26,19 +27,29 @@ some_of f (Some x) h = refl
 pub read_value : {Y : Type 0} (given view : Y) → ◌≡◌ {A = Reads Y} (Ok given) (Ok view) → given ≡ view
 read_value given view e = cc
 
+-- none either way
+pub none_either : {X : Type 0} (which : Bool) → ◌≡◌ {A = Option X} None (if which then None else None)
+none_either true = refl
+none_either false = refl
+
+-- the hash that the line of bytes has, if they were saved
+abbrev pub hash_kept : Bool → Option (List ℕ) → List ℕ → Option (List ℕ)
+hash_kept hashes saved bytes = if hashes then option_map (λ name. hash_text bytes) saved else None
+
 -- a file that was kept so was saved
-pub saved_file : (can_fail : Bool) (files now : List File) (wanted : Wanted) (from next size : ℕ) (name bytes path : List ℕ) (kept saved : Option (List ℕ))
-    (content : Content) (has_error : Bool) → name ≡ wanted.name → content ≡ wanted.content → bytes ≡ content.bytes → kept ≡ saved → path ≡ wanted.path
-    → size ≡ length content.bytes → (is_some content.refusal ≡ true → has_error ≡ true) → (saved ≡ None → has_error ≡ true)
-    → IsKept can_fail name files bytes from kept next now
-    → IsSaved can_fail files wanted from (record { path = path; saved = saved; size = size; has_error = has_error }) next now
-saved_file can_fail files now wanted from next size name bytes path kept saved content has_error is_name is_content is_bytes is_saved is_path is_size damaged failed h =
+pub saved_file : (can_fail hashes : Bool) (files now : List File) (wanted : Wanted) (from next size : ℕ) (name bytes path : List ℕ)
+    (kept saved sha256 : Option (List ℕ)) (content : Content) (has_error : Bool) → name ≡ wanted.name → content ≡ wanted.content → bytes ≡ content.bytes
+    → kept ≡ saved → path ≡ wanted.path → size ≡ length content.bytes → sha256 ≡ hash_kept hashes saved content.bytes
+    → (is_some content.refusal ≡ true → has_error ≡ true) → (saved ≡ None → has_error ≡ true) → IsKept can_fail name files bytes from kept next now
+    → IsSaved can_fail hashes files wanted from (record { path = path; saved = saved; size = size; sha256 = sha256; has_error = has_error }) next now
+saved_file can_fail hashes files now wanted from next size name bytes path kept saved sha256 content has_error is_name is_content is_bytes is_saved is_path is_size is_hash damaged failed h =
     record {
       kept = subst (λ (s : Option (List ℕ)). IsKept can_fail wanted.name files wanted.content.bytes from s next now) is_saved
           (subst (λ (n : List ℕ). IsKept can_fail n files wanted.content.bytes from kept next now) is_name
           (subst (λ (b : List ℕ). IsKept can_fail name files b from kept next now) (is_bytes ∙ ap (λ (c : Content). c.bytes) is_content) h));
       path = is_path;
       size = is_size ∙ ap (λ (c : Content). length c.bytes) is_content;
+      hash = is_hash ∙ ap (λ (c : Content). hash_kept hashes saved c.bytes) is_content;
       damaged = λ some. damaged (ap (λ (c : Content). is_some c.refusal) is_content ∙ some);
       failed = failed;
     }
@@ -61,31 +72,31 @@ taken_more can_fail name files from number text is taken before = λ n above bel
     subst (λ (m : ℕ). (t : List ℕ) × IsNumbered name m t × (has_file t files ≡ true)) same (text, is, taken))
     (cases_lt n number)
 
--- Of a folder that may fail or not, which held these files before those of a mail were saved.
-module _ (can_fail : Bool) (files : List File) (all : List Wanted) (from : ℕ) where
+-- Of a folder that may fail or not, which held these files before those of a mail were saved, hashed or not.
+module _ (can_fail hashes : Bool) (files : List File) (all : List Wanted) (from : ℕ) where
   -- what came of the files so far, which what comes of those that are left completes
   abbrev pub Continues : List Outcome → List Wanted → ℕ → List File → Type 0
   Continues done left number mid =
-      (outcomes : List Outcome) (next : ℕ) (now : List File) → AreSaved can_fail mid left number outcomes next now
-      → AreSaved can_fail files all from (done ++ outcomes) next now
+      (outcomes : List Outcome) (next : ℕ) (now : List File) → AreSaved can_fail hashes mid left number outcomes next now
+      → AreSaved can_fail hashes files all from (done ++ outcomes) next now
 
   -- one file more
   pub saved_more : (done : List Outcome) (wanted : Wanted) (left : List Wanted) (number next : ℕ) (mid now : List File) (outcome : Outcome)
-      → IsSaved can_fail mid wanted number outcome next now → Continues done (wanted ∷ left) number mid → Continues (done ++ outcome ∷ []) left next now
+      → IsSaved can_fail hashes mid wanted number outcome next now → Continues done (wanted ∷ left) number mid → Continues (done ++ outcome ∷ []) left next now
   saved_more done wanted left number next mid now outcome one here = λ outcomes last after h.
-      subst (λ (os : List Outcome). AreSaved can_fail files all from os last after) (sym (append_assoc done (outcome ∷ []) outcomes))
+      subst (λ (os : List Outcome). AreSaved can_fail hashes files all from os last after) (sym (append_assoc done (outcome ∷ []) outcomes))
       (here (outcome ∷ outcomes) last after (now, next, one, h))
 
   -- no file is left
   pub saved_end : (done : List Outcome) (left : List Wanted) (number : ℕ) (mid : List File) → left ≡ [] → Continues done left number mid
-      → AreSaved can_fail files all from done number mid
+      → AreSaved can_fail hashes files all from done number mid
   saved_end done left number mid e here =
-      subst (λ (os : List Outcome). AreSaved can_fail files all from os number mid) (append-nil done)
-      (here [] number mid (subst (λ (ws : List Wanted). AreSaved can_fail mid ws number [] number mid) (sym e) (refl, refl)))
+      subst (λ (os : List Outcome). AreSaved can_fail hashes files all from os number mid) (append-nil done)
+      (here [] number mid (subst (λ (ws : List Wanted). AreSaved can_fail hashes mid ws number [] number mid) (sym e) (refl, refl)))
 
   -- the same where both are seen by a view
   pub one_more : {A B : Type 0} (view : A → Outcome) (wants : B → Wanted) (xs ys : List A) (x : A) (left rest : List B) (b : B) (number next : ℕ)
-      (mid now : List File) → ys ≡ xs ++ x ∷ [] → left ≡ b ∷ rest → IsSaved can_fail mid (wants b) number (view x) next now
+      (mid now : List File) → ys ≡ xs ++ x ∷ [] → left ≡ b ∷ rest → IsSaved can_fail hashes mid (wants b) number (view x) next now
       → Continues (map view xs) (map wants left) number mid → Continues (map view ys) (map wants rest) next now
   one_more view wants xs ys x left rest b number next mid now made e one here =
       subst (λ (os : List Outcome). Continues os (map wants rest) next now) (sym (ap (map view) made ∙ map_push view xs x))

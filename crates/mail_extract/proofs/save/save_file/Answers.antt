@@ -11,7 +11,7 @@ use Rattle.mail_extract.specs.Content.{Content, content}
 use Rattle.mail_extract.specs.Names.{wanted_name}
 use Rattle.mail_extract.specs.Save.{wanted}
 use Rattle.mail_extract.specs.SaveViews.{content_view, kept_name}
-use Rattle.mail_extract.proofs.lemmas.Save.{read_value, saved_file, some_of}
+use Rattle.mail_extract.proofs.lemmas.Save.{hash_kept, none_either, read_value, saved_file, some_of}
 use Rattle.mail_extract.proofs.save.save_file.Goals as goal
 
 pub returns-in_ok-error-in-As-clause-saved : goal.returns-in_ok-error-in-As-clause-saved
@@ -20,11 +20,12 @@ returns-in_ok-error-in-As-clause-saved g c = λ files e.
     let kept = c.in_ok-kept.ensures.kept files e in
     let name = c.in_ok-wanted.ensures.read ∙ ap wanted_name (sym (read_value _ _ c.in_ok-file_name_with.ensures)) in
     let is = sym (read_value _ _ c.in_ok-content.ensures) in
-    let size = c.len-size.ensures ∙ sym c.as_slice.ensures.len ∙ ap (λ (b : List ℕ). length b) c.as_slice.ensures.value in (
+    let hash = c.in_ok-sha256.ensures ∙ ap (λ (b : List ℕ). hash_kept c.args.hashes (Some (string_bytes c.in-As.name)) b) c.as_slice-bytes.ensures.value in
+    let size = ap (λ (b : List ℕ). length b) c.as_slice-bytes.ensures.value in (
       kept.0,
       kept.1,
-      saved_file g.F.Folder.can_fail files kept.0 (wanted known (attachment_view c.args.file)) c.args.number.now c.keep.new.number c.len-size.result _ _ _ _
-          (Some (string_bytes c.in-As.name)) (content_view c.in_ok-content.content) _ name is c.as_slice.ensures.value (ap kept_name c.in-As.is) refl size
+      saved_file g.F.Folder.can_fail c.args.hashes files kept.0 (wanted known (attachment_view c.args.file)) c.args.number.now c.keep.new.number _ _ _ _ _
+          (Some (string_bytes c.in-As.name)) _ (content_view c.in_ok-content.content) _ name is c.as_slice-bytes.ensures.value (ap kept_name c.in-As.is) refl size hash
           (λ some. c.in_ok-error-in-As.ensures ∙ some_of refusal_of c.in_ok-content.content.error some) (λ none. cc) kept.2,
     )
 
@@ -34,10 +35,11 @@ returns-in_ok-error-in-Nowhere-clause-saved g c = λ files e.
     let kept = c.in_ok-kept.ensures.kept files e in
     let name = c.in_ok-wanted.ensures.read ∙ ap wanted_name (sym (read_value _ _ c.in_ok-file_name_with.ensures)) in
     let is = sym (read_value _ _ c.in_ok-content.ensures) in
-    let size = c.len-size.ensures ∙ sym c.as_slice.ensures.len ∙ ap (λ (b : List ℕ). length b) c.as_slice.ensures.value in (
+    let size = ap (λ (b : List ℕ). length b) c.as_slice-bytes.ensures.value in (
       kept.0,
       kept.1,
-      saved_file g.F.Folder.can_fail files kept.0 (wanted known (attachment_view c.args.file)) c.args.number.now c.keep.new.number c.len-size.result _ _ _ _ None
-          (content_view c.in_ok-content.content) _ name is c.as_slice.ensures.value (ap kept_name c.in-Nowhere.is) refl size (λ some. refl)
+      saved_file g.F.Folder.can_fail c.args.hashes files kept.0 (wanted known (attachment_view c.args.file)) c.args.number.now c.keep.new.number _ _ _ _ _ None None
+          (content_view c.in_ok-content.content) _ name is c.as_slice-bytes.ensures.value (ap kept_name c.in-Nowhere.is) refl size
+          (none_either c.args.hashes) (λ some. refl)
           (λ none. refl) kept.2,
     )

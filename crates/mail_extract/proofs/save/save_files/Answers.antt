@@ -19,7 +19,7 @@ loop-file-preserved g c =
           let one = c.in_ok-save_file.ensures.saved here.0 here.1 in (
             one.0,
             one.1,
-            one_more g.F.Folder.can_fail files (wanted_files known (tree_of c.args.mail.now)) c.args.number.now outcome (wanted known) _ _
+            one_more g.F.Folder.can_fail c.args.hashes files (wanted_files known (tree_of c.args.mail.now)) c.args.number.now outcome (wanted known) _ _
                 c.in_ok-save_file.field-0 _ _ (attachment_view c.in-Some.file) c.loop-file.number c.save_file.new.number here.0 one.0
                 c.in_ok-push.ensures.items (ap (map attachment_view) left) one.2 here.2,
           );
@@ -36,6 +36,6 @@ returns-clause-saved g c = λ files e.
     let here = c.loop-file.invariant.all files e in (
       here.0,
       here.1,
-      saved_end g.F.Folder.can_fail files (wanted_files known (tree_of c.args.mail.now)) c.args.number.now _ _ _ here.0
+      saved_end g.F.Folder.can_fail c.args.hashes files (wanted_files known (tree_of c.args.mail.now)) c.args.number.now _ _ _ here.0
           (ap (map (wanted known)) (ap (map attachment_view) left)) here.2,
     )

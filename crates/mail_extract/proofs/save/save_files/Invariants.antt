@@ -14,7 +14,7 @@ abbrev pub invariant-loop-file : goal.invariant-loop-file
 invariant-loop-file g l = record {
   all : (files : List File) → g.F.Folder.held l.fn.folder ≡ Some files
       → (mid : List File) × (g.F.Folder.held l.folder ≡ Some mid)
-      × Continues g.F.Folder.can_fail files (wanted_files (charsets_with l.tables) (tree_of l.mail)) l.fn.number (map outcome l.saved.items)
+      × Continues g.F.Folder.can_fail l.hashes files (wanted_files (charsets_with l.tables) (tree_of l.mail)) l.fn.number (map outcome l.saved.items)
       (map (wanted (charsets_with l.tables)) (map attachment_view l.file-iterator.rest.items)) l.number mid;
   each : All (λ file. IfSome file.name (λ name. IsSafeName (string_bytes name))) l.saved.items;
 }

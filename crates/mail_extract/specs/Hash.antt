@@ -1,0 +1,8 @@
+-- The hash of a file, as its line has it.
+use Rattle.std.specs.Prelude.{ℕ, List}
+use Rattle.hex.specs.Hex.{encode_lower}
+use Rattle.sha2.specs.Sha256.{sha256}
+
+-- the SHA-256 of bytes (FIPS 180-4) as 64 digits, with lower case letters
+abbrev pub hash_text : List ℕ → List ℕ
+hash_text bytes = encode_lower (sha256 bytes)
