@@ -1,14 +1,16 @@
 #!/bin/sh
-# fail_streams.sh: runs mail_show and mail_json where standard input, a file or output fails: closed, a
-# folder, missing, full, a pipe that nobody reads. A run passes that ends with status 1 and says on
+# fail_streams.sh: runs mail_show, mail_json and mail_extract where standard input, a file or output fails:
+# closed, a folder, missing, full, a pipe that nobody reads. A run passes that ends with status 1 and says on
 # standard error what failed and why, in the system's words; one whose standard error is closed too,
-# with status 1. No run may end by a signal.
+# with status 1. No run may end by a signal. Where a file cannot be saved, or not to its end, the line of
+# mail_extract has to say so, and nothing of the file may stay.
 #
 # The last line is `N passed, N failed`; the status is 1 where a run failed.
 arguments=
 . "$(dirname "$0")/prelude.sh"
 show=$("$here/program.sh" mail_show)
 json=$("$here/program.sh" mail_json)
+extract=$("$here/program.sh" mail_extract)
 make_work
 mail=$top/samples/attachment.eml
 
@@ -119,4 +121,48 @@ program mail_show "$show" 1 "mail_show: output failed: $unread"
 run "$work" > "$work/out"
 judge 'a file is a folder' "$name: input failed: $folder"
 program mail_json "$json" 3 ''
+
+# mail_extract into an empty folder, and its many lines of mails that are refused
+cat > "$work/extract" << END
+#!/bin/sh
+rm -rf "$work/into"
+mkdir "$work/into"
+exec "$extract" --into "$work/into" "\$@"
+END
+chmod +x "$work/extract"
+yes 'From a Thu Jan  1 00:00:00 1970
+ x
+' | head -n 4000 > "$work/long"
+program mail_extract "$work/extract" 3 ''
+run --into no/such/folder < "$mail" > "$work/out"
+judge 'the folder is missing' "$name: no/such/folder: $missing"
+run --into "$mail" < "$mail" > "$work/out"
+judge 'the folder is a file' "$name: $mail: not a directory"
+
+# unsaved WHAT WHY: the last run saved nothing, and the line of the one file says why
+unsaved() {
+    line='{"file":null,"number":null,"path":"1","saved":null,"size":9000,"sha256":null,"error":"%s"}'
+    # shellcheck disable=SC2059
+    if [ "$(cat "$work/out")" = "$(printf "$line" "$2")" ] && [ -z "$(ls "$work/into")" ]; then
+        judge "$1" ''
+    else
+        fail "$name, $1: the line $(cat "$work/out"), the files $(ls "$work/into")"
+    fi
+}
+
+{
+    printf 'Content-Disposition: attachment\n\n'
+    yes | head -c 9000
+} > "$work/large"
+run --into /proc < "$work/large" > "$work/out"
+unsaved 'a folder that takes no file' "$missing"
+(
+    # a write past the limit fails within the file, since the signal is ignored
+    trap '' XFSZ
+    ulimit -f 1
+    run < "$work/large" > "$work/out"
+    echo "$status" > "$work/status"
+)
+status=$(cat "$work/status")
+unsaved 'a file that cannot be written to its end' 'File too large (os error 27)'
 finish

@@ -7,11 +7,12 @@
 #
 #   mail_show      on the samples, and on mails that are refused
 #   mail_json      on the same, and on a mailbox
+#   mail_extract   on a mailbox
 #
 # A run passes that gives what it gives with ample memory, or that ends with status 1 and says
 # nothing but that memory ran out. A run that meets a refusal passes only by the latter. What mail_json
-# has written by then has to be the front of what it writes with ample memory; mail_show may have
-# written nothing.
+# and mail_extract have written by then has to be the front of what they write with ample memory, and each
+# file that was saved has to be whole; mail_show may have written nothing.
 #
 # Then mail_vectors replays the suite. It tries each row again until no call for memory is refused: first
 # the first call of the row is refused, then the second one, and so on; and the same with the calls that
@@ -29,6 +30,7 @@ make_work
 run() {
     : > "$work/report"
     status=0
+    [ -z "$into" ] || rm -f "$into"/*
     timeout 60 env "REFUSE_REPORT=$work/report" "LD_PRELOAD=$work/refuse.so" "$@" \
         < "$work/input" > "$work/out" 2> "$work/err" || status=$?
     if ! read -r calls refused < "$work/report"; then
@@ -40,7 +42,7 @@ run() {
 # is_right: did the run give what it gives with ample memory?
 is_right() {
     [ "$status" = "$wanted" ] && cmp -s "$work/out" "$work/wanted.out" \
-        && cmp -s "$work/err" "$work/wanted.err"
+        && cmp -s "$work/err" "$work/wanted.err" && { [ -z "$into" ] || diff -q "$into" "$work/saved"; }
 }
 
 # is_front: was nothing written, or the front of what is written with ample memory?
@@ -50,9 +52,14 @@ is_front() {
     }
 }
 
+# are_whole: is each file that was saved as with ample memory?
+are_whole() {
+    [ -z "$into" ] || ! diff -q "$into" "$work/saved" | grep -v "^Only in $work/saved: "
+}
+
 # is_short: did memory run out, and the run say only that?
 is_short() {
-    [ "$status" = 1 ] && is_front && [ "$(wc -l < "$work/err")" = 1 ] \
+    [ "$status" = 1 ] && is_front && are_whole && [ "$(wc -l < "$work/err")" = 1 ] \
         && grep -q 'out of memory$' "$work/err"
 }
 
@@ -142,6 +149,7 @@ if ! ${CC:-cc} -O1 -Wall -shared -fPIC -o "$work/refuse.so" "$here/refuse.c"; th
 fi
 show=$("$here/program.sh" mail_show)
 json=$("$here/program.sh" mail_json)
+extract=$("$here/program.sh" mail_extract)
 vectors=$("$here/program.sh" mail_vectors)
 
 # mails NAME PROGRAM: the samples, and mails that are refused
@@ -158,10 +166,16 @@ mails() {
 }
 
 may_begin=no
+into=
 mails mail_show "$show"
 may_begin=yes
 mails mail_json "$json"
 cp "$top/crates/mail_json/stdin" "$work/input"
 both 'mail_json on a mailbox' "$json" --mbox
+into=$work/into
+mkdir "$into" "$work/saved"
+cp "$top/crates/mail_extract/stdin" "$work/input"
+"$extract" --into "$work/saved" < "$work/input" > "$work/out" || true
+both 'mail_extract on a mailbox' "$extract" --into "$into" --hash
 suite
 finish

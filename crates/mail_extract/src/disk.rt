@@ -4,8 +4,11 @@ ghost use Rattle.std.specs.Prelude.{true, None};
 use crate::folder::{Created, Folder};
 use std::alloc::AllocError;
 use std::fs::{self, File};
-use std::io::{ErrorKind, Write};
+use std::io::{self, ErrorKind, Write};
 use std::rt::Files;
+
+/// What is said of a file of which a part stays.
+const STAYS: &str = "the file could not be written to its end, and not be removed";
 
 /// A folder of the file system. No contract sees what it holds.
 #[derive(Drop)]
@@ -21,7 +24,7 @@ impl<'r, R: Files + AllocGlobal> Folder for Disk<'r, R> {
 
     ghost can_fail = { true };
 
-    /// A file that could not be written to its end is taken away again.
+    /// A file that could not be written to its end is taken away again, or the error says that it is there.
     fn create(&mut self, name: &str, bytes: &[u8]) -> Result<Created, AllocError> {
         let folder = self.path;
         let path = format!(in self.rt.alloc(); "{folder}/{name}")?;
@@ -43,9 +46,9 @@ fn write_new(rt: &impl Files, path: &str, bytes: &[u8]) -> Created {
     };
     match file.write_all(bytes) {
         Ok(()) => Created::Made,
-        Err(error) => {
-            let _ = fs::remove_file(rt, path);
-            Created::Failed(error)
-        }
+        Err(error) => match fs::remove_file(rt, path) {
+            Ok(()) => Created::Failed(error),
+            Err(_) => Created::Failed(io::Error::other(STAYS)),
+        },
     }
 }
