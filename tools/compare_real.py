@@ -158,7 +158,7 @@ def own_id(mail):
 
 def texts(mail):
     """The texts of a mail with the paths of their parts."""
-    found = ((path, text_of(part, body_of(part))) for path, part in parts_of(mail) if not part.is_multipart())
+    found = ((path, text_of(part, body_of(part))["text"]) for path, part in parts_of(mail) if not part.is_multipart())
     return [(path, text) for path, text in found if text is not None]
 
 
@@ -184,7 +184,7 @@ READERS = {
     "attachments": sizes,
     "bytes": contents,
     "not reached": not_reached,
-    "parents": lambda mail: once(ids(raw_value(mail, "references")) + ids(raw_value(mail, "in-reply-to"))),
+    "parents": lambda mail: once(ids(raw_value(mail, "references"), True) + ids(raw_value(mail, "in-reply-to"), True)),
 }
 
 
