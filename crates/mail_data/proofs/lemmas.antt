@@ -3,6 +3,7 @@ pub mod Bounce
 pub mod FileNames
 pub mod Files
 pub mod FileTexts
+pub mod Flowed
 pub mod Forwarding
 pub mod Lines
 pub mod lenient

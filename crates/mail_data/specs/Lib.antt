@@ -15,6 +15,8 @@ pub mod FormatViews
 pub mod lenient
 pub mod Texts
 pub mod TextViews
+pub mod Flowed
+pub mod FlowedViews
 pub mod Forwarding
 pub mod ForwardingViews
 pub mod Bounce

@@ -1,6 +1,8 @@
-//! The calls on the texts of mails, and on the mails inside them; and `text_type TYPE => TYPE`.
+//! The calls on the texts of mails, on paragraphs that flow, and on the mails inside mails; and
+//! `text_type TYPE => TYPE`.
 
 use crate::calls::files::part_at;
+use mail_data::flowed::{flowed_text, unflowed};
 use mail_data::forwarding::{forwarded, forwarded_bytes, forwarded_with, mails_inside};
 use mail_data::texts::{text_part, text_part_with, text_type};
 use mail_suite::{Answer, Row, all_tables};
@@ -20,6 +22,8 @@ pub fn make(alloc: Global, row: &Row, answer: &mut Answer) -> bool {
             answer.text(text_type(row.text(0)));
             Ok(())
         }
+        "unflowed" => join_lines(alloc, row, answer),
+        "flowed_text" => read_flowed(alloc, row, answer),
         _ => return false,
     };
     answer.end(outcome);
@@ -84,6 +88,19 @@ fn copy_forwarded(alloc: Global, row: &Row, answer: &mut Answer) -> Result<(), M
         Some(bytes) => answer.bytes(bytes.as_slice()),
         None => answer.word("none"),
     }
+    Ok(())
+}
+
+/// `unflowed TEXT DELETES => TEXT`, where DELETES is 1 for `delsp=yes` and otherwise 0.
+fn join_lines(alloc: Global, row: &Row, answer: &mut Answer) -> Result<(), MailParseError> {
+    answer.made(unflowed(alloc, row.text(0), row.number(1) == 1));
+    Ok(())
+}
+
+/// `flowed_text MAIL => TEXT` of the whole mail, under all tables.
+fn read_flowed(alloc: Global, row: &Row, answer: &mut Answer) -> Result<(), MailParseError> {
+    let mail = parse_mail(alloc, row.bytes(0))?;
+    answer.text(flowed_text(alloc, &mail, all_tables())?.text.as_str());
     Ok(())
 }
 
