@@ -5,6 +5,7 @@ pub mod Files
 pub mod FileTexts
 pub mod Flowed
 pub mod Forwarding
+pub mod InnerMails
 pub mod Lines
 pub mod lenient
 pub mod Mailbox

@@ -19,6 +19,8 @@ pub mod Flowed
 pub mod FlowedViews
 pub mod Forwarding
 pub mod ForwardingViews
+pub mod InnerMails
+pub mod InnerMailViews
 pub mod Bounce
 pub mod BounceViews
 pub mod Archive

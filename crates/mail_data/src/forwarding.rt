@@ -142,7 +142,10 @@ pub fn forwarded_bytes(
 
 /// The bytes of the body of a part as far as they can be read.
 #[tactic(auto, unfolding(mailparse::specs::Body::decoded))]
-fn readable_bytes(alloc: Global, part: &ParsedMail<'_>) -> Result<Vec<u8>, MailParseError>
+pub(crate) fn readable_bytes(
+    alloc: Global,
+    part: &ParsedMail<'_>,
+) -> Result<Vec<u8>, MailParseError>
     ensures { let node = root (tree_of part.now) in
         AnswersOrMemory (λ bytes. bytes.items) result
         (Ok (readable (lenient_body_kind node) node.body)) }
@@ -260,7 +263,7 @@ fn mail_inside<'m>(
 }
 
 /// Whether a part forwards a mail.
-fn forwards(part: &ParsedMail<'_>) -> bool
+pub(crate) fn forwards(part: &ParsedMail<'_>) -> bool
     ensures { result ≡ forwards (root (tree_of part.now)) }
 {
     let mimetype = part.ctype.mimetype.as_str();

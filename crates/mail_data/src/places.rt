@@ -61,7 +61,7 @@ pub fn places<'m, 'a>(
 }
 
 /// Adds a message that has this path, and then its parts.
-fn push_places<'m, 'a>(
+pub(crate) fn push_places<'m, 'a>(
     alloc: Global,
     mail: &'m ParsedMail<'a>,
     path: &str,

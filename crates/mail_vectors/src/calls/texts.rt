@@ -4,6 +4,7 @@
 use crate::calls::files::part_at;
 use mail_data::flowed::{flowed_text, unflowed};
 use mail_data::forwarding::{forwarded, forwarded_bytes, forwarded_with, mails_inside};
+use mail_data::inner_mails::{InnerMail, inner_mails, places_under};
 use mail_data::texts::{text_part, text_part_with, text_type};
 use mail_suite::{Answer, Row, all_tables};
 use mailparse::{MAX_LEVELS, MailParseError, ParsedMail, parse_mail, parse_mail_with};
@@ -22,6 +23,7 @@ pub fn make(alloc: Global, row: &Row, answer: &mut Answer) -> bool {
             answer.text(text_type(row.text(0)));
             Ok(())
         }
+        "inner_mails" => list_inner(alloc, row, answer),
         "unflowed" => join_lines(alloc, row, answer),
         "flowed_text" => read_flowed(alloc, row, answer),
         _ => return false,
@@ -109,6 +111,37 @@ fn list_mails(alloc: Global, row: &Row, answer: &mut Answer) -> Result<(), MailP
     let mail = parse_mail(alloc, row.bytes(0))?;
     for inside in &mails_inside(alloc, &mail, row.levels(1))? {
         answer.bytes(inside.as_slice());
+    }
+    Ok(())
+}
+
+/// `inner_mails MAIL => PATH START` for each mail, under all tables, START `none` where it stands
+/// nowhere, and then `COUNT PATH..` of its parts, or its refusal.
+fn list_inner(alloc: Global, row: &Row, answer: &mut Answer) -> Result<(), MailParseError> {
+    let mail = parse_mail_with(alloc, row.bytes(0), all_tables())?;
+    for inside in &inner_mails(alloc, &mail, all_tables())? {
+        answer.text(inside.path.as_str());
+        answer.optional_number(inside.start);
+        list_places(alloc, inside, answer)?;
+    }
+    Ok(())
+}
+
+/// Writes how a mail inside is refused, or how many parts it has and their paths.
+fn list_places(
+    alloc: Global,
+    inside: &InnerMail,
+    answer: &mut Answer,
+) -> Result<(), MailParseError> {
+    if let Some(error) = &inside.error {
+        answer.error(format!(in alloc; "{error}")?.as_str());
+        return Ok(());
+    }
+    let mail = parse_mail_with(alloc, inside.bytes.as_slice(), all_tables())?;
+    let places = places_under(alloc, &mail, inside.path.as_str())?;
+    answer.number(places.len());
+    for place in &places {
+        answer.text(place.path.as_str());
     }
     Ok(())
 }

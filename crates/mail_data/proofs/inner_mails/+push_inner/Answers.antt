@@ -1,0 +1,57 @@
+use Rattle.std.proofs.Common.{◌++◌, ◌-◌, ◌+◌, List, [], ◌∷◌, ℕ, None, drop, map, sym, ap, subst, ◌∙◌, arith}
+use Rattle.std.specs.Prelude.{flat_map}
+use Rattle.mail_codec.specs.Tables.{charsets_with}
+use Rattle.mailparse.specs.Mail.{read_mail_in}
+use Rattle.mailparse.specs.Outcome.{IsRefusalOrMemory, refusal_of}
+use Rattle.mailparse.specs.Views.{placements_of, tree_of}
+use Rattle.mail_data.specs.InnerMails.{inner_mails}
+use Rattle.mail_data.specs.InnerMailViews.{inner_view}
+use Rattle.mail_data.specs.PlaceViews.{place_view}
+use Rattle.mail_data.proofs.lemmas.InnerMails.{drop_next, inner_with, mail_bytes-is, mails_in_place, next-none, next-read, next-refused}
+use Rattle.mail_data.proofs.inner_mails.«+push_inner».Goals.{then-holds_mail+in_ok-bytes+in_ok-at, in-Ok+in_ok-push_mail-in-Ok+in_ok-push_inner-in-Ok, in-Err+in_ok-push_refused-in-Err, else-holds_mail}
+use Rattle.mail_data.proofs.inner_mails.«+push_inner».Goals as goal
+
+pub loop-place-preserved : goal.loop-place-preserved
+loop-place-preserved t c =
+    let known = charsets_with c.args.tables.now in
+    let most = c.args.most - 1 in
+    let start = c.args.start in
+    let items = c.deref-place-items.result.now in
+    let place = place_view c.place-item.result in
+    let rest = map place_view (drop (c.loop-place.place-index + 1) items) in
+    let left = ap (map place_view) (drop_next items c.loop-place.place-index c.place-item.result (omega arith) c.place-item.is) in
+    let done = map inner_view c.loop-place.mails.items in
+    let here = c.loop-place.invariant in
+    elim c.if-holds_mail.branch [
+      | then-holds_mail+in_ok-bytes+in_ok-at w ↦
+          let bytes = w.in_ok-bytes.bytes.items in
+          let at = w.in_ok-at.at in
+          let holds = sym c.holds_mail.ensures ∙ w.if-holds_mail.true in
+          let same = mail_bytes-is place bytes w.in_ok-bytes.ensures in
+          let there = w.in_ok-at.ensures.read in
+          elim w.match-parse_mail_with.branch [
+            | in-Ok+in_ok-push_mail-in-Ok+in_ok-push_inner-in-Ok v ↦
+                let inside = v.in-Ok.inside in
+                let read = ap (read_mail_in known 100) (sym w.as_slice.ensures.value) ∙ v.in-Ok.ensures.read in
+                let one =
+                v.in_ok-push_mail-in-Ok.ensures ∙ ap (λ (b : List ℕ). done ++ inner_with place.path b at None ∷ []) v.as_slice-in-Ok.ensures.value in
+                let mid = map inner_view v.push_mail.new.mails.items in
+                let two =
+                ap (λ mails. map inner_view mails.items) (w.mails-is ∙ v.mails-is) ∙ v.in_ok-push_inner-in-Ok.ensures.written
+                ∙ ap (λ (p : List ℕ). mid ++ inner_mails known most p at (tree_of inside) (placements_of inside)) v.as_str.ensures.value in
+                next-read known most start at place _ rest bytes (tree_of inside) (placements_of inside) done mid _ _ left holds same there read
+                v.in-Ok.ensures.places one two here
+            | in-Err+in_ok-push_refused-in-Err v ↦
+                let error = v.in-Err.error in
+                let refused =
+                subst (λ (b : List ℕ). IsRefusalOrMemory error (read_mail_in known 100 b)) w.as_slice.ensures.value v.in-Err.ensures.read in
+                let made =
+                ap (λ mails. map inner_view mails.items) (w.mails-is ∙ v.mails-is) ∙ v.in_ok-push_refused-in-Err.ensures.written
+                ∙ ap (λ (b : List ℕ). done ++ inner_with place.path b at (refusal_of error) ∷ []) v.as_slice-in-Err.ensures.value in
+                next-refused known most start at place _ rest bytes error done _ _ left holds same there refused
+                v.in_ok-push_refused-in-Err.ensures.passed_on made here
+          ]
+      | else-holds_mail w ↦
+          ap (λ mails. map inner_view mails.items ++ flat_map (mails_in_place known most start) rest) w.mails-is
+          ∙ next-none known most start place _ rest done _ left (sym c.holds_mail.ensures ∙ w.if-holds_mail.false) here
+    ]

@@ -1,0 +1,25 @@
+use Rattle.std.proofs.Common.{Option, ℕ, sym, ap, ◌∙◌}
+use Rattle.mailparse.specs.BodyViews.{content_of}
+use Rattle.mailparse.specs.Mail.{root}
+use Rattle.mailparse.specs.Views.{tree_of}
+use Rattle.mail_data.specs.InnerMails.{mail_start}
+use Rattle.mail_data.specs.PlaceViews.{place_view}
+use Rattle.mail_data.specs.lenient.Encoding.{lenient_body_kind}
+use Rattle.mail_data.proofs.lemmas.InnerMails.{start-encoded, start-plain}
+use Rattle.mail_data.proofs.inner_mails.mail_start.Goals as goal
+
+pub returns-then-not-is_plain-clause-read : goal.returns-then-not-is_plain-clause-read
+returns-then-not-is_plain-clause-read c =
+    let node = root (tree_of c.args.place.now.part.now) in
+    let place = place_view c.args.place.now in
+    let plain = c.is_plain.ensures (lenient_body_kind node) (content_of node) c.in_ok-body.ensures.read in
+    start-encoded c.in-Some.start place c.is_plain.result plain c.if-not-is_plain.true
+    ∙ ap (λ (s : Option ℕ). mail_start s place) (sym c.in-Some.is)
+
+pub returns-clause-read : goal.returns-clause-read
+returns-clause-read c =
+    let node = root (tree_of c.args.place.now.part.now) in
+    let place = place_view c.args.place.now in
+    let plain = c.is_plain.ensures (lenient_body_kind node) (content_of node) c.in_ok-body.ensures.read in
+    start-plain c.in-Some.start c.saturating_add.result place c.is_plain.result plain c.if-not-is_plain.false c.saturating_add.ensures
+    ∙ ap (λ (s : Option ℕ). mail_start s place) (sym c.in-Some.is)

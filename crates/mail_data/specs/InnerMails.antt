@@ -1,0 +1,84 @@
+-- The mails inside a mail and inside those, with the paths of the parts that hold them; the paths of their parts (RFC 3501,
+-- section 6.4.5).
+use Rattle.std.specs.Prelude.{ℕ, zero, suc, ◌+◌, ◌-◌, ◌^◌, Bool, true, false, ◌&&◌, ◌==◌, min, nat_lt, List, [], ◌∷◌, length, filter, flat_map, Option, Some, None, if◌then◌else◌}
+use Rattle.std.specs.Option.{option_map_or}
+use Rattle.std.specs.Result.{result_err, result_ok}
+use Rattle.mail_codec.specs.Charset.{Charsets}
+use Rattle.mailparse.specs.Body.{BodyKind, in_base64, in_quoted_printable, in_7bit, in_8bit, in_binary}
+use Rattle.mailparse.specs.Mail.{Tree, read_mail_in, root}
+use Rattle.mailparse.specs.Placement.{Placement, placements}
+use Rattle.mailparse.specs.Refusal.{Reads, Refusal}
+use Rattle.mail_data.specs.Files.{is_leaf, path_under, with_paths}
+use Rattle.mail_data.specs.Forwarding.{forwards, readable}
+use Rattle.mail_data.specs.PartPlaces.{Place, placed}
+use Rattle.mail_data.specs.lenient.Encoding.{lenient_body_kind}
+
+-- ---- paths
+
+-- the path of a mail that the part with this path holds: that of the part; where the mail has no parts, that of its body
+unfoldable pub path_within : List ℕ → Tree → List ℕ
+path_within path t = if is_leaf t then path_under path 1 else path
+
+-- a mail that the part with this path holds, and then its parts, which stand in it in this order
+unfoldable pub places_under : List ℕ → Tree → List Placement → List Place
+places_under path mail found = placed (with_paths (path_within path mail) mail) found
+
+-- how many dots a path has: one less than numbers
+unfoldable pub dot_count : List ℕ → ℕ
+dot_count path = length (filter (λ c. c == 46) path)
+
+-- ---- mails
+
+-- a part holds a mail that is read: it forwards one, and its path has fewer than 100 numbers
+unfoldable pub holds_mail : Place → Bool
+holds_mail place = forwards (root place.part) && nat_lt (dot_count place.path) 99
+
+-- the bytes of the mail that a part holds: its transfer encoding is undone
+unfoldable pub mail_bytes : Place → List ℕ
+mail_bytes place = let node = root place.part in readable (lenient_body_kind node) node.body
+
+-- a body in this encoding stands for its own bytes
+abbrev pub is_plain : BodyKind → Bool
+is_plain in_base64 = false
+is_plain in_quoted_printable = false
+is_plain in_7bit = true
+is_plain in_8bit = true
+is_plain in_binary = true
+
+-- where the mail that a part holds begins, by where the mail begins whose part it is: nowhere, if it is encoded or that one stands nowhere
+unfoldable pub mail_start : Option ℕ → Place → Option ℕ
+mail_start None place = None
+mail_start (Some start) place =
+    if is_plain (lenient_body_kind (root place.part)) then Some (min (start + place.placement.body.start) (2 ^ 64 - 1)) else None
+
+-- a mail inside: the path of the part that holds it, its bytes, where they begin in the whole mail, if they stand there, and why it is refused
+pub record InnerMail : Type 0 where
+  pub path : List ℕ
+  pub bytes : List ℕ
+  pub start : Option ℕ
+  pub refusal : Option Refusal
+
+-- Under the charsets that are known.
+module _ (known : Charsets) where
+  -- the reading of the mail that a part holds
+  abbrev pub mail_read : Place → Reads Tree
+  mail_read place = read_mail_in known 100 (mail_bytes place)
+
+  -- the mail that a part holds whose mail begins there
+  abbrev pub held_mail : Option ℕ → Place → InnerMail
+  held_mail start place = record {
+    path = place.path;
+    bytes = mail_bytes place;
+    start = mail_start start place;
+    refusal = result_err (mail_read place);
+  }
+
+  -- the mails inside a mail that the part with this path holds and that begins there, no more than so many mails deep: those that its parts
+  -- hold, in order, after each of them those inside it
+  abbrev pub inner_mails : ℕ → List ℕ → Option ℕ → Tree → List Placement → List InnerMail
+  inner_mails zero path start mail found = []
+  inner_mails (suc most) path start mail found = flat_map (λ place.
+      if holds_mail place
+      then held_mail start place ∷ option_map_or (λ inside. inner_mails most place.path (mail_start start place) inside (placements 0 inside))
+      (result_ok (mail_read place)) []
+      else []) (places_under path mail found)

@@ -1,0 +1,274 @@
+//! The mails inside a mail, with the paths of the parts that hold them.
+ghost use Rattle.std.specs.Prelude.{◌≡◌, ◌++◌, [], ◌∷◌, map, option_and_then, string_bytes};
+ghost use Rattle.std.specs.Prelude.{Some, IfErr, IfOk, OnOk, Ok};
+ghost use Rattle.mail_codec.specs.Tables.{charsets_with};
+ghost use Rattle.mailparse.specs.Body.{BodyKind};
+ghost use Rattle.mailparse.specs.BodyViews.{Content, IsBody};
+ghost use Rattle.mailparse.specs.Outcome.{AnswersOrMemory, IsMemory, refusal_of};
+ghost use Rattle.mailparse.specs.Views.{placements_of, tree_of};
+ghost use Rattle.mail_data.specs.InnerMails.{holds_mail, inner_mails, is_plain, mail_bytes};
+ghost use Rattle.mail_data.specs.InnerMails.{dot_count, mail_start, path_within, places_under};
+ghost use Rattle.mail_data.specs.InnerMailViews.{inner_view};
+ghost use Rattle.mail_data.specs.PlaceViews.{place_view};
+
+use crate::files::{is_leaf, path_under};
+use crate::forwarding::{forwards, readable_bytes};
+use crate::lenient::lenient_body;
+use crate::places::{Place, push_places};
+use mailparse::body::Body;
+use mailparse::{MAX_LEVELS, MailParseError, ParsedMail, SingleByteTable, parse_mail_with};
+use std::alloc::{AllocError, Global};
+
+/// A mail inside a mail, as `inner_mails` returns it.
+#[derive(Drop)]
+pub struct InnerMail {
+    /// The path of the part that holds it, as IMAP numbers parts (RFC 3501, section 6.4.5): `2.1`
+    /// is the first part of the mail in the second part.
+    pub path: String,
+    /// Its bytes, without a transfer encoding: `parse_mail_with` reads them, and `places_under`
+    /// lists its parts.
+    pub bytes: Vec<u8>,
+    /// The offset at which these bytes begin in the whole mail, or `None` where they do not stand
+    /// there, since the mail, or one that it stands in, is encoded.
+    pub start: Option<usize>,
+    /// Why the mail is refused, or `None` where it can be read.
+    pub error: Option<MailParseError>,
+}
+
+/// Returns the mails inside a mail: those that its parts forward, in order, each before those inside
+/// it (RFC 2046, section 5.2.1; RFC 6532, section 3.7). A transfer encoding is undone, as
+/// `forwarding::forwarded_bytes` does, and each mail is read as `parse_mail_with` reads it.
+///
+/// A mail that is refused is in the list with its error, and none inside it is. A part whose path
+/// has `MAX_LEVELS` numbers or more is not looked into, so the time grows with the bytes and the
+/// levels alone. Takes memory for the list, the paths and a copy of each mail.
+///
+/// # Errors
+///
+/// `MailParseError::Memory` where it runs out of memory.
+///
+/// # Examples
+///
+/// ```rust
+/// use mail_data::inner_mails::{inner_mails, places_under};
+/// use mailparse::parse_mail;
+///
+/// let raw = b"Content-Type: multipart/mixed; boundary=b\n\n--b\n\nHi\n\
+///     --b\nContent-Type: message/rfc822\n\nSubject: inside\n\nHello\n--b--\n";
+/// let mail = parse_mail(alloc, raw)?;
+/// let found = inner_mails(alloc, &mail, &[])?;
+/// assert_eq!(rt; found.len(), 1);
+/// assert_eq!(rt; found[0].path.as_str(), "2");
+/// assert_eq!(rt; found[0].start, Some(85));
+/// let inside = parse_mail(alloc, found[0].bytes.as_slice())?;
+/// let places = places_under(alloc, &inside, found[0].path.as_str())?;
+/// assert_eq!(rt; places[0].path.as_str(), "2.1");
+/// ```
+pub fn inner_mails(
+    alloc: Global,
+    mail: &ParsedMail<'_>,
+    tables: &[SingleByteTable<'_>],
+) -> Result<Vec<InnerMail>, MailParseError>
+    ensures { AnswersOrMemory (λ mails. map inner_view mails.items) result
+        (Ok (inner_mails (charsets_with tables.now) 100 [] (Some 0) (tree_of mail.now)
+        (placements_of mail.now))) }
+{
+    let mut mails = Vec::new(alloc);
+    push_inner(alloc, mail, "", Some(0), MAX_LEVELS, tables, &mut mails)?;
+    Ok(mails)
+}
+
+/// Adds the mails inside a mail that the part with this path holds and that begins there, no more
+/// than so many mails deep.
+fn push_inner(
+    alloc: Global,
+    mail: &ParsedMail<'_>,
+    path: &str,
+    start: Option<usize>,
+    most: u8,
+    tables: &[SingleByteTable<'_>],
+    mails: &mut Vec<InnerMail>,
+) -> Result<(), MailParseError>
+    ensures written { OnOk result (map inner_view mails.new.items ≡ map inner_view mails.old.items
+        ++ inner_mails (charsets_with tables.now) most path.now start (tree_of mail.now)
+        (placements_of mail.now)) }
+    ensures only_memory { IfErr result IsMemory }
+{
+    if most == 0 {
+        return Ok(());
+    }
+    let places = places_under(alloc, mail, path)?;
+    for place in &places {
+        if holds_mail(place) {
+            let bytes = readable_bytes(alloc, place.part)?;
+            let at = mail_start(alloc, start, place)?;
+            match parse_mail_with(alloc, bytes.as_slice(), tables) {
+                Ok(inside) => {
+                    push_mail(alloc, place, bytes.as_slice(), at, None, mails)?;
+                    push_inner(
+                        alloc,
+                        &inside,
+                        place.path.as_str(),
+                        at,
+                        most - 1,
+                        tables,
+                        mails,
+                    )?;
+                }
+                Err(error) => push_refused(alloc, place, bytes.as_slice(), at, error, mails)?,
+            }
+        }
+    }
+    Ok(())
+}
+
+/// Adds a mail that is refused with this error, unless memory ran out.
+fn push_refused(
+    alloc: Global,
+    place: &Place<'_, '_>,
+    bytes: &[u8],
+    start: Option<usize>,
+    error: MailParseError,
+    mails: &mut Vec<InnerMail>,
+) -> Result<(), MailParseError>
+    ensures written { OnOk result (map inner_view mails.new.items
+        ≡ map inner_view mails.old.items ++ record {
+          path = (place_view place.now).path;
+          bytes = bytes.now;
+          start = start;
+          refusal = refusal_of error;
+        } ∷ []) }
+    ensures passed_on { IfOk result (λ done. IsMemory error → ⊥) }
+    ensures only_memory { IfErr result IsMemory }
+{
+    match error {
+        MailParseError::Memory(error) => Err(MailParseError::Memory(error)),
+        error => Ok(push_mail(alloc, place, bytes, start, Some(error), mails)?),
+    }
+}
+
+/// Adds a mail that a part holds.
+fn push_mail(
+    alloc: Global,
+    place: &Place<'_, '_>,
+    bytes: &[u8],
+    start: Option<usize>,
+    error: Option<MailParseError>,
+    mails: &mut Vec<InnerMail>,
+) -> Result<(), AllocError>
+    ensures { OnOk result (map inner_view mails.new.items
+        ≡ map inner_view mails.old.items ++ record {
+          path = (place_view place.now).path;
+          bytes = bytes.now;
+          start = start;
+          refusal = option_and_then refusal_of error;
+        } ∷ []) }
+{
+    mails.push(InnerMail {
+        path: String::from_str(alloc, place.path.as_str())?,
+        bytes: bytes.to_vec(alloc)?,
+        start,
+        error,
+    })?;
+    Ok(())
+}
+
+/// Whether a part holds a mail that is to be read.
+#[tactic(auto, unfolding(crate::specs::InnerMails::holds_mail))]
+fn holds_mail(place: &Place<'_, '_>) -> bool
+    ensures { result ≡ holds_mail (place_view place.now) }
+{
+    forwards(place.part) && dot_count(place.path.as_str()) < 99
+}
+
+/// How many dots a path has: one less than numbers.
+#[tactic(auto, unfolding(crate::specs::InnerMails::dot_count))]
+fn dot_count(path: &str) -> usize
+    ensures { result ≡ dot_count path.now }
+{
+    path.as_bytes().iter().filter(|byte| **byte == b'.').count()
+}
+
+/// Where the mail that a part holds begins in the whole mail, by where the mail begins whose part it
+/// is.
+#[tactic(auto, unfolding(crate::specs::InnerMails::mail_start))]
+fn mail_start(
+    alloc: Global,
+    start: Option<usize>,
+    place: &Place<'_, '_>,
+) -> Result<Option<usize>, MailParseError>
+    ensures read { IfOk result (λ at. at ≡ mail_start start (place_view place.now)) }
+    ensures only_memory { IfErr result IsMemory }
+{
+    let Some(start) = start else {
+        return Ok(None);
+    };
+    let body = lenient_body(alloc, place.part)?;
+    if !is_plain(&body) {
+        return Ok(None);
+    }
+    Ok(Some(start.saturating_add(place.body_range.start)))
+}
+
+/// Whether a body stands for its own bytes.
+fn is_plain(body: &Body<'_>) -> bool
+    ensures { (kind : BodyKind) (given : Content) → IsBody kind given body.now →
+        result ≡ is_plain kind }
+{
+    match body {
+        Body::Base64(_) => false,
+        Body::QuotedPrintable(_) => false,
+        Body::SevenBit(_) => true,
+        Body::EightBit(_) => true,
+        Body::Binary(_) => true,
+    }
+}
+
+/// Returns a mail that the part with this path holds, and all its parts, in the order of `places`,
+/// with their paths and with where they stand in that mail (RFC 3501, section 6.4.5).
+///
+/// The path of the mail itself is that of the part, since both are what IMAP calls by it. Where the
+/// mail has no parts, it is that of its body: below `2` it is `2.1`. With an empty path the result is
+/// that of `places`. Takes memory for the list and the paths.
+///
+/// # Errors
+///
+/// `AllocError` where it runs out of memory.
+///
+/// # Examples
+///
+/// ```rust
+/// use mail_data::inner_mails::places_under;
+/// use mailparse::parse_mail;
+///
+/// let mail = parse_mail(alloc, b"Content-Type: multipart/mixed; boundary=b\n\n--b\n\none\n--b--\n")?;
+/// let places = places_under(alloc, &mail, "2")?;
+/// assert_eq!(rt; places[0].path.as_str(), "2");
+/// assert_eq!(rt; places[1].path.as_str(), "2.1");
+/// ```
+#[tactic(auto, unfolding(crate::specs::InnerMails::places_under))]
+pub fn places_under<'m, 'a>(
+    alloc: Global,
+    mail: &'m ParsedMail<'a>,
+    path: &str,
+) -> Result<Vec<Place<'m, 'a>>, AllocError>
+    ensures { IfOk result (λ found. map place_view found.items
+        ≡ places_under path.now (tree_of mail.now) (placements_of mail.now)) }
+{
+    let mut found = Vec::new(alloc);
+    let path = path_within(alloc, path, mail)?;
+    push_places(alloc, mail, path.as_str(), &mut found)?;
+    Ok(found)
+}
+
+/// The path of a mail that the part with this path holds.
+#[tactic(auto, unfolding(crate::specs::InnerMails::path_within))]
+fn path_within(alloc: Global, path: &str, mail: &ParsedMail<'_>) -> Result<String, AllocError>
+    ensures { IfOk result (λ text. string_bytes text ≡ path_within path.now (tree_of mail.now)) }
+{
+    if is_leaf(mail) {
+        path_under(alloc, path, 1)
+    } else {
+        String::from_str(alloc, path)
+    }
+}
