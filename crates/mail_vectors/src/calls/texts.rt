@@ -24,6 +24,7 @@ pub fn make(alloc: Global, row: &Row, answer: &mut Answer) -> bool {
             Ok(())
         }
         "inner_mails" => list_inner(alloc, row, answer),
+        "last_inner_mail" => find_last_inner(alloc, row, answer),
         "unflowed" => join_lines(alloc, row, answer),
         "flowed_text" => read_flowed(alloc, row, answer),
         _ => return false,
@@ -142,6 +143,17 @@ fn list_places(
     answer.number(places.len());
     for place in &places {
         answer.text(place.path.as_str());
+    }
+    Ok(())
+}
+
+/// `last_inner_mail MAIL => COUNT PATH`: how many mails are inside, and the path of the last one.
+fn find_last_inner(alloc: Global, row: &Row, answer: &mut Answer) -> Result<(), MailParseError> {
+    let mail = parse_mail(alloc, row.bytes(0))?;
+    let found = inner_mails(alloc, &mail, &[])?;
+    answer.number(found.len());
+    if let Some(inside) = found.as_slice().last() {
+        answer.text(inside.path.as_str());
     }
     Ok(())
 }
