@@ -333,9 +333,10 @@ fn push_byte(bytes: &mut Vec<u8>, text: &str) -> Result<(), MailParseError> {
 
 /// Adds the UTF-8 of the character whose number stands in braces, and what follows them.
 fn push_char(bytes: &mut Vec<u8>, text: &str) -> Result<(), MailParseError> {
-    let Some((digits, rest)) = text.strip_prefix('{').and_then(|text| text.split_once('}')) else {
+    let Some((digits, rest)) = text.split_once('}') else {
         return Err(FORM);
     };
+    let digits = digits.strip_prefix('{').unwrap_or("");
     let number = u32::from_str_radix(digits, 16).unwrap_or(u32::MAX);
     let Some(character) = char::from_u32(number) else {
         return Err(FORM);

@@ -62,14 +62,12 @@ fn push_headers(
 ) {
     match found {
         Ok(headers) if call == "count_headers" => answer.number(headers.len()),
-        Ok(headers) => push_values(answer, headers.as_slice()),
+        Ok(headers) => {
+            for header in &headers {
+                answer.bytes(header.get_value_raw());
+            }
+        }
         Err(error) => answer.refusal(error),
-    }
-}
-
-fn push_values(answer: &mut Answer, headers: &[&MailHeader<'_>]) {
-    for header in headers {
-        answer.bytes(header.get_value_raw());
     }
 }
 

@@ -9,7 +9,7 @@
 use crate::calls::bodies::push_body;
 use crate::calls::tables::{all_tables, write_mail};
 use crate::notation::{Answer, Row};
-use mailparse::{MailHeader, MailParseError, ParsedMail, parse_mail};
+use mailparse::{MailParseError, ParsedMail, parse_mail};
 use std::alloc::Global;
 
 /// Makes the call of a row, if it is one of these.
@@ -43,15 +43,10 @@ fn push_part(
     answer.text(part.ctype.mimetype.as_str());
     answer.text(part.ctype.charset.as_str());
     for header in &part.headers {
-        push_header(alloc, answer, header);
+        answer.word("header");
+        answer.text_or_refusal(header.get_key(alloc));
+        answer.text_or_refusal(header.get_value(alloc));
     }
     push_body(alloc, answer, &part.get_body_encoded(alloc)?);
     Ok(())
-}
-
-/// Writes a header.
-fn push_header(alloc: Global, answer: &mut Answer, header: &MailHeader<'_>) {
-    answer.word("header");
-    answer.text_or_refusal(header.get_key(alloc));
-    answer.text_or_refusal(header.get_value(alloc));
 }

@@ -92,6 +92,9 @@ fn push_many(alloc: Global, answer: &mut Answer, count: usize) -> Result<(), Mai
     answer.number(found.params.len());
     let name = format!(in alloc; "n{}", count.saturating_sub(1))?;
     answer.text(name.as_str());
-    answer.optional_text(found.params.get(name.as_str()).map(|value| value.as_str()));
+    match found.params.get(name.as_str()) {
+        Some(value) => answer.text(value.as_str()),
+        None => answer.word("none"),
+    }
     Ok(())
 }

@@ -113,16 +113,12 @@ fn push_next(
 ) -> Result<(), MailParseError> {
     let mut parts = mail.parts(alloc)?;
     for _turn in 0..times {
-        push_mimetype(answer, parts.next());
+        match parts.next() {
+            Some(part) => answer.text(part.ctype.mimetype.as_str()),
+            None => answer.word("none"),
+        }
     }
     Ok(())
-}
-
-fn push_mimetype(answer: &mut Answer, part: Option<&ParsedMail<'_>>) {
-    match part {
-        Some(part) => answer.text(part.ctype.mimetype.as_str()),
-        None => answer.word("none"),
-    }
 }
 
 fn push_held(

@@ -142,7 +142,7 @@ impl Sweep {
         [before, after]: [u8; 2],
     ) -> Result<(), AllocError> {
         let most = self.most;
-        for lead in 0..=most {
+        for lead in 0..most.saturating_add(1) {
             self.text.clear();
             push_times(&mut self.text, &[before], lead)?;
             self.text.extend_from_slice(middle)?;

@@ -226,9 +226,10 @@ fn decode(
         "decode_base64_body" => return Ok(decode_base64_body(alloc, text)?),
         "strip_ascii_whitespace" => strip_ascii_whitespace(alloc, text),
         "decode_quoted_printable" => decode_quoted_printable(alloc, text),
-        "windows-1252" => Charset::Windows1252
-            .decode_without_bom_handling(alloc, text)
-            .map(|text| text.into_bytes()),
+        "windows-1252" => {
+            let text = Charset::Windows1252.decode_without_bom_handling(alloc, text)?;
+            return Ok(Ok(text.into_bytes()));
+        }
         "decode_latin1" => bytes_of(alloc, decode_latin1(alloc, text), true),
         "borrowed_latin1" => bytes_of(alloc, decode_latin1(alloc, text), false),
         "borrowed_ascii" => bytes_of(alloc, decode_ascii(alloc, text), false),

@@ -30,8 +30,8 @@ use mail_codec::charset::{SingleByteTable, table_for_label};
 use mail_tables::TABLES;
 use mailparse::body::Body;
 use mailparse::{
-    MailHeader, MailParseError, ParsedMail, parse_content_disposition_with,
-    parse_content_type_with, parse_header, parse_mail_with,
+    MailParseError, ParsedMail, parse_content_disposition_with, parse_content_type_with,
+    parse_header, parse_mail_with,
 };
 use std::alloc::{AllocError, Global};
 
@@ -169,8 +169,8 @@ fn push_all(answer: &mut Answer, texts: &[&str]) {
 
 /// Adds the text of bytes under the table of a label.
 fn decode(alloc: Global, row: &Row, answer: &mut Answer, tables: &[SingleByteTable<'_>]) {
-    let number = table_for_label(row.bytes(1), tables);
-    let Some(table) = number.and_then(|number| tables.get(number)) else {
+    let number = table_for_label(row.bytes(1), tables).unwrap_or(tables.len());
+    let Some(table) = tables.get(number) else {
         return answer.word("none");
     };
     answer.made(match row.call.as_str() {
@@ -247,21 +247,11 @@ fn write_part(
     answer.number(part.subparts.len());
     push_type(answer, &part.ctype);
     for header in &part.headers {
-        write_header(alloc, answer, header, tables);
+        answer.word("header");
+        answer.text_or_refusal(header.get_key(alloc));
+        answer.text_or_refusal(header.get_value_with(alloc, tables));
     }
     push_disposition(answer, &part.get_content_disposition_with(alloc, tables)?);
     answer.text_or_refusal(part.get_body_with(alloc, tables));
     Ok(())
-}
-
-/// Adds a header.
-fn write_header(
-    alloc: Global,
-    answer: &mut Answer,
-    header: &MailHeader<'_>,
-    tables: &[SingleByteTable<'_>],
-) {
-    answer.word("header");
-    answer.text_or_refusal(header.get_key(alloc));
-    answer.text_or_refusal(header.get_value_with(alloc, tables));
 }

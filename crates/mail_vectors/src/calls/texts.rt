@@ -75,8 +75,10 @@ fn read_forwarded_with(
     let mail = parse_mail_with(alloc, row.bytes(0), all_tables())?;
     match forwarded_with(alloc, &mail, all_tables())? {
         Some(inside) => {
-            let name = inside.ctype.params.get("name");
-            answer.optional_text(name.map(|name| name.as_str()));
+            match inside.ctype.params.get("name") {
+                Some(name) => answer.text(name.as_str()),
+                None => answer.word("none"),
+            }
             answer.bytes_or_refusal(inside.get_body_raw(alloc));
         }
         None => answer.word("none"),
