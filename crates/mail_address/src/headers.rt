@@ -25,7 +25,7 @@ use std::alloc::{AllocError, Global};
 /// use mail_address::addresses_of;
 /// use mailparse::parse_mail;
 ///
-/// let mail = parse_mail(alloc, b"To: Ann <ann@example.org>, bob@example.org\nTo: undisclosed:;\n\n")?;
+/// let mail = parse_mail(alloc, b"To: Ann <ann@example.org>, bob@example.org\nTo: all:;\n\n")?;
 /// let list = addresses_of(alloc, &mail.headers, "To")?;
 /// assert_eq!(rt; list.len(), 3);
 /// ```
@@ -76,7 +76,8 @@ fn push_addresses<'a>(
 /// use mail_address::sender_of;
 /// use mailparse::parse_mail;
 ///
-/// let mail = parse_mail(alloc, b"From: ann@example.org, bob@example.org\nSender: bob@example.org\n\n")?;
+/// let raw = b"From: ann@example.org, bob@example.org\nSender: bob@example.org\n\n";
+/// let mail = parse_mail(alloc, raw)?;
 /// let sender = sender_of(alloc, &mail.headers)?.ok_or("no sender")?;
 /// assert_eq!(rt; sender.get_address(alloc)?.as_str(), "bob@example.org");
 /// ```

@@ -47,16 +47,16 @@ pub fn elements_make_up_the_text()
 /// mail_address::laws::nothing_enclosed_separates();
 /// ```
 pub fn nothing_enclosed_separates()
-    ensures enclosed { (span : Span) (text rest : List ℕ) → is_in span Angle ≡ true → IsEnclosed text →
-        run span (text ++ rest) ≡ length text + run span rest }
+    ensures enclosed { (span : Span) (text rest : List ℕ) → is_in span Angle ≡ true →
+        IsEnclosed text → run span (text ++ rest) ≡ length text + run span rest }
     ensures quoted { (span : Span) (b : ℕ) (rest : List ℕ) → is_in span Angle ≡ true →
         run span (backslash ∷ b ∷ rest) ≡ 2 + run span rest }
 {}
 
-/// No display name forges an address. Take a name of quoted strings and atoms, as encoded words are,
-/// with a space behind each, and anything in angle brackets behind it. That is one element, whatever
-/// the name stands for: the mailbox of the address in the brackets, if they hold one. After a comma
-/// the list goes on. Every text is such a name as a quoted string, and the phrase stands for it.
+/// No display name forges an address. Take a name of quoted strings and atoms, as encoded words
+/// are, with a space behind each, and anything in angle brackets behind it. That is one element,
+/// whatever the name stands for: the mailbox of the address in the brackets, if they hold one. After
+/// a comma the list goes on. Every text is such a name as a quoted string, which stands for it.
 ///
 /// # Examples
 ///
