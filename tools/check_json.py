@@ -381,7 +381,7 @@ def check_parts():
     random_ = random.Random(97)
     with tempfile.TemporaryDirectory() as folder:
         name = os.path.join(folder, "file")
-        for turn in range(40):
+        for turn in range(24):
             words = [[], ["--mbox"], ["--mbox=rd"]][turn % 3]
             compare_parts(name, made_mailbox(random_), words, range(1, 8))
         for data in (FROM + b"\none\n\n" + FROM, b"\r\n" + FROM + b"\r\n" + FROM + b" x\n"):
@@ -390,7 +390,7 @@ def check_parts():
             for data in (b"", b"Subject: 1\n\none\n", b" x", b"\n"):
                 compare_parts(name, data, words, [1, 3, 40])
         long_ = b"".join(FROM + b"Subject: %d\n\n" % n + b"x\n" * random_.randrange(60_000) + b"\n" for n in range(20))
-        compare_parts(name, long_ + FROM + b"x\n" * 1_000_000, [], [2, 16])
+        compare_parts(name, long_ + FROM + b"\n" + b"x\n" * 1_000_000, [], [2, 16])
         with open(name, "wb") as file:
             file.write(long_ * (80_000_000 // len(long_) + 1))
         ended = run(["--progress", "--part", "1/1", name])
@@ -405,6 +405,7 @@ def check_parts():
         for words in wrong:
             ended = run(words)
             judge(ended.returncode == 2 and not ended.stdout and ended.stderr, f"{words} is refused")
+        compare_parts(name, FROM + b"\n" + FROM + b"\n" + FROM, [], [2])
         ended = run(["--part", "2/2", "/no/such/file", name])
         found = lines(ended.stdout, "a part of a file that is missing")
         same((ended.returncode, found[0]["file"], len(found) > 1), (1, "/no/such/file", True), "a part of a file that is missing")
