@@ -15,11 +15,11 @@ mod save;
 #[cfg(test)]
 mod tests;
 
-use mail_program::{Fault, VERSION, arguments};
+use mail_program::{Fault, VERSION, arguments, status_of};
 use request::{HELP, Task, USAGE, request_of};
-use run::{Outcome, run};
-use std::io;
+use run::run;
 use std::process::ExitCode;
+use std::rt::Files;
 
 fn main(rt: HostRuntime) -> ExitCode {
     let words = match arguments(&rt) {
@@ -29,32 +29,23 @@ fn main(rt: HostRuntime) -> ExitCode {
             return ExitCode::FAILURE;
         }
     };
-    let Ok(request) = request_of(rt.alloc(), words.as_slice()) else {
-        let _ = eprintln!(rt; "mail_extract: out of memory");
-        return ExitCode::FAILURE;
-    };
-    match request.task {
-        Task::Help => printed(&rt, rt.print(HELP)),
-        Task::Version => printed(&rt, println!(rt; "mail_extract {VERSION}")),
-        Task::Wrong => {
-            let _ = eprintln!(rt; "{USAGE}");
-            ExitCode::from(2)
-        }
-        Task::Save => match run(&rt, &request) {
-            Outcome::Clean => ExitCode::SUCCESS,
-            Outcome::Refused => ExitCode::from(3),
-            Outcome::Failed => ExitCode::FAILURE,
-        },
-    }
+    status_of(&rt, "mail_extract", answer(&rt, words.as_slice()))
 }
 
-/// The status where something was to be printed; says on standard error why it was not.
-fn printed(rt: &impl Eprint, outcome: io::Result<()>) -> ExitCode {
-    match outcome {
-        Ok(()) => ExitCode::SUCCESS,
-        Err(error) => {
-            let _ = eprintln!(rt; "mail_extract: {}", Fault::Output(error));
-            ExitCode::FAILURE
+/// Does what the arguments ask for, and returns the status.
+fn answer(
+    rt: &(impl Files + Input + Print + Eprint + AllocGlobal),
+    words: &[String],
+) -> Result<ExitCode, Fault> {
+    let request = request_of(rt.alloc(), words)?;
+    match request.task {
+        Task::Help => rt.print(HELP)?,
+        Task::Version => println!(rt; "mail_extract {VERSION}")?,
+        Task::Wrong => {
+            let _ = eprintln!(rt; "{USAGE}");
+            return Ok(ExitCode::from(2));
         }
+        Task::Save => return Ok(run(rt, &request)?.status()),
     }
+    Ok(ExitCode::SUCCESS)
 }

@@ -5,7 +5,7 @@ use crate::lines::{Line, write_line};
 use crate::request::Request;
 use crate::save::{Saved, save_files};
 use mail_data::mailbox::read_mailbox;
-use mail_program::{Fault, read_input};
+use mail_program::{Fault, Outcome, read_input};
 use mail_tables::TABLES;
 use mailparse::{MailParseError, parse_mail_with};
 use std::fs;
@@ -15,55 +15,13 @@ use std::rt::Files;
 /// The first number that a name gets that is taken.
 const FIRST_NUMBER: u64 = 2;
 
-/// How a run, or a part of it, went.
-#[derive(Clone, Copy, PartialEq, Eq)]
-pub enum Outcome {
-    /// All was read and saved.
-    Clean,
-    /// All was read and saved, but for what mails do not give.
-    Refused,
-    /// Something could not be read, saved or written.
-    Failed,
-}
-
-impl Outcome {
-    /// How two parts of a run went together.
-    fn and(self, other: Outcome) -> Outcome {
-        match (self, other) {
-            (Outcome::Failed, _) | (_, Outcome::Failed) => Outcome::Failed,
-            (Outcome::Refused, _) | (_, Outcome::Refused) => Outcome::Refused,
-            _ => Outcome::Clean,
-        }
-    }
-}
-
 /// Saves the files of the inputs that are asked for, and reports on standard error what could not
-/// be read. Where whoever reads the lines has gone, it ends without a word.
+/// be read.
+///
+/// # Errors
+///
+/// `Fault::Output` where a write fails, and `Fault::Mail` where memory runs out.
 pub fn run(
-    rt: &(impl Files + Input + Print + Eprint + AllocGlobal),
-    request: &Request<'_>,
-) -> Outcome {
-    match run_all(rt, request) {
-        Ok(outcome) => outcome,
-        Err(fault) => {
-            if !is_broken_pipe(&fault) {
-                let _ = eprintln!(rt; "mail_extract: {fault}");
-            }
-            Outcome::Failed
-        }
-    }
-}
-
-/// Whether whoever reads what is written has gone.
-fn is_broken_pipe(fault: &Fault) -> bool {
-    match fault {
-        Fault::Output(error) => error.kind() == ErrorKind::BrokenPipe,
-        _ => false,
-    }
-}
-
-/// Does what `run` does, but returns the fault that ends the run: a write failed, or memory ran out.
-fn run_all(
     rt: &(impl Files + Input + Print + Eprint + AllocGlobal),
     request: &Request<'_>,
 ) -> Result<Outcome, Fault> {

@@ -1,10 +1,12 @@
-//! What the programs do around their text: their arguments, reading to the end, writing, faults.
+//! What the programs do around their text: arguments, reading to the end, writing, faults, statuses.
 #![tactic(auto)]
 
 mod command;
 mod fault;
+mod outcome;
 mod streams;
 
 pub use command::{VERSION, Word, arguments};
 pub use fault::Fault;
+pub use outcome::{Outcome, status_of};
 pub use streams::{read_input, read_more, write_output};
