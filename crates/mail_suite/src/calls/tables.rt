@@ -103,12 +103,21 @@ fn made_up(alloc: Global, text: &str) -> Result<Vec<MadeUp<'_>>, MailParseError>
     for table in text.split(';') {
         if let Some((labels, first)) = table.split_once(':') {
             found.push(MadeUp {
-                labels: labels.split(',').collect(alloc)?,
+                labels: listed(alloc, labels)?,
                 high: characters_from(first.chars().next().unwrap_or(NO_CHARACTER)),
             })?;
         }
     }
     Ok(found)
+}
+
+/// The labels between commas.
+fn listed(alloc: Global, labels: &str) -> Result<Vec<&str>, AllocError> {
+    let mut list = Vec::new(alloc);
+    for label in labels.split(',') {
+        list.push(label)?;
+    }
+    Ok(list)
 }
 
 /// What a byte without a character reads as.
