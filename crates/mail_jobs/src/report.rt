@@ -7,7 +7,7 @@ use crate::indexer::{IndexEntry, index_entry};
 use crate::threads::{ThreadPlace, thread_place};
 use mail_data::bounce::Recipient;
 use mail_tables::TABLES;
-use mailparse::{MailParseError, ParsedMail, parse_mail_with};
+use mailparse::{MailParseError, ParsedMail, SingleByteTable, parse_mail_with};
 use std::alloc::{AllocError, Global};
 
 /// The lines of a mail, or one that says why it is refused.
@@ -21,9 +21,10 @@ pub fn report(alloc: Global, mail: &[u8]) -> Result<String, AllocError> {
 
 /// The lines of a mail.
 fn lines_of(alloc: Global, mail: &[u8]) -> Result<String, MailParseError> {
-    let mail = parse_mail_with(alloc, mail, &TABLES)?;
+    let tables = &TABLES;
+    let mail = parse_mail_with(alloc, mail, tables)?;
     let mut lines = String::new(alloc);
-    push_lines(alloc, &mut lines, &mail)?;
+    push_lines(alloc, &mut lines, &mail, tables)?;
     Ok(lines)
 }
 
@@ -33,8 +34,8 @@ fn push_lines(
     alloc: Global,
     lines: &mut String,
     mail: &ParsedMail<'_>,
+    tables: &[SingleByteTable<'_>],
 ) -> Result<(), MailParseError> {
-    let tables = &TABLES;
     push_entry(lines, &index_entry(alloc, mail, tables)?)?;
     push_files(lines, &stored_files(alloc, mail, tables)?)?;
     push_failed(lines, &failed_recipients(alloc, mail)?)?;
