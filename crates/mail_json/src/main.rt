@@ -1,19 +1,8 @@
 //! Writes mails as JSON, one object to a line: `mail_json [OPTION..] [FILE|FOLDER..]`.
 #![tactic(auto)]
 
-mod body;
-mod chosen;
-mod fields;
-pub mod laws;
-mod lines;
-mod mail;
-mod origin;
-mod part;
-mod range;
 mod request;
 mod run;
-mod stream;
-mod strings;
 
 use mail_program::{Fault, VERSION, arguments};
 use request::{HELP, Task, USAGE, request_of};

@@ -1,7 +1,8 @@
 //! What the arguments ask for.
 
-use crate::range::FilePart;
 use mail_data::mailbox::formats::Format;
+use mail_lines::Form;
+use mail_lines::range::FilePart;
 use mail_program::Word;
 use std::alloc::{AllocError, Global};
 
@@ -46,17 +47,6 @@ pub enum Task {
     Version,
     /// Say how the program is called.
     Wrong,
-}
-
-/// What an input is.
-#[derive(Clone, Copy, PartialEq, Eq)]
-pub enum Form {
-    /// A mailbox if it begins with a separator, otherwise a mail.
-    Either,
-    /// One mail.
-    Mail,
-    /// A mailbox in this format.
-    Mailbox(Format),
 }
 
 /// How the inputs are read.

@@ -1,10 +1,8 @@
 //! A run over the inputs.
 
-use crate::chosen::Next;
-use crate::origin::write_unread;
-use crate::range::{FilePart, shows_mailbox, write_first_part, write_range};
-use crate::request::{Form, How, Request};
-use crate::stream::{Watch, format_of, write_input};
+use crate::request::{How, Request};
+use mail_lines::range::{FilePart, shows_mailbox, write_first_part, write_range};
+use mail_lines::{Form, Next, Watch, format_of, write_input, write_unread};
 use mail_program::Fault;
 use mail_tables::TABLES;
 use std::alloc::{AllocError, Global};

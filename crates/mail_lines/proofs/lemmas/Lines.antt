@@ -1,0 +1,243 @@
+-- Lemmas on the lines of mailboxes.
+use Rattle.std.proofs.Common.{◌≡◌, ℕ, ◌+◌, ◌<◌, ◌≤◌, Bool, true, false, cond, ◌&&◌, List, [], ◌∷◌, ◌++◌, Option, None, Some, Result, length, take, refl, sym, ap, subst, ◌∙◌, append_assoc, arith, length-append, inl, inr}
+use Rattle.std.specs.Prelude.{min, not, nat_lt, ◌-◌, ◌^◌}
+use Rattle.std.proofs.lemmas.Bool.{cases_Bool, cases_lt, cond-false, cond-true, false≢true, le-ltb, lt-ltb}
+use Rattle.std.proofs.lemmas.List.{append-nil, length-take-le}
+use Rattle.mail_codec.specs.Charset.{Charsets}
+use Rattle.mail_data.specs.Mailbox.{Entry, entry_bytes, front_length}
+use Rattle.mail_data.specs.MailboxFormats.{entries_in, mail_in}
+use Rattle.mail_data.specs.MailboxParts.{Placed, begins_in, in_range, placed_from}
+use Rattle.mail_data.specs.declared.mailbox.formats.Format.{Format}
+use Rattle.mail_data.proofs.lemmas.MailboxParts.{front_length-≤}
+use Rattle.mail_lines.specs.Origin.{Origin}
+use Rattle.mail_lines.specs.Part.{saturating_add}
+use Rattle.mail_program.specs.declared.fault.Fault.{Fault}
+use Rattle.mail_lines.specs.Chosen.{AreChosen, AreMailboxChosen, Fits, IsEntryLine, OnlyIf, is_past, is_range, next_which}
+use Rattle.mail_lines.specs.Lines.{AreLines, IsFront, IsLine, Lines, WritesLines, after_entry, next_number, origin_at}
+use Rattle.mail_lines.specs.Stream.{Continues}
+use Rattle.mail_lines.specs.declared.chosen.Which.{Which}
+use Rattle.mail_lines.specs.declared.chosen.Which.TheVariants.{Numbered, Within}
+
+pub and_grouped : (a b c : Bool) → (a && (b && c)) ≡ ((a && b) && c)
+and_grouped true b c = refl
+and_grouped false b c = refl
+
+pub and_true : (a : Bool) → (a && true) ≡ a
+and_true true = refl
+and_true false = refl
+
+-- ---- places: those past the greatest number of 64 bits count as it
+
+abbrev pub capped : ℕ → ℕ
+capped n = min n (2 ^ 64 - 1)
+
+sum-capped : (a b k : ℕ) → capped a ≡ capped b → saturating_add a k ≡ saturating_add b k
+sum-capped a b k same = omega arith
+
+after-capped : (at : ℕ) (entry : Entry) → capped (after_entry at entry) ≡ capped (at + length (entry_bytes entry))
+after-capped at entry =
+    let all = length-append entry.separator (entry.mail ++ entry.ending) in
+    let both = length-append entry.mail entry.ending in
+    omega arith
+
+origin-capped : (file : Option (List ℕ)) (number : Option ℕ) (a b : ℕ) (entry : Entry) → capped a ≡ capped b → origin_at file number a entry ≡ origin_at file number b entry
+origin-capped file number a b entry same =
+    let place : ℕ → Origin = λ start. record { file = file; number = number; start = start; end = saturating_add start (length entry.mail) } in
+    ap place (sum-capped a b (length entry.separator) same)
+
+-- ---- ranges of places
+
+pub range_next : (which : Which) → is_range (next_which which) ≡ is_range which
+range_next (Numbered number) = refl
+range_next (Within from to) = refl
+
+before-capped : (n a b : ℕ) → n < 2 ^ 64 → capped a ≡ capped b → nat_lt a n ≡ nat_lt b n
+before-capped n a b fits same = elim (cases_lt a n) [
+  | inl before ↦ lt-ltb a n before ∙ sym (lt-ltb b n (omega arith))
+  | inr past ↦ le-ltb a n past ∙ sym (le-ltb b n (omega arith))
+]
+
+range-capped : (from to a b : ℕ) → from < 2 ^ 64 → to < 2 ^ 64 → capped a ≡ capped b → (not (nat_lt a from) && nat_lt a to) ≡ (not (nat_lt b from) && nat_lt b to)
+range-capped from to a b low high same =
+    ap (λ (w : Bool). not w && nat_lt a to) (before-capped from a b low same) ∙ ap (λ (w : Bool). not (nat_lt b from) && w) (before-capped to a b high same)
+
+not_before : (at to : ℕ) → not (nat_lt at to) ≡ true → to ≤ at
+not_before at to h = elim (cases_lt at to) [
+  | inl before ↦ absurd (false≢true (ap not (sym (lt-ltb at to before)) ∙ h))
+  | inr past ↦ past
+]
+
+outside_step : (t u : Bool) (m : Placed) (f : List Placed) → u ≡ false → (cond (t && u) (m ∷ f) f) ≡ f
+outside_step false u m f h = refl
+outside_step true false m f h = refl
+outside_step true true m f h = absurd (false≢true (sym h))
+
+-- no mail begins in a range that ends before the first one
+none_begins : (from to start : ℕ) (mails : List Entry) → to ≤ start → in_range from to (placed_from start mails) ≡ []
+none_begins from to start [] past = refl
+none_begins from to start (e ∷ mails) past =
+    outside_step (not (nat_lt start from)) (nat_lt start to) (record { start = start; entry = e }) (in_range from to (placed_from (start + length (entry_bytes e)) mails)) (le-ltb start to past)
+    ∙ none_begins from to (start + length (entry_bytes e)) mails (omega arith)
+
+-- ---- lines that are written if they are wanted
+
+pub wanted_lines : (old new : Option (List ℕ)) (r : Result Bool Fault) (Are : Lines) (w : Bool) → w ≡ true → WritesLines old new r Are → WritesLines old new r (OnlyIf w Are)
+wanted_lines old new r Are w h p = subst (λ (v : Bool). WritesLines old new r (OnlyIf v Are)) (sym h) p
+
+pub unwanted_lines : (Are : Lines) (w : Bool) → w ≡ false → OnlyIf w Are true []
+unwanted_lines Are w h = subst (λ (v : Bool). OnlyIf v Are true []) (sym h) (refl, refl)
+
+-- Of a file that is a mailbox in a format.
+module _ (known : Charsets) (format : Format) (file : Option (List ℕ)) where
+  lines-capped : (a b : ℕ) (mails : List Entry) (number : Option ℕ) (is_clean : Bool) (text : List ℕ) → capped a ≡ capped b
+      → AreLines known format file number (placed_from a mails) is_clean text → AreLines known format file number (placed_from b mails) is_clean text
+  lines-capped a b [] number is_clean text same h = h
+  lines-capped a b (entry ∷ mails) number is_clean text same h =
+      let later : capped (a + length (entry_bytes entry)) ≡ capped (b + length (entry_bytes entry)) = sum-capped a b (length (entry_bytes entry)) same in (
+        h.0,
+        h.1,
+        h.2,
+        h.3,
+        subst (λ (o : Origin). IsLine known o (mail_in format entry.mail) h.0 h.2) (origin-capped file number a b entry same) h.4,
+        lines-capped (a + length (entry_bytes entry)) (b + length (entry_bytes entry)) mails (next_number number) h.1 h.3 later h.5,
+        h.6,
+        h.7,
+      )
+
+  -- the lines of mails in a range
+  abbrev AreIn : (from to : ℕ) → List Placed → Lines
+  AreIn from to mails = AreLines known format file None (in_range from to mails)
+
+  -- a mail in the range, and the others
+  in-first : (from to : ℕ) (mail : Placed) (rest : List Placed) (is_clean : Bool) (text : List ℕ) → begins_in from to mail ≡ true
+      → AreLines known format file None (mail ∷ in_range from to rest) is_clean text → AreIn from to (mail ∷ rest) is_clean text
+  in-first from to mail rest is_clean text is h =
+      subst (λ (ms : List Placed). AreLines known format file None ms is_clean text) (sym (cond-true (begins_in from to mail) (mail ∷ in_range from to rest) (in_range from to rest) is)) h
+
+  first-in : (from to : ℕ) (mail : Placed) (rest : List Placed) (is_clean : Bool) (text : List ℕ) → begins_in from to mail ≡ true
+      → AreIn from to (mail ∷ rest) is_clean text → AreLines known format file None (mail ∷ in_range from to rest) is_clean text
+  first-in from to mail rest is_clean text is h =
+      subst (λ (ms : List Placed). AreLines known format file None ms is_clean text) (cond-true (begins_in from to mail) (mail ∷ in_range from to rest) (in_range from to rest) is) h
+
+  -- a mail outside it
+  out-first : (from to : ℕ) (mail : Placed) (rest : List Placed) (is_clean : Bool) (text : List ℕ) → begins_in from to mail ≡ false
+      → AreIn from to rest is_clean text → AreIn from to (mail ∷ rest) is_clean text
+  out-first from to mail rest is_clean text fails h =
+      subst (λ (ms : List Placed). AreLines known format file None ms is_clean text) (sym (cond-false (begins_in from to mail) (mail ∷ in_range from to rest) (in_range from to rest) fails)) h
+
+  first-out : (from to : ℕ) (mail : Placed) (rest : List Placed) (is_clean : Bool) (text : List ℕ) → begins_in from to mail ≡ false
+      → AreIn from to (mail ∷ rest) is_clean text → AreIn from to rest is_clean text
+  first-out from to mail rest is_clean text fails h =
+      subst (λ (ms : List Placed). AreLines known format file None ms is_clean text) (cond-false (begins_in from to mail) (mail ∷ in_range from to rest) (in_range from to rest) fails) h
+
+  in-capped : (from to : ℕ) → from < 2 ^ 64 → to < 2 ^ 64 → (a b : ℕ) (mails : List Entry) (is_clean : Bool) (text : List ℕ) → capped a ≡ capped b
+      → AreIn from to (placed_from a mails) is_clean text → AreIn from to (placed_from b mails) is_clean text
+  in-capped from to low high a b [] is_clean text same h = h
+  in-capped from to low high a b (entry ∷ mails) is_clean text same h =
+      let size = length (entry_bytes entry) in
+      let later : capped (a + size) ≡ capped (b + size) = sum-capped a b size same in
+      let one : Placed = record { start = a; entry = entry } in
+      let two : Placed = record { start = b; entry = entry } in
+      let begins : begins_in from to one ≡ begins_in from to two = range-capped from to a b low high same in
+      elim (cases_Bool (begins_in from to one)) [
+        | inl is ↦
+            let cut = first-in from to one (placed_from (a + size) mails) is_clean text is h in
+            in-first from to two (placed_from (b + size) mails) is_clean text (sym begins ∙ is) (
+              cut.0,
+              cut.1,
+              cut.2,
+              cut.3,
+              subst (λ (o : Origin). IsLine known o (mail_in format entry.mail) cut.0 cut.2) (origin-capped file None a b entry same) cut.4,
+              in-capped from to low high (a + size) (b + size) mails cut.1 cut.3 later cut.5,
+              cut.6,
+              cut.7,
+            )
+        | inr fails ↦
+            out-first from to two (placed_from (b + size) mails) is_clean text (sym begins ∙ fails)
+            (in-capped from to low high (a + size) (b + size) mails is_clean text later (first-out from to one (placed_from (a + size) mails) is_clean text fails h))
+      ]
+
+  pub chosen_capped : (which : Which) → Fits which → (a b : ℕ) (mails : List Entry) (is_clean : Bool) (text : List ℕ) → capped a ≡ capped b
+      → AreChosen known format file which (placed_from a mails) is_clean text → AreChosen known format file which (placed_from b mails) is_clean text
+  chosen_capped (Numbered number) fits a b mails is_clean text same h = lines-capped a b mails (Some number) is_clean text same h
+  chosen_capped (Within from to) fits a b mails is_clean text same h = in-capped from to fits.0 fits.1 a b mails is_clean text same h
+
+  -- the line of the first mail, if it has one, and those of the others
+  chosen-cons : (which : Which) (at : ℕ) (entry : Entry) (rest : List Placed) (one others : Bool) (line lines : List ℕ) → IsEntryLine known format file which at entry one line
+      → AreChosen known format file (next_which which) rest others lines → AreChosen known format file which (record { start = at; entry = entry } ∷ rest) (one && others) (line ++ lines)
+  chosen-cons (Numbered number) at entry rest one others line lines p h = (one, others, line, lines, p, h, refl, refl)
+  chosen-cons (Within from to) at entry rest one others line lines p h =
+      let mail : Placed = record { start = at; entry = entry } in
+      let Are : Lines = IsLine known (origin_at file None at entry) (mail_in format entry.mail) in
+      elim (cases_Bool (begins_in from to mail)) [
+        | inl is ↦
+            in-first from to mail rest (one && others) (line ++ lines) is (one, others, line, lines, subst (λ (w : Bool). OnlyIf w Are one line) is p, h, refl, refl)
+        | inr fails ↦
+            let none = subst (λ (w : Bool). OnlyIf w Are one line) fails p in
+            out-first from to mail rest (one && others) (line ++ lines) fails
+            (subst (λ (w : Bool). AreIn from to rest (w && others) (line ++ lines)) (sym none.0) (subst (λ (t : List ℕ). AreIn from to rest others (t ++ lines)) (sym none.1) h))
+      ]
+
+  -- behind the range nothing is written
+  pub chosen_past : (which : Which) (at : ℕ) (mails : List Entry) → is_past which at ≡ true → AreChosen known format file which (placed_from at mails) true []
+  chosen_past (Numbered number) at mails h = absurd (false≢true h)
+  chosen_past (Within from to) at mails h =
+      subst (λ (ms : List Placed). AreLines known format file None ms true []) (sym (none_begins from to at mails (not_before at to h))) (refl, refl)
+
+  pub lines_start : (first : Which) (start : ℕ) (all left : List Entry) → left ≡ all → Continues known format file first start all first start left true []
+  lines_start first start all left e = λ others lines h. subst (λ (es : List Entry). AreChosen known format file first (placed_from start es) others lines) e h
+
+  -- one mail more
+  pub lines_more : (first : Which) (start : ℕ) (which after_which : Which) (at after : ℕ) (all left next : List Entry) (entry : Entry)
+      (is_clean one : Bool) (done line : List ℕ) → Fits after_which → left ≡ entry ∷ next → after_which ≡ next_which which → after ≡ after_entry at entry
+      → IsEntryLine known format file which at entry one line → Continues known format file first start all which at left is_clean done
+      → Continues known format file first start all after_which after next (is_clean && one) (done ++ line)
+  lines_more first start which after_which at after all left next entry is_clean one done line fits e is_which is_after p here = λ others lines h.
+      let size = length (entry_bytes entry) in
+      let place : capped after ≡ capped (at + size) = ap capped is_after ∙ after-capped at entry in
+      let rest =
+      subst (λ (w : Which). AreChosen known format file w (placed_from (at + size) next) others lines) is_which
+      (chosen_capped after_which fits after (at + size) next others lines place h) in
+      let whole =
+      here (one && others) (line ++ lines)
+      (subst (λ (es : List Entry). AreChosen known format file which (placed_from at es) (one && others) (line ++ lines)) (sym e)
+      (chosen-cons which at entry (placed_from (at + size) next) one others line lines p rest)) in
+      subst (λ (w : Bool). AreChosen known format file first (placed_from start all) w ((done ++ line) ++ lines)) (and_grouped is_clean one others)
+      (subst (λ (t : List ℕ). AreChosen known format file first (placed_from start all) (is_clean && (one && others)) t) (sym (append_assoc done line lines)) whole)
+
+  -- nothing more is written
+  pub lines_stop : (first : Which) (start : ℕ) (which : Which) (at : ℕ) (all left : List Entry) (is_clean : Bool) (done : List ℕ)
+      → AreChosen known format file which (placed_from at left) true [] → Continues known format file first start all which at left is_clean done
+      → AreChosen known format file first (placed_from start all) is_clean done
+  lines_stop first start which at all left is_clean done none here =
+      subst (λ (w : Bool). AreChosen known format file first (placed_from start all) w done) (and_true is_clean)
+      (subst (λ (t : List ℕ). AreChosen known format file first (placed_from start all) (is_clean && true) t) (append-nil done) (here true [] none))
+
+  no-mails : (which : Which) → AreChosen known format file which [] true []
+  no-mails (Numbered number) = (refl, refl)
+  no-mails (Within from to) = (refl, refl)
+
+  -- no mail is left
+  pub lines_end : (first : Which) (start : ℕ) (which : Which) (at : ℕ) (all left : List Entry) (is_clean : Bool) (done : List ℕ) → left ≡ []
+      → Continues known format file first start all which at left is_clean done → AreChosen known format file first (placed_from start all) is_clean done
+  lines_end first start which at all left is_clean done e here =
+      lines_stop first start which at all left is_clean done
+      (subst (λ (es : List Entry). AreChosen known format file which (placed_from at es) true []) (sym e) (no-mails which)) here
+
+  -- the error for what stands before the first mail, and the lines of the mails
+  pub mailbox_lines : (which : Which) (bytes front : List ℕ) (left : List Entry) (is_all_whitespace are_read : Bool) (error lines : List ℕ)
+      → front ≡ take (front_length bytes) bytes → left ≡ entries_in format bytes → IsFront file front is_all_whitespace error
+      → AreChosen known format file which (placed_from (length front) left) are_read lines
+      → AreMailboxChosen known format file which bytes (is_all_whitespace && are_read) (error ++ lines)
+  mailbox_lines which bytes front left is_all_whitespace are_read error lines e f p q =
+      let size : length front ≡ front_length bytes = ap length e ∙ length-take-le (front_length bytes) bytes (front_length-≤ bytes) in
+      let mails = subst (λ (es : List Entry). AreChosen known format file which (placed_from (length front) es) are_read lines) f q in (
+        is_all_whitespace,
+        are_read,
+        error,
+        lines,
+        subst (λ (bs : List ℕ). IsFront file bs is_all_whitespace error) e p,
+        subst (λ (n : ℕ). AreChosen known format file which (placed_from n (entries_in format bytes)) are_read lines) size mails,
+        refl,
+        refl,
+      )

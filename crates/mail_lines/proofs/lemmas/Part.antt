@@ -1,0 +1,124 @@
+-- Lemmas on the texts of parts, and on the parameters of a type.
+use Rattle.std.proofs.Common.{◌≡◌, ℕ, Bool, true, false, List, [], ◌∷◌, ◌++◌, map, Some, Ok, Err, option_map, cond, String, refl, sym, ap, subst, ◌∙◌, append_assoc}
+use Rattle.std.proofs.lemmas.List.{append-nil}
+use Rattle.std.proofs.lemmas.Map.Text.{is_eq-slice_cmp}
+use Rattle.std.specs.Prelude.{codes}
+use Rattle.std.specs.BTreeMap.{BTreeMap, IsOrdered}
+use Rattle.std.specs.Cmp.Lexicographic.{slice_cmp}
+use Rattle.std.specs.Global.{Global}
+use Rattle.std.specs.List.{AllByRecursion}
+use Rattle.std.specs.List.Sorted.{IsStrictlySortedBy}
+use Rattle.std.specs.Map.{keys_of, lookup}
+use Rattle.std.specs.Ordering.{is_eq, nat_cmp}
+use Rattle.std.specs.Str.{bytes_eq}
+use Rattle.std.specs.String.{string_bytes, string_cmp}
+use Rattle.mailparse.specs.Mail.{Tree, root}
+use Rattle.mailparse.specs.Pairs.{text_at}
+use Rattle.mailparse.specs.Views.{content_type, tree_of, tree_step}
+use Rattle.mailparse.specs.declared.mail.message.ParsedMail.{ParsedMail}
+use Rattle.mailparse.specs.declared.mail.message.ParsedMail.TheFolds.{fold_out-ParsedMail}
+use Rattle.mailparse.specs.declared.mail.message.ParsedMail.TheViews.{out-ParsedMail}
+use Rattle.mail_codec.specs.Charset.{Charsets}
+use Rattle.mailparse.specs.Body.{BodyKind, decoded}
+use Rattle.mailparse.specs.BodyViews.{Content}
+use Rattle.mailparse.specs.Refusal.{Refusal}
+use Rattle.mail_data.specs.lenient.Base64.{base64_front}
+use Rattle.mail_data.specs.lenient.Texts.{Read, lenient_bytes, read_or_front, text_read}
+use Rattle.mail_lines.specs.Part.{Lists, AreAfterCommas, AreJoined, body_text, shown_text, text_text}
+use Rattle.mail_lines.specs.Strings.{comma}
+
+-- ---- the objects, a comma between two
+
+-- what was written of items, which any text of those that are left completes; nothing, where the first one is left
+abbrev pub Joins : {A : Type 0} → (A → List ℕ → Type 0) → Bool → (left all : List A) → List ℕ → Type 0
+Joins Is true left all done = (left ≡ all) × (done ≡ [])
+Joins Is false left all done = (rest : List ℕ) → AreAfterCommas Is left rest → AreJoined Is all (done ++ rest)
+
+-- one item more
+pub joins_more : {A : Type 0} (Is : A → List ℕ → Type 0) (is_first : Bool) (x : A) (left rest all : List A) (done text : List ℕ) → left ≡ x ∷ rest
+    → Joins Is is_first left all done → Is x text → Joins Is false rest all (done ++ (comma is_first ++ text))
+joins_more {A = A} Is true x left rest all done text e here is others h =
+    subst (λ (xs : List A). AreJoined Is xs ((done ++ text) ++ others)) (sym e ∙ here.0)
+    (text, others, is, h, ap (λ (d : List ℕ). (d ++ text) ++ others) here.1)
+joins_more {A = A} Is false x left rest all done text e here is others h =
+    let whole = here ((codes "," ++ text) ++ others)
+    (subst (λ (xs : List A). AreAfterCommas Is xs ((codes "," ++ text) ++ others)) (sym e) (text, others, is, h, append_assoc (codes ",") text others)) in
+    subst (AreJoined Is all) (sym (append_assoc done (codes "," ++ text) others)) whole
+
+-- no item is left
+pub joins_end : {A : Type 0} (Is : A → List ℕ → Type 0) (is_first : Bool) (left all : List A) (done : List ℕ) → left ≡ [] → Joins Is is_first left all done
+    → AreJoined Is all done
+joins_end {A = A} Is true left all done e here = subst (λ (xs : List A). AreJoined Is xs done) (sym e ∙ here.0) here.1
+joins_end {A = A} Is false left all done e here =
+    subst (AreJoined Is all) (append-nil done) (here [] (subst (λ (xs : List A). AreAfterCommas Is xs []) (sym e) refl))
+
+-- ---- a message and its parts
+
+pub bytes-out : (m : ParsedMail) → (out-ParsedMail m).raw_bytes.now ≡ (root (tree_of m)).bytes
+bytes-out m = ap (λ (t : Tree). (root t).bytes) (sym (fold_out-ParsedMail Tree tree_step m))
+
+pub ctype-out : (m : ParsedMail) → content_type (out-ParsedMail m).ctype ≡ (root (tree_of m)).ctype
+ctype-out m = ap (λ (t : Tree). (root t).ctype) (sym (fold_out-ParsedMail Tree tree_step m))
+
+pub headers-out : (m : ParsedMail) → (out-ParsedMail m).headers.items ≡ (root (tree_of m)).headers
+headers-out m = ap (λ (t : Tree). (root t).headers) (sym (fold_out-ParsedMail Tree tree_step m))
+
+-- ---- the parameters of a type
+
+-- an entry of a map as texts
+abbrev pub pair_of : String Global × String Global → List ℕ × List ℕ
+pair_of entry = (string_bytes entry.0, string_bytes entry.1)
+
+-- one entry more
+looked_up : (name : List ℕ) (k : String Global) (v : String Global) (es : List (String Global × String Global)) (a b : Bool) → a ≡ b
+    → lookup (bytes_eq name) (map pair_of es) ≡ option_map string_bytes (lookup (λ key. is_eq (slice_cmp nat_cmp name (string_bytes key))) es)
+    → cond a (Some (string_bytes v)) (lookup (bytes_eq name) (map pair_of es))
+    ≡ option_map string_bytes (cond b (Some v) (lookup (λ key. is_eq (slice_cmp nat_cmp name (string_bytes key))) es))
+looked_up name k v es true b e here = rw (sym e) refl
+looked_up name k v es false b e here = rw (sym e) here
+
+lookup-pairs : (name : List ℕ) (es : List (String Global × String Global))
+    → lookup (bytes_eq name) (map pair_of es) ≡ option_map string_bytes (lookup (λ key. is_eq (slice_cmp nat_cmp name (string_bytes key))) es)
+lookup-pairs name [] = refl
+lookup-pairs name (e ∷ es) = looked_up name e.0 e.1 es (bytes_eq name (string_bytes e.0)) (is_eq (slice_cmp nat_cmp name (string_bytes e.0)))
+    (sym (is_eq-slice_cmp name (string_bytes e.0))) (lookup-pairs name es)
+
+all-keys : (P : List ℕ → Type 0) (es : List (String Global × String Global)) → AllByRecursion (λ y. P (string_bytes y)) (keys_of es)
+    → AllByRecursion P (map (λ p. p.0) (map pair_of es))
+all-keys P [] h = tt
+all-keys P (e ∷ es) h = (h.0, all-keys P es h.1)
+
+sorted-pairs : (es : List (String Global × String Global)) → IsStrictlySortedBy string_cmp (keys_of es)
+    → IsStrictlySortedBy (slice_cmp nat_cmp) (map (λ p. p.0) (map pair_of es))
+unfolding IsStrictlySortedBy
+sorted-pairs [] h = tt
+sorted-pairs (e ∷ es) h = (all-keys _ es h.0, sorted-pairs es h.1)
+
+-- the entries of a map list its texts
+pub lists-entries : (m : BTreeMap (String Global) (String Global)) → IsOrdered string_cmp m → Lists (text_at m) (map pair_of m.entries)
+lists-entries m h = record { ordered = sorted-pairs m.entries h; same = λ name. lookup-pairs name m.entries }
+
+-- ---- the text of a body
+
+pub text-hidden : (known : Charsets) (shows : Bool) (kind : BodyKind) (given : Content) → shows ≡ false → codes ",\"text\":null" ≡ body_text known shows kind given
+text-hidden known shows kind given e = rw e refl
+
+shown-read : (known : Charsets) (label : List ℕ) (a b : Read) → a ≡ b
+    → text_text true (text_read known label a).text (text_read known label a).charset (text_read known label a).is_damaged
+    ≡ text_text true (text_read known label b).text (text_read known label b).charset (text_read known label b).is_damaged
+shown-read known label a b e = ap (λ (r : Read). text_text true (text_read known label r).text (text_read known label r).charset (text_read known label r).is_damaged) e
+
+-- the text of a body that is read whole
+pub text-whole : (known : Charsets) (shows : Bool) (kind : BodyKind) (given : Content) (bytes : List ℕ) → shows ≡ true → decoded kind given.raw ≡ Ok bytes
+    → shown_text known given.ctype.charset bytes false ≡ body_text known shows kind given
+unfolding lenient_bytes
+text-whole known shows kind given bytes e is =
+    shown-read known given.ctype.charset (read_or_front given.raw (Ok bytes)) (lenient_bytes kind given.raw) (ap (read_or_front given.raw) (sym is)) ∙ rw e refl
+
+-- the text of the front of one that is refused
+pub text-front : (known : Charsets) (shows : Bool) (kind : BodyKind) (given : Content) (bytes : List ℕ) (refusal : Refusal) → shows ≡ true
+    → decoded kind given.raw ≡ Err refusal → bytes ≡ (base64_front given.raw).bytes → shown_text known given.ctype.charset bytes true ≡ body_text known shows kind given
+unfolding lenient_bytes
+text-front known shows kind given bytes refusal e is front =
+    ap (λ (b : List ℕ). shown_text known given.ctype.charset b true) front
+    ∙ shown-read known given.ctype.charset (read_or_front given.raw (Err refusal)) (lenient_bytes kind given.raw) (ap (read_or_front given.raw) (sym is)) ∙ rw e refl

@@ -1,0 +1,11 @@
+use Rattle.std.proofs.KnownBytes.{Appends-trans}
+use Rattle.mail_lines.proofs.lemmas.Written.{writes_then}
+use Rattle.mail_lines.proofs.origin.write_unread.Goals as goal
+
+pub returns : goal.returns
+returns g c =
+    let two = Appends-trans _ _ _ _ _ c.in_ok-write_word.ensures c.in_ok-write_name.ensures in
+    let three = Appends-trans _ _ _ _ _ two c.in_ok-write_word-2.ensures in
+    let four = Appends-trans _ _ _ _ _ three c.in_ok-write_text.ensures in
+    let written = writes_then _ _ _ _ _ _ four c.write_word-3.ensures in
+    written

@@ -1,0 +1,80 @@
+-- The object of a mail; the program's own form.
+use Rattle.std.specs.Prelude.{◌≡◌, ℕ, Bool, true, false, List, [], ◌++◌, Option, Some, None, option_map, Ok, Err, codes}
+use Rattle.mail_codec.specs.Charset.{Charsets}
+use Rattle.mail_codec.specs.Latin1.{latin1_text}
+use Rattle.mailparse.specs.Mail.{Node, Tree, root}
+use Rattle.mailparse.specs.Map.{first_with_key}
+use Rattle.mailparse.specs.Placement.{placements}
+use Rattle.mail_data.specs.PartPlaces.{places}
+use Rattle.mail_data.specs.lenient.Date.{Dated, Zoned, date_in}
+use Rattle.mail_data.specs.declared.lenient.date.error.DateError.{DateError}
+use Rattle.mail_data.specs.declared.lenient.date.error.DateError.TheVariants.{Day, Month, Year, Time, Zone, TrailingText}
+use Rattle.mail_lines.specs.Fields.{value_of, ids_of}
+use Rattle.mail_lines.specs.Origin.{Origin, origin_text}
+use Rattle.mail_lines.specs.Part.{IsPartText, AreJoined}
+use Rattle.mail_lines.specs.Strings.{json_text, seconds_text, text_or_null, json_texts}
+
+-- what is missing in a date, or wrong in it
+abbrev pub date_fault_text : DateError → List ℕ
+date_fault_text Day = codes "no day of the month"
+date_fault_text Month = codes "no month"
+date_fault_text Year = codes "no year"
+date_fault_text Time = codes "no time of day"
+date_fault_text Zone = codes "no zone"
+date_fault_text TrailingText = codes "text after the zone"
+
+-- the member that says that the zone of a date is not known, where it is not
+abbrev pub zone_text : Bool → List ℕ
+zone_text true = []
+zone_text false = codes ",\"date_zone_unknown\":true"
+
+-- the member of a date: its seconds, or `null` where there is none or it is refused, and then why
+abbrev pub date_text : Option (Dated Zoned) → List ℕ
+date_text None = codes ",\"date\":null"
+date_text (Some (Ok date)) = codes ",\"date\":" ++ seconds_text date.0 ++ zone_text date.1
+date_text (Some (Err fault)) = codes ",\"date\":null,\"date_error\":" ++ json_text (date_fault_text fault)
+
+-- the first value with a name as it stands in the mail, after these words: each byte is the character of its number
+abbrev pub raw_value_text : List ℕ → List ℕ → Node → List ℕ
+raw_value_text before key node = before ++ text_or_null (option_map (λ header. latin1_text header.value) (first_with_key key node.headers))
+
+-- the member of the values of addresses as they stand in the mail
+abbrev pub raw_text : Node → List ℕ
+raw_text node =
+    raw_value_text (codes ",\"raw\":{\"from\":") (codes "From") node ++ raw_value_text (codes ",\"to\":") (codes "To") node
+    ++ raw_value_text (codes ",\"cc\":") (codes "Cc") node ++ raw_value_text (codes ",\"reply_to\":") (codes "Reply-To") node ++ codes "}"
+
+-- Under the charsets that are known.
+module _ (known : Charsets) where
+  -- the value of the first header with a name, after these words
+  abbrev pub value_text : List ℕ → List ℕ → Node → List ℕ
+  value_text before key node = before ++ text_or_null (value_of known key node)
+
+  -- the members that are values of headers
+  abbrev pub values_text : Node → List ℕ
+  values_text node =
+      value_text (codes ",\"subject\":") (codes "Subject") node ++ value_text (codes ",\"from\":") (codes "From") node
+      ++ value_text (codes ",\"to\":") (codes "To") node ++ value_text (codes ",\"cc\":") (codes "Cc") node
+      ++ value_text (codes ",\"reply_to\":") (codes "Reply-To") node
+
+  -- the ids in the first header with a name, after these words; each with an `@` where one is needed
+  abbrev pub id_list_text : List ℕ → Bool → List ℕ → Node → List ℕ
+  id_list_text before needs_at key node = before ++ json_texts (ids_of known needs_at key node)
+
+  -- the members that are ids of headers
+  abbrev pub ids_text : Node → List ℕ
+  ids_text node =
+      id_list_text (codes ",\"message_id\":") false (codes "Message-ID") node ++ id_list_text (codes ",\"in_reply_to\":") true (codes "In-Reply-To") node
+      ++ id_list_text (codes ",\"references\":") true (codes "References") node
+
+  -- the object of a mail from there, whose parts have this text
+  abbrev pub mail_text : Origin → Node → List ℕ → List ℕ
+  mail_text origin node parts =
+      origin_text origin ++ values_text node ++ raw_text node ++ date_text (option_map date_in (value_of known (codes "Date") node))
+      ++ ids_text node ++ codes ",\"parts\":[" ++ parts ++ codes "]}"
+
+-- a text is that of the object of a mail from there
+abbrev pub IsMailText : Charsets → Origin → Tree → List ℕ → Type 0
+IsMailText known origin mail text =
+    (parts : List ℕ) × AreJoined (IsPartText known origin.start) (places mail (placements 0 mail)) parts
+    × (text ≡ mail_text known origin (root mail) parts)

@@ -1,0 +1,139 @@
+-- The text that is written of each part of a mail; the program's own form.
+use Rattle.std.specs.Prelude.{◌≡◌, ℕ, ◌+◌, ◌^◌, ◌-◌, min, Bool, true, false, not, ◌&&◌, List, [], ◌∷◌, ◌++◌, length, map, Ok, Err, codes}
+use Rattle.std.specs.Cmp.Lexicographic.{slice_cmp}
+use Rattle.std.specs.List.Sorted.{IsStrictlySortedBy}
+use Rattle.std.specs.Map.{lookup}
+use Rattle.std.specs.Ordering.{nat_cmp}
+use Rattle.std.specs.Str.{bytes_eq}
+use Rattle.mail_codec.specs.Charset.{Charsets}
+use Rattle.mail_codec.specs.Places.{stands}
+use Rattle.mailparse.specs.Body.{BodyKind}
+use Rattle.mailparse.specs.BodyViews.{Content, content_of}
+use Rattle.mailparse.specs.ContentType.{ContentType}
+use Rattle.mailparse.specs.Disposition.{Disposition}
+use Rattle.mailparse.specs.Header.{Header, key_text}
+use Rattle.mailparse.specs.Mail.{Node, Tree, root, shown_as_in}
+use Rattle.mailparse.specs.Pairs.{Texts}
+use Rattle.mailparse.specs.Refusal.{Reads}
+use Rattle.mailparse.specs.Value.{lenient_value_in}
+use Rattle.mail_data.specs.Files.{describes_attachment, is_attachment_disposition, is_leaf, name_in}
+use Rattle.mail_data.specs.PartPlaces.{Place}
+use Rattle.mail_data.specs.Texts.{text_type}
+use Rattle.mail_data.specs.lenient.Encoding.{lenient_body_kind}
+use Rattle.mail_data.specs.lenient.Texts.{charset_used, lenient_bytes, lenient_text, text_read}
+use Rattle.mail_lines.specs.Body.{encoding_text, decoded_size}
+use Rattle.mail_lines.specs.Fields.{refusal_text, disposition_name}
+use Rattle.mail_lines.specs.Strings.{json_text, number_text, text_or_null, joined}
+
+-- a sum, or the greatest number of 64 bits, where no file ends
+abbrev pub saturating_add : ℕ → ℕ → ℕ
+saturating_add a b = min (a + b) (2 ^ 64 - 1)
+
+-- pairs list texts: each name once, the names in the order of their bytes, and with each what stands under it
+pub record Lists (texts : Texts) (pairs : List (List ℕ × List ℕ)) : Type 0 where
+  pub ordered : IsStrictlySortedBy (slice_cmp nat_cmp) (map (λ p. p.0) pairs)
+  pub same : (name : List ℕ) → lookup (bytes_eq name) pairs ≡ texts name
+
+-- a parameter: its name and its value
+abbrev pub parameter_text : List ℕ × List ℕ → List ℕ
+parameter_text pair = json_text pair.0 ++ codes ":" ++ json_text pair.1
+
+-- the members of a type with these parameters
+abbrev pub type_text : List ℕ → List ℕ → List (List ℕ × List ℕ) → List ℕ
+type_text mimetype charset pairs =
+    codes ",\"type\":" ++ json_text mimetype ++ codes ",\"charset\":" ++ json_text charset ++ codes ",\"params\":{" ++ joined parameter_text pairs
+    ++ codes "}"
+
+-- a text is that of the members of a type
+abbrev pub IsTypeText : ContentType → List ℕ → Type 0
+IsTypeText ctype text =
+    (pairs : List (List ℕ × List ℕ)) × Lists ctype.params pairs × (text ≡ type_text ctype.mimetype ctype.charset pairs)
+
+-- `true` or `false`
+abbrev pub flag_text : Bool → List ℕ
+flag_text true = codes "true"
+flag_text false = codes "false"
+
+-- a part of this disposition is an attachment: it has no parts, and its disposition and its type are those of one
+abbrev pub is_attachment : Tree → Disposition → Bool
+is_attachment part disposition = is_leaf part && describes_attachment disposition (root part).ctype
+
+-- a part of this disposition has a text that is to be read: it is not marked as an attachment, has no parts, and its type is that of a text
+abbrev pub is_read : Tree → Disposition → Bool
+is_read part disposition =
+    not (is_attachment_disposition disposition.kind) && is_leaf part && stands (codes "text/") (text_type (root part).ctype.mimetype)
+
+-- the members of a disposition, of a file's name, and of whether the part is an attachment
+abbrev pub disposition_text : Disposition → Node → Bool → List ℕ
+disposition_text disposition node is_attachment =
+    codes ",\"disposition\":" ++ text_or_null (disposition_name disposition node) ++ codes ",\"file_name\":" ++ text_or_null (name_in disposition node.ctype)
+    ++ codes ",\"attachment\":" ++ flag_text is_attachment
+
+-- the members of an encoding by its name, of where a part stands, and of how many bytes its body has
+abbrev pub place_text : List ℕ → ℕ → ℕ → ℕ → List ℕ
+place_text name start end size =
+    codes ",\"encoding\":\"" ++ name ++ codes "\",\"start\":" ++ number_text start ++ codes ",\"end\":" ++ number_text end
+    ++ codes ",\"size\":" ++ number_text size
+
+-- the member of how many bytes a body stands for, or of why it is refused
+abbrev pub size_text : Reads ℕ → List ℕ
+size_text (Ok size) = codes ",\"decoded_size\":" ++ number_text size
+size_text (Err refusal) = codes ",\"decoded_size\":null,\"error\":" ++ json_text (refusal_text refusal)
+
+-- the member that says that a body is damaged, where it is
+abbrev pub damaged_text : Bool → List ℕ
+damaged_text true = codes ",\"damaged\":true"
+damaged_text false = []
+
+-- the members of a text that is to be read, of the charset in which it is read, and of whether its body is damaged; otherwise `null`
+abbrev pub text_text : Bool → List ℕ → List ℕ → Bool → List ℕ
+text_text false text charset is_damaged = codes ",\"text\":null"
+text_text true text charset is_damaged =
+    codes ",\"text\":" ++ json_text text ++ codes ",\"text_charset\":" ++ json_text charset ++ damaged_text is_damaged
+
+-- Under the charsets that are known.
+module _ (known : Charsets) where
+  -- a header: a pair of its name and its value
+  abbrev pub header_text : Header → List ℕ
+  header_text header = codes "[" ++ json_text (key_text header) ++ codes "," ++ json_text (lenient_value_in known header.value) ++ codes "]"
+
+  -- the member of the headers
+  abbrev pub headers_text : List Header → List ℕ
+  headers_text headers = codes ",\"headers\":[" ++ joined header_text headers ++ codes "]"
+
+  -- the members of the text of bytes under a label
+  abbrev pub shown_text : List ℕ → List ℕ → Bool → List ℕ
+  shown_text label bytes is_damaged = text_text true (lenient_text known label bytes) (charset_used known label bytes) is_damaged
+
+  -- the members of the text of a body that is to be read or not
+  abbrev pub body_text : Bool → BodyKind → Content → List ℕ
+  body_text shows kind body =
+      let read = text_read known body.ctype.charset (lenient_bytes kind body.raw) in
+      text_text shows read.text read.charset read.is_damaged
+
+  -- the object of a part of a mail that begins there in the input, whose type has this text
+  abbrev pub part_text : ℕ → Place → List ℕ → List ℕ
+  part_text start place type =
+      let node = root place.part in
+      let kind = lenient_body_kind node in
+      let disposition = shown_as_in known node in
+      let attached = is_attachment place.part disposition in
+      codes "{\"path\":" ++ json_text place.path ++ type ++ disposition_text disposition node attached
+      ++ place_text (encoding_text kind) (saturating_add start place.placement.whole.start) (saturating_add start place.placement.whole.end) (length node.body)
+      ++ size_text (decoded_size kind node.body) ++ headers_text node.headers
+      ++ body_text (is_read place.part disposition) kind (content_of node) ++ codes "}"
+
+  -- a text is that of the object of a part of a mail that begins there
+  abbrev pub IsPartText : ℕ → Place → List ℕ → Type 0
+  IsPartText start place text = (type : List ℕ) × IsTypeText (root place.part).ctype type × (text ≡ part_text start place type)
+
+-- a text is that of items, each after a comma
+abbrev pub AreAfterCommas : {A : Type 0} → (A → List ℕ → Type 0) → List A → List ℕ → Type 0
+AreAfterCommas Is [] text = text ≡ []
+AreAfterCommas Is (x ∷ xs) text =
+    (first : List ℕ) × (others : List ℕ) × Is x first × AreAfterCommas Is xs others × (text ≡ codes "," ++ (first ++ others))
+
+-- a text is that of items, a comma between two
+abbrev pub AreJoined : {A : Type 0} → (A → List ℕ → Type 0) → List A → List ℕ → Type 0
+AreJoined Is [] text = text ≡ []
+AreJoined Is (x ∷ xs) text = (first : List ℕ) × (others : List ℕ) × Is x first × AreAfterCommas Is xs others × (text ≡ first ++ others)

@@ -1,0 +1,239 @@
+-- The values that the lines stand for, in the form that the kit's parser of JSON gives them; the program's own form.
+use Rattle.std.specs.Prelude.{◌≡◌, ℕ, ℤ, Bool, true, false, not, ◌==◌, List, [], ◌∷◌, ◌++◌, length, map, Option, Some, None, option_map, Ok, Err, codes}
+use Rattle.std.specs.List.{flat_map, list_all, AllByRecursion}
+use Rattle.json.specs.Json.{Json, null, boolean, number, string, array, object, Members, no_members, member, document}
+use Rattle.json.specs.Strict.{HasUniqueKeys}
+use Rattle.json.specs.Value.{items_of}
+use Rattle.mail_codec.specs.Charset.{Charsets}
+use Rattle.mail_codec.specs.Latin1.{latin1_text}
+use Rattle.mailparse.specs.Body.{BodyKind}
+use Rattle.mailparse.specs.BodyViews.{Content, content_of}
+use Rattle.mailparse.specs.Disposition.{Disposition}
+use Rattle.mailparse.specs.Header.{Header, key_text}
+use Rattle.mailparse.specs.Mail.{Node, Tree, root, shown_as_in}
+use Rattle.mailparse.specs.Map.{first_with_key}
+use Rattle.mailparse.specs.Placement.{placements}
+use Rattle.mailparse.specs.Refusal.{Reads}
+use Rattle.mailparse.specs.Value.{lenient_value_in}
+use Rattle.mail_data.specs.Files.{name_in}
+use Rattle.mail_data.specs.PartPlaces.{Place, places}
+use Rattle.mail_data.specs.lenient.Date.{Dated, Zoned, date_in}
+use Rattle.mail_data.specs.lenient.Encoding.{lenient_body_kind}
+use Rattle.mail_data.specs.lenient.Texts.{lenient_bytes, text_read}
+use Rattle.mail_lines.specs.Body.{encoding_text, decoded_size}
+use Rattle.mail_lines.specs.Fields.{refusal_text, disposition_name, value_of, ids_of}
+use Rattle.mail_lines.specs.Mail.{date_fault_text}
+use Rattle.mail_lines.specs.Origin.{Origin}
+use Rattle.mail_lines.specs.Part.{Lists, is_attachment, is_read, saturating_add}
+use Rattle.mail_lines.specs.Strings.{number_text, seconds_text}
+
+-- a byte that ends no line
+abbrev pub is_within_line : ℕ → Bool
+is_within_line b = not (b == 10)
+
+-- a text is JSON on one line: the kit's parser reads it as this value, in which no object has a key twice, and no line ends in it
+pub record IsJsonLine (value : Json) (text : List ℕ) : Type 0 where
+  pub read : document text ≡ Some value
+  pub unique : HasUniqueKeys value
+  pub one_line : list_all is_within_line text ≡ true
+
+-- lines of JSON, each with its LF
+abbrev pub AreJsonLines : List ℕ → Type 0
+AreJsonLines text =
+    (lines : List (List ℕ)) × AllByRecursion (λ line. (value : Json) × IsJsonLine value line) lines × (text ≡ flat_map (λ line. line ++ codes "\n") lines)
+
+-- a member of an object: its name and its value
+abbrev pub Member : Type 0
+Member = List ℕ × Json
+
+abbrev pub members_of : List Member → Members
+members_of [] = no_members
+members_of (m ∷ ms) = member m.0 m.1 (members_of ms)
+
+-- an object, a list, and a list of strings
+abbrev pub object_of : List Member → Json
+object_of ms = object (members_of ms)
+
+abbrev pub list_of : List Json → Json
+list_of js = array (items_of js)
+
+abbrev pub strings : List (List ℕ) → Json
+strings texts = list_of (map (λ text. string text) texts)
+
+-- one member
+abbrev pub one : List ℕ → Json → List Member
+one name value = (name, value) ∷ []
+
+abbrev pub string_or_null : Option (List ℕ) → Json
+string_or_null (Some text) = string text
+string_or_null None = null
+
+abbrev pub number_value : ℕ → Json
+number_value n = number (number_text n)
+
+abbrev pub number_or_null_value : Option ℕ → Json
+number_or_null_value (Some n) = number_value n
+number_or_null_value None = null
+
+-- the members of the number of this form and of a file
+abbrev pub file_members : Option (List ℕ) → List Member
+file_members file = one (codes "schema") (number_value 3) ++ one (codes "file") (string_or_null file)
+
+-- the members that the line of a mail begins with
+abbrev pub origin_members : Origin → List Member
+origin_members origin =
+    file_members origin.file ++ one (codes "number") (number_or_null_value origin.number)
+    ++ (one (codes "start") (number_value origin.start) ++ one (codes "end") (number_value origin.end))
+
+-- the object of an error
+abbrev pub error_value : Origin → List ℕ → Json
+error_value origin text = object_of (origin_members origin ++ one (codes "error") (string text))
+
+-- the object of an input that could not be read
+abbrev pub unread_value : Option (List ℕ) → List ℕ → Json
+unread_value file text =
+    object_of (file_members file ++ (one (codes "number") null ++ one (codes "start") null ++ one (codes "end") null ++ one (codes "error") (string text)))
+
+-- a parameter, by its name and its value
+abbrev pub parameter_member : List ℕ × List ℕ → Member
+parameter_member pair = (pair.0, string pair.1)
+
+-- the members of a type with these parameters
+abbrev pub type_members : List ℕ → List ℕ → List (List ℕ × List ℕ) → List Member
+type_members mimetype charset pairs =
+    one (codes "type") (string mimetype) ++ one (codes "charset") (string charset) ++ one (codes "params") (object_of (map parameter_member pairs))
+
+-- the members of a disposition, of a file's name, and of whether the part is an attachment
+abbrev pub disposition_members : Disposition → Node → Bool → List Member
+disposition_members disposition node is_attachment =
+    one (codes "disposition") (string_or_null (disposition_name disposition node))
+    ++ one (codes "file_name") (string_or_null (name_in disposition node.ctype)) ++ one (codes "attachment") (boolean is_attachment)
+
+-- the members of an encoding, of where a part stands, and of how many bytes its body has
+abbrev pub place_members : BodyKind → ℕ → ℕ → ℕ → List Member
+place_members kind start end size =
+    one (codes "encoding") (string (encoding_text kind)) ++ one (codes "start") (number_value start) ++ one (codes "end") (number_value end)
+    ++ one (codes "size") (number_value size)
+
+-- the member of how many bytes a body stands for, or of why it is refused
+abbrev pub size_members : Reads ℕ → List Member
+size_members (Ok size) = one (codes "decoded_size") (number_value size)
+size_members (Err refusal) = one (codes "decoded_size") null ++ one (codes "error") (string (refusal_text refusal))
+
+-- the member that says that a body is damaged
+abbrev pub damaged_members : Bool → List Member
+damaged_members true = one (codes "damaged") (boolean true)
+damaged_members false = []
+
+-- the members of a text that is to be read or not
+abbrev pub text_members : Bool → List ℕ → List ℕ → Bool → List Member
+text_members false text charset is_damaged = one (codes "text") null
+text_members true text charset is_damaged =
+    one (codes "text") (string text) ++ one (codes "text_charset") (string charset) ++ damaged_members is_damaged
+
+-- the seconds of a date
+abbrev pub seconds_value : ℤ → Json
+seconds_value seconds = number (seconds_text seconds)
+
+-- the member that says that the zone of a date is not known
+abbrev pub zone_members : Bool → List Member
+zone_members true = []
+zone_members false = one (codes "date_zone_unknown") (boolean true)
+
+-- the members of a date, or of why it is refused
+abbrev pub date_members : Option (Dated Zoned) → List Member
+date_members None = one (codes "date") null
+date_members (Some (Ok date)) = one (codes "date") (seconds_value date.0) ++ zone_members date.1
+date_members (Some (Err fault)) = one (codes "date") null ++ one (codes "date_error") (string (date_fault_text fault))
+
+-- the member of a value as it stands in the mail
+abbrev pub raw_member : List ℕ → List ℕ → Node → List Member
+raw_member name key node = one name (string_or_null (option_map (λ header. latin1_text header.value) (first_with_key key node.headers)))
+
+-- the members of the values of addresses as they stand in the mail
+abbrev pub raw_members : Node → List Member
+raw_members node =
+    raw_member (codes "from") (codes "From") node ++ raw_member (codes "to") (codes "To") node ++ raw_member (codes "cc") (codes "Cc") node
+    ++ raw_member (codes "reply_to") (codes "Reply-To") node
+
+-- each value is that of the item at its place
+abbrev pub AreValues : {A : Type 0} → (A → Json → Type 0) → List A → List Json → Type 0
+AreValues Is [] values = values ≡ []
+AreValues Is (x ∷ xs) values = (first : Json) × (others : List Json) × Is x first × AreValues Is xs others × (values ≡ first ∷ others)
+
+-- Under the charsets that are known.
+module _ (known : Charsets) where
+  -- a header: its name and its value
+  abbrev pub header_value : Header → Json
+  header_value header = list_of (string (key_text header) ∷ string (lenient_value_in known header.value) ∷ [])
+
+  -- the members of the text of a body that is to be read or not
+  abbrev pub body_members : Bool → BodyKind → Content → List Member
+  body_members shows kind body =
+      let read = text_read known body.ctype.charset (lenient_bytes kind body.raw) in
+      text_members shows read.text read.charset read.is_damaged
+
+  -- the members of a part of a mail that begins there, whose type has these parameters: those before its sizes, and those after them
+  abbrev pub front_members : ℕ → Place → List (List ℕ × List ℕ) → List Member
+  front_members start place pairs =
+      let node = root place.part in
+      let disposition = shown_as_in known node in
+      one (codes "path") (string place.path) ++ type_members node.ctype.mimetype node.ctype.charset pairs
+      ++ disposition_members disposition node (is_attachment place.part disposition)
+      ++ place_members (lenient_body_kind node) (saturating_add start place.placement.whole.start) (saturating_add start place.placement.whole.end)
+      (length node.body)
+
+  abbrev pub headers_member : Place → List Member
+  headers_member place = one (codes "headers") (list_of (map header_value (root place.part).headers))
+
+  abbrev pub content_members : Place → List Member
+  content_members place =
+      let node = root place.part in
+      headers_member place
+      ++ body_members (is_read place.part (shown_as_in known node)) (lenient_body_kind node) (content_of node)
+
+  abbrev pub part_members : ℕ → Place → List (List ℕ × List ℕ) → List Member
+  part_members start place pairs =
+      let node = root place.part in
+      front_members start place pairs ++ size_members (decoded_size (lenient_body_kind node) node.body) ++ content_members place
+
+  -- a value is the object of a part of a mail that begins there
+  abbrev pub IsPartValue : ℕ → Place → Json → Type 0
+  IsPartValue start place value =
+      (pairs : List (List ℕ × List ℕ)) × Lists (root place.part).ctype.params pairs × (value ≡ object_of (part_members start place pairs))
+
+  -- the member of the value of the first header with a name; of the ids in it
+  abbrev pub value_member : List ℕ → List ℕ → Node → List Member
+  value_member name key node = one name (string_or_null (value_of known key node))
+
+  abbrev pub ids_member : List ℕ → Bool → List ℕ → Node → List Member
+  ids_member name needs_at key node = one name (strings (ids_of known needs_at key node))
+
+  -- the members that are values of headers; that are ids of headers
+  abbrev pub values_members : Node → List Member
+  values_members node =
+      value_member (codes "subject") (codes "Subject") node ++ value_member (codes "from") (codes "From") node
+      ++ value_member (codes "to") (codes "To") node ++ value_member (codes "cc") (codes "Cc") node
+      ++ value_member (codes "reply_to") (codes "Reply-To") node
+
+  abbrev pub ids_members : Node → List Member
+  ids_members node =
+      ids_member (codes "message_id") false (codes "Message-ID") node ++ ids_member (codes "in_reply_to") true (codes "In-Reply-To") node
+      ++ ids_member (codes "references") true (codes "References") node
+
+  -- the members of a mail from there, whose parts have these values
+  abbrev pub mail_members : Origin → Node → List Json → List Member
+  mail_members origin node parts =
+      origin_members origin ++ values_members node ++ one (codes "raw") (object_of (raw_members node))
+      ++ date_members (option_map date_in (value_of known (codes "Date") node)) ++ ids_members node ++ one (codes "parts") (list_of parts)
+
+  -- a value is the object of a mail from there
+  abbrev pub IsMailValue : Origin → Tree → Json → Type 0
+  IsMailValue origin mail value =
+      (parts : List Json) × AreValues (IsPartValue origin.start) (places mail (placements 0 mail)) parts
+      × (value ≡ object_of (mail_members origin (root mail) parts))
+
+  -- a value is that of the line of a mail from there, or of its refusal
+  abbrev pub IsLineValue : Origin → Reads Tree → Json → Type 0
+  IsLineValue origin (Ok mail) value = IsMailValue origin mail value
+  IsLineValue origin (Err refusal) value = value ≡ error_value origin (refusal_text refusal)

@@ -1,0 +1,123 @@
+//! What headers say, in the charsets of some tables too.
+ghost use Rattle.std.specs.Prelude.{◌≡◌, Some, map, option_map, string_bytes, IfOk, Ok};
+ghost use Rattle.mail_codec.specs.Tables.{charsets_with};
+ghost use Rattle.mailparse.specs.Mail.{root};
+ghost use Rattle.mailparse.specs.Map.{text_found};
+ghost use Rattle.mailparse.specs.Outcome.{AnswersOrMemory, GivesTexts, IsMemory, refusal_of};
+ghost use Rattle.mailparse.specs.Refusal.{Refusal};
+ghost use Rattle.mailparse.specs.Views as views;
+ghost use Rattle.mailparse.specs.Views.{kind, tree_of};
+ghost use Rattle.mail_data.specs.lenient.Ids.{found_in};
+ghost use Rattle.mail_lines.specs.Fields.{disposition_name, ids_of, kind_text, refusal_text};
+ghost use Rattle.mail_lines.specs.Fields.{value_of};
+
+use mail_data::lenient::{ids_in, own_ids_in};
+use mailparse::{
+    DispositionType, MailHeaderMap, MailParseError, ParsedContentDisposition, ParsedMail,
+    SingleByteTable,
+};
+use std::alloc::{AllocError, Global};
+
+/// The value of the first header with this name.
+///
+/// # Errors
+///
+/// `MailParseError::Memory` where it runs out of memory.
+pub fn value_of(
+    alloc: Global,
+    mail: &ParsedMail<'_>,
+    key: &str,
+    tables: &[SingleByteTable<'_>],
+) -> Result<Option<String>, MailParseError>
+    ensures { AnswersOrMemory text_found result
+        (Ok (value_of (charsets_with tables.now) key.now (root (tree_of mail.now)))) }
+{
+    mail.headers.get_first_value_with(alloc, key, tables)
+}
+
+/// The message ids in the value of the first header with this name, each with an `@` where one is
+/// needed.
+///
+/// # Errors
+///
+/// `MailParseError::Memory` where it runs out of memory.
+pub fn ids_of(
+    alloc: Global,
+    mail: &ParsedMail<'_>,
+    key: &str,
+    needs_at: bool,
+    tables: &[SingleByteTable<'_>],
+) -> Result<Vec<String>, MailParseError>
+    ensures { GivesTexts result
+        (ids_of (charsets_with tables.now) needs_at key.now (root (tree_of mail.now))) }
+{
+    match value_of(alloc, mail, key, tables)? {
+        Some(value) => Ok(found_in(alloc, value.as_str(), needs_at)?),
+        None => Ok(Vec::new(alloc)),
+    }
+}
+
+/// The message ids in a text, each with an `@` where one is needed.
+fn found_in(alloc: Global, text: &str, needs_at: bool) -> Result<Vec<String>, AllocError>
+    ensures { IfOk result (λ ids. map string_bytes ids.items ≡ found_in needs_at text.now) }
+{
+    if needs_at {
+        ids_in(alloc, text)
+    } else {
+        own_ids_in(alloc, text)
+    }
+}
+
+/// The name of the disposition of a part, or `None` where the part has no such header.
+pub fn disposition_name<'d>(
+    part: &ParsedMail<'_>,
+    disposition: &'d ParsedContentDisposition,
+) -> Option<&'d str>
+    ensures { option_map (λ name. name.now) result
+        ≡ disposition_name (views.disposition disposition.now) (root (tree_of part.now)) }
+{
+    match part.headers.get_first_header("Content-Disposition") {
+        Some(_) => Some(kind_name(&disposition.disposition)),
+        None => None,
+    }
+}
+
+/// The name of a kind of disposition.
+fn kind_name(disposition: &DispositionType) -> &str
+    ensures { result.now ≡ kind_text (kind disposition.now) }
+{
+    match disposition {
+        DispositionType::Inline => "inline",
+        DispositionType::Attachment => "attachment",
+        DispositionType::FormData => "form-data",
+        DispositionType::Extension(name) => name.as_str(),
+    }
+}
+
+/// Returns the text of a refusal, as `Display` shows it.
+///
+/// # Errors
+///
+/// Where it runs out of memory, and for `MailParseError::Memory`, which is no refusal.
+#[tactic(auto, unfolding(crate::specs::Fields::refusal_text))]
+pub fn refusal_text(alloc: Global, error: &MailParseError) -> Result<String, AllocError>
+    ensures read { IfOk result (λ text. (refusal : Refusal) →
+        refusal_of error.now ≡ Some refusal → string_bytes text ≡ refusal_text refusal) }
+    ensures passed_on { IfOk result (λ text. IsMemory error.now → ⊥) }
+{
+    match error {
+        MailParseError::Base64DecodeError(fault) => {
+            let group = fault.group;
+            format!(in alloc; "Base64 decode error: group {group} is no Base64 group")
+        }
+        MailParseError::EncodingError(text) => {
+            let text = text.as_str();
+            format!(in alloc; "Encoding error: {text}")
+        }
+        MailParseError::Generic(text) => String::from_str(alloc, text),
+        MailParseError::QuotedPrintableDecodeError(fault) => {
+            format!(in alloc; "QuotedPrintable decode error: {fault}")
+        }
+        MailParseError::Memory(_) => Err(AllocError),
+    }
+}

@@ -1,0 +1,239 @@
+//! The object of a mail.
+ghost use Rattle.std.specs.Prelude.{◌≡◌, ◌++◌, codes, option_map};
+ghost use Rattle.mail_codec.specs.Tables.{charsets_with};
+ghost use Rattle.mailparse.specs.Mail.{root};
+ghost use Rattle.mailparse.specs.Placement.{placements};
+ghost use Rattle.mailparse.specs.Views.{placements_of, tree_of};
+ghost use Rattle.mail_data.specs.lenient.Date.{date_in};
+ghost use Rattle.mail_lines.specs.Fields.{value_of};
+ghost use Rattle.mail_lines.specs.Mail.{IsMailText, date_fault_text, date_text, id_list_text};
+ghost use Rattle.mail_lines.specs.Mail.{ids_text, raw_text, raw_value_text, value_text, values_text};
+ghost use Rattle.mail_lines.specs.Mail.{zone_text};
+ghost use Rattle.mail_lines.specs.Origin.{origin_of};
+ghost use Rattle.mail_lines.specs.Strings.{seconds_text};
+ghost use Rattle.mail_lines.specs.Written.{Writes, WritesOne};
+
+use crate::fields::{ids_of, value_of};
+use crate::origin::{Origin, write_origin};
+use crate::part::write_parts;
+use crate::strings::{write_optional, write_text, write_texts, write_word};
+use mail_codec::charset::decode_latin1;
+use mail_data::lenient::{DateError, date_in};
+use mail_program::Fault;
+use mailparse::{MailHeaderMap, ParsedMail, SingleByteTable};
+use std::alloc::Global;
+use std::io::Write;
+
+/// Writes the object of a mail from there, where texts may also be in the charsets of some tables. It
+/// is a mail as it was parsed.
+///
+/// # Errors
+///
+/// `Fault::Output` where a write fails, and `Fault::Mail` with `MailParseError::Memory` where it runs
+/// out of memory.
+pub fn write_mail<W: Write>(
+    alloc: Global,
+    out: &mut W,
+    mail: &ParsedMail<'_>,
+    origin: &Origin<'_>,
+    tables: &[SingleByteTable<'_>],
+) -> Result<(), Fault>
+    requires placed { placements_of mail.now ≡ placements 0 (tree_of mail.now) }
+    ensures { WritesOne (W.contents out.old) (W.contents out.new) result
+        (IsMailText (charsets_with tables.now) (origin_of origin.now) (tree_of mail.now)) }
+{
+    write_origin(alloc, out, origin)?;
+    write_values(alloc, out, mail, tables)?;
+    write_raw(alloc, out, mail)?;
+    write_date(alloc, out, mail, tables)?;
+    write_ids(alloc, out, mail, tables)?;
+    write_word(out, ",\"parts\":[")?;
+    write_parts(alloc, out, mail, origin.start, tables)?;
+    write_word(out, "]}")
+}
+
+/// Writes the members that are values of headers.
+fn write_values<W: Write>(
+    alloc: Global,
+    out: &mut W,
+    mail: &ParsedMail<'_>,
+    tables: &[SingleByteTable<'_>],
+) -> Result<(), Fault>
+    ensures { Writes (W.contents out.old) (W.contents out.new) result
+        (values_text (charsets_with tables.now) (root (tree_of mail.now))) }
+{
+    write_value(alloc, out, ",\"subject\":", mail, "Subject", tables)?;
+    write_value(alloc, out, ",\"from\":", mail, "From", tables)?;
+    write_value(alloc, out, ",\"to\":", mail, "To", tables)?;
+    write_value(alloc, out, ",\"cc\":", mail, "Cc", tables)?;
+    write_value(alloc, out, ",\"reply_to\":", mail, "Reply-To", tables)
+}
+
+/// Writes the value of the first header with this name, after these words.
+fn write_value<W: Write>(
+    alloc: Global,
+    out: &mut W,
+    before: &str,
+    mail: &ParsedMail<'_>,
+    key: &str,
+    tables: &[SingleByteTable<'_>],
+) -> Result<(), Fault>
+    ensures { Writes (W.contents out.old) (W.contents out.new) result
+        (value_text (charsets_with tables.now) before.now key.now (root (tree_of mail.now))) }
+{
+    let value = value_of(alloc, mail, key, tables)?;
+    write_word(out, before)?;
+    write_optional(alloc, out, value)
+}
+
+/// Writes the member of the values of addresses as they stand in the mail.
+fn write_raw<W: Write>(alloc: Global, out: &mut W, mail: &ParsedMail<'_>) -> Result<(), Fault>
+    ensures { Writes (W.contents out.old) (W.contents out.new) result
+        (raw_text (root (tree_of mail.now))) }
+{
+    write_raw_value(alloc, out, ",\"raw\":{\"from\":", mail, "From")?;
+    write_raw_value(alloc, out, ",\"to\":", mail, "To")?;
+    write_raw_value(alloc, out, ",\"cc\":", mail, "Cc")?;
+    write_raw_value(alloc, out, ",\"reply_to\":", mail, "Reply-To")?;
+    write_word(out, "}")
+}
+
+/// Writes the value of the first header with this name as it stands in the mail, after these words:
+/// each byte is the character of its number.
+fn write_raw_value<W: Write>(
+    alloc: Global,
+    out: &mut W,
+    before: &str,
+    mail: &ParsedMail<'_>,
+    key: &str,
+) -> Result<(), Fault>
+    ensures { Writes (W.contents out.old) (W.contents out.new) result
+        (raw_value_text before.now key.now (root (tree_of mail.now))) }
+{
+    write_word(out, before)?;
+    match mail.headers.get_first_header(key) {
+        Some(header) => {
+            let text = decode_latin1(alloc, header.get_value_raw())?;
+            write_text(alloc, out, text.as_str())
+        }
+        None => write_word(out, "null"),
+    }
+}
+
+/// Writes the members that are ids of headers.
+fn write_ids<W: Write>(
+    alloc: Global,
+    out: &mut W,
+    mail: &ParsedMail<'_>,
+    tables: &[SingleByteTable<'_>],
+) -> Result<(), Fault>
+    ensures { Writes (W.contents out.old) (W.contents out.new) result
+        (ids_text (charsets_with tables.now) (root (tree_of mail.now))) }
+{
+    write_id_list(
+        alloc,
+        out,
+        ",\"message_id\":",
+        mail,
+        "Message-ID",
+        false,
+        tables,
+    )?;
+    write_id_list(
+        alloc,
+        out,
+        ",\"in_reply_to\":",
+        mail,
+        "In-Reply-To",
+        true,
+        tables,
+    )?;
+    write_id_list(
+        alloc,
+        out,
+        ",\"references\":",
+        mail,
+        "References",
+        true,
+        tables,
+    )
+}
+
+/// Writes the ids in the first header with this name, after these words, each with an `@` where one
+/// is needed.
+fn write_id_list<W: Write>(
+    alloc: Global,
+    out: &mut W,
+    before: &str,
+    mail: &ParsedMail<'_>,
+    key: &str,
+    needs_at: bool,
+    tables: &[SingleByteTable<'_>],
+) -> Result<(), Fault>
+    ensures { Writes (W.contents out.old) (W.contents out.new) result (id_list_text
+        (charsets_with tables.now) before.now needs_at key.now (root (tree_of mail.now))) }
+{
+    let ids = ids_of(alloc, mail, key, needs_at, tables)?;
+    write_word(out, before)?;
+    write_texts(alloc, out, ids.as_slice())
+}
+
+/// Writes the date: its seconds and whether its zone is not known, or `null` where there is none or
+/// it is refused, and then why.
+fn write_date<W: Write>(
+    alloc: Global,
+    out: &mut W,
+    mail: &ParsedMail<'_>,
+    tables: &[SingleByteTable<'_>],
+) -> Result<(), Fault>
+    ensures { Writes (W.contents out.old) (W.contents out.new) result (date_text (option_map
+        date_in (value_of (charsets_with tables.now) (codes "Date") (root (tree_of mail.now))))) }
+{
+    let Some(date) = value_of(alloc, mail, "Date", tables)? else {
+        return write_word(out, ",\"date\":null");
+    };
+    match date_in(date.as_str()) {
+        Ok((seconds, is_zone_known)) => {
+            write_seconds(out, seconds)?;
+            write_word(out, zone_text(is_zone_known))
+        }
+        Err(error) => {
+            write_word(out, ",\"date\":null,\"date_error\":")?;
+            write_text(alloc, out, date_fault(error))
+        }
+    }
+}
+
+/// The member that says that the zone of a date is not known, where it is not.
+fn zone_text(is_known: bool) -> &'static str
+    ensures { result.now ≡ zone_text is_known }
+{
+    if is_known {
+        ""
+    } else {
+        ",\"date_zone_unknown\":true"
+    }
+}
+
+/// Writes a date by its seconds.
+fn write_seconds<W: Write>(out: &mut W, seconds: i64) -> Result<(), Fault>
+    ensures { Writes (W.contents out.old) (W.contents out.new) result
+        (codes ",\"date\":" ++ seconds_text seconds) }
+{
+    write!(out, ",\"date\":{seconds}")?;
+    Ok(())
+}
+
+/// Returns what is missing in a date or wrong in it, as `Display` shows it.
+fn date_fault(error: DateError) -> &'static str
+    ensures { result.now ≡ date_fault_text error }
+{
+    match error {
+        DateError::Day => "no day of the month",
+        DateError::Month => "no month",
+        DateError::Year => "no year",
+        DateError::Time => "no time of day",
+        DateError::Zone => "no zone",
+        DateError::TrailingText => "text after the zone",
+    }
+}

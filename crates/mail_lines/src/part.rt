@@ -1,0 +1,336 @@
+//! The objects of the parts.
+ghost use Rattle.std.specs.Prelude.{◌≡◌, ℕ, List, IfOk};
+ghost use Rattle.std.specs.Cow.{cow_slice_items};
+ghost use Rattle.mail_codec.specs.Tables.{charsets_with};
+ghost use Rattle.mailparse.specs.Body.{BodyKind, decoded};
+ghost use Rattle.mailparse.specs.BodyViews.{Content};
+ghost use Rattle.mailparse.specs.Mail.{root};
+ghost use Rattle.mailparse.specs.Outcome.{AnswersOrMemory, IsMemory};
+ghost use Rattle.mailparse.specs.Views as views;
+ghost use Rattle.mailparse.specs.Views.{content_type, placements_of, tree_of};
+ghost use Rattle.mail_data.specs.PartPlaces.{places};
+ghost use Rattle.mail_data.specs.lenient.Base64.{base64_front};
+ghost use Rattle.mail_data.specs.PlaceViews.{place_view};
+ghost use Rattle.mail_lines.specs.Body.{decoded_size};
+ghost use Rattle.mail_lines.specs.Part.{AreJoined, IsPartText, IsTypeText, body_text, damaged_text};
+ghost use Rattle.mail_lines.specs.Part.{shown_text};
+ghost use Rattle.mail_lines.specs.Part.{disposition_text, flag_text, header_text, headers_text};
+ghost use Rattle.mail_lines.specs.Part.{is_attachment, is_read, parameter_text, place_text, size_text};
+ghost use Rattle.mail_lines.specs.Written.{Writes, WritesOne};
+
+use crate::body::{decoded, encoding_name};
+use crate::fields::{disposition_name, refusal_text};
+use crate::strings::{
+    write_comma, write_name, write_optional, write_owned, write_text, write_word,
+};
+use mail_data::files::{describes_attachment, is_attachment_disposition, is_leaf, named_file};
+use mail_data::lenient::{base64_front, charset_used, lenient_body, lenient_text};
+use mail_data::places::{Place, places};
+use mail_data::texts::text_type;
+use mail_program::Fault;
+use mailparse::{
+    MailHeader, MailParseError, ParsedContentDisposition, ParsedContentType, ParsedMail,
+    SingleByteTable,
+};
+use std::alloc::{AllocError, Global};
+use std::borrow::CowSlice;
+use std::io::Write;
+
+/// Writes the objects of a mail that begins at this offset of the input and of its parts, a comma
+/// between two.
+///
+/// # Errors
+///
+/// `Fault::Output` where a write fails, and `Fault::Mail` with `MailParseError::Memory` where it runs
+/// out of memory.
+pub fn write_parts<W: Write>(
+    alloc: Global,
+    out: &mut W,
+    mail: &ParsedMail<'_>,
+    start: usize,
+    tables: &[SingleByteTable<'_>],
+) -> Result<(), Fault>
+    ensures { WritesOne (W.contents out.old) (W.contents out.new) result
+        (AreJoined (IsPartText (charsets_with tables.now) start)
+        (places (tree_of mail.now) (placements_of mail.now))) }
+{
+    let found = places(alloc, mail)?;
+    let mut is_first = true;
+    for place in &found {
+        write_comma(out, is_first)?;
+        write_part(alloc, out, place, start, tables)?;
+        is_first = false;
+    }
+    Ok(())
+}
+
+/// Writes the object of a part, without its parts.
+fn write_part<W: Write>(
+    alloc: Global,
+    out: &mut W,
+    place: &Place<'_, '_>,
+    start: usize,
+    tables: &[SingleByteTable<'_>],
+) -> Result<(), Fault>
+    ensures { WritesOne (W.contents out.old) (W.contents out.new) result
+        (IsPartText (charsets_with tables.now) start (place_view place.now)) }
+{
+    let part = place.part;
+    write_word(out, "{\"path\":")?;
+    write_text(alloc, out, place.path.as_str())?;
+    write_type(alloc, out, &part.ctype)?;
+    let disposition = part.get_content_disposition_with(alloc, tables)?;
+    let is_attachment = is_attachment(alloc, part, &disposition)?;
+    write_disposition(alloc, out, part, &disposition, is_attachment)?;
+    let body = lenient_body(alloc, part)?;
+    let begin = start.saturating_add(place.byte_range.start);
+    let end = start.saturating_add(place.byte_range.end);
+    write_place(out, encoding_name(&body), begin, end, body.get_raw().len())?;
+    let bytes = decoded(alloc, &body);
+    write_decoded_size(alloc, out, &bytes)?;
+    write_headers(alloc, out, part.headers.as_slice(), tables)?;
+    let is_read = is_read(part, &disposition);
+    write_body_text(
+        alloc,
+        out,
+        bytes,
+        body.get_raw(),
+        &part.ctype,
+        is_read,
+        tables,
+    )?;
+    write_word(out, "}")
+}
+
+/// Whether the body of a part is a text that is to be read.
+fn is_read(part: &ParsedMail<'_>, disposition: &ParsedContentDisposition) -> bool
+    ensures { result ≡ is_read (tree_of part.now) (views.disposition disposition.now) }
+{
+    !is_attachment_disposition(&disposition.disposition)
+        && is_leaf(part)
+        && text_type(part.ctype.mimetype.as_str()).starts_with("text/")
+}
+
+/// Writes the name of an encoding, where a part stands, and how many bytes its body has.
+fn write_place<W: Write>(
+    out: &mut W,
+    encoding: &str,
+    start: usize,
+    end: usize,
+    size: usize,
+) -> Result<(), Fault>
+    ensures { Writes (W.contents out.old) (W.contents out.new) result
+        (place_text encoding.now start end size) }
+{
+    write!(
+        out,
+        ",\"encoding\":\"{encoding}\",\"start\":{start},\"end\":{end},\"size\":{size}"
+    )?;
+    Ok(())
+}
+
+/// Writes the type, its charset and its parameters.
+fn write_type<W: Write>(alloc: Global, out: &mut W, ctype: &ParsedContentType) -> Result<(), Fault>
+    ensures { WritesOne (W.contents out.old) (W.contents out.new) result
+        (IsTypeText (content_type ctype.now)) }
+{
+    write_word(out, ",\"type\":")?;
+    write_text(alloc, out, ctype.mimetype.as_str())?;
+    write_word(out, ",\"charset\":")?;
+    write_text(alloc, out, ctype.charset.as_str())?;
+    write_word(out, ",\"params\":{")?;
+    let mut is_first = true;
+    for (name, value) in &ctype.params {
+        write_comma(out, is_first)?;
+        write_parameter(alloc, out, name.as_str(), value.as_str())?;
+        is_first = false;
+    }
+    write_word(out, "}")
+}
+
+/// Writes a parameter as a member.
+fn write_parameter<W: Write>(
+    alloc: Global,
+    out: &mut W,
+    name: &str,
+    value: &str,
+) -> Result<(), Fault>
+    ensures { Writes (W.contents out.old) (W.contents out.new) result
+        (parameter_text (name.now, value.now)) }
+{
+    write_text(alloc, out, name)?;
+    write_word(out, ":")?;
+    write_text(alloc, out, value)
+}
+
+/// Whether a part of this disposition is an attachment: it has no parts of its own, and its
+/// disposition and its type are those of one.
+fn is_attachment(
+    alloc: Global,
+    part: &ParsedMail<'_>,
+    disposition: &ParsedContentDisposition,
+) -> Result<bool, AllocError>
+    ensures { IfOk result (λ is.
+        is ≡ is_attachment (tree_of part.now) (views.disposition disposition.now)) }
+{
+    if !is_leaf(part) {
+        return Ok(false);
+    }
+    describes_attachment(alloc, disposition, &part.ctype)
+}
+
+/// Writes the disposition, the name of the file and whether the part is an attachment.
+fn write_disposition<W: Write>(
+    alloc: Global,
+    out: &mut W,
+    part: &ParsedMail<'_>,
+    disposition: &ParsedContentDisposition,
+    is_attachment: bool,
+) -> Result<(), Fault>
+    ensures { Writes (W.contents out.old) (W.contents out.new) result (disposition_text
+        (views.disposition disposition.now) (root (tree_of part.now)) is_attachment) }
+{
+    write_word(out, ",\"disposition\":")?;
+    write_name(alloc, out, disposition_name(part, disposition))?;
+    write_word(out, ",\"file_name\":")?;
+    let name = named_file(alloc, disposition, &part.ctype)?;
+    write_optional(alloc, out, name)?;
+    write_word(out, ",\"attachment\":")?;
+    write_word(out, flag_text(is_attachment))
+}
+
+/// `true` or `false`.
+fn flag_text(flag: bool) -> &'static str
+    ensures { result.now ≡ flag_text flag }
+{
+    if flag { "true" } else { "false" }
+}
+
+/// Writes how many bytes the body stands for, or `null` where it is refused, and then why.
+fn write_decoded_size<W: Write>(
+    alloc: Global,
+    out: &mut W,
+    bytes: &Result<CowSlice<'_, u8>, MailParseError>,
+) -> Result<(), Fault>
+    ensures { (kind : BodyKind) (raw : List ℕ) →
+        AnswersOrMemory cow_slice_items bytes.now (decoded kind raw) →
+        Writes (W.contents out.old) (W.contents out.new) result
+        (size_text (decoded_size kind raw)) }
+{
+    match bytes {
+        Ok(decoded) => {
+            let size = decoded.len();
+            write!(out, ",\"decoded_size\":{size}")?;
+            Ok(())
+        }
+        Err(error) => {
+            let text = refusal_text(alloc, error)?;
+            write_word(out, ",\"decoded_size\":null,\"error\":")?;
+            write_text(alloc, out, text.as_str())
+        }
+    }
+}
+
+/// Writes the members of the text of a body that is to be read, or `null` where it is not to be.
+fn write_body_text<W: Write>(
+    alloc: Global,
+    out: &mut W,
+    bytes: Result<CowSlice<'_, u8>, MailParseError>,
+    raw: &[u8],
+    ctype: &ParsedContentType,
+    is_read: bool,
+    tables: &[SingleByteTable<'_>],
+) -> Result<(), Fault>
+    ensures { (kind : BodyKind) (given : Content) →
+        AnswersOrMemory cow_slice_items bytes.entry (decoded kind given.raw) →
+        given.raw ≡ raw.now → given.ctype ≡ content_type ctype.now →
+        Writes (W.contents out.old) (W.contents out.new) result
+        (body_text (charsets_with tables.now) is_read kind given) }
+{
+    if !is_read {
+        return write_word(out, ",\"text\":null");
+    }
+    match bytes {
+        Ok(decoded) => write_read_text(alloc, out, decoded.as_slice(), ctype, false, tables),
+        Err(error) => {
+            let front = front_bytes(alloc, &error, raw)?;
+            write_read_text(alloc, out, front.as_slice(), ctype, true, tables)
+        }
+    }
+}
+
+/// The bytes of the front of a body in Base64 that is refused.
+fn front_bytes(alloc: Global, error: &MailParseError, raw: &[u8]) -> Result<Vec<u8>, AllocError>
+    ensures read { IfOk result (λ front. front.items ≡ (base64_front raw.now).bytes) }
+    ensures passed_on { IfOk result (λ front. IsMemory error.now → ⊥) }
+{
+    match error {
+        MailParseError::Memory(_) => Err(AllocError),
+        _ => Ok(base64_front(alloc, raw)?.bytes),
+    }
+}
+
+/// Writes the members of a text: the text, the charset in which it is read, and whether its body is
+/// damaged.
+fn write_read_text<W: Write>(
+    alloc: Global,
+    out: &mut W,
+    bytes: &[u8],
+    ctype: &ParsedContentType,
+    is_damaged: bool,
+    tables: &[SingleByteTable<'_>],
+) -> Result<(), Fault>
+    ensures { Writes (W.contents out.old) (W.contents out.new) result (shown_text
+        (charsets_with tables.now) (content_type ctype.now).charset bytes.now is_damaged) }
+{
+    write_word(out, ",\"text\":")?;
+    let text = lenient_text(alloc, bytes, ctype, tables)?;
+    write_owned(alloc, out, text)?;
+    write_word(out, ",\"text_charset\":")?;
+    write_text(alloc, out, charset_used(bytes, ctype, tables))?;
+    write_word(out, damaged_text(is_damaged))
+}
+
+/// The member that says that a body is damaged, where it is.
+fn damaged_text(is_damaged: bool) -> &'static str
+    ensures { result.now ≡ damaged_text is_damaged }
+{
+    if is_damaged { ",\"damaged\":true" } else { "" }
+}
+
+/// Writes the list of the headers.
+fn write_headers<W: Write>(
+    alloc: Global,
+    out: &mut W,
+    headers: &[MailHeader<'_>],
+    tables: &[SingleByteTable<'_>],
+) -> Result<(), Fault>
+    ensures { Writes (W.contents out.old) (W.contents out.new) result
+        (headers_text (charsets_with tables.now) headers.now) }
+{
+    write_word(out, ",\"headers\":[")?;
+    let mut is_first = true;
+    for header in headers {
+        write_comma(out, is_first)?;
+        write_header(alloc, out, header, tables)?;
+        is_first = false;
+    }
+    write_word(out, "]")
+}
+
+/// Writes a header as a pair of its name and its value.
+fn write_header<W: Write>(
+    alloc: Global,
+    out: &mut W,
+    header: &MailHeader<'_>,
+    tables: &[SingleByteTable<'_>],
+) -> Result<(), Fault>
+    ensures { Writes (W.contents out.old) (W.contents out.new) result
+        (header_text (charsets_with tables.now) header.now) }
+{
+    write_word(out, "[")?;
+    write_owned(alloc, out, header.get_key(alloc)?)?;
+    write_word(out, ",")?;
+    write_owned(alloc, out, header.get_value_with(alloc, tables)?)?;
+    write_word(out, "]")
+}
