@@ -1,8 +1,8 @@
 #!/bin/sh
-# refuse_memory.sh: refuses the calls for memory of the programs one by one, and looks at how
-# these end then.
+# refuse_memory.sh [PART]: refuses the calls for memory of the programs one by one, and looks at how
+# these end then. PART is `programs`, `one` or `following`; without it all are done, one after another.
 #
-# For N from 1 on it refuses the Nth call alone, and then the Nth and every one after it, until a
+# `programs`: for N from 1 on it refuses the Nth call alone, and then the Nth and every one after it, until a
 # run meets no refusal:
 #
 #   mail_show      on the samples, and on mails that are refused
@@ -14,16 +14,22 @@
 # and mail_extract have written by then has to be the front of what they write with ample memory, and each
 # file that was saved has to be whole; mail_show may have written nothing.
 #
-# Then mail_vectors replays the suite. It tries each row again until no call for memory is refused: first
-# the first call of the row is refused, then the second one, and so on; and the same with the calls that
-# follow. Each row has to return the right answer in the end, and memory has to have run out in it exactly
-# as often as a call was refused. In a row that is marked so no call may ask for memory.
+# `one` and `following`: mail_vectors replays the suite. It tries each row again until no call for memory is
+# refused: first the first call of the row is refused, then the second one, and so on; with `following` the
+# calls that follow are refused too. Each row has to return the right answer in the end, and memory has to
+# have run out in it exactly as often as a call was refused. In a row that is marked so no call may ask for
+# memory. `one` also replays all rows, the long ones too, with ample memory.
 #
 # It prints for each input how many calls for memory there were, how many runs met a refusal, and
 # how these ended; and each run that failed. The last line is `N passed, N failed`; the status is
 # 1 where a run failed. It needs a C compiler, $CC or cc.
-arguments=
+arguments='[PART]'
 . "$(dirname "$0")/prelude.sh"
+part=${1:-all}
+case $part in
+    all | programs | one | following) ;;
+    *) usage "there is no part $part" ;;
+esac
 make_work
 
 # run PROGRAM [ARGUMENT]: runs it on the file `input`, which leaves `out`, `err` and `report`
@@ -111,16 +117,11 @@ both() {
     sweep REFUSE_FROM "$@"
 }
 
-# suite: replays the suite with ample memory, and with each call of each row refused in turn
+# suite MODE: replays the suite with each call of each row refused in turn, or with those that follow too
 suite() {
     cd "$top/crates/mail_vectors/data"
-    files=$(grep -v '^long_' ../args)
     # shellcheck disable=SC2046
-    run_suite 'with ample memory' $(cat ../args)
-    for mode in at from; do
-        # shellcheck disable=SC2086
-        REFUSE_ROWS=$mode run_suite "refused memory, $mode" again $files
-    done
+    REFUSE_ROWS=$1 run_suite "refused memory, $1" again $(grep -v '^long_' ../args)
 }
 
 # run_suite WHAT WORD..: replays files, and counts the rows that passed
@@ -147,11 +148,6 @@ if ! ${CC:-cc} -O1 -Wall -shared -fPIC -o "$work/refuse.so" "$here/refuse.c"; th
     echo "$script: refuse.c was not built" >&2
     exit 1
 fi
-show=$("$here/program.sh" mail_show)
-json=$("$here/program.sh" mail_json)
-extract=$("$here/program.sh" mail_extract)
-vectors=$("$here/program.sh" mail_vectors)
-
 # mails NAME PROGRAM: the samples, and mails that are refused
 mails() {
     for sample in "$top"/samples/*.eml; do
@@ -165,17 +161,38 @@ mails() {
     both "$1 on a part that begins with a space" "$2"
 }
 
-may_begin=no
-into=
-mails mail_show "$show"
-may_begin=yes
-mails mail_json "$json"
-cp "$top/crates/mail_json/stdin" "$work/input"
-both 'mail_json on a mailbox' "$json" --mbox
-into=$work/into
-mkdir "$into" "$work/saved"
-cp "$top/crates/mail_extract/stdin" "$work/input"
-"$extract" --into "$work/saved" < "$work/input" > "$work/out" || true
-both 'mail_extract on a mailbox' "$extract" --into "$into" --hash
-suite
+# programs: all sweeps of the programs
+programs() {
+    show=$("$here/program.sh" mail_show)
+    json=$("$here/program.sh" mail_json)
+    extract=$("$here/program.sh" mail_extract)
+    may_begin=no
+    into=
+    mails mail_show "$show"
+    may_begin=yes
+    mails mail_json "$json"
+    cp "$top/crates/mail_json/stdin" "$work/input"
+    both 'mail_json on a mailbox' "$json" --mbox
+    into=$work/into
+    mkdir "$into" "$work/saved"
+    cp "$top/crates/mail_extract/stdin" "$work/input"
+    "$extract" --into "$work/saved" < "$work/input" > "$work/out" || true
+    both 'mail_extract on a mailbox' "$extract" --into "$into" --hash
+}
+
+case $part in
+    all | programs) programs ;;
+esac
+[ "$part" = programs ] || vectors=$("$here/program.sh" mail_vectors)
+case $part in
+    all | one)
+        cd "$top/crates/mail_vectors/data"
+        # shellcheck disable=SC2046
+        run_suite 'with ample memory' $(cat ../args)
+        suite at
+        ;;
+esac
+case $part in
+    all | following) suite from ;;
+esac
 finish
