@@ -2,7 +2,7 @@
 """Runs the commands of docs/SCRIPTS.md that begin with `$ `, and compares what they write with the page.
 
 They run in the folder of the repository, by bash, with the built mail_json. Where jq is not installed, it
-says so, and nothing is compared. The last line is `N passed, N failed`; the status is 1 where a comparison failed.
+says so, which counts as failed. The last line is `N passed, N failed`; the status is 1 where a comparison failed.
 """
 import argparse
 import os
@@ -28,9 +28,9 @@ def main():
     """Compares all of them."""
     argparse.ArgumentParser(description=__doc__, formatter_class=argparse.RawDescriptionHelpFormatter).parse_args()
     if not shutil.which("jq"):
-        print("jq is not installed; its package is `jq`")
-        print("0 passed, 0 failed")
-        return 0
+        print("FAILED jq is not installed; its package is `jq`")
+        print("0 passed, 1 failed")
+        return 1
     with open(os.path.join(TOP, "docs", "SCRIPTS.md"), encoding="utf-8") as file:
         found = list(commands(file.read()))
     failed = 0

@@ -21,13 +21,11 @@ import subprocess
 import sys
 import tempfile
 
-try:
-    import jsonschema
-except ImportError:
-    sys.exit("check_json.py: this needs Python's jsonschema (Debian: python3-jsonschema)")
-
 from read_by_email import mail_object, part_object, parts_of
+from shared.needs import need
 from shared.programs import built_program
+
+jsonschema = need("jsonschema", "python3-jsonschema")
 
 TOP = os.path.dirname(os.path.dirname(os.path.abspath(__file__)))
 ORIGIN = ["schema", "file", "number", "start", "end"]

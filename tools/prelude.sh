@@ -102,6 +102,19 @@ finish() {
     [ "$failed" = 0 ]
 }
 
+# python_with MODULE..: prints which Python has these modules, Debian's or `python3` on the PATH
+python_with() {
+    for python in /usr/bin/python3 python3; do
+        if "$python" -c '
+import importlib.util, sys
+sys.exit(None in map(importlib.util.find_spec, sys.argv[1:]))' "$@" 2> /dev/null; then
+            echo "$python"
+            return
+        fi
+    done
+    return 1
+}
+
 # take_oracle [PROGRAM]: sets `oracle` to the program's whole path, or to nothing where none is given
 take_oracle() {
     oracle=
