@@ -19,7 +19,7 @@ import sys
 from shared.checks import TOP, finish, text_of
 from shared.fences import fences_of
 
-PAGES = ("*.md", "docs/*.md", "crates/*/data/README.md", "tools/*/README.md")
+PAGES = ("*.md", "docs/*.md", "crates/*/data/README.md", "tools/*/README.md", "examples/*/README.md")
 CLAIMS = ("docs/ARCHITECTURE.md", "docs/CALLING.md", "docs/PROVED.md")
 SOURCES = ("crates/*/src/**/*.rt", "crates/*/specs/**/*.antt")
 DECLARED = re.compile(

@@ -1,0 +1,150 @@
+#!/usr/bin/env python3
+"""Reads the mailboxes and Maildirs of shared folders on many machines, by dask.distributed and mail_json.
+
+Every machine sees the folders, OUT and the program under the same names. A large mailbox is read in equal parts, and
+small files are read together. The lines of each part go to a file of its own in OUT, a shard, which gets its name when
+it is whole. The name says which part of which files that is, of what sizes and times, and what read them: no part is
+read twice, however often a run is broken off, and a mailbox that changed is read anew. OUT/MANIFEST, written last,
+names the shards in order; those that it does not name are removed. What cannot be read is named, and the status is 1.
+All else is read then too, and the next run goes on from there.
+"""
+import argparse
+import hashlib
+import json
+import os
+import pathlib
+import re
+import subprocess
+import sys
+import uuid
+import zlib
+
+OURS = re.compile(r"[0-9a-f]{32}\.jsonl|\.part-[0-9a-f]{32}")
+NO_TEXT = re.compile("[\udc80-\udcff]")
+PROGRAM = os.path.join(os.path.dirname(os.path.abspath(__file__)), "../../crates/mail_json/out/mail_json")
+
+
+def state(path):
+    """A file with its size and time."""
+    try:
+        found = os.stat(path)
+        return path, found.st_size, found.st_mtime_ns
+    except OSError:  # mail_json says why
+        return path, 0, None
+
+
+def visit(folder, options, out, faults):
+    """The files of a folder and of those inside, each with the options for mail_json."""
+    try:
+        entries = sorted(os.scandir(folder), key=lambda entry: entry.name)
+    except OSError as fault:
+        faults.append(str(fault))
+        return
+    inside = [entry for entry in entries if entry.is_dir(follow_symlinks=False) and entry.path != out]
+    is_maildir = any(entry.name in ("cur", "new") for entry in inside)
+    if not is_maildir:
+        files = [entry.path for entry in entries if entry.is_file() and not entry.name.startswith(".")]
+        faults += [f"{path!a}: the name is not UTF-8" for path in files if NO_TEXT.search(path)]
+        yield options, [state(path) for path in files if not NO_TEXT.search(path)]
+    for entry in inside:
+        if entry.name != "tmp" if is_maildir else not entry.name.startswith("."):
+            is_mails = is_maildir and entry.name in ("cur", "new")
+            yield from visit(entry.path, ["--mail"] if is_mails else [], out, faults)
+
+
+def batches(files, most):
+    """Files that are read together. Since some names always end a batch, most batches stay where files come or go."""
+    batch, total, is_end = [], 0, False
+    for file in files:
+        path, size, _ = file
+        if batch and (is_end or total + size > most):
+            yield batch
+            batch, total = [], 0
+        batch.append(file)
+        total += size
+        is_end = len(batch) == 2000 or zlib.crc32(os.path.basename(path).split(":")[0].encode()) % 500 == 0
+    if batch:
+        yield batch
+
+
+def parts(options, files, most):
+    """What the runs of mail_json read: options and files; one file alone where it is a part of a mailbox."""
+    for batch in batches(files, most):
+        count = max(1, -(-sum(size for _, size, _ in batch) // most))
+        for number in [1] if options else range(1, count + 1):
+            yield options or ["--part", f"{number}/{count}"], batch
+
+
+def title(options, files):
+    """What a part is called."""
+    return f"{files[0][0]}{f' and {len(files) - 1} more' if len(files) > 1 else ''} ({' '.join(options)})"
+
+
+def read(name, options, files, out, program):
+    """Reads a part into its shard, which gets its name when it is whole; returns the name, and what went wrong."""
+    unfinished = os.path.join(out, f".part-{uuid.uuid4().hex}")
+    try:
+        with open(unfinished, "xb") as shard:
+            words = [program, *options, *(path for path, _, _ in files)]
+            ended = subprocess.run(words, stdin=subprocess.DEVNULL, stdout=shard, stderr=subprocess.PIPE, check=False)
+            os.fsync(shard.fileno())
+        if ended.returncode not in (0, 3):
+            return name, f"status {ended.returncode}: {ended.stderr.decode(errors='replace').strip()}"
+        if [state(path) for path, _, _ in files] != files:
+            return name, "changed while it was read"
+        os.replace(unfinished, os.path.join(out, name))
+        return name, None
+    finally:
+        if os.path.exists(unfinished):
+            os.remove(unfinished)
+
+
+def run(wanted, scheduler, **places):
+    """Reads these parts on the workers; yields what went wrong, with the part's title."""
+    from dask.distributed import Client, progress, wait  # here, so that --help needs no dask
+
+    with Client(**{"address": scheduler} if scheduler else {"threads_per_worker": 1, "dashboard_address": ":0"}) as client:
+        futures = client.map(read, *zip(*((name, *part) for name, part in wanted.items())), pure=False, **places)
+        if sys.stdout.isatty():
+            progress(futures)
+        wait(futures)
+        told = dict(client.gather(futures, errors="skip"))
+        for name, future in zip(wanted, futures):
+            if name not in told or told[name]:
+                yield f"{title(*wanted[name])}: {told[name] if name in told else repr(future.exception())}"
+
+
+def main():
+    """Reads what is not there yet, and writes MANIFEST if that is all."""
+    parser = argparse.ArgumentParser(description=__doc__, formatter_class=argparse.RawDescriptionHelpFormatter)
+    parser.add_argument("out", metavar="OUT", type=os.path.abspath)
+    parser.add_argument("folder", metavar="FOLDER", nargs="+", type=os.path.abspath, help="or a mailbox")
+    parser.add_argument("--scheduler", metavar="ADDRESS", help="without it workers are started here, one for each processor")
+    parser.add_argument("--program", metavar="MAIL_JSON", type=os.path.abspath, default=PROGRAM)
+    parser.add_argument("--hash", action="store_true", help="read with the SHA-256 of each attachment")
+    parser.add_argument("--bytes", type=int, default=32 << 20, help="at most so many make a part; 32 MiB if left out")
+    given = parser.parse_args()
+    program = hashlib.sha256(pathlib.Path(given.program).read_bytes()).hexdigest()
+    os.makedirs(given.out, exist_ok=True)
+    faults, wanted = [], {}
+    for top in given.folder:
+        found = visit(top, [], given.out, faults) if os.path.isdir(top) else [([], [state(top)])]
+        for reading, files in found:
+            for options, batch in parts(reading, files, given.bytes):
+                part = ["--hash"] * given.hash + options, batch
+                key = hashlib.sha256(repr((program, part)).encode("utf-8", "surrogateescape")).hexdigest()
+                wanted[f"{key[:32]}.jsonl"] = part
+    unread = {name: part for name, part in wanted.items() if not os.path.exists(os.path.join(given.out, name))}
+    faults += run(unread, given.scheduler, out=given.out, program=given.program) if unread else []
+    if faults:
+        sys.exit("\n".join(f"index_archive.py: {fault}" for fault in faults))
+    manifest = os.path.join(given.out, "MANIFEST")
+    with open(f"{manifest}.new", "w", encoding="utf-8") as file:
+        file.writelines(json.dumps({"shard": name, "read": title(*part)}) + "\n" for name, part in wanted.items())
+    os.replace(f"{manifest}.new", manifest)
+    for name in set(filter(OURS.fullmatch, os.listdir(given.out))) - set(wanted):
+        os.remove(os.path.join(given.out, name))
+
+
+if __name__ == "__main__":
+    main()

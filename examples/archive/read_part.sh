@@ -1,0 +1,21 @@
+#!/bin/sh
+# read_part.sh K N MAILBOX FOLDER: writes the lines of the K-th of N equal parts of a mailbox to a file in the
+# folder, which gets its name when it is whole; what is there is not read again. The status is 0 where it is
+# whole, and otherwise that of mail_json.
+set -eu
+if [ $# != 4 ]; then
+    echo "usage: read_part.sh K N MAILBOX FOLDER" >&2
+    exit 2
+fi
+top=$(dirname "$(readlink -f "$0")")/../..
+whole=$4/$(printf %05d "$1").jsonl
+mkdir -p "$4"
+[ ! -e "$whole" ] || exit 0
+part=$(mktemp "$4/.part-XXXXXX")
+trap 'rm -f "$part"' EXIT
+status=0
+"$top/mail_json" --part "$1/$2" "$3" > "$part" || status=$?
+case $status in
+    0 | 3) mv "$part" "$whole" ;;
+    *) exit "$status" ;;
+esac

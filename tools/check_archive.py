@@ -1,0 +1,333 @@
+#!/usr/bin/env python3
+"""Runs the programs of examples/archive on this machine, with a scheduler and workers of dask and the built mail_json.
+
+The archive is a mailbox of 60 MB, a small one, a mail and a Maildir, made on the spot. After each whole run the shards,
+in the order of MANIFEST, have to be byte for byte what mail_json writes in one process. In the first run a worker is
+killed in the middle of a part. The second is broken off, and goes on. In the third a part kills every worker that reads
+it, and a file cannot be read: it ends with status 1 and names both, and the next run completes it. Then the shards are
+loaded and searched, before and after the small mailbox changed. At last the commands of docs/SCRIPTS.md for GNU parallel
+run as they stand there.
+
+It takes about 30 s. The last line is `N passed, N failed`; the status is 1 where a comparison failed.
+"""
+import argparse
+import contextlib
+import glob
+import json
+import os
+import re
+import signal
+import sqlite3
+import subprocess
+import sys
+import tempfile
+import time
+
+from make_benchmark_mail import mailbox
+from shared.checks import TOP, finish, text_of
+from shared.fences import fences_of
+from shared.needs import need
+from shared.programs import built_program
+
+EXAMPLES = os.path.join(TOP, "examples", "archive")
+FROM = b"From a@b Thu Jan  1 00:00:00 1970\n"
+SCALE = 6
+MAILS = 2000 * SCALE
+PART = "all.mbox (--part 9/30)"
+# as mail_json, but that a part may kill its worker, once or always, and that each run may take longer
+STAND_IN = """#!/bin/sh
+[ ! -e '{folder}/slow' ] || sleep 0.1
+case $* in
+    '--part 9/30 '*)
+        if [ -e '{folder}/deadly' ]; then
+            [ -e '{folder}/always' ] || rm '{folder}/deadly'
+            '{json}' "$@" | head -c 100000
+            kill -9 "$PPID"
+            exit 1
+        fi
+        ;;
+esac
+exec '{json}' "$@"
+"""
+SMALL = (
+    b"From: Ana Lima <ana@example.net>\nTo: Bo <bo@example.net>\nSubject: Zebra crossing\nMessage-ID: <1@small>\n"
+    b"Date: Mon, 3 Mar 2025 10:00:00 +0000\nContent-Type: multipart/mixed; boundary=b\n\n"
+    b"--b\n\nThe quagga is extinct.\n--b\nContent-Type: application/pdf; name=quagga.pdf\n\nx\n--b--\n",
+    b"From: Bo <bo@example.net>\nSubject: Re: Zebra crossing\nMessage-ID: <2@small>\nIn-Reply-To: <1@small>\n"
+    b"Date: Tue, 4 Mar 2025 10:00:00 +0000\nContent-Type: text/html\n\n<p title=okapi>So is the aurochs.</p>\n",
+    b" refused\n",
+    b"From: \x1b[31mCai@example.net\nSubject: =?utf-8?q?Zebra=0Aforged?=\nMessage-ID: <3@small>\nReferences: <0@small> <2@small>\n\n.\n",
+)
+UNREAD = ("mails/no.mbox.gz", "mails/caf\udce9")
+CHANGED = b"Subject: Changed\nMessage-ID: <4@small>\n\nAn okapi.\n"
+
+# after so many more deaths a part is given up; dask's own number is 3
+DASK = {"DASK_DISTRIBUTED__SCHEDULER__ALLOWED_FAILURES": "1"}
+
+judged = []
+
+
+def judge(is_well, what):
+    """Counts a comparison."""
+    judged.append((what, bool(is_well)))
+
+
+def same(found, wanted, what):
+    """Compares two values."""
+    judge(found == wanted, f"{what}: {found!r:.300} and not {wanted!r:.300}")
+
+
+def write(path, data=b""):
+    """Writes a file, in a folder that is made where it has to be."""
+    os.makedirs(os.path.dirname(path), exist_ok=True)
+    with open(path, "wb") as file:
+        file.write(data)
+
+
+def make_archive(folder):
+    """Makes the archive; returns the calls of mail_json that read it."""
+    mails = os.path.join(folder, "mails")
+    write(f"{mails}/all.mbox", mailbox(SCALE))
+    write(f"{mails}/one.eml", b"Subject: one\nMessage-ID: <one>\n\nunique\n")
+    write(f"{mails}/small.mbox", b"".join(FROM + mail + b"\n" for mail in SMALL))
+    for name in (".Sent/cur/1:2,S", ".old/a", "cur/10:2,", "cur/2:2,S", "new/1", "tmp/3", "cur/.x", "index"):
+        write(f"{mails}/people/ana/{name}", FROM + b"Message-ID: <" + name.encode() + b">\n\nx\n")
+    write(f"{mails}/.hidden/x")
+    return [
+        ["--part", "1/1", *(f"{mails}/{name}" for name in ("all.mbox", "one.eml", "small.mbox"))],
+        ["--mail", f"{mails}/people/ana/.Sent/cur/1:2,S"],
+        ["--part", "1/1", f"{mails}/people/ana/.old/a"],
+        ["--mail", *(f"{mails}/people/ana/{name}" for name in ("cur/10:2,", "cur/2:2,S", "new/1"))],
+    ]
+
+
+def dask(stack, folder, name, *words):
+    """Starts a program of dask, which ends with the stack; what it says goes to a file of this name."""
+    log = stack.enter_context(open(os.path.join(folder, name), "wb"))
+    process = subprocess.Popen(
+        [sys.executable, "-m", "dask", *words], cwd=folder, stdout=log, stderr=log, env={**os.environ, **DASK}
+    )
+    stack.callback(process.wait)
+    stack.callback(process.terminate)
+    return process
+
+
+def wait_for(condition, what):
+    """Waits until a condition holds."""
+    begun = time.monotonic()
+    while not condition():
+        if time.monotonic() - begun > 30:
+            sys.exit(f"check_archive.py: {what} takes more than 30 s")
+        time.sleep(0.02)
+
+
+def shards(out):
+    """The shards of a folder, and when each was written."""
+    return {path: os.stat(path).st_mtime_ns for path in glob.glob(os.path.join(out, "*.jsonl"))}
+
+
+def lines(out):
+    """The lines of all shards, in the order of MANIFEST."""
+    found = b""
+    with open(os.path.join(out, "MANIFEST"), encoding="utf-8") as manifest:
+        for line in manifest:
+            with open(os.path.join(out, json.loads(line)["shard"]), "rb") as shard:
+                found += shard.read()
+    return found
+
+
+class Runs:
+    """Runs of the programs over an archive."""
+
+    def __init__(self, folder, scheduler):
+        self.folder = folder
+        self.words = [os.path.join(folder, "mails"), "--program", os.path.join(folder, "mail_json"), "--bytes", "2000000"]
+        self.scheduler = scheduler
+
+    def start(self, name, *words):
+        """Starts index_archive.py, which writes to the folder of this name."""
+        words = [os.path.join(EXAMPLES, "index_archive.py"), os.path.join(self.folder, name), *self.words, *words]
+        return subprocess.Popen([sys.executable, *words], stdout=subprocess.DEVNULL, stderr=subprocess.PIPE)
+
+    def index(self, name, *words):
+        """Runs it; returns its status and what it says."""
+        process = self.start(name, *(words or ["--scheduler", self.scheduler]))
+        told = process.communicate()[1].decode()
+        return process.returncode, told
+
+    def call(self, name, *words):
+        """What another program writes."""
+        return subprocess.run([sys.executable, os.path.join(EXAMPLES, name), *words], capture_output=True, cwd=self.folder, check=False)
+
+    def search(self, *words):
+        """The subjects of the mails that a search finds."""
+        ended = self.call("search.py", "db", *words)
+        same((ended.returncode, ended.stderr), (0, b""), f"search.py {words}")
+        judge(not re.search(rb"[^\t\n -~\x80-\xff]", ended.stdout), f"search.py {words}: control characters")
+        return [line.split("\t")[2] for line in ended.stdout.decode().splitlines()]
+
+    def path(self, name):
+        """The path of a file or folder."""
+        return os.path.join(self.folder, name)
+
+
+def check_killed(runs, wanted, workers):
+    """A worker that is killed in the middle of a part."""
+    write(runs.path("deadly"))
+    same(runs.index("killed")[0], 0, "a worker is killed")
+    same(sorted(worker.poll() or 0 for worker in workers), [-signal.SIGKILL, 0], "how the workers are")
+    judge(lines(runs.path("killed")) == wanted, "a worker is killed: the lines")
+
+
+def check_broken(runs, wanted):
+    """A run that is broken off, and goes on where it was."""
+    out = runs.path("broken")
+    write(runs.path("slow"))
+    process = runs.start("broken", "--scheduler", runs.scheduler)
+    wait_for(lambda: len(shards(out)) >= 5, "the run that is broken off")
+    process.kill()
+    process.communicate()
+    judge(not os.path.exists(os.path.join(out, "MANIFEST")), "broken off: there is no MANIFEST")
+    os.remove(runs.path("slow"))
+    before = shards(out)
+    same(runs.index("broken")[0], 0, "a run goes on")
+    judge(before.items() <= shards(out).items(), "a run goes on: no part is read twice")
+    judge(lines(out) == wanted, "a run goes on: the lines")
+
+
+def check_faults(runs, wanted):
+    """A part that kills each worker that reads it, and a file that cannot be read."""
+    out = runs.path("faults")
+    for name in ("deadly", "always", *UNREAD):
+        write(runs.path(name))
+    status, told = runs.index("faults")
+    named = [line for line in told.splitlines() if line.startswith("index_archive.py: ")]
+    judge(status == 1 and any(PART in line and "KilledWorker" in line for line in named), f"a part kills its workers: {told}")
+    judge(any("no.mbox.gz" in line and "status 1" in line for line in named), f"a file cannot be read: {told}")
+    judge(any("caf\\udce9': the name is not UTF-8" in line for line in named), f"a name cannot be read: {told}")
+    judge(len(shards(out)) > 20, f"the other parts are read: {told}")
+    judge(not os.path.exists(os.path.join(out, "MANIFEST")), "faults: there is no MANIFEST")
+    for name in ("deadly", "always", *UNREAD):
+        os.remove(runs.path(name))
+    before = shards(out)
+    same(runs.index("faults")[0], 0, "the next run completes it")
+    judge(before.items() <= shards(out).items(), "the next run reads no part twice")
+    judge(lines(out) == wanted, "the next run: the lines")
+
+
+def check_loaded(runs, mails):
+    """Loads the shards: every mail has to be there once, and what was refused."""
+    ended = runs.call("load_sqlite.py", "killed", "db")
+    same(ended.returncode, 0, f"load_sqlite.py: {ended.stderr.decode()}")
+    found = []
+    for path in glob.glob(runs.path("db/*.sqlite")):
+        with contextlib.closing(sqlite3.connect(path)) as db:
+            db.execute("insert into texts(texts) values('integrity-check')")
+            found += db.execute("select message_id, error is null from mails")
+    same(sum(not is_read for _, is_read in found), 1, "what was refused")
+    ids = [one for one, is_read in found if is_read]
+    same((len(ids), len(set(ids))), (mails, mails), "every mail once")
+    return ended.stderr.decode()
+
+
+def check_searched(runs):
+    """Searches, whose mails are known."""
+    first, answer, forged = "Zebra crossing", "Re: Zebra crossing", "Zebra\ufffdforged"
+    for words, wanted in (
+        (["zebra"], [answer, first, forged]),
+        (["zebra", "quagga"], [first]),
+        (["quagga is"], [first]),
+        (["is quagga"], []),
+        (["auroch*"], [answer]),
+        (["okapi"], []),
+        (["--from", "ana@example.net"], [first]),
+        (["crossing", "--from", "bo"], [answer]),
+        (["zebra", "--after", "2025-03-04"], [answer]),
+        (["zebra", "--before", "2025-03-04"], [first]),
+        (["--attachment", "QUAGGA"], [first]),
+        (["--id", "2@small"], [answer]),
+        (["--thread", "0@small"], [answer, first, forged]),
+        (["zebra", "--limit", "1"], [answer]),
+    ):
+        same(runs.search(*words), wanted, f"search.py {words}")
+    same(len(runs.search("--attachment", "i.png", "--limit", "99999")), MAILS, "search.py --attachment i.png")
+    same(len(runs.search("--from", "from17@example.org")), 1, "search.py --from from17@example.org")
+
+
+def check_changed(runs):
+    """The small mailbox changes, and is read and loaded anew, by workers that the run starts itself."""
+    write(runs.path("mails/small.mbox"), b"".join(FROM + mail + b"\n" for mail in (CHANGED, *SMALL[1:])))
+    before = shards(runs.path("killed"))
+    same(runs.index("killed", "--bytes", "2000000"), (0, ""), "a mailbox has changed")
+    after = shards(runs.path("killed"))
+    same((len(before.items() - after.items()), len(after.items() - before.items())), (1, 1), "old and new shards")
+    judge(" mails loaded" in check_loaded(runs, MAILS + 9), "a mailbox has changed")
+    same(runs.search("quagga"), [], "what is gone")
+    same(runs.search("okapi"), ["Changed"], "what is new")
+
+
+def check_lists(runs):
+    """A line whose addresses are lists, with the hash of a file."""
+    people = [{"name": "Ana Lima", "address": "ana@example.net"}, {"group": "all", "members": [{"name": None, "address": "bo@example.net"}]}]
+    file = {"path": "1", "type": "text/plain", "attachment": True, "file_name": "a", "text": None, "sha256": "0123abcd"}
+    line = {"from": people, "to": [{"unknown": "cai"}], "cc": [], "subject": "Lists", "date": None, "parts": [file]}
+    line.update({name: [] for name in ("message_id", "in_reply_to", "references")}, file="x", start=0, end=1)
+    write(runs.path("lists/a.jsonl"), json.dumps(line).encode() + b"\n")
+    write(runs.path("lists/MANIFEST"), b'{"shard": "a.jsonl"}\n')
+    same(runs.call("load_sqlite.py", "lists", "lists.db").returncode, 0, "addresses in lists")
+    for words in (["--from", "ana@example.net"], ["--from", "bo"], ["--hash", "0123ABCD"]):
+        ended = runs.call("search.py", "lists.db", *words)
+        wanted = "-\tAna Lima <ana@example.net>, bo@example.net\tLists\ta\tx:0-1\n"
+        same(ended.stdout.decode(), wanted, f"addresses in lists: {words}")
+
+
+def check_parallel(folder, program):
+    """What docs/SCRIPTS.md says of GNU parallel, word for word."""
+    fence = next(fence.lines for fence in fences_of(text_of("docs/SCRIPTS.md")) if any("read_part.sh" in line for line in fence.lines))
+    commands = [line for line in fence if not line.startswith("sbatch ")]
+    place = os.path.join(folder, "parallel")
+    os.mkdir(place)
+    os.symlink(os.path.join(TOP, "examples"), os.path.join(place, "examples"))
+    os.symlink(os.path.join(folder, "mails", "all.mbox"), os.path.join(place, "all.mbox"))
+    ended = subprocess.run(["bash", "-ec", "\n".join(commands)], cwd=place, env={**os.environ, "BUILT": "only"}, check=False)
+    same((ended.returncode, len(commands)), (0, 2), "GNU parallel")
+    if ended.returncode == 0:
+        wanted = subprocess.run([program, "--part", "1/1", "all.mbox"], cwd=place, stdout=subprocess.PIPE, check=False).stdout
+        with open(os.path.join(place, "mails.json"), "rb") as found:
+            judge(found.read() == wanted, "GNU parallel: the lines")
+
+
+def main():
+    """Runs all comparisons."""
+    argparse.ArgumentParser(description=__doc__, formatter_class=argparse.RawDescriptionHelpFormatter).parse_args()
+    need("distributed", "python3-distributed")
+    program = built_program("mail_json")
+    signal.signal(signal.SIGTERM, lambda *_: sys.exit(1))
+    with contextlib.ExitStack() as stack:
+        folder = stack.enter_context(tempfile.TemporaryDirectory())
+        address = os.path.join(folder, "address")
+        dask(stack, folder, "scheduler.log", "scheduler", "--host", "127.0.0.1", "--port", "0", "--dashboard-address", "127.0.0.1:0", "--scheduler-file", address)
+        worker = ["worker", "--scheduler-file", address, "--nthreads", "1", "--no-dashboard", "--local-directory", folder]
+        workers = [dask(stack, folder, f"worker{number}.log", *worker, "--no-nanny") for number in (1, 2)]
+        write(os.path.join(folder, "mail_json"), STAND_IN.format(folder=folder, json=program).encode())
+        os.chmod(os.path.join(folder, "mail_json"), 0o755)
+        calls = make_archive(folder)
+        wanted = b"".join(subprocess.run([program, *words], stdout=subprocess.PIPE, check=False).stdout for words in calls)
+        same(wanted.count(b"\n"), MAILS + 10, "the lines of one process")
+        wait_for(lambda: os.path.exists(address), "the scheduler")
+        with open(address, encoding="utf-8") as file:
+            runs = Runs(folder, json.load(file)["address"])
+        check_killed(runs, wanted, workers)
+        dask(stack, folder, "nanny.log", *worker)
+        check_broken(runs, wanted)
+        check_faults(runs, wanted)
+        print(check_loaded(runs, MAILS + 9), end="")
+        check_searched(runs)
+        check_changed(runs)
+        check_lists(runs)
+        check_parallel(folder, program)
+    return finish(judged)
+
+
+if __name__ == "__main__":
+    sys.exit(main())
