@@ -116,8 +116,8 @@ def wait_for(condition, what):
     """Waits until a condition holds."""
     begun = time.monotonic()
     while not condition():
-        if time.monotonic() - begun > 30:
-            sys.exit(f"check_archive.py: {what} takes more than 30 s")
+        if time.monotonic() - begun > 120:
+            sys.exit(f"check_archive.py: {what} takes more than 120 s")
         time.sleep(0.02)
 
 
