@@ -59,7 +59,7 @@ install() {
 look
 if [ -n "$missing" ] && [ "$(id -u)" = 0 ] && command -v apt-get > /dev/null; then
     echo "$script: installing$missing" >&2
-    install >&2 || true
+    install > /dev/null || true
     look
 fi
 for package in $missing; do
