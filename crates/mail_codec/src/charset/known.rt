@@ -16,6 +16,7 @@ use std::alloc::{AllocError, Global};
 /// A decoder of a caller gives `decode_without_bom_handling`, and in `text` the definition that it
 /// keeps to. The other calls follow from it.
 pub trait Decode: Copy {
+    // The text of bytes in this charset, where a byte order mark is read like any other bytes.
     ghost text: { Self → List ℕ → List ℕ };
 
     /// Returns the text of the bytes in this charset, reading a byte order mark like any other
@@ -101,6 +102,7 @@ pub trait KnownCharsets {
     /// One of these charsets.
     type Decoder: Decode;
 
+    // These charsets: from a label to the text of bytes in the charset that has it, if one has.
     ghost known: { Self → Charsets };
 
     /// Returns the charset that has the label, or `None` where no charset here has it (the WHATWG
