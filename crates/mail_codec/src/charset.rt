@@ -9,12 +9,14 @@ ghost use Rattle.mail_codec.specs.Latin1.{latin1_text};
 
 mod built_in;
 mod encode;
+mod known;
 mod labels;
 mod single_byte;
 mod tables;
 mod utf16;
 
 pub use self::built_in::Charset;
+pub use self::known::{BuiltInOrTable, Decode, KnownCharsets};
 pub use self::tables::{SingleByteTable, table_for_label};
 use std::alloc::{AllocError, Global};
 use std::borrow::CowStr;

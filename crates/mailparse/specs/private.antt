@@ -12,4 +12,3 @@ pub mod ExtendedValues
 pub mod CharsetSources
 pub mod Continuations
 pub mod Filled
-pub mod KnownCharset

@@ -9,7 +9,7 @@ ghost use Rattle.mailparse.specs.Views.{content_type};
 use crate::ascii_case::lower_case;
 use crate::error::MailParseError;
 use crate::parameters::parameters;
-use mail_codec::charset::SingleByteTable;
+use mail_codec::charset::{KnownCharsets, SingleByteTable};
 use std::alloc::{AllocError, Global};
 use std::collections::BTreeMap;
 
@@ -87,7 +87,7 @@ impl ParsedContentType {
 pub fn parse_content_type(alloc: Global, text: &str) -> Result<ParsedContentType, MailParseError>
     ensures { AnswersOrMemory content_type result (Ok (content_type_of text.now)) }
 {
-    Ok(read_content_type(alloc, text, &[])?)
+    Ok(read_content_type(alloc, text, &())?)
 }
 
 /// Reads the value of a `Content-Type` header as `parse_content_type` does, where extended
@@ -117,19 +117,49 @@ pub fn parse_content_type_with(
     ensures { AnswersOrMemory content_type result
         (Ok (content_type_in (charsets_with tables.now) text.now)) }
 {
-    Ok(read_content_type(alloc, text, tables)?)
+    parse_content_type_in(alloc, text, &tables)
+}
+
+/// Reads the value of a `Content-Type` header as `parse_content_type` does, where extended
+/// parameters may be in any charset that `known` knows (RFC 2231, section 4).
+///
+/// Takes memory for the texts and the parameters.
+///
+/// # Errors
+///
+/// `MailParseError::Memory` where it runs out of memory.
+///
+/// # Examples
+///
+/// ```rust
+/// use mailparse::{SingleByteTable, parse_content_type_in};
+///
+/// let tables = [SingleByteTable { labels: &["x-euro"], high: &['€'; 128] }];
+/// let value = "text/plain; name*=x-euro''5%80";
+/// let ctype = parse_content_type_in(alloc, value, &tables.as_slice())?;
+/// assert_eq!(rt; ctype.params.get("name").ok_or("no name")?.as_str(), "5€");
+/// ```
+pub fn parse_content_type_in<K: KnownCharsets>(
+    alloc: Global,
+    text: &str,
+    known: &K,
+) -> Result<ParsedContentType, MailParseError>
+    ensures { AnswersOrMemory content_type result
+        (Ok (content_type_in (K.known known.now) text.now)) }
+{
+    Ok(read_content_type(alloc, text, known)?)
 }
 
 /// The type that the value of a `Content-Type` header names.
-pub(crate) fn read_content_type(
+pub(crate) fn read_content_type<K: KnownCharsets>(
     alloc: Global,
     text: &str,
-    tables: &[SingleByteTable<'_>],
+    known: &K,
 ) -> Result<ParsedContentType, AllocError>
     ensures { IfOk result (λ ctype.
-        content_type ctype ≡ content_type_in (charsets_with tables.now) text.now) }
+        content_type ctype ≡ content_type_in (K.known known.now) text.now) }
 {
-    let (value, params) = parameters(alloc, text, tables)?;
+    let (value, params) = parameters(alloc, text, known)?;
     let mimetype = lower_case(alloc, value)?;
     let charset = charset_of(alloc, &params)?;
     Ok(ParsedContentType {

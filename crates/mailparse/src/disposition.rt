@@ -9,7 +9,7 @@ ghost use Rattle.mailparse.specs.Views.{disposition, kind};
 use crate::ascii_case::lower_case;
 use crate::error::MailParseError;
 use crate::parameters::parameters;
-use mail_codec::charset::SingleByteTable;
+use mail_codec::charset::{KnownCharsets, SingleByteTable};
 use std::alloc::{AllocError, Global};
 use std::collections::BTreeMap;
 
@@ -133,7 +133,7 @@ pub fn parse_content_disposition(
 ) -> Result<ParsedContentDisposition, MailParseError>
     ensures { AnswersOrMemory disposition result (Ok (disposition_of text.now)) }
 {
-    parse_content_disposition_with(alloc, text, &[])
+    parse_content_disposition_in(alloc, text, &())
 }
 
 /// Reads the value of a `Content-Disposition` header as `parse_content_disposition` does, where
@@ -164,7 +164,37 @@ pub fn parse_content_disposition_with(
     ensures { AnswersOrMemory disposition result
         (Ok (disposition_in (charsets_with tables.now) text.now)) }
 {
-    let (value, params) = parameters(alloc, text, tables)?;
+    parse_content_disposition_in(alloc, text, &tables)
+}
+
+/// Reads the value of a `Content-Disposition` header as `parse_content_disposition` does, where
+/// extended parameters may be in any charset that `known` knows (RFC 2231, section 4).
+///
+/// Takes memory for the text and the parameters.
+///
+/// # Errors
+///
+/// `MailParseError::Memory` where it runs out of memory.
+///
+/// # Examples
+///
+/// ```rust
+/// use mailparse::{SingleByteTable, parse_content_disposition_in};
+///
+/// let tables = [SingleByteTable { labels: &["x-euro"], high: &['€'; 128] }];
+/// let value = "attachment; filename*=x-euro''5%80.txt";
+/// let shown = parse_content_disposition_in(alloc, value, &tables.as_slice())?;
+/// assert_eq!(rt; shown.params.get("filename").ok_or("no name")?.as_str(), "5€.txt");
+/// ```
+pub fn parse_content_disposition_in<K: KnownCharsets>(
+    alloc: Global,
+    text: &str,
+    known: &K,
+) -> Result<ParsedContentDisposition, MailParseError>
+    ensures { AnswersOrMemory disposition result
+        (Ok (disposition_in (K.known known.now) text.now)) }
+{
+    let (value, params) = parameters(alloc, text, known)?;
     Ok(ParsedContentDisposition {
         disposition: kind_named(alloc, value)?,
         params,

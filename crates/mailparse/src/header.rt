@@ -14,7 +14,7 @@ mod value;
 
 use crate::error::MailParseError;
 use crate::lossy_text::LossyText;
-use mail_codec::charset::{SingleByteTable, decode_latin1};
+use mail_codec::charset::{KnownCharsets, SingleByteTable, decode_latin1};
 use std::alloc::{AllocError, Global};
 use std::borrow::CowStr;
 use std::marker::Model;
@@ -149,7 +149,39 @@ impl<'a> MailHeader<'a> {
         ensures { GivesText result
             (lenient_value_in (charsets_with tables.now) self.now.value) }
     {
-        Ok(self.get_value_ref_with(alloc, tables)?.into_owned(alloc)?)
+        self.get_value_in(alloc, &tables)
+    }
+
+    /// Returns the text of the value as `get_value` does, where encoded words may be in any charset
+    /// that `known` knows (RFC 2047, section 2).
+    ///
+    /// Takes memory for the text.
+    ///
+    /// Control characters stay in the text, as with `get_value`: escape them before showing the
+    /// text on a terminal or writing it to a log.
+    ///
+    /// # Errors
+    ///
+    /// `MailParseError::Memory` where it runs out of memory.
+    ///
+    /// # Examples
+    ///
+    /// ```rust
+    /// use mailparse::{SingleByteTable, parse_header};
+    ///
+    /// let tables = [SingleByteTable { labels: &["x-euro"], high: &['€'; 128] }];
+    /// let (header, _) = parse_header(b"Subject: =?X-Euro?Q?5_=80?=")?;
+    /// assert_eq!(rt; header.get_value_in(alloc, &tables.as_slice())?.as_str(), "5 €");
+    /// assert_eq!(rt; header.get_value_in(alloc, &())?.as_str(), "=?X-Euro?Q?5_=80?=");
+    /// ```
+    pub fn get_value_in<K: KnownCharsets>(
+        &self,
+        alloc: Global,
+        known: &K,
+    ) -> Result<String, MailParseError>
+        ensures { GivesText result (lenient_value_in (K.known known.now) self.now.value) }
+    {
+        Ok(self.get_value_ref_in(alloc, known)?.into_owned(alloc)?)
     }
 
     /// The text of the value as `get_value` reads it; where it is a part of the value's bytes they
@@ -157,24 +189,24 @@ impl<'a> MailHeader<'a> {
     pub(crate) fn get_value_ref(&self, alloc: Global) -> Result<CowStr<'_>, AllocError>
         ensures { IfOk result (λ text. cow_str_bytes text ≡ lenient_value self.now.value) }
     {
-        self.get_value_ref_with(alloc, &[])
+        self.get_value_ref_in(alloc, &())
     }
 
-    /// The text of the value as `get_value_with` reads it; where it is a part of the value's bytes
+    /// The text of the value as `get_value_in` reads it; where it is a part of the value's bytes
     /// they are borrowed.
-    pub(crate) fn get_value_ref_with(
+    pub(crate) fn get_value_ref_in<K: KnownCharsets>(
         &self,
         alloc: Global,
-        tables: &[SingleByteTable<'_>],
+        known: &K,
     ) -> Result<CowStr<'_>, AllocError>
         ensures { IfOk result (λ text.
-            cow_str_bytes text ≡ lenient_value_in (charsets_with tables.now) self.now.value) }
+            cow_str_bytes text ≡ lenient_value_in (K.known known.now) self.now.value) }
     {
         match str::from_utf8(self.get_value_raw()) {
-            Ok(text) => value_ref(alloc, text, tables),
+            Ok(text) => value_ref(alloc, text, known),
             Err(_) => {
                 let text = decode_latin1(alloc, self.get_value_raw())?;
-                let value = value_ref(alloc, text.as_str(), tables)?.into_owned(alloc)?;
+                let value = value_ref(alloc, text.as_str(), known)?.into_owned(alloc)?;
                 Ok(CowStr::Owned(value))
             }
         }
@@ -210,7 +242,7 @@ impl<'a> MailHeader<'a> {
                 "Invalid UTF-8 in header value",
             )));
         };
-        Ok(value_ref(alloc, text, &[])?.into_owned(alloc)?)
+        Ok(value_ref(alloc, text, &())?.into_owned(alloc)?)
     }
 
     /// Returns the bytes of the key as they appear in the message, including any spaces before the
@@ -301,8 +333,36 @@ pub fn value_text_with(
 ) -> Result<String, MailParseError>
     ensures { GivesText result (lenient_value_in (charsets_with tables.now) value.now) }
 {
+    value_text_in(alloc, value, &tables)
+}
+
+/// Returns the text that some bytes show as the value of a header, as `get_value_in` reads it (RFC
+/// 2047, section 2).
+///
+/// Takes memory for the text. Control characters stay in it, as with `get_value`.
+///
+/// # Errors
+///
+/// `MailParseError::Memory` where it runs out of memory.
+///
+/// # Examples
+///
+/// ```rust
+/// use mailparse::{SingleByteTable, value_text_in};
+///
+/// let tables = [SingleByteTable { labels: &["x-euro"], high: &['€'; 128] }];
+/// let text = value_text_in(alloc, b"=?X-Euro?Q?5_=80?=", &tables.as_slice())?;
+/// assert_eq!(rt; text.as_str(), "5 €");
+/// ```
+pub fn value_text_in<K: KnownCharsets>(
+    alloc: Global,
+    value: &[u8],
+    known: &K,
+) -> Result<String, MailParseError>
+    ensures { GivesText result (lenient_value_in (K.known known.now) value.now) }
+{
     let header = MailHeader { key: value, value };
-    header.get_value_with(alloc, tables)
+    header.get_value_in(alloc, known)
 }
 
 /// Shows the key and the value, with U+FFFD for bytes that are not UTF-8.

@@ -21,28 +21,30 @@ mod disposition;
 mod error;
 mod header;
 pub mod headers;
-mod known_charset;
 mod lossy_text;
 mod mail;
 mod message_ids;
 mod parameters;
 
-pub use content_type::{ParsedContentType, parse_content_type, parse_content_type_with};
+pub use content_type::{
+    ParsedContentType, parse_content_type, parse_content_type_in, parse_content_type_with,
+};
 pub use date::dateparse;
 // For the dates of `mail_data`; no part of the interface.
 #[doc(hidden)]
 pub use date::{calendar, names};
 pub use disposition::{
     DispositionType, ParsedContentDisposition, parse_content_disposition,
-    parse_content_disposition_with,
+    parse_content_disposition_in, parse_content_disposition_with,
 };
 pub use error::{Base64Fault, MailParseError, QuotedPrintableFault, Wrapped};
 pub use header::parse::parse_header;
-pub use header::{MailHeader, value_text, value_text_with};
+pub use header::{MailHeader, value_text, value_text_in, value_text_with};
 pub use headers::block::parse_headers;
 pub use headers::map::MailHeaderMap;
 pub use mail::{
-    MAX_LEVELS, ParsedMail, PartsIterator, parse_mail, parse_mail_limited, parse_mail_with,
+    MAX_LEVELS, ParsedMail, PartsIterator, parse_mail, parse_mail_in, parse_mail_limited,
+    parse_mail_limited_in, parse_mail_with,
 };
-pub use mail_codec::charset::{SingleByteTable, table_for_label};
+pub use mail_codec::charset::{Decode, KnownCharsets, SingleByteTable, table_for_label};
 pub use message_ids::{MessageIdList, msgidparse};

@@ -16,7 +16,7 @@ mod types;
 use crate::error::MailParseError;
 use crate::headers::block::parse_headers;
 use delimiters::{cut_part, cut_preamble};
-use mail_codec::charset::SingleByteTable;
+use mail_codec::charset::{KnownCharsets, SingleByteTable};
 pub use message::{ParsedMail, PartsIterator};
 use std::alloc::Global;
 use types::{feed_and_dash_boundary_of, is_digest, node_type};
@@ -120,7 +120,6 @@ pub fn parse_mail(alloc: Global, raw: &[u8]) -> Result<ParsedMail<'_>, MailParse
 /// assert_eq!(rt; mail.subparts.len(), 1);
 /// assert_eq!(rt; parse_mail(alloc, raw.as_bytes())?.subparts.len(), 0);
 /// ```
-#[tactic(auto, unfolding(crate::specs::Mail::read_mail_in))]
 pub fn parse_mail_with<'a>(
     alloc: Global,
     raw: &'a [u8],
@@ -133,7 +132,43 @@ pub fn parse_mail_with<'a>(
     ensures no_alloc { header_count raw.now ≡ 0 → IsErr (read_headers raw.now) →
         Answers tree_of result (read_mail_in (charsets_with tables.now) 100 raw.now) }
 {
-    parse_mail_recursive(alloc, raw, 0, false, MAX_LEVELS + 1, tables)
+    parse_mail_in(alloc, raw, &tables)
+}
+
+/// Reads a message as `parse_mail` does, but the encoded words and the extended parameters of each
+/// `Content-Type` may be in any charset that `known` knows (RFC 2047, section 2; RFC 2231, section
+/// 4).
+///
+/// The result does not keep the charsets: the calls that end in `_in` have to be given them again.
+///
+/// Takes memory as `parse_mail` does.
+///
+/// # Errors
+///
+/// Those of `parse_mail`.
+///
+/// # Examples
+///
+/// ```rust
+/// use mailparse::{SingleByteTable, parse_mail_in};
+///
+/// let tables = [SingleByteTable { labels: &["x-euro"], high: &['€'; 128] }];
+/// let raw = "Content-Type: multipart/mixed; boundary*=x-euro''%80\n\n--€\n\none\n--€--\n";
+/// let mail = parse_mail_in(alloc, raw.as_bytes(), &tables.as_slice())?;
+/// assert_eq!(rt; mail.subparts.len(), 1);
+/// ```
+pub fn parse_mail_in<'a, K: KnownCharsets>(
+    alloc: Global,
+    raw: &'a [u8],
+    known: &K,
+) -> Result<ParsedMail<'a>, MailParseError>
+    ensures read { AnswersOrMemory tree_of result (read_mail_in (K.known known.now) 100 raw.now) }
+    ensures bounded { IfOk result (λ mail. IsBounded (tree_of mail) (length raw.now)) }
+    ensures places { IfOk result (λ mail. placements_of mail ≡ placements 0 (tree_of mail)) }
+    ensures no_alloc { header_count raw.now ≡ 0 → IsErr (read_headers raw.now) →
+        Answers tree_of result (read_mail_in (K.known known.now) 100 raw.now) }
+{
+    parse_mail_limited_in(alloc, raw, MAX_LEVELS, known)
 }
 
 /// Reads a message as `parse_mail` does, but with parts at most `levels` levels below it.
@@ -169,7 +204,6 @@ pub fn parse_mail_with<'a>(
 /// assert_eq!(rt; mail.subparts.len(), 1);
 /// assert!(rt; parse_mail_limited(alloc, raw, 0).is_err());
 /// ```
-#[tactic(auto, unfolding(crate::specs::Mail::read_mail_in))]
 pub fn parse_mail_limited(
     alloc: Global,
     raw: &[u8],
@@ -182,31 +216,69 @@ pub fn parse_mail_limited(
     ensures no_alloc { header_count raw.now ≡ 0 → IsErr (read_headers raw.now) →
         Answers tree_of result (read_mail_in four_charsets levels raw.now) }
 {
-    parse_mail_recursive(alloc, raw, 0, false, levels + 1, &[])
+    parse_mail_limited_in(alloc, raw, levels, &())
+}
+
+/// Reads a message as `parse_mail_in` does, but with parts at most `levels` levels below it, as
+/// `parse_mail_limited` does (RFC 2046, section 5.1).
+///
+/// The caller proves that `levels` is at most `MAX_LEVELS`. Takes memory as `parse_mail` does.
+///
+/// # Errors
+///
+/// Those of `parse_mail_limited`.
+///
+/// # Examples
+///
+/// ```rust
+/// use mailparse::{SingleByteTable, parse_mail_limited_in};
+///
+/// let tables = [SingleByteTable { labels: &["x-euro"], high: &['€'; 128] }];
+/// let raw = "Content-Type: multipart/mixed; boundary*=x-euro''%80\n\n--€\n\none\n--€--\n";
+/// let mail = parse_mail_limited_in(alloc, raw.as_bytes(), 1, &tables.as_slice())?;
+/// assert_eq!(rt; mail.subparts.len(), 1);
+/// assert!(rt; parse_mail_limited_in(alloc, raw.as_bytes(), 0, &tables.as_slice()).is_err());
+/// ```
+#[tactic(auto, unfolding(crate::specs::Mail::read_mail_in))]
+pub fn parse_mail_limited_in<'a, K: KnownCharsets>(
+    alloc: Global,
+    raw: &'a [u8],
+    levels: u8,
+    known: &K,
+) -> Result<ParsedMail<'a>, MailParseError>
+    requires { levels ≤ MAX_LEVELS }
+    ensures read { AnswersOrMemory tree_of result
+        (read_mail_in (K.known known.now) levels raw.now) }
+    ensures bounded { IfOk result (λ mail. IsBounded (tree_of mail) (length raw.now)) }
+    ensures places { IfOk result (λ mail. placements_of mail ≡ placements 0 (tree_of mail)) }
+    ensures no_alloc { header_count raw.now ≡ 0 → IsErr (read_headers raw.now) →
+        Answers tree_of result (read_mail_in (K.known known.now) levels raw.now) }
+{
+    parse_mail_recursive(alloc, raw, 0, false, levels + 1, known)
 }
 
 /// Reads a message with at most `levels` levels, including its own, that starts at this offset of
 /// the mail.
-fn parse_mail_recursive<'a>(
+fn parse_mail_recursive<'a, K: KnownCharsets>(
     alloc: Global,
     raw: &'a [u8],
     offset: usize,
     in_digest: bool,
     levels: u8,
-    tables: &[SingleByteTable<'_>],
+    known: &K,
 ) -> Result<ParsedMail<'a>, MailParseError>
     requires within { offset + length raw.now < 2 ^ 64 }
     ensures read { AnswersOrMemory tree_of result
-        (read_levels (charsets_with tables.now) levels in_digest raw.now) }
+        (read_levels (K.known known.now) levels in_digest raw.now) }
     ensures places { IfOk result (λ mail. placements_of mail ≡ placements offset (tree_of mail)) }
     ensures no_alloc { 0 < levels → header_count raw.now ≡ 0 → IsErr (read_headers raw.now) →
-        Answers tree_of result (read_levels (charsets_with tables.now) levels in_digest raw.now) }
+        Answers tree_of result (read_levels (K.known known.now) levels in_digest raw.now) }
 {
     if levels == 0 {
         return Err(MailParseError::Generic("Recursion limit reached"));
     }
     let (headers, index) = parse_headers(alloc, raw)?;
-    let ctype = node_type(alloc, &headers, in_digest, tables)?;
+    let ctype = node_type(alloc, &headers, in_digest, known)?;
     let Some(feed_and_dash_boundary) = feed_and_dash_boundary_of(alloc, &ctype)? else {
         return Ok(ParsedMail {
             raw_bytes: raw,
@@ -227,7 +299,7 @@ fn parse_mail_recursive<'a>(
         let (part_end, after) = cut_part(raw, start, feed_and_dash_boundary.as_slice());
         let part = &raw[start..part_end];
         let begin = offset + start;
-        subparts.push(parse_mail_recursive(alloc, part, begin, is_digest, levels - 1, tables)?)?;
+        subparts.push(parse_mail_recursive(alloc, part, begin, is_digest, levels - 1, known)?)?;
         next = after;
     }
     Ok(ParsedMail {

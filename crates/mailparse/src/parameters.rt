@@ -1,6 +1,5 @@
 //! The parameters of a value (RFC 2045, section 5.1; RFC 2231, sections 3 and 4).
 ghost use Rattle.std.specs.Prelude.{◌≡◌, IfOk};
-ghost use Rattle.mail_codec.specs.Tables.{charsets_with};
 ghost use Rattle.mailparse.specs.Continuations.{parameters_in};
 ghost use Rattle.mailparse.specs.Pairs.{HasTexts, pairs_of, value_of};
 
@@ -11,23 +10,23 @@ mod sections;
 mod segments;
 
 use continuations::resolve;
-use mail_codec::charset::SingleByteTable;
+use mail_codec::charset::KnownCharsets;
 use pairs::pairs;
 use segments::cut_segment;
 use std::alloc::{AllocError, Global};
 use std::collections::BTreeMap;
 
 /// The value of a text, without whitespace around it, and its parameters by name.
-pub(crate) fn parameters<'p>(
+pub(crate) fn parameters<'p, K: KnownCharsets>(
     alloc: Global,
     text: &'p str,
-    tables: &[SingleByteTable<'_>],
+    known: &K,
 ) -> Result<(&'p str, BTreeMap<String, String>), AllocError>
     ensures value { IfOk result (λ found. found.0.now ≡ value_of text.now) }
     ensures params { IfOk result (λ found.
-        HasTexts found.1 (parameters_in (charsets_with tables.now) (pairs_of text.now))) }
+        HasTexts found.1 (parameters_in (K.known known.now) (pairs_of text.now))) }
 {
     let (value, rest) = cut_segment(text);
     let pairs = pairs(alloc, rest)?;
-    Ok((value.trim(), resolve(alloc, pairs, tables)?))
+    Ok((value.trim(), resolve(alloc, pairs, known)?))
 }

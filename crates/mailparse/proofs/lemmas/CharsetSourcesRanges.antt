@@ -1,8 +1,8 @@
 -- The names that one name is a candidate for stand in a range.
-use Rattle.std.proofs.Common.{◌≡◌, ℕ, zero, suc, ◌-◌, ◌+◌, ◌<◌, ◌≤◌, Bool, true, false, ◌&&◌, cond, eqb, List, [], ◌∷◌, ◌++◌, length, get_or, take, None, refl, sym, ap, subst, ◌∙◌, arith, nat_eq, ◌⊎◌, inl, inr, ⊎_elim}
+use Rattle.std.proofs.Common.{◌≡◌, ℕ, zero, suc, ◌-◌, ◌+◌, ◌<◌, ◌≤◌, Bool, true, false, ◌&&◌, cond, eqb, List, [], ◌∷◌, ◌++◌, length, get_or, take, refl, sym, ap, subst, ◌∙◌, arith, nat_eq, ◌⊎◌, inl, inr, ⊎_elim}
 use Rattle.std.proofs.Math.ListN.{get_or-map}
 use Rattle.std.proofs.lemmas.Bool.{and_from, and_left, and_parts, and_right, both_ways, cases_lt, cases_order, cond-false, cond-true, eq-eqb, eqb-true, le-ltb, ne_eqb}
-use Rattle.std.proofs.lemmas.List.{length-map, length-take-le}
+use Rattle.std.proofs.lemmas.List.{get_or_default, length-map, length-take-le}
 use Rattle.std.specs.Cmp.Lexicographic.{slice_cmp}
 use Rattle.std.specs.List.{starts_with}
 use Rattle.std.specs.Ordering.{is_lt, nat_cmp, ordering_then}
@@ -12,9 +12,11 @@ use Rattle.mailparse.specs.private.ExtendedValues.{names_of}
 use Rattle.mailparse.specs.private.CharsetSources.{AreInOrder, is_initial_section, name_at, shared_len, shared_lens, is_candidate_for}
 use Rattle.mailparse.specs.declared.parameters.extended_values.names.ExtendedName.{ExtendedName}
 
-pub name_of_place : (extended : List ExtendedName) (place : ℕ)
-    → (get_or extended place (record { name = record { ref_ptr = (0, 0); now = [] }; value = record { ref_ptr = (0, 0); now = [] }; charset = None })).name.now ≡ name_at (names_of extended) place
-name_of_place extended place = sym (get_or-map (λ (w : ExtendedName). w.name.now) extended place _)
+pub name_of_place : {C : Type 0} (extended : List (ExtendedName C)) (place : ℕ) (d : ExtendedName C) → place < length extended
+    → (get_or extended place d).name.now ≡ name_at (names_of extended) place
+name_of_place {C} extended place d below =
+    let long = length-map extended (λ (w : ExtendedName C). w.name.now) in
+    sym (get_or-map (λ (w : ExtendedName C). w.name.now) extended place d) ∙ get_or_default (names_of extended) place d.name.now [] (omega (arith, below, long))
 
 -- ---- names between two that begin alike begin so too, in the order of their starred keys
 
@@ -137,8 +139,8 @@ pub not_offered : (names : List (List ℕ)) (place : ℕ) → is_initial_section
     → old ≡ cond (is_candidate_for (name_at names place) (name_at names k)) place old
 not_offered names place other old k = sym (cond-false _ _ _ (and_left _ _ other))
 
-pub long_names : (extended : List ExtendedName) → length (names_of extended) ≡ length extended
-long_names extended = length-map extended (λ (w : ExtendedName). w.name.now)
+pub long_names : {C : Type 0} (extended : List (ExtendedName C)) → length (names_of extended) ≡ length extended
+long_names {C} extended = length-map extended (λ (w : ExtendedName C). w.name.now)
 
 -- ---- how many bytes names share
 
@@ -165,15 +167,15 @@ share_prefix (p ∷ prefix) (x ∷ a) (y ∷ b) ba bb =
     let rest = share_prefix prefix a b fa.1 fb.1 in
     subst (λ t. suc (length prefix) ≤ cond t (1 + shared_len a b) 0) (sym (eq-eqb x y (sym fa.0 ∙ fb.0))) (omega (arith, rest))
 
-pub long_shared : (extended : List ExtendedName) → length (shared_lens extended) ≡ length extended - 1
+pub long_shared : {C : Type 0} (extended : List (ExtendedName C)) → length (shared_lens extended) ≡ length extended - 1
 long_shared [] = refl
 long_shared (w ∷ []) = refl
 long_shared (w ∷ v ∷ extended) = let rest = long_shared (v ∷ extended) in omega (arith, rest)
 
-pub within_shared : (extended : List ExtendedName) (shared : List ℕ) (place : ℕ) → shared ≡ shared_lens extended → place < length extended → place ≤ length shared
+pub within_shared : {C : Type 0} (extended : List (ExtendedName C)) (shared : List ℕ) (place : ℕ) → shared ≡ shared_lens extended → place < length extended → place ≤ length shared
 within_shared extended shared place are within = let same = ap length are in let long = long_shared extended in omega (arith, same, long, within)
 
-shared_at : (extended : List ExtendedName) (k : ℕ) → suc k < length extended
+shared_at : {C : Type 0} (extended : List (ExtendedName C)) (k : ℕ) → suc k < length extended
     → get_or (shared_lens extended) k 0 ≡ shared_len (name_at (names_of extended) k) (name_at (names_of extended) (suc k))
 shared_at [] k below = absurd (omega arith)
 shared_at (w ∷ []) k below = absurd (omega arith)
@@ -181,7 +183,7 @@ shared_at (w ∷ v ∷ extended) zero below = refl
 shared_at (w ∷ v ∷ extended) (suc k) below = shared_at (v ∷ extended) k (omega arith)
 
 -- the range that the shared lengths show round the place of a name
-module _ (extended : List ExtendedName) (prefix : List ℕ) (place first last : ℕ) (within : place < length extended) (end : last ≤ length extended - 1)
+module _ (C : Type 0) (extended : List (ExtendedName C)) (prefix : List ℕ) (place first last : ℕ) (within : place < length extended) (end : last ≤ length extended - 1)
     (own : starts_with nat_eq (name_at (names_of extended) place) prefix ≡ true) where
   abbrev begins : ℕ → Bool
   begins k = starts_with nat_eq (name_at (names_of extended) k) prefix
@@ -233,19 +235,19 @@ module _ (extended : List ExtendedName) (prefix : List ℕ) (place first last : 
             not_both last (omega (arith, more, long)) (after (omega (arith, more, long))) (up last from (omega arith)) (ap begins next ∙ yes));
       }
 
-pub range_found : (extended : List ExtendedName) (shared : List ℕ) → shared ≡ shared_lens extended → (name : List ℕ) (place first last : ℕ) → name ≡ name_at (names_of extended) place → place < length extended
+pub range_found : {C : Type 0} (extended : List (ExtendedName C)) (shared : List ℕ) → shared ≡ shared_lens extended → (name : List ℕ) (place first last : ℕ) → name ≡ name_at (names_of extended) place → place < length extended
     → first ≤ place → place ≤ last → last ≤ length shared
     → ((k : ℕ) → first ≤ k → k < place → length name - 1 ≤ get_or shared k 0) → ((k : ℕ) → place ≤ k → k < last → length name - 1 ≤ get_or shared k 0)
     → (0 < first → get_or shared (first - 1) 0 < length name - 1) → (last < length shared → get_or shared last 0 < length name - 1)
     → IsRange (names_of extended) (take (length (name_at (names_of extended) place) - 1) (name_at (names_of extended) place)) place first (last + 1)
-range_found extended shared are name place first last is within until from end lower upper before after =
+range_found {C} extended shared are name place first last is within until from end lower upper before after =
     let long = long_shared extended in
     let same = ap length are in
     let prefix : length (take (length name - 1) name) ≡ length name - 1 = length-take-le (length name - 1) name (omega arith) in
     let at : (k : ℕ) → get_or shared k 0 ≡ get_or (shared_lens extended) k 0 = λ k. ap (λ xs. get_or xs k 0) are in
     let own : starts_with nat_eq (name_at (names_of extended) place) (take (length name - 1) name) ≡ true = ap (λ z. starts_with nat_eq z (take (length name - 1) name)) (sym is) ∙ own_beginning (length name - 1) name in
     subst (λ z. IsRange (names_of extended) (take (length z - 1) z) place first (last + 1)) is
-    (range_shared extended (take (length name - 1) name) place first last within (omega (arith, end, same, long)) own until from
+    (range_shared C extended (take (length name - 1) name) place first last within (omega (arith, end, same, long)) own until from
     (λ k above below. omega (arith, lower k above below, prefix, at k))
     (λ k above below. omega (arith, upper k above below, prefix, at k))
     (λ some. omega (arith, before some, prefix, at (first - 1)))

@@ -138,22 +138,22 @@ entry_named m q h = go (holds_name (names_in m) q) refl
 holds_both : (xs ys : List (List ℕ)) (q : List ℕ) → holds_name (xs ++ ys) q ≡ (holds_name xs q || holds_name ys q)
 holds_both xs ys q = list_any-append (λ n. bytes_eq n q) xs ys
 
-pub sections_named : (sections : Sections) (q : List ℕ) → is_some (stands_at sections q) ≡ true → holds_name (names_of_sections sections) q ≡ true
-sections_named sections q h = holds_both (names_in sections.texts) (names_in sections.extended) q ∙ go (get_by_text sections.extended q) refl h
+pub sections_named : {C : Type 0} (reads : C → List ℕ → List ℕ) (sections : Sections C) (q : List ℕ) → is_some (stands_at reads sections q) ≡ true → holds_name (names_of_sections sections) q ≡ true
+sections_named {C} reads sections q h = holds_both (names_in sections.texts) (names_in sections.extended) q ∙ go (get_by_text sections.extended q) refl h
   where
-    go : (o : Option Section) → get_by_text sections.extended q ≡ o → is_some (option_or (option_map section_view (get_by_text sections.extended q)) (option_map words.text (text_at sections.texts q))) ≡ true
+    go : (o : Option (Section C)) → get_by_text sections.extended q ≡ o → is_some (option_or (option_map (section_view reads) (get_by_text sections.extended q)) (option_map words.text (text_at sections.texts q))) ≡ true
         → (holds_name (names_in sections.texts) q || holds_name (names_in sections.extended) q) ≡ true
     go (Some p) is some = or_right _ _ (entry_named sections.extended q (ap is_some is))
     go None is some =
         or_left _ _ (entry_named sections.texts q
         (sym (is_some_map string_bytes (get_by_text sections.texts q)) ∙ sym (is_some_map words.text (text_at sections.texts q))
-        ∙ sym (ap (λ o. is_some (option_or (option_map section_view o) (option_map words.text (text_at sections.texts q)))) is) ∙ some))
+        ∙ sym (ap (λ o. is_some (option_or (option_map (section_view reads) o) (option_map words.text (text_at sections.texts q)))) is) ∙ some))
 
-pub named_sections : (sections : Sections) (q : List ℕ) → holds_name (names_of_sections sections) q ≡ true → is_some (stands_at sections q) ≡ true
-named_sections sections q h =
+pub named_sections : {C : Type 0} (reads : C → List ℕ → List ℕ) (sections : Sections C) (q : List ℕ) → holds_name (names_of_sections sections) q ≡ true → is_some (stands_at reads sections q) ≡ true
+named_sections reads sections q h =
     ⊎_elim
-    (λ text. second (sections_at sections.extended q) _ (is_some_map words.text (text_at sections.texts q) ∙ is_some_map string_bytes (get_by_text sections.texts q) ∙ named q sections.texts text))
-    (λ extended. first (option_map words.text (text_at sections.texts q)) _ (is_some_map section_view (get_by_text sections.extended q) ∙ named q sections.extended extended))
+    (λ text. second (sections_at reads sections.extended q) _ (is_some_map words.text (text_at sections.texts q) ∙ is_some_map string_bytes (get_by_text sections.texts q) ∙ named q sections.texts text))
+    (λ extended. first (option_map words.text (text_at sections.texts q)) _ (is_some_map (section_view reads) (get_by_text sections.extended q) ∙ named q sections.extended extended))
     (or_either _ _ (sym (holds_both (names_in sections.texts) (names_in sections.extended) q) ∙ h))
   where
     second : (o p : Option words.Section) → is_some p ≡ true → is_some (option_or o p) ≡ true

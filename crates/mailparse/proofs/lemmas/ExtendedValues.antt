@@ -12,7 +12,6 @@ use Rattle.mail_codec.specs.Charset.{Charsets}
 use Rattle.mailparse.specs.Pairs.{Texts}
 use Rattle.mailparse.specs.ExtendedValues.{is_starred, label_in, name_under, starred}
 use Rattle.mailparse.specs.private.ExtendedValues.{Found, found_at, star_taken, extended_entries, extended_view}
-use Rattle.mailparse.specs.private.KnownCharset.{known_text}
 use Rattle.mailparse.specs.private.Pairs.{pair_view}
 use Rattle.mailparse.specs.declared.parameters.extended_values.names.ExtendedName.{ExtendedName}
 
@@ -101,16 +100,16 @@ module _ (known : Charsets) where
   found_same keys shown e old before none =
       found_more keys shown e old old before (sym (ap (λ r. old ++ r) none ∙ append-nil old))
 
-  found_view : (w : ExtendedName) (value label : List ℕ) → w.value.now ≡ value → label ≡ value → option_map known_text w.charset ≡ known (label_in label)
-      → extended_view w ≡ (w.name.now, value, known (label_in value))
-  found_view w value label v l charset =
-      ap (λ x. (w.name.now, x, option_map known_text w.charset)) v ∙ ap (λ x. (w.name.now, value, x)) (charset ∙ ap (λ x. known (label_in x)) l)
+  found_view : {C : Type 0} (reads : C → List ℕ → List ℕ) (w : ExtendedName C) (value label : List ℕ) → w.value.now ≡ value → label ≡ value → option_map reads w.charset ≡ known (label_in label)
+      → extended_view reads w ≡ (w.name.now, value, known (label_in value))
+  found_view reads w value label v l charset =
+      ap (λ x. (w.name.now, x, option_map reads w.charset)) v ∙ ap (λ x. (w.name.now, value, x)) (charset ∙ ap (λ x. known (label_in x)) l)
 
-  pub found_push : (items new : List ExtendedName) (w : ExtendedName) (value label : List ℕ) → new ≡ items ++ w ∷ [] → w.value.now ≡ value → label ≡ value
-      → option_map known_text w.charset ≡ known (label_in label)
-      → map extended_view new ≡ map extended_view items ++ (w.name.now, value, known (label_in value)) ∷ []
-  found_push items new w value label pushed v l charset =
-      ap (map extended_view) pushed ∙ map_push extended_view items w ∙ ap (λ x. map extended_view items ++ x ∷ []) (found_view w value label v l charset)
+  pub found_push : {C : Type 0} (reads : C → List ℕ → List ℕ) (items new : List (ExtendedName C)) (w : ExtendedName C) (value label : List ℕ) → new ≡ items ++ w ∷ [] → w.value.now ≡ value → label ≡ value
+      → option_map reads w.charset ≡ known (label_in label)
+      → map (extended_view reads) new ≡ map (extended_view reads) items ++ (w.name.now, value, known (label_in value)) ∷ []
+  found_push reads items new w value label pushed v l charset =
+      ap (map (extended_view reads)) pushed ∙ map_push (extended_view reads) items w ∙ ap (λ x. map (extended_view reads) items ++ x ∷ []) (found_view reads w value label v l charset)
 
 -- all entries were shown
 pub shown_all : (shown : List (Bor (String Global) × Bor (String Global))) (entries : List (String Global × String Global))

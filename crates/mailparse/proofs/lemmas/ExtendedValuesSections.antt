@@ -34,26 +34,26 @@ option_twice f g (Some x) = refl
 -- Under the charsets that are known.
 module _ (known : Charsets) where
   -- the names that were found
-  pub names_found : (keys : Texts) (entries : List (List ℕ × List ℕ)) (extended : List ExtendedName) → map extended_view extended ≡ extended_entries known keys entries
+  pub names_found : {C : Type 0} (reads : C → List ℕ → List ℕ) (keys : Texts) (entries : List (List ℕ × List ℕ)) (extended : List (ExtendedName C)) → map (extended_view reads) extended ≡ extended_entries known keys entries
       → names_of extended ≡ map (λ (w : Found). w.0) (extended_entries known keys entries)
-  names_found keys entries extended found = sym (map_twice (λ (w : Found). w.0) extended_view extended) ∙ ap (map (λ (w : Found). w.0)) found
+  names_found reads keys entries extended found = sym (map_twice (λ (w : Found). w.0) (extended_view reads) extended) ∙ ap (map (λ (w : Found). w.0)) found
 
-  pub extended_found : (keys : Texts) (entries : List (List ℕ × List ℕ)) (extended : List ExtendedName) → IsMapOf keys entries → map extended_view extended ≡ extended_entries known keys entries
+  pub extended_found : {C : Type 0} (reads : C → List ℕ → List ℕ) (keys : Texts) (entries : List (List ℕ × List ℕ)) (extended : List (ExtendedName C)) → IsMapOf keys entries → map (extended_view reads) extended ≡ extended_entries known keys entries
       → AreExtended keys (names_of extended)
-  extended_found keys entries extended map_of found = subst (AreExtended keys) (sym (names_found keys entries extended found)) (are_extended known keys entries map_of)
+  extended_found reads keys entries extended map_of found = subst (AreExtended keys) (sym (names_found reads keys entries extended found)) (are_extended known keys entries map_of)
 
   -- one by its place
-  found_at_place : (keys : Texts) (entries : List (List ℕ × List ℕ)) (extended : List ExtendedName) → map extended_view extended ≡ extended_entries known keys entries
-      → (place : ℕ) → place < length extended → IsFound known keys entries (found_by_place (map extended_view extended) place)
-  found_at_place keys entries extended found place below =
+  found_at_place : {C : Type 0} (reads : C → List ℕ → List ℕ) (keys : Texts) (entries : List (List ℕ × List ℕ)) (extended : List (ExtendedName C)) → map (extended_view reads) extended ≡ extended_entries known keys entries
+      → (place : ℕ) → place < length extended → IsFound known keys entries (found_by_place (map (extended_view reads) extended) place)
+  found_at_place reads keys entries extended found place below =
       let long = ap length found in
-      let same = length-map extended extended_view in
+      let same = length-map extended (extended_view reads) in
       subst (IsFound known keys entries) (sym (ap (λ ws. get_or ws place ([], [], None)) found))
       (in_found known keys entries _ (at_in ([], [], None) (extended_entries known keys entries) place (omega arith)))
 
-name_by_place : (extended : List ExtendedName) (place : ℕ) → (found_by_place (map extended_view extended) place).0 ≡ name_at (names_of extended) place
-name_by_place extended place =
-    sym (get_or-map (λ (w : Found). w.0) (map extended_view extended) place ([], [], None)) ∙ ap (λ ns. name_at ns place) (map_twice (λ (w : Found). w.0) extended_view extended)
+name_by_place : {C : Type 0} (reads : C → List ℕ → List ℕ) (extended : List (ExtendedName C)) (place : ℕ) → (found_by_place (map (extended_view reads) extended) place).0 ≡ name_at (names_of extended) place
+name_by_place reads extended place =
+    sym (get_or-map (λ (w : Found). w.0) (map (extended_view reads) extended) place ([], [], None)) ∙ ap (λ ns. name_at ns place) (map_twice (λ (w : Found). w.0) (extended_view reads) extended)
 
 -- names at different places differ
 apart : (names : List (List ℕ)) → AreInOrder names → (i j : ℕ) → i < length names → j < length names → bytes_eq (name_at names i) (name_at names j) ≡ eqb i j
@@ -96,28 +96,28 @@ module _ (known : Charsets) where
       let one = found_by_place found place in
       option_map (λ reading. extended_section one.0 reading (percent_decode (cond (eqb last place) (text_in one.1) one.1))) (found_by_place found last).2
 
-  extended_is : (keys : Texts) (entries : List (List ℕ × List ℕ)) (extended : List ExtendedName) (place last : ℕ) → IsMapOf keys entries → map extended_view extended ≡ extended_entries known keys entries
+  extended_is : {C : Type 0} (reads : C → List ℕ → List ℕ) (keys : Texts) (entries : List (List ℕ × List ℕ)) (extended : List (ExtendedName C)) (place last : ℕ) → IsMapOf keys entries → map (extended_view reads) extended ≡ extended_entries known keys entries
       → place < length extended → last ≡ source_place (names_of extended) (length extended) place
-      → extended_by (map extended_view extended) place last ≡ extended_at known keys (name_at (names_of extended) place)
-  extended_is keys entries extended place last map_of found below is =
+      → extended_by (map (extended_view reads) extended) place last ≡ extended_at known keys (name_at (names_of extended) place)
+  extended_is {C} reads keys entries extended place last map_of found below is =
       ap (λ bytes. option_map (λ reading. extended_section w.0 reading bytes) z.2) octets
       ∙ ap (option_map (λ reading. extended_section w.0 reading (octets_of keys w.0))) (sym reading)
-      ∙ ap (extended_at known keys) (name_by_place extended place)
+      ∙ ap (extended_at known keys) (name_by_place reads extended place)
     where
       names : List (List ℕ)
       names = names_of extended
 
       long : length names ≡ length extended
-      long = length-map extended (λ (v : ExtendedName). v.name.now)
+      long = length-map extended (λ (v : ExtendedName C). v.name.now)
 
       all : AreExtended keys names
-      all = extended_found known keys entries extended map_of found
+      all = extended_found known reads keys entries extended map_of found
 
       w : Found
-      w = found_by_place (map extended_view extended) place
+      w = found_by_place (map (extended_view reads) extended) place
 
       z : Found
-      z = found_by_place (map extended_view extended) last
+      z = found_by_place (map (extended_view reads) extended) last
 
       same : last ≡ source_place names (length names) place
       same = is ∙ ap (λ n. source_place names n place) (sym long)
@@ -127,19 +127,19 @@ module _ (known : Charsets) where
 
       is_own_source : z.0 ≡ charset_source keys w.0
       is_own_source =
-          name_by_place extended last ∙ ap (name_at names) same
+          name_by_place reads extended last ∙ ap (name_at names) same
           ∙ charset_source_at keys names all.order all.sound all.complete place (omega (arith, long))
-          ∙ ap (charset_source keys) (sym (name_by_place extended place))
+          ∙ ap (charset_source keys) (sym (name_by_place reads extended place))
 
       fw : IsFound known keys entries w
-      fw = found_at_place known keys entries extended found place below
+      fw = found_at_place known reads keys entries extended found place below
 
       fz : IsFound known keys entries z
-      fz = found_at_place known keys entries extended found last within
+      fz = found_at_place known reads keys entries extended found last within
 
       own : bytes_eq z.0 w.0 ≡ eqb last place
       own =
-          ap (λ n. bytes_eq n w.0) (name_by_place extended last) ∙ ap (bytes_eq (name_at names last)) (name_by_place extended place)
+          ap (λ n. bytes_eq n w.0) (name_by_place reads extended last) ∙ ap (bytes_eq (name_at names last)) (name_by_place reads extended place)
           ∙ apart names all.order last place (omega (arith, long, within)) (omega (arith, long))
 
       octets : percent_decode (cond (eqb last place) (text_in w.1) w.1) ≡ octets_of keys w.0
@@ -149,36 +149,36 @@ module _ (known : Charsets) where
       reading = reading_found keys entries w z map_of fw fz is_own_source
 
   -- how the name at a place is read
-  pub reading_known : (keys : Texts) (entries : List (List ℕ × List ℕ)) (extended : List ExtendedName) (place last : ℕ) → IsMapOf keys entries → map extended_view extended ≡ extended_entries known keys entries
+  pub reading_known : {C : Type 0} (reads : C → List ℕ → List ℕ) (keys : Texts) (entries : List (List ℕ × List ℕ)) (extended : List (ExtendedName C)) (place last : ℕ) → IsMapOf keys entries → map (extended_view reads) extended ≡ extended_entries known keys entries
       → place < length extended → last ≡ source_place (names_of extended) (length extended) place
-      → is_some (reading_of known keys (name_at (names_of extended) place)) ≡ is_some (reading_by (map extended_view extended) place last)
-  reading_known keys entries extended place last map_of found below is =
+      → is_some (reading_of known keys (name_at (names_of extended) place)) ≡ is_some (reading_by (map (extended_view reads) extended) place last)
+  reading_known reads keys entries extended place last map_of found below is =
       sym (is_some_map _ (reading_of known keys (name_at (names_of extended) place)))
-      ∙ ap is_some (sym (extended_is keys entries extended place last map_of found below is))
-      ∙ is_some_map _ (found_by_place (map extended_view extended) last).2
-      ∙ sym (is_some_map _ (found_by_place (map extended_view extended) last).2)
+      ∙ ap is_some (sym (extended_is reads keys entries extended place last map_of found below is))
+      ∙ is_some_map _ (found_by_place (map (extended_view reads) extended) last).2
+      ∙ sym (is_some_map _ (found_by_place (map (extended_view reads) extended) last).2)
 
-  pub reading_made : (keys : Texts) (entries : List (List ℕ × List ℕ)) (extended : List ExtendedName) (place last : ℕ) (r : Read) → IsMapOf keys entries
-      → map extended_view extended ≡ extended_entries known keys entries → place < length extended → last ≡ source_place (names_of extended) (length extended) place
-      → Some r ≡ reading_by (map extended_view extended) place last → IsReading known keys r × (r.0 ≡ name_at (names_of extended) place)
-  reading_made keys entries extended place last r map_of found below is made = go z.2 refl
+  pub reading_made : {C : Type 0} (reads : C → List ℕ → List ℕ) (keys : Texts) (entries : List (List ℕ × List ℕ)) (extended : List (ExtendedName C)) (place last : ℕ) (r : Read) → IsMapOf keys entries
+      → map (extended_view reads) extended ≡ extended_entries known keys entries → place < length extended → last ≡ source_place (names_of extended) (length extended) place
+      → Some r ≡ reading_by (map (extended_view reads) extended) place last → IsReading known keys r × (r.0 ≡ name_at (names_of extended) place)
+  reading_made reads keys entries extended place last r map_of found below is made = go z.2 refl
     where
       w : Found
-      w = found_by_place (map extended_view extended) place
+      w = found_by_place (map (extended_view reads) extended) place
 
       z : Found
-      z = found_by_place (map extended_view extended) last
+      z = found_by_place (map (extended_view reads) extended) last
 
       fw : IsFound known keys entries w
-      fw = found_at_place known keys entries extended found place below
+      fw = found_at_place known reads keys entries extended found place below
 
       there : keys (starred w.0) ≡ Some w.1
       there = map_of.holds _ fw.entry
 
       gives : (charset : List ℕ → List ℕ) → z.2 ≡ Some charset → extended_at known keys w.0 ≡ Some (read_section (w.0, charset, eqb last place) (extended_value keys w.0))
       gives charset e =
-          ap (extended_at known keys) (name_by_place extended place)
-          ∙ sym (extended_is keys entries extended place last map_of found below is)
+          ap (extended_at known keys) (name_by_place reads extended place)
+          ∙ sym (extended_is reads keys entries extended place last map_of found below is)
           ∙ ap (option_map (λ c. extended_section w.0 c (percent_decode (cond (eqb last place) (text_in w.1) w.1)))) e
           ∙ ap (λ v. Some (read_section (w.0, charset, eqb last place) v)) (sym (ap (λ o. unwrap_or o []) there))
 
@@ -187,7 +187,7 @@ module _ (known : Charsets) where
       go (Some charset) e =
           let whole : Some r ≡ Some (w.0, charset, eqb last place) = made ∙ ap (option_map (λ c. (w.0, c, eqb last place))) e in
           let same : r ≡ (w.0, charset, eqb last place) = ap (λ o. unwrap_or o r) whole in
-          (subst (IsReading known keys) (sym same) (record { valued = ap is_some there; gives = gives charset e }), ap (λ (x : Read). x.0) same ∙ name_by_place extended place)
+          (subst (IsReading known keys) (sym same) (record { valued = ap is_some there; gives = gives charset e }), ap (λ (x : Read). x.0) same ∙ name_by_place reads extended place)
 
 -- ---- a walk over the places
 
@@ -227,7 +227,7 @@ names_passed names known place found q below unknown before =
     go false e = ap (λ b. b && known q) (sym (ap (λ b. holds_name (take place names) q || b) e ∙ or_false (holds_name (take place names) q)))
 
 -- the place of the charset source, as it was read
-pub place_read : (extended slice : List ExtendedName) (items : List ℕ) (place at : ℕ) → slice ≡ extended → AreInOrder (names_of extended) → length items ≡ length slice
+pub place_read : {C : Type 0} (extended slice : List (ExtendedName C)) (items : List ℕ) (place at : ℕ) → slice ≡ extended → AreInOrder (names_of extended) → length items ≡ length slice
     → (AreInOrder (names_of slice) → (k : ℕ) → k < length slice → get_or items k 0 ≡ source_place (names_of slice) (length slice) k) → place < length extended → at ≡ get_or items place at
     → at ≡ source_place (names_of extended) (length extended) place
 place_read extended slice items place at same order long is_own_source below is =
@@ -236,9 +236,9 @@ place_read extended slice items place at same order long is_own_source below is 
     ∙ is_own_source (subst (λ ws. AreInOrder (names_of ws)) (sym same) order) place (omega arith)
     ∙ ap (λ ws. source_place (names_of ws) (length ws) place) same
 
-pub place_within : (extended : List ExtendedName) (place : ℕ) → place < length extended → source_place (names_of extended) (length extended) place < length extended
-place_within extended place below =
-    let long = length-map extended (λ (w : ExtendedName). w.name.now) in
+pub place_within : {C : Type 0} (extended : List (ExtendedName C)) (place : ℕ) → place < length extended → source_place (names_of extended) (length extended) place < length extended
+place_within {C} extended place below =
+    let long = length-map extended (λ (w : ExtendedName C). w.name.now) in
     let within = source_place_within (names_of extended) place (omega arith) in
     let same = ap (λ n. source_place (names_of extended) n place) long in
     omega (arith, within, same)
@@ -269,12 +269,12 @@ module _ (known : Charsets) where
 
 -- Under the charsets that are known.
 module _ (known : Charsets) where
-  pub reading_turn : (keys : Texts) (items : List Reading) (k : ℕ) (r : Reading) → All (IsReading known keys) (map reading_view items) → k < length items → r ≡ get_or items k r
-      → IsReading known keys (reading_view r)
-  reading_turn keys items k r all below is =
-      let long = length-map items reading_view in
-      subst (IsReading known keys) (get_or-map reading_view items k r ∙ ap reading_view (sym is)) (all k (reading_view r) (omega (arith, below, long)))
+  pub reading_turn : {C : Type 0} (reads : C → List ℕ → List ℕ) (keys : Texts) (items : List (Reading C)) (k : ℕ) (r : Reading C) → All (IsReading known keys) (map (reading_view reads) items) → k < length items → r ≡ get_or items k r
+      → IsReading known keys (reading_view reads r)
+  reading_turn reads keys items k r all below is =
+      let long = length-map items (reading_view reads) in
+      subst (IsReading known keys) (get_or-map (reading_view reads) items k r ∙ ap (reading_view reads) (sym is)) (all k (reading_view reads r) (omega (arith, below, long)))
 
-pub names_of_all : (taken items : List Reading) → map (λ r. r) taken ≡ items → names_read taken ≡ names_read items
+pub names_of_all : {C : Type 0} (taken items : List (Reading C)) → map (λ r. r) taken ≡ items → names_read taken ≡ names_read items
 names_of_all [] items h = ap names_read h
 names_of_all (r ∷ taken) items h = ap (λ ns. string_bytes r.name ∷ ns) (names_of_all taken (map (λ x. x) taken) refl) ∙ ap names_read h

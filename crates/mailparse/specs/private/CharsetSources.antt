@@ -33,5 +33,5 @@ abbrev pub shared_len : List ℕ → List ℕ → ℕ
 shared_len one other = prefix_len (λ bytes. bytes.0 == bytes.1) (zip one other)
 
 -- how many bytes each extended name shares with the next
-abbrev pub shared_lens : List ExtendedName → List ℕ
+abbrev pub shared_lens : {C : Type 0} → List (ExtendedName C) → List ℕ
 shared_lens extended = map (λ pair. shared_len pair.0.name.now pair.1.name.now) (zip extended (drop 1 extended))

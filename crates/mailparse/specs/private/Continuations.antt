@@ -8,13 +8,12 @@ use Rattle.mailparse.specs.Continuations.{is_section, joined, sections_of, walke
 use Rattle.mailparse.specs.Options.{◌>>=◌}
 use Rattle.mailparse.specs.Sections.{Section, is_star, is_text, numbered, section_name}
 use Rattle.mailparse.specs.private.Filled.{holds_name}
-use Rattle.mailparse.specs.private.KnownCharset.{known_text}
 use Rattle.mailparse.specs.declared.parameters.continuations.joining.Joining.{Joining}
 use Rattle.mailparse.specs.declared.parameters.sections.Sections.{Sections}
 
 -- the text that is made when these sections follow
-abbrev pub joined_with : Joining → List Section → List ℕ
-joined_with joining sections = string_bytes joining.text ++ walked_after (option_map known_text joining.charset) joining.run.items sections
+abbrev pub joined_with : {C : Type 0} → (C → List ℕ → List ℕ) → Joining C → List Section → List ℕ
+joined_with reads joining sections = string_bytes joining.text ++ walked_after (option_map reads joining.charset) joining.run.items sections
 
 -- the names of a map, in its order
 abbrev pub names_in : {Y X : Type 0} → BTreeMap (String Y) X → List (List ℕ)
@@ -35,7 +34,7 @@ abbrev pub bases_of_sections_0 : (List ℕ → Option Section) → List (List �
 bases_of_sections_0 at names = flat_map (λ name. option_to_list (base_of_section_0 at name)) names
 
 -- the names at which something stands
-abbrev pub names_of_sections : Sections → List (List ℕ)
+abbrev pub names_of_sections : {C : Type 0} → Sections C → List (List ℕ)
 names_of_sections sections = names_in sections.texts ++ names_in sections.extended
 
 -- a name is that of a section of a base, with a number below this one

@@ -6,7 +6,6 @@ use Rattle.mail_codec.specs.Charset.{Charsets}
 use Rattle.mailparse.specs.ExtendedValues.{extended_at, extended_value, is_starred, label_in, name_under, starred, text_in}
 use Rattle.mailparse.specs.Pairs.{Texts}
 use Rattle.mailparse.specs.Sections.{Section, text, octets, numbered}
-use Rattle.mailparse.specs.private.KnownCharset.{known_text}
 use Rattle.mailparse.specs.declared.parameters.extended_values.Reading.{Reading}
 use Rattle.mailparse.specs.declared.parameters.extended_values.names.ExtendedName.{ExtendedName}
 use Rattle.percent_encoding.specs.Percent.{percent_decode}
@@ -19,9 +18,9 @@ extended_section name reading bytes = if is_some (numbered name) then octets rea
 abbrev pub Found : Type 0
 Found = List ℕ × List ℕ × Option (List ℕ → List ℕ)
 
--- an extended name of the code, by its bytes
-abbrev pub extended_view : ExtendedName → Found
-extended_view n = (n.name.now, n.value.now, option_map known_text n.charset)
+-- an extended name of the code, by its bytes and by how its charset reads
+abbrev pub extended_view : {C : Type 0} → (C → List ℕ → List ℕ) → ExtendedName C → Found
+extended_view reads n = (n.name.now, n.value.now, option_map reads n.charset)
 
 -- a key less the star that it ends in
 abbrev pub star_taken : List ℕ → Option (List ℕ)
@@ -41,7 +40,7 @@ module _ (known : Charsets) where
   extended_entries keys entries = flat_map (found_at keys) entries
 
 -- the names alone
-abbrev pub names_of : List ExtendedName → List (List ℕ)
+abbrev pub names_of : {C : Type 0} → List (ExtendedName C) → List (List ℕ)
 names_of extended = map (λ n. n.name.now) extended
 
 -- the name at a place among those that were found
@@ -52,12 +51,12 @@ found_by_place found place = slice_index_or found place ([], [], None)
 abbrev pub Read : Type 0
 Read = List ℕ × (List ℕ → List ℕ) × Bool
 
--- a reading of the code, by its bytes
-abbrev pub reading_view : Reading → Read
-reading_view r = (string_bytes r.name, known_text r.charset, r.is_own_source)
+-- a reading of the code, by its bytes and by how its charset reads
+abbrev pub reading_view : {C : Type 0} → (C → List ℕ → List ℕ) → Reading C → Read
+reading_view reads r = (string_bytes r.name, reads r.charset, r.is_own_source)
 
 -- the names whose values are read
-abbrev pub names_read : List Reading → List (List ℕ)
+abbrev pub names_read : {C : Type 0} → List (Reading C) → List (List ℕ)
 names_read readings = map (λ r. string_bytes r.name) readings
 
 -- what a value gives that is read so

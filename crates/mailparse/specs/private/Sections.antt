@@ -1,23 +1,22 @@
--- The sections that the code holds, as the definitions have them.
+-- The sections that the code holds, as the definitions have them, by how their charsets read bytes.
 use Rattle.std.specs.Prelude.{ℕ, List, Option, option_map, String, string_bytes}
 use Rattle.std.specs.BTreeMap.{BTreeMap, get_by_text}
 use Rattle.std.specs.Option.{option_or}
 use Rattle.mailparse.specs.Pairs.{text_at}
 use Rattle.mailparse.specs.Sections as words
-use Rattle.mailparse.specs.private.KnownCharset.{known_text}
 use Rattle.mailparse.specs.declared.parameters.sections.Section.{Section}
 use Rattle.mailparse.specs.declared.parameters.sections.Section.TheVariants as code
 use Rattle.mailparse.specs.declared.parameters.sections.Sections.{Sections}
 
 -- a section of the code, as the definitions have it
-abbrev pub section_view : Section → words.Section
-section_view (code.Text t) = words.text (string_bytes t)
-section_view (code.Octets charset bytes) = words.octets (known_text charset) bytes.items
+abbrev pub section_view : {C : Type 0} → (C → List ℕ → List ℕ) → Section C → words.Section
+section_view reads (code.Text t) = words.text (string_bytes t)
+section_view reads (code.Octets charset bytes) = words.octets (reads charset) bytes.items
 
 -- what a map of sections has at a name
-abbrev pub sections_at : {Y : Type 0} → BTreeMap (String Y) Section → List ℕ → Option words.Section
-sections_at m name = option_map section_view (get_by_text m name)
+abbrev pub sections_at : {C Y : Type 0} → (C → List ℕ → List ℕ) → BTreeMap (String Y) (Section C) → List ℕ → Option words.Section
+sections_at reads m name = option_map (section_view reads) (get_by_text m name)
 
 -- what stands at each name: what its extended value gives, otherwise its text
-abbrev pub stands_at : Sections → List ℕ → Option words.Section
-stands_at sections name = option_or (sections_at sections.extended name) (option_map words.text (text_at sections.texts name))
+abbrev pub stands_at : {C : Type 0} → (C → List ℕ → List ℕ) → Sections C → List ℕ → Option words.Section
+stands_at reads sections name = option_or (sections_at reads sections.extended name) (option_map words.text (text_at sections.texts name))

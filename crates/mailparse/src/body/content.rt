@@ -1,12 +1,10 @@
 //! What every body is made of.
 ghost use Rattle.std.specs.Prelude.{◌≡◌, string_bytes, IfOk};
-ghost use Rattle.mail_codec.specs.Tables.{charsets_with};
 ghost use Rattle.mailparse.specs.Body.{text_under_in};
 ghost use Rattle.mailparse.specs.BodyViews.{content};
 
 use crate::content_type::ParsedContentType;
-use crate::known_charset::KnownCharset;
-use mail_codec::charset::{SingleByteTable, decode_ascii};
+use mail_codec::charset::{Decode, KnownCharsets, decode_ascii};
 use std::alloc::{AllocError, Global};
 
 /// The bytes of a body as they stand in the message, and the type of its content.
@@ -19,16 +17,16 @@ pub(super) struct BodyContent<'a> {
 impl<'a> BodyContent<'a> {
     /// The text of these bytes under the charset of the type.
     #[tactic(auto, unfolding(crate::specs::Body::text_under_in))]
-    pub(super) fn text_of(
+    pub(super) fn text_of<K: KnownCharsets>(
         &self,
         alloc: Global,
         bytes: &[u8],
-        tables: &[SingleByteTable<'_>],
+        known: &K,
     ) -> Result<String, AllocError>
         ensures { IfOk result (λ text. string_bytes text ≡ text_under_in
-            (charsets_with tables.now) (content self.now).ctype.charset bytes.now) }
+            (K.known known.now) (content self.now).ctype.charset bytes.now) }
     {
-        match KnownCharset::for_label(self.ctype.charset.as_bytes(), tables) {
+        match known.for_label(self.ctype.charset.as_bytes()) {
             Some(charset) => charset.decode(alloc, bytes),
             None => decode_ascii(alloc, bytes)?.into_owned(alloc),
         }

@@ -9,7 +9,7 @@ ghost use Rattle.mailparse.specs.Views.{content_type};
 use super::content::BodyContent;
 use crate::content_type::ParsedContentType;
 use crate::error::{Base64Fault, MailParseError};
-use mail_codec::charset::SingleByteTable;
+use mail_codec::charset::{KnownCharsets, SingleByteTable};
 use mail_codec::transfer::{decode_base64_body, decode_quoted_printable};
 use std::alloc::Global;
 
@@ -137,7 +137,7 @@ impl<'a> EncodedBody<'a> {
         ensures { ReadsText result (decoded_text (encoded_kind self.now)
             (encoded_content self.now).ctype.charset (encoded_content self.now).raw) }
     {
-        self.get_decoded_as_string_with(alloc, &[])
+        self.get_decoded_as_string_in(alloc, &())
     }
 
     /// Returns the decoded text of the body as `get_decoded_as_string` does, but its charset may
@@ -167,7 +167,6 @@ impl<'a> EncodedBody<'a> {
     /// };
     /// assert_eq!(rt; body.get_decoded_as_string_with(alloc, &tables)?.as_str(), "5 €");
     /// ```
-    #[tactic(auto, unfolding(crate::specs::Body::decoded_text_in))]
     pub fn get_decoded_as_string_with(
         &self,
         alloc: Global,
@@ -177,8 +176,47 @@ impl<'a> EncodedBody<'a> {
             (encoded_kind self.now) (encoded_content self.now).ctype.charset
             (encoded_content self.now).raw) }
     {
+        self.get_decoded_as_string_in(alloc, &tables)
+    }
+
+    /// Returns the decoded text of the body as `get_decoded_as_string` does, in any charset that
+    /// `known` knows (RFC 2045, sections 6.7 and 6.8; RFC 2046, section 4.1.2).
+    ///
+    /// Takes memory for the bytes and for the text.
+    ///
+    /// # Errors
+    ///
+    /// `MailParseError::Base64DecodeError` where a body in Base64 is not Base64, with the index,
+    /// counted from 0, of the first invalid group of four; and `MailParseError::Memory` where it
+    /// runs out of memory.
+    ///
+    /// # Examples
+    ///
+    /// ```rust
+    /// use mailparse::body::Body;
+    /// use mailparse::{SingleByteTable, parse_mail};
+    ///
+    /// let tables = [SingleByteTable { labels: &["x-euro"], high: &['€'; 128] }];
+    /// let raw = b"Content-Type: text/plain; charset=x-euro\n\
+    ///     Content-Transfer-Encoding: quoted-printable\n\n5 =80";
+    /// let mail = parse_mail(alloc, raw)?;
+    /// let Body::QuotedPrintable(body) = mail.get_body_encoded(alloc)? else {
+    ///     return Err("another encoding".into());
+    /// };
+    /// assert_eq!(rt; body.get_decoded_as_string_in(alloc, &tables.as_slice())?.as_str(), "5 €");
+    /// ```
+    #[tactic(auto, unfolding(crate::specs::Body::decoded_text_in))]
+    pub fn get_decoded_as_string_in<K: KnownCharsets>(
+        &self,
+        alloc: Global,
+        known: &K,
+    ) -> Result<String, MailParseError>
+        ensures { ReadsText result (decoded_text_in (K.known known.now)
+            (encoded_kind self.now) (encoded_content self.now).ctype.charset
+            (encoded_content self.now).raw) }
+    {
         let bytes = self.get_decoded(alloc)?;
-        Ok(self.content.text_of(alloc, bytes.as_slice(), tables)?)
+        Ok(self.content.text_of(alloc, bytes.as_slice(), known)?)
     }
 }
 

@@ -9,7 +9,7 @@ ghost use Rattle.mailparse.specs.Views.{content_type};
 use super::content::BodyContent;
 use crate::content_type::ParsedContentType;
 use crate::error::MailParseError;
-use mail_codec::charset::SingleByteTable;
+use mail_codec::charset::{KnownCharsets, SingleByteTable};
 use std::alloc::Global;
 
 /// A body of text that is not encoded (RFC 2045, sections 2.7 and 2.8).
@@ -89,7 +89,7 @@ impl<'a> TextBody<'a> {
         ensures { GivesText result
             (text_under (text_content self.now).ctype.charset (text_content self.now).raw) }
     {
-        self.get_as_string_with(alloc, &[])
+        self.get_as_string_in(alloc, &())
     }
 
     /// Returns the text of the body as `get_as_string` does, but its charset may also be that of a
@@ -124,6 +124,40 @@ impl<'a> TextBody<'a> {
         ensures { GivesText result (text_under_in (charsets_with tables.now)
             (text_content self.now).ctype.charset (text_content self.now).raw) }
     {
-        Ok(self.content.text_of(alloc, self.get_raw(), tables)?)
+        self.get_as_string_in(alloc, &tables)
+    }
+
+    /// Returns the text of the body as `get_as_string` does, in any charset that `known` knows (RFC
+    /// 2046, section 4.1.2).
+    ///
+    /// Takes memory for the text.
+    ///
+    /// # Errors
+    ///
+    /// `MailParseError::Memory` where it runs out of memory.
+    ///
+    /// # Examples
+    ///
+    /// ```rust
+    /// use mailparse::body::Body;
+    /// use mailparse::{SingleByteTable, parse_mail};
+    ///
+    /// let tables = [SingleByteTable { labels: &["x-euro"], high: &['€'; 128] }];
+    /// let raw = b"Content-Type: text/plain; charset=x-euro\n\n5 \x80";
+    /// let mail = parse_mail(alloc, raw)?;
+    /// let Body::SevenBit(body) = mail.get_body_encoded(alloc)? else {
+    ///     return Err("another encoding".into());
+    /// };
+    /// assert_eq!(rt; body.get_as_string_in(alloc, &tables.as_slice())?.as_str(), "5 €");
+    /// ```
+    pub fn get_as_string_in<K: KnownCharsets>(
+        &self,
+        alloc: Global,
+        known: &K,
+    ) -> Result<String, MailParseError>
+        ensures { GivesText result (text_under_in (K.known known.now)
+            (text_content self.now).ctype.charset (text_content self.now).raw) }
+    {
+        Ok(self.content.text_of(alloc, self.get_raw(), known)?)
     }
 }

@@ -2,11 +2,9 @@
 ghost use Rattle.std.specs.Prelude.{◌≡◌, false, IfOk, MatchOption};
 ghost use Rattle.std.specs.Option.{option_map};
 ghost use Rattle.std.specs.String.{string_bytes};
-ghost use Rattle.mail_codec.specs.Tables.{charsets_with};
 ghost use Rattle.mailparse.specs.EncodedWord.{IsCutAtMark, bytes_of_q, encoded_bytes, has_question_mark, spaced, word_text};
 
-use crate::known_charset::KnownCharset;
-use mail_codec::charset::SingleByteTable;
+use mail_codec::charset::{Decode, KnownCharsets};
 use mail_codec::transfer::{decode_base64, decode_quoted_printable};
 use std::alloc::{AllocError, Global};
 
@@ -66,13 +64,13 @@ fn decode_encoded(
 
 /// The text of an encoded word, by what stands between its `=?` and its `?=`, if it decodes. A byte
 /// order mark is not looked for.
-pub(crate) fn decode_word(
+pub(crate) fn decode_word<K: KnownCharsets>(
     alloc: Global,
     inside: &str,
-    tables: &[SingleByteTable<'_>],
+    known: &K,
 ) -> Result<Option<String>, AllocError>
     ensures { IfOk result (λ text.
-        option_map string_bytes text ≡ word_text (charsets_with tables.now) inside.now) }
+        option_map string_bytes text ≡ word_text (K.known known.now) inside.now) }
 {
     let Some((label, rest)) = cut_at_question_mark(inside) else {
         return Ok(None);
@@ -80,7 +78,7 @@ pub(crate) fn decode_word(
     let Some((encoding, encoded)) = cut_at_question_mark(rest) else {
         return Ok(None);
     };
-    let Some(charset) = KnownCharset::for_label(label.as_bytes(), tables) else {
+    let Some(charset) = known.for_label(label.as_bytes()) else {
         return Ok(None);
     };
     let Some(bytes) = decode_encoded(alloc, encoding, encoded)? else {

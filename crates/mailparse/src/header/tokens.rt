@@ -2,7 +2,6 @@
 ghost use Rattle.std.specs.Prelude.{◌≡◌, ◌≢◌, ◌≤◌, [], ◌∷◌, length, reverse, MatchOption, OnOk};
 ghost use Rattle.std.specs.Str.{chars};
 ghost use Rattle.mail_codec.specs.Places.{stands, place_from};
-ghost use Rattle.mail_codec.specs.Tables.{charsets_with};
 ghost use Rattle.mailparse.specs.Tokens.{begins_with_boundary, closing, is_boundary, opening};
 ghost use Rattle.mailparse.specs.Value.{line_tokens, outside_token};
 ghost use Rattle.mailparse.specs.private.Cuts.{IsCut, IsOpening, KeepsClosing};
@@ -11,7 +10,7 @@ ghost use Rattle.mailparse.specs.private.Shown.{Shows, token_view};
 use super::encoded_word::decode_word;
 use super::shown::{HeaderToken, ShownValue};
 use mail_codec::bytescan;
-use mail_codec::charset::SingleByteTable;
+use mail_codec::charset::KnownCharsets;
 use std::alloc::{AllocError, Global};
 
 /// Whether a character may stand directly beside an encoded word.
@@ -113,14 +112,14 @@ fn find_closing_or_keep(line: &str, from: usize, kept: usize) -> usize
 ///
 /// Its time is linear in the line's length: the end of a word is kept until the search is past it,
 /// and so is the fact that there is none.
-pub(crate) fn push_line<'a>(
+pub(crate) fn push_line<'a, K: KnownCharsets>(
     alloc: Global,
     line: &'a str,
-    tables: &[SingleByteTable<'_>],
+    known: &K,
     shown: &mut ShownValue<'a>,
 ) -> Result<(), AllocError>
     ensures { OnOk result
-        (Shows shown.old (line_tokens (charsets_with tables.now) line.now) shown.new) }
+        (Shows shown.old (line_tokens (K.known known.now) line.now) shown.new) }
 {
     let mut start = 0;
     let mut close = 0;
@@ -138,7 +137,7 @@ pub(crate) fn push_line<'a>(
             start = inside;
             continue;
         }
-        match decode_word(alloc, &line[inside..close], tables)? {
+        match decode_word(alloc, &line[inside..close], known)? {
             Some(decoded) => shown.push(HeaderToken::DecodedWord(decoded))?,
             None => shown.push(HeaderToken::Text(&line[open..close + 2]))?,
         }

@@ -3,14 +3,13 @@
 ghost use Rattle.std.specs.Prelude.{◌≡◌, IfOk, IfSome};
 ghost use Rattle.std.specs.Cow.{cow_str_bytes};
 ghost use Rattle.std.specs.String.{string_bytes};
-ghost use Rattle.mail_codec.specs.Tables.{charsets_with};
 ghost use Rattle.mail_codec.specs.Charset.{Charsets};
 ghost use Rattle.mailparse.specs.Value.{shown_value};
 
 use super::shown::{HeaderToken, ShownValue};
 use super::tokens::push_line;
 use mail_codec::bytescan::{find, find_byte};
-use mail_codec::charset::SingleByteTable;
+use mail_codec::charset::KnownCharsets;
 use std::alloc::{AllocError, Global};
 use std::borrow::CowStr;
 
@@ -31,28 +30,28 @@ fn plain_line(text: &str) -> Option<&str>
 }
 
 /// What a value with this text shows, borrowed where it is a part of the text.
-pub(crate) fn value_ref<'v>(
+pub(crate) fn value_ref<'v, K: KnownCharsets>(
     alloc: Global,
     text: &'v str,
-    tables: &[SingleByteTable<'_>],
+    known: &K,
 ) -> Result<CowStr<'v>, AllocError>
     ensures { IfOk result (λ value.
-        cow_str_bytes value ≡ shown_value (charsets_with tables.now) text.now) }
+        cow_str_bytes value ≡ shown_value (K.known known.now) text.now) }
 {
     match plain_line(text) {
         Some(line) => Ok(CowStr::Borrowed(line)),
-        None => Ok(CowStr::Owned(unfolded_value(alloc, text, tables)?)),
+        None => Ok(CowStr::Owned(unfolded_value(alloc, text, known)?)),
     }
 }
 
 /// What a value with this text shows, read token by token.
-fn unfolded_value(
+fn unfolded_value<K: KnownCharsets>(
     alloc: Global,
     text: &str,
-    tables: &[SingleByteTable<'_>],
+    known: &K,
 ) -> Result<String, AllocError>
     ensures { IfOk result (λ value.
-        string_bytes value ≡ shown_value (charsets_with tables.now) text.now) }
+        string_bytes value ≡ shown_value (K.known known.now) text.now) }
 {
     let mut shown = ShownValue::with_capacity(alloc, text.len())?;
     let mut is_first = true;
@@ -62,7 +61,7 @@ fn unfolded_value(
         } else {
             shown.push(HeaderToken::Newline)?;
         }
-        push_line(alloc, line.trim_start(), tables, &mut shown)?;
+        push_line(alloc, line.trim_start(), known, &mut shown)?;
     }
     Ok(shown.into_text())
 }

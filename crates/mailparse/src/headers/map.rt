@@ -11,7 +11,7 @@ ghost use Rattle.mailparse.specs.Outcome.{AnswersOrMemory, GivesTexts};
 use super::Headers;
 use crate::error::MailParseError;
 use crate::header::MailHeader;
-use mail_codec::charset::SingleByteTable;
+use mail_codec::charset::{KnownCharsets, SingleByteTable};
 use std::alloc::{AllocError, Global};
 
 /// A list of headers, in the order of the message, with lookup by name (RFC 5322, section 2.2).
@@ -95,6 +95,35 @@ pub trait MailHeaderMap {
             (Ok (first_value_in (charsets_with tables.now) key.now (present self.now))) }
         ensures no_alloc { IsNone (first_with_key key.now (present self.now)) → IsOk result };
 
+    /// Returns the value of the first header with this name (RFC 5322, section 2.2), as
+    /// `MailHeader::get_value_in` reads it, or `None` if there is none.
+    ///
+    /// Takes memory for the value, and none where there is no such header.
+    ///
+    /// # Errors
+    ///
+    /// `MailParseError::Memory` where it runs out of memory.
+    ///
+    /// # Examples
+    ///
+    /// ```rust
+    /// use mailparse::{MailHeaderMap, SingleByteTable, parse_headers};
+    ///
+    /// let tables = [SingleByteTable { labels: &["x-euro"], high: &['€'; 128] }];
+    /// let (headers, _) = parse_headers(alloc, b"To: =?x-euro?Q?5_=80?=\n")?;
+    /// let value = headers.get_first_value_in(alloc, "To", &tables.as_slice())?;
+    /// assert_eq!(rt; value.ok_or("no header")?.as_str(), "5 €");
+    /// ```
+    fn get_first_value_in<K: KnownCharsets>(
+        &self,
+        alloc: Global,
+        key: &str,
+        known: &K,
+    ) -> Result<Option<String>, MailParseError>
+        ensures read { AnswersOrMemory text_found result
+            (Ok (first_value_in (K.known known.now) key.now (present self.now))) }
+        ensures no_alloc { IsNone (first_with_key key.now (present self.now)) → IsOk result };
+
     /// Returns the values of all headers with this name (RFC 5322, section 2.2), as
     /// `MailHeader::get_value` reads them, in the order of the message.
     ///
@@ -154,7 +183,7 @@ impl MailHeaderMap for Vec<MailHeader<'_>> {
     }
 
     fn get_first_value(&self, alloc: Global, key: &str) -> Result<Option<String>, MailParseError> {
-        Ok(first_value(alloc, self.as_slice(), key)?)
+        Ok(first_value_in(alloc, self.as_slice(), key, &())?)
     }
 
     fn get_first_value_with(
@@ -163,7 +192,16 @@ impl MailHeaderMap for Vec<MailHeader<'_>> {
         key: &str,
         tables: &[SingleByteTable<'_>],
     ) -> Result<Option<String>, MailParseError> {
-        Ok(first_value_with(alloc, self.as_slice(), key, tables)?)
+        Ok(first_value_in(alloc, self.as_slice(), key, &tables)?)
+    }
+
+    fn get_first_value_in<K: KnownCharsets>(
+        &self,
+        alloc: Global,
+        key: &str,
+        known: &K,
+    ) -> Result<Option<String>, MailParseError> {
+        Ok(first_value_in(alloc, self.as_slice(), key, known)?)
     }
 
     fn get_all_values(&self, alloc: Global, key: &str) -> Result<Vec<String>, MailParseError> {
@@ -187,7 +225,7 @@ impl MailHeaderMap for Headers<'_> {
     }
 
     fn get_first_value(&self, alloc: Global, key: &str) -> Result<Option<String>, MailParseError> {
-        Ok(first_value(alloc, self.list(), key)?)
+        Ok(first_value_in(alloc, self.list(), key, &())?)
     }
 
     fn get_first_value_with(
@@ -196,7 +234,16 @@ impl MailHeaderMap for Headers<'_> {
         key: &str,
         tables: &[SingleByteTable<'_>],
     ) -> Result<Option<String>, MailParseError> {
-        Ok(first_value_with(alloc, self.list(), key, tables)?)
+        Ok(first_value_in(alloc, self.list(), key, &tables)?)
+    }
+
+    fn get_first_value_in<K: KnownCharsets>(
+        &self,
+        alloc: Global,
+        key: &str,
+        known: &K,
+    ) -> Result<Option<String>, MailParseError> {
+        Ok(first_value_in(alloc, self.list(), key, known)?)
     }
 
     fn get_all_values(&self, alloc: Global, key: &str) -> Result<Vec<String>, MailParseError> {
@@ -224,33 +271,20 @@ fn first_header<'h>(list: &'h [MailHeader<'h>], key: &str) -> Option<&'h MailHea
     None
 }
 
-/// The value of the first header of a list with this name.
-fn first_value<'h>(
+/// The value of the first header of a list with this name, in the charsets that are known.
+fn first_value_in<'h, K: KnownCharsets>(
     alloc: Global,
     list: &'h [MailHeader<'h>],
     key: &str,
-) -> Result<Option<String>, AllocError>
-    ensures read { IfOk result (λ found. text_found found ≡ first_value key.now list.now) }
-    ensures no_alloc { IsNone (first_with_key key.now list.now) → IsOk result }
-{
-    first_value_with(alloc, list, key, &[])
-}
-
-/// The value of the first header of a list with this name, where its encoded words may also be in
-/// the charsets of some tables.
-fn first_value_with<'h>(
-    alloc: Global,
-    list: &'h [MailHeader<'h>],
-    key: &str,
-    tables: &[SingleByteTable<'_>],
+    known: &K,
 ) -> Result<Option<String>, AllocError>
     ensures read { IfOk result (λ found. text_found found
-        ≡ first_value_in (charsets_with tables.now) key.now list.now) }
+        ≡ first_value_in (K.known known.now) key.now list.now) }
     ensures no_alloc { IsNone (first_with_key key.now list.now) → IsOk result }
 {
     match first_header(list, key) {
         None => Ok(None),
-        Some(h) => Ok(Some(h.get_value_ref_with(alloc, tables)?.into_owned(alloc)?)),
+        Some(h) => Ok(Some(h.get_value_ref_in(alloc, known)?.into_owned(alloc)?)),
     }
 }
 

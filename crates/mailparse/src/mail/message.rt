@@ -8,12 +8,12 @@ ghost use Rattle.mailparse.specs.Views.{disposition, placement_of, tree_of, tree
 
 use crate::body::Body;
 use crate::content_type::ParsedContentType;
-use crate::disposition::{ParsedContentDisposition, parse_content_disposition_with};
+use crate::disposition::{ParsedContentDisposition, parse_content_disposition_in};
 use crate::error::MailParseError;
 use crate::header::MailHeader;
 use crate::headers::Headers;
 use crate::headers::map::MailHeaderMap;
-use mail_codec::charset::SingleByteTable;
+use mail_codec::charset::{KnownCharsets, SingleByteTable};
 use std::alloc::{AllocError, Global};
 use std::fmt::{self, Debug, Formatter, Write};
 use std::ops::Range;
@@ -189,7 +189,7 @@ impl<'a> ParsedMail<'a> {
     pub fn get_body(&self, alloc: Global) -> Result<String, MailParseError>
         ensures { ReadsText result (body_text (root (tree_of self.now))) }
     {
-        self.get_body_with(alloc, &[])
+        self.get_body_in(alloc, &())
     }
 
     /// Returns the body as text, as `get_body` does, but its charset may also be that of a table
@@ -217,7 +217,6 @@ impl<'a> ParsedMail<'a> {
     /// assert_eq!(rt; mail.get_body_with(alloc, &tables)?.as_str(), "5 €");
     /// assert_eq!(rt; mail.get_body(alloc)?.as_str(), "5 \u{FFFD}");
     /// ```
-    #[tactic(auto, unfolding(crate::specs::Body::decoded_text_in, crate::specs::Body::decoded))]
     pub fn get_body_with(
         &self,
         alloc: Global,
@@ -226,12 +225,47 @@ impl<'a> ParsedMail<'a> {
         ensures { ReadsText result
             (body_text_in (charsets_with tables.now) (root (tree_of self.now))) }
     {
+        self.get_body_in(alloc, &tables)
+    }
+
+    /// Returns the body as text, as `get_body` does, in any charset that `known` knows (RFC 2045,
+    /// section 6; RFC 2046, section 4.1.2).
+    ///
+    /// Takes memory for the bytes and for the text.
+    ///
+    /// Control characters stay in the text, as with `get_body`: escape them before showing the text
+    /// on a terminal or writing it to a log.
+    ///
+    /// # Errors
+    ///
+    /// `MailParseError::Base64DecodeError` where a body in Base64 is not Base64, with the index,
+    /// counted from 0, of the first invalid group of four; and `MailParseError::Memory` where it
+    /// runs out of memory.
+    ///
+    /// # Examples
+    ///
+    /// ```rust
+    /// use mailparse::{SingleByteTable, parse_mail};
+    ///
+    /// let tables = [SingleByteTable { labels: &["x-euro"], high: &['€'; 128] }];
+    /// let mail = parse_mail(alloc, b"Content-Type: text/plain; charset=x-euro\n\n5 \x80")?;
+    /// assert_eq!(rt; mail.get_body_in(alloc, &tables.as_slice())?.as_str(), "5 €");
+    /// assert_eq!(rt; mail.get_body_in(alloc, &())?.as_str(), "5 \u{FFFD}");
+    /// ```
+    #[tactic(auto, unfolding(crate::specs::Body::decoded_text_in, crate::specs::Body::decoded))]
+    pub fn get_body_in<K: KnownCharsets>(
+        &self,
+        alloc: Global,
+        known: &K,
+    ) -> Result<String, MailParseError>
+        ensures { ReadsText result (body_text_in (K.known known.now) (root (tree_of self.now))) }
+    {
         match self.get_body_encoded(alloc)? {
-            Body::Base64(body) => body.get_decoded_as_string_with(alloc, tables),
-            Body::QuotedPrintable(body) => body.get_decoded_as_string_with(alloc, tables),
-            Body::SevenBit(body) => body.get_as_string_with(alloc, tables),
-            Body::EightBit(body) => body.get_as_string_with(alloc, tables),
-            Body::Binary(body) => body.get_as_string_with(alloc, tables),
+            Body::Base64(body) => body.get_decoded_as_string_in(alloc, known),
+            Body::QuotedPrintable(body) => body.get_decoded_as_string_in(alloc, known),
+            Body::SevenBit(body) => body.get_as_string_in(alloc, known),
+            Body::EightBit(body) => body.get_as_string_in(alloc, known),
+            Body::Binary(body) => body.get_as_string_in(alloc, known),
         }
     }
 
@@ -294,7 +328,7 @@ impl<'a> ParsedMail<'a> {
     ) -> Result<ParsedContentDisposition, MailParseError>
         ensures { AnswersOrMemory disposition result (Ok (shown_as (root (tree_of self.now)))) }
     {
-        self.get_content_disposition_with(alloc, &[])
+        self.get_content_disposition_in(alloc, &())
     }
 
     /// Returns how the message is to be shown, as `get_content_disposition` does, but encoded words
@@ -327,10 +361,42 @@ impl<'a> ParsedMail<'a> {
         ensures { AnswersOrMemory disposition result
             (Ok (shown_as_in (charsets_with tables.now) (root (tree_of self.now)))) }
     {
+        self.get_content_disposition_in(alloc, &tables)
+    }
+
+    /// Returns how the message is to be shown, as `get_content_disposition` does, but encoded words
+    /// and extended parameters may be in any charset that `known` knows (RFC 2183, section 2; RFC
+    /// 2047, section 2; RFC 2231, section 4).
+    ///
+    /// Takes memory for the text and the parameters.
+    ///
+    /// # Errors
+    ///
+    /// `MailParseError::Memory` where it runs out of memory.
+    ///
+    /// # Examples
+    ///
+    /// ```rust
+    /// use mailparse::{SingleByteTable, parse_mail};
+    ///
+    /// let tables = [SingleByteTable { labels: &["x-euro"], high: &['€'; 128] }];
+    /// let raw = b"Content-Disposition: attachment; filename*=x-euro''5%80.txt\n\n";
+    /// let mail = parse_mail(alloc, raw)?;
+    /// let shown = mail.get_content_disposition_in(alloc, &tables.as_slice())?;
+    /// assert_eq!(rt; shown.params.get("filename").ok_or("no name")?.as_str(), "5€.txt");
+    /// ```
+    pub fn get_content_disposition_in<K: KnownCharsets>(
+        &self,
+        alloc: Global,
+        known: &K,
+    ) -> Result<ParsedContentDisposition, MailParseError>
+        ensures { AnswersOrMemory disposition result
+            (Ok (shown_as_in (K.known known.now) (root (tree_of self.now)))) }
+    {
         match self.headers.get_first_header("Content-Disposition") {
             Some(header) => {
-                let value = header.get_value_ref_with(alloc, tables)?;
-                parse_content_disposition_with(alloc, value.as_str(), tables)
+                let value = header.get_value_ref_in(alloc, known)?;
+                parse_content_disposition_in(alloc, value.as_str(), known)
             }
             None => Ok(ParsedContentDisposition::default(alloc)),
         }

@@ -1,7 +1,6 @@
 //! The type of a message, and what it says of its parts.
 ghost use Rattle.std.specs.Prelude.{◌≡◌, ◌∷◌, option_map, IfOk};
 ghost use Rattle.mail_codec.specs.Ascii.{line_feed};
-ghost use Rattle.mail_codec.specs.Tables.{charsets_with};
 ghost use Rattle.mailparse.specs.Mail.{dash_boundary_of, is_digest, node_type, part_type};
 ghost use Rattle.mailparse.specs.Views.{content_type};
 
@@ -10,25 +9,25 @@ use crate::content_type::{
 };
 use crate::header::MailHeader;
 use crate::headers::map::MailHeaderMap;
-use mail_codec::charset::SingleByteTable;
+use mail_codec::charset::KnownCharsets;
 use std::alloc::{AllocError, Global};
 use std::collections::BTreeMap;
 
 /// The type of a message with these headers: what its first `Content-Type` says, and otherwise the
 /// type of a part without one.
-pub(super) fn node_type(
+pub(super) fn node_type<K: KnownCharsets>(
     alloc: Global,
     headers: &Vec<MailHeader<'_>>,
     in_digest: bool,
-    tables: &[SingleByteTable<'_>],
+    known: &K,
 ) -> Result<ParsedContentType, AllocError>
     ensures { IfOk result (λ ctype. content_type ctype
-        ≡ node_type (charsets_with tables.now) in_digest headers.now.items) }
+        ≡ node_type (K.known known.now) in_digest headers.now.items) }
 {
     match headers.get_first_header("Content-Type") {
         Some(header) => {
-            let value = header.get_value_ref_with(alloc, tables)?;
-            read_content_type(alloc, value.as_str(), tables)
+            let value = header.get_value_ref_in(alloc, known)?;
+            read_content_type(alloc, value.as_str(), known)
         }
         None => part_type(alloc, in_digest),
     }

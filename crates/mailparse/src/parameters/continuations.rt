@@ -2,7 +2,6 @@
 ghost use Rattle.std.specs.Prelude.{◌≡◌, ◌++◌, ℕ, List, not, length, map, option_map, IfOk, OnOk, string_bytes};
 ghost use Rattle.std.specs.List.{list_any};
 ghost use Rattle.std.specs.Option.{option_or};
-ghost use Rattle.mail_codec.specs.Tables.{charsets_with};
 ghost use Rattle.mailparse.specs.Continuations.{joined, joined_at, parameters_in, sections_of};
 ghost use Rattle.mailparse.specs.Pairs.{last_of, text_at};
 ghost use Rattle.mailparse.specs.Sections.{alone};
@@ -15,17 +14,21 @@ use self::joining::Joining;
 use super::extended_values::read_sections;
 use super::sections::{Section, Sections, numbered};
 use mail_codec::bytescan::find_byte;
-use mail_codec::charset::SingleByteTable;
+use mail_codec::charset::{Decode, KnownCharsets};
 use std::alloc::{AllocError, Global};
 use std::collections::BTreeMap;
 
 /// Takes the sections of a base, and joins them.
-fn join(alloc: Global, sections: &mut Sections<'_>, base: &str) -> Result<String, AllocError>
+fn join<C: Decode>(
+    alloc: Global,
+    sections: &mut Sections<C>,
+    base: &str,
+) -> Result<String, AllocError>
     ensures text { IfOk result (λ text. string_bytes text
-        ≡ joined (sections_of (stands_at sections.old) base.now)) }
-    ensures left { OnOk result ((q : List ℕ) → stands_at sections.new q
-        ≡ without_sections (stands_at sections.old) base.now
-        (length (sections_of (stands_at sections.old) base.now)) q) }
+        ≡ joined (sections_of (stands_at C.text sections.old) base.now)) }
+    ensures left { OnOk result ((q : List ℕ) → stands_at C.text sections.new q
+        ≡ without_sections (stands_at C.text sections.old) base.now
+        (length (sections_of (stands_at C.text sections.old) base.now)) q) }
 {
     let mut joining = Joining::new(alloc);
     let mut count: u64 = 0;
@@ -41,9 +44,9 @@ fn join(alloc: Global, sections: &mut Sections<'_>, base: &str) -> Result<String
 }
 
 /// The base of a name with the number 0, if no text stands there.
-fn base_of_section_0<'n>(sections: &Sections<'_>, name: &'n str) -> Option<&'n str>
+fn base_of_section_0<'n, C: Decode>(sections: &Sections<C>, name: &'n str) -> Option<&'n str>
     ensures { option_map (λ base. base.now) result
-        ≡ base_of_section_0 (stands_at sections.now) name.now }
+        ≡ base_of_section_0 (stands_at C.text sections.now) name.now }
 {
     let (base, number) = numbered(name)?;
     if number != 0 {
@@ -56,14 +59,14 @@ fn base_of_section_0<'n>(sections: &Sections<'_>, name: &'n str) -> Option<&'n s
 }
 
 /// Adds the bases of the names of a map.
-fn add_bases<X>(
+fn add_bases<C: Decode, X>(
     alloc: Global,
-    sections: &Sections<'_>,
+    sections: &Sections<C>,
     named: &BTreeMap<String, X>,
     bases: &mut Vec<String>,
 ) -> Result<(), AllocError>
     ensures { OnOk result (map string_bytes bases.new.items ≡ map string_bytes bases.old.items
-        ++ bases_of_sections_0 (stands_at sections.now) (names_in named.now)) }
+        ++ bases_of_sections_0 (stands_at C.text sections.now) (names_in named.now)) }
 {
     for (name, _) in named {
         if let Some(base) = base_of_section_0(sections, name.as_str()) {
@@ -74,9 +77,9 @@ fn add_bases<X>(
 }
 
 /// The bases, some more than once.
-fn bases_of(alloc: Global, sections: &Sections<'_>) -> Result<Vec<String>, AllocError>
+fn bases_of<C: Decode>(alloc: Global, sections: &Sections<C>) -> Result<Vec<String>, AllocError>
     ensures { IfOk result (λ bases. map string_bytes bases.items
-        ≡ bases_of_sections_0 (stands_at sections.now) (names_of_sections sections.now)) }
+        ≡ bases_of_sections_0 (stands_at C.text sections.now) (names_of_sections sections.now)) }
 {
     let mut bases = Vec::new(alloc);
     add_bases(alloc, sections, &sections.texts, &mut bases)?;
@@ -85,15 +88,15 @@ fn bases_of(alloc: Global, sections: &Sections<'_>) -> Result<Vec<String>, Alloc
 }
 
 /// Takes the sections of each base, and joins them.
-fn joined_bases(
+fn joined_bases<C: Decode>(
     alloc: Global,
-    sections: &mut Sections<'_>,
+    sections: &mut Sections<C>,
     bases: Vec<String>,
 ) -> Result<BTreeMap<String, String>, AllocError>
     ensures texts { IfOk result (λ found. (q : List ℕ) → text_at found q
-        ≡ joined_text (stands_at sections.old) (map string_bytes bases.items) q) }
-    ensures left { OnOk result ((q : List ℕ) → stands_at sections.new q
-        ≡ left_by (stands_at sections.old) (map string_bytes bases.items) q) }
+        ≡ joined_text (stands_at C.text sections.old) (map string_bytes bases.items) q) }
+    ensures left { OnOk result ((q : List ℕ) → stands_at C.text sections.new q
+        ≡ left_by (stands_at C.text sections.old) (map string_bytes bases.items) q) }
 {
     let mut texts = BTreeMap::new(alloc);
     for base in bases {
@@ -106,8 +109,8 @@ fn joined_bases(
 }
 
 /// The text of a section alone.
-fn text_alone(alloc: Global, section: Section<'_>) -> Result<String, AllocError>
-    ensures { IfOk result (λ text. string_bytes text ≡ alone (section_view section.entry)) }
+fn text_alone<C: Decode>(alloc: Global, section: Section<C>) -> Result<String, AllocError>
+    ensures { IfOk result (λ text. string_bytes text ≡ alone (section_view C.text section)) }
 {
     match section {
         Section::Text(text) => Ok(text),
@@ -134,13 +137,13 @@ fn put_joined(
 }
 
 /// Writes the texts of sections, over what stands at their names.
-fn put_extended(
+fn put_extended<C: Decode>(
     alloc: Global,
     texts: &mut BTreeMap<String, String>,
-    extended: BTreeMap<String, Section<'_>>,
+    extended: BTreeMap<String, Section<C>>,
 ) -> Result<(), AllocError>
     ensures { OnOk result ((q : List ℕ) → text_at texts.new q
-        ≡ option_or (option_map alone (sections_at extended.entry q)) (text_at texts.old q)) }
+        ≡ option_or (option_map alone (sections_at C.text extended q)) (text_at texts.old q)) }
 {
     for (name, section) in extended {
         texts.insert(name, text_alone(alloc, section)?)?;
@@ -149,12 +152,12 @@ fn put_extended(
 }
 
 /// The texts of the bases, and those of the sections that were not joined.
-fn left_and_joined(
+fn left_and_joined<C: Decode>(
     alloc: Global,
-    sections: Sections<'_>,
+    sections: Sections<C>,
 ) -> Result<BTreeMap<String, String>, AllocError>
     ensures { IfOk result (λ texts. (q : List ℕ) → text_at texts q
-        ≡ joined_at (stands_at sections.entry) (names_of_sections sections.entry) q) }
+        ≡ joined_at (stands_at C.text sections) (names_of_sections sections) q) }
 {
     let bases = bases_of(alloc, &sections)?;
     let mut sections = sections;
@@ -188,18 +191,18 @@ fn is_star_free(pairs: &BTreeMap<String, String>) -> bool
 
 /// The parameters that pairs of a key and a value give: extended values are read, and sections are
 /// joined. Where no key holds a star, they are the pairs.
-pub(super) fn resolve(
+pub(super) fn resolve<K: KnownCharsets>(
     alloc: Global,
     pairs: BTreeMap<String, String>,
-    tables: &[SingleByteTable<'_>],
+    known: &K,
 ) -> Result<BTreeMap<String, String>, AllocError>
     ensures { IfOk result (λ texts. (ps : List (List ℕ × List ℕ)) → ((q : List ℕ) →
         text_at pairs q ≡ last_of ps q) → (q : List ℕ) → text_at texts q
-        ≡ parameters_in (charsets_with tables.now) ps q) }
+        ≡ parameters_in (K.known known.now) ps q) }
 {
     if is_star_free(&pairs) {
         return Ok(pairs);
     }
-    let sections = read_sections(alloc, pairs, tables)?;
+    let sections = read_sections(alloc, pairs, known)?;
     left_and_joined(alloc, sections)
 }

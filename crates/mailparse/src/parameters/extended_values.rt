@@ -3,12 +3,10 @@
 ghost use Rattle.std.specs.Prelude.{◌≡◌, ◌<◌, ℕ, List, length, map, option_map, IfOk, if◌then◌else◌};
 ghost use Rattle.std.specs.List.{All};
 ghost use Rattle.std.specs.Option.{is_some};
-ghost use Rattle.mail_codec.specs.Tables.{charsets_with};
 ghost use Rattle.mailparse.specs.ExtendedValues.{reading_of, section_at, text_in};
 ghost use Rattle.mailparse.specs.Pairs.{text_at};
 ghost use Rattle.mailparse.specs.private.ExtendedValues.{IsReading, extended_section, extended_view, names_read, read_section, reading_by, reading_view};
 ghost use Rattle.mailparse.specs.private.Filled.{holds_name};
-ghost use Rattle.mailparse.specs.private.KnownCharset.{known_text};
 ghost use Rattle.mailparse.specs.private.Sections.{section_view, stands_at};
 ghost use Rattle.percent_encoding.specs.Percent.{percent_decode};
 
@@ -18,8 +16,7 @@ mod names;
 use self::charset_sources::charset_sources;
 use self::names::{ExtendedName, extended_names};
 use super::sections::{Section, Sections, numbered};
-use crate::known_charset::KnownCharset;
-use mail_codec::charset::SingleByteTable;
+use mail_codec::charset::{Decode, KnownCharsets};
 use percent_encoding::percent_decode;
 use std::alloc::{AllocError, Global};
 use std::collections::BTreeMap;
@@ -47,14 +44,14 @@ fn octets_of(alloc: Global, encoded: &str) -> Result<Vec<u8>, AllocError>
 }
 
 /// What stands at a name whose extended value has these bytes in this charset.
-fn extended_section<'t>(
+fn extended_section<C: Decode>(
     alloc: Global,
     name: &str,
-    charset: KnownCharset<'t>,
+    charset: C,
     bytes: Vec<u8>,
-) -> Result<Section<'t>, AllocError>
-    ensures { IfOk result (λ section. section_view section
-        ≡ extended_section name.now (known_text charset.entry) bytes.items) }
+) -> Result<Section<C>, AllocError>
+    ensures { IfOk result (λ section. section_view C.text section
+        ≡ extended_section name.now (C.text charset) bytes.items) }
 {
     if numbered(name).is_some() {
         return Ok(Section::Octets(charset, bytes));
@@ -73,26 +70,26 @@ fn encoded_in(value: &str, is_own_source: bool) -> &str
 
 /// How the extended value of a name is read.
 #[derive(Drop)]
-struct Reading<'t> {
+struct Reading<C: Decode> {
     /// The name, without the star.
     name: String,
     /// The charset that the value of its charset source names.
-    charset: KnownCharset<'t>,
+    charset: C,
     /// Whether the name is its own charset source.
     is_own_source: bool,
 }
 
 /// How the value of the name at a place is read, if the label of its charset source is known.
-fn reading_at<'t>(
+fn reading_at<C: Decode>(
     alloc: Global,
-    extended: &[ExtendedName<'_, 't>],
+    extended: &[ExtendedName<'_, C>],
     place: usize,
     source: usize,
-) -> Result<Option<Reading<'t>>, AllocError>
+) -> Result<Option<Reading<C>>, AllocError>
     requires place { place < length extended.now }
     requires source { source < length extended.now }
-    ensures { IfOk result (λ reading. option_map reading_view reading
-        ≡ reading_by (map extended_view extended.now) place source) }
+    ensures { IfOk result (λ reading. option_map (reading_view C.text) reading
+        ≡ reading_by (map (extended_view C.text) extended.now) place source) }
 {
     let Some(charset) = extended[source].charset else {
         return Ok(None);
@@ -105,19 +102,19 @@ fn reading_at<'t>(
 }
 
 /// How the values of the extended names are read, as far as their labels are known.
-fn readings<'t>(
+fn readings<K: KnownCharsets>(
     alloc: Global,
     pairs: &BTreeMap<String, String>,
-    tables: &'t [SingleByteTable<'t>],
-) -> Result<Vec<Reading<'t>>, AllocError>
+    known: &K,
+) -> Result<Vec<Reading<K::Decoder>>, AllocError>
     ensures each { IfOk result (λ found. All
-        (IsReading (charsets_with tables.now) (text_at pairs.now))
-        (map reading_view found.items)) }
+        (IsReading (K.known known.now) (text_at pairs.now))
+        (map (reading_view K.Decoder.text) found.items)) }
     ensures names { IfOk result (λ found. (q : List ℕ) →
         holds_name (names_read found.items) q
-        ≡ is_some (reading_of (charsets_with tables.now) (text_at pairs.now) q)) }
+        ≡ is_some (reading_of (K.known known.now) (text_at pairs.now) q)) }
 {
-    let extended = extended_names(alloc, pairs, tables)?;
+    let extended = extended_names(alloc, pairs, known)?;
     let sources = charset_sources(alloc, extended.as_slice())?;
     let mut found = Vec::new(alloc);
     let mut place = 0;
@@ -131,15 +128,15 @@ fn readings<'t>(
 }
 
 /// What an extended value gives at a name.
-fn read<'t>(
+fn read<C: Decode>(
     alloc: Global,
     name: &str,
     value: &str,
-    charset: KnownCharset<'t>,
+    charset: C,
     is_own_source: bool,
-) -> Result<Section<'t>, AllocError>
-    ensures { IfOk result (λ section. section_view section
-        ≡ read_section (name.now, known_text charset.entry, is_own_source) value.now) }
+) -> Result<Section<C>, AllocError>
+    ensures { IfOk result (λ section. section_view C.text section
+        ≡ read_section (name.now, C.text charset, is_own_source) value.now) }
 {
     let bytes = octets_of(alloc, encoded_in(value, is_own_source))?;
     extended_section(alloc, name, charset, bytes)
@@ -147,15 +144,15 @@ fn read<'t>(
 
 /// What stands at each name once the extended values are read. A key that is read leaves the map
 /// before what it gives is written, so that no value is held twice.
-pub(super) fn read_sections<'t>(
+pub(super) fn read_sections<K: KnownCharsets>(
     alloc: Global,
     pairs: BTreeMap<String, String>,
-    tables: &'t [SingleByteTable<'t>],
-) -> Result<Sections<'t>, AllocError>
-    ensures { IfOk result (λ sections. (q : List ℕ) → stands_at sections q
-        ≡ section_at (charsets_with tables.now) (text_at pairs) q) }
+    known: &K,
+) -> Result<Sections<K::Decoder>, AllocError>
+    ensures { IfOk result (λ sections. (q : List ℕ) → stands_at K.Decoder.text sections q
+        ≡ section_at (K.known known.now) (text_at pairs) q) }
 {
-    let readings = readings(alloc, &pairs, tables)?;
+    let readings = readings(alloc, &pairs, known)?;
     let mut texts = pairs;
     let mut extended = BTreeMap::new(alloc);
     for reading in readings {

@@ -5,31 +5,31 @@ ghost use Rattle.std.specs.Str.{bytes_eq};
 ghost use Rattle.mailparse.specs.Sections.{is_text, numbered};
 ghost use Rattle.mailparse.specs.private.Sections.{section_view, stands_at};
 
-use crate::known_charset::KnownCharset;
+use mail_codec::charset::Decode;
 use std::collections::BTreeMap;
 
 /// What stands at a name once the extended values are read.
 #[derive(Drop)]
-pub(super) enum Section<'t> {
+pub(super) enum Section<C: Decode> {
     /// A text.
     Text(String),
     /// The bytes of an extended section, and the charset that reads them.
-    Octets(KnownCharset<'t>, Vec<u8>),
+    Octets(C, Vec<u8>),
 }
 
 /// What stands at each name: what its extended value gives, otherwise its text.
 #[derive(Drop)]
-pub(super) struct Sections<'t> {
+pub(super) struct Sections<C: Decode> {
     /// The texts that were written as they are, by key.
     pub(super) texts: BTreeMap<String, String>,
     /// What extended values give, by name.
-    pub(super) extended: BTreeMap<String, Section<'t>>,
+    pub(super) extended: BTreeMap<String, Section<C>>,
 }
 
-impl<'t> Sections<'t> {
+impl<C: Decode> Sections<C> {
     /// Whether a text stands at a name.
     pub(super) fn has_text(&self, name: &str) -> bool
-        ensures { result ≡ is_text (stands_at self.now name.now) }
+        ensures { result ≡ is_text (stands_at C.text self.now name.now) }
     {
         match self.extended.get(name) {
             Some(Section::Text(_)) => true,
@@ -39,10 +39,10 @@ impl<'t> Sections<'t> {
     }
 
     /// Takes what stands at a name.
-    pub(super) fn take(&mut self, name: &str) -> Option<Section<'t>>
-        ensures taken { option_map section_view result ≡ stands_at self.old name.now }
-        ensures left { (q : List ℕ) → stands_at self.new q ≡
-            (if bytes_eq name.now q then None else stands_at self.old q) }
+    pub(super) fn take(&mut self, name: &str) -> Option<Section<C>>
+        ensures taken { option_map (section_view C.text) result ≡ stands_at C.text self.old name.now }
+        ensures left { (q : List ℕ) → stands_at C.text self.new q ≡
+            (if bytes_eq name.now q then None else stands_at C.text self.old q) }
     {
         let text = self.texts.remove(name);
         if let Some(section) = self.extended.remove(name) {

@@ -3,7 +3,6 @@ use Rattle.std.specs.Global.{Vec}
 use Rattle.std.proofs.lemmas.List.{map-append}
 use Rattle.std.proofs.lemmas.Option.{IfSome_then}
 use Rattle.std.proofs.lemmas.Result.{err_from_is_err_and}
-use Rattle.mail_codec.specs.Tables.{charsets_with}
 use Rattle.mailparse.specs.Block.{read_headers}
 use Rattle.mailparse.specs.Delimiters.{end_from, first_part, next_part}
 use Rattle.mailparse.specs.Mail.{Tree, tree, Forest, no_parts, forest, dash_boundary_of, read_levels}
@@ -23,25 +22,25 @@ made : (o : Option (Vec ℕ)) (feed_and_dash_boundary : Vec ℕ) (r : Option (Li
 made o feed_and_dash_boundary r e h = sym (ap (option_map (λ (l : Vec ℕ). l.items)) e) ∙ h
 
 pub returns-then-levels-eq0-clause-read : goal.returns-then-levels-eq0-clause-read
-returns-then-levels-eq0-clause-read t c = read_levels-none (charsets_with c.args.tables.now) c.args.levels c.args.in_digest c.args.raw.now c.if-levels-eq0.true
+returns-then-levels-eq0-clause-read g t c = read_levels-none (g.K.KnownCharsets.known c.args.known.now) c.args.levels c.args.in_digest c.args.raw.now c.if-levels-eq0.true
 
 pub returns-in_err-headers-clause-read : goal.returns-in_err-headers-clause-read
-returns-in_err-headers-clause-read t c =
+returns-in_err-headers-clause-read g t c =
     let p = err_from_is_err_and c.from_residual.result c.from_residual.ensures.1 in
     let raw = c.args.raw.now in
     let some : 0 < c.args.levels = omega (arith, c.if-levels-eq0.false) in
-    rw (p.1, p.2) (IsRefusalOrMemory-along c.in_err-headers.field-0.0 (read_headers raw) (read_levels (charsets_with c.args.tables.now) c.args.levels c.args.in_digest raw)
-    (λ r e. read_levels-refused (charsets_with c.args.tables.now) c.args.levels c.args.in_digest raw r some e) c.in_err-headers.ensures.read)
+    rw (p.1, p.2) (IsRefusalOrMemory-along c.in_err-headers.field-0.0 (read_headers raw) (read_levels (g.K.KnownCharsets.known c.args.known.now) c.args.levels c.args.in_digest raw)
+    (λ r e. read_levels-refused (g.K.KnownCharsets.known c.args.known.now) c.args.levels c.args.in_digest raw r some e) c.in_err-headers.ensures.read)
 
 pub returns-in_err-headers-clause-no_alloc : goal.returns-in_err-headers-clause-no_alloc
-returns-in_err-headers-clause-no_alloc t c = λ some none refused.
+returns-in_err-headers-clause-no_alloc g t c = λ some none refused.
     let p = err_from_is_err_and c.from_residual.result c.from_residual.ensures.1 in
     let raw = c.args.raw.now in
-    rw (p.1, p.2) (IsRefusal-along c.in_err-headers.field-0.0 (read_headers raw) (read_levels (charsets_with c.args.tables.now) c.args.levels c.args.in_digest raw)
-    (λ r e. read_levels-refused (charsets_with c.args.tables.now) c.args.levels c.args.in_digest raw r some e) (c.in_err-headers.ensures.no_alloc none))
+    rw (p.1, p.2) (IsRefusal-along c.in_err-headers.field-0.0 (read_headers raw) (read_levels (g.K.KnownCharsets.known c.args.known.now) c.args.levels c.args.in_digest raw)
+    (λ r e. read_levels-refused (g.K.KnownCharsets.known c.args.known.now) c.args.levels c.args.in_digest raw r some e) (c.in_err-headers.ensures.no_alloc none))
 
 pub returns-in_default-clause-read : goal.returns-in_default-clause-read
-returns-in_default-clause-read t c =
+returns-in_default-clause-read g t c =
     let raw = c.args.raw.now in
     let headers = c.in_ok-headers.headers.items in
     let index = c.in_ok-headers.index in
@@ -50,20 +49,20 @@ returns-in_default-clause-read t c =
     let type = sym c.in_ok-ctype.ensures in
     let nothing : None ≡ option_map (λ dash_boundary. 10 ∷ dash_boundary) (dash_boundary_of ctype) = sym (ap (option_map (λ (l : Vec ℕ). l.items)) c.in_default.is) ∙ c.in_ok-feed_and_dash_boundary.ensures in
     let parts : forest (map tree_of c.new.result.items) ≡ no_parts = ap (λ (ms : List ParsedMail). forest (map tree_of ms)) c.new.ensures.items in
-    read_levels-leaf (charsets_with c.args.tables.now) c.args.levels c.args.in_digest raw headers index ctype some c.in_ok-headers.ensures.read type (feed_and_dash_boundary_none (dash_boundary_of ctype) nothing)
+    read_levels-leaf (g.K.KnownCharsets.known c.args.known.now) c.args.levels c.args.in_digest raw headers index ctype some c.in_ok-headers.ensures.read type (feed_and_dash_boundary_none (dash_boundary_of ctype) nothing)
     ∙ ap (λ (f : Forest). Ok (tree (record { bytes = raw; block = take index raw; headers = headers; ctype = ctype; body = slice_range raw index (length raw) }) f)) (sym parts)
     ∙ ap Ok (sym (fold-roll-ParsedMail Tree tree_step _))
 
 pub cut_preamble-end-requires-clause-feed_and_dash_boundary : goal.cut_preamble-end-requires-clause-feed_and_dash_boundary
-cut_preamble-end-requires-clause-feed_and_dash_boundary t c =
+cut_preamble-end-requires-clause-feed_and_dash_boundary g t c =
     rw c.as_slice.ensures.value (IsFeedAndDashBoundary-of c.in-Some.feed_and_dash_boundary.items (content_type c.in_ok-ctype.ctype) (made c.in_ok-feed_and_dash_boundary.field-0 c.in-Some.feed_and_dash_boundary _ c.in-Some.is c.in_ok-feed_and_dash_boundary.ensures))
 
 pub cut_part-part_end-requires-clause-feed_and_dash_boundary : goal.cut_part-part_end-requires-clause-feed_and_dash_boundary
-cut_part-part_end-requires-clause-feed_and_dash_boundary t c =
+cut_part-part_end-requires-clause-feed_and_dash_boundary g t c =
     rw c.as_slice-in-Some-next.ensures.value (IsFeedAndDashBoundary-of c.in-Some.feed_and_dash_boundary.items (content_type c.in_ok-ctype.ctype) (made c.in_ok-feed_and_dash_boundary.field-0 c.in-Some.feed_and_dash_boundary _ c.in-Some.is c.in_ok-feed_and_dash_boundary.ensures))
 
 pub returns-in_err-parse_mail_recursive-clause-read : goal.returns-in_err-parse_mail_recursive-clause-read
-returns-in_err-parse_mail_recursive-clause-read t c =
+returns-in_err-parse_mail_recursive-clause-read g t c =
     let p = err_from_is_err_and c.from_residual-in_err-parse_mail_recursive.result c.from_residual-in_err-parse_mail_recursive.ensures.1 in
     let raw = c.args.raw.now in
     let headers = c.in_ok-headers.headers.items in
@@ -74,21 +73,21 @@ returns-in_err-parse_mail_recursive-clause-read t c =
     let levels = c.args.levels - 1 in
     let some : 0 < c.args.levels = omega (arith, c.if-levels-eq0.false) in
     let type = sym c.in_ok-ctype.ensures in
-    let whole = read_levels-whole (charsets_with c.args.tables.now) c.args.levels c.args.in_digest raw headers index ctype feed_and_dash_boundary digest (end_from (drop 1 feed_and_dash_boundary) raw index index) some c.in_ok-headers.ensures.read type
+    let whole = read_levels-whole (g.K.KnownCharsets.known c.args.known.now) c.args.levels c.args.in_digest raw headers index ctype feed_and_dash_boundary digest (end_from (drop 1 feed_and_dash_boundary) raw index index) some c.in_ok-headers.ensures.read type
     (made c.in_ok-feed_and_dash_boundary.field-0 c.in-Some.feed_and_dash_boundary _ c.in-Some.is c.in_ok-feed_and_dash_boundary.ensures) c.is_digest-is_digest.ensures refl in
     let start = c.in-Some-next.start in
     let part_end = c.cut_part-part_end.result.0 in
     let ends : part_end ≡ end_from (drop 1 feed_and_dash_boundary) raw start (length raw) = c.cut_part-part_end.ensures.end ∙ ap (λ (l : List ℕ). end_from (drop 1 l) raw start (length raw)) c.as_slice-in-Some-next.ensures.value in
-    let all = parts_from (charsets_with c.args.tables.now) levels digest (drop 1 feed_and_dash_boundary) raw (first_part (drop 1 feed_and_dash_boundary) raw index) in
-    let before = subst (λ (o : Option ℕ). with_trees (map tree_of c.loop-next.subparts.items) (parts_from (charsets_with c.args.tables.now) levels digest (drop 1 feed_and_dash_boundary) raw o) ≡ all) c.in-Some-next.is c.loop-next.invariant.all in
-    rw (p.1, p.2) (IsRefusalOrMemory-along c.in_err-parse_mail_recursive.field-0.0 (read_levels (charsets_with c.args.tables.now) levels digest (slice_range raw start part_end))
-    (read_levels (charsets_with c.args.tables.now) c.args.levels c.args.in_digest raw)
+    let all = parts_from (g.K.KnownCharsets.known c.args.known.now) levels digest (drop 1 feed_and_dash_boundary) raw (first_part (drop 1 feed_and_dash_boundary) raw index) in
+    let before = subst (λ (o : Option ℕ). with_trees (map tree_of c.loop-next.subparts.items) (parts_from (g.K.KnownCharsets.known c.args.known.now) levels digest (drop 1 feed_and_dash_boundary) raw o) ≡ all) c.in-Some-next.is c.loop-next.invariant.all in
+    rw (p.1, p.2) (IsRefusalOrMemory-along c.in_err-parse_mail_recursive.field-0.0 (read_levels (g.K.KnownCharsets.known c.args.known.now) levels digest (slice_range raw start part_end))
+    (read_levels (g.K.KnownCharsets.known c.args.known.now) c.args.levels c.args.in_digest raw)
     (λ r e. whole ∙ ap (read_map (tree (record { bytes = raw; block = take index raw; headers = headers; ctype = ctype; body = slice_range raw index (end_from (drop 1 feed_and_dash_boundary) raw index index) })))
-    (parts_refused (charsets_with c.args.tables.now) levels digest (drop 1 feed_and_dash_boundary) raw (map tree_of c.loop-next.subparts.items) all start part_end r ends e before))
+    (parts_refused (g.K.KnownCharsets.known c.args.known.now) levels digest (drop 1 feed_and_dash_boundary) raw (map tree_of c.loop-next.subparts.items) all start part_end r ends e before))
     c.in_err-parse_mail_recursive.ensures.read)
 
 pub loop-next-preserved : goal.loop-next-preserved
-loop-next-preserved t c =
+loop-next-preserved g t c =
     let raw = c.args.raw.now in
     let index = c.in_ok-headers.index in
     let feed_and_dash_boundary = c.in-Some.feed_and_dash_boundary.items in
@@ -99,15 +98,15 @@ loop-next-preserved t c =
     let after = c.cut_part-part_end.result.1 in
     let ends : part_end ≡ end_from (drop 1 feed_and_dash_boundary) raw start (length raw) = c.cut_part-part_end.ensures.end ∙ ap (λ (l : List ℕ). end_from (drop 1 l) raw start (length raw)) c.as_slice-in-Some-next.ensures.value in
     let next : after ≡ next_part (drop 1 feed_and_dash_boundary) raw start = c.cut_part-part_end.ensures.next ∙ ap (λ (l : List ℕ). next_part (drop 1 l) raw start) c.as_slice-in-Some-next.ensures.value in
-    let all = parts_from (charsets_with c.args.tables.now) levels digest (drop 1 feed_and_dash_boundary) raw (first_part (drop 1 feed_and_dash_boundary) raw index) in
-    let before = subst (λ (o : Option ℕ). with_trees (map tree_of c.loop-next.subparts.items) (parts_from (charsets_with c.args.tables.now) levels digest (drop 1 feed_and_dash_boundary) raw o) ≡ all) c.in-Some-next.is c.loop-next.invariant.all in
+    let all = parts_from (g.K.KnownCharsets.known c.args.known.now) levels digest (drop 1 feed_and_dash_boundary) raw (first_part (drop 1 feed_and_dash_boundary) raw index) in
+    let before = subst (λ (o : Option ℕ). with_trees (map tree_of c.loop-next.subparts.items) (parts_from (g.K.KnownCharsets.known c.args.known.now) levels digest (drop 1 feed_and_dash_boundary) raw o) ≡ all) c.in-Some-next.is c.loop-next.invariant.all in
     let part = c.in_ok-parse_mail_recursive.field-0 in
     let pushed : map tree_of c.push.new.self.items ≡ map tree_of c.loop-next.subparts.items ++ tree_of part ∷ [] =
     ap (map tree_of) c.in_ok-push.ensures.items ∙ map-append tree_of c.loop-next.subparts.items (part ∷ []) in
     record {
       within = IfSome_then after c.cut_part-part_end.ensures.bounds.2 (λ x bounds. bounds.1);
-      all = ap (λ (ts : List Tree). with_trees ts (parts_from (charsets_with c.args.tables.now) levels digest (drop 1 feed_and_dash_boundary) raw after)) pushed
-          ∙ parts_step (charsets_with c.args.tables.now) levels digest (drop 1 feed_and_dash_boundary) raw (map tree_of c.loop-next.subparts.items) all start part_end after (tree_of part) ends next
+      all = ap (λ (ts : List Tree). with_trees ts (parts_from (g.K.KnownCharsets.known c.args.known.now) levels digest (drop 1 feed_and_dash_boundary) raw after)) pushed
+          ∙ parts_step (g.K.KnownCharsets.known c.args.known.now) levels digest (drop 1 feed_and_dash_boundary) raw (map tree_of c.loop-next.subparts.items) all start part_end after (tree_of part) ends next
           c.in_ok-parse_mail_recursive.ensures.read before;
       placed =
           let placed = subst (λ (o : Option ℕ). ArePlaced c.args.offset (drop 1 feed_and_dash_boundary) raw (first_part (drop 1 feed_and_dash_boundary) raw index) o c.loop-next.subparts.items) c.in-Some-next.is c.loop-next.invariant.placed in
@@ -117,7 +116,7 @@ loop-next-preserved t c =
     }
 
 pub returns-clause-read : goal.returns-clause-read
-returns-clause-read t c =
+returns-clause-read g t c =
     let raw = c.args.raw.now in
     let headers = c.in_ok-headers.headers.items in
     let index = c.in_ok-headers.index in
@@ -129,12 +128,12 @@ returns-clause-read t c =
     let type = sym c.in_ok-ctype.ensures in
     let end = c.cut_preamble-end.result.0 in
     let ends : end ≡ end_from (drop 1 feed_and_dash_boundary) raw index index = c.cut_preamble-end.ensures.end ∙ ap (λ (l : List ℕ). end_from (drop 1 l) raw index index) c.as_slice.ensures.value in
-    let whole = read_levels-whole (charsets_with c.args.tables.now) c.args.levels c.args.in_digest raw headers index ctype feed_and_dash_boundary digest end some c.in_ok-headers.ensures.read type
+    let whole = read_levels-whole (g.K.KnownCharsets.known c.args.known.now) c.args.levels c.args.in_digest raw headers index ctype feed_and_dash_boundary digest end some c.in_ok-headers.ensures.read type
     (made c.in_ok-feed_and_dash_boundary.field-0 c.in-Some.feed_and_dash_boundary _ c.in-Some.is c.in_ok-feed_and_dash_boundary.ensures) c.is_digest-is_digest.ensures ends in
-    let all = parts_from (charsets_with c.args.tables.now) levels digest (drop 1 feed_and_dash_boundary) raw (first_part (drop 1 feed_and_dash_boundary) raw index) in
-    let done = subst (λ (o : Option ℕ). with_trees (map tree_of c.loop-next.subparts.items) (parts_from (charsets_with c.args.tables.now) levels digest (drop 1 feed_and_dash_boundary) raw o) ≡ all) c.in_default-next.is c.loop-next.invariant.all in
+    let all = parts_from (g.K.KnownCharsets.known c.args.known.now) levels digest (drop 1 feed_and_dash_boundary) raw (first_part (drop 1 feed_and_dash_boundary) raw index) in
+    let done = subst (λ (o : Option ℕ). with_trees (map tree_of c.loop-next.subparts.items) (parts_from (g.K.KnownCharsets.known c.args.known.now) levels digest (drop 1 feed_and_dash_boundary) raw o) ≡ all) c.in_default-next.is c.loop-next.invariant.all in
     whole ∙ ap (read_map (tree (record { bytes = raw; block = take index raw; headers = headers; ctype = ctype; body = slice_range raw index end })))
-    (parts_end (charsets_with c.args.tables.now) levels digest (drop 1 feed_and_dash_boundary) raw (map tree_of c.loop-next.subparts.items) all done)
+    (parts_end (g.K.KnownCharsets.known c.args.known.now) levels digest (drop 1 feed_and_dash_boundary) raw (map tree_of c.loop-next.subparts.items) all done)
     ∙ ap Ok (sym (fold-roll-ParsedMail Tree tree_step _))
 
 -- a message whose body ends at a place
@@ -143,7 +142,7 @@ own offset size index end = record { whole = record { start = offset; end = offs
 
 pub returns-in_default-clause-places : goal.returns-in_default-clause-places
 unfolding own
-returns-in_default-clause-places t c =
+returns-in_default-clause-places g t c =
     let raw = c.args.raw.now in
     let offset = c.args.offset in
     let headers = c.in_ok-headers.headers.items in
@@ -162,7 +161,7 @@ returns-in_default-clause-places t c =
 
 pub returns-clause-places : goal.returns-clause-places
 unfolding own
-returns-clause-places t c =
+returns-clause-places g t c =
     let raw = c.args.raw.now in
     let offset = c.args.offset in
     let headers = c.in_ok-headers.headers.items in

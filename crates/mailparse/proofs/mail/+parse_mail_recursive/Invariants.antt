@@ -1,6 +1,5 @@
 -- The parts that were read, and then what is read of the others, are all; and so they stand.
 use Rattle.std.proofs.Common.{◌≡◌, ◌≤◌, ◌-◌, ℕ, suc, drop, length, map, Option, Some, None, IfSome}
-use Rattle.mail_codec.specs.Tables.{charsets_with}
 use Rattle.mailparse.specs.Delimiters.{first_part}
 use Rattle.mailparse.specs.Views.{tree_of}
 use Rattle.mailparse.proofs.lemmas.Mail.{with_trees, parts_from}
@@ -8,7 +7,7 @@ use Rattle.mailparse.proofs.lemmas.Placement.{ArePlaced}
 use Rattle.mailparse.proofs.mail.«+parse_mail_recursive».Given as goal
 
 abbrev pub decreases-parse_mail_recursive : goal.decreases-parse_mail_recursive
-decreases-parse_mail_recursive l = l.levels
+decreases-parse_mail_recursive g l = l.levels
 
 -- how many bytes are left
 abbrev left : ℕ → Option ℕ → ℕ
@@ -16,12 +15,12 @@ left size None = 0
 left size (Some start) = suc (size - start)
 
 abbrev pub invariant-loop-next : goal.invariant-loop-next
-invariant-loop-next l = record {
+invariant-loop-next g l = record {
   within : IfSome l.next (λ s. s ≤ length l.raw);
-  all : with_trees (map tree_of l.subparts.items) (parts_from (charsets_with l.tables) (l.levels - 1) l.is_digest (drop 1 l.feed_and_dash_boundary.items) l.raw l.next)
-      ≡ parts_from (charsets_with l.tables) (l.levels - 1) l.is_digest (drop 1 l.feed_and_dash_boundary.items) l.raw (first_part (drop 1 l.feed_and_dash_boundary.items) l.raw l.index);
+  all : with_trees (map tree_of l.subparts.items) (parts_from (g.K.KnownCharsets.known l.known) (l.levels - 1) l.is_digest (drop 1 l.feed_and_dash_boundary.items) l.raw l.next)
+      ≡ parts_from (g.K.KnownCharsets.known l.known) (l.levels - 1) l.is_digest (drop 1 l.feed_and_dash_boundary.items) l.raw (first_part (drop 1 l.feed_and_dash_boundary.items) l.raw l.index);
   placed : ArePlaced l.offset (drop 1 l.feed_and_dash_boundary.items) l.raw (first_part (drop 1 l.feed_and_dash_boundary.items) l.raw l.index) l.next l.subparts.items;
 }
 
 abbrev pub decreases-loop-next : goal.decreases-loop-next
-decreases-loop-next l = left (length l.raw) l.next
+decreases-loop-next g l = left (length l.raw) l.next

@@ -3,25 +3,24 @@ ghost use Rattle.std.specs.Prelude.{◌≡◌, ◌∷◌, ◌++◌, [], List, No
 ghost use Rattle.mailparse.specs.Continuations.{joined, run_text};
 ghost use Rattle.mailparse.specs.Sections as words;
 ghost use Rattle.mailparse.specs.private.Continuations.{joined_with};
-ghost use Rattle.mailparse.specs.private.KnownCharset.{known_text};
 ghost use Rattle.mailparse.specs.private.Sections.{section_view};
 
-use crate::known_charset::KnownCharset;
 use crate::parameters::sections::Section;
+use mail_codec::charset::Decode;
 use std::alloc::{AllocError, Global};
 
 /// The text so far, and the run of bytes that is still to be read.
 #[derive(Drop)]
-pub(super) struct Joining<'t> {
+pub(super) struct Joining<C: Decode> {
     text: String,
     run: Vec<u8>,
-    charset: Option<KnownCharset<'t>>,
+    charset: Option<C>,
 }
 
-impl<'t> Joining<'t> {
+impl<C: Decode> Joining<C> {
     /// No sections yet.
-    pub(super) fn new(alloc: Global) -> Joining<'t>
-        ensures { (sections : List words.Section) → joined_with result sections ≡ joined sections }
+    pub(super) fn new(alloc: Global) -> Joining<C>
+        ensures { (sections : List words.Section) → joined_with C.text result sections ≡ joined sections }
     {
         Joining {
             text: String::new(alloc),
@@ -33,7 +32,7 @@ impl<'t> Joining<'t> {
     /// The text of the run.
     fn run_text(&self, alloc: Global) -> Result<String, AllocError>
         ensures { IfOk result (λ text. string_bytes text
-            ≡ run_text (option_map known_text self.now.charset) self.now.run.items) }
+            ≡ run_text (option_map C.text self.now.charset) self.now.run.items) }
     {
         match self.charset {
             Some(charset) => charset.decode_without_bom_handling(alloc, self.run.as_slice()),
@@ -44,7 +43,7 @@ impl<'t> Joining<'t> {
     /// Ends the run, and joins its text.
     fn close(&mut self, alloc: Global) -> Result<(), AllocError>
         ensures text { OnOk result (string_bytes self.new.text ≡ string_bytes self.old.text
-            ++ run_text (option_map known_text self.old.charset) self.old.run.items) }
+            ++ run_text (option_map C.text self.old.charset) self.old.run.items) }
         ensures run { OnOk result (self.new.run.items ≡ []) }
         ensures charset { OnOk result (self.new.charset ≡ None) }
     {
@@ -56,9 +55,9 @@ impl<'t> Joining<'t> {
     }
 
     /// Joins one more section.
-    pub(super) fn push(&mut self, alloc: Global, section: &Section<'t>) -> Result<(), AllocError>
+    pub(super) fn push(&mut self, alloc: Global, section: &Section<C>) -> Result<(), AllocError>
         ensures { OnOk result ((rest : List words.Section) →
-            joined_with self.old (section_view section.now ∷ rest) ≡ joined_with self.new rest) }
+            joined_with C.text self.old (section_view C.text section.now ∷ rest) ≡ joined_with C.text self.new rest) }
     {
         match section {
             Section::Text(text) => {
@@ -75,7 +74,7 @@ impl<'t> Joining<'t> {
 
     /// The text of all sections.
     pub(super) fn finish(mut self, alloc: Global) -> Result<String, AllocError>
-        ensures { IfOk result (λ text. string_bytes text ≡ joined_with self.entry []) }
+        ensures { IfOk result (λ text. string_bytes text ≡ joined_with C.text self []) }
     {
         self.close(alloc)?;
         Ok(self.text)

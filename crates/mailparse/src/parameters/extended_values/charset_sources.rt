@@ -4,6 +4,7 @@ ghost use Rattle.mailparse.specs.private.CharsetSources.{AreInOrder, source_plac
 ghost use Rattle.mailparse.specs.private.ExtendedValues.{names_of};
 
 use super::names::ExtendedName;
+use mail_codec::charset::Decode;
 use std::alloc::{AllocError, Global};
 
 /// How many bytes two names share at the front.
@@ -18,7 +19,10 @@ fn shared_len(left: &[u8], right: &[u8]) -> usize
 
 /// How many bytes each name shares with the next, so that long names that begin alike are compared
 /// once and not for each candidate.
-fn shared_lens(alloc: Global, extended: &[ExtendedName<'_, '_>]) -> Result<Vec<usize>, AllocError>
+fn shared_lens<C: Decode>(
+    alloc: Global,
+    extended: &[ExtendedName<'_, C>],
+) -> Result<Vec<usize>, AllocError>
     ensures { IfOk result (λ shared. shared.items ≡ shared_lens extended.now) }
 {
     let mut shared = Vec::with_capacity(alloc, extended.len())?;
@@ -90,7 +94,12 @@ fn write_range(places: &mut Vec<usize>, first: usize, end: usize, place: usize)
 
 /// Where the name at a place is that of an initial section, offers it as the charset source of
 /// those that begin with it, less its last byte.
-fn offer(extended: &[ExtendedName<'_, '_>], shared: &[usize], place: usize, places: &mut Vec<usize>)
+fn offer<C: Decode>(
+    extended: &[ExtendedName<'_, C>],
+    shared: &[usize],
+    place: usize,
+    places: &mut Vec<usize>,
+)
     requires within { place < length extended.now }
     requires shared { shared.now ≡ shared_lens extended.now }
     requires room { length places.old.items ≡ length extended.now }
@@ -112,9 +121,9 @@ fn offer(extended: &[ExtendedName<'_, '_>], shared: &[usize], place: usize, plac
 }
 
 /// The place of the charset source of each name: of its last candidate, otherwise its own.
-pub(super) fn charset_sources(
+pub(super) fn charset_sources<C: Decode>(
     alloc: Global,
-    extended: &[ExtendedName<'_, '_>],
+    extended: &[ExtendedName<'_, C>],
 ) -> Result<Vec<usize>, AllocError>
     ensures len { IfOk result (λ places. length places.items ≡ length extended.now) }
     ensures sources { AreInOrder (names_of extended.now) → IfOk result (λ places. (k : ℕ) →

@@ -1,18 +1,17 @@
 -- The line shows what was shown so far, and after it the tokens of any ranges that fit the line from `start` on.
 use Rattle.std.proofs.Common.{◌≤◌, ◌-◌, ◌+◌, length}
 use Rattle.std.specs.Str.{IsCharBoundary}
-use Rattle.mail_codec.specs.Tables.{charsets_with}
 use Rattle.mailparse.specs.private.Cuts.{KeepsClosing}
 use Rattle.mailparse.proofs.lemmas.Shown.{Completes}
 use Rattle.mailparse.proofs.header.tokens.push_line.Given as goal
 
 abbrev pub invariant-loop-open : goal.invariant-loop-open
-invariant-loop-open l = record {
+invariant-loop-open g l = record {
   in_line : l.start ≤ length l.line;
   boundary : IsCharBoundary l.line l.start;
-  completes : Completes (charsets_with l.tables) l.line l.start l.fn.shown l.shown;
+  completes : Completes (g.K.KnownCharsets.known l.known) l.line l.start l.fn.shown l.shown;
   keeps : KeepsClosing l.line (l.start + 2) l.close;
 }
 
 abbrev pub decreases-loop-open : goal.decreases-loop-open
-decreases-loop-open l = length l.line - l.start
+decreases-loop-open g l = length l.line - l.start

@@ -1,13 +1,12 @@
 -- The value so far is what the lines so far show.
 use Rattle.std.proofs.Common.{◌≡◌, eqb, length}
-use Rattle.mail_codec.specs.Tables.{charsets_with}
 use Rattle.mailparse.specs.Value.{tokens_of_lines}
 use Rattle.mailparse.specs.private.Shown.{Shows}
 use Rattle.mailparse.proofs.lemmas.ValueLines.{trimmed}
 use Rattle.mailparse.proofs.header.value.unfolded_value.Given as goal
 
 abbrev pub invariant-loop-line : goal.invariant-loop-line
-invariant-loop-line l = record {
+invariant-loop-line g l = record {
   first : l.is_first ≡ eqb (length l.yielded) 0;
-  shown : Shows l.initial.shown (tokens_of_lines (charsets_with l.tables) (trimmed l.yielded)) l.shown;
+  shown : Shows l.initial.shown (tokens_of_lines (g.K.KnownCharsets.known l.known) (trimmed l.yielded)) l.shown;
 }

@@ -7,4 +7,4 @@ use Rattle.mailparse.proofs.lemmas.Filled.{shown_name}
 use Rattle.mailparse.proofs.parameters.continuations.add_bases.Given as goal
 
 abbrev pub invariant-loop-name : goal.invariant-loop-name
-invariant-loop-name g l = map string_bytes l.bases.items ≡ map string_bytes l.initial.bases.items ++ bases_of_sections_0 (stands_at l.sections) (map shown_name l.yielded)
+invariant-loop-name g l = map string_bytes l.bases.items ≡ map string_bytes l.initial.bases.items ++ bases_of_sections_0 (stands_at g.C.Decode.text l.sections) (map shown_name l.yielded)

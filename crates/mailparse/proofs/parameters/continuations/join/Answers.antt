@@ -10,65 +10,65 @@ use Rattle.mailparse.proofs.lemmas.ContinuationsTaken.{next_stands, taken_next, 
 use Rattle.mailparse.proofs.parameters.continuations.join.Goals as goal
 
 pub returns-in_default-clause-text : goal.returns-in_default-clause-text
-returns-in_default-clause-text c =
-    let at = stands_at c.args.sections.now in
+returns-in_default-clause-text g c =
+    let at = stands_at g.C.Decode.text c.args.sections.now in
     let base = c.args.base.now in
     let count = c.loop-count.count in
     let below : count < 2 ^ 64 = let l = c.loop-count-test.true in omega (arith, l) in
     let name : c.as_str.result.now ≡ section_name base count = c.as_str.ensures.value ∙ c.in_ok-name.ensures.ok in
-    let none = sym (next_stands at (stands_at c.loop-count.sections) base count below c.loop-count.invariant.left) ∙ ap (stands_at c.loop-count.sections) (sym name)
+    let none = sym (next_stands at (stands_at g.C.Decode.text c.loop-count.sections) base count below c.loop-count.invariant.left) ∙ ap (stands_at g.C.Decode.text c.loop-count.sections) (sym name)
     ∙ sym c.in_default.ensures.taken in
     let end = sections_none at base (most_sections - count) count none in
-    IfOk-weaker c.finish.result _ _ (λ text is. is ∙ ap (joined_with c.loop-count.joining) (sym end) ∙ c.loop-count.invariant.text ∙ ap joined (sym (sections_are at c.args.base.now))) c.finish.ensures
+    IfOk-weaker c.finish.result _ _ (λ text is. is ∙ ap (joined_with g.C.Decode.text c.loop-count.joining) (sym end) ∙ c.loop-count.invariant.text ∙ ap joined (sym (sections_are at c.args.base.now))) c.finish.ensures
 
 pub returns-in_default-clause-left : goal.returns-in_default-clause-left
-returns-in_default-clause-left c =
-    let at = stands_at c.args.sections.now in
+returns-in_default-clause-left g c =
+    let at = stands_at g.C.Decode.text c.args.sections.now in
     let base = c.args.base.now in
     let count = c.loop-count.count in
     let below : count < 2 ^ 64 = let l = c.loop-count-test.true in omega (arith, l) in
     let name : c.as_str.result.now ≡ section_name base count = c.as_str.ensures.value ∙ c.in_ok-name.ensures.ok in
-    let none = sym (next_stands at (stands_at c.loop-count.sections) base count below c.loop-count.invariant.left) ∙ ap (stands_at c.loop-count.sections) (sym name)
+    let none = sym (next_stands at (stands_at g.C.Decode.text c.loop-count.sections) base count below c.loop-count.invariant.left) ∙ ap (stands_at g.C.Decode.text c.loop-count.sections) (sym name)
     ∙ sym c.in_default.ensures.taken in
     let end = sections_none at base (most_sections - count) count none in
     let long = ap length end in
     let whole : count ≡ length (sections_of at base) = omega (arith, long, c.loop-count.invariant.count, ap length (sections_are at base)) in
     IfOk-weaker c.finish.result _ _
     (λ text is q.
-    taken_none at base count q (stands_at c.loop-count.sections q) _ (c.loop-count.invariant.left q) none
-    (c.in_default.ensures.left q ∙ ap (λ n. cond (bytes_eq n q) None (stands_at c.loop-count.sections q)) name)
+    taken_none at base count q (stands_at g.C.Decode.text c.loop-count.sections q) _ (c.loop-count.invariant.left q) none
+    (c.in_default.ensures.left q ∙ ap (λ n. cond (bytes_eq n q) None (stands_at g.C.Decode.text c.loop-count.sections q)) name)
     ∙ ap (λ n. without_sections at base n q) whole)
     c.finish.ensures
 
 pub loop-count-preserved : goal.loop-count-preserved
-loop-count-preserved c =
-    let at = stands_at c.args.sections.now in
+loop-count-preserved g c =
+    let at = stands_at g.C.Decode.text c.args.sections.now in
     let base = c.args.base.now in
     let count = c.loop-count.count in
     let below : count < 2 ^ 64 = let l = c.loop-count-test.true in omega (arith, l) in
     let name : c.as_str.result.now ≡ section_name base count = c.as_str.ensures.value ∙ c.in_ok-name.ensures.ok in
-    let some : at (section_name base count) ≡ Some (section_view c.in-Some.section) =
-    sym (next_stands at (stands_at c.loop-count.sections) base count below c.loop-count.invariant.left) ∙ ap (stands_at c.loop-count.sections) (sym name)
+    let some : at (section_name base count) ≡ Some (section_view g.C.Decode.text c.in-Some.section) =
+    sym (next_stands at (stands_at g.C.Decode.text c.loop-count.sections) base count below c.loop-count.invariant.left) ∙ ap (stands_at g.C.Decode.text c.loop-count.sections) (sym name)
     ∙ sym c.in-Some.ensures.taken in
-    let step = sections_some at base most_sections count (section_view c.in-Some.section) (omega (arith, most, c.loop-count-test.true)) some in
+    let step = sections_some at base most_sections count (section_view g.C.Decode.text c.in-Some.section) (omega (arith, most, c.loop-count-test.true)) some in
     record {
       bound = omega (arith, c.loop-count-test.true);
       left = λ q.
-          taken_next at base count q (stands_at c.loop-count.sections q) _ below (c.loop-count.invariant.left q)
-          (c.in-Some.ensures.left q ∙ ap (λ n. cond (bytes_eq n q) None (stands_at c.loop-count.sections q)) name);
-      text = sym (c.in_ok-push.ensures _) ∙ ap (joined_with c.loop-count.joining) (sym step) ∙ c.loop-count.invariant.text;
+          taken_next at base count q (stands_at g.C.Decode.text c.loop-count.sections q) _ below (c.loop-count.invariant.left q)
+          (c.in-Some.ensures.left q ∙ ap (λ n. cond (bytes_eq n q) None (stands_at g.C.Decode.text c.loop-count.sections q)) name);
+      text = sym (c.in_ok-push.ensures _) ∙ ap (joined_with g.C.Decode.text c.loop-count.joining) (sym step) ∙ c.loop-count.invariant.text;
       count = let long = ap length step in omega (arith, long, c.loop-count.invariant.count);
     }
 
 pub returns-clause-text : goal.returns-clause-text
-returns-clause-text c =
-    let at = stands_at c.args.sections.now in
+returns-clause-text g c =
+    let at = stands_at g.C.Decode.text c.args.sections.now in
     let end = sections_end at c.args.base.now most_sections c.loop-count.count (omega (arith, most, c.loop-count-test.false)) in
-    IfOk-weaker c.finish-2.result _ _ (λ text is. is ∙ ap (joined_with c.loop-count.joining) (sym end) ∙ c.loop-count.invariant.text ∙ ap joined (sym (sections_are at c.args.base.now))) c.finish-2.ensures
+    IfOk-weaker c.finish-2.result _ _ (λ text is. is ∙ ap (joined_with g.C.Decode.text c.loop-count.joining) (sym end) ∙ c.loop-count.invariant.text ∙ ap joined (sym (sections_are at c.args.base.now))) c.finish-2.ensures
 
 pub returns-clause-left : goal.returns-clause-left
-returns-clause-left c =
-    let at = stands_at c.args.sections.now in
+returns-clause-left g c =
+    let at = stands_at g.C.Decode.text c.args.sections.now in
     let base = c.args.base.now in
     let end = sections_end at base most_sections c.loop-count.count (omega (arith, most, c.loop-count-test.false)) in
     let long = ap length end in

@@ -12,9 +12,9 @@ use Rattle.mailparse.proofs.lemmas.ContinuationsTaken.{all_sections, joined_agai
 use Rattle.mailparse.proofs.parameters.continuations.joined_bases.Goals as goal
 
 pub loop-base-preserved-in_ok-insert-2 : goal.loop-base-preserved-in_ok-insert-2
-loop-base-preserved-in_ok-insert-2 c =
-    let at = stands_at c.args.sections.now in
-    let now = stands_at c.loop-base.sections in
+loop-base-preserved-in_ok-insert-2 g c =
+    let at = stands_at g.C.Decode.text c.args.sections.now in
+    let now = stands_at g.C.Decode.text c.loop-base.sections in
     let base = string_bytes c.in-Some.base in
     let bases = map string_bytes c.loop-base.yielded in
     let pushed = sym (map_push string_bytes c.loop-base.yielded c.in-Some.base) in
@@ -35,8 +35,8 @@ loop-base-preserved-in_ok-insert-2 c =
     }
 
 pub loop-base-preserved : goal.loop-base-preserved
-loop-base-preserved c =
-    let at = stands_at c.args.sections.now in
+loop-base-preserved g c =
+    let at = stands_at g.C.Decode.text c.args.sections.now in
     let base = string_bytes c.in-Some.base in
     let bases = map string_bytes c.loop-base.yielded in
     let pushed = sym (map_push string_bytes c.loop-base.yielded c.in-Some.base) in
@@ -45,5 +45,5 @@ loop-base-preserved c =
     ∙ ap (λ n. is_some (text_at c.loop-base.texts n)) (sym c.as_str.ensures.value) ∙ is_some_map string_bytes _ ∙ sym c.if-not-contains_key.ensures in
     record {
       texts = λ q. joined_again at bases base q (text_at c.loop-base.texts q) (c.loop-base.invariant.texts q) held ∙ ap (λ bs. joined_text at bs q) pushed;
-      left = λ q. left_again at bases base q (stands_at c.loop-base.sections q) held (c.loop-base.invariant.left q) ∙ ap (λ bs. left_by at bs q) pushed;
+      left = λ q. left_again at bases base q (stands_at g.C.Decode.text c.loop-base.sections q) held (c.loop-base.invariant.left q) ∙ ap (λ bs. left_by at bs q) pushed;
     }

@@ -7,7 +7,7 @@ use Rattle.mailparse.specs.private.Sections.{stands_at}
 use Rattle.mailparse.proofs.parameters.continuations.joined_bases.Given as goal
 
 abbrev pub invariant-loop-base : goal.invariant-loop-base
-invariant-loop-base l = record {
-  texts : (q : List ℕ) → text_at l.texts q ≡ joined_text (stands_at l.initial.sections) (map string_bytes l.yielded) q;
-  left : (q : List ℕ) → stands_at l.sections q ≡ left_by (stands_at l.initial.sections) (map string_bytes l.yielded) q;
+invariant-loop-base g l = record {
+  texts : (q : List ℕ) → text_at l.texts q ≡ joined_text (stands_at g.C.Decode.text l.initial.sections) (map string_bytes l.yielded) q;
+  left : (q : List ℕ) → stands_at g.C.Decode.text l.sections q ≡ left_by (stands_at g.C.Decode.text l.initial.sections) (map string_bytes l.yielded) q;
 }

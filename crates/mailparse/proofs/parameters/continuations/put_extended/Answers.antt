@@ -17,17 +17,17 @@ use Rattle.mailparse.proofs.lemmas.Sections.{names_taken, unnamed}
 use Rattle.mailparse.proofs.parameters.continuations.put_extended.Goals as goal
 
 pub loop-name-preserved-in_ok-insert : goal.loop-name-preserved-in_ok-insert
-loop-name-preserved-in_ok-insert c = λ q.
+loop-name-preserved-in_ok-insert g c = λ q.
     let t = text_at c.args.texts.now in
-    let p = sections_at c.args.extended in
+    let p = sections_at g.C.Decode.text c.args.extended in
     let name = string_bytes c.in-Some.name in
     let names = map taken_name c.loop-name.yielded in
-    let e : String Global × Section = (c.in-Some.name, c.in-Some.section) in
+    let e : String Global × Section g.row.C.Denot = (c.in-Some.name, c.in-Some.section) in
     let gives = c.into_iter-name-iterator.ensures.into_iter_gives in
     let turn : get string_cmp c.args.extended c.in-Some.name ≡ Some c.in-Some.section =
-    All-turn (λ x. x) (λ (e : String Global × Section). get string_cmp c.args.extended e.0 ≡ Some e.1) c.args.extended.entries c.loop-name.yielded _ _ _ _ _
+    All-turn (λ x. x) (λ (e : String Global × Section g.row.C.Denot). get string_cmp c.args.extended e.0 ≡ Some e.1) c.args.extended.entries c.loop-name.yielded _ _ _ _ _
     (All-found string_cmp_total c.args.extended gives.5) gives.0 c.loop-name.yielded_by c.in-Some.is c.next.ensures.steps in
-    let is = ap (λ o. option_or (option_map alone (option_map section_view o)) (t name)) turn in
+    let is = ap (λ o. option_or (option_map alone (option_map (section_view g.C.Decode.text) o)) (t name)) turn in
     filled_push (λ z. option_or (option_map alone (p z)) (t z)) t names name q (text_at c.loop-name.texts q) _ (c.loop-name.invariant q)
     (stored string_bytes name c.loop-name.texts c.insert.new.self c.in_ok-text_alone.field-0 c.in_ok-insert.ensures.updates q
     ∙ ap (λ v. cond (bytes_eq name q) (Some v) (text_at c.loop-name.texts q)) c.in_ok-text_alone.ensures
@@ -35,17 +35,17 @@ loop-name-preserved-in_ok-insert c = λ q.
     ∙ ap (λ ns. filled (λ z. option_or (option_map alone (p z)) (t z)) t ns q) (sym (map_push taken_name c.loop-name.yielded e))
 
 pub loop-name-preserved : goal.loop-name-preserved
-loop-name-preserved c = λ q.
+loop-name-preserved g c = λ q.
     let t = text_at c.args.texts.now in
-    let p = sections_at c.args.extended in
+    let p = sections_at g.C.Decode.text c.args.extended in
     let name = string_bytes c.in-Some.name in
     let names = map taken_name c.loop-name.yielded in
-    let e : String Global × Section = (c.in-Some.name, c.in-Some.section) in
+    let e : String Global × Section g.row.C.Denot = (c.in-Some.name, c.in-Some.section) in
     let gives = c.into_iter-name-iterator.ensures.into_iter_gives in
     let turn : get string_cmp c.args.extended c.in-Some.name ≡ Some c.in-Some.section =
-    All-turn (λ x. x) (λ (e : String Global × Section). get string_cmp c.args.extended e.0 ≡ Some e.1) c.args.extended.entries c.loop-name.yielded _ _ _ _ _
+    All-turn (λ x. x) (λ (e : String Global × Section g.row.C.Denot). get string_cmp c.args.extended e.0 ≡ Some e.1) c.args.extended.entries c.loop-name.yielded _ _ _ _ _
     (All-found string_cmp_total c.args.extended gives.5) gives.0 c.loop-name.yielded_by c.in-Some.is c.next.ensures.steps in
-    let is = ap (λ o. option_or (option_map alone (option_map section_view o)) (t name)) turn in
+    let is = ap (λ o. option_or (option_map alone (option_map (section_view g.C.Decode.text) o)) (t name)) turn in
     filled_push (λ z. option_or (option_map alone (p z)) (t z)) t names name q (text_at c.loop-name.texts q) _ (c.loop-name.invariant q)
     (stored string_bytes name c.loop-name.texts c.insert.new.self c.in_ok-text_alone.field-0 c.in_ok-insert.ensures.updates q
     ∙ ap (λ v. cond (bytes_eq name q) (Some v) (text_at c.loop-name.texts q)) c.in_ok-text_alone.ensures
@@ -53,10 +53,10 @@ loop-name-preserved c = λ q.
     ∙ ap (λ ns. filled (λ z. option_or (option_map alone (p z)) (t z)) t ns q) (sym (map_push taken_name c.loop-name.yielded e))
 
 pub returns : goal.returns
-returns c = λ q.
+returns g c = λ q.
     let t = text_at c.args.texts.now in
-    let p = sections_at c.args.extended in
+    let p = sections_at g.C.Decode.text c.args.extended in
     let gives = c.into_iter-name-iterator.ensures.into_iter_gives in
     let all = YieldsList-end (YieldsList-from_rest c.args.extended.entries gives.0) c.loop-name.yielded _ c.loop-name.yielded_by _ _ c.in-None.is c.next.ensures.steps in
     filled_all (λ z. option_or (option_map alone (p z)) (t z)) t (map taken_name c.loop-name.yielded) q (text_at c.loop-name.texts q) (c.loop-name.invariant q)
-    (λ none. ap (λ o. option_or (option_map alone (option_map section_view o)) (t q)) (unnamed q c.args.extended (ap (λ ns. holds_name ns q) (sym (names_taken c.loop-name.yielded c.args.extended.entries all.0)) ∙ none)))
+    (λ none. ap (λ o. option_or (option_map alone (option_map (section_view g.C.Decode.text) o)) (t q)) (unnamed q c.args.extended (ap (λ ns. holds_name ns q) (sym (names_taken c.loop-name.yielded c.args.extended.entries all.0)) ∙ none)))

@@ -9,6 +9,6 @@ use Rattle.mailparse.proofs.lemmas.Filled.{taken_name}
 use Rattle.mailparse.proofs.parameters.continuations.put_extended.Given as goal
 
 abbrev pub invariant-loop-name : goal.invariant-loop-name
-invariant-loop-name l =
+invariant-loop-name g l =
     (q : List ℕ) → text_at l.texts q
-    ≡ filled (λ z. option_or (option_map alone (sections_at l.fn.extended z)) (text_at l.initial.texts z)) (text_at l.initial.texts) (map taken_name l.yielded) q
+    ≡ filled (λ z. option_or (option_map alone (sections_at g.C.Decode.text l.fn.extended z)) (text_at l.initial.texts z)) (text_at l.initial.texts) (map taken_name l.yielded) q

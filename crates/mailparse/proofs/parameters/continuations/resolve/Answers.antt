@@ -1,6 +1,5 @@
 use Rattle.std.proofs.Common.{sym, ◌∙◌}
 use Rattle.std.proofs.lemmas.Result.{IfOk-weaker}
-use Rattle.mail_codec.specs.Tables.{charsets_with}
 use Rattle.mailparse.specs.Pairs.{text_at}
 use Rattle.mailparse.specs.private.Continuations.{names_of_sections}
 use Rattle.mailparse.specs.private.Sections.{stands_at}
@@ -9,15 +8,15 @@ use Rattle.mailparse.proofs.lemmas.StarFree.{free_of, nothing_starred, parameter
 use Rattle.mailparse.proofs.parameters.continuations.resolve.Goals as goal
 
 pub returns-then-is_star_free : goal.returns-then-is_star_free
-returns-then-is_star_free c ps holds q =
+returns-then-is_star_free g c ps holds q =
     let free = free_of _ (sym c.is_star_free.ensures ∙ c.if-is_star_free.true) in
-    holds q ∙ sym (parameters_are_pairs (charsets_with c.args.tables.now) ps (λ name some. sym (holds name) ∙ nothing_starred c.args.pairs name free some) q)
+    holds q ∙ sym (parameters_are_pairs (g.K.KnownCharsets.known c.args.known.now) ps (λ name some. sym (holds name) ∙ nothing_starred c.args.pairs name free some) q)
 
 pub returns : goal.returns
-returns c =
+returns g c =
     let sections = c.in_ok-sections.sections in
     IfOk-weaker c.left_and_joined.result _ _
     (λ texts is ps holds q.
-    resolved (charsets_with c.args.tables.now) (text_at c.args.pairs) (stands_at sections) (names_of_sections sections) (text_at texts q) q c.in_ok-sections.ensures
-    (sections_named sections) (is q) ps holds)
+    resolved (g.K.KnownCharsets.known c.args.known.now) (text_at c.args.pairs) (stands_at g.K.Decoder.Decode.text sections) (names_of_sections sections) (text_at texts q) q c.in_ok-sections.ensures
+    (sections_named g.K.Decoder.Decode.text sections) (is q) ps holds)
     c.left_and_joined.ensures

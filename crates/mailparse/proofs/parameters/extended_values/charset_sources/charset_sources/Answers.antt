@@ -5,7 +5,7 @@ use Rattle.std.specs.Prelude.{if◌then◌else◌}
 use Rattle.mailparse.proofs.parameters.extended_values.charset_sources.charset_sources.Goals as goal
 
 pub loop-place-preserved : goal.loop-place-preserved
-loop-place-preserved c =
+loop-place-preserved g c =
     let names = names_of c.args.extended.now in
     let next : c.loop-place.place + 1 ≡ suc c.loop-place.place = omega arith in
     record {

@@ -3,43 +3,42 @@ use Rattle.std.proofs.lemmas.Iterator.Consumers.{YieldsList-end, YieldsList-from
 use Rattle.std.specs.Borrow.{Bor}
 use Rattle.std.specs.Global.{Global}
 use Rattle.std.specs.String.{string_bytes}
-use Rattle.mail_codec.specs.Tables.{charsets_with}
 use Rattle.mailparse.specs.Pairs.{text_at}
 use Rattle.mailparse.specs.private.ExtendedValues.{star_taken, extended_entries, extended_view}
 use Rattle.mailparse.proofs.lemmas.ExtendedValues.{shown_view, is_some_map, found_unstarred, found_key, found_name, found_more, found_push, found_same, shown_all}
 use Rattle.mailparse.proofs.parameters.extended_values.names.extended_names.Goals as goal
 
 pub loop-key-preserved-in-Continue-1 : goal.loop-key-preserved-in-Continue-1
-loop-key-preserved-in-Continue-1 c =
+loop-key-preserved-in-Continue-1 g c =
     let keys = text_at c.args.pairs.now in
     let e : Bor (String Global) × Bor (String Global) = (c.in-Some.key, c.in-Some.value) in
     let taken : star_taken (string_bytes c.in-Some.key.now) ≡ Some c.in-Some-without_star.name.now = ap star_taken (sym c.as_str.ensures.value) ∙ sym c.in-Some-without_star.ensures in
     let none = is_some_map string_bytes _ ∙ sym c.if-not-contains_key.ensures in
-    let found = found_name (charsets_with c.args.tables.now) keys (shown_view e) c.in-Some-without_star.name.now taken none in
-    found_more (charsets_with c.args.tables.now) keys c.loop-key.yielded e _ _ c.loop-key.invariant
-    (found_push (charsets_with c.args.tables.now) c.loop-key.found.items c.push.new.self.items _ (string_bytes c.in-Some.value.now) c.as_str-then-not-contains_key.result.now
+    let found = found_name (g.K.KnownCharsets.known c.args.known.now) keys (shown_view e) c.in-Some-without_star.name.now taken none in
+    found_more (g.K.KnownCharsets.known c.args.known.now) keys c.loop-key.yielded e _ _ c.loop-key.invariant
+    (found_push (g.K.KnownCharsets.known c.args.known.now) g.K.Decoder.Decode.text c.loop-key.found.items c.push.new.self.items _ (string_bytes c.in-Some.value.now) c.as_str-then-not-contains_key.result.now
     c.in_ok-push.ensures.items c.as_str-then-not-contains_key-2.ensures.value c.as_str-then-not-contains_key.ensures.value c.charset_in-charset.ensures
-    ∙ ap (λ r. map extended_view c.loop-key.found.items ++ r) (sym found))
+    ∙ ap (λ r. map (extended_view g.K.Decoder.Decode.text) c.loop-key.found.items ++ r) (sym found))
 
 pub loop-key-preserved-else-not-contains_key : goal.loop-key-preserved-else-not-contains_key
-loop-key-preserved-else-not-contains_key c =
+loop-key-preserved-else-not-contains_key g c =
     let keys = text_at c.args.pairs.now in
     let e : Bor (String Global) × Bor (String Global) = (c.in-Some.key, c.in-Some.value) in
     let taken : star_taken (string_bytes c.in-Some.key.now) ≡ Some c.in-Some-without_star.name.now = ap star_taken (sym c.as_str.ensures.value) ∙ sym c.in-Some-without_star.ensures in
     let some = is_some_map string_bytes _ ∙ sym c.if-not-contains_key.ensures in
-    found_same (charsets_with c.args.tables.now) keys c.loop-key.yielded e _ c.loop-key.invariant (found_key (charsets_with c.args.tables.now) keys (shown_view e) c.in-Some-without_star.name.now taken some)
+    found_same (g.K.KnownCharsets.known c.args.known.now) keys c.loop-key.yielded e _ c.loop-key.invariant (found_key (g.K.KnownCharsets.known c.args.known.now) keys (shown_view e) c.in-Some-without_star.name.now taken some)
 
 pub loop-key-preserved : goal.loop-key-preserved
-loop-key-preserved c =
+loop-key-preserved g c =
     let keys = text_at c.args.pairs.now in
     let e : Bor (String Global) × Bor (String Global) = (c.in-Some.key, c.in-Some.value) in
     let taken : star_taken (string_bytes c.in-Some.key.now) ≡ None = ap star_taken (sym c.as_str.ensures.value) ∙ sym c.in_default.ensures in
-    found_same (charsets_with c.args.tables.now) keys c.loop-key.yielded e _ c.loop-key.invariant (found_unstarred (charsets_with c.args.tables.now) keys (shown_view e) taken)
+    found_same (g.K.KnownCharsets.known c.args.known.now) keys c.loop-key.yielded e _ c.loop-key.invariant (found_unstarred (g.K.KnownCharsets.known c.args.known.now) keys (shown_view e) taken)
 
 pub returns : goal.returns
-returns c =
+returns g c =
     let all = YieldsList-end (YieldsList-from_rest c.args.pairs.now.entries c.into_iter-key-iterator.ensures.into_iter_gives.0) c.loop-key.yielded _ c.loop-key.yielded_by _ _ c.in-None.is c.next.ensures.steps in
     record {
       ordered = c.into_iter-key-iterator.ensures.into_iter_gives.5;
-      read = c.loop-key.invariant ∙ ap (extended_entries (charsets_with c.args.tables.now) (text_at c.args.pairs.now)) (shown_all c.loop-key.yielded c.args.pairs.now.entries all.0);
+      read = c.loop-key.invariant ∙ ap (extended_entries (g.K.KnownCharsets.known c.args.known.now) (text_at c.args.pairs.now)) (shown_all c.loop-key.yielded c.args.pairs.now.entries all.0);
     }
