@@ -18,8 +18,8 @@ mod encode;
 use conditions::{
     has_boundary, has_good_headers, holds_delimiter, is_not_multipart, is_within_levels,
 };
-pub use encode::encode_value;
 use encode::push_value;
+pub use encode::{encode_value, is_plain};
 use mailparse::{MAX_LEVELS, MailParseError};
 use std::alloc::{AllocError, Global};
 

@@ -87,7 +87,7 @@ words_texts (next_word {word = w} {rest = rest} some fits full more e) h =
     let parts = scalars_split w rest (ap scalars (sym e) ∙ h) in
     (parts.0, words_texts more parts.1)
 
-word_bytes_are : (w : List ℕ) → scalars w ≡ true → IsBytes (encode_utf8_all w)
+pub word_bytes_are : (w : List ℕ) → scalars w ≡ true → IsBytes (encode_utf8_all w)
 word_bytes_are w h = bytes_from (encode_utf8_all w) (characters_bytes w h)
 
 word_tokens : (known : Charsets) → KnowUtf8 known → (w : List ℕ) → scalars w ≡ true → line_tokens known (encoded_word w) ≡ around (encode_utf8_all w)
@@ -229,11 +229,11 @@ lines_ascii w (v ∷ ws) h =
     IsAscii-append (encoded_word w) (13 ∷ 10 ∷ 32 ∷ word_lines (v ∷ ws)) (word_ascii w h.0)
     (IsAscii-cons 13 (10 ∷ 32 ∷ word_lines (v ∷ ws)) (omega arith) (IsAscii-cons 10 (32 ∷ word_lines (v ∷ ws)) (omega arith) (IsAscii-cons 32 (word_lines (v ∷ ws)) (omega arith) (lines_ascii v ws h.1))))
 
-nothing_shows : (known : Charsets) → shown_value known [] ≡ []
+pub nothing_shows : (known : Charsets) → shown_value known [] ≡ []
 unfolding shown_value value_tokens
 nothing_shows known = refl
 
-words_read : (known : Charsets) → KnowUtf8 known → (ws : List (List ℕ)) → AreTexts ws → lenient_value_in known (word_lines ws) ≡ flat_map encode_utf8_all ws
+pub words_read : (known : Charsets) → KnowUtf8 known → (ws : List (List ℕ)) → AreTexts ws → lenient_value_in known (word_lines ws) ≡ flat_map encode_utf8_all ws
 words_read known knows [] h = lenient-utf8 known [] (IsUtf8-from_ascii [] IsAscii-nil) ∙ nothing_shows known
 words_read known knows (w ∷ ws) h =
     lenient-utf8 known (word_lines (w ∷ ws)) (IsUtf8-from_ascii (word_lines (w ∷ ws)) (lines_ascii w ws h)) ∙ words_show known knows w ws h

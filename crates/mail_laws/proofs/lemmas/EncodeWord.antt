@@ -66,26 +66,30 @@ letters_three : (a b c : ℕ) (rest : List ℕ)
 unfolding encode_symbols
 letters_three a b c rest = encode-append alphabet padding true (a ∷ b ∷ c ∷ []) rest refl
 
-pub letters_are : (bytes : List ℕ) → IsBytes bytes → AreLetters (letters bytes)
+-- bytes of the alphabet and padding that all pass a test
+pub letters_pass : (test : ℕ → Bool) → ((v : ℕ) → v < 64 → test (letter v) ≡ true) → test 61 ≡ true → (bytes : List ℕ) → IsBytes bytes → list_all test (letters bytes) ≡ true
 unfolding encode_symbols
-letters_are [] h = refl
-letters_are (a ∷ []) h =
+letters_pass test passes pad [] h = refl
+letters_pass test passes pad (a ∷ []) h =
     let ha : a < 256 = h 0 in
-    and_from _ _ (letter_is (a / 4) (omega arith)) (and_from _ _ (letter_is (a % 4 * 16) (omega arith)) refl)
-letters_are (a ∷ b ∷ []) h =
+    and_from _ _ (passes (a / 4) (omega arith)) (and_from _ _ (passes (a % 4 * 16) (omega arith)) (and_from _ _ pad (and_from _ _ pad refl)))
+letters_pass test passes pad (a ∷ b ∷ []) h =
     let ha : a < 256 = h 0 in
     let hb : b < 256 = h 1 in
-    and_from _ _ (letter_is (a / 4) (omega arith))
-    (and_from _ _ (letter_is (a % 4 * 16 + b / 16) (omega arith)) (and_from _ _ (letter_is (b % 16 * 4) (omega arith)) refl))
-letters_are (a ∷ b ∷ c ∷ rest) h =
+    and_from _ _ (passes (a / 4) (omega arith))
+    (and_from _ _ (passes (a % 4 * 16 + b / 16) (omega arith)) (and_from _ _ (passes (b % 16 * 4) (omega arith)) (and_from _ _ pad refl)))
+letters_pass test passes pad (a ∷ b ∷ c ∷ rest) h =
     let ha : a < 256 = h 0 in
     let hb : b < 256 = h 1 in
     let hc : c < 256 = h 2 in
-    subst AreLetters (sym (letters_three a b c rest))
-    (and_from _ _ (letter_is (a / 4) (omega arith))
-    (and_from _ _ (letter_is (a % 4 * 16 + b / 16) (omega arith))
-    (and_from _ _ (letter_is (b % 16 * 4 + c / 64) (omega arith))
-    (and_from _ _ (letter_is (c % 64) (omega arith)) (letters_are rest (λ i. h (suc (suc (suc i)))))))))
+    subst (λ ls. list_all test ls ≡ true) (sym (letters_three a b c rest))
+    (and_from _ _ (passes (a / 4) (omega arith))
+    (and_from _ _ (passes (a % 4 * 16 + b / 16) (omega arith))
+    (and_from _ _ (passes (b % 16 * 4 + c / 64) (omega arith))
+    (and_from _ _ (passes (c % 64) (omega arith)) (letters_pass test passes pad rest (λ i. h (suc (suc (suc i)))))))))
+
+pub letters_are : (bytes : List ℕ) → IsBytes bytes → AreLetters (letters bytes)
+letters_are bytes h = letters_pass is_word_byte letter_is refl bytes h
 
 pub letters_begin : (bytes : List ℕ) → IsBytes bytes → BeginsUnpadded (letters bytes)
 unfolding encode_symbols

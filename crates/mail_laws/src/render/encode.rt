@@ -78,8 +78,20 @@ pub(super) fn push_value(alloc: Global, value: &[u8], bytes: &mut Vec<u8>) -> Re
     bytes.extend_from_slice(written.as_bytes())
 }
 
-/// Whether a value is printable ASCII, does not begin with a space and does not hold `=?`.
-fn is_plain(value: &[u8]) -> bool
+/// Returns whether a value is plain, so that `encode_value` writes it as it is: printable ASCII that
+/// does not begin with a space and holds no `=?` (RFC 2047, section 2).
+///
+/// Takes no memory.
+///
+/// # Examples
+///
+/// ```rust
+/// use mail_laws::render::is_plain;
+///
+/// assert!(rt; is_plain(b"a b"));
+/// assert!(rt; !is_plain(b"=?utf-8?Q?a?="));
+/// ```
+pub fn is_plain(value: &[u8]) -> bool
     ensures { result ≡ is_plain_value value.now }
 {
     for byte in value {
