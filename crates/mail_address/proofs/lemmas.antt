@@ -6,3 +6,9 @@ pub mod Bounds
 pub mod MakeUp
 pub mod Enclosed
 pub mod Names
+pub mod Passed
+pub mod GrammarRead
+pub mod GrammarMade
+pub mod GrammarLists
+pub mod WriterWords
+pub mod WriterRead

@@ -8,6 +8,8 @@ pub mod Text
 pub mod Order
 pub mod Enclosed
 pub mod Names
+pub mod Grammar
+pub mod Writer
 pub use Rattle.mail_codec.specs.Ascii
 pub use Rattle.mail_codec.specs.Places
 pub use Rattle.mail_codec.specs.Charset

@@ -1,12 +1,20 @@
 //! What holds of every list of addresses. Each function does nothing; its contract is the law.
-ghost use Rattle.std.specs.Prelude.{[], ◌≡◌, ◌+◌, ◌∷◌, ◌++◌, List, length, suc, true, ℕ};
+ghost use Rattle.std.specs.Prelude.{[], ◌≡◌, ◌+◌, ◌∷◌, ◌++◌, List, length, map, suc, true, ℕ};
 ghost use Rattle.mail_codec.specs.Ascii.{backslash, comma, space};
+ghost use Rattle.mail_codec.specs.Charset.{four_charsets};
+ghost use Rattle.mail_codec.specs.Tables.{charsets_with};
+ghost use Rattle.mail_codec.specs.declared.charset.tables.SingleByteTable.{SingleByteTable};
 ghost use Rattle.mail_address.specs.Addresses.{addresses, element_at, element_len, items};
 ghost use Rattle.mail_address.specs.Enclosed.{IsEnclosed, IsInAngles};
+ghost use Rattle.mail_address.specs.Grammar.{FollowGrammar, IsMailbox};
+ghost use Rattle.mail_address.specs.Mailbox.{Parts};
 ghost use Rattle.mail_address.specs.Names.{AreNameWords, bracketed, named};
 ghost use Rattle.mail_address.specs.Order.{MakeUp, StandFrom};
 ghost use Rattle.mail_address.specs.Text.{phrase_text, quoted_text};
 ghost use Rattle.mail_address.specs.Tokens.{is_in, run};
+ghost use Rattle.mail_address.specs.Writer.{HaveTexts, are_writable, element_shows};
+ghost use Rattle.mail_address.specs.Writer.{element_stands_for, written_list};
+ghost use Rattle.mail_address.specs.declared.writer.NewAddress.{NewAddress};
 ghost use Rattle.mail_address.specs.declared.tokens.Kind.TheVariants.{Angle};
 ghost use Rattle.mail_address.specs.declared.tokens.Span.{Span};
 
@@ -72,4 +80,39 @@ pub fn names_forge_nothing()
         ∷ items element_at element_len (start + suc (length (name ++ bracketed inner))) rest }
     ensures quoted { (text : List ℕ) → AreNameWords (quoted_text text ++ space ∷ []) }
     ensures shown { (text : List ℕ) → phrase_text (quoted_text text ++ space ∷ []) ≡ text }
+{}
+
+/// An element of a list, or a member of a group, is read as a mailbox exactly where a grammar of
+/// bytes says that its text is one (RFC 5322, sections 3.4 and 4.4). A text is at most one mailbox.
+///
+/// The grammar says what a mailbox is made up of, with or without a name. It has routes, dots in
+/// names, comments and folding whitespace, quoted strings and domain literals.
+///
+/// # Examples
+///
+/// ```rust
+/// mail_address::laws::mailboxes_are_those_of_the_grammar();
+/// ```
+pub fn mailboxes_are_those_of_the_grammar()
+    ensures elements { (raw : List ℕ) → FollowGrammar (addresses raw) }
+    ensures one { (text : List ℕ) (m n : Parts) → IsMailbox text m → IsMailbox text n → m ≡ n }
+{}
+
+/// What `write_addresses` writes reads back: as many elements, in order, with the same names,
+/// whatever they hold, and the same addresses in canonical form. This holds whatever tables a
+/// caller has.
+///
+/// # Examples
+///
+/// ```rust
+/// mail_address::laws::written_addresses_read_back();
+/// ```
+pub fn written_addresses_read_back()
+    ensures shown { (list : List NewAddress) → HaveTexts list → are_writable list ≡ true →
+        map (element_shows four_charsets) (addresses (written_list list))
+        ≡ map element_stands_for list }
+    ensures tables { (tables : List SingleByteTable) (list : List NewAddress) → HaveTexts list →
+        are_writable list ≡ true →
+        map (element_shows (charsets_with tables)) (addresses (written_list list))
+        ≡ map element_stands_for list }
 {}

@@ -134,7 +134,7 @@ fn words_text(alloc: Global, phrase: &[u8]) -> Result<Vec<u8>, AllocError>
 
 /// Whether a local part needs no quotes.
 #[tactic(auto, unfolding(crate::specs::Text::needs_no_quotes))]
-fn needs_no_quotes(text: &[u8]) -> bool
+pub(crate) fn needs_no_quotes(text: &[u8]) -> bool
     ensures { result ≡ needs_no_quotes text.now }
 {
     is_plain(text) && is_dotted(Span::Atoms, text)
@@ -148,7 +148,7 @@ fn is_plain(text: &[u8]) -> bool
 }
 
 /// Appends a text as it is written within quotes.
-fn push_escaped(out: &mut Vec<u8>, text: &[u8]) -> Result<(), AllocError>
+pub(crate) fn push_escaped(out: &mut Vec<u8>, text: &[u8]) -> Result<(), AllocError>
     ensures { OnOk result (out.new.items ≡ out.old.items ++ flat_map escaped_byte text.now) }
 {
     for byte in text {

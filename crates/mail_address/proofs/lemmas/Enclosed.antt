@@ -53,7 +53,7 @@ comment-passed (comment_within {inner = inner} {rest = more} one two e) depth re
 -- ---- the tokens
 
 -- what stands between marks, and then what follows
-marked : (first last : ℕ) (inner rest : List ℕ) → (first ∷ (inner ++ last ∷ [])) ++ rest ≡ first ∷ (inner ++ last ∷ rest)
+pub marked : (first last : ℕ) (inner rest : List ℕ) → (first ∷ (inner ++ last ∷ [])) ++ rest ≡ first ∷ (inner ++ last ∷ rest)
 marked first last inner rest = ap (λ (l : List ℕ). first ∷ l) (append_assoc inner (last ∷ []) rest)
 
 -- its length
@@ -70,7 +70,7 @@ quoted-is inner rest between =
     let at = between-place 34 34 refl refl between rest in
     rw (closes-within (unquoted_place 34 34 false (inner ++ 34 ∷ rest)) 34 inner rest at) (ap (λ n. record { kind = Quoted; len = n + 2 }) at)
 
-comment-is : (inner rest : List ℕ) → IsCommented inner → comment_token (inner ++ 41 ∷ rest) ≡ record { kind = Comment; len = length inner + 2 }
+pub comment-is : (inner rest : List ℕ) → IsCommented inner → comment_token (inner ++ 41 ∷ rest) ≡ record { kind = Comment; len = length inner + 2 }
 unfolding comment_token
 comment-is inner rest commented =
     let at : comment_place false 0 (inner ++ 41 ∷ rest) ≡ length inner =
@@ -81,7 +81,7 @@ comment-is inner rest commented =
 behind : (place last : ℕ) (inner rest : List ℕ) → place ≡ length inner → begins (λ b. eqb b last) (drop place (inner ++ last ∷ rest)) ≡ true
 behind place last inner rest at = ap (begins (λ b. eqb b last)) (drop_at inner (last ∷ rest) place (sym at)) ∙ eq-eqb last last refl
 
-literal-is : (inner rest : List ℕ) → IsBetween 91 93 inner → literal_token (inner ++ 93 ∷ rest) ≡ record { kind = Literal; len = length inner + 2 }
+pub literal-is : (inner rest : List ℕ) → IsBetween 91 93 inner → literal_token (inner ++ 93 ∷ rest) ≡ record { kind = Literal; len = length inner + 2 }
 unfolding literal_token
 literal-is inner rest between =
     let at = between-place 91 93 refl refl between rest in
@@ -188,7 +188,7 @@ closed-token {bytes} (in_literal {inner = inner} between e) rest =
 -- ---- what a step passes
 
 -- a token at the front that a step passes, and then the rest
-far-token : (pass : List ℕ → ℕ) (bytes rest : List ℕ) → 0 < length bytes → pass (bytes ++ rest) ≡ length bytes → far pass (bytes ++ rest) ≡ length bytes + far pass rest
+pub far-token : (pass : List ℕ → ℕ) (bytes rest : List ℕ) → 0 < length bytes → pass (bytes ++ rest) ≡ length bytes → far pass (bytes ++ rest) ≡ length bytes + far pass rest
 far-token pass bytes rest some is =
     let len = length-append bytes rest in
     far-more pass (bytes ++ rest) (omega arith) (λ none. absurd (omega (arith, none, is)))
@@ -198,7 +198,7 @@ far-token pass bytes rest some is =
 -- ---- within angle brackets
 
 -- the first of a run of such bytes is passed like the rest of the run
-far-run : (pass : List ℕ → ℕ) (test : ℕ → Bool) → ((c : ℕ) (cs : List ℕ) → test c ≡ true → pass (c ∷ cs) ≡ suc (prefix_len test cs))
+pub far-run : (pass : List ℕ → ℕ) (test : ℕ → Bool) → ((c : ℕ) (cs : List ℕ) → test c ≡ true → pass (c ∷ cs) ≡ suc (prefix_len test cs))
     → (b : ℕ) (bytes : List ℕ) → test b ≡ true → far pass (b ∷ bytes) ≡ suc (far pass bytes)
 far-run pass test is b bytes h =
     let here = is b bytes h in
@@ -311,7 +311,7 @@ angle-front inner rest inside = angle-is inner rest inside
 
 -- ---- a run over them
 
-step-token : (span : Span) (bytes : List ℕ) (len : ℕ) (kind : Kind) → front_token bytes ≡ record { kind = kind; len = len } → is_in span kind ≡ true → step span bytes ≡ len
+pub step-token : (span : Span) (bytes : List ℕ) (len : ℕ) (kind : Kind) → front_token bytes ≡ record { kind = kind; len = len } → is_in span kind ≡ true → step span bytes ≡ len
 unfolding step
 step-token span bytes len kind is goes = rw is (rw goes refl)
 

@@ -32,14 +32,14 @@ record WordToken (word : List ℕ) (rest : List ℕ) : Type 0 where
   pub passed : (span : Span) → is_in span Atom ≡ true → is_in span Quoted ≡ true → is_in span kind ≡ true
   pub no_blank : (more : List ℕ) → begins is_white (word ++ more) ≡ false
 
-atom_byte-other : (b other : ℕ) → is_atom_byte b ≡ true → is_atom_byte other ≡ false → eqb b other ≡ false
+pub atom_byte-other : (b other : ℕ) → is_atom_byte b ≡ true → is_atom_byte other ≡ false → eqb b other ≡ false
 atom_byte-other b other h none = ne_eqb b other (λ e. false≢true (sym none ∙ ap is_atom_byte (sym e) ∙ h))
 
-no_atom_bytes : (is_atom_byte 60 ≡ false) × (is_atom_byte 32 ≡ false) × (is_atom_byte 9 ≡ false) × (is_atom_byte 13 ≡ false) × (is_atom_byte 10 ≡ false)
+pub no_atom_bytes : (is_atom_byte 60 ≡ false) × (is_atom_byte 32 ≡ false) × (is_atom_byte 9 ≡ false) × (is_atom_byte 13 ≡ false) × (is_atom_byte 10 ≡ false)
 unfolding is_atom_byte
 no_atom_bytes = (refl, refl, refl, refl, refl)
 
-atom_byte-visible : (b : ℕ) → is_atom_byte b ≡ true → is_white b ≡ false
+pub atom_byte-visible : (b : ℕ) → is_atom_byte b ≡ true → is_white b ≡ false
 atom_byte-visible b h =
     let n = no_atom_bytes in
     rw (atom_byte-other b 32 h n.1, atom_byte-other b 9 h n.2, atom_byte-other b 13 h n.3, atom_byte-other b 10 h n.4) refl
@@ -151,7 +151,7 @@ names-passed span {bytes} over (next_word {word = word} {rest = more} is words e
 
 -- ---- a run over nothing
 
-nothing-passed : (span : Span) → run span [] ≡ 0
+pub nothing-passed : (span : Span) → run span [] ≡ 0
 unfolding far
 nothing-passed span = refl
 
@@ -165,13 +165,13 @@ behind : (text rest : List ℕ) → drop (suc (length text)) (text ++ 44 ∷ res
 behind [] rest = refl
 behind (b ∷ text) rest = behind text rest
 
-no_items : (start : ℕ) → items element_at element_len start [] ≡ []
+pub no_items : (start : ℕ) → items element_at element_len start [] ≡ []
 unfolding items
 no_items start = refl
 
 -- ---- the first token of words
 
-record Front (bytes : List ℕ) : Type 0 where
+pub record Front (bytes : List ℕ) : Type 0 where
   pub kind : Kind
   pub len : ℕ
   pub token : front_token bytes ≡ record { kind = kind; len = len }
@@ -205,14 +205,14 @@ unfolding step
 step-angle bytes len is = rw is refl
 
 -- no whitespace and no comment stands before a word
-no_white-front : (bytes : List ℕ) → Front bytes → run White bytes ≡ 0
+pub no_white-front : (bytes : List ℕ) → Front bytes → run White bytes ≡ 0
 no_white-front bytes front = far-stop (step White) bytes (step-white bytes front)
 
 all_white-not : (bytes : List ℕ) → Front bytes → 0 < length bytes → is_all_white bytes ≡ false
 unfolding is_all_white
 all_white-not bytes front some = let none = no_white-front bytes front in ne_eqb (run White bytes) (length bytes) (λ e. absurd (omega (arith, none, e)))
 
-after_white-same : (bytes : List ℕ) → Front bytes → after_white bytes ≡ bytes
+pub after_white-same : (bytes : List ℕ) → Front bytes → after_white bytes ≡ bytes
 unfolding after_white
 after_white-same bytes front = ap (λ n. drop n bytes) (no_white-front bytes front)
 
@@ -400,14 +400,14 @@ unquoted-escaped (b ∷ text) = go (eqb b 34 || eqb b 92) refl (unquoted-escaped
     go true e later = ap (λ (r : List ℕ). b ∷ r) later
     go false e later = rw ((or_parts (eqb b 34) (eqb b 92) e).1) (ap (λ (r : List ℕ). b ∷ r) later)
 
-quoted-is_word : (text : List ℕ) → IsNameWord (quoted_text text)
+pub quoted-is_word : (text : List ℕ) → IsNameWord (quoted_text text)
 unfolding quoted_text
 quoted-is_word text = quoted_word (escaped-between text) refl
 
 pub quoted-is_name : (text : List ℕ) → AreNameWords (quoted_text text ++ 32 ∷ [])
 quoted-is_name text = last_word (quoted-is_word text) refl
 
-quoted-token : (text rest : List ℕ) → front_token (quoted_text text ++ rest) ≡ record { kind = Quoted; len = length (quoted_text text) }
+pub quoted-token : (text rest : List ℕ) → front_token (quoted_text text ++ rest) ≡ record { kind = Quoted; len = length (quoted_text text) }
 unfolding quoted_text
 quoted-token text rest = quoted-front (escaped-between text) refl rest
 
@@ -418,7 +418,7 @@ quoted-within text =
     take_at (flat_map escaped_byte text) (34 ∷ []) (length (quoted_text text) - 2) (omega (arith, len))
 
 -- what the quoted string stands for
-quoted-meaning : (text rest : List ℕ) → front_meaning (quoted_text text ++ rest) ≡ text
+pub quoted-meaning : (text rest : List ℕ) → front_meaning (quoted_text text ++ rest) ≡ text
 unfolding front_meaning front_len
 quoted-meaning text rest =
     ap (λ t. meaning t.kind (take t.len (quoted_text text ++ rest))) (quoted-token text rest)
@@ -426,16 +426,16 @@ quoted-meaning text rest =
     ∙ ap (unquoted false) (quoted-within text)
     ∙ unquoted-escaped text
 
-quoted-len : (text rest : List ℕ) → front_len (quoted_text text ++ rest) ≡ length (quoted_text text)
+pub quoted-len : (text rest : List ℕ) → front_len (quoted_text text ++ rest) ≡ length (quoted_text text)
 unfolding front_len
 quoted-len text rest = ap (λ t. t.len) (quoted-token text rest)
 
 -- a word at the front of a phrase is its meaning, and not whitespace
-word-meaning : (bytes : List ℕ) → Front bytes → 0 < length bytes → word_or_space bytes ≡ front_meaning bytes
+pub word-meaning : (bytes : List ℕ) → Front bytes → 0 < length bytes → word_or_space bytes ≡ front_meaning bytes
 unfolding word_or_space
 word-meaning bytes front some = rw (all_white-not bytes front some) (rw (step-white bytes front) refl)
 
-word-len : (bytes : List ℕ) → Front bytes → word_or_white_len bytes ≡ front_len bytes
+pub word-len : (bytes : List ℕ) → Front bytes → word_or_white_len bytes ≡ front_len bytes
 unfolding word_or_white_len
 word-len bytes front = rw (step-white bytes front) refl
 
@@ -448,7 +448,7 @@ space-len : word_or_white_len (32 ∷ []) ≡ 1
 unfolding word_or_white_len far step front_token
 space-len = refl
 
-no_words : (start : ℕ) → items word_at word_or_white_len start [] ≡ []
+pub no_words : (start : ℕ) → items word_at word_or_white_len start [] ≡ []
 unfolding items
 no_words start = refl
 

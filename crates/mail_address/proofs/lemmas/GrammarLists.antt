@@ -1,0 +1,66 @@
+-- The elements of a list are the mailboxes that the grammar says they are.
+use Rattle.std.proofs.Common.{ℕ, zero, suc, ◌+◌, Bool, true, false, cond, List, [], ◌∷◌, ◌++◌, length, take, drop, map}
+use Rattle.mail_address.specs.declared.tokens.Span.TheVariants.{BeforeComma, BeforeSeparator}
+use Rattle.mail_address.specs.Addresses.{addresses, after_name, Element, element_at, element_len, group, group_at, inner_len, is_group, items, items_within, member_at, member_len, members_at, name_len, single, Single, single_at}
+use Rattle.mail_address.specs.Grammar.{AreByGrammar, FollowGrammar}
+use Rattle.mail_address.specs.Mailbox.{mailbox_of}
+use Rattle.mail_address.specs.Tokens.{is_all_white, run}
+use Rattle.mail_address.proofs.lemmas.GrammarMade.{mailbox-made}
+use Rattle.mail_address.proofs.lemmas.GrammarRead.{mailbox-read}
+
+-- what holds of nothing, of what two lists make up, and of each piece, holds of all pieces
+items_within-hold : {A : Type 0} (at : ℕ → List ℕ → List A) (len : List ℕ → ℕ) (P : List A → Type 0) → P [] → ((xs ys : List A) → P xs → P ys → P (xs ++ ys))
+    → ((start : ℕ) (bytes : List ℕ) → P (at start bytes)) → (most start : ℕ) (bytes : List ℕ) → P (items_within at len most start bytes)
+items_within-hold at len P none both each zero start bytes = none
+items_within-hold at len P none both each (suc most) start [] = none
+items_within-hold at len P none both each (suc most) start (b ∷ bytes) =
+    both (at start (b ∷ bytes)) (items_within at len most (start + len (b ∷ bytes)) (drop (len (b ∷ bytes)) (b ∷ bytes))) (each start (b ∷ bytes))
+    (items_within-hold at len P none both each most (start + len (b ∷ bytes)) (drop (len (b ∷ bytes)) (b ∷ bytes)))
+
+items-hold : {A : Type 0} (at : ℕ → List ℕ → List A) (len : List ℕ → ℕ) (P : List A → Type 0) → P [] → ((xs ys : List A) → P xs → P ys → P (xs ++ ys))
+    → ((start : ℕ) (bytes : List ℕ) → P (at start bytes)) → (start : ℕ) (bytes : List ℕ) → P (items at len start bytes)
+unfolding items
+items-hold at len P none both each start bytes = items_within-hold at len P none both each (length bytes) start bytes
+
+singles-append : (xs ys : List Single) → AreByGrammar xs → AreByGrammar ys → AreByGrammar (xs ++ ys)
+singles-append [] ys first second = second
+singles-append (x ∷ xs) ys first second = (first.0, singles-append xs ys first.1 second)
+
+elements-append : (xs ys : List Element) → FollowGrammar xs → FollowGrammar ys → FollowGrammar (xs ++ ys)
+elements-append [] ys first second = second
+elements-append (single s ∷ xs) ys first second = (first.0, elements-append xs ys first.1 second)
+elements-append (group g ∷ xs) ys first second = (first.0, elements-append xs ys first.1 second)
+
+single-follows : (start : ℕ) (text : List ℕ) → AreByGrammar (single_at start text)
+unfolding single_at
+single-follows start text = go (is_all_white text)
+  where
+    go : (t : Bool) → AreByGrammar (cond t [] (record { start = start; text = text; mailbox = mailbox_of text } ∷ []))
+    go true = tt
+    go false = (λ m. (mailbox-made text m, mailbox-read text m), tt)
+
+singles-follow : (ss : List Single) → AreByGrammar ss → FollowGrammar (map single ss)
+singles-follow [] are = tt
+singles-follow (s ∷ ss) are = (are.0, singles-follow ss are.1)
+
+member-follows : (start : ℕ) (bytes : List ℕ) → AreByGrammar (member_at start bytes)
+unfolding member_at
+member-follows start bytes = single-follows start (take (run BeforeComma bytes) bytes)
+
+members-follow : (start : ℕ) (bytes : List ℕ) → AreByGrammar (members_at start bytes)
+members-follow start bytes = items-hold member_at member_len AreByGrammar tt singles-append member-follows start bytes
+
+group-follows : (start : ℕ) (bytes : List ℕ) → AreByGrammar (group_at start bytes).members
+unfolding group_at
+group-follows start bytes = members-follow (start + suc (name_len bytes)) (take (inner_len bytes) (after_name bytes))
+
+element-follows : (start : ℕ) (bytes : List ℕ) → FollowGrammar (element_at start bytes)
+unfolding element_at
+element-follows start bytes = go (is_group bytes)
+  where
+    go : (t : Bool) → FollowGrammar (cond t (group (group_at start bytes) ∷ []) (map single (single_at start (take (run BeforeSeparator bytes) bytes))))
+    go true = (group-follows start bytes, tt)
+    go false = singles-follow (single_at start (take (run BeforeSeparator bytes) bytes)) (single-follows start (take (run BeforeSeparator bytes) bytes))
+
+pub elements-follow : (raw : List ℕ) → FollowGrammar (addresses raw)
+elements-follow raw = items-hold element_at element_len FollowGrammar tt elements-append element-follows 0 raw

@@ -1,0 +1,767 @@
+-- What is read as a mailbox is one by the grammar.
+use Rattle.std.proofs.Common.{◌≡◌, ◌≢◌, ◌⊎◌, inl, inr, ℕ, zero, suc, ◌+◌, ◌-◌, ◌<◌, ◌≤◌, Bool, true, false, cond, eqb, not, ◌&&◌, ◌||◌, List, [], ◌∷◌, ◌++◌, Some, None, Option, length, take, drop, refl, sym, ap, subst, ◌∙◌, arith, append_assoc, length-append, length-drop}
+use Rattle.std.specs.Prelude.{min, nat_lt}
+use Rattle.std.specs.List.{list_all, prefix_len}
+use Rattle.std.proofs.lemmas.Bool.{and_from, and_parts, cases_lt, eqb-false, eqb-true, false≢true, ltb-true, not-true, or_parts}
+use Rattle.std.proofs.lemmas.List.{append-nil, drop_at, take_all, take_at, take-append-drop}
+use Rattle.std.proofs.Math.Seq.{take-add}
+use Rattle.mail_codec.specs.Places.{begins}
+use Rattle.mail_address.specs.declared.tokens.Kind.{Kind}
+use Rattle.mail_address.specs.declared.tokens.Kind.TheVariants.{Blank, Comment, Atom, Quoted, Literal, Angle, Dot, At, Comma, Semicolon, Colon, Opening, Closing, Other}
+use Rattle.mail_address.specs.declared.tokens.Span.{Span}
+use Rattle.mail_address.specs.declared.tokens.Span.TheVariants.{Atoms, BeforeAt, BeforeColon, BeforeComma, Literals, Phrase, White, Word}
+use Rattle.mail_address.specs.declared.tokens.Token.{Token}
+use Rattle.mail_address.specs.Enclosed.{IsBetween, no_bytes, quoted_pair, plain_byte, IsCommented, comment_ends, comment_pair, comment_byte, comment_within}
+use Rattle.mail_address.specs.Grammar.{address, AreDotted, AreDotWords, AreStops, atom, any_word, any_words, atoms, dot_word, dots_end, dotted, in_brackets, IsDomain, IsMailbox, IsName, IsPadded, IsPhrase, IsPhraseRest, IsRoute, IsStop, IsWhite, IsWord, last_stop, literal, literals, MayBeRoute, more_stops, named_address, next_stop, no_name, no_route, no_stop, one_stop, phrase, phrase_dot, phrase_ends, phrase_white, phrase_word, route, stop, white_byte, white_comment, white_ends, Words}
+use Rattle.mail_address.specs.Mailbox.{after_route, after_white, dot_word_len, is_domain, is_dotted, is_enclosed, is_local_part, is_phrase, is_route, is_stop, is_word, mailbox_of, named_mailbox, Parts, spec_mailbox, stop_len, within_ends, word_len}
+use Rattle.mail_address.specs.Names.{IsNameWord, atom_word, quoted_word}
+use Rattle.mail_address.specs.Tokens.{angle_place, angle_token, closes_comment, comment_place, comment_token, depth_after, far, far_within, front_token, is_all_white, is_atom_byte, is_in, is_white, literal_token, plain_token, quoted_token, run, single_kind, step, unquoted_place}
+use Rattle.mail_address.proofs.lemmas.Bounds.{far-over, step-within, token-fits}
+use Rattle.mail_address.proofs.lemmas.Enclosed.{marked, marked-length}
+use Rattle.mail_address.proofs.lemmas.Tokens.{far-more}
+use Rattle.mail_address.proofs.lemmas.Passed.{comma-front, passed-up_to, run-stops, span_of, white-passed}
+
+-- ---- cuts
+
+-- up to a byte that stands there, and it
+cut-at : (last n : ℕ) (bytes : List ℕ) → begins (λ b. eqb b last) (drop n bytes) ≡ true → take (suc n) bytes ≡ take n bytes ++ last ∷ []
+cut-at last zero [] h = absurd (false≢true h)
+cut-at last zero (b ∷ bytes) h = ap (λ (c : ℕ). c ∷ []) (eqb-true b last h)
+cut-at last (suc n) [] h = absurd (false≢true h)
+cut-at last (suc n) (b ∷ bytes) h = ap (λ (r : List ℕ). b ∷ r) (cut-at last n bytes h)
+
+-- what such bytes are made of: what stands before that byte, it, and what follows it
+cut-around : (last n : ℕ) (bytes : List ℕ) → begins (λ b. eqb b last) (drop n bytes) ≡ true → bytes ≡ take n bytes ++ last ∷ drop (suc n) bytes
+cut-around last n bytes h =
+    sym (take-append-drop (suc n) bytes) ∙ ap (λ b. b ++ drop (suc n) bytes) (cut-at last n bytes h)
+    ∙ append_assoc (take n bytes) (last ∷ []) (drop (suc n) bytes)
+
+-- what stands between two marks, with them
+cut-closed : (first last n : ℕ) (bytes : List ℕ) → begins (λ b. eqb b last) (drop n bytes) ≡ true → take (n + 2) (first ∷ bytes) ≡ first ∷ (take n bytes ++ last ∷ [])
+cut-closed first last n bytes h =
+    let two : n + 2 ≡ suc (suc n) = omega arith in
+    ap (λ k. take k (first ∷ bytes)) two ∙ ap (λ (r : List ℕ). first ∷ r) (cut-at last n bytes h)
+
+begins-cut : (last : ℕ) (bytes : List ℕ) → begins (λ b. eqb b last) bytes ≡ true → bytes ≡ last ∷ drop 1 bytes
+begins-cut last [] h = absurd (false≢true h)
+begins-cut last (b ∷ bytes) h = ap (λ (c : ℕ). c ∷ bytes) (eqb-true b last h)
+
+-- ---- what stands between two marks
+
+-- the bytes before a mark; the first of them may be quoted
+abbrev BetweenFrom : ℕ → ℕ → Bool → List ℕ → Type 0
+BetweenFrom one other false text = IsBetween one other text
+BetweenFrom one other true text = (c : ℕ) × (rest : List ℕ) × (text ≡ c ∷ rest) × IsBetween one other rest
+
+between-made : (one other : ℕ) (quoted : Bool) (bytes : List ℕ) → unquoted_place one other quoted bytes < length bytes
+    → BetweenFrom one other quoted (take (unquoted_place one other quoted bytes) bytes)
+between-made one other quoted [] low = absurd (omega (arith, low))
+between-made one other true (b ∷ rest) low = (b, take (unquoted_place one other false rest) rest, refl, between-made one other false rest (omega (arith, low)))
+between-made one other false (b ∷ rest) low =
+    go (eqb b one || eqb b other) refl (eqb b 92) refl (between-made one other true rest) (between-made one other false rest) low
+  where
+    go : (t : Bool) → (eqb b one || eqb b other) ≡ t → (s : Bool) → eqb b 92 ≡ s
+        → (unquoted_place one other true rest < length rest → BetweenFrom one other true (take (unquoted_place one other true rest) rest))
+        → (unquoted_place one other false rest < length rest → IsBetween one other (take (unquoted_place one other false rest) rest))
+        → cond t 0 (suc (unquoted_place one other s rest)) < suc (length rest)
+        → IsBetween one other (take (cond t 0 (suc (unquoted_place one other s rest))) (b ∷ rest))
+    go true e s f pair plain low = no_bytes
+    go false e true f pair plain low =
+        let q = pair (omega (arith, low)) in
+        subst (λ c. IsBetween one other (c ∷ take (unquoted_place one other true rest) rest)) (sym (eqb-true b 92 f))
+        (subst (λ r. IsBetween one other (92 ∷ r)) (sym q.2) (quoted_pair q.3))
+    go false e false f pair plain low =
+        let both = or_parts (eqb b one) (eqb b other) e in
+        plain_byte (eqb-false b one both.0) (eqb-false b other both.1) (eqb-false b 92 f) (plain (omega (arith, low)))
+
+between-mark : (one other : ℕ) (quoted : Bool) (bytes : List ℕ) → unquoted_place one other quoted bytes < length bytes
+    → begins (λ b. eqb b one || eqb b other) (drop (unquoted_place one other quoted bytes) bytes) ≡ true
+between-mark one other quoted [] low = absurd (omega (arith, low))
+between-mark one other quoted (b ∷ rest) low =
+    go (not quoted && (eqb b one || eqb b other)) refl (between-mark one other (not quoted && eqb b 92) rest) low
+  where
+    go : (t : Bool) → (not quoted && (eqb b one || eqb b other)) ≡ t → {n : ℕ}
+        → (n < length rest → begins (λ b. eqb b one || eqb b other) (drop n rest) ≡ true)
+        → cond t 0 (suc n) < suc (length rest) → begins (λ b. eqb b one || eqb b other) (drop (cond t 0 (suc n)) (b ∷ rest)) ≡ true
+    go true e later low = (and_parts (not quoted) (eqb b one || eqb b other) e).1
+    go false e later low = later (omega (arith, low))
+
+-- ---- comments
+
+-- bytes in which so many comments are closed, and then those of one more
+data ClosesTo : ℕ → List ℕ → Type 0 where
+  closes_here : {text : List ℕ} → IsCommented text → ClosesTo zero text
+  closes_later : {depth : ℕ} {inner rest text : List ℕ} → IsCommented inner → ClosesTo depth rest → text ≡ inner ++ 41 ∷ rest → ClosesTo (suc depth) text
+
+closes-front : (front : List ℕ) → ((rest : List ℕ) → IsCommented rest → IsCommented (front ++ rest)) → {depth : ℕ} {text : List ℕ} → ClosesTo depth text → ClosesTo depth (front ++ text)
+closes-front front more (closes_here {text = text} is) = closes_here (more text is)
+closes-front front more (closes_later {inner = inner} {rest = rest} is later e) =
+    closes_later {inner = front ++ inner} {rest = rest} (more inner is) later (ap (λ t. front ++ t) e ∙ sym (append_assoc front inner (41 ∷ rest)))
+
+closes-opened : {depth : ℕ} {text : List ℕ} → ClosesTo (suc depth) text → ClosesTo depth (40 ∷ text)
+closes-opened {depth} {text} (closes_later {inner = inner} {rest = rest} is later e) =
+    subst (ClosesTo depth) (marked 40 41 inner rest ∙ ap (λ (t : List ℕ). 40 ∷ t) (sym e))
+    (closes-front (40 ∷ (inner ++ 41 ∷ [])) (λ more commented. comment_within {inner = inner} {rest = more} is commented (marked 40 41 inner more)) later)
+
+closes-zero : {text : List ℕ} → ClosesTo zero text → IsCommented text
+closes-zero (closes_here is) = is
+
+abbrev CommentFrom : Bool → ℕ → List ℕ → Type 0
+CommentFrom false depth text = ClosesTo depth text
+CommentFrom true depth text = (c : ℕ) × (rest : List ℕ) × (text ≡ c ∷ rest) × ClosesTo depth rest
+
+comment-made : (quoted : Bool) (depth : ℕ) (bytes : List ℕ) → comment_place quoted depth bytes < length bytes → CommentFrom quoted depth (take (comment_place quoted depth bytes) bytes)
+comment-made quoted depth [] low = absurd (omega (arith, low))
+comment-made true depth (b ∷ rest) low = (b, take (comment_place false depth rest) rest, refl, comment-made false depth rest (omega (arith, low)))
+comment-made false depth (b ∷ rest) low =
+    go (eqb b 41) refl (eqb depth 0) refl (eqb b 92) refl (eqb b 40) refl (λ quoted d. comment-made quoted d rest) low
+  where
+    go : (close : Bool) → eqb b 41 ≡ close → (none : Bool) → eqb depth 0 ≡ none → (slash : Bool) → eqb b 92 ≡ slash → (opens : Bool) → eqb b 40 ≡ opens
+        → ((quoted : Bool) (d : ℕ) → comment_place quoted d rest < length rest → CommentFrom quoted d (take (comment_place quoted d rest) rest))
+        → cond (close && none) 0 (suc (comment_place slash (cond opens (suc depth) (cond close (depth - 1) depth)) rest)) < suc (length rest)
+        → ClosesTo depth (take (cond (close && none) 0 (suc (comment_place slash (cond opens (suc depth) (cond close (depth - 1) depth)) rest))) (b ∷ rest))
+    go true ec true en slash es opens eo later low = subst (λ d. ClosesTo d []) (sym (eqb-true depth 0 en)) (closes_here comment_ends)
+    go true ec false en true es opens eo later low = let x = eqb-true b 41 ec in let y = eqb-true b 92 es in absurd (omega (arith, x, y))
+    go true ec false en false es true eo later low = let x = eqb-true b 41 ec in let y = eqb-true b 40 eo in absurd (omega (arith, x, y))
+    go true ec false en false es false eo later low =
+        let some = eqb-false depth 0 en in
+        let same : suc (depth - 1) ≡ depth = omega (arith, some) in
+        let text : List ℕ = take (comment_place false (depth - 1) rest) rest in
+        subst (λ c. ClosesTo depth (c ∷ text)) (sym (eqb-true b 41 ec))
+        (subst (λ d. ClosesTo d (41 ∷ text)) same (closes_later {inner = []} {rest = text} comment_ends (later false (depth - 1) (omega (arith, low))) refl))
+    go false ec none en true es true eo later low = let x = eqb-true b 92 es in let y = eqb-true b 40 eo in absurd (omega (arith, x, y))
+    go false ec none en true es false eo later low =
+        let q = later true depth (omega (arith, low)) in
+        subst (λ c. ClosesTo depth (c ∷ take (comment_place true depth rest) rest)) (sym (eqb-true b 92 es))
+        (subst (λ r. ClosesTo depth (92 ∷ r)) (sym q.2) (closes-front (92 ∷ q.0 ∷ []) (λ more is. comment_pair is) q.3))
+    go false ec none en false es true eo later low =
+        subst (λ c. ClosesTo depth (c ∷ take (comment_place false (suc depth) rest) rest)) (sym (eqb-true b 40 eo))
+        (closes-opened (later false (suc depth) (omega (arith, low))))
+    go false ec none en false es false eo later low =
+        closes-front (b ∷ []) (λ more is. comment_byte (eqb-false b 40 eo) (eqb-false b 41 ec) (eqb-false b 92 es) is) (later false depth (omega (arith, low)))
+
+comment-mark : (quoted : Bool) (depth : ℕ) (bytes : List ℕ) → comment_place quoted depth bytes < length bytes → begins (λ b. eqb b 41) (drop (comment_place quoted depth bytes) bytes) ≡ true
+comment-mark quoted depth [] low = absurd (omega (arith, low))
+comment-mark quoted depth (b ∷ rest) low =
+    go (closes_comment quoted depth b) refl (comment-mark (not quoted && eqb b 92) (depth_after quoted depth b) rest) low
+  where
+    go : (t : Bool) → closes_comment quoted depth b ≡ t → {n : ℕ} → (n < length rest → begins (λ b. eqb b 41) (drop n rest) ≡ true)
+        → cond t 0 (suc n) < suc (length rest) → begins (λ b. eqb b 41) (drop (cond t 0 (suc n)) (b ∷ rest)) ≡ true
+    go true e later low = (and_parts (eqb b 41) (eqb depth 0) (and_parts (not quoted) (eqb b 41 && eqb depth 0) e).1).0
+    go false e later low = later (omega (arith, low))
+
+-- ---- tokens
+
+abbrev pick : Bool → Token → Token → Token
+pick t one other = cond t one other
+
+-- what the bytes of a token are
+abbrev pub Meets : Kind → List ℕ → Type 0
+Meets Blank text = IsWhite text
+Meets Comment text = IsWhite text
+Meets Atom text = IsWord atoms text
+Meets Quoted text = IsNameWord text
+Meets Literal text = IsWord literals text
+Meets Angle text = (inner : List ℕ) × (text ≡ 60 ∷ (inner ++ 62 ∷ []))
+Meets Dot text = text ≡ 46 ∷ []
+Meets Comma text = text ≡ 44 ∷ []
+Meets _ text = Unit {0}
+
+prefix-white : (bytes : List ℕ) → IsWhite (take (prefix_len is_white bytes) bytes)
+prefix-white [] = white_ends
+prefix-white (b ∷ bytes) = go (is_white b) refl (prefix-white bytes)
+  where
+    go : (t : Bool) → is_white b ≡ t → IsWhite (take (prefix_len is_white bytes) bytes) → IsWhite (take (cond t (1 + prefix_len is_white bytes) 0) (b ∷ bytes))
+    go true e later =
+        let one : suc (prefix_len is_white bytes) ≡ 1 + prefix_len is_white bytes = omega arith in
+        subst (λ n. IsWhite (take n (b ∷ bytes))) one (white_byte e later)
+    go false e later = white_ends
+
+prefix-atoms : (bytes : List ℕ) → list_all is_atom_byte (take (prefix_len is_atom_byte bytes) bytes) ≡ true
+prefix-atoms [] = refl
+prefix-atoms (b ∷ bytes) = go (is_atom_byte b) refl (prefix-atoms bytes)
+  where
+    go : (t : Bool) → is_atom_byte b ≡ t → list_all is_atom_byte (take (prefix_len is_atom_byte bytes) bytes) ≡ true
+        → list_all is_atom_byte (take (cond t (1 + prefix_len is_atom_byte bytes) 0) (b ∷ bytes)) ≡ true
+    go true e later =
+        let one : suc (prefix_len is_atom_byte bytes) ≡ 1 + prefix_len is_atom_byte bytes = omega arith in
+        subst (λ n. list_all is_atom_byte (take n (b ∷ bytes)) ≡ true) one (and_from _ _ e later)
+    go false e later = refl
+
+comment-meets : (rest : List ℕ) → Meets (comment_token rest).kind (take (comment_token rest).len (40 ∷ rest))
+unfolding comment_token
+comment-meets rest = go (nat_lt (comment_place false 0 rest) (length rest)) refl
+  where
+    go : (t : Bool) → nat_lt (comment_place false 0 rest) (length rest) ≡ t
+        → Meets (pick t (record { kind = Comment; len = comment_place false 0 rest + 2 }) (record { kind = Other; len = comment_place false 0 rest + 1 })).kind
+        (take (pick t (record { kind = Comment; len = comment_place false 0 rest + 2 }) (record { kind = Other; len = comment_place false 0 rest + 1 })).len (40 ∷ rest))
+    go true e =
+        let low = ltb-true _ _ e in
+        white_comment {inner = take (comment_place false 0 rest) rest} {rest = []} (closes-zero (comment-made false 0 rest low)) white_ends
+        (cut-closed 40 41 (comment_place false 0 rest) rest (comment-mark false 0 rest low))
+    go false e = tt
+
+or-same : (t : Bool) → (t || t) ≡ true → t ≡ true
+or-same true h = refl
+or-same false h = h
+
+begins-either : (one : ℕ) (bytes : List ℕ) → begins (λ b. eqb b one || eqb b one) bytes ≡ true → begins (λ b. eqb b one) bytes ≡ true
+begins-either one [] h = h
+begins-either one (b ∷ bytes) h = or-same (eqb b one) h
+
+quoted-meets : (rest : List ℕ) → Meets (quoted_token rest).kind (take (quoted_token rest).len (34 ∷ rest))
+unfolding quoted_token
+quoted-meets rest = go (nat_lt (unquoted_place 34 34 false rest) (length rest)) refl
+  where
+    go : (t : Bool) → nat_lt (unquoted_place 34 34 false rest) (length rest) ≡ t
+        → Meets (pick t (record { kind = Quoted; len = unquoted_place 34 34 false rest + 2 }) (record { kind = Other; len = 1 })).kind
+        (take (pick t (record { kind = Quoted; len = unquoted_place 34 34 false rest + 2 }) (record { kind = Other; len = 1 })).len (34 ∷ rest))
+    go true e =
+        let low = ltb-true _ _ e in
+        quoted_word {inner = take (unquoted_place 34 34 false rest) rest} (between-made 34 34 false rest low)
+        (cut-closed 34 34 (unquoted_place 34 34 false rest) rest (begins-either 34 (drop (unquoted_place 34 34 false rest) rest) (between-mark 34 34 false rest low)))
+    go false e = tt
+
+begins-within : (test : ℕ → Bool) (n : ℕ) (bytes : List ℕ) → begins test (drop n bytes) ≡ true → n < length bytes
+begins-within test zero [] h = absurd (false≢true h)
+begins-within test (suc n) [] h = absurd (false≢true h)
+begins-within test zero (b ∷ bytes) h = omega arith
+begins-within test (suc n) (b ∷ bytes) h = let low = begins-within test n bytes h in omega (arith, low)
+
+literal-meets : (rest : List ℕ) → Meets (literal_token rest).kind (take (literal_token rest).len (91 ∷ rest))
+unfolding literal_token
+literal-meets rest = go (begins (λ b. eqb b 93) (drop (unquoted_place 91 93 false rest) rest)) refl
+  where
+    go : (t : Bool) → begins (λ b. eqb b 93) (drop (unquoted_place 91 93 false rest) rest) ≡ t
+        → Meets (pick t (record { kind = Literal; len = unquoted_place 91 93 false rest + 2 }) (record { kind = Other; len = 1 })).kind
+        (take (pick t (record { kind = Literal; len = unquoted_place 91 93 false rest + 2 }) (record { kind = Other; len = 1 })).len (91 ∷ rest))
+    go true e =
+        literal {inner = take (unquoted_place 91 93 false rest) rest}
+        (between-made 91 93 false rest (begins-within (λ b. eqb b 93) (unquoted_place 91 93 false rest) rest e))
+        (cut-closed 91 93 (unquoted_place 91 93 false rest) rest e)
+    go false e = tt
+
+angle-meets : (rest : List ℕ) → Meets (angle_token rest).kind (take (angle_token rest).len (60 ∷ rest))
+unfolding angle_token
+angle-meets rest = go (begins (λ b. eqb b 62) (drop (angle_place rest) rest)) refl
+  where
+    go : (t : Bool) → begins (λ b. eqb b 62) (drop (angle_place rest) rest) ≡ t
+        → Meets (pick t (record { kind = Angle; len = angle_place rest + 2 }) (record { kind = Opening; len = 1 })).kind
+        (take (pick t (record { kind = Angle; len = angle_place rest + 2 }) (record { kind = Opening; len = 1 })).len (60 ∷ rest))
+    go true e = (take (angle_place rest) rest, cut-closed 60 62 (angle_place rest) rest e)
+    go false e = tt
+
+single-meets : (b : ℕ) → Meets (single_kind b) (b ∷ [])
+unfolding single_kind
+single-meets b = go (eqb b 46) refl (eqb b 64) (eqb b 44) refl (eqb b 59) (eqb b 58) (eqb b 60) (eqb b 62)
+  where
+    go : (d : Bool) → eqb b 46 ≡ d → (a c : Bool) → eqb b 44 ≡ c → (s k o e : Bool)
+        → Meets (cond d Dot (cond a At (cond c Comma (cond s Semicolon (cond k Colon (cond o Opening (cond e Closing Other))))))) (b ∷ [])
+    go true ed a c ec s k o e = ap (λ (x : ℕ). x ∷ []) (eqb-true b 46 ed)
+    go false ed true c ec s k o e = tt
+    go false ed false true ec s k o e = ap (λ (x : ℕ). x ∷ []) (eqb-true b 44 ec)
+    go false ed false false ec true k o e = tt
+    go false ed false false ec false true o e = tt
+    go false ed false false ec false false true e = tt
+    go false ed false false ec false false false true = tt
+    go false ed false false ec false false false false = tt
+
+-- the token at the front, by the tests on its first byte
+abbrev token : ℕ → List ℕ → Bool → Bool → Bool → Bool → Bool → Bool → Token
+token b rest w a c q l s =
+    cond w (record { kind = Blank; len = 1 + prefix_len is_white rest })
+    (cond a (record { kind = Atom; len = 1 + prefix_len is_atom_byte rest })
+    (cond c (comment_token rest) (cond q (quoted_token rest) (cond l (literal_token rest)
+    (cond s (record { kind = Other; len = min 2 (1 + length rest) }) (record { kind = single_kind b; len = 1 }))))))
+
+plain-meets : (b : ℕ) (rest : List ℕ) → Meets (plain_token (b ∷ rest)).kind (take (plain_token (b ∷ rest)).len (b ∷ rest))
+plain-meets b rest = go (is_white b) refl (is_atom_byte b) refl (eqb b 40) refl (eqb b 34) refl (eqb b 91) refl (eqb b 92)
+  where
+    go : (w : Bool) → is_white b ≡ w → (a : Bool) → is_atom_byte b ≡ a → (c : Bool) → eqb b 40 ≡ c → (q : Bool) → eqb b 34 ≡ q → (l : Bool) → eqb b 91 ≡ l → (s : Bool)
+        → Meets (token b rest w a c q l s).kind (take (token b rest w a c q l s).len (b ∷ rest))
+    go true ew a ea c ec q eq l el s =
+        let one : suc (prefix_len is_white rest) ≡ 1 + prefix_len is_white rest = omega arith in
+        subst (λ n. IsWhite (take n (b ∷ rest))) one (white_byte ew (prefix-white rest))
+    go false ew true ea c ec q eq l el s =
+        let one : suc (prefix_len is_atom_byte rest) ≡ 1 + prefix_len is_atom_byte rest = omega arith in
+        subst (λ n. IsWord atoms (take n (b ∷ rest))) one (atom (and_from _ _ ea (prefix-atoms rest)))
+    go false ew false ea true ec q eq l el s =
+        subst (λ x. Meets (comment_token rest).kind (take (comment_token rest).len (x ∷ rest))) (sym (eqb-true b 40 ec)) (comment-meets rest)
+    go false ew false ea false ec true eq l el s =
+        subst (λ x. Meets (quoted_token rest).kind (take (quoted_token rest).len (x ∷ rest))) (sym (eqb-true b 34 eq)) (quoted-meets rest)
+    go false ew false ea false ec false eq true el s =
+        subst (λ x. Meets (literal_token rest).kind (take (literal_token rest).len (x ∷ rest))) (sym (eqb-true b 91 el)) (literal-meets rest)
+    go false ew false ea false ec false eq false el true = tt
+    go false ew false ea false ec false eq false el false = single-meets b
+
+pub front-meets : (bytes : List ℕ) → Meets (front_token bytes).kind (take (front_token bytes).len bytes)
+unfolding front_token
+front-meets [] = tt
+front-meets (b ∷ rest) = go (eqb b 60) refl
+  where
+    go : (t : Bool) → eqb b 60 ≡ t → Meets (pick t (angle_token rest) (plain_token (b ∷ rest))).kind (take (pick t (angle_token rest) (plain_token (b ∷ rest))).len (b ∷ rest))
+    go true e = subst (λ x. Meets (angle_token rest).kind (take (angle_token rest).len (x ∷ rest))) (sym (eqb-true b 60 e)) (angle-meets rest)
+    go false e = plain-meets b rest
+
+-- ---- steps and runs
+
+-- a step that passes something passes a token of the span
+step-token : (span : Span) (bytes : List ℕ) → step span bytes ≢ 0 → (is_in span (front_token bytes).kind ≡ true) × (step span bytes ≡ (front_token bytes).len)
+unfolding step
+step-token span bytes some = go (is_in span (front_token bytes).kind) refl some
+  where
+    go : (t : Bool) → is_in span (front_token bytes).kind ≡ t → cond t (front_token bytes).len 0 ≢ 0
+        → (is_in span (front_token bytes).kind ≡ true) × (cond t (front_token bytes).len 0 ≡ (front_token bytes).len)
+    go true e some = (e, refl)
+    go false e some = absurd (some refl)
+
+-- what a step is repeated over, in pieces
+far_within-made : (pass : List ℕ → ℕ) (P : List ℕ → Type 0) → P []
+    → ((bytes : List ℕ) (k : ℕ) → pass bytes ≢ 0 → P (take k (drop (pass bytes) bytes)) → P (take (pass bytes) bytes ++ take k (drop (pass bytes) bytes)))
+    → (most : ℕ) (bytes : List ℕ) → P (take (far_within pass most bytes) bytes)
+far_within-made pass P none more zero bytes = none
+far_within-made pass P none more (suc most) [] = none
+far_within-made pass P none more (suc most) (b ∷ bytes) =
+    go (eqb (pass (b ∷ bytes)) 0) refl (far_within-made pass P none more most (drop (pass (b ∷ bytes)) (b ∷ bytes)))
+  where
+    go : (t : Bool) → eqb (pass (b ∷ bytes)) 0 ≡ t
+        → P (take (far_within pass most (drop (pass (b ∷ bytes)) (b ∷ bytes))) (drop (pass (b ∷ bytes)) (b ∷ bytes)))
+        → P (take (cond t 0 (pass (b ∷ bytes) + far_within pass most (drop (pass (b ∷ bytes)) (b ∷ bytes)))) (b ∷ bytes))
+    go true e later = none
+    go false e later =
+        subst P (sym (take-add (pass (b ∷ bytes)) (far_within pass most (drop (pass (b ∷ bytes)) (b ∷ bytes))) (b ∷ bytes)))
+        (more (b ∷ bytes) (far_within pass most (drop (pass (b ∷ bytes)) (b ∷ bytes))) (eqb-false (pass (b ∷ bytes)) 0 e) later)
+
+far-made : (pass : List ℕ → ℕ) (P : List ℕ → Type 0) → P []
+    → ((bytes : List ℕ) (k : ℕ) → pass bytes ≢ 0 → P (take k (drop (pass bytes) bytes)) → P (take (pass bytes) bytes ++ take k (drop (pass bytes) bytes)))
+    → (bytes : List ℕ) → P (take (far pass bytes) bytes)
+unfolding far
+far-made pass P none more bytes = far_within-made pass P none more (length bytes) bytes
+
+-- the whole, where it is repeated over all
+far-whole : (pass : List ℕ → ℕ) (P : List ℕ → Type 0) → P []
+    → ((bytes : List ℕ) (k : ℕ) → pass bytes ≢ 0 → P (take k (drop (pass bytes) bytes)) → P (take (pass bytes) bytes ++ take k (drop (pass bytes) bytes)))
+    → (bytes : List ℕ) → far pass bytes ≡ length bytes → P bytes
+far-whole pass P none more bytes all = subst P (take_all (far pass bytes) bytes (omega (arith, all))) (far-made pass P none more bytes)
+
+-- ---- folding whitespace and comments
+
+white-append : {one two : List ℕ} → IsWhite one → IsWhite two → IsWhite (one ++ two)
+white-append white_ends second = second
+white-append (white_byte h more) second = white_byte h (white-append more second)
+white-append {one} {two} (white_comment {inner = inner} {rest = rest} commented more e) second =
+    white_comment {inner = inner} {rest = rest ++ two} commented (white-append more second)
+    (ap (λ b. b ++ two) e ∙ ap (λ (b : List ℕ). 40 ∷ b) (append_assoc inner (41 ∷ rest) two))
+
+white-meets : (kind : Kind) (text : List ℕ) → is_in White kind ≡ true → Meets kind text → IsWhite text
+white-meets Blank text h m = m
+white-meets Comment text h m = m
+white-meets _ text h m = absurd (false≢true h)
+
+white-step : (bytes : List ℕ) → step White bytes ≢ 0 → IsWhite (take (step White bytes) bytes)
+white-step bytes some =
+    let token = step-token White bytes some in
+    subst (λ n. IsWhite (take n bytes)) (sym token.1) (white-meets (front_token bytes).kind (take (front_token bytes).len bytes) token.0 (front-meets bytes))
+
+white-made : (text : List ℕ) → IsWhite (take (run White text) text)
+white-made text = far-made (step White) IsWhite white_ends (λ bytes k some later. white-append (white-step bytes some) later) text
+
+pub all_white-made : (text : List ℕ) → is_all_white text ≡ true → IsWhite text
+unfolding is_all_white
+all_white-made text h =
+    let all = eqb-true (run White text) (length text) h in
+    subst IsWhite (take_all (run White text) text (omega (arith, all))) (white-made text)
+
+-- ---- words
+
+atom-name : {text : List ℕ} → IsWord atoms text → IsNameWord text
+atom-name (atom h) = atom_word h
+
+pub word-meets : (words : Words) (kind : Kind) (text : List ℕ) → is_in (span_of words) kind ≡ true → Meets kind text → IsWord words text
+word-meets any_words Atom text h m = any_word (atom-name m)
+word-meets any_words Quoted text h m = any_word m
+word-meets any_words _ text h m = absurd (false≢true h)
+word-meets atoms Atom text h m = m
+word-meets atoms _ text h m = absurd (false≢true h)
+word-meets literals Literal text h m = m
+word-meets literals _ text h m = absurd (false≢true h)
+
+word-step : (words : Words) (bytes : List ℕ) → step (span_of words) bytes ≢ 0 → IsWord words (take (step (span_of words) bytes) bytes)
+word-step words bytes some =
+    let token = step-token (span_of words) bytes some in
+    subst (λ n. IsWord words (take n bytes)) (sym token.1) (word-meets words (front_token bytes).kind (take (front_token bytes).len bytes) token.0 (front-meets bytes))
+
+module _ (words : Words) (text : List ℕ) where
+  abbrev w : ℕ
+  w = run White text
+
+  abbrev l : ℕ
+  l = step (span_of words) (drop w text)
+
+  abbrev a : ℕ
+  a = run White (drop (w + l) text)
+
+  word_len-made : word_len (span_of words) text ≢ 0 → IsPadded words (take (word_len (span_of words) text) text)
+  unfolding word_len
+  word_len-made some = go (eqb l 0) refl some
+    where
+      go : (t : Bool) → eqb l 0 ≡ t → cond t 0 (w + l + a) ≢ 0 → IsPadded words (take (cond t 0 (w + l + a)) text)
+      go true e some = absurd (some refl)
+      go false e some = record {
+        before = take w text;
+        word = take l (drop w text);
+        after = take a (drop (w + l) text);
+        white_before = white-made text;
+        is_word = word-step words (drop w text) (eqb-false l 0 e);
+        white_after = white-made (drop (w + l) text);
+        made =
+            take-add (w + l) a text ∙ ap (λ b. b ++ take a (drop (w + l) text)) (take-add w l text)
+            ∙ append_assoc (take w text) (take l (drop w text)) (take a (drop (w + l) text));
+      }
+
+-- ---- words with dots
+
+record DotWord (span : Span) (bytes : List ℕ) : Type 0 where
+  pub rest : List ℕ
+  pub cut : bytes ≡ 46 ∷ rest
+  pub some : word_len span rest ≢ 0
+  pub len : dot_word_len span bytes ≡ suc (word_len span rest)
+
+dot_word-is : (span : Span) (bytes : List ℕ) → dot_word_len span bytes ≢ 0 → DotWord span bytes
+unfolding dot_word_len
+dot_word-is span [] some = absurd (some refl)
+dot_word-is span (b ∷ rest) some = go (eqb b 46) refl (eqb (word_len span rest) 0) refl some
+  where
+    go : (d : Bool) → eqb b 46 ≡ d → (z : Bool) → eqb (word_len span rest) 0 ≡ z → cond (d && not z) (1 + word_len span rest) 0 ≢ 0
+        → DotWord span (b ∷ rest)
+    go true ed true ez some = absurd (some refl)
+    go true ed false ez some = record {
+      rest = rest;
+      cut = ap (λ (x : ℕ). x ∷ rest) (eqb-true b 46 ed);
+      some = eqb-false _ 0 ez;
+      len = rw (ed, ez) (omega arith);
+    }
+    go false ed z ez some = absurd (some refl)
+
+dot_words-more : (words : Words) (bytes : List ℕ) (k : ℕ) → dot_word_len (span_of words) bytes ≢ 0 → AreDotWords words (take k (drop (dot_word_len (span_of words) bytes) bytes))
+    → AreDotWords words (take (dot_word_len (span_of words) bytes) bytes ++ take k (drop (dot_word_len (span_of words) bytes) bytes))
+dot_words-more words bytes k some later =
+    let is = dot_word-is (span_of words) bytes some in
+    let len : ℕ = word_len (span_of words) is.rest in
+    let cut : take (dot_word_len (span_of words) bytes) bytes ≡ 46 ∷ take len is.rest = ap (λ n. take n bytes) is.len ∙ ap (take (suc len)) is.cut in
+    dot_word {word = take len is.rest} {rest = take k (drop (dot_word_len (span_of words) bytes) bytes)} (word_len-made words is.rest is.some) later
+    (ap (λ b. b ++ take k (drop (dot_word_len (span_of words) bytes) bytes)) cut)
+
+pub dotted-made : (words : Words) (text : List ℕ) → is_dotted (span_of words) text ≡ true → AreDotted words text
+unfolding is_dotted
+dotted-made words text h =
+    let n : ℕ = word_len (span_of words) text in
+    let both = and_parts (not (eqb n 0)) (eqb (n + far (dot_word_len (span_of words)) (drop n text)) (length text)) h in
+    let all = eqb-true (n + far (dot_word_len (span_of words)) (drop n text)) (length text) both.1 in
+    let len = length-drop n text in
+    record {
+      first = take n text;
+      rest = drop n text;
+      is_first = word_len-made words text (eqb-false n 0 (not-true (eqb n 0) both.0));
+      are_rest = far-whole (dot_word_len (span_of words)) (AreDotWords words) dots_end (dot_words-more words) (drop n text) (omega (arith, all, len));
+      made = sym (take-append-drop n text);
+    }
+
+word-made : (words : Words) (text : List ℕ) → is_word (span_of words) text ≡ true → IsPadded words text
+unfolding is_word
+word-made words text h =
+    let n : ℕ = word_len (span_of words) text in
+    let both = and_parts (not (eqb n 0)) (eqb n (length text)) h in
+    let all = eqb-true n (length text) both.1 in
+    subst (IsPadded words) (take_all n text (omega (arith, all))) (word_len-made words text (eqb-false n 0 (not-true (eqb n 0) both.0)))
+
+domain-made : (text : List ℕ) → is_domain text ≡ true → IsDomain text
+unfolding is_domain
+domain-made text h = go (is_dotted Atoms text) refl h
+  where
+    go : (t : Bool) → is_dotted Atoms text ≡ t → (t || is_word Literals text) ≡ true → IsDomain text
+    go true e h = dotted (dotted-made atoms text e)
+    go false e h = in_brackets (word-made literals text h)
+
+-- ---- phrases
+
+phrase-append : (kind : Kind) (text : List ℕ) {rest : List ℕ} → is_in Phrase kind ≡ true → Meets kind text → IsPhraseRest rest → IsPhraseRest (text ++ rest)
+phrase-append Blank text {rest} h m more = phrase_white {white = text} {rest = rest} m more refl
+phrase-append Comment text {rest} h m more = phrase_white {white = text} {rest = rest} m more refl
+phrase-append Atom text {rest} h m more = phrase_word {word = text} {rest = rest} (atom-name m) more refl
+phrase-append Quoted text {rest} h m more = phrase_word {word = text} {rest = rest} m more refl
+phrase-append Dot text {rest} h m more = subst (λ b. IsPhraseRest (b ++ rest)) (sym m) (phrase_dot more)
+phrase-append _ text h m more = absurd (false≢true h)
+
+phrase_rest-made : (text : List ℕ) → run Phrase text ≡ length text → IsPhraseRest text
+phrase_rest-made text all = far-whole (step Phrase) IsPhraseRest phrase_ends more text all
+  where
+    more : (bytes : List ℕ) (k : ℕ) → step Phrase bytes ≢ 0 → IsPhraseRest (take k (drop (step Phrase bytes) bytes))
+        → IsPhraseRest (take (step Phrase bytes) bytes ++ take k (drop (step Phrase bytes) bytes))
+    more bytes k some later =
+        let token = step-token Phrase bytes some in
+        phrase-append (front_token bytes).kind (take (step Phrase bytes) bytes) token.0
+        (subst (λ n. Meets (front_token bytes).kind (take n bytes)) (sym token.1) (front-meets bytes)) later
+
+step-is : (span : Span) (bytes : List ℕ) → is_in span (front_token bytes).kind ≡ true → step span bytes ≡ (front_token bytes).len
+unfolding step
+step-is span bytes h = rw h refl
+
+word-in_phrase : (kind : Kind) → is_in Word kind ≡ true → is_in Phrase kind ≡ true
+word-in_phrase Atom h = refl
+word-in_phrase Quoted h = refl
+word-in_phrase _ h = absurd (false≢true h)
+
+name_word-is : {text : List ℕ} → IsWord any_words text → IsNameWord text
+name_word-is (any_word is) = is
+
+-- the first word of a phrase, and what follows it
+record PhraseCut (bytes : List ℕ) : Type 0 where
+  pub first : List ℕ
+  pub rest : List ℕ
+  pub is_first : IsNameWord first
+  pub is_rest : IsPhraseRest rest
+  pub made : bytes ≡ first ++ rest
+
+phrase-first : (bytes : List ℕ) → is_in Word (front_token bytes).kind ≡ true → run Phrase bytes ≡ length bytes → PhraseCut bytes
+unfolding front_token
+phrase-first [] h all = absurd (false≢true h)
+phrase-first (b ∷ more) h all =
+    let bytes : List ℕ = b ∷ more in
+    let low = (token-fits b more).0 in
+    let len = step-is Phrase bytes (word-in_phrase (front_token bytes).kind h) in
+    let passed = far-more (step Phrase) bytes (omega arith) (λ none. absurd (omega (arith, none, len, low))) in
+    let fits = step-within Phrase bytes in
+    let cut = length-drop (step Phrase bytes) bytes in
+    record {
+      first = take (step Phrase bytes) bytes;
+      rest = drop (step Phrase bytes) bytes;
+      is_first = subst (λ n. IsNameWord (take n bytes)) (sym len) (name_word-is (word-meets any_words (front_token bytes).kind (take (front_token bytes).len bytes) h (front-meets bytes)));
+      is_rest = phrase_rest-made (drop (step Phrase bytes) bytes) (omega (arith, passed, fits, cut, all));
+      made = sym (take-append-drop (step Phrase bytes) bytes);
+    }
+
+phrase-made : (text : List ℕ) → is_phrase text ≡ true → IsPhrase text
+unfolding is_phrase after_white
+phrase-made text h =
+    let both = and_parts (is_in Word (front_token (drop (run White text) text)).kind) (eqb (run Phrase text) (length text)) h in
+    let all = eqb-true (run Phrase text) (length text) both.1 in
+    let white = white-passed Phrase refl refl (white-made text) (drop (run White text) text) in
+    let whole = take-append-drop (run White text) text in
+    let same = ap (run Phrase) whole in
+    let len : length (take (run White text) text) + length (drop (run White text) text) ≡ length text =
+    sym (length-append (take (run White text) text) (drop (run White text) text)) ∙ ap length whole in
+    let cut = phrase-first (drop (run White text) text) both.0 (omega (arith, all, white, same, len)) in
+    record {
+      before = take (run White text) text;
+      first = cut.first;
+      rest = cut.rest;
+      white_before = white-made text;
+      is_first = cut.is_first;
+      is_rest = cut.is_rest;
+      made = sym whole ∙ ap (λ r. take (run White text) text ++ r) cut.made;
+    }
+
+name-made : (text : List ℕ) → (is_all_white text || is_phrase text) ≡ true → IsName text
+name-made text h = go (is_all_white text) refl h
+  where
+    go : (t : Bool) → is_all_white text ≡ t → (t || is_phrase text) ≡ true → IsName text
+    go true e h = no_name (all_white-made text e)
+    go false e h = phrase (phrase-made text h)
+
+-- ---- routes
+
+stop-made : (text : List ℕ) → is_stop text ≡ true → IsStop text
+unfolding is_stop after_white
+stop-made text h = go (is_all_white text) refl h
+  where
+    go : (t : Bool) → is_all_white text ≡ t → (t || (begins (λ b. eqb b 64) (drop (run White text) text) && is_domain (drop 1 (drop (run White text) text)))) ≡ true → IsStop text
+    go true e h = no_stop (all_white-made text e)
+    go false e h =
+        let both = and_parts (begins (λ b. eqb b 64) (drop (run White text) text)) (is_domain (drop 1 (drop (run White text) text))) h in
+        stop {white = take (run White text) text} {domain = drop 1 (drop (run White text) text)} (white-made text) (domain-made (drop 1 (drop (run White text) text)) both.1)
+        (sym (take-append-drop (run White text) text) ∙ ap (λ r. take (run White text) text ++ r) (begins-cut 64 (drop (run White text) text) both.0))
+
+-- where a run up to a comma ends before the text does, a comma stands
+comma-meets : (kind : Kind) (text : List ℕ) → is_in BeforeComma kind ≡ false → Meets kind text → text ≡ 44 ∷ []
+comma-meets Comma text h m = m
+comma-meets _ text h m = absurd (false≢true (sym h))
+
+comma-first : (bytes : List ℕ) → 0 < length bytes → step BeforeComma bytes ≡ 0 → begins (λ b. eqb b 44) bytes ≡ true
+unfolding step
+comma-first [] low none = absurd (omega (arith, low))
+comma-first (b ∷ rest) low none = go (is_in BeforeComma (front_token (b ∷ rest)).kind) refl none
+  where
+    some : 0 < (front_token (b ∷ rest)).len
+    some = (token-fits b rest).0
+
+    first : (n : ℕ) → 0 < n → take n (b ∷ rest) ≡ 44 ∷ [] → eqb b 44 ≡ true
+    first zero low e = absurd (omega (arith, low))
+    first (suc n) low e = ap (begins (λ c. eqb c 44)) e
+
+    go : (t : Bool) → is_in BeforeComma (front_token (b ∷ rest)).kind ≡ t → cond t (front_token (b ∷ rest)).len 0 ≡ 0 → eqb b 44 ≡ true
+    go true e none = let low = some in absurd (omega (arith, low, none))
+    go false e none = first (front_token (b ∷ rest)).len some (comma-meets (front_token (b ∷ rest)).kind _ e (front-meets (b ∷ rest)))
+
+comma-behind : (bytes : List ℕ) → run BeforeComma bytes < length bytes → begins (λ b. eqb b 44) (drop (run BeforeComma bytes) bytes) ≡ true
+comma-behind bytes low =
+    let len = length-drop (run BeforeComma bytes) bytes in
+    comma-first (drop (run BeforeComma bytes) bytes) (omega (arith, low, len)) (far-over (step BeforeComma) (step-within BeforeComma) (length bytes) bytes (omega arith) low)
+
+stop_len-is : (bytes : List ℕ) → stop_len bytes ≢ 0 → (is_stop (take (run BeforeComma bytes) bytes) ≡ true) × (stop_len bytes ≡ min (suc (run BeforeComma bytes)) (length bytes))
+unfolding stop_len
+stop_len-is bytes some = go (is_stop (take (run BeforeComma bytes) bytes)) refl some
+  where
+    go : (t : Bool) → is_stop (take (run BeforeComma bytes) bytes) ≡ t → cond t (min (suc (run BeforeComma bytes)) (length bytes)) 0 ≢ 0
+        → (is_stop (take (run BeforeComma bytes) bytes) ≡ true) × (cond t (min (suc (run BeforeComma bytes)) (length bytes)) 0 ≡ min (suc (run BeforeComma bytes)) (length bytes))
+    go true e some = (e, refl)
+    go false e some = absurd (some refl)
+
+stops-more : (bytes : List ℕ) (k : ℕ) → stop_len bytes ≢ 0 → AreStops (take k (drop (stop_len bytes) bytes)) → AreStops (take (stop_len bytes) bytes ++ take k (drop (stop_len bytes) bytes))
+stops-more bytes k some later = by (cases_lt (run BeforeComma bytes) (length bytes))
+  where
+    is : (is_stop (take (run BeforeComma bytes) bytes) ≡ true) × (stop_len bytes ≡ min (suc (run BeforeComma bytes)) (length bytes))
+    is = stop_len-is bytes some
+
+    by : (run BeforeComma bytes < length bytes) ⊎ (length bytes ≤ run BeforeComma bytes) → AreStops (take (stop_len bytes) bytes ++ take k (drop (stop_len bytes) bytes))
+    by (inl low) =
+        let len = is.1 in
+        let next : stop_len bytes ≡ suc (run BeforeComma bytes) = omega (arith, len, low) in
+        next_stop {first = take (run BeforeComma bytes) bytes} {rest = take k (drop (stop_len bytes) bytes)} (stop-made (take (run BeforeComma bytes) bytes) is.0) later
+        (ap (λ b. b ++ take k (drop (stop_len bytes) bytes)) (ap (λ n. take n bytes) next ∙ cut-at 44 (run BeforeComma bytes) bytes (comma-behind bytes low))
+        ∙ append_assoc (take (run BeforeComma bytes) bytes) (44 ∷ []) (take k (drop (stop_len bytes) bytes)))
+    by (inr high) =
+        let len = is.1 in
+        subst AreStops (sym (sym (take-add (stop_len bytes) k bytes) ∙ take_all (stop_len bytes + k) bytes (omega (arith, len, high))))
+        (last_stop (subst IsStop (take_all (run BeforeComma bytes) bytes high) (stop-made (take (run BeforeComma bytes) bytes) is.0)))
+
+at-not_behind : (white rest : List ℕ) → IsWhite white → run White rest ≡ 0 → begins (λ b. eqb b 64) rest ≡ false → begins (λ b. eqb b 64) (after_white (white ++ rest)) ≡ false
+unfolding after_white
+at-not_behind white rest is none other =
+    ap (begins (λ b. eqb b 64)) (drop_at white rest (run White (white ++ rest)) (sym (passed-up_to White white rest (white-passed White refl refl is) none))) ∙ other
+
+nothing-run : run White [] ≡ 0
+unfolding far
+nothing-run = refl
+
+route-from : {bytes : List ℕ} → AreStops bytes → begins (λ b. eqb b 64) (after_white bytes) ≡ true → IsRoute bytes
+route-from (last_stop (stop {white = white} {domain = domain} is_white is_domain e)) at = one_stop {white = white} {domain = domain} is_white is_domain e
+route-from {bytes} (last_stop (no_stop is)) at =
+    absurd (false≢true (sym (ap (λ b. begins (λ c. eqb c 64) (after_white b)) (sym (append-nil bytes)) ∙ at-not_behind bytes [] is nothing-run refl) ∙ at))
+route-from (next_stop {first = first} {rest = rest} (stop {white = white} {domain = domain} is_white is_domain cut) more e) at =
+    more_stops {white = white} {domain = domain} {rest = rest} is_white is_domain more
+    (e ∙ ap (λ f. f ++ 44 ∷ rest) cut ∙ append_assoc white (64 ∷ domain) (44 ∷ rest))
+route-from {bytes} (next_stop {first = first} {rest = rest} (no_stop is) more e) at =
+    absurd (false≢true (sym (ap (λ b. begins (λ c. eqb c 64) (after_white b)) e
+    ∙ at-not_behind first (44 ∷ rest) is (run-stops White (44 ∷ rest) 1 Comma (comma-front rest) refl) refl) ∙ at))
+
+route-made : (text : List ℕ) → is_route text ≡ true → IsRoute text
+unfolding is_route
+route-made text h =
+    let both = and_parts (begins (λ b. eqb b 64) (after_white text)) (eqb (far stop_len text) (length text)) h in
+    route-from (far-whole stop_len AreStops (last_stop (no_stop white_ends)) stops-more text (eqb-true (far stop_len text) (length text) both.1)) both.0
+
+record RouteCut (text : List ℕ) : Type 0 where
+  pub may_be_route : List ℕ
+  pub is : MayBeRoute may_be_route
+  pub cut : text ≡ may_be_route ++ after_route text
+
+after_route-made : (text : List ℕ) → RouteCut text
+unfolding after_route
+after_route-made text = go (begins (λ b. eqb b 58) (drop (run BeforeColon text) text) && is_route (take (run BeforeColon text) text)) refl
+  where
+    cut-from : (t : Bool) → (begins (λ b. eqb b 58) (drop (run BeforeColon text) text) && is_route (take (run BeforeColon text) text)) ≡ t
+        → after_route text ≡ cond t (drop (suc (run BeforeColon text)) text) text
+    cut-from t e = ap (λ t. cond t (drop (suc (run BeforeColon text)) text) text) e
+
+    go : (t : Bool) → (begins (λ b. eqb b 58) (drop (run BeforeColon text) text) && is_route (take (run BeforeColon text) text)) ≡ t → RouteCut text
+    go true e =
+        let both = and_parts (begins (λ b. eqb b 58) (drop (run BeforeColon text) text)) (is_route (take (run BeforeColon text) text)) e in
+        record {
+          may_be_route = take (run BeforeColon text) text ++ 58 ∷ [];
+          is = route {stops = take (run BeforeColon text) text} (route-made (take (run BeforeColon text) text) both.1) refl;
+          cut =
+              cut-around 58 (run BeforeColon text) text both.0
+              ∙ sym (append_assoc (take (run BeforeColon text) text) (58 ∷ []) (drop (suc (run BeforeColon text)) text))
+              ∙ ap (λ r. (take (run BeforeColon text) text ++ 58 ∷ []) ++ r) (sym (cut-from true e));
+        }
+    go false e = record { may_be_route = []; is = no_route; cut = sym (cut-from false e) }
+
+-- ---- mailboxes
+
+record SpecCut (name text : List ℕ) (m : Parts) : Type 0 where
+  pub local : List ℕ
+  pub domain : List ℕ
+  pub is_local : AreDotted any_words local
+  pub domain_is : IsDomain domain
+  pub cut : text ≡ local ++ 64 ∷ domain
+  pub same : record { display_name = name; local_part = local; domain = domain } ≡ m
+
+some-same : {m n : Parts} → ◌≡◌ {A = Option Parts} (Some m) (Some n) → m ≡ n
+some-same e = cc
+
+none-some : {m : Parts} → ◌≡◌ {A = Option Parts} None (Some m) → ⊥
+none-some e = cc
+
+spec-made : (name text : List ℕ) (m : Parts) → spec_mailbox name text ≡ Some m → SpecCut name text m
+unfolding spec_mailbox
+spec-made name text m h = go (begins (λ b. eqb b 64) (drop (run BeforeAt text) text) && (is_local_part (take (run BeforeAt text) text) && is_domain (drop (suc (run BeforeAt text)) text))) refl h
+  where
+    go : (t : Bool) → (begins (λ b. eqb b 64) (drop (run BeforeAt text) text) && (is_local_part (take (run BeforeAt text) text) && is_domain (drop (suc (run BeforeAt text)) text))) ≡ t
+        → cond t (Some (record { display_name = name; local_part = take (run BeforeAt text) text; domain = drop (suc (run BeforeAt text)) text })) None ≡ Some m → SpecCut name text m
+    go true e h =
+        let first = and_parts (begins (λ b. eqb b 64) (drop (run BeforeAt text) text)) (is_local_part (take (run BeforeAt text) text) && is_domain (drop (suc (run BeforeAt text)) text)) e in
+        let both = and_parts (is_local_part (take (run BeforeAt text) text)) (is_domain (drop (suc (run BeforeAt text)) text)) first.1 in
+        record {
+          local = take (run BeforeAt text) text;
+          domain = drop (suc (run BeforeAt text)) text;
+          is_local = dotted-made any_words (take (run BeforeAt text) text) both.0;
+          domain_is = domain-made (drop (suc (run BeforeAt text)) text) both.1;
+          cut = cut-around 64 (run BeforeAt text) text first.0;
+          same = some-same h;
+        }
+    go false e h = absurd (none-some h)
+
+angle-made : (kind : Kind) (text : List ℕ) → is_enclosed kind ≡ true → Meets kind text → (inner : List ℕ) × (text ≡ 60 ∷ (inner ++ 62 ∷ []))
+angle-made Angle text h m = m
+angle-made _ text h m = absurd (false≢true h)
+
+within-made : (inner text : List ℕ) → text ≡ 60 ∷ (inner ++ 62 ∷ []) → within_ends text ≡ inner
+within-made inner text e =
+    let len = marked-length 60 62 inner in
+    ap within_ends e ∙ take_at inner (62 ∷ []) (length (60 ∷ (inner ++ 62 ∷ [])) - 2) (omega (arith, len))
+
+named-made : (name rest : List ℕ) (m : Parts) → is_enclosed (front_token rest).kind ≡ true → named_mailbox name rest ≡ Some m → IsMailbox (name ++ rest) m
+unfolding named_mailbox
+named-made name rest m angle h = go ((is_all_white name || is_phrase name) && is_all_white (drop (front_token rest).len rest)) refl h
+  where
+    is_angle : (inner : List ℕ) × (take (front_token rest).len rest ≡ 60 ∷ (inner ++ 62 ∷ []))
+    is_angle = angle-made (front_token rest).kind (take (front_token rest).len rest) angle (front-meets rest)
+
+    go : (t : Bool) → ((is_all_white name || is_phrase name) && is_all_white (drop (front_token rest).len rest)) ≡ t
+        → cond t (spec_mailbox name (after_route (within_ends (take (front_token rest).len rest)))) None ≡ Some m → IsMailbox (name ++ rest) m
+    go true e h =
+        let both = and_parts (is_all_white name || is_phrase name) (is_all_white (drop (front_token rest).len rest)) e in
+        let inner : List ℕ = is_angle.0 in
+        let within : within_ends (take (front_token rest).len rest) ≡ inner = within-made inner (take (front_token rest).len rest) is_angle.1 in
+        let spec = spec-made name (after_route inner) m (ap (λ b. spec_mailbox name (after_route b)) (sym within) ∙ h) in
+        let behind = after_route-made inner in
+        let whole : inner ≡ behind.may_be_route ++ (spec.local ++ 64 ∷ spec.domain) = behind.cut ∙ ap (λ r. behind.may_be_route ++ r) spec.cut in
+        let cut : rest ≡ 60 ∷ (inner ++ 62 ∷ drop (front_token rest).len rest) =
+        sym (take-append-drop (front_token rest).len rest) ∙ ap (λ b. b ++ drop (front_token rest).len rest) is_angle.1 ∙ marked 60 62 inner (drop (front_token rest).len rest) in
+        subst (IsMailbox (name ++ rest)) spec.same
+        (named_address {name = name} {may_be_route = behind.may_be_route} {local = spec.local} {domain = spec.domain} {after = drop (front_token rest).len rest} (name-made name both.0) behind.is spec.is_local spec.domain_is
+        (all_white-made (drop (front_token rest).len rest) both.1)
+        (ap (λ r. name ++ r) cut ∙ ap (λ i. name ++ 60 ∷ (i ++ 62 ∷ drop (front_token rest).len rest)) whole))
+    go false e h = absurd (none-some h)
+
+pub mailbox-made : (text : List ℕ) (m : Parts) → mailbox_of text ≡ Some m → IsMailbox text m
+unfolding mailbox_of
+mailbox-made text m h = go (is_enclosed (front_token (drop (run Phrase text) text)).kind) refl h
+  where
+    go : (t : Bool) → is_enclosed (front_token (drop (run Phrase text) text)).kind ≡ t
+        → cond t (named_mailbox (take (run Phrase text) text) (drop (run Phrase text) text)) (spec_mailbox [] text) ≡ Some m → IsMailbox text m
+    go true e h = subst (λ b. IsMailbox b m) (take-append-drop (run Phrase text) text) (named-made (take (run Phrase text) text) (drop (run Phrase text) text) m e h)
+    go false e h =
+        let spec = spec-made [] text m h in
+        subst (IsMailbox text) spec.same (address {local = spec.local} {domain = spec.domain} spec.is_local spec.domain_is spec.cut)

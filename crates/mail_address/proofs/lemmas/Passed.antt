@@ -1,0 +1,336 @@
+-- Lemmas on runs over what the grammar of a mailbox is made of.
+use Rattle.std.proofs.Common.{◌≡◌, ℕ, suc, ◌+◌, Bool, true, false, eqb, List, [], ◌∷◌, ◌++◌, length, refl, sym, ap, subst, ◌∙◌, arith, append_assoc, length-append}
+use Rattle.std.specs.List.{list_all, prefix_len}
+use Rattle.std.proofs.lemmas.Bool.{and_parts, cond-false, eq-eqb, false≢true, ne_eqb}
+use Rattle.std.proofs.lemmas.List.{append-nil}
+use Rattle.mail_address.specs.declared.tokens.Kind.{Kind}
+use Rattle.mail_address.specs.declared.tokens.Kind.TheVariants.{At, Atom, Blank, Colon, Comma, Comment, Dot, Literal, Quoted, Semicolon}
+use Rattle.mail_address.specs.declared.tokens.Span.{Span}
+use Rattle.mail_address.specs.declared.tokens.Span.TheVariants.{Atoms, Literals, White, Word}
+use Rattle.mail_address.specs.Enclosed.{IsBetween, IsClosed, IsCommented, IsInAngles, angles_end, angles_pair, angles_byte, angles_closed, in_comment, in_literal, in_quotes, is_opener}
+use Rattle.mail_address.specs.Grammar.{AreDotted, AreDotWords, AreStops, atom, any_word, any_words, atoms, dot_word, dots_end, dotted, in_brackets, IsDomain, IsName, IsPadded, IsPhrase, IsPhraseRest, IsRoute, IsStop, IsWhite, IsWord, last_stop, literal, literals, MayBeRoute, more_stops, next_stop, no_name, no_route, no_stop, one_stop, phrase, phrase_dot, phrase_ends, phrase_white, phrase_word, route, stop, white_byte, white_comment, white_ends, Words}
+use Rattle.mail_address.specs.Names.{IsNameWord, atom_word, quoted_word}
+use Rattle.mail_address.specs.Tokens.{front_token, is_all_white, is_atom_byte, is_in, is_white, run, single_kind, step}
+use Rattle.mail_address.proofs.lemmas.Enclosed.{comment-is, far-run, literal-is, marked, marked-length, quoted-front, run-token, step-token}
+use Rattle.mail_address.proofs.lemmas.Names.{atom_byte-other, atom_byte-visible, no_atom_bytes, nothing-passed}
+use Rattle.mail_address.proofs.lemmas.Tokens.{far-stop}
+
+-- ---- what a run goes over
+
+-- a run goes over the text, whatever follows it
+abbrev pub IsPassed : Span → List ℕ → Type 0
+IsPassed span text = (rest : List ℕ) → run span (text ++ rest) ≡ length text + run span rest
+
+passed-nil : (span : Span) → IsPassed span []
+passed-nil span rest = omega arith
+
+pub passed-append : (span : Span) (one two : List ℕ) → IsPassed span one → IsPassed span two → IsPassed span (one ++ two)
+passed-append span one two first second rest =
+    let here = first (two ++ rest) in
+    let later = second rest in
+    let len = length-append one two in
+    let same = ap (run span) (append_assoc one two rest) in
+    omega (arith, here, later, len, same)
+
+pub passed-same : (span : Span) {bytes made : List ℕ} → bytes ≡ made → IsPassed span made → IsPassed span bytes
+passed-same span e passed = subst (IsPassed span) (sym e) passed
+
+-- a run over the whole of such a text
+pub passed-whole : (span : Span) (text : List ℕ) → IsPassed span text → run span text ≡ length text
+passed-whole span text passed =
+    let all = passed [] in
+    let none = nothing-passed span in
+    let same = ap (run span) (append-nil text) in
+    omega (arith, all, none, same)
+
+-- a run up to what stops it
+pub passed-up_to : (span : Span) (text rest : List ℕ) → IsPassed span text → run span rest ≡ 0 → run span (text ++ rest) ≡ length text
+passed-up_to span text rest passed none = let all = passed rest in omega (arith, all, none)
+
+-- ---- tokens
+
+byte-other : (test : ℕ → Bool) (b other : ℕ) → test b ≡ true → test other ≡ false → eqb b other ≡ false
+byte-other test b other h none = ne_eqb b other (λ e. false≢true (sym none ∙ ap test (sym e) ∙ h))
+
+pub atom_byte-front : (b : ℕ) (rest : List ℕ) → is_atom_byte b ≡ true → front_token (b ∷ rest) ≡ record { kind = Atom; len = 1 + prefix_len is_atom_byte rest }
+unfolding front_token
+atom_byte-front b rest h = cond-false _ _ _ (atom_byte-other b 60 h no_atom_bytes.0) ∙ rw (atom_byte-visible b h, h) refl
+
+white_byte-front : (b : ℕ) (rest : List ℕ) → is_white b ≡ true → front_token (b ∷ rest) ≡ record { kind = Blank; len = 1 + prefix_len is_white rest }
+unfolding front_token
+white_byte-front b rest h = cond-false _ _ _ (byte-other is_white b 60 h refl) ∙ rw h refl
+
+pub comment-front : {inner bytes : List ℕ} → IsCommented inner → bytes ≡ 40 ∷ (inner ++ 41 ∷ []) → (rest : List ℕ)
+    → front_token (bytes ++ rest) ≡ record { kind = Comment; len = length bytes }
+unfolding front_token is_atom_byte
+comment-front {inner} {bytes} commented e rest =
+    ap (λ b. front_token (b ++ rest)) e ∙ ap front_token (marked 40 41 inner rest) ∙ comment-is inner rest commented
+    ∙ ap (λ n. record { kind = Comment; len = n }) (sym (ap length e ∙ marked-length 40 41 inner))
+
+pub literal-front : {inner bytes : List ℕ} → IsBetween 91 93 inner → bytes ≡ 91 ∷ (inner ++ 93 ∷ []) → (rest : List ℕ)
+    → front_token (bytes ++ rest) ≡ record { kind = Literal; len = length bytes }
+unfolding front_token is_atom_byte
+literal-front {inner} {bytes} between e rest =
+    ap (λ b. front_token (b ++ rest)) e ∙ ap front_token (marked 91 93 inner rest) ∙ literal-is inner rest between
+    ∙ ap (λ n. record { kind = Literal; len = n }) (sym (ap length e ∙ marked-length 91 93 inner))
+
+pub dot-front : (rest : List ℕ) → front_token (46 ∷ rest) ≡ record { kind = Dot; len = 1 }
+unfolding front_token is_atom_byte single_kind
+dot-front rest = refl
+
+pub at-front : (rest : List ℕ) → front_token (64 ∷ rest) ≡ record { kind = At; len = 1 }
+unfolding front_token is_atom_byte single_kind
+at-front rest = refl
+
+pub comma-front : (rest : List ℕ) → front_token (44 ∷ rest) ≡ record { kind = Comma; len = 1 }
+unfolding front_token is_atom_byte single_kind
+comma-front rest = refl
+
+pub colon-front : (rest : List ℕ) → front_token (58 ∷ rest) ≡ record { kind = Colon; len = 1 }
+unfolding front_token is_atom_byte single_kind
+colon-front rest = refl
+
+pub semicolon-front : (rest : List ℕ) → front_token (59 ∷ rest) ≡ record { kind = Semicolon; len = 1 }
+unfolding front_token is_atom_byte single_kind
+semicolon-front rest = refl
+
+-- a token that a run does not go over stops it
+pub step-stops : (span : Span) (bytes : List ℕ) (len : ℕ) (kind : Kind) → front_token bytes ≡ record { kind = kind; len = len } → is_in span kind ≡ false → step span bytes ≡ 0
+unfolding step
+step-stops span bytes len kind is stops = rw is (rw stops refl)
+
+pub run-stops : (span : Span) (bytes : List ℕ) (len : ℕ) (kind : Kind) → front_token bytes ≡ record { kind = kind; len = len } → is_in span kind ≡ false → run span bytes ≡ 0
+run-stops span bytes len kind is stops = far-stop (step span) bytes (step-stops span bytes len kind is stops)
+
+-- ---- folding whitespace, and words
+
+white_byte-passed : (span : Span) (b : ℕ) (rest : List ℕ) → is_in span Blank ≡ true → is_white b ≡ true → run span (b ∷ rest) ≡ suc (run span rest)
+white_byte-passed span b rest goes h =
+    far-run (step span) is_white (λ c cs k. step-token span (c ∷ cs) (1 + prefix_len is_white cs) Blank (white_byte-front c cs k) goes ∙ omega arith) b rest h
+
+atom_byte-passed : (span : Span) (b : ℕ) (rest : List ℕ) → is_in span Atom ≡ true → is_atom_byte b ≡ true → run span (b ∷ rest) ≡ suc (run span rest)
+atom_byte-passed span b rest goes h =
+    far-run (step span) is_atom_byte (λ c cs k. step-token span (c ∷ cs) (1 + prefix_len is_atom_byte cs) Atom (atom_byte-front c cs k) goes ∙ omega arith) b rest h
+
+pub white-passed : (span : Span) → is_in span Blank ≡ true → is_in span Comment ≡ true → {bytes : List ℕ} → IsWhite bytes → IsPassed span bytes
+white-passed span blank comment white_ends rest = omega arith
+white-passed span blank comment (white_byte {b = b} {rest = more} h white) rest =
+    let later = white-passed span blank comment white rest in
+    let here = white_byte-passed span b (more ++ rest) blank h in
+    omega (arith, here, later)
+white-passed span blank comment {bytes} (white_comment {inner = inner} {rest = more} commented white e) rest =
+    let front : List ℕ = 40 ∷ (inner ++ 41 ∷ []) in
+    let len = marked-length 40 41 inner in
+    passed-same span (e ∙ sym (marked 40 41 inner more))
+    (passed-append span front more
+    (λ rest. run-token span front rest Comment (omega (arith, len)) (comment-front commented refl rest) comment)
+    (white-passed span blank comment white))
+    rest
+
+atoms-passed : (span : Span) → is_in span Atom ≡ true → (bytes : List ℕ) → list_all is_atom_byte bytes ≡ true → IsPassed span bytes
+atoms-passed span goes [] h rest = omega arith
+atoms-passed span goes (b ∷ bytes) h rest =
+    let both = and_parts (is_atom_byte b) (list_all is_atom_byte bytes) h in
+    let later = atoms-passed span goes bytes both.1 rest in
+    let here = atom_byte-passed span b (bytes ++ rest) goes both.0 in
+    omega (arith, here, later)
+
+pub name_word-passed : (span : Span) → is_in span Atom ≡ true → is_in span Quoted ≡ true → {bytes : List ℕ} → IsNameWord bytes → IsPassed span bytes
+name_word-passed span goes quoted {bytes} (quoted_word {inner = inner} between e) rest =
+    let len : length bytes ≡ length inner + 2 = ap length e ∙ marked-length 34 34 inner in
+    run-token span bytes rest Quoted (omega (arith, len)) (quoted-front between e rest) quoted
+name_word-passed span goes quoted (atom_word {b = b} {bytes = bytes} h) rest = atoms-passed span goes (b ∷ bytes) h rest
+
+-- the span of words
+abbrev pub span_of : Words → Span
+span_of any_words = Word
+span_of atoms = Atoms
+span_of literals = Literals
+
+-- what a run has to go over, so that it goes over such words
+pub record GoesOver (words : Words) (span : Span) : Type 0 where
+  pub blank : is_in span Blank ≡ true
+  pub comment : is_in span Comment ≡ true
+  pub dot : is_in span Dot ≡ true
+  pub word : {bytes : List ℕ} → IsWord words bytes → IsPassed span bytes
+
+pub over-words : (span : Span) → is_in span Blank ≡ true → is_in span Comment ≡ true → is_in span Dot ≡ true → is_in span Atom ≡ true → is_in span Quoted ≡ true → GoesOver any_words span
+over-words span blank comment dot goes quoted = record { blank = blank; comment = comment; dot = dot; word = λ is. go is }
+  where
+    go : {bytes : List ℕ} → IsWord any_words bytes → IsPassed span bytes
+    go (any_word is) = name_word-passed span goes quoted is
+
+pub over-atoms : (span : Span) → is_in span Blank ≡ true → is_in span Comment ≡ true → is_in span Dot ≡ true → is_in span Atom ≡ true → GoesOver atoms span
+over-atoms span blank comment dot goes = record { blank = blank; comment = comment; dot = dot; word = λ is. go is }
+  where
+    go : {bytes : List ℕ} → IsWord atoms bytes → IsPassed span bytes
+    go (atom {b = b} {bytes = bytes} h) = atoms-passed span goes (b ∷ bytes) h
+
+pub over-literals : (span : Span) → is_in span Blank ≡ true → is_in span Comment ≡ true → is_in span Dot ≡ true → is_in span Literal ≡ true → GoesOver literals span
+over-literals span blank comment dot goes = record { blank = blank; comment = comment; dot = dot; word = λ is. go is }
+  where
+    go : {bytes : List ℕ} → IsWord literals bytes → IsPassed span bytes
+    go {bytes} (literal {inner = inner} between e) rest =
+        let len : length bytes ≡ length inner + 2 = ap length e ∙ marked-length 91 93 inner in
+        run-token span bytes rest Literal (omega (arith, len)) (literal-front between e rest) goes
+
+padded-passed : {words : Words} {span : Span} → GoesOver words span → {bytes : List ℕ} → IsPadded words bytes → IsPassed span bytes
+padded-passed {words} {span} over is =
+    passed-same span is.made
+    (passed-append span is.before (is.word ++ is.after) (white-passed span over.blank over.comment is.white_before)
+    (passed-append span is.word is.after (over.word is.is_word) (white-passed span over.blank over.comment is.white_after)))
+
+dot-passed : (span : Span) → is_in span Dot ≡ true → IsPassed span (46 ∷ [])
+dot-passed span goes rest = run-token span (46 ∷ []) rest Dot (omega arith) (dot-front rest) goes
+
+at-passed : (span : Span) → is_in span At ≡ true → IsPassed span (64 ∷ [])
+at-passed span goes rest = run-token span (64 ∷ []) rest At (omega arith) (at-front rest) goes
+
+pub comma-passed : (span : Span) → is_in span Comma ≡ true → IsPassed span (44 ∷ [])
+comma-passed span goes rest = run-token span (44 ∷ []) rest Comma (omega arith) (comma-front rest) goes
+
+dot_words-passed : {words : Words} {span : Span} → GoesOver words span → {bytes : List ℕ} → AreDotWords words bytes → IsPassed span bytes
+dot_words-passed {words} {span} over dots_end = passed-nil span
+dot_words-passed {words} {span} over (dot_word {word = word} {rest = rest} is more e) =
+    passed-same span e
+    (passed-append span (46 ∷ []) (word ++ rest) (dot-passed span over.dot)
+    (passed-append span word rest (padded-passed over is) (dot_words-passed over more)))
+
+pub dotted-passed : {words : Words} {span : Span} → GoesOver words span → {bytes : List ℕ} → AreDotted words bytes → IsPassed span bytes
+dotted-passed {words} {span} over are =
+    passed-same span are.made (passed-append span are.first are.rest (padded-passed over are.is_first) (dot_words-passed over are.are_rest))
+
+pub domain-passed : {span : Span} → GoesOver atoms span → GoesOver literals span → {bytes : List ℕ} → IsDomain bytes → IsPassed span bytes
+domain-passed one two (dotted are) = dotted-passed one are
+domain-passed one two (in_brackets is) = padded-passed two is
+
+-- an `@` and a domain, with whitespace before them
+pub at_domain-passed : {span : Span} → GoesOver atoms span → GoesOver literals span → is_in span At ≡ true → (white domain : List ℕ) → IsWhite white → IsDomain domain
+    → IsPassed span (white ++ 64 ∷ domain)
+at_domain-passed {span} one two goes white domain is_white is_domain =
+    passed-append span white (64 ∷ domain) (white-passed span one.blank one.comment is_white)
+    (passed-append span (64 ∷ []) domain (at-passed span goes) (domain-passed one two is_domain))
+
+pub stop-passed : {span : Span} → GoesOver atoms span → GoesOver literals span → is_in span At ≡ true → {bytes : List ℕ} → IsStop bytes → IsPassed span bytes
+stop-passed {span} one two goes (no_stop white) = white-passed span one.blank one.comment white
+stop-passed {span} one two goes (stop {white = white} {domain = domain} is_white is_domain e) =
+    passed-same span e (at_domain-passed one two goes white domain is_white is_domain)
+
+stops-passed : {span : Span} → GoesOver atoms span → GoesOver literals span → is_in span At ≡ true → is_in span Comma ≡ true → {bytes : List ℕ} → AreStops bytes → IsPassed span bytes
+stops-passed {span} one two goes comma (last_stop is) = stop-passed one two goes is
+stops-passed {span} one two goes comma (next_stop {first = first} {rest = rest} is more e) =
+    passed-same span e
+    (passed-append span first (44 ∷ rest) (stop-passed one two goes is)
+    (passed-append span (44 ∷ []) rest (comma-passed span comma) (stops-passed one two goes comma more)))
+
+-- a route is stops
+pub route-stops : {bytes : List ℕ} → IsRoute bytes → AreStops bytes
+route-stops (one_stop {white = white} {domain = domain} is_white is_domain e) = last_stop (stop {white = white} {domain = domain} is_white is_domain e)
+route-stops (more_stops {white = white} {domain = domain} {rest = rest} is_white is_domain more e) =
+    next_stop {first = white ++ 64 ∷ domain} {rest = rest} (stop {white = white} {domain = domain} is_white is_domain refl) more
+    (e ∙ sym (append_assoc white (64 ∷ domain) (44 ∷ rest)))
+
+pub route-passed : {span : Span} → GoesOver atoms span → GoesOver literals span → is_in span At ≡ true → is_in span Comma ≡ true → {bytes : List ℕ} → IsRoute bytes → IsPassed span bytes
+route-passed one two goes comma is = stops-passed one two goes comma (route-stops is)
+
+phrase_rest-passed : (span : Span) → GoesOver any_words span → {bytes : List ℕ} → IsPhraseRest bytes → IsPassed span bytes
+phrase_rest-passed span over phrase_ends = passed-nil span
+phrase_rest-passed span over (phrase_white {white = white} {rest = rest} is more e) =
+    passed-same span e (passed-append span white rest (white-passed span over.blank over.comment is) (phrase_rest-passed span over more))
+phrase_rest-passed span over (phrase_dot {rest = rest} more) = passed-append span (46 ∷ []) rest (dot-passed span over.dot) (phrase_rest-passed span over more)
+phrase_rest-passed span over (phrase_word {word = word} {rest = rest} is more e) =
+    passed-same span e (passed-append span word rest (over.word (any_word is)) (phrase_rest-passed span over more))
+
+pub phrase-passed : (span : Span) → GoesOver any_words span → {bytes : List ℕ} → IsPhrase bytes → IsPassed span bytes
+phrase-passed span over is =
+    passed-same span is.made
+    (passed-append span is.before (is.first ++ is.rest) (white-passed span over.blank over.comment is.white_before)
+    (passed-append span is.first is.rest (over.word (any_word is.is_first)) (phrase_rest-passed span over is.is_rest)))
+
+pub name-passed : (span : Span) → GoesOver any_words span → {bytes : List ℕ} → IsName bytes → IsPassed span bytes
+name-passed span over (no_name white) = white-passed span over.blank over.comment white
+name-passed span over (phrase is) = phrase-passed span over is
+
+-- ---- whitespace, wholly
+
+pub white-whole : {bytes : List ℕ} → IsWhite bytes → is_all_white bytes ≡ true
+unfolding is_all_white
+white-whole {bytes} is = eq-eqb (run White bytes) (length bytes) (passed-whole White bytes (white-passed White refl refl is))
+
+-- ---- within angle brackets
+
+angles-append : {one two : List ℕ} → IsInAngles one → IsInAngles two → IsInAngles (one ++ two)
+angles-append angles_end second = second
+angles-append (angles_pair more) second = angles_pair (angles-append more second)
+angles-append (angles_byte h more) second = angles_byte h (angles-append more second)
+angles-append {one} {two} (angles_closed {closed = front} {rest = rest} shut more e) second =
+    angles_closed {closed = front} {rest = rest ++ two} shut (angles-append more second) (ap (λ b. b ++ two) e ∙ append_assoc front rest two)
+
+angles-same : {bytes made : List ℕ} → bytes ≡ made → IsInAngles made → IsInAngles bytes
+angles-same e is = subst IsInAngles (sym e) is
+
+angles-closed : {bytes : List ℕ} → IsClosed bytes → IsInAngles bytes
+angles-closed {bytes} is = angles_closed {closed = bytes} {rest = []} is angles_end (sym (append-nil bytes))
+
+opens_not : (test : ℕ → Bool) (b : ℕ) → test b ≡ true → test 34 ≡ false → test 40 ≡ false → test 91 ≡ false → test 92 ≡ false → test 60 ≡ false → test 62 ≡ false → is_opener b ≡ false
+opens_not test b h q p s e o c =
+    rw (byte-other test b 34 h q, byte-other test b 40 h p, byte-other test b 91 h s, byte-other test b 92 h e, byte-other test b 60 h o, byte-other test b 62 h c) refl
+
+white_byte-angles : (b : ℕ) → is_white b ≡ true → is_opener b ≡ false
+white_byte-angles b h = opens_not is_white b h refl refl refl refl refl refl
+
+no_atoms : (is_atom_byte 34 ≡ false) × (is_atom_byte 40 ≡ false) × (is_atom_byte 91 ≡ false) × (is_atom_byte 92 ≡ false) × (is_atom_byte 60 ≡ false) × (is_atom_byte 62 ≡ false)
+unfolding is_atom_byte
+no_atoms = (refl, refl, refl, refl, refl, refl)
+
+atom_byte-angles : (b : ℕ) → is_atom_byte b ≡ true → is_opener b ≡ false
+atom_byte-angles b h = let n = no_atoms in opens_not is_atom_byte b h n.0 n.1 n.2 n.3 n.4 n.5
+
+white-angles : {bytes : List ℕ} → IsWhite bytes → IsInAngles bytes
+white-angles white_ends = angles_end
+white-angles (white_byte {b = b} h white) = angles_byte (white_byte-angles b h) (white-angles white)
+white-angles (white_comment {inner = inner} {rest = rest} commented white e) =
+    angles_closed {closed = 40 ∷ (inner ++ 41 ∷ [])} {rest = rest} (in_comment commented refl) (white-angles white) (e ∙ sym (marked 40 41 inner rest))
+
+atoms-angles : (bytes : List ℕ) → list_all is_atom_byte bytes ≡ true → IsInAngles bytes
+atoms-angles [] h = angles_end
+atoms-angles (b ∷ bytes) h =
+    let both = and_parts (is_atom_byte b) (list_all is_atom_byte bytes) h in
+    angles_byte (atom_byte-angles b both.0) (atoms-angles bytes both.1)
+
+word-angles : {words : Words} {bytes : List ℕ} → IsWord words bytes → IsInAngles bytes
+word-angles (any_word (quoted_word between e)) = angles-closed (in_quotes between e)
+word-angles (any_word (atom_word {b = b} {bytes = bytes} h)) = atoms-angles (b ∷ bytes) h
+word-angles (atom {b = b} {bytes = bytes} h) = atoms-angles (b ∷ bytes) h
+word-angles (literal between e) = angles-closed (in_literal between e)
+
+padded-angles : {words : Words} {bytes : List ℕ} → IsPadded words bytes → IsInAngles bytes
+padded-angles is = angles-same is.made (angles-append (white-angles is.white_before) (angles-append (word-angles is.is_word) (white-angles is.white_after)))
+
+dot_words-angles : {words : Words} {bytes : List ℕ} → AreDotWords words bytes → IsInAngles bytes
+dot_words-angles dots_end = angles_end
+dot_words-angles (dot_word is more e) = angles-same e (angles_byte refl (angles-append (padded-angles is) (dot_words-angles more)))
+
+pub dotted-angles : {words : Words} {bytes : List ℕ} → AreDotted words bytes → IsInAngles bytes
+dotted-angles are = angles-same are.made (angles-append (padded-angles are.is_first) (dot_words-angles are.are_rest))
+
+domain-angles : {bytes : List ℕ} → IsDomain bytes → IsInAngles bytes
+domain-angles (dotted are) = dotted-angles are
+domain-angles (in_brackets is) = padded-angles is
+
+stop-angles : {bytes : List ℕ} → IsStop bytes → IsInAngles bytes
+stop-angles (no_stop white) = white-angles white
+stop-angles (stop white domain e) = angles-same e (angles-append (white-angles white) (angles_byte refl (domain-angles domain)))
+
+stops-angles : {bytes : List ℕ} → AreStops bytes → IsInAngles bytes
+stops-angles (last_stop is) = stop-angles is
+stops-angles (next_stop is more e) = angles-same e (angles-append (stop-angles is) (angles_byte refl (stops-angles more)))
+
+pub may_be_route-angles : {bytes : List ℕ} → MayBeRoute bytes → IsInAngles bytes
+may_be_route-angles no_route = angles_end
+may_be_route-angles (route is e) = angles-same e (angles-append (stops-angles (route-stops is)) (angles_byte refl angles_end))
+
+-- an address, perhaps behind a route
+pub spec-angles : {may_be_route local domain : List ℕ} → MayBeRoute may_be_route → AreDotted any_words local → IsDomain domain
+    → IsInAngles (may_be_route ++ (local ++ 64 ∷ domain))
+spec-angles is local domain = angles-append (may_be_route-angles is) (angles-append (dotted-angles local) (angles_byte refl (domain-angles domain)))

@@ -1,0 +1,449 @@
+-- A list of addresses that is written is read back as itself.
+use Rattle.std.proofs.Common.{◌≡◌, ℕ, suc, ◌+◌, ◌<◌, Bool, true, false, cond, eqb, ◌&&◌, List, [], ◌∷◌, ◌++◌, Some, None, Option, length, map, take, drop, refl, sym, ap, subst, ◌∙◌, arith, append_assoc, length-append}
+use Rattle.std.specs.Prelude.{min}
+use Rattle.std.specs.List.{list_all}
+use Rattle.std.specs.Str.{IsUtf8}
+use Rattle.std.proofs.lemmas.Bool.{and_from, and_parts, cond-false}
+use Rattle.std.proofs.lemmas.List.{append-nil, drop_all, drop_at, take_at}
+use Rattle.std.proofs.Math.Seq.{drop-append-add}
+use Rattle.mail_codec.specs.Charset.{Charsets}
+use Rattle.mail_codec.specs.Places.{begins}
+use Rattle.mailparse.specs.Value.{lenient_value_in}
+use Rattle.mail_laws.specs.Encode.{KnowUtf8}
+use Rattle.mail_laws.proofs.lemmas.EncodeRead.{words_read}
+use Rattle.mail_address.specs.declared.tokens.Kind.TheVariants.{Angle, At, Colon, Comma, Semicolon}
+use Rattle.mail_address.specs.declared.tokens.Span.{Span}
+use Rattle.mail_address.specs.declared.tokens.Span.TheVariants.{BeforeAt, BeforeComma, BeforeMark, BeforeSeparator, InGroup, Phrase, White}
+use Rattle.mail_address.specs.declared.writer.NewAddress.{NewAddress}
+use Rattle.mail_address.specs.declared.writer.NewAddress.TheVariants as new
+use Rattle.mail_address.specs.declared.writer.NewGroup.{NewGroup}
+use Rattle.mail_address.specs.declared.writer.NewMailbox.{NewMailbox}
+use Rattle.mail_address.specs.Addresses.{addresses, after_group, after_name, element_at, element_len, group, group_at, group_len, inner_len, is_group, items, member_at, member_len, members_at, name_len, separator_len, single, single_at}
+use Rattle.mail_address.specs.Grammar.{address, any_words, AreDotted, atoms, IsDomain, IsMailbox, IsName, IsPhrase, IsWhite, literals, MayBeRoute, named_address, no_name, no_route, phrase, white_byte, white_ends}
+use Rattle.mail_address.specs.Mailbox.{is_phrase, mailbox_of, Parts, spec_mailbox}
+use Rattle.mail_address.specs.Names.{bracketed}
+use Rattle.mail_address.specs.Text.{address_bytes, phrase_text}
+use Rattle.mail_address.specs.Tokens.{front_token, is_all_white, is_in, run}
+use Rattle.mail_address.specs.Writer.{are_writable, AreTexts, element_shows, element_stands_for, HasTexts, HaveTexts, is_element_writable, is_writable, joined, mailbox_stands_for, seen_group, seen_single, single_shows, written_address, written_element, written_list, written_local, written_mailbox, written_name, written_phrase}
+use Rattle.mail_address.proofs.lemmas.Addresses.{element_len-some, items-more, member_len-some}
+use Rattle.mail_address.proofs.lemmas.Enclosed.{angle-front, marked, marked-length, run-token}
+use Rattle.mail_address.proofs.lemmas.GrammarMade.{all_white-made}
+use Rattle.mail_address.proofs.lemmas.GrammarRead.{mailbox-read, phrase-read}
+use Rattle.mail_address.proofs.lemmas.Names.{no_items, nothing-passed}
+use Rattle.mail_address.proofs.lemmas.Passed.{at_domain-passed, colon-front, comma-front, comma-passed, dotted-passed, GoesOver, IsPassed, name-passed, over-atoms, over-literals, over-words, passed-append, passed-same, passed-up_to, passed-whole, phrase-passed, run-stops, semicolon-front, spec-angles, white-passed}
+use Rattle.mail_address.proofs.lemmas.WriterWords.{address-shows, domain-stands, local-stands, phrase-nothing, phrase-written}
+
+-- ---- runs over a mailbox
+
+-- what a run goes over that a comma or another mark stops
+record Crosses (span : Span) : Type 0 where
+  pub over_words : GoesOver any_words span
+  pub over_atoms : GoesOver atoms span
+  pub over_literals : GoesOver literals span
+  pub at : is_in span At ≡ true
+  pub angle : is_in span Angle ≡ true
+
+crosses-mark : Crosses BeforeMark
+crosses-mark = record { over_words = over-words BeforeMark refl refl refl refl refl; over_atoms = over-atoms BeforeMark refl refl refl refl; over_literals = over-literals BeforeMark refl refl refl refl; at = refl; angle = refl }
+
+crosses-separator : Crosses BeforeSeparator
+crosses-separator = record { over_words = over-words BeforeSeparator refl refl refl refl refl; over_atoms = over-atoms BeforeSeparator refl refl refl refl; over_literals = over-literals BeforeSeparator refl refl refl refl; at = refl; angle = refl }
+
+crosses-comma : Crosses BeforeComma
+crosses-comma = record { over_words = over-words BeforeComma refl refl refl refl refl; over_atoms = over-atoms BeforeComma refl refl refl refl; over_literals = over-literals BeforeComma refl refl refl refl; at = refl; angle = refl }
+
+crosses-group : Crosses InGroup
+crosses-group = record { over_words = over-words InGroup refl refl refl refl refl; over_atoms = over-atoms InGroup refl refl refl refl; over_literals = over-literals InGroup refl refl refl refl; at = refl; angle = refl }
+
+angle-passed : (span : Span) → is_in span Angle ≡ true → {may_be_route local domain : List ℕ} → MayBeRoute may_be_route → AreDotted any_words local → IsDomain domain
+    → IsPassed span (bracketed (may_be_route ++ (local ++ 64 ∷ domain)))
+angle-passed span goes {may_be_route} {local} {domain} is is_local is_domain rest =
+    let inner : List ℕ = may_be_route ++ (local ++ 64 ∷ domain) in
+    let len = marked-length 60 62 inner in
+    run-token span (bracketed inner) rest Angle (omega (arith, len))
+    (ap front_token (marked 60 62 inner rest) ∙ angle-front inner rest (spec-angles is is_local is_domain) ∙ ap (λ n. record { kind = Angle; len = n }) (sym len)) goes
+
+mailbox-passed : {span : Span} → Crosses span → {text : List ℕ} {m : Parts} → IsMailbox text m → IsPassed span text
+mailbox-passed {span} over (address {local = local} {domain = domain} is_local is_domain e) =
+    passed-same span e
+    (passed-append span local (64 ∷ domain) (dotted-passed over.over_words is_local) (at_domain-passed over.over_atoms over.over_literals over.at [] domain white_ends is_domain))
+mailbox-passed {span} over (named_address {name = name} {may_be_route = may_be_route} {local = local} {domain = domain} {after = after} is_name is_route is_local is_domain is_white e) =
+    let inner : List ℕ = may_be_route ++ (local ++ 64 ∷ domain) in
+    passed-same span (e ∙ ap (λ b. name ++ b) (sym (marked 60 62 inner after)))
+    (passed-append span name (bracketed inner ++ after) (name-passed span over.over_words is_name)
+    (passed-append span (bracketed inner) after (angle-passed span over.angle is_route is_local is_domain) (white-passed span over.over_words.blank over.over_words.comment is_white)))
+
+-- ---- a mailbox is more than whitespace
+
+none-some : {m : Parts} → ◌≡◌ {A = Option Parts} None (Some m) → ⊥
+none-some e = cc
+
+white-no_mailbox : (text : List ℕ) → IsWhite text → mailbox_of text ≡ None
+unfolding mailbox_of spec_mailbox front_token
+white-no_mailbox text is =
+    let first = passed-whole Phrase text (white-passed Phrase refl refl is) in
+    let second = passed-whole BeforeAt text (white-passed BeforeAt refl refl is) in
+    let end : drop (length text) text ≡ [] = drop_all (length text) text (omega arith) in
+    rw (first, second, end) refl
+
+mailbox-not_white : {text : List ℕ} {m : Parts} → IsMailbox text m → is_all_white text ≡ false
+mailbox-not_white {text} {m} is = go (is_all_white text) refl
+  where
+    go : (t : Bool) → is_all_white text ≡ t → t ≡ false
+    go true e = absurd (none-some (sym (white-no_mailbox text (all_white-made text e)) ∙ mailbox-read text m is))
+    go false e = refl
+
+mailbox-some : (text : List ℕ) {m : Parts} → IsMailbox text m → 0 < length text
+mailbox-some [] {m} is = absurd (none-some (sym (white-no_mailbox [] white_ends) ∙ mailbox-read [] m is))
+mailbox-some (b ∷ rest) {m} is = omega arith
+
+single-is : (start : ℕ) {text : List ℕ} {m : Parts} → IsMailbox text m → single_at start text ≡ record { start = start; text = text; mailbox = Some m } ∷ []
+unfolding single_at
+single-is start {text} {m} is =
+    cond-false _ _ _ (mailbox-not_white is) ∙ ap (λ o. record { start = start; text = text; mailbox = o } ∷ []) (mailbox-read text m is)
+
+-- ---- a mailbox at the front of a list
+
+-- what may follow: the end, or a comma
+data IsEnd : List ℕ → List ℕ → Type 0 where
+  at_end : IsEnd [] []
+  at_comma : (rest : List ℕ) → IsEnd (44 ∷ rest) rest
+
+end-stops : (span : Span) → is_in span Comma ≡ false → {after left : List ℕ} → IsEnd after left → run span after ≡ 0
+end-stops span stops at_end = nothing-passed span
+end-stops span stops (at_comma rest) = run-stops span (44 ∷ rest) 1 Comma (comma-front rest) stops
+
+end-no_colon : {after left : List ℕ} → IsEnd after left → begins (λ b. eqb b 58) after ≡ false
+end-no_colon at_end = refl
+end-no_colon (at_comma rest) = refl
+
+-- the bytes up to and with the comma, and what is left behind them
+end-left : (text : List ℕ) {after left : List ℕ} → IsEnd after left → drop (min (suc (length text)) (length (text ++ after))) (text ++ after) ≡ left
+end-left text at_end =
+    let same = append-nil text in
+    let len = ap length same in
+    drop_all (min (suc (length text)) (length (text ++ []))) (text ++ []) (omega (arith, len))
+end-left text (at_comma rest) =
+    let len = length-append text (44 ∷ rest) in
+    ap (drop (min (suc (length text)) (length (text ++ 44 ∷ rest)))) (sym (append_assoc text (44 ∷ []) rest))
+    ∙ drop_at (text ++ 44 ∷ []) rest (min (suc (length text)) (length (text ++ 44 ∷ rest))) (let front = length-append text (44 ∷ []) in omega (arith, len, front))
+
+-- the same behind a group
+separator-left : (text : List ℕ) {after left : List ℕ} → IsEnd after left → drop (length text + separator_len after) (text ++ after) ≡ left
+separator-left text at_end = drop-append-add text [] 0
+separator-left text (at_comma rest) = drop-append-add text (44 ∷ rest) 1
+
+module _ (text after left : List ℕ) (m : Parts) (is : IsMailbox text m) (end : IsEnd after left) where
+  up_to : (span : Span) → Crosses span → is_in span Comma ≡ false → run span (text ++ after) ≡ length text
+  up_to span over stops = passed-up_to span text after (mailbox-passed over is) (end-stops span stops end)
+
+  low : 0 < length (text ++ after)
+  low = let some = mailbox-some text is in let len = length-append text after in omega (arith, some, len)
+
+  no_group : is_group (text ++ after) ≡ false
+  unfolding is_group name_len
+  no_group =
+      ap (λ n. begins (λ b. eqb b 58) (drop n (text ++ after)) && is_phrase (take n (text ++ after)) && begins (λ b. eqb b 59) (drop (inner_len (text ++ after)) (after_name (text ++ after))))
+      (up_to BeforeMark crosses-mark refl)
+      ∙ ap (λ r. begins (λ b. eqb b 58) r && is_phrase (take (length text) (text ++ after)) && begins (λ b. eqb b 59) (drop (inner_len (text ++ after)) (after_name (text ++ after))))
+      (drop_at text after (length text) refl)
+      ∙ rw (end-no_colon end) refl
+
+  element-is : (start : ℕ) → element_at start (text ++ after) ≡ single (record { start = start; text = text; mailbox = Some m }) ∷ []
+  unfolding element_at
+  element-is start =
+      cond-false _ _ _ no_group
+      ∙ ap (λ n. map single (single_at start (take n (text ++ after)))) (up_to BeforeSeparator crosses-separator refl)
+      ∙ ap (λ t. map single (single_at start t)) (take_at text after (length text) refl)
+      ∙ ap (map single) (single-is start is)
+
+  element_len-is : element_len (text ++ after) ≡ min (suc (length text)) (length (text ++ after))
+  unfolding element_len
+  element_len-is = cond-false _ _ _ no_group ∙ ap (λ n. min (suc n) (length (text ++ after))) (up_to BeforeSeparator crosses-separator refl)
+
+  -- the first element, and then those of what is left
+  mailbox-first : (start : ℕ) → items element_at element_len start (text ++ after)
+      ≡ single (record { start = start; text = text; mailbox = Some m }) ∷ items element_at element_len (start + min (suc (length text)) (length (text ++ after))) left
+  mailbox-first start =
+      items-more element_at element_len element_len-some start (text ++ after) low
+      ∙ ap (λ e. e ++ items element_at element_len (start + element_len (text ++ after)) (drop (element_len (text ++ after)) (text ++ after))) (element-is start)
+      ∙ ap (λ n. single (record { start = start; text = text; mailbox = Some m }) ∷ items element_at element_len (start + n) (drop n (text ++ after))) element_len-is
+      ∙ ap (λ r. single (record { start = start; text = text; mailbox = Some m }) ∷ items element_at element_len (start + min (suc (length text)) (length (text ++ after))) r) (end-left text end)
+
+  -- the same among the members of a group
+  member-is : (start : ℕ) → member_at start (text ++ after) ≡ record { start = start; text = text; mailbox = Some m } ∷ []
+  unfolding member_at
+  member-is start =
+      ap (λ n. single_at start (take n (text ++ after))) (up_to BeforeComma crosses-comma refl)
+      ∙ ap (single_at start) (take_at text after (length text) refl)
+      ∙ single-is start is
+
+  member_len-is : member_len (text ++ after) ≡ min (suc (length text)) (length (text ++ after))
+  unfolding member_len
+  member_len-is = ap (λ n. min (suc n) (length (text ++ after))) (up_to BeforeComma crosses-comma refl)
+
+  member-first : (start : ℕ) → items member_at member_len start (text ++ after)
+      ≡ record { start = start; text = text; mailbox = Some m } ∷ items member_at member_len (start + min (suc (length text)) (length (text ++ after))) left
+  member-first start =
+      items-more member_at member_len member_len-some start (text ++ after) low
+      ∙ ap (λ e. e ++ items member_at member_len (start + member_len (text ++ after)) (drop (member_len (text ++ after)) (text ++ after))) (member-is start)
+      ∙ ap (λ n. record { start = start; text = text; mailbox = Some m } ∷ items member_at member_len (start + n) (drop n (text ++ after))) member_len-is
+      ∙ ap (λ r. record { start = start; text = text; mailbox = Some m } ∷ items member_at member_len (start + min (suc (length text)) (length (text ++ after))) r) (end-left text end)
+
+no_members : (start : ℕ) → items member_at member_len start [] ≡ []
+unfolding items
+no_members start = refl
+
+-- ---- a mailbox that is written
+
+module _ (known : Charsets) (knows : KnowUtf8 known) where
+  nothing-reads : lenient_value_in known [] ≡ []
+  nothing-reads = words_read known knows [] tt
+
+  -- the parts of a mailbox that is written, with whitespace before it
+  abbrev parts_of : List ℕ → NewMailbox → Parts
+  parts_of before m = record { display_name = before ++ written_name m.display_name.now; local_part = written_local m.local_part.now; domain = m.domain.now }
+
+  -- a name that is written, with whitespace before it
+  record IsNamed (before name written : List ℕ) : Type 0 where
+    pub is : IsName (before ++ written)
+    pub shows : lenient_value_in known (phrase_text (before ++ written)) ≡ name
+
+  name-is : (before name : List ℕ) → IsWhite before → IsUtf8 name → IsNamed before name (written_name name)
+  unfolding written_name
+  name-is before [] white utf8 =
+      let same = append-nil before in
+      record {
+        is = subst IsName (sym same) (no_name white);
+        shows = ap (λ b. lenient_value_in known (phrase_text b)) same ∙ ap (lenient_value_in known) (phrase-nothing white) ∙ nothing-reads;
+      }
+  name-is before (b ∷ name) white utf8 =
+      let written = phrase-written known knows (b ∷ name) utf8 in
+      record {
+        is = phrase (written.stands before (32 ∷ []) white (white_byte refl white_ends));
+        shows = written.shows before (32 ∷ []) white (white_byte refl white_ends);
+      }
+
+  mailbox-stands : (before : List ℕ) (m : NewMailbox) → IsWhite before → IsUtf8 m.display_name.now → is_writable m ≡ true → IsMailbox (before ++ written_mailbox m) (parts_of before m)
+  mailbox-stands before m white utf8 able =
+      named_address {name = before ++ written_name m.display_name.now} {may_be_route = []} {local = written_local m.local_part.now} {domain = m.domain.now} {after = []}
+      (name-is before m.display_name.now white utf8).is no_route (local-stands m.local_part.now) (domain-stands m able).0 white_ends
+      (sym (append_assoc before (written_name m.display_name.now) (bracketed (written_address m))))
+
+  mailbox-shows : (before : List ℕ) (m : NewMailbox) (start : ℕ) (text : List ℕ) → IsWhite before → IsUtf8 m.display_name.now → is_writable m ≡ true
+      → single_shows known (record { start = start; text = text; mailbox = Some (parts_of before m) }) ≡ mailbox_stands_for m
+  mailbox-shows before m start text white utf8 able =
+      ap (λ n. Some (record { name = n; address = address_bytes (written_local m.local_part.now) m.domain.now })) (name-is before m.display_name.now white utf8).shows
+      ∙ ap (λ a. Some (record { name = m.display_name.now; address = a })) (address-shows m able)
+
+  -- ---- the members of a group
+
+  fold_white : IsWhite (13 ∷ 10 ∷ 32 ∷ [])
+  fold_white = white_byte refl (white_byte refl (white_byte refl white_ends))
+
+  members-read : (before : List ℕ) (m : NewMailbox) (ms : List NewMailbox) (start : ℕ) → IsWhite before → AreTexts (m ∷ ms) → list_all is_writable (m ∷ ms) ≡ true
+      → map (single_shows known) (items member_at member_len start (before ++ joined written_mailbox (m ∷ ms))) ≡ map mailbox_stands_for (m ∷ ms)
+  members-read before m [] start white texts able =
+      let text : List ℕ = before ++ written_mailbox m in
+      let both = and_parts (is_writable m) true able in
+      let n : ℕ = min (suc (length text)) (length (text ++ [])) in
+      ap (λ b. map (single_shows known) (items member_at member_len start b)) (sym (append_assoc before (written_mailbox m) []))
+      ∙ ap (map (single_shows known)) (member-first text [] [] (parts_of before m) (mailbox-stands before m white texts.0 both.0) at_end start)
+      ∙ ap (λ ms. single_shows known (record { start = start; text = text; mailbox = Some (parts_of before m) }) ∷ map (single_shows known) ms) (no_members (start + n))
+      ∙ ap (λ s. s ∷ []) (mailbox-shows before m start text white texts.0 both.0)
+  members-read before m (next ∷ ms) start white texts able =
+      let text : List ℕ = before ++ written_mailbox m in
+      let left : List ℕ = (13 ∷ 10 ∷ 32 ∷ []) ++ joined written_mailbox (next ∷ ms) in
+      let both = and_parts (is_writable m) (list_all is_writable (next ∷ ms)) able in
+      let n : ℕ = min (suc (length text)) (length (text ++ 44 ∷ left)) in
+      ap (λ b. map (single_shows known) (items member_at member_len start b)) (sym (append_assoc before (written_mailbox m) (44 ∷ left)))
+      ∙ ap (map (single_shows known)) (member-first text (44 ∷ left) left (parts_of before m) (mailbox-stands before m white texts.0 both.0) (at_comma left) start)
+      ∙ ap (λ ms. single_shows known (record { start = start; text = text; mailbox = Some (parts_of before m) }) ∷ ms)
+      (members-read (13 ∷ 10 ∷ 32 ∷ []) next ms (start + n) fold_white texts.1 both.1)
+      ∙ ap (λ s. s ∷ map mailbox_stands_for (next ∷ ms)) (mailbox-shows before m start text white texts.0 both.0)
+
+  members-passed : (before : List ℕ) (m : NewMailbox) (ms : List NewMailbox) → IsWhite before → AreTexts (m ∷ ms) → list_all is_writable (m ∷ ms) ≡ true
+      → IsPassed InGroup (before ++ joined written_mailbox (m ∷ ms))
+  members-passed before m [] white texts able =
+      let both = and_parts (is_writable m) true able in
+      passed-same InGroup (ap (λ b. before ++ b) (append-nil (written_mailbox m))) (mailbox-passed crosses-group (mailbox-stands before m white texts.0 both.0))
+  members-passed before m (next ∷ ms) white texts able =
+      let text : List ℕ = before ++ written_mailbox m in
+      let left : List ℕ = (13 ∷ 10 ∷ 32 ∷ []) ++ joined written_mailbox (next ∷ ms) in
+      let both = and_parts (is_writable m) (list_all is_writable (next ∷ ms)) able in
+      passed-same InGroup (sym (append_assoc before (written_mailbox m) (44 ∷ left)))
+      (passed-append InGroup text (44 ∷ left) (mailbox-passed crosses-group (mailbox-stands before m white texts.0 both.0))
+      (passed-append InGroup (44 ∷ []) left (comma-passed InGroup refl) (members-passed (13 ∷ 10 ∷ 32 ∷ []) next ms fold_white texts.1 both.1)))
+
+  all-passed : (ms : List NewMailbox) → AreTexts ms → list_all is_writable ms ≡ true → IsPassed InGroup (joined written_mailbox ms)
+  all-passed [] texts able rest = omega arith
+  all-passed (m ∷ ms) texts able rest = members-passed [] m ms white_ends texts able rest
+
+  all-read : (ms : List NewMailbox) (start : ℕ) → AreTexts ms → list_all is_writable ms ≡ true
+      → map (single_shows known) (members_at start (joined written_mailbox ms)) ≡ map mailbox_stands_for ms
+  unfolding items
+  all-read [] start texts able = refl
+  all-read (m ∷ ms) start texts able = members-read [] m ms start white_ends texts able
+
+  -- ---- a group
+
+  -- the first element of a list, and then those of what is left
+  record ReadFirst (before : List ℕ) (e : NewAddress) (after left : List ℕ) (start : ℕ) : Type 0 where
+    pub next : ℕ
+    pub first : map (element_shows known) (items element_at element_len start ((before ++ written_element e) ++ after))
+        ≡ element_stands_for e ∷ map (element_shows known) (items element_at element_len next left)
+
+  phrase-alone : (before name : List ℕ) → IsWhite before → IsUtf8 name → IsPhrase (before ++ written_phrase name) × (lenient_value_in known (phrase_text (before ++ written_phrase name)) ≡ name)
+  phrase-alone before name white utf8 =
+      let written = phrase-written known knows name utf8 in
+      let same : before ++ (written_phrase name ++ []) ≡ before ++ written_phrase name = ap (λ b. before ++ b) (append-nil (written_phrase name)) in
+      (subst IsPhrase same (written.stands before [] white white_ends), ap (λ b. lenient_value_in known (phrase_text b)) (sym same) ∙ written.shows before [] white white_ends)
+
+  module _ (before after left : List ℕ) (g : NewGroup) (white : IsWhite before) (utf8 : IsUtf8 g.display_name.now) (texts : AreTexts g.members.now)
+      (able : list_all is_writable g.members.now ≡ true) (end : IsEnd after left) where
+    abbrev name : List ℕ
+    name = before ++ written_phrase g.display_name.now
+
+    abbrev inner : List ℕ
+    inner = joined written_mailbox g.members.now
+
+    abbrev bytes : List ℕ
+    bytes = name ++ 58 ∷ (inner ++ 59 ∷ after)
+
+    is_name : IsPhrase name × (lenient_value_in known (phrase_text name) ≡ g.display_name.now)
+    is_name = phrase-alone before g.display_name.now white utf8
+
+    name_len-is : name_len bytes ≡ length name
+    unfolding name_len
+    name_len-is =
+        passed-up_to BeforeMark name (58 ∷ (inner ++ 59 ∷ after)) (phrase-passed BeforeMark crosses-mark.over_words is_name.0)
+        (run-stops BeforeMark (58 ∷ (inner ++ 59 ∷ after)) 1 Colon (colon-front (inner ++ 59 ∷ after)) refl)
+
+    after_name-is : after_name bytes ≡ inner ++ 59 ∷ after
+    after_name-is =
+        ap (λ n. drop (suc n) bytes) name_len-is
+        ∙ ap (drop (suc (length name))) (sym (append_assoc name (58 ∷ []) (inner ++ 59 ∷ after)))
+        ∙ drop_at (name ++ 58 ∷ []) (inner ++ 59 ∷ after) (suc (length name)) (let n = length-append name (58 ∷ []) in omega (arith, n))
+
+    inner_len-is : inner_len bytes ≡ length inner
+    unfolding inner_len
+    inner_len-is =
+        ap (run InGroup) after_name-is
+        ∙ passed-up_to InGroup inner (59 ∷ after) (all-passed g.members.now texts able) (run-stops InGroup (59 ∷ after) 1 Semicolon (semicolon-front after) refl)
+
+    take-name : take (name_len bytes) bytes ≡ name
+    take-name = take_at name (58 ∷ (inner ++ 59 ∷ after)) (name_len bytes) (sym name_len-is)
+
+    take-inner : take (inner_len bytes) (after_name bytes) ≡ inner
+    take-inner = ap (take (inner_len bytes)) after_name-is ∙ take_at inner (59 ∷ after) (inner_len bytes) (sym inner_len-is)
+
+    group-is : is_group bytes ≡ true
+    unfolding is_group
+    group-is =
+        and_from _ _
+        (and_from _ _ (ap (begins (λ b. eqb b 58)) (drop_at name (58 ∷ (inner ++ 59 ∷ after)) (name_len bytes) (sym name_len-is)))
+        (ap is_phrase take-name ∙ phrase-read is_name.0))
+        (ap (λ b. begins (λ c. eqb c 59) (drop (inner_len bytes) b)) after_name-is ∙ ap (begins (λ c. eqb c 59)) (drop_at inner (59 ∷ after) (inner_len bytes) (sym inner_len-is)))
+
+    after_group-is : after_group bytes ≡ after
+    after_group-is =
+        ap (λ n. drop (suc n) (after_name bytes)) inner_len-is
+        ∙ ap (drop (suc (length inner))) (after_name-is ∙ sym (append_assoc inner (59 ∷ []) after))
+        ∙ drop_at (inner ++ 59 ∷ []) after (suc (length inner)) (let n = length-append inner (59 ∷ []) in omega (arith, n))
+
+    abbrev text : List ℕ
+    text = name ++ 58 ∷ (inner ++ 59 ∷ [])
+
+    text-whole : bytes ≡ text ++ after
+    text-whole =
+        ap (λ b. name ++ 58 ∷ b) (sym (append_assoc inner (59 ∷ []) after)) ∙ sym (append_assoc name (58 ∷ (inner ++ 59 ∷ [])) after)
+
+    text-len : length text ≡ length name + length inner + 2
+    text-len =
+        let one = length-append name (58 ∷ (inner ++ 59 ∷ [])) in
+        let two = length-append inner (59 ∷ []) in
+        omega (arith, one, two)
+
+    group_len-is : group_len bytes ≡ length text
+    unfolding group_len
+    group_len-is =
+        let one = name_len-is in
+        let two = inner_len-is in
+        let white = ap (run White) after_group-is ∙ end-stops White refl end in
+        let len = text-len in
+        omega (arith, one, two, white, len)
+
+    left-is : drop (element_len bytes) bytes ≡ left
+    unfolding element_len
+    left-is =
+        ap (λ t. drop (cond t (group_len bytes + separator_len (drop (group_len bytes) bytes)) (min (suc (run BeforeSeparator bytes)) (length bytes))) bytes) group-is
+        ∙ ap (λ b. drop (group_len bytes + separator_len b) bytes) behind
+        ∙ ap (λ n. drop (n + separator_len after) bytes) group_len-is
+        ∙ ap (drop (length text + separator_len after)) text-whole
+        ∙ separator-left text end
+      where
+        behind : drop (group_len bytes) bytes ≡ after
+        behind = ap (drop (group_len bytes)) text-whole ∙ drop_at text after (group_len bytes) (sym group_len-is)
+
+    group-first : (start : ℕ) → map (element_shows known) (items element_at element_len start bytes)
+        ≡ element_stands_for (new.Group g) ∷ map (element_shows known) (items element_at element_len (start + element_len bytes) left)
+    unfolding element_at group_at
+    group-first start =
+        let len = length-append name (58 ∷ (inner ++ 59 ∷ after)) in
+        ap (map (element_shows known)) (items-more element_at element_len element_len-some start bytes (omega (arith, len)))
+        ∙ ap (λ t. map (element_shows known) (cond t (group (group_at start bytes) ∷ []) (map single (single_at start (take (run BeforeSeparator bytes) bytes)))
+        ++ items element_at element_len (start + element_len bytes) (drop (element_len bytes) bytes))) group-is
+        ∙ ap (λ b. element_shows known (group (group_at start bytes)) ∷ map (element_shows known) (items element_at element_len (start + element_len bytes) b)) left-is
+        ∙ ap (λ n. seen_group (lenient_value_in known (phrase_text n)) (map (single_shows known) (members_at (start + suc (name_len bytes)) (take (inner_len bytes) (after_name bytes))))
+        ∷ map (element_shows known) (items element_at element_len (start + element_len bytes) left)) take-name
+        ∙ ap (λ n. seen_group n (map (single_shows known) (members_at (start + suc (name_len bytes)) (take (inner_len bytes) (after_name bytes))))
+        ∷ map (element_shows known) (items element_at element_len (start + element_len bytes) left)) is_name.1
+        ∙ ap (λ b. seen_group g.display_name.now (map (single_shows known) (members_at (start + suc (name_len bytes)) b))
+        ∷ map (element_shows known) (items element_at element_len (start + element_len bytes) left)) take-inner
+        ∙ ap (λ ms. seen_group g.display_name.now ms ∷ map (element_shows known) (items element_at element_len (start + element_len bytes) left))
+        (all-read g.members.now (start + suc (name_len bytes)) texts able)
+
+    group-read : (start : ℕ) → ReadFirst before (new.Group g) after left start
+    group-read start = record {
+      next = start + element_len bytes;
+      first =
+          ap (λ b. map (element_shows known) (items element_at element_len start (b ++ after))) (sym (append_assoc before (written_phrase g.display_name.now) (58 ∷ (inner ++ 59 ∷ []))))
+          ∙ ap (λ b. map (element_shows known) (items element_at element_len start b)) (sym text-whole)
+          ∙ group-first start;
+    }
+
+  -- ---- a list
+
+  element-first : (before : List ℕ) (e : NewAddress) (after left : List ℕ) (start : ℕ) → IsWhite before → HasTexts e → is_element_writable e ≡ true → IsEnd after left
+      → ReadFirst before e after left start
+  element-first before (new.Mailbox m) after left start white texts able end =
+      let text : List ℕ = before ++ written_mailbox m in
+      let n : ℕ = min (suc (length text)) (length (text ++ after)) in
+      record {
+        next = start + n;
+        first =
+            ap (map (element_shows known)) (mailbox-first text after left (parts_of before m) (mailbox-stands before m white texts able) end start)
+            ∙ ap (λ s. seen_single s ∷ map (element_shows known) (items element_at element_len (start + n) left)) (mailbox-shows before m start text white texts able);
+      }
+  element-first before (new.Group g) after left start white texts able end = group-read before after left g white texts.0 texts.1 able end start
+
+  list-read : (before : List ℕ) (e : NewAddress) (es : List NewAddress) (start : ℕ) → IsWhite before → HaveTexts (e ∷ es) → are_writable (e ∷ es) ≡ true
+      → map (element_shows known) (items element_at element_len start (before ++ joined written_element (e ∷ es))) ≡ map element_stands_for (e ∷ es)
+  list-read before e [] start white texts able =
+      let both = and_parts (is_element_writable e) true able in
+      let read = element-first before e [] [] start white texts.0 both.0 at_end in
+      ap (λ b. map (element_shows known) (items element_at element_len start b)) (sym (append_assoc before (written_element e) []))
+      ∙ read.first
+      ∙ ap (λ es. element_stands_for e ∷ map (element_shows known) es) (no_items read.next)
+  list-read before e (next ∷ es) start white texts able =
+      let left : List ℕ = (13 ∷ 10 ∷ 32 ∷ []) ++ joined written_element (next ∷ es) in
+      let both = and_parts (is_element_writable e) (are_writable (next ∷ es)) able in
+      let read = element-first before e (44 ∷ left) left start white texts.0 both.0 (at_comma left) in
+      ap (λ b. map (element_shows known) (items element_at element_len start b)) (sym (append_assoc before (written_element e) (44 ∷ left)))
+      ∙ read.first
+      ∙ ap (λ ss. element_stands_for e ∷ ss) (list-read (13 ∷ 10 ∷ 32 ∷ []) next es read.next fold_white texts.1 both.1)
+
+  pub written-reads : (list : List NewAddress) → HaveTexts list → are_writable list ≡ true → map (element_shows known) (addresses (written_list list)) ≡ map element_stands_for list
+  unfolding written_list
+  written-reads [] texts able = ap (map (element_shows known)) (no_items 0)
+  written-reads (e ∷ es) texts able = list-read [] e es 0 white_ends texts able

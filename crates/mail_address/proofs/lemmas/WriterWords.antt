@@ -1,0 +1,481 @@
+-- What names, local parts and domains are written as, and what they are read as.
+use Rattle.std.proofs.Common.{◌≡◌, ◌≢◌, ℕ, zero, suc, ◌+◌, ◌<◌, ◌≤◌, Bool, true, false, cond, eqb, ◌&&◌, ◌||◌, List, [], ◌∷◌, ◌++◌, length, take, drop, refl, sym, ap, subst, ◌∙◌, arith, append_assoc, length-append, length-drop}
+use Rattle.std.specs.Prelude.{codes, encode_utf8_all}
+use Rattle.std.specs.List.{list_all}
+use Rattle.std.specs.Str.{chars, IsUtf8}
+use Rattle.std.proofs.lemmas.Bool.{and_from, and_parts, cond-false, eqb-true, false≢true, ne_eqb}
+use Rattle.std.proofs.lemmas.List.{append-nil, drop_all, drop_at, take_all, take_at, take-append-drop}
+use Rattle.std.proofs.lemmas.List.Folds.{list_all-append}
+use Rattle.std.proofs.lemmas.Str.{encodes-chars, scalars-chars}
+use Rattle.std.proofs.Math.Seq.{drop-append-add}
+use Rattle.base64.specs.GeneralPurpose.{IsBytes}
+use Rattle.base64.proofs.Tables.{all_below_at}
+use Rattle.mail_codec.specs.Base64.{letter}
+use Rattle.mail_codec.specs.Charset.{Charsets}
+use Rattle.mail_codec.specs.Places.{begins}
+use Rattle.mailparse.specs.Value.{lenient_value_in}
+use Rattle.mail_laws.specs.Encode.{is_plain_value, KnowUtf8, letters}
+use Rattle.mail_laws.proofs.lemmas.EncodeRead.{plain_reads, word_bytes_are, words_read}
+use Rattle.mail_laws.proofs.lemmas.EncodeWord.{letters_pass}
+use Rattle.mail_address.specs.declared.tokens.Kind.{Kind}
+use Rattle.mail_address.specs.declared.tokens.Kind.TheVariants.{Atom, Literal, Quoted}
+use Rattle.mail_address.specs.declared.tokens.Span.TheVariants.{Atoms, Literals, White}
+use Rattle.mail_address.specs.declared.writer.NewMailbox.{NewMailbox}
+use Rattle.mail_address.specs.Addresses.{items, items_within}
+use Rattle.mail_address.specs.Grammar.{any_word, any_words, AreDotted, AreDotWords, atom, atoms, dot_word, dots_end, dotted, in_brackets, IsDomain, IsPadded, IsPhrase, IsPhraseRest, IsWhite, IsWord, literals, phrase_ends, phrase_white, phrase_word, white_byte, white_ends}
+use Rattle.mail_address.specs.Mailbox.{after_white, is_dotted}
+use Rattle.mail_address.specs.Names.{IsNameWord, atom_word}
+use Rattle.mail_address.specs.Text.{address_bytes, bare, front_len, front_meaning, local_text, meaning, meaning_at, needs_no_quotes, phrase_text, quoted_text, word_at, word_or_space, word_or_white_len, words_text}
+use Rattle.mail_address.specs.Tokens.{front_token, is_all_white, is_atom_byte, is_in, run, step}
+use Rattle.mail_address.specs.Writer.{are_atoms, are_atoms_after, has_no_control, is_literal, is_writable, one_word, written_address, written_local, written_phrase}
+use Rattle.mail_address.proofs.lemmas.Addresses.{items-more}
+use Rattle.mail_address.proofs.lemmas.GrammarMade.{dotted-made, front-meets, Meets, word-meets}
+use Rattle.mail_address.proofs.lemmas.GrammarRead.{prefix-whole, white-no_atom}
+use Rattle.mail_address.proofs.lemmas.Names.{after_white-same, Front, no_atom_bytes, no_white-front, no_words, quoted-is_word, quoted-len, quoted-meaning, quoted-token, word-len, word-meaning}
+use Rattle.mail_address.proofs.lemmas.Passed.{atom_byte-front, dot-front, passed-whole, white-passed, white-whole}
+use Rattle.mail_address.proofs.lemmas.Text.{front_len-some, word_or_white-some}
+use Rattle.mail_address.proofs.lemmas.Tokens.{far-stop}
+
+-- ---- whitespace around a phrase
+
+white-skipped : {white : List ℕ} → IsWhite white → (rest : List ℕ) → after_white (white ++ rest) ≡ after_white rest
+unfolding after_white
+white-skipped {white} is rest =
+    ap (λ n. drop n (white ++ rest)) (white-passed White refl refl is rest) ∙ drop-append-add white rest (run White rest)
+
+phrase-skipped : {white : List ℕ} → IsWhite white → (rest : List ℕ) → phrase_text (white ++ rest) ≡ phrase_text rest
+unfolding phrase_text
+phrase-skipped is rest = ap words_text (white-skipped is rest)
+
+phrase-starts : (bytes : List ℕ) → Front bytes → phrase_text bytes ≡ items word_at word_or_white_len 0 bytes
+unfolding phrase_text words_text
+phrase-starts bytes front = ap (items word_at word_or_white_len 0) (after_white-same bytes front)
+
+white-word : (bytes : List ℕ) → is_all_white bytes ≡ true → word_or_space bytes ≡ []
+unfolding word_or_space
+white-word bytes h = rw h refl
+
+white-len : (bytes : List ℕ) → step White bytes ≢ 0 → word_or_white_len bytes ≡ run White bytes
+unfolding word_or_white_len
+white-len bytes some = cond-false _ _ _ (ne_eqb (step White bytes) 0 some)
+
+white-shows : (white : List ℕ) → IsWhite white → (start : ℕ) → items word_at word_or_white_len start white ≡ []
+white-shows [] is start = no_words start
+white-shows (b ∷ rest) is start =
+    let all = passed-whole White (b ∷ rest) (white-passed White refl refl is) in
+    items-more word_at word_or_white_len word_or_white-some start (b ∷ rest) (omega arith)
+    ∙ ap (λ s. s ++ items word_at word_or_white_len (start + word_or_white_len (b ∷ rest)) (drop (word_or_white_len (b ∷ rest)) (b ∷ rest))) (white-word (b ∷ rest) (white-whole is))
+    ∙ ap (λ n. items word_at word_or_white_len (start + n) (drop n (b ∷ rest)))
+    (white-len (b ∷ rest) (λ none. let stop = far-stop (step White) (b ∷ rest) none in absurd (omega (arith, stop, all))) ∙ all)
+    ∙ ap (items word_at word_or_white_len (start + length (b ∷ rest))) (drop_all (length (b ∷ rest)) (b ∷ rest) (omega arith))
+    ∙ no_words (start + length (b ∷ rest))
+
+nothing-shows : phrase_text [] ≡ []
+unfolding phrase_text words_text after_white
+nothing-shows = ap (items word_at word_or_white_len 0) (drop_all (run White []) [] (omega arith)) ∙ no_words 0
+
+pub phrase-nothing : {white : List ℕ} → IsWhite white → phrase_text white ≡ []
+phrase-nothing {white} is = ap phrase_text (sym (append-nil white)) ∙ phrase-skipped is [] ∙ nothing-shows
+
+-- ---- one word of a phrase, and then the rest
+
+word-then : (word rest meant : List ℕ) → Front (word ++ rest) → 0 < length word → front_meaning (word ++ rest) ≡ meant → front_len (word ++ rest) ≡ length word → (start : ℕ)
+    → items word_at word_or_white_len start (word ++ rest) ≡ meant ++ items word_at word_or_white_len (start + length word) rest
+word-then word rest meant front some means len start =
+    let all = length-append word rest in
+    let low : 0 < length (word ++ rest) = omega (arith, some, all) in
+    items-more word_at word_or_white_len word_or_white-some start (word ++ rest) low
+    ∙ ap (λ s. s ++ items word_at word_or_white_len (start + word_or_white_len (word ++ rest)) (drop (word_or_white_len (word ++ rest)) (word ++ rest)))
+    (word-meaning (word ++ rest) front low ∙ means)
+    ∙ ap (λ n. meant ++ items word_at word_or_white_len (start + n) (drop n (word ++ rest))) (word-len (word ++ rest) front ∙ len)
+    ∙ ap (λ r. meant ++ items word_at word_or_white_len (start + length word) r) (drop_at word rest (length word) refl)
+
+atom-token : {word : List ℕ} → IsWord atoms word → (rest : List ℕ) → begins is_atom_byte rest ≡ false → front_token (word ++ rest) ≡ record { kind = Atom; len = length word }
+atom-token (atom {b = b} {bytes = bytes} h) rest ends =
+    let both = and_parts (is_atom_byte b) (list_all is_atom_byte bytes) h in
+    let all = prefix-whole bytes rest both.1 ends in
+    atom_byte-front b (bytes ++ rest) both.0 ∙ ap (λ n. record { kind = Atom; len = n }) (omega (arith, all))
+
+atom-some : {word : List ℕ} → IsWord atoms word → 0 < length word
+atom-some (atom h) = omega arith
+
+atom-front : {word : List ℕ} → IsWord atoms word → (rest : List ℕ) → begins is_atom_byte rest ≡ false → Front (word ++ rest)
+atom-front {word} is rest ends = record { kind = Atom; len = length word; token = atom-token is rest ends; is_word = refl; no_white = refl }
+
+atom-then : {word : List ℕ} → IsWord atoms word → (rest : List ℕ) → begins is_atom_byte rest ≡ false → (start : ℕ)
+    → items word_at word_or_white_len start (word ++ rest) ≡ word ++ items word_at word_or_white_len (start + length word) rest
+unfolding front_meaning front_len
+atom-then {word} is rest ends start =
+    let token = atom-token is rest ends in
+    word-then word rest word (atom-front is rest ends) (atom-some is)
+    (ap (λ t. meaning t.kind (take t.len (word ++ rest))) token ∙ take_at word rest (length word) refl) (ap (λ t. t.len) token) start
+
+quoted-front : (text rest : List ℕ) → Front (quoted_text text ++ rest)
+quoted-front text rest = record { kind = Quoted; len = length (quoted_text text); token = quoted-token text rest; is_word = refl; no_white = refl }
+
+quoted-some : (text : List ℕ) → 0 < length (quoted_text text)
+unfolding quoted_text
+quoted-some text = omega arith
+
+quoted-then : (text rest : List ℕ) (start : ℕ)
+    → items word_at word_or_white_len start (quoted_text text ++ rest) ≡ text ++ items word_at word_or_white_len (start + length (quoted_text text)) rest
+quoted-then text rest start =
+    word-then (quoted_text text) rest text (quoted-front text rest) (quoted-some text) (quoted-meaning text rest) (quoted-len text rest) start
+
+one_space : IsWhite (32 ∷ [])
+one_space = white_byte refl white_ends
+
+not_white-behind : (rest : List ℕ) → run White (32 ∷ rest) ≡ 1 → 0 < length rest → is_all_white (32 ∷ rest) ≡ false
+unfolding is_all_white
+not_white-behind rest one some = ne_eqb (run White (32 ∷ rest)) (length (32 ∷ rest)) (λ e. absurd (omega (arith, e, one, some)))
+
+space-word : (rest : List ℕ) → step White (32 ∷ rest) ≢ 0 → is_all_white (32 ∷ rest) ≡ false → word_or_space (32 ∷ rest) ≡ 32 ∷ []
+unfolding word_or_space
+space-word rest steps white = rw white (cond-false _ _ _ (ne_eqb (step White (32 ∷ rest)) 0 steps))
+
+space-then : (rest : List ℕ) → Front rest → 0 < length rest → (start : ℕ)
+    → items word_at word_or_white_len start (32 ∷ rest) ≡ 32 ∷ items word_at word_or_white_len (start + 1) rest
+space-then rest front some start =
+    let none = no_white-front rest front in
+    let passed = white-passed White refl refl one_space rest in
+    let one : run White (32 ∷ rest) ≡ 1 = omega (arith, none, passed) in
+    let steps : step White (32 ∷ rest) ≢ 0 = λ stops. let over = far-stop (step White) (32 ∷ rest) stops in absurd (omega (arith, over, one)) in
+    items-more word_at word_or_white_len word_or_white-some start (32 ∷ rest) (omega arith)
+    ∙ ap (λ s. s ++ items word_at word_or_white_len (start + word_or_white_len (32 ∷ rest)) (drop (word_or_white_len (32 ∷ rest)) (32 ∷ rest)))
+    (space-word rest steps (not_white-behind rest one some))
+    ∙ ap (λ n. 32 ∷ items word_at word_or_white_len (start + n) (drop n (32 ∷ rest))) (white-len (32 ∷ rest) steps ∙ one)
+
+-- ---- names that are words
+
+data AreAtoms : List ℕ → Type 0 where
+  last_atom : {word : List ℕ} → IsWord atoms word → AreAtoms word
+  next_atom : {word rest text : List ℕ} → IsWord atoms word → AreAtoms rest → text ≡ word ++ 32 ∷ rest → AreAtoms text
+
+-- bytes of a word, and then the end, or a space and words
+data GoesOn : List ℕ → Type 0 where
+  word_ends : (word : List ℕ) → list_all is_atom_byte word ≡ true → GoesOn word
+  goes_on : (word : List ℕ) {rest text : List ℕ} → list_all is_atom_byte word ≡ true → AreAtoms rest → text ≡ word ++ 32 ∷ rest → GoesOn text
+
+atom-before : (b : ℕ) {text : List ℕ} → is_atom_byte b ≡ true → GoesOn text → AreAtoms (b ∷ text)
+atom-before b h (word_ends word all) = last_atom (atom {b = b} {bytes = word} (and_from _ _ h all))
+atom-before b h (goes_on word {rest = rest} all more e) =
+    next_atom {word = b ∷ word} {rest = rest} (atom {b = b} {bytes = word} (and_from _ _ h all)) more (ap (λ (t : List ℕ). b ∷ t) e)
+
+byte-before : (b : ℕ) {text : List ℕ} → is_atom_byte b ≡ true → GoesOn text → GoesOn (b ∷ text)
+byte-before b h (word_ends word all) = word_ends (b ∷ word) (and_from _ _ h all)
+byte-before b h (goes_on word {rest = rest} all more e) = goes_on (b ∷ word) {rest = rest} (and_from _ _ h all) more (ap (λ (t : List ℕ). b ∷ t) e)
+
+abbrev AtomsAfter : Bool → List ℕ → Type 0
+AtomsAfter false text = AreAtoms text
+AtomsAfter true text = GoesOn text
+
+atoms-made : (in_word : Bool) (text : List ℕ) → are_atoms_after in_word text ≡ true → AtomsAfter in_word text
+atoms-made true [] h = word_ends [] refl
+atoms-made false [] h = absurd (false≢true h)
+atoms-made in_word (b ∷ rest) h = go (eqb b 32) refl in_word (atoms-made false rest) (atoms-made true rest) h
+  where
+    go : (space : Bool) → eqb b 32 ≡ space → (in_word : Bool) → (are_atoms_after false rest ≡ true → AreAtoms rest) → (are_atoms_after true rest ≡ true → GoesOn rest)
+        → cond space (in_word && are_atoms_after false rest) (is_atom_byte b && are_atoms_after true rest) ≡ true → AtomsAfter in_word (b ∷ rest)
+    go true e true new more h = goes_on [] {rest = rest} refl (new h) (ap (λ (c : ℕ). c ∷ rest) (eqb-true b 32 e))
+    go true e false new more h = absurd (false≢true h)
+    go false e true new more h = let both = and_parts (is_atom_byte b) (are_atoms_after true rest) h in byte-before b both.0 (more both.1)
+    go false e false new more h = let both = and_parts (is_atom_byte b) (are_atoms_after true rest) h in atom-before b both.0 (more both.1)
+
+white-begins : (white : List ℕ) → IsWhite white → begins is_atom_byte white ≡ false
+white-begins white is = ap (begins is_atom_byte) (sym (append-nil white)) ∙ white-no_atom is [] refl
+
+atoms-front : {text : List ℕ} → AreAtoms text → (white : List ℕ) → IsWhite white → Front (text ++ white)
+atoms-front (last_atom is) white w = atom-front is white (white-begins white w)
+atoms-front (next_atom {word = word} {rest = rest} is more e) white w =
+    subst (λ t. Front (t ++ white)) (sym e) (subst Front (sym (append_assoc word (32 ∷ rest) white)) (atom-front is (32 ∷ (rest ++ white)) no_atom_bytes.1))
+
+atoms-some : {text : List ℕ} → AreAtoms text → (white : List ℕ) → 0 < length (text ++ white)
+atoms-some {text} (last_atom is) white = let low = atom-some is in let len = length-append text white in omega (arith, low, len)
+atoms-some {text} (next_atom {word = word} {rest = rest} is more e) white =
+    let low = atom-some is in
+    let all = ap length e ∙ length-append word (32 ∷ rest) in
+    let len = length-append text white in
+    omega (arith, low, all, len)
+
+atoms-show : {text : List ℕ} → AreAtoms text → (white : List ℕ) → IsWhite white → (start : ℕ) → items word_at word_or_white_len start (text ++ white) ≡ text
+atoms-show {text} (last_atom is) white w start =
+    atom-then is white (white-begins white w) start ∙ ap (λ r. text ++ r) (white-shows white w (start + length text)) ∙ append-nil text
+atoms-show {text} (next_atom {word = word} {rest = rest} is more e) white w start =
+    ap (λ t. items word_at word_or_white_len start (t ++ white)) e
+    ∙ ap (items word_at word_or_white_len start) (append_assoc word (32 ∷ rest) white)
+    ∙ atom-then is (32 ∷ (rest ++ white)) no_atom_bytes.1 start
+    ∙ ap (λ r. word ++ r) (space-then (rest ++ white) (atoms-front more white w) (atoms-some more white) (start + length word)
+    ∙ ap (λ (r : List ℕ). 32 ∷ r) (atoms-show more white w (start + length word + 1)))
+    ∙ sym e
+
+name-word : {text : List ℕ} → IsWord atoms text → IsNameWord text
+name-word (atom h) = atom_word h
+
+white-rest : {white : List ℕ} → IsWhite white → IsPhraseRest white
+white-rest {white} is = phrase_white {white = white} {rest = []} is phrase_ends (sym (append-nil white))
+
+atoms-rest : {text : List ℕ} → AreAtoms text → (white : List ℕ) → IsWhite white → IsPhraseRest (text ++ white)
+atoms-rest {text} (last_atom is) white w = phrase_word {word = text} {rest = white} (name-word is) (white-rest w) refl
+atoms-rest (next_atom {word = word} {rest = rest} is more e) white w =
+    phrase_word {word = word} {rest = 32 ∷ (rest ++ white)} (name-word is)
+    (phrase_white {white = 32 ∷ []} {rest = rest ++ white} one_space (atoms-rest more white w) refl)
+    (ap (λ t. t ++ white) e ∙ append_assoc word (32 ∷ rest) white)
+
+atoms-phrase : {text : List ℕ} → AreAtoms text → (before white : List ℕ) → IsWhite before → IsWhite white → IsPhrase (before ++ (text ++ white))
+atoms-phrase {text} (last_atom is) before white b w = record {
+  before = before;
+  first = text;
+  rest = white;
+  white_before = b;
+  is_first = name-word is;
+  is_rest = white-rest w;
+  made = refl;
+}
+atoms-phrase (next_atom {word = word} {rest = rest} is more e) before white b w = record {
+  before = before;
+  first = word;
+  rest = 32 ∷ (rest ++ white);
+  white_before = b;
+  is_first = name-word is;
+  is_rest = phrase_white {white = 32 ∷ []} {rest = rest ++ white} one_space (atoms-rest more white w) refl;
+  made = ap (λ t. before ++ (t ++ white)) e ∙ ap (λ t. before ++ t) (append_assoc word (32 ∷ rest) white);
+}
+
+-- ---- names
+
+-- a phrase that is written for a name: with whitespace around it, it is a phrase and shows the name
+pub record IsWritten (known : Charsets) (name phrase : List ℕ) : Type 0 where
+  pub stands : (before white : List ℕ) → IsWhite before → IsWhite white → IsPhrase (before ++ (phrase ++ white))
+  pub shows : (before white : List ℕ) → IsWhite before → IsWhite white → lenient_value_in known (phrase_text (before ++ (phrase ++ white))) ≡ name
+
+atoms-written : (known : Charsets) (name text : List ℕ) → AreAtoms text → lenient_value_in known text ≡ name → IsWritten known name text
+atoms-written known name text are reads = record {
+  stands = atoms-phrase are;
+  shows = λ before white b w.
+      ap (lenient_value_in known) (phrase-skipped b (text ++ white) ∙ phrase-starts (text ++ white) (atoms-front are white w) ∙ atoms-show are white w 0) ∙ reads;
+}
+
+quoted-written : (known : Charsets) (name : List ℕ) → lenient_value_in known name ≡ name → IsWritten known name (quoted_text name)
+quoted-written known name reads = record {
+  stands = λ before white b w. record {
+    before = before;
+    first = quoted_text name;
+    rest = white;
+    white_before = b;
+    is_first = quoted-is_word name;
+    is_rest = white-rest w;
+    made = refl;
+  };
+  shows = λ before white b w.
+      ap (lenient_value_in known)
+      (phrase-skipped b (quoted_text name ++ white) ∙ phrase-starts (quoted_text name ++ white) (quoted-front name white) ∙ quoted-then name white 0
+      ∙ ap (λ r. name ++ r) (white-shows white w (0 + length (quoted_text name))) ∙ append-nil name)
+      ∙ reads;
+}
+
+name_bytes : (name : List ℕ) → IsUtf8 name → IsBytes name
+name_bytes name utf8 = subst IsBytes (encodes-chars name utf8) (word_bytes_are (chars name) (scalars-chars name utf8))
+
+letter-atoms : (v : ℕ) → v < 64 → is_atom_byte (letter v) ≡ true
+unfolding is_atom_byte
+letter-atoms v low = all_below_at (λ v. is_atom_byte (letter v)) 64 v refl low
+
+word-atoms : (name : List ℕ) → IsUtf8 name → AreAtoms (one_word name)
+unfolding is_atom_byte
+word-atoms name utf8 =
+    last_atom (atom {b = 61} {bytes = codes "?utf-8?B?" ++ (letters name ++ codes "?=")}
+    (list_all-append is_atom_byte (letters name) (codes "?=")
+    ∙ ap (λ t. t && true) (letters_pass is_atom_byte letter-atoms refl name (name_bytes name utf8))))
+
+word-reads : (known : Charsets) → KnowUtf8 known → (name : List ℕ) → IsUtf8 name → lenient_value_in known (one_word name) ≡ name
+word-reads known knows name utf8 =
+    ap (λ n. lenient_value_in known (one_word n)) (sym (encodes-chars name utf8))
+    ∙ words_read known knows (chars name ∷ []) (scalars-chars name utf8, tt)
+    ∙ append-nil (encode_utf8_all (chars name)) ∙ encodes-chars name utf8
+
+pub phrase-written : (known : Charsets) → KnowUtf8 known → (name : List ℕ) → IsUtf8 name → IsWritten known name (written_phrase name)
+unfolding written_phrase
+phrase-written known knows name utf8 = go (is_plain_value name) refl (are_atoms name) refl
+  where
+    go : (plain : Bool) → is_plain_value name ≡ plain → (words : Bool) → are_atoms name ≡ words
+        → IsWritten known name (cond plain (cond words name (quoted_text name)) (one_word name))
+    go true plain true words = atoms-written known name name (atoms-made false name words) (plain_reads known name plain)
+    go true plain false words = quoted-written known name (plain_reads known name plain)
+    go false plain words is = atoms-written known name (one_word name) (word-atoms name utf8) (word-reads known knows name utf8)
+
+-- ---- local parts and domains
+
+list_all-drop : (test : ℕ → Bool) (n : ℕ) (bytes : List ℕ) → list_all test bytes ≡ true → list_all test (drop n bytes) ≡ true
+list_all-drop test zero bytes h = h
+list_all-drop test (suc n) [] h = refl
+list_all-drop test (suc n) (b ∷ bytes) h = list_all-drop test n bytes (and_parts (test b) (list_all test bytes) h).1
+
+abbrev is_dot_atom : ℕ → Bool
+is_dot_atom b = is_atom_byte b || eqb b 46
+
+itself : (b : ℕ) (rest : List ℕ) → is_dot_atom b ≡ true → front_meaning (b ∷ rest) ≡ take (front_len (b ∷ rest)) (b ∷ rest)
+unfolding front_meaning front_len
+itself b rest h = go (is_atom_byte b) refl h
+  where
+    go : (t : Bool) → is_atom_byte b ≡ t → (t || eqb b 46) ≡ true → meaning (front_token (b ∷ rest)).kind (take (front_token (b ∷ rest)).len (b ∷ rest)) ≡ take (front_token (b ∷ rest)).len (b ∷ rest)
+    go true e h = ap (λ t. meaning t.kind (take (front_token (b ∷ rest)).len (b ∷ rest))) (atom_byte-front b rest e)
+    go false e h = ap (λ t. meaning t.kind (take (front_token (b ∷ rest)).len (b ∷ rest))) (ap (λ c. front_token (c ∷ rest)) (eqb-true b 46 h) ∙ dot-front rest)
+
+bare-within : (most start : ℕ) (bytes : List ℕ) → length bytes ≤ most → list_all is_dot_atom bytes ≡ true → items_within meaning_at front_len most start bytes ≡ bytes
+bare-within zero start [] low h = refl
+bare-within zero start (b ∷ bytes) low h = absurd (omega (arith, low))
+bare-within (suc most) start [] low h = refl
+bare-within (suc most) start (b ∷ bytes) low h =
+    let some = front_len-some (b ∷ bytes) (omega arith) in
+    let cut = length-drop (front_len (b ∷ bytes)) (b ∷ bytes) in
+    let both = and_parts (is_dot_atom b) (list_all is_dot_atom bytes) h in
+    ap (λ f. f ++ items_within meaning_at front_len most (start + front_len (b ∷ bytes)) (drop (front_len (b ∷ bytes)) (b ∷ bytes))) (itself b bytes both.0)
+    ∙ ap (λ r. take (front_len (b ∷ bytes)) (b ∷ bytes) ++ r)
+    (bare-within most (start + front_len (b ∷ bytes)) (drop (front_len (b ∷ bytes)) (b ∷ bytes)) (omega (arith, some, cut, low)) (list_all-drop is_dot_atom (front_len (b ∷ bytes)) (b ∷ bytes) h))
+    ∙ take-append-drop (front_len (b ∷ bytes)) (b ∷ bytes)
+
+bare-same : (bytes : List ℕ) → list_all is_dot_atom bytes ≡ true → bare bytes ≡ bytes
+unfolding bare items
+bare-same bytes h = bare-within (length bytes) 0 bytes (omega arith) h
+
+nothing-bare : (start : ℕ) → items meaning_at front_len start [] ≡ []
+unfolding items
+nothing-bare start = refl
+
+bare-one : (text : List ℕ) → 0 < length text → front_len text ≡ length text → bare text ≡ front_meaning text
+unfolding bare
+bare-one text low len =
+    items-more meaning_at front_len front_len-some 0 text low
+    ∙ ap (λ n. front_meaning text ++ items meaning_at front_len (0 + n) (drop n text)) len
+    ∙ ap (λ r. front_meaning text ++ items meaning_at front_len (0 + length text) r) (drop_all (length text) text (omega arith))
+    ∙ ap (λ r. front_meaning text ++ r) (nothing-bare (0 + length text))
+    ∙ append-nil (front_meaning text)
+
+bare-quoted : (text : List ℕ) → bare (quoted_text text) ≡ text
+bare-quoted text =
+    let same = append-nil (quoted_text text) in
+    bare-one (quoted_text text) (quoted-some text) (ap front_len (sym same) ∙ quoted-len text []) ∙ ap front_meaning (sym same) ∙ quoted-meaning text []
+
+any-atom : {text : List ℕ} → IsWord atoms text → IsWord any_words text
+any-atom is = any_word (name-word is)
+
+any-padded : {text : List ℕ} → IsPadded atoms text → IsPadded any_words text
+any-padded is = record {
+  before = is.before;
+  word = is.word;
+  after = is.after;
+  white_before = is.white_before;
+  is_word = any-atom is.is_word;
+  white_after = is.white_after;
+  made = is.made;
+}
+
+any-dot_words : {text : List ℕ} → AreDotWords atoms text → AreDotWords any_words text
+any-dot_words dots_end = dots_end
+any-dot_words (dot_word {word = word} {rest = rest} is more e) = dot_word {word = word} {rest = rest} (any-padded is) (any-dot_words more) e
+
+any-dotted : {text : List ℕ} → AreDotted atoms text → AreDotted any_words text
+any-dotted are = record { first = are.first; rest = are.rest; is_first = any-padded are.is_first; are_rest = any-dot_words are.are_rest; made = are.made }
+
+dot_atom-parts : (text : List ℕ) → needs_no_quotes text ≡ true → (list_all is_dot_atom text ≡ true) × (is_dotted Atoms text ≡ true)
+unfolding needs_no_quotes
+dot_atom-parts text h = and_parts (list_all is_dot_atom text) (is_dotted Atoms text) h
+
+pub local-stands : (text : List ℕ) → AreDotted any_words (written_local text)
+unfolding written_local
+local-stands text = go (needs_no_quotes text) refl
+  where
+    go : (t : Bool) → needs_no_quotes text ≡ t → AreDotted any_words (cond t text (quoted_text text))
+    go true e = any-dotted (dotted-made atoms text (dot_atom-parts text e).1)
+    go false e = record {
+      first = quoted_text text;
+      rest = [];
+      is_first = record {
+        before = [];
+        word = quoted_text text;
+        after = [];
+        white_before = white_ends;
+        is_word = any_word (quoted-is_word text);
+        white_after = white_ends;
+        made = sym (append-nil (quoted_text text));
+      };
+      are_rest = dots_end;
+      made = sym (append-nil (quoted_text text));
+    }
+
+local-bare : (text : List ℕ) → bare (written_local text) ≡ text
+unfolding written_local
+local-bare text = go (needs_no_quotes text) refl
+  where
+    go : (t : Bool) → needs_no_quotes text ≡ t → bare (cond t text (quoted_text text)) ≡ text
+    go true e = bare-same text (dot_atom-parts text e).0
+    go false e = bare-quoted text
+
+-- a domain that can be written
+literal-parts : (text : List ℕ) → is_literal text ≡ true → (is_in Literals (front_token text).kind ≡ true) × ((front_token text).len ≡ length text)
+unfolding is_literal
+literal-parts text h =
+    let both = and_parts (is_in Literals (front_token text).kind) (eqb (front_token text).len (length text)) h in
+    (both.0, eqb-true (front_token text).len (length text) both.1)
+
+literal-word : (text : List ℕ) → is_literal text ≡ true → IsWord literals text
+literal-word text h =
+    let parts = literal-parts text h in
+    word-meets literals (front_token text).kind text parts.0
+    (subst (λ t. Meets (front_token text).kind t) (take_all (front_token text).len text (let whole = parts.1 in omega (arith, whole))) (front-meets text))
+
+literal-meaning : (kind : Kind) (text : List ℕ) → is_in Literals kind ≡ true → meaning kind text ≡ text
+literal-meaning Literal text h = refl
+literal-meaning _ text h = absurd (false≢true h)
+
+literal-some : (text : List ℕ) → is_in Literals (front_token text).kind ≡ true → 0 < length text
+unfolding front_token
+literal-some [] h = absurd (false≢true h)
+literal-some (b ∷ rest) h = omega arith
+
+literal-bare : (text : List ℕ) → is_literal text ≡ true → bare text ≡ text
+unfolding front_meaning front_len
+literal-bare text h =
+    let parts = literal-parts text h in
+    let whole = parts.1 in
+    bare-one text (literal-some text parts.0) whole
+    ∙ literal-meaning (front_token text).kind (take (front_token text).len text) parts.0
+    ∙ take_all (front_token text).len text (omega (arith, whole))
+
+domain-from : (text : List ℕ) → (needs_no_quotes text || is_literal text) ≡ true → IsDomain text × (bare text ≡ text)
+domain-from text h = go (needs_no_quotes text) refl h
+  where
+    go : (t : Bool) → needs_no_quotes text ≡ t → (t || is_literal text) ≡ true → IsDomain text × (bare text ≡ text)
+    go true e h = (dotted (dotted-made atoms text (dot_atom-parts text e).1), bare-same text (dot_atom-parts text e).0)
+    go false e h = (
+      in_brackets (record {
+        before = [];
+        word = text;
+        after = [];
+        white_before = white_ends;
+        is_word = literal-word text h;
+        white_after = white_ends;
+        made = sym (append-nil text);
+      }),
+      literal-bare text h,
+    )
+
+pub domain-stands : (m : NewMailbox) → is_writable m ≡ true → IsDomain m.domain.now × (bare m.domain.now ≡ m.domain.now)
+unfolding is_writable
+domain-stands m h =
+    domain-from m.domain.now
+    (and_parts (has_no_control m.local_part.now && has_no_control m.domain.now) (needs_no_quotes m.domain.now || is_literal m.domain.now) h).1
+
+local-same : (text : List ℕ) → cond (needs_no_quotes text) text (quoted_text text) ≡ written_local text
+unfolding written_local
+local-same text = refl
+
+-- what is written of an address is its canonical form
+pub address-shows : (m : NewMailbox) → is_writable m ≡ true → address_bytes (written_local m.local_part.now) m.domain.now ≡ written_address m
+unfolding address_bytes local_text
+address-shows m h =
+    let local = local-bare m.local_part.now in
+    let domain = (domain-stands m h).1 in
+    ap (λ l. cond (needs_no_quotes l) l (quoted_text l) ++ 64 ∷ bare m.domain.now) local
+    ∙ ap (λ d. cond (needs_no_quotes m.local_part.now) m.local_part.now (quoted_text m.local_part.now) ++ 64 ∷ d) domain
+    ∙ ap (λ l. l ++ 64 ∷ m.domain.now) (local-same m.local_part.now)
