@@ -6,12 +6,18 @@
 //! addresses_with VALUE => ITEM..           names are read under all tables
 //! addresses_of MAIL NAME => ITEM..         in all headers with this name
 //! sender_of MAIL => mailbox NAME ADDRESS | none
+//! write_mailboxes [NAME LOCAL DOMAIN].. => BYTES
+//! write_group NAME [NAME LOCAL DOMAIN].. => BYTES
+//! read_written [NAME LOCAL DOMAIN].. => ITEM..     what `write_mailboxes` writes, read
 //! ```
 
-use mail_address::{Address, Group, Mailbox, Member, addresses_of, read_addresses, sender_of};
+use mail_address::{
+    Address, Group, Mailbox, Member, NewAddress, NewGroup, NewMailbox, WriteError, addresses_of,
+    read_addresses, sender_of, write_addresses,
+};
 use mail_suite::{Answer, Row, all_tables};
 use mailparse::{MailParseError, parse_mail};
-use std::alloc::Global;
+use std::alloc::{AllocError, Global};
 
 /// Makes the call of a row, if it is one of these.
 pub fn make(alloc: Global, row: &Row, answer: &mut Answer) -> bool {
@@ -20,6 +26,9 @@ pub fn make(alloc: Global, row: &Row, answer: &mut Answer) -> bool {
         "addresses_with" => list_addresses(alloc, row, answer, true),
         "addresses_of" => list_named(alloc, row, answer),
         "sender_of" => find_sender(alloc, row, answer),
+        "write_mailboxes" => write_mailboxes(alloc, row, answer),
+        "write_group" => write_group_of(alloc, row, answer),
+        "read_written" => read_written(alloc, row, answer),
         _ => return false,
     };
     answer.end(outcome);
@@ -115,4 +124,74 @@ fn mailbox_name(
 fn write_unknown(text: &[u8], answer: &mut Answer) {
     answer.word("unknown");
     answer.bytes(text);
+}
+
+/// The mailboxes that the inputs name from one on, by three inputs each.
+fn new_mailboxes(alloc: Global, row: &Row, from: usize) -> Result<Vec<NewMailbox<'_>>, AllocError> {
+    let mut mailboxes = Vec::new(alloc);
+    for number in 0..row.count().saturating_sub(from) / 3 {
+        let at = number.saturating_mul(3).saturating_add(from);
+        mailboxes.push(NewMailbox {
+            display_name: row.text(at),
+            local_part: row.text(at.saturating_add(1)),
+            domain: row.text(at.saturating_add(2)),
+        })?;
+    }
+    Ok(mailboxes)
+}
+
+/// The elements of a list of these mailboxes.
+fn new_addresses(alloc: Global, row: &Row) -> Result<Vec<NewAddress<'_>>, AllocError> {
+    let mut list = Vec::new(alloc);
+    for mailbox in &new_mailboxes(alloc, row, 0)? {
+        list.push(NewAddress::Mailbox(*mailbox))?;
+    }
+    Ok(list)
+}
+
+/// What a list of mailboxes is written as.
+fn written(alloc: Global, row: &Row) -> Result<Vec<u8>, WriteError> {
+    let list = new_addresses(alloc, row)?;
+    write_addresses(alloc, list.as_slice())
+}
+
+/// Writes a list of mailboxes.
+fn write_mailboxes(alloc: Global, row: &Row, answer: &mut Answer) -> Result<(), MailParseError> {
+    write_value(written(alloc, row), answer)
+}
+
+/// Writes a list of one group.
+fn write_group_of(alloc: Global, row: &Row, answer: &mut Answer) -> Result<(), MailParseError> {
+    let members = new_mailboxes(alloc, row, 1)?;
+    let group = NewGroup {
+        display_name: row.text(0),
+        members: members.as_slice(),
+    };
+    write_value(write_addresses(alloc, &[NewAddress::Group(group)]), answer)
+}
+
+/// Writes the elements of a list of mailboxes that was written.
+fn read_written(alloc: Global, row: &Row, answer: &mut Answer) -> Result<(), MailParseError> {
+    match written(alloc, row) {
+        Ok(value) => {
+            for address in &read_addresses(alloc, value.as_slice())? {
+                write_address(alloc, address, answer, false);
+            }
+            Ok(())
+        }
+        Err(error) => write_value(Err(error), answer),
+    }
+}
+
+/// Writes a value that was made, or why it was not.
+fn write_value(
+    outcome: Result<Vec<u8>, WriteError>,
+    answer: &mut Answer,
+) -> Result<(), MailParseError> {
+    match outcome {
+        Ok(value) => answer.bytes(value.as_slice()),
+        Err(WriteError::Address) => answer.error("no address has such a local part or domain"),
+        Err(WriteError::Memory(e)) => return Err(MailParseError::Memory(e)),
+    }
+    Ok(())
 }
