@@ -2,6 +2,7 @@
 
 pub mod bodies;
 mod charsets;
+mod decoders;
 mod errors;
 mod headers;
 mod kinds;
@@ -36,5 +37,6 @@ pub fn make(alloc: Global, row: &Row, answer: &mut Answer) -> bool {
         || charsets::make(alloc, row, answer)
         || transfer::make(alloc, row, answer)
         || tables::make(alloc, row, answer)
+        || decoders::make(alloc, row, answer)
         || sweeps::make(alloc, row, answer)
 }
