@@ -25,6 +25,7 @@ import sys
 import tempfile
 
 from read_by_email import body_of, ids, is_file, mails_of, parts_of, raw_value, seconds, shown, text_of, value_of
+from shared.extracted import bytes_of, saved_parts
 from shared.programs import built_program
 
 BATCH = 1000
@@ -163,8 +164,8 @@ def texts(mail):
 
 
 def contents(mail):
-    """The bytes of the files of a mail, by their paths."""
-    return {path: body_of(part) for path, part in parts_of(mail) if is_file(part)}
+    """The bytes of what is saved of a mail and of the mails inside it, by their paths."""
+    return {path: bytes_of(part) for path, part in saved_parts(mail)}
 
 
 def attachments(data):
