@@ -1,12 +1,26 @@
 """What mail_extract saves of a mail, by Python's email package and the rules of docs/RULES.md."""
 
-import base64
 import email
-import quopri
+import re
 
 from read_by_email import body_of, has_parts, is_file, walk
 
 SHOWN = ("text/plain", "text/html")
+
+
+def closed(data):
+    """A mail with other types in the place of `message/..`, so that Python does not read their bodies as mails."""
+    return re.sub(rb"(?i)(?<![a-z-])message/(?=[a-z])", rb"x-\g<0>", data)
+
+
+def opened(data):
+    """The bytes as they were."""
+    return re.sub(rb"(?i)(?<![a-z-])x-(message/)", rb"\1", data)
+
+
+def kind_of(part):
+    """The type of a part of a closed mail."""
+    return re.sub("^x-message/", "message/", part.get_content_type())
 
 
 def is_saved(part):
@@ -15,23 +29,19 @@ def is_saved(part):
 
 
 def bytes_of(part):
-    """The bytes of the body of a part; those of a forwarded mail or a report are written anew, since Python has read
-    them, which puts an empty line after the last block of a report."""
-    if part.get_content_maintype() != "message" or not part.is_multipart():
-        return body_of(part)
-    raw = b"".join(inner.as_bytes() for inner in part.get_payload())
-    if part.get_content_type() == "message/delivery-status":
-        raw = raw.removesuffix(b"\n")
-    decode = {"base64": base64.b64decode, "quoted-printable": quopri.decodestring}
-    return decode.get(part.get("content-transfer-encoding"), bytes)(raw)
+    """The bytes of the body of a part of a closed mail; those of a mail in a digest, into which Python has read all
+    the same, are written anew."""
+    if part.is_multipart():
+        return opened(b"".join(inner.as_bytes() for inner in part.get_payload()))
+    return opened(body_of(part))
 
 
-def saved_parts(mail, path=""):
-    """The parts that are saved of a mail which the part with this path holds, then those of the mails inside it, each
-    with its path."""
-    under = path if has_parts(mail) else f"{path}.1" if path else "1"
-    parts = list(walk(mail, under))
-    yield from ((place, part) for place, part in parts if is_saved(part))
+def saved_files(data, path=""):
+    """The paths and the bytes of what is saved of a mail that the part with this path holds, then of the mails inside
+    it."""
+    mail = email.message_from_bytes(closed(data))
+    parts = list(walk(mail, path if has_parts(mail) else f"{path}.1" if path else "1"))
+    yield from ((place, bytes_of(part)) for place, part in parts if is_saved(part))
     for place, part in parts:
-        if part.get_content_type() in ("message/rfc822", "message/global"):
-            yield from saved_parts(email.message_from_bytes(bytes_of(part)), place)
+        if kind_of(part) in ("message/rfc822", "message/global"):
+            yield from saved_files(bytes_of(part), place)
