@@ -25,6 +25,7 @@ import sys
 import tempfile
 
 from read_by_email import body_of, ids, is_file, mails_of, parts_of, raw_value, seconds, shown, text_of, value_of
+from shared.extracted import saved_files
 from shared.programs import built_program
 
 BATCH = 1000
@@ -162,9 +163,9 @@ def texts(mail):
     return [(path, text) for path, text in found if text is not None]
 
 
-def contents(mail):
-    """The bytes of the files of a mail, by their paths."""
-    return {path: body_of(part) for path, part in parts_of(mail) if is_file(part)}
+def contents(data):
+    """The bytes of what is saved of a mail and of the mails inside it, by their paths."""
+    return dict(saved_files(data))
 
 
 def attachments(data):
@@ -182,7 +183,6 @@ READERS = {
     "id": own_id,
     "texts": texts,
     "attachments": sizes,
-    "bytes": contents,
     "not reached": not_reached,
     "parents": lambda mail: once(ids(raw_value(mail, "references"), True) + ids(raw_value(mail, "in-reply-to"), True)),
 }
@@ -196,10 +196,11 @@ def said_there(data):
             said[item] = reader(email.message_from_bytes(data))
         except Exception as error:  # what the package raises is not said anywhere
             said[item] = Refused(f"{type(error).__name__}: {error}")
-    try:
-        said["iter_attachments"] = attachments(data)
-    except Exception as error:  # as above
-        said["iter_attachments"] = Refused(f"{type(error).__name__}: {error}")
+    for item, reader in (("bytes", contents), ("iter_attachments", attachments)):
+        try:
+            said[item] = reader(data)
+        except Exception as error:  # as above
+            said[item] = Refused(f"{type(error).__name__}: {error}")
     return said
 
 

@@ -1,6 +1,6 @@
 -- The bytes of a file that are saved: those that can be read.
 use Rattle.std.specs.Prelude.{ℕ, List, Option, Some, None, Ok, Err}
-use Rattle.mailparse.specs.Body.{BodyKind, decoded}
+use Rattle.mailparse.specs.Body.{decoded}
 use Rattle.mailparse.specs.Mail.{Node}
 use Rattle.mailparse.specs.Refusal.{Reads, Refusal}
 use Rattle.mail_data.specs.lenient.Base64.{base64_front}

@@ -1,7 +1,9 @@
+pub mod Endings
 pub mod Names
 pub mod Folder
 pub mod Content
 pub mod Hash
+pub mod Chosen
 pub mod Save
 pub mod SaveViews
 pub mod Lines

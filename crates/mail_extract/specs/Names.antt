@@ -13,9 +13,9 @@ is_refused_first c = c == 46 || c == 45
 unfoldable pub visible_name : List ℕ → List ℕ
 visible_name name = safe_name (if begins is_refused_first name then codes "_" ++ name else name)
 
--- the name that is wanted for a file: the sender's, or `unnamed` where there is none
-abbrev pub wanted_name : Option (List ℕ) → List ℕ
-wanted_name name = visible_name (unwrap_or name (codes "unnamed"))
+-- the name that is wanted for a file: the sender's; where there is none, `unnamed` with an ending
+abbrev pub wanted_name : Option (List ℕ) → List ℕ → List ℕ
+wanted_name name ending = visible_name (unwrap_or name (codes "unnamed" ++ ending))
 
 abbrev pub is_dot : ℕ → Bool
 is_dot c = c == 46

@@ -1,10 +1,16 @@
 -- What saving the files of a mail does to a folder; the program's own rule.
-use Rattle.std.specs.Prelude.{◌≡◌, ℕ, suc, ◌+◌, ◌-◌, ◌^◌, ◌<◌, ◌≤◌, ◌⊎◌, Bool, true, false, List, [], ◌∷◌, ◌++◌, length, map, Option, Some, None, is_some, option_map, if◌then◌else◌}
+use Rattle.std.specs.Prelude.{◌≡◌, ℕ, ◌+◌, ◌-◌, ◌^◌, ◌<◌, ◌≤◌, ◌⊎◌, Bool, true, false, List, [], ◌∷◌, ◌++◌, length, filter, flat_map, map, Option, Some, None, is_some, option_map, if◌then◌else◌}
+use Rattle.std.specs.Option.{option_map_or}
+use Rattle.std.specs.Result.{result_ok}
 use Rattle.mail_codec.specs.Charset.{Charsets}
-use Rattle.mailparse.specs.Mail.{Tree, root}
-use Rattle.mailparse.specs.Refusal.{Refusal}
-use Rattle.mail_data.specs.Files.{attachments_in, file_name_in}
+use Rattle.mailparse.specs.Mail.{Tree, read_mail_in, root}
+use Rattle.mailparse.specs.Placement.{Placement, placements}
+use Rattle.mail_data.specs.Files.{file_name_in}
+use Rattle.mail_data.specs.InnerMails.{InnerMail, inner_mails, places_under}
+use Rattle.mail_data.specs.PartPlaces.{Place, places}
+use Rattle.mail_extract.specs.Chosen.{is_saved}
 use Rattle.mail_extract.specs.Content.{Content, content}
+use Rattle.mail_extract.specs.Endings.{ending_of}
 use Rattle.mail_extract.specs.Folder.{File, has_file}
 use Rattle.mail_extract.specs.Hash.{hash_text}
 use Rattle.mail_extract.specs.Names.{IsNumbered, wanted_name}
@@ -63,10 +69,25 @@ module _ (can_fail hashes : Bool) where
       (mid : List File) × (number : ℕ) × IsSaved files wanted from outcome number mid × AreSaved mid others number outcomes next now
   AreSaved files _ from _ next now = ⊥
 
--- a part as it is to be saved, under the charsets that are known
-abbrev pub wanted : Charsets → List ℕ × Tree → Wanted
-wanted known p = record { path = p.0; name = wanted_name (file_name_in known (root p.1)); content = content (root p.1) }
+-- Under the charsets that are known.
+module _ (known : Charsets) where
+  -- a part as it is to be saved
+  abbrev pub wanted : Place → Wanted
+  wanted place = record {
+    path = place.path;
+    name = wanted_name (file_name_in known (root place.part)) (ending_of (root place.part));
+    content = content (root place.part);
+  }
 
--- the files of a mail as they are to be saved
-abbrev pub wanted_files : Charsets → Tree → List Wanted
-wanted_files known mail = map (wanted known) (attachments_in known mail)
+  -- the files among some parts as they are to be saved
+  abbrev pub wanted_among : List Place → List Wanted
+  wanted_among found = map wanted (filter (λ place. is_saved known place.part) found)
+
+  -- the files of a mail inside a mail, if it is not refused
+  abbrev pub wanted_inside : InnerMail → List Wanted
+  wanted_inside inner =
+      option_map_or (λ t. wanted_among (places_under inner.path t (placements 0 t))) (result_ok (read_mail_in known 100 inner.bytes)) []
+
+  -- the files of a mail whose parts stand there, and then those of the mails inside it, as they are to be saved
+  abbrev pub wanted_files : Tree → List Placement → List Wanted
+  wanted_files t found = wanted_among (places t found) ++ flat_map wanted_inside (inner_mails known 100 [] (Some 0) t found)

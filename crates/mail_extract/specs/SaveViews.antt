@@ -1,5 +1,5 @@
 -- What a contract sees of a content, and of a file that was saved or was not.
-use Rattle.std.specs.Prelude.{ℕ, List, Option, Some, None, option_and_then, is_some, option_map, string_bytes}
+use Rattle.std.specs.Prelude.{ℕ, List, Option, Some, None, option_and_then, is_some, string_bytes}
 use Rattle.mailparse.specs.Map.{text_found}
 use Rattle.mailparse.specs.Outcome.{refusal_of}
 use Rattle.mail_extract.specs.Content as words

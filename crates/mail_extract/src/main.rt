@@ -1,8 +1,10 @@
 //! Saves the files that mails carry: `mail_extract [--into FOLDER] [--hash] [FILE..]`.
 #![tactic(auto)]
 
+mod chosen;
 mod content;
 mod disk;
+mod endings;
 mod folder;
 mod hash;
 mod lines;

@@ -12,14 +12,20 @@ use std::alloc::{AllocError, Global};
 /// The most bytes of a name that stay before a number.
 const MOST_STEM: usize = 200;
 
-/// The name that is wanted for a file to which its sender gave this name.
-pub fn wanted_name(alloc: Global, name: Option<String>) -> Result<String, AllocError>
-    ensures read { IfOk result (λ text. string_bytes text ≡ wanted_name (text_found name)) }
+/// The name that is wanted for a file to which its sender gave this name; one without a name gets
+/// this ending.
+pub fn wanted_name(alloc: Global, name: Option<String>, ending: &str) -> Result<String, AllocError>
+    ensures read { IfOk result (λ text.
+        string_bytes text ≡ wanted_name (text_found name) ending.now) }
     ensures safe { IfOk result (λ text. IsSafeName (string_bytes text)) }
 {
     match name {
         Some(name) => visible_name(alloc, name.as_str()),
-        None => visible_name(alloc, "unnamed"),
+        None => {
+            let name = format!(in alloc; "unnamed{ending}")?;
+            let visible = visible_name(alloc, name.as_str())?;
+            Ok(visible)
+        }
     }
 }
 

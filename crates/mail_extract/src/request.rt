@@ -17,8 +17,10 @@ An input that begins with a separator of a mailbox is a mailbox, any other is on
     --                           what follows are names of files
 
 A file is saved under the name that its sender gave it, made safe; where that is taken, with a
-number. Nothing is written over. A file whose Base64 is damaged is saved up to the damage, and its
-line has an `error`; so has that of a mail that is refused and of an input that cannot be read.
+number. Nothing is written over. Parts without a name are saved too, but for plain text and HTML,
+and so are forwarded mails and the files in them. A file whose Base64 is damaged is saved up to the
+damage, and its line has an `error`; so has that of a mail that is refused and of an input that
+cannot be read.
 The status is 0 where all was saved, 3 where mails were refused or files were damaged, 1 where
 something could not be read, saved or written, and 2 where the arguments are wrong.
 ";

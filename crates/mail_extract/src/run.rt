@@ -4,6 +4,7 @@ use crate::disk::Disk;
 use crate::lines::{Line, write_line};
 use crate::request::Request;
 use crate::save::{Saved, save_files};
+use mail_data::inner_mails::InnerMail;
 use mail_data::mailbox::read_mailbox;
 use mail_program::{Fault, Outcome, read_input};
 use mail_tables::TABLES;
@@ -114,7 +115,7 @@ impl<'r, R: Files + Eprint + AllocGlobal, W: Write> Saver<'r, R, W> {
         let text = format!(in self.rt.alloc(); "{error}")?;
         let name = file.unwrap_or("input failed");
         let _ = eprintln!(self.rt; "mail_extract: {name}: {text}");
-        self.write_error(file, None, text.as_str())?;
+        self.write_error(file, None, None, text.as_str())?;
         Ok(Outcome::Failed)
     }
 
@@ -129,7 +130,7 @@ impl<'r, R: Files + Eprint + AllocGlobal, W: Write> Saver<'r, R, W> {
         match parse_mail_with(alloc, raw, &TABLES) {
             Ok(parsed) => {
                 let number = &mut self.number;
-                let saved = save_files(
+                let extracted = save_files(
                     alloc,
                     &mut self.disk,
                     number,
@@ -137,28 +138,49 @@ impl<'r, R: Files + Eprint + AllocGlobal, W: Write> Saver<'r, R, W> {
                     &parsed,
                     &TABLES,
                 )?;
-                self.write_lines(file, mail, saved.as_slice())
+                let saved = self.write_lines(file, mail, extracted.saved.as_slice())?;
+                Ok(saved.and(self.write_refused(file, mail, extracted.inside.as_slice())?))
             }
             Err(MailParseError::Memory(error)) => Err(Fault::from(error)),
             Err(error) => {
                 let text = format!(in alloc; "{error}")?;
-                self.write_error(file, mail, text.as_str())?;
+                self.write_error(file, mail, None, text.as_str())?;
                 Ok(Outcome::Refused)
             }
         }
     }
 
-    /// Writes the line of an error that is none of a file.
+    /// Writes the lines of the mails inside a mail that are refused.
+    fn write_refused(
+        &mut self,
+        file: Option<&str>,
+        mail: Option<usize>,
+        inside: &[InnerMail],
+    ) -> Result<Outcome, Fault> {
+        let mut outcome = Outcome::Clean;
+        for inner in inside {
+            if let Some(error) = &inner.error {
+                let text = format!(in self.rt.alloc(); "{error}")?;
+                self.write_error(file, mail, Some(inner.path.as_str()), text.as_str())?;
+                outcome = Outcome::Refused;
+            }
+        }
+        Ok(outcome)
+    }
+
+    /// Writes the line of an error that is none of a file, with the path of the part that holds the
+    /// mail inside a mail that is refused.
     fn write_error<'l>(
         &mut self,
         file: Option<&'l str>,
         mail: Option<usize>,
+        path: Option<&'l str>,
         error: &'l str,
     ) -> Result<(), Fault> {
         let line = Line {
             file,
             number: mail,
-            path: None,
+            path,
             saved: None,
             size: None,
             sha256: None,

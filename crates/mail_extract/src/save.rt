@@ -1,23 +1,41 @@
 //! Saving the files of a mail into a folder.
-ghost use Rattle.std.specs.Prelude.{◌≡◌, List, Some, is_some, map, string_bytes, All, IfErr, IfOk, IfSome};
+ghost use Rattle.std.specs.Prelude.{◌≡◌, ◌++◌, [], List, Some, is_some, map, option_map, string_bytes, All, IfErr, IfOk, IfSome, OnOk};
+ghost use Rattle.std.specs.Result.{result_ok};
 ghost use Rattle.mail_codec.specs.Tables.{charsets_with};
+ghost use Rattle.mailparse.specs.Mail.{read_mail_in};
 ghost use Rattle.mailparse.specs.Outcome.{IsMemory};
-ghost use Rattle.mailparse.specs.Views.{tree_of};
+ghost use Rattle.mailparse.specs.Placement.{placements};
+ghost use Rattle.mailparse.specs.Views.{placements_of, tree_of};
 ghost use Rattle.mail_data.specs.FileNames.{IsSafeName};
-ghost use Rattle.mail_data.specs.FileViews.{attachment_view};
+ghost use Rattle.mail_data.specs.InnerMails.{inner_mails};
+ghost use Rattle.mail_data.specs.InnerMailViews.{inner_view};
+ghost use Rattle.mail_data.specs.PlaceViews.{place_view};
 ghost use Rattle.mail_extract.specs.Folder.{File};
-ghost use Rattle.mail_extract.specs.Save.{AreSaved, IsKept, IsKeptNumbered, IsSaved, wanted};
-ghost use Rattle.mail_extract.specs.Save.{wanted_files};
+ghost use Rattle.mail_extract.specs.Save.{AreSaved, IsKept, IsKeptNumbered, IsSaved, Outcome};
+ghost use Rattle.mail_extract.specs.Save.{wanted, wanted_among, wanted_files, wanted_inside};
 ghost use Rattle.mail_extract.specs.SaveViews.{kept_name, outcome};
 
+use crate::chosen::is_saved;
 use crate::content::content_of;
+use crate::endings::ending_of;
 use crate::folder::{Created, Folder};
 use crate::hash::hash_if;
 use crate::names::{numbered, wanted_name};
-use mail_data::files::{Attachment, attachments_with, file_name_with};
-use mailparse::{MailParseError, ParsedMail, SingleByteTable};
+use mail_data::files::file_name_with;
+use mail_data::inner_mails::{InnerMail, inner_mails, places_under};
+use mail_data::places::{Place, places};
+use mailparse::{MailParseError, ParsedMail, SingleByteTable, parse_mail_with};
 use std::alloc::{AllocError, Global};
 use std::io::{self, ErrorKind};
+
+/// What became of the files of a mail.
+#[derive(Drop)]
+pub struct Extracted {
+    /// Each file: those of the mail itself, then those of each mail inside it.
+    pub saved: Vec<Saved>,
+    /// The mails inside it, among them those that are refused.
+    pub inside: Vec<InnerMail>,
+}
 
 /// What became of a file of a mail.
 #[derive(Drop)]
@@ -43,8 +61,9 @@ enum Kept {
     Nowhere(io::Error),
 }
 
-/// Saves the files of a mail into a folder, where names may also be in the charsets of some tables.
-/// A name that is taken gets a number, the next one to be tried. Where it is wanted, files are hashed.
+/// Saves the files of a mail and of the mails inside it into a folder, where names may also be in
+/// the charsets of some tables. A name that is taken gets a number, the next one to be tried. Where
+/// it is wanted, files are hashed.
 ///
 /// # Errors
 ///
@@ -56,20 +75,127 @@ pub fn save_files<F: Folder>(
     hashes: bool,
     mail: &ParsedMail<'_>,
     tables: &[SingleByteTable<'_>],
-) -> Result<Vec<Saved>, MailParseError>
-    ensures saved { IfOk result (λ saved. (files : List File) → F.held folder.old ≡ Some files →
+) -> Result<Extracted, MailParseError>
+    ensures saved { IfOk result (λ extracted. (files : List File) → F.held folder.old ≡ Some files →
         (now : List File) × (F.held folder.new ≡ Some now)
-        × AreSaved F.can_fail hashes files (wanted_files (charsets_with tables.now) (tree_of mail.now))
-        number.old (map outcome saved.items) number.new now) }
-    ensures safe { IfOk result (λ saved.
-        All (λ file. IfSome file.name (λ name. IsSafeName (string_bytes name))) saved.items) }
+        × AreSaved F.can_fail hashes files
+        (wanted_files (charsets_with tables.now) (tree_of mail.now) (placements_of mail.now))
+        number.old (map outcome extracted.saved.items) number.new now) }
+    ensures inside { IfOk result (λ extracted. map inner_view extracted.inside.items
+        ≡ inner_mails (charsets_with tables.now) 100 [] (Some 0) (tree_of mail.now)
+        (placements_of mail.now)) }
+    ensures safe { IfOk result (λ extracted.
+        All (λ file. IfSome file.name (λ name. IsSafeName (string_bytes name)))
+        extracted.saved.items) }
     ensures only_memory { IfErr result IsMemory }
 {
+    let inside = inner_mails(alloc, mail, tables)?;
+    let found = places(alloc, mail)?;
     let mut saved = Vec::new(alloc);
-    for file in attachments_with(alloc, mail, tables)? {
-        saved.push(save_file(alloc, folder, number, hashes, file, tables)?)?;
+    save_places(
+        alloc,
+        folder,
+        number,
+        hashes,
+        found.as_slice(),
+        tables,
+        &mut saved,
+    )?;
+    for inner in &inside {
+        save_inner(alloc, folder, number, hashes, inner, tables, &mut saved)?;
     }
-    Ok(saved)
+    Ok(Extracted { saved, inside })
+}
+
+/// Saves the files of a mail inside a mail, unless it is refused, and adds what became of them.
+fn save_inner<F: Folder>(
+    alloc: Global,
+    folder: &mut F,
+    number: &mut u64,
+    hashes: bool,
+    inner: &InnerMail,
+    tables: &[SingleByteTable<'_>],
+    saved: &mut Vec<Saved>,
+) -> Result<(), MailParseError>
+    ensures saved { OnOk result ((files : List File) → F.held folder.old ≡ Some files →
+        (now : List File) × (F.held folder.new ≡ Some now)
+        × (outcomes : List Outcome)
+        × (map outcome saved.new.items ≡ map outcome saved.old.items ++ outcomes)
+        × AreSaved F.can_fail hashes files
+        (wanted_inside (charsets_with tables.now) (inner_view inner.now))
+        number.old outcomes number.new now) }
+    ensures safe { All (λ file. IfSome file.name (λ name. IsSafeName (string_bytes name)))
+        saved.old.items → OnOk result
+        (All (λ file. IfSome file.name (λ name. IsSafeName (string_bytes name)))
+        saved.new.items) }
+    ensures only_memory { IfErr result IsMemory }
+{
+    match mail_of(alloc, inner, tables)? {
+        Some(mail) => {
+            let found = places_under(alloc, &mail, inner.path.as_str())?;
+            save_places(
+                alloc,
+                folder,
+                number,
+                hashes,
+                found.as_slice(),
+                tables,
+                saved,
+            )?;
+            Ok(())
+        }
+        None => Ok(()),
+    }
+}
+
+/// A mail inside a mail, read, unless it is refused.
+fn mail_of<'i>(
+    alloc: Global,
+    inner: &'i InnerMail,
+    tables: &[SingleByteTable<'_>],
+) -> Result<Option<ParsedMail<'i>>, MailParseError>
+    ensures read { IfOk result (λ mail. option_map tree_of mail
+        ≡ result_ok (read_mail_in (charsets_with tables.now) 100 (inner_view inner.now).bytes)) }
+    ensures places { IfOk result (λ mail.
+        IfSome mail (λ mail. placements_of mail ≡ placements 0 (tree_of mail))) }
+    ensures only_memory { IfErr result IsMemory }
+{
+    match parse_mail_with(alloc, inner.bytes.as_slice(), tables) {
+        Ok(mail) => Ok(Some(mail)),
+        Err(MailParseError::Memory(error)) => Err(MailParseError::Memory(error)),
+        Err(_) => Ok(None),
+    }
+}
+
+/// Saves the files among some parts, and adds what became of them.
+fn save_places<F: Folder>(
+    alloc: Global,
+    folder: &mut F,
+    number: &mut u64,
+    hashes: bool,
+    places: &[Place<'_, '_>],
+    tables: &[SingleByteTable<'_>],
+    saved: &mut Vec<Saved>,
+) -> Result<(), MailParseError>
+    ensures saved { OnOk result ((files : List File) → F.held folder.old ≡ Some files →
+        (now : List File) × (F.held folder.new ≡ Some now)
+        × (outcomes : List Outcome)
+        × (map outcome saved.new.items ≡ map outcome saved.old.items ++ outcomes)
+        × AreSaved F.can_fail hashes files
+        (wanted_among (charsets_with tables.now) (map place_view places.now))
+        number.old outcomes number.new now) }
+    ensures safe { All (λ file. IfSome file.name (λ name. IsSafeName (string_bytes name)))
+        saved.old.items → OnOk result
+        (All (λ file. IfSome file.name (λ name. IsSafeName (string_bytes name)))
+        saved.new.items) }
+    ensures only_memory { IfErr result IsMemory }
+{
+    for place in places {
+        if is_saved(alloc, place.part, tables)? {
+            saved.push(save_file(alloc, folder, number, hashes, place, tables)?)?;
+        }
+    }
+    Ok(())
 }
 
 /// Saves a file.
@@ -78,23 +204,24 @@ fn save_file<F: Folder>(
     folder: &mut F,
     number: &mut u64,
     hashes: bool,
-    file: Attachment<'_, '_>,
+    place: &Place<'_, '_>,
     tables: &[SingleByteTable<'_>],
 ) -> Result<Saved, MailParseError>
     ensures saved { IfOk result (λ saved. (files : List File) → F.held folder.old ≡ Some files →
         (now : List File) × (F.held folder.new ≡ Some now)
-        × IsSaved F.can_fail hashes files (wanted (charsets_with tables.now) (attachment_view file.entry))
+        × IsSaved F.can_fail hashes files (wanted (charsets_with tables.now) (place_view place.now))
         number.old (outcome saved) number.new now) }
     ensures safe { IfOk result (λ saved.
         IfSome saved.name (λ name. IsSafeName (string_bytes name))) }
     ensures only_memory { IfErr result IsMemory }
 {
-    let content = content_of(alloc, file.part)?;
-    let wanted = wanted_name(alloc, file_name_with(alloc, file.part, tables)?)?;
+    let content = content_of(alloc, place.part)?;
+    let name = file_name_with(alloc, place.part, tables)?;
+    let wanted = wanted_name(alloc, name, ending_of(place.part))?;
     let bytes = content.bytes.as_slice();
     let sha256 = hash_if(alloc, hashes, bytes)?;
     let kept = keep(alloc, folder, number, wanted, bytes)?;
-    let path = file.path;
+    let path = String::from_str(alloc, place.path.as_str())?;
     let size = bytes.len();
     match kept {
         Kept::As(name) => {

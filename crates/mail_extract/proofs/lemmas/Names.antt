@@ -1,9 +1,9 @@
 -- Lemmas on names that get a number.
-use Rattle.std.proofs.Common.{◌≡◌, ℕ, List, [], ◌∷◌, ◌++◌, Some, take, drop, refl, sym, ap, subst, ◌∙◌}
+use Rattle.std.proofs.Common.{◌≡◌, ℕ, List, [], ◌∷◌, ◌++◌, take, drop, refl, sym, ap, subst, ◌∙◌}
 use Rattle.std.proofs.lemmas.List.{append-nil, take-append-drop}
 use Rattle.std.specs.Str.{NoCharPasses}
 use Rattle.std.specs.Str.Pattern.{HasCharAt}
-use Rattle.mail_extract.specs.Names.{IsEnding, IsNumbered, IsNumberedBefore, is_dot}
+use Rattle.mail_extract.specs.Names.{IsNumbered, IsNumberedBefore, is_dot}
 
 -- a name that was cut at its last dot
 pub numbered_cut : (name stem rest ending text : List ℕ) (number i j : ℕ) → NoCharPasses is_dot (drop j name) → HasCharAt 46 name i j → stem ≡ take i name

@@ -1,17 +1,27 @@
 -- Lemmas on files that are saved one after another.
-use Rattle.std.proofs.Common.{◌≡◌, ℕ, ◌+◌, ◌<◌, ◌≤◌, Bool, true, false, ◌||◌, List, [], ◌∷◌, ◌++◌, length, map, Option, Some, None, is_some, option_and_then, Ok, refl, sym, ap, subst, append_assoc, arith, ⊎_elim, option_map, if◌then◌else◌, ◌∙◌}
-use Rattle.std.proofs.lemmas.Bool.{cases_lt}
+use Rattle.std.proofs.Common.{◌≡◌, ℕ, ◌+◌, Bool, true, false, ◌||◌, List, [], ◌∷◌, ◌++◌, length, map, Option, Some, None, is_some, option_and_then, Ok, refl, sym, ap, subst, append_assoc, arith, ⊎_elim, option_map, if◌then◌else◌, IfSome, ◌∙◌}
+use Rattle.std.specs.Prelude.{flat_map}
+use Rattle.std.proofs.lemmas.Bool.{cases_lt, cond-true, cond-false}
 use Rattle.std.proofs.lemmas.List.{append-nil, map_push}
+use Rattle.std.proofs.lemmas.List.Concat.{flat_map-cons}
 use Rattle.std.proofs.lemmas.List.Elements.{All-push}
 use Rattle.std.specs.List.{All, list_any}
+use Rattle.std.specs.Option.{option_map_or}
+use Rattle.std.specs.Result.{result_ok}
+use Rattle.mail_codec.specs.Charset.{Charsets}
+use Rattle.mailparse.specs.Mail.{Tree, read_mail_in}
+use Rattle.mailparse.specs.Placement.{Placement, placements}
 use Rattle.mailparse.specs.Refusal.{Reads}
+use Rattle.mail_data.specs.InnerMails.{InnerMail, places_under}
+use Rattle.mail_data.specs.PartPlaces.{Place}
+use Rattle.mail_extract.specs.Chosen.{is_saved}
 use Rattle.mail_extract.specs.Content.{Content}
 use Rattle.mail_extract.specs.Folder.{Creates, File, has_file}
 use Rattle.mail_extract.specs.Hash.{hash_text}
 use Rattle.mail_extract.specs.declared.folder.Created.{Created}
 use Rattle.mail_extract.specs.declared.folder.Created.TheVariants.{Taken}
 use Rattle.mail_extract.specs.Names.{IsNumbered}
-use Rattle.mail_extract.specs.Save.{AreSaved, AreTaken, IsKept, IsSaved, Outcome, Wanted}
+use Rattle.mail_extract.specs.Save.{AreSaved, AreTaken, IsKept, IsSaved, Outcome, Wanted, wanted, wanted_among, wanted_inside}
 
 -- something of the name is there
 pub created_taken : (files : List File) (name bytes : List ℕ) (can_fail : Bool) (now : Option (List File)) (r : Created) → r ≡ Taken
@@ -58,6 +68,48 @@ saved_file can_fail hashes files now wanted from next size name bytes path kept 
 pub each_more : {X : Type 0} (P : X → Type 0) (xs ys : List X) (x : X) → ys ≡ xs ++ x ∷ [] → All P xs → P x → All P ys
 each_more P xs ys x made each one = rw made (All-push P xs x each one)
 
+-- the files among some parts, of which the first is one
+pub among_one : (known : Charsets) (all rest : List Place) (place : Place) → all ≡ place ∷ rest → is_saved known place.part ≡ true
+    → wanted_among known all ≡ wanted known place ∷ wanted_among known rest
+among_one known all rest place e is =
+    ap (wanted_among known) e ∙ ap (map (wanted known)) (cond-true (is_saved known place.part) _ _ is)
+
+-- the files among some parts, of which the first is none
+pub among_none : (known : Charsets) (all rest : List Place) (place : Place) → all ≡ place ∷ rest → is_saved known place.part ≡ false
+    → wanted_among known all ≡ wanted_among known rest
+among_none known all rest place e is =
+    ap (wanted_among known) e ∙ ap (map (wanted known)) (cond-false (is_saved known place.part) _ _ is)
+
+-- the files of the mails inside a mail, by those of the first
+inside_one : (known : Charsets) (all rest : List InnerMail) (inner : InnerMail) → all ≡ inner ∷ rest
+    → flat_map (wanted_inside known) all ≡ wanted_inside known inner ++ flat_map (wanted_inside known) rest
+inside_one known all rest inner e = ap (flat_map (wanted_inside known)) e ∙ flat_map-cons (wanted_inside known) inner rest
+
+-- the files of a mail inside a mail that was read so
+pub inside_read : (known : Charsets) (inner : InnerMail) (t : Tree) (found : List Placement) (parts : List Place) (path : List ℕ)
+    → ◌≡◌ {A = Option Tree} (Some t) (result_ok (read_mail_in known 100 inner.bytes)) → found ≡ placements 0 t → path ≡ inner.path
+    → parts ≡ places_under path t found → wanted_among known parts ≡ wanted_inside known inner
+inside_read known inner t found parts path read where_is same e =
+    ap (wanted_among known) e ∙ ap (λ (p : List ℕ). wanted_among known (places_under p t found)) same
+    ∙ ap (λ (ps : List Placement). wanted_among known (places_under inner.path t ps)) where_is
+    ∙ ap (λ (o : Option Tree). option_map_or (λ u. wanted_among known (places_under inner.path u (placements 0 u))) o []) read
+
+-- one that is refused has none
+pub inside_refused : (known : Charsets) (inner : InnerMail) → ◌≡◌ {A = Option Tree} None (result_ok (read_mail_in known 100 inner.bytes))
+    → [] ≡ wanted_inside known inner
+inside_refused known inner e =
+    ap (λ (o : Option Tree). option_map_or (λ u. wanted_among known (places_under inner.path u (placements 0 u))) o []) e
+
+-- what an option has is true of it
+pub some_has : {X : Type 0} (P : X → Type 0) (o : Option X) (x : X) → o ≡ Some x → IfSome o P → P x
+some_has P o x e h = subst (λ (found : Option _). IfSome found P) e h
+
+-- one outcome more
+pub made_more : {X : Type 0} (view : X → Outcome) (xs ys : List X) (x : X) (old done : List Outcome) → ys ≡ xs ++ x ∷ [] → map view xs ≡ old ++ done
+    → map view ys ≡ old ++ (done ++ view x ∷ [])
+made_more view xs ys x old done made here =
+    ap (map view) made ∙ map_push view xs x ∙ ap (λ (os : List Outcome). os ++ view x ∷ []) here ∙ append_assoc old done (view x ∷ [])
+
 -- no number is below the first
 pub taken_start : (can_fail : Bool) (name : List ℕ) (files : List File) (from : ℕ) → AreTaken can_fail name files from from
 taken_start can_fail name files from = λ n above below. absurd (omega arith)
@@ -94,14 +146,50 @@ module _ (can_fail hashes : Bool) (files : List File) (all : List Wanted) (from 
       subst (λ (os : List Outcome). AreSaved can_fail hashes files all from os number mid) (append-nil done)
       (here [] number mid (subst (λ (ws : List Wanted). AreSaved can_fail hashes mid ws number [] number mid) (sym e) (refl, refl)))
 
-  -- the same where both are seen by a view
-  pub one_more : {A B : Type 0} (view : A → Outcome) (wants : B → Wanted) (xs ys : List A) (x : A) (left rest : List B) (b : B) (number next : ℕ)
-      (mid now : List File) → ys ≡ xs ++ x ∷ [] → left ≡ b ∷ rest → IsSaved can_fail hashes mid (wants b) number (view x) next now
-      → Continues (map view xs) (map wants left) number mid → Continues (map view ys) (map wants rest) next now
-  one_more view wants xs ys x left rest b number next mid now made e one here =
-      subst (λ (os : List Outcome). Continues os (map wants rest) next now) (sym (ap (map view) made ∙ map_push view xs x))
-      (saved_more (map view xs) (wants b) (map wants rest) number next mid now (view x) one
-      (subst (λ (bs : List _). Continues (map view xs) (map wants bs) number mid) e here))
+  -- several files more
+  pub saved_all : (done : List Outcome) (these : List Wanted) (outcomes : List Outcome) (left : List Wanted) (number next : ℕ) (mid now : List File)
+      → AreSaved can_fail hashes mid these number outcomes next now → Continues done (these ++ left) number mid → Continues (done ++ outcomes) left next now
+  saved_all done [] [] left number next mid now h here =
+      subst (λ (os : List Outcome). Continues os left next now) (sym (append-nil done))
+      (subst (λ (n : ℕ). Continues done left n now) (sym h.0) (subst (λ (fs : List File). Continues done left number fs) (sym h.1) here))
+  saved_all done [] (outcome ∷ outcomes) left number next mid now h here = absurd h
+  saved_all done (wanted ∷ these) [] left number next mid now h here = absurd h
+  saved_all done (wanted ∷ these) (outcome ∷ outcomes) left number next mid now h here =
+      subst (λ (os : List Outcome). Continues os left next now) (append_assoc done (outcome ∷ []) outcomes)
+      (saved_all (done ++ outcome ∷ []) these outcomes left h.1 next h.0 now h.3
+      (saved_more done wanted (these ++ left) number h.1 mid h.0 outcome h.2 here))
+
+  -- the files of the mail itself
+  pub saved_first : (these left : List Wanted) (outcomes shown : List Outcome) (next : ℕ) (now : List File) → these ++ left ≡ all → shown ≡ outcomes
+      → AreSaved can_fail hashes files these from outcomes next now → Continues shown left next now
+  saved_first these left outcomes shown next now e made h =
+      subst (λ (os : List Outcome). Continues os left next now) (sym made)
+      (saved_all [] these outcomes left from next files now h
+      (λ os last after k. subst (λ (ws : List Wanted). AreSaved can_fail hashes files ws from os last after) e k))
+
+  -- a part that is a file
+  pub place_more : (known : Charsets) (parts rest : List Place) (place : Place) (done : List Outcome) (number next : ℕ) (mid now : List File)
+      (outcome : Outcome) → parts ≡ place ∷ rest → is_saved known place.part ≡ true → IsSaved can_fail hashes mid (wanted known place) number outcome next now
+      → Continues done (wanted_among known parts) number mid → Continues (done ++ outcome ∷ []) (wanted_among known rest) next now
+  place_more known parts rest place done number next mid now outcome e is one here =
+      saved_more done (wanted known place) (wanted_among known rest) number next mid now outcome one
+      (subst (λ (ws : List Wanted). Continues done ws number mid) (among_one known parts rest place e is) here)
+
+  -- a part that is none
+  pub place_none : (known : Charsets) (parts rest : List Place) (place : Place) (done : List Outcome) (number : ℕ) (mid : List File)
+      → parts ≡ place ∷ rest → is_saved known place.part ≡ false → Continues done (wanted_among known parts) number mid
+      → Continues done (wanted_among known rest) number mid
+  place_none known parts rest place done number mid e is here =
+      subst (λ (ws : List Wanted). Continues done ws number mid) (among_none known parts rest place e is) here
+
+  -- a mail inside the mail
+  pub inner_more : (known : Charsets) (mails rest : List InnerMail) (inner : InnerMail) (done outcomes shown : List Outcome) (number next : ℕ)
+      (mid now : List File) → mails ≡ inner ∷ rest → shown ≡ done ++ outcomes → AreSaved can_fail hashes mid (wanted_inside known inner) number outcomes next now
+      → Continues done (flat_map (wanted_inside known) mails) number mid → Continues shown (flat_map (wanted_inside known) rest) next now
+  inner_more known mails rest inner done outcomes shown number next mid now e made h here =
+      subst (λ (os : List Outcome). Continues os (flat_map (wanted_inside known) rest) next now) (sym made)
+      (saved_all done (wanted_inside known inner) outcomes (flat_map (wanted_inside known) rest) number next mid now h
+      (subst (λ (ws : List Wanted). Continues done ws number mid) (inside_one known mails rest inner e) here))
 
 -- whether one of them passes a test, seen by a view
 pub list_any_map : {A B : Type 0} (p : B → Bool) (f : A → B) (xs : List A) → list_any p (map f xs) ≡ list_any (λ x. p (f x)) xs

@@ -1,13 +1,10 @@
-use Rattle.std.proofs.Common.{◌≡◌, Option, Some, None, List, ℕ, length, string_bytes, refl, sym, ap, ◌∙◌}
+use Rattle.std.proofs.Common.{Option, Some, None, List, ℕ, length, string_bytes, refl, sym, ap, ◌∙◌}
 use Rattle.mail_codec.specs.Tables.{charsets_with}
 use Rattle.mailparse.specs.Mail.{root}
-use Rattle.mailparse.specs.Map.{text_found}
 use Rattle.mailparse.specs.Outcome.{refusal_of}
-use Rattle.mailparse.specs.Refusal.{Reads}
 use Rattle.mailparse.specs.Views.{tree_of}
-use Rattle.mail_data.specs.FileViews.{attachment_view}
+use Rattle.mail_data.specs.PlaceViews.{place_view}
 use Rattle.mail_data.specs.Files.{file_name_in}
-use Rattle.mail_extract.specs.Content.{Content, content}
 use Rattle.mail_extract.specs.Names.{wanted_name}
 use Rattle.mail_extract.specs.Save.{wanted}
 use Rattle.mail_extract.specs.SaveViews.{content_view, kept_name}
@@ -18,14 +15,17 @@ pub returns-in_ok-error-in-As-clause-saved : goal.returns-in_ok-error-in-As-clau
 returns-in_ok-error-in-As-clause-saved g c = λ files e.
     let known = charsets_with c.args.tables.now in
     let kept = c.in_ok-kept.ensures.kept files e in
-    let name = c.in_ok-wanted.ensures.read ∙ ap wanted_name (sym (read_value _ _ c.in_ok-file_name_with.ensures)) in
+    let node = root (tree_of c.args.place.now.part.now) in
+    let name = c.in_ok-wanted.ensures.read ∙ ap (λ (n : Option (List ℕ)). wanted_name n c.ending_of.result.now) (sym (read_value _ _ c.in_ok-name.ensures))
+    ∙ ap (wanted_name (file_name_in known node)) c.ending_of.ensures in
+    let path = c.in_ok-path.ensures.ok ∙ c.as_str.ensures.value in
     let is = sym (read_value _ _ c.in_ok-content.ensures) in
     let hash = c.in_ok-sha256.ensures ∙ ap (λ (b : List ℕ). hash_kept c.args.hashes (Some (string_bytes c.in-As.name)) b) c.as_slice-bytes.ensures.value in
     let size = ap (λ (b : List ℕ). length b) c.as_slice-bytes.ensures.value in (
       kept.0,
       kept.1,
-      saved_file g.F.Folder.can_fail c.args.hashes files kept.0 (wanted known (attachment_view c.args.file)) c.args.number.now c.keep.new.number _ _ _ _ _
-          (Some (string_bytes c.in-As.name)) _ (content_view c.in_ok-content.content) _ name is c.as_slice-bytes.ensures.value (ap kept_name c.in-As.is) refl size hash
+      saved_file g.F.Folder.can_fail c.args.hashes files kept.0 (wanted known (place_view c.args.place.now)) c.args.number.now c.keep.new.number _ _ _ _ _
+          (Some (string_bytes c.in-As.name)) _ (content_view c.in_ok-content.content) _ name is c.as_slice-bytes.ensures.value (ap kept_name c.in-As.is) path size hash
           (λ some. c.in_ok-error-in-As.ensures ∙ some_of refusal_of c.in_ok-content.content.error some) (λ none. cc) kept.2,
     )
 
@@ -33,13 +33,16 @@ pub returns-in_ok-error-in-Nowhere-clause-saved : goal.returns-in_ok-error-in-No
 returns-in_ok-error-in-Nowhere-clause-saved g c = λ files e.
     let known = charsets_with c.args.tables.now in
     let kept = c.in_ok-kept.ensures.kept files e in
-    let name = c.in_ok-wanted.ensures.read ∙ ap wanted_name (sym (read_value _ _ c.in_ok-file_name_with.ensures)) in
+    let node = root (tree_of c.args.place.now.part.now) in
+    let name = c.in_ok-wanted.ensures.read ∙ ap (λ (n : Option (List ℕ)). wanted_name n c.ending_of.result.now) (sym (read_value _ _ c.in_ok-name.ensures))
+    ∙ ap (wanted_name (file_name_in known node)) c.ending_of.ensures in
+    let path = c.in_ok-path.ensures.ok ∙ c.as_str.ensures.value in
     let is = sym (read_value _ _ c.in_ok-content.ensures) in
     let size = ap (λ (b : List ℕ). length b) c.as_slice-bytes.ensures.value in (
       kept.0,
       kept.1,
-      saved_file g.F.Folder.can_fail c.args.hashes files kept.0 (wanted known (attachment_view c.args.file)) c.args.number.now c.keep.new.number _ _ _ _ _ None None
-          (content_view c.in_ok-content.content) _ name is c.as_slice-bytes.ensures.value (ap kept_name c.in-Nowhere.is) refl size
+      saved_file g.F.Folder.can_fail c.args.hashes files kept.0 (wanted known (place_view c.args.place.now)) c.args.number.now c.keep.new.number _ _ _ _ _ None None
+          (content_view c.in_ok-content.content) _ name is c.as_slice-bytes.ensures.value (ap kept_name c.in-Nowhere.is) path size
           (none_either c.args.hashes) (λ some. refl)
           (λ none. refl) kept.2,
     )

@@ -1,41 +1,68 @@
-use Rattle.std.proofs.Common.{rules, ◌≡◌, List, [], ◌∷◌, map, string_bytes, sym, ap, ◌∙◌, IfSome}
-use Rattle.std.proofs.lemmas.List.{nil_from_length}
+use Rattle.std.proofs.Common.{◌+◌, ◌++◌, List, [], Some, All, IfSome, string_bytes, drop, map, sym, ap, subst, ◌∙◌, arith}
+use Rattle.std.specs.Prelude.{flat_map}
+use Rattle.std.proofs.lemmas.List.{drop_all}
+use Rattle.std.proofs.lemmas.List.Elements.{All-nil}
 use Rattle.mail_codec.specs.Tables.{charsets_with}
-use Rattle.mailparse.specs.Views.{tree_of}
+use Rattle.mailparse.specs.Views.{placements_of, tree_of}
+use Rattle.mail_data.proofs.lemmas.InnerMails.{drop_next}
+use Rattle.mail_data.specs.InnerMails.{InnerMail, inner_mails}
+use Rattle.mail_data.specs.InnerMailViews.{inner_view}
 use Rattle.mail_data.specs.FileNames.{IsSafeName}
-use Rattle.mail_data.specs.FileViews.{attachment_view}
-use Rattle.mail_extract.specs.Save.{wanted, wanted_files}
+use Rattle.mail_data.specs.PartPlaces.{places}
+use Rattle.mail_data.specs.PlaceViews.{place_view}
+use Rattle.mail_extract.specs.Save.{Wanted, wanted_among, wanted_files, wanted_inside}
 use Rattle.mail_extract.specs.SaveViews.{outcome}
-use Rattle.mail_extract.proofs.lemmas.Save.{each_more, one_more, saved_end}
+use Rattle.mail_extract.specs.declared.save.Saved.{Saved}
+use Rattle.mail_extract.proofs.lemmas.Save.{inner_more, read_value, saved_end, saved_first}
 use Rattle.mail_extract.proofs.save.save_files.Goals as goal
 
-pub loop-file-preserved : goal.loop-file-preserved
-loop-file-preserved g c =
-    let left : c.loop-file.file-iterator.rest.items ≡ c.in-Some.file ∷ c.next.new.self.rest.items = search rules in
+pub loop-inner-init : goal.loop-inner-init
+loop-inner-init g c =
     let known = charsets_with c.args.tables.now in
+    let items = c.deref-inner-items.result.now in
+    let own = ap (λ ps. wanted_among known (map place_view ps)) c.as_slice.ensures.value ∙ ap (wanted_among known) c.in_ok-found.ensures in
+    let inside = ap (map inner_view) c.deref-inner-items.ensures.value ∙ sym (read_value (inner_mails known 100 [] (Some 0) (tree_of c.args.mail.now) (placements_of c.args.mail.now)) (map inner_view c.in_ok-inside.inside.items) c.in_ok-inside.ensures) in
+    let others = flat_map (wanted_inside known) (map inner_view items) in
+    let all = wanted_files known (tree_of c.args.mail.now) (placements_of c.args.mail.now) in
     record {
       all = λ files e.
-          let here = c.loop-file.invariant.all files e in
-          let one = c.in_ok-save_file.ensures.saved here.0 here.1 in (
-            one.0,
-            one.1,
-            one_more g.F.Folder.can_fail c.args.hashes files (wanted_files known (tree_of c.args.mail.now)) c.args.number.now outcome (wanted known) _ _
-                c.in_ok-save_file.field-0 _ _ (attachment_view c.in-Some.file) c.loop-file.number c.save_file.new.number here.0 one.0
-                c.in_ok-push.ensures.items (ap (map attachment_view) left) one.2 here.2,
+          let first = c.in_ok-save_places.ensures.saved files e in (
+            first.0,
+            first.1,
+            saved_first g.F.Folder.can_fail c.args.hashes files all c.args.number.now _ others first.2 _ c.save_places.new.number first.0
+                (ap (λ (ws : List Wanted). ws ++ others) own ∙ ap (λ (mails : List InnerMail). wanted_among known (places (tree_of c.args.mail.now) (placements_of c.args.mail.now)) ++ flat_map (wanted_inside known) mails) inside)
+                (first.3 ∙ ap (λ saved. map outcome saved ++ first.2) c.new-saved.ensures.items) first.4,
           );
-      each = each_more (λ file. IfSome file.name (λ name. IsSafeName (string_bytes name))) _ _ c.in_ok-save_file.field-0 c.in_ok-push.ensures.items
-          c.loop-file.invariant.each c.in_ok-save_file.ensures.safe;
+      each = c.in_ok-save_places.ensures.safe
+          (subst (λ (items : List Saved). All (λ file. IfSome file.name (λ name. IsSafeName (string_bytes name))) items) (sym c.new-saved.ensures.items) (All-nil _));
+    }
+
+pub loop-inner-preserved : goal.loop-inner-preserved
+loop-inner-preserved g c =
+    let known = charsets_with c.args.tables.now in
+    let items = c.deref-inner-items.result.now in
+    let i = c.loop-inner.inner-index in
+    let left = ap (map inner_view) (drop_next items i c.inner-item.result (omega arith) c.inner-item.is) in
+    record {
+      all = λ files e.
+          let here = c.loop-inner.invariant.all files e in
+          let some = c.in_ok-save_inner.ensures.saved here.0 here.1 in (
+            some.0,
+            some.1,
+            inner_more g.F.Folder.can_fail c.args.hashes files (wanted_files known (tree_of c.args.mail.now) (placements_of c.args.mail.now)) c.args.number.now known _
+                (map inner_view (drop (i + 1) items)) (inner_view c.inner-item.result) (map outcome c.loop-inner.saved.items) some.2 _ c.loop-inner.number
+                c.save_inner.new.number here.0 some.0 left some.3 some.4 here.2,
+          );
+      each = c.in_ok-save_inner.ensures.safe c.loop-inner.invariant.each;
     }
 
 pub returns-clause-saved : goal.returns-clause-saved
 returns-clause-saved g c = λ files e.
-    let left : c.loop-file.file-iterator.rest.items ≡ [] =
-    nil_from_length _ (sym c.loop-file.file-iterator.rest.ok.0 ∙ c.in-None.ensures.steps.0)
-    in
     let known = charsets_with c.args.tables.now in
-    let here = c.loop-file.invariant.all files e in (
+    let none = drop_all c.loop-inner.inner-index c.deref-inner-items.result.now (omega arith) in
+    let here = c.loop-inner.invariant.all files e in (
       here.0,
       here.1,
-      saved_end g.F.Folder.can_fail c.args.hashes files (wanted_files known (tree_of c.args.mail.now)) c.args.number.now _ _ _ here.0
-          (ap (map (wanted known)) (ap (map attachment_view) left)) here.2,
+      saved_end g.F.Folder.can_fail c.args.hashes files (wanted_files known (tree_of c.args.mail.now) (placements_of c.args.mail.now)) c.args.number.now
+          (map outcome c.loop-inner.saved.items) _ c.loop-inner.number here.0 (ap (λ mails. flat_map (wanted_inside known) (map inner_view mails)) none) here.2,
     )
