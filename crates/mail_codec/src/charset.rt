@@ -16,7 +16,10 @@ mod tables;
 mod utf16;
 
 pub use self::built_in::Charset;
+pub use self::encode::put_char;
 pub use self::known::{BuiltInOrTable, Decode, KnownCharsets};
+pub use self::labels::is_among;
+pub use self::single_byte::ascii_blocks_length;
 pub use self::tables::{SingleByteTable, table_for_label};
 use std::alloc::{AllocError, Global};
 use std::borrow::CowStr;

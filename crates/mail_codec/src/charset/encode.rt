@@ -2,11 +2,24 @@
 ghost use Rattle.std.specs.Prelude.{◌≡◌, ◌+◌, ◌≤◌, ◌++◌, length, take, encode_utf8};
 ghost use Rattle.std.specs.Char.{IsScalar};
 
-/// Writes the character at `at`, and returns where it ends.
+/// Writes the UTF-8 of the character at `at`, and returns where it ends (the Unicode Standard,
+/// section 3.9).
+///
+/// What stands before `at` stays. Room for four bytes is asked for. Takes no memory.
 ///
 /// Written by hand, since `char::encode_utf8` promises what text it lends, but not what the buffer
 /// holds afterwards.
-pub(crate) fn put_char(buffer: &mut [u8], at: usize, character: char) -> usize
+///
+/// # Examples
+///
+/// ```rust
+/// use mail_codec::charset::put_char;
+///
+/// let mut buffer = *b"caf....";
+/// assert_eq!(rt; put_char(&mut buffer, 3, 'é'), 5);
+/// assert_eq!(rt; &buffer[..5], b"caf\xC3\xA9");
+/// ```
+pub fn put_char(buffer: &mut [u8], at: usize, character: char) -> usize
     requires room { at + 4 ≤ length buffer.old }
     ensures written { take result buffer.new ≡ take at buffer.old ++ encode_utf8 character }
     ensures len { result ≡ at + length (encode_utf8 character) }

@@ -44,7 +44,20 @@ pub(super) static UTF_16_LE: [&str; 7] = [
     "utf-16le",
 ];
 
-pub(super) fn is_among(labels: &[&str], label: &[u8]) -> bool
+/// Returns whether one of the labels is this one, ignoring ASCII case (the WHATWG Encoding Standard,
+/// section 4.2).
+///
+/// Neither the label nor the labels are trimmed. Takes no memory.
+///
+/// # Examples
+///
+/// ```rust
+/// use mail_codec::charset::is_among;
+///
+/// assert!(rt; is_among(&["koi8-r", "koi"], b"KOI8-R"));
+/// assert!(rt; !is_among(&["koi8-r", "koi"], b"koi8-u"));
+/// ```
+pub fn is_among(labels: &[&str], label: &[u8]) -> bool
     ensures { result ≡ is_among_labels (map (λ x. x.now) labels.now) label.now }
 {
     labels.iter().any(|known| is_same(label, known.as_bytes()))

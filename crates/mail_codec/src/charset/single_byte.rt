@@ -173,8 +173,19 @@ fn character(high: &HighHalf, byte: u8) -> char
     }
 }
 
-/// How many bytes the whole blocks at the front have that are all ASCII.
-fn ascii_blocks_length(bytes: &[u8]) -> usize
+/// Returns how many bytes the whole blocks of 16 bytes at the front have that are all ASCII.
+///
+/// So fewer than 16 further ASCII bytes may follow. Takes no memory.
+///
+/// # Examples
+///
+/// ```rust
+/// use mail_codec::charset::ascii_blocks_length;
+///
+/// assert_eq!(rt; ascii_blocks_length(b"sixteen letters and caf\xE9"), 16);
+/// assert_eq!(rt; ascii_blocks_length(b"caf\xE9"), 0);
+/// ```
+pub fn ascii_blocks_length(bytes: &[u8]) -> usize
     ensures bounds { result ≤ length bytes.now }
     ensures ascii { IsAscii (take result bytes.now) }
 {
