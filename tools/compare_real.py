@@ -5,7 +5,8 @@ Each PLACE is a mail, a mailbox (a file that begins with `From `) or a folder of
 for five jobs: the index (subject, the addresses of from, to and cc, date, id), the texts of parts and the attachments
 (names and sizes), both those of forwarded mails too, the bytes that mail_extract saves, and whether these have all that
 `iter_attachments` gives, the recipients that a delivery report says were not reached, and the threads (the ids of the
-mails before it). Both sides read the same mailbox, into which all are put; so a line that begins with `From ` begins with `>From ` there.
+mails before it). Both sides read the same mailbox, into which all are put; so a line that begins with `From ` begins
+with `>From ` there.
 tools/fetch_real.sh fetches mails to compare.
 
 For each item it prints in how many mails it differs, in how many of these it is refused here and in how many
