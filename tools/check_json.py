@@ -12,6 +12,7 @@ The last line is `N passed, N failed`; the status is 1 where a comparison failed
 import argparse
 import base64
 import email
+import hashlib
 import json
 import os
 import random
@@ -21,7 +22,7 @@ import subprocess
 import sys
 import tempfile
 
-from read_by_email import mail_object, part_object, parts_of
+from read_by_email import all_parts, mail_object, part_object
 from shared.needs import need
 from shared.programs import built_program
 
@@ -30,12 +31,12 @@ jsonschema = need("jsonschema", "python3-jsonschema")
 TOP = os.path.dirname(os.path.dirname(os.path.abspath(__file__)))
 ORIGIN = ["schema", "file", "number", "start", "end"]
 MEMBERS = ORIGIN + [
-    "subject", "from", "to", "cc", "reply_to", "raw", "date", "date_zone_unknown", "date_error", "message_id", "in_reply_to", "references",
-    "parts",
+    "subject", "from", "to", "cc", "bcc", "reply_to", "sender", "raw", "date", "date_zone_unknown", "date_error",
+    "message_id", "in_reply_to", "references", "parts", "forwarded",
 ]
 PART_MEMBERS = [
     "path", "type", "charset", "params", "disposition", "file_name", "attachment", "encoding", "start", "end",
-    "size", "decoded_size", "error", "headers", "text", "text_charset", "damaged",
+    "size", "decoded_size", "error", "sha256", "headers", "text", "text_charset", "damaged",
 ]
 OPTIONAL = {"date_zone_unknown", "date_error", "error", "text_charset", "damaged"}
 # what no text escapes: the replacement character, marks that turn the direction of writing, four bytes of UTF-8
@@ -121,9 +122,9 @@ def compare(data, what):
     found = objects([], data, 0, what)
     same(len(found), 1, f"{what}: the number of lines")
     found = found[0]
-    same([found[name] for name in ORIGIN], [3, None, None, 0, len(data)], f"{what}: where it is from")
+    same([found[name] for name in ORIGIN], [4, None, None, 0, len(data)], f"{what}: where it is from")
     wanted = mail_object(data)
-    parts = list(parts_of(email.message_from_bytes(data)))
+    parts = list(all_parts(email.message_from_bytes(data)))
     del wanted["parts"]
     for name, value in wanted.items():
         same(found[name], value, f"{what}: {name}")
@@ -180,11 +181,75 @@ def check_faults():
     same(found["parts"][0]["headers"], [], "no bytes")
     found = objects([], b" x", 3, "a refused mail")
     same([(value["start"], value["end"], value["error"]) for value in found], [(0, 2, SPACE)], "a refused mail")
-    raw = b"From: =?utf-8?q?a=2C?=\n <a@b>\nTo: \xe9\nReply-To: c@d\n\n"
-    found = objects([], raw, 0, "values as they stand")[0]
-    same(found["from"], "a, <a@b>", "values as they stand")
-    wanted = {"from": "=?utf-8?q?a=2C?=\n <a@b>", "to": "\xe9", "cc": None, "reply_to": "c@d"}
-    same((found["raw"], found["reply_to"]), (wanted, "c@d"), "values as they stand")
+    raw = b"From: =?utf-8?q?a=2C?=\n <a@b>\nTo: \xe9\nReply-To: c@d\nBcc: e@f\nSender: g@h\n\n"
+    found = objects([], raw, 0, "values as they stand")[0]["raw"]
+    wanted = {
+        "from": "=?utf-8?q?a=2C?=\n <a@b>", "to": "\xe9", "cc": None, "bcc": "e@f", "reply_to": "c@d", "sender": "g@h",
+    }
+    same((found, list(found)), (wanted, list(wanted)), "values as they stand")
+
+
+def check_addresses():
+    """Addresses beside those that Python's email package reads, and what it reads as an address or not at all."""
+    for value in (
+        b"", b"ann@example.org", b"Ann <ann@example.org>, bob@example.org", b"\"Doe, Ann\" <ann@example.org>",
+        b"=?utf-8?q?boss=40corp=2Ecom_=3Cboss=40corp=2Ecom=3E=2C?= <evil@x.org>",
+        b"=?utf-8?q?Ren=C3=A9_M=2E?= <r@example.org>", b"Ren\xc3\xa9 <r@example.org>",
+        b"undisclosed-recipients:;", b"A Group: Ed <ed@a.test>, joe@where.test, John <jdoe@one.test>;, x@y",
+        b"Pete(A nice \\) chap) <pete(his account)@silly.test(his host)>", b"\"a b\"@example.org",
+        b"\"Joe Q. Public\" <john.q.public@example.com>", b"<boss@nil.test>, \"Giant; \\\"Big\\\" Box\" <s@example.net>",
+    ):
+        mail = b"".join(name + b": " + value + b"\n" for name in (b"From", b"To", b"CC", b"Bcc", b"Reply-To")) + b"\n"
+        found, wanted = objects([], mail, 0, repr(value))[0], mail_object(mail)
+        for name in ("from", "to", "cc", "bcc", "reply_to", "sender"):
+            same(found[name], wanted[name], f"{name} {value!r}")
+    for value, wanted in (
+        (b"a at b, c@d", [{"unknown": "a at b"}, {"name": None, "address": "c@d"}]),
+        (b"all: \xe9, a@b;", [{"group": "all", "members": [{"unknown": " \xe9"}, {"name": None, "address": "a@b"}]}]),
+        (b'"" <a@b>', [{"name": None, "address": "a@b"}]),
+        (b"a@b\nTo: x:;, c@d", [{"name": None, "address": "a@b"}, {"group": "x", "members": []}, {"name": None, "address": "c@d"}]),
+    ):
+        same(objects([], b"To: " + value + b"\n\n", 0, repr(value))[0]["to"], wanted, repr(value))
+
+
+def check_forwarded():
+    """Mails inside mails: their parts, where they stand, and those that are encoded or refused."""
+    inner = b"Subject: in\nContent-Type: multipart/mixed; boundary=c\n\n--c\n\ntext\n--c\nContent-Disposition: attachment\n\nfile\n--c--\n"
+    part = b"--b\nContent-Type: message/%b\nContent-Transfer-Encoding: %b\n\n%b\n"
+    start = b"Content-Type: multipart/mixed; boundary=b\n\n"
+    data = start + part % (b"rfc822", b"7bit", inner) + part % (b"global", b"base64", base64.b64encode(inner))
+    data += part % (b"rfc822", b"7bit", b" x") + part % (b"rfc822", b"7bit", b"Subject: one\n\nbody") + b"--b--\n"
+    found = objects([], FROM + data, 0, "mails inside")[0]
+    at = [len(FROM) + data.index(mark) for mark in (b"Subject: in", b" x", b"Subject: one")]
+    wanted = [("1", at[0], None), ("2", None, None), ("3", at[1], SPACE), ("4", at[2], None)]
+    same([(mail["path"], mail["start"], mail["error"]) for mail in found["forwarded"]], wanted, "mails inside")
+    paths = ["", "1", "2", "3", "4", "1", "1.1", "1.2", "2", "2.1", "2.2", "4.1"]
+    same([part_["path"] for part_ in found["parts"]], paths, "parts of mails inside")
+    for path, text, object_ in zip(paths[5:], [None, "text", None, None, "text", None, "body"], found["parts"][5:]):
+        same((object_["text"], object_["attachment"]), (text, path in ("1.2", "2.2")), f"a part of a mail inside, {path}")
+        same(object_["start"] is None, path.startswith("2"), f"where a part of a mail inside stands, {path}")
+    whole = found["parts"][5]
+    same((FROM + data)[whole["start"]:whole["end"]], inner[:-1], "where a mail inside stands")
+    deep = b"Content-Type: message/rfc822\n\n" * 120 + b"Subject: end\n\n"
+    found = objects([], deep, 0, "mails inside one another")[0]
+    same((len(found["forwarded"]), found["parts"][-1]["path"]), (99, ".".join(["1"] * 100)), "mails inside one another")
+
+
+def check_options():
+    """Hashes, and paragraphs that flow."""
+    part = b"--b\nContent-Disposition: attachment\nContent-Transfer-Encoding: base64\n\n%b\n"
+    data = b"Content-Type: multipart/mixed; boundary=b\n\n--b\n\none\n"
+    data += part % base64.b64encode(b"one") + part % b"b25l**" + b"--b--\n"
+    found = [part_["sha256"] for part_ in objects(["--hash"], data, 0, "--hash")[0]["parts"]]
+    hash_ = hashlib.sha256(b"one").hexdigest()
+    same(found, [None, None, hash_, hash_], "--hash")
+    same([part_["sha256"] for part_ in objects([], data, 0, "no --hash")[0]["parts"]], [None] * 4, "no --hash")
+    flowed = b"Content-Type: text/plain; format=flowed\n\none \ntwo\n> a \n> b\n\n-- \nme\n"
+    same(objects(["--flowed"], flowed, 0, "--flowed")[0]["parts"][0]["text"], "one two\n> a b\n\n-- \nme\n", "--flowed")
+    same(objects([], flowed, 0, "no --flowed")[0]["parts"][0]["text"], "one \ntwo\n> a \n> b\n\n-- \nme\n", "no --flowed")
+    plain = flowed.replace(b"; format=flowed", b"")
+    for data in (plain, b"Content-Transfer-Encoding: base64\n" + plain):
+        same(objects(["--flowed"], data, 0, "--flowed"), objects([], data, 0, "no --flowed"), f"--flowed {data!r}")
 
 
 def nested(levels):
@@ -257,7 +322,7 @@ def check_places():
         front = FROM + b"Subject: 1\n\none\n\n" + FROM
         found = objects(["--mbox"], front + raw + b"\n\n", 0, f"places {turn} in a mailbox")
         place = [found[1][name] for name in ORIGIN]
-        same(place, [3, None, 2, len(front), len(front + raw) + 1], f"places {turn} in a mailbox")
+        same(place, [4, None, 2, len(front), len(front + raw) + 1], f"places {turn} in a mailbox")
         starts = [part["start"] for part in found[1]["parts"]]
         same(starts, [len(front) + at for _path, _part, at in places], f"places {turn} in a mailbox")
 
@@ -479,6 +544,9 @@ def main():
         check_samples,
         check_characters,
         check_faults,
+        check_addresses,
+        check_forwarded,
+        check_options,
         check_levels,
         check_many,
         check_edges,

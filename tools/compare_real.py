@@ -2,10 +2,11 @@
 """Compares what mail_json, mail_jobs and mail_extract make of real mails with what Python's email package does.
 
 Each PLACE is a mail, a mailbox (a file that begins with `From `) or a folder of such files. The mails are read
-for five jobs: the index (subject, from, to, cc, date, id), the texts of parts, the attachments (names and sizes;
-the bytes that mail_extract saves; and whether these have all that `iter_attachments` gives), the recipients that a
-delivery report says were not reached, and the threads (the ids of the mails before it). Both sides read
-the same mailbox, into which all are put; so a line that begins with `From ` begins with `>From ` there.
+for five jobs: the index (subject, the addresses of from, to and cc, date, id), the texts of parts and the attachments
+(names and sizes), both those of forwarded mails too, the bytes that mail_extract saves, and whether these have all that
+`iter_attachments` gives, the recipients that a delivery report says were not reached, and the threads (the ids of the
+mails before it). Both sides read the same mailbox, into which all are put; so a line that begins with `From ` begins
+with `>From ` there.
 tools/fetch_real.sh fetches mails to compare.
 
 For each item it prints in how many mails it differs, in how many of these it is refused here and in how many
@@ -24,7 +25,9 @@ import subprocess
 import sys
 import tempfile
 
-from read_by_email import body_of, ids, is_file, mails_of, parts_of, raw_value, seconds, shown, text_of, value_of
+from read_by_email import (
+    addresses_of, all_parts, body_of, ids, is_file, mails_of, raw_value, seconds, shown, text_of, value_of,
+)
 from shared.extracted import saved_files
 from shared.programs import built_program
 
@@ -148,7 +151,7 @@ def not_reached(mail):
 
 def sizes(mail):
     """The names and sizes of the files of a mail."""
-    return [(part.get_filename(), len(body_of(part))) for _path, part in parts_of(mail) if is_file(part)]
+    return [(part.get_filename(), len(body_of(part))) for _path, part in all_parts(mail) if is_file(part)]
 
 
 def own_id(mail):
@@ -159,7 +162,7 @@ def own_id(mail):
 
 def texts(mail):
     """The texts of a mail with the paths of their parts."""
-    found = ((path, text_of(part, body_of(part))["text"]) for path, part in parts_of(mail) if not part.is_multipart())
+    found = ((path, text_of(part, body_of(part))["text"]) for path, part in all_parts(mail) if not part.is_multipart())
     return [(path, text) for path, text in found if text is not None]
 
 
@@ -176,9 +179,9 @@ def attachments(data):
 
 READERS = {
     "subject": lambda mail: value_of(mail, "subject"),
-    "from": lambda mail: value_of(mail, "from"),
-    "to": lambda mail: value_of(mail, "to"),
-    "cc": lambda mail: value_of(mail, "cc"),
+    "from": lambda mail: addresses_of(mail, "from"),
+    "to": lambda mail: addresses_of(mail, "to"),
+    "cc": lambda mail: addresses_of(mail, "cc"),
     "date": lambda mail: seconds(raw_value(mail, "date")),
     "id": own_id,
     "texts": texts,

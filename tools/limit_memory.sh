@@ -30,12 +30,13 @@ size = count * len("Subject: =?utf-8?Q?caf=C3=A9?= and more\n") + 5
 part = {
     "path": "1", "type": "text/plain", "charset": "us-ascii", "params": {}, "disposition": None, "file_name": None,
     "attachment": False, "encoding": "7bit", "start": 0, "end": size, "size": 4, "decoded_size": 4,
-    "headers": [["Subject", subject]] * count, "text": "body", "text_charset": "utf-8",
+    "sha256": None, "headers": [["Subject", subject]] * count, "text": "body", "text_charset": "utf-8",
 }
-mail = {"schema": 3, "file": None, "number": None, "start": 0, "end": size, "subject": subject}
-mail.update({name: None for name in ("from", "to", "cc", "reply_to")})
-mail["raw"] = {name: None for name in ("from", "to", "cc", "reply_to")}
-mail.update(date=None, message_id=[], in_reply_to=[], references=[], parts=[part])
+mail = {"schema": 4, "file": None, "number": None, "start": 0, "end": size, "subject": subject}
+lists = ("from", "to", "cc", "bcc", "reply_to", "sender")
+mail.update({name: [] for name in lists})
+mail["raw"] = {name: None for name in lists}
+mail.update(date=None, message_id=[], in_reply_to=[], references=[], parts=[part], forwarded=[])
 sys.stdout.buffer.write((json.dumps(mail, ensure_ascii=False, separators=(",", ":")) + "\n").encode())
 END
 

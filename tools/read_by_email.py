@@ -10,6 +10,7 @@ import datetime
 import email
 import email.header
 import email.message
+import email.policy
 import email.utils
 import json
 import re
@@ -21,16 +22,20 @@ def codec(label):
     return "windows-1252" if label.lower() in ("us-ascii", "iso-8859-1") else label
 
 
+def without_surrogates(text):
+    """A text whose surrogates stand for bytes; those that are no UTF-8 are Latin-1 by docs/RULES.md."""
+    raw = text.encode("utf-8", "surrogateescape")
+    try:
+        return raw.decode("utf-8")
+    except UnicodeDecodeError:
+        return raw.decode("latin-1")
+
+
 def shown(value):
-    """The text of a header's value; bytes that are no UTF-8 are Latin-1 by docs/RULES.md."""
+    """The text of a header's value."""
     if value is None:
         return None
-    raw = value.encode("utf-8", "surrogateescape")
-    try:
-        text = raw.decode("utf-8")
-    except UnicodeDecodeError:
-        text = raw.decode("latin-1")
-    unfolded = re.sub(r"\r?\n[ \t]*", " ", text)
+    unfolded = re.sub(r"\r?\n[ \t]*", " ", without_surrogates(value))
     pieces = email.header.decode_header(unfolded)
     return "".join(
         piece if isinstance(piece, str) else piece.decode(codec(charset) if charset else "raw-unicode-escape")
@@ -46,6 +51,27 @@ def raw_value(mail, name):
 def value_of(mail, name):
     """The text of the first header with this name, or None."""
     return shown(raw_value(mail, name))
+
+
+def mailbox_object(address):
+    """The object of a mailbox, or of what has no `@` and so is no address."""
+    if "@" not in address.addr_spec:
+        return {"unknown": without_surrogates(str(address))}
+    name = without_surrogates(address.display_name)
+    return {"name": name or None, "address": without_surrogates(address.addr_spec)}
+
+
+def addresses_of(mail, name):
+    """The addresses in all headers with this name, which the package decodes after it has cut them apart."""
+    found = []
+    for key, value in mail.raw_items():
+        if key.lower() == name:
+            for group in email.policy.default.header_factory(key, re.sub(r"\r?\n", "", value)).groups:
+                members = [mailbox_object(address) for address in group.addresses]
+                if group.display_name is not None:
+                    members = [{"group": without_surrogates(group.display_name), "members": members}]
+                found += members
+    return found
 
 
 def ids(value, needs_at):
@@ -77,6 +103,22 @@ def walk(mail, path):
 def parts_of(mail):
     """The parts of a mail with their paths, as IMAP numbers parts."""
     return walk(mail, "" if has_parts(mail) else "1")
+
+
+def mails_inside(mail, path):
+    """The mails that the parts of a mail hold, each before those inside it, with the paths of these parts."""
+    for path_, part in walk(mail, path):
+        if part.get_content_type() == "message/rfc822" and part.is_multipart():
+            inner = part.get_payload(0)
+            yield path_, inner
+            yield from mails_inside(inner, path_ if has_parts(inner) else f"{path_}.1")
+
+
+def all_parts(mail):
+    """The parts of a mail, and then those of the mails inside it, with their paths."""
+    yield from parts_of(mail)
+    for path, inner in mails_inside(mail, "" if has_parts(mail) else "1"):
+        yield from walk(inner, path if has_parts(inner) else f"{path}.1")
 
 
 def charset_of(part):
@@ -154,11 +196,13 @@ def date_of(mail):
 def mail_object(data):
     """The object of a mail."""
     mail = email.message_from_bytes(data)
-    found = {name: value_of(mail, name.replace("_", "-")) for name in ("subject", "from", "to", "cc", "reply_to")}
+    found = {"subject": value_of(mail, "subject")}
+    for name in ("from", "to", "cc", "bcc", "reply_to", "sender"):
+        found[name] = addresses_of(mail, name.replace("_", "-"))
     found.update(date_of(mail))
     for name in ("message_id", "in_reply_to", "references"):
         found[name] = ids(raw_value(mail, name.replace("_", "-")), name != "message_id")
-    found["parts"] = [part_object(path, part) for path, part in parts_of(mail)]
+    found["parts"] = [part_object(path, part) for path, part in all_parts(mail)]
     return found
 
 

@@ -2,7 +2,6 @@ pub mod Endings
 pub mod Names
 pub mod Folder
 pub mod Content
-pub mod Hash
 pub mod Chosen
 pub mod Save
 pub mod SaveViews

@@ -12,7 +12,7 @@ use Rattle.mail_extract.specs.Chosen.{is_saved}
 use Rattle.mail_extract.specs.Content.{Content, content}
 use Rattle.mail_extract.specs.Endings.{ending_of}
 use Rattle.mail_extract.specs.Folder.{File, has_file}
-use Rattle.mail_extract.specs.Hash.{hash_text}
+use Rattle.mail_program.specs.Hash.{hash_text}
 use Rattle.mail_extract.specs.Names.{IsNumbered, wanted_name}
 
 -- a file that is to be saved: the path of its part, the name that is wanted, and its content

@@ -1,11 +1,23 @@
 -- What an index keeps of a mail; the program's own choice.
-use Rattle.std.specs.Prelude.{ℤ, Option, option_map, codes}
+use Rattle.std.specs.Prelude.{ℕ, ℤ, List, Option, option_and_then, option_map, codes}
 use Rattle.mail_codec.specs.Charset.{Charsets}
 use Rattle.mailparse.specs.Mail.{Node, Tree, root}
 use Rattle.mailparse.specs.Map.{first_value_in}
+use Rattle.mailparse.specs.Value.{value_text}
+use Rattle.mail_address.specs.Addresses.{Single}
+use Rattle.mail_address.specs.Headers.{sender_of}
+use Rattle.mail_address.specs.Text.{address_bytes}
 use Rattle.mail_data.specs.lenient.Date.{Dated, date_of}
 use Rattle.mail_data.specs.lenient.Texts.{BodyText, body_text}
 use Rattle.mail_data.specs.Texts.{text_part_in}
+
+-- the address of a mailbox, in canonical form
+abbrev pub address_of : Single → Option (List ℕ)
+address_of s = option_map (λ parts. value_text (address_bytes parts.local_part parts.domain)) s.mailbox
+
+-- the address of who sent a mail, if it says who did
+abbrev pub sender : Node → Option (List ℕ)
+sender node = option_and_then address_of (sender_of node.headers)
 
 -- what the date of a mail reads as, if it has one
 abbrev pub date : Charsets → Node → Option (Dated ℤ)

@@ -6,9 +6,10 @@ ghost use Rattle.mailparse.specs.Map.{first_value_in, text_found};
 ghost use Rattle.mailparse.specs.Outcome.{AnswersOrMemory, IsMemory};
 ghost use Rattle.mailparse.specs.Views.{tree_of};
 ghost use Rattle.mail_data.specs.lenient.TextViews.{text_view};
-ghost use Rattle.mail_jobs.specs.Indexer.{date, text};
+ghost use Rattle.mail_jobs.specs.Indexer.{date, sender, text};
 ghost use Rattle.mail_jobs.specs.IndexerViews.{IsEntry};
 
+use mail_address::sender_of;
 use mail_data::archive::message_id;
 use mail_data::lenient::{self, BodyText, DateError, body_text};
 use mail_data::texts::text_part_with;
@@ -20,7 +21,8 @@ use std::alloc::Global;
 #[derive(Drop)]
 pub struct IndexEntry {
     pub subject: Option<String>,
-    pub from: Option<String>,
+    /// The address of who sent it, in canonical form, where the mail says who did.
+    pub sender: Option<String>,
     /// The seconds from 1 January 1970, 0 h UTC.
     pub date: Option<Result<i64, DateError>>,
     /// The first id of `Message-ID`, without its angle brackets.
@@ -39,7 +41,7 @@ pub fn index_entry(
 {
     Ok(IndexEntry {
         subject: value_of(alloc, mail, "Subject", tables)?,
-        from: value_of(alloc, mail, "From", tables)?,
+        sender: sender_address(alloc, mail)?,
         date: date_of(alloc, mail, tables)?,
         message_id: message_id(alloc, mail)?,
         text: text_of(alloc, mail, tables)?,
@@ -57,6 +59,16 @@ fn value_of(
         (Ok (first_value_in (charsets_with tables.now) key.now (root (tree_of mail.now)).headers)) }
 {
     mail.headers.get_first_value_with(alloc, key, tables)
+}
+
+/// The address of who sent a mail, in canonical form.
+fn sender_address(alloc: Global, mail: &ParsedMail<'_>) -> Result<Option<String>, MailParseError>
+    ensures { AnswersOrMemory text_found result (Ok (sender (root (tree_of mail.now)))) }
+{
+    match sender_of(alloc, &mail.headers)? {
+        Some(mailbox) => Ok(Some(mailbox.get_address(alloc)?)),
+        None => Ok(None),
+    }
 }
 
 /// The date, or its error.

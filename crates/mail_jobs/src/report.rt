@@ -67,7 +67,7 @@ fn push_parents(lines: &mut String, place: &ThreadPlace) -> Result<(), AllocErro
 /// Writes the lines of an index entry.
 fn push_entry(lines: &mut String, entry: &IndexEntry) -> Result<(), AllocError> {
     push_text(lines, "subject", &entry.subject)?;
-    push_text(lines, "from", &entry.from)?;
+    push_text(lines, "sender", &entry.sender)?;
     match &entry.date {
         Some(Ok(seconds)) => write!(lines, "date: {seconds}\n")?,
         Some(Err(error)) => write!(lines, "date: refused: {error}\n")?,

@@ -22,6 +22,8 @@ an option says which it is:
     --mbox=cl                    one in the mboxcl or mboxcl2 format, with Content-Length
     --part K/N                   of each file the mails of a mailbox whose separator begins in the
                                  K-th of N equal parts of it; their `number` is null
+    --hash                       give each file of a mail the SHA-256 of its bytes
+    --flowed                     show each paragraph of a text in format=flowed as one line
     --progress                   say on standard error how far a long mailbox is read
     --version, --help            print the version, or this help
     --                           what follows are names of files
@@ -33,8 +35,9 @@ something could not be read or written, and 2 where the arguments are wrong.
 
 /// What wrong arguments print.
 pub const USAGE: &str =
-    "usage: mail_json [--mail|--mbox|--mbox=rd|--mbox=cl] [--progress] [FILE|FOLDER..]
-       mail_json --part K/N [--mbox|--mbox=rd] [--progress] FILE..";
+    "usage: mail_json [--mail|--mbox|--mbox=rd|--mbox=cl] [--hash] [--flowed] [--progress]
+                 [FILE|FOLDER..]
+       mail_json --part K/N [--mbox|--mbox=rd] [--hash] [--flowed] [--progress] FILE..";
 
 /// What a run is to do.
 #[derive(Clone, Copy, PartialEq, Eq)]
@@ -56,6 +59,10 @@ pub struct How {
     pub form: Form,
     /// Which part of each file is wanted, if not the whole input.
     pub part: Option<FilePart>,
+    /// Whether files have their SHA-256.
+    pub hashes: bool,
+    /// Whether paragraphs that flow over lines are one line each.
+    pub joins_flowed: bool,
     /// Whether a long run says on standard error how far it is.
     pub tells: bool,
 }
@@ -82,6 +89,8 @@ pub fn request_of<'w>(alloc: Global, words: &'w [String]) -> Result<Request<'w>,
         how: How {
             form: Form::Either,
             part: None,
+            hashes: false,
+            joins_flowed: false,
             tells: false,
         },
         inputs: Vec::new(alloc),
@@ -125,6 +134,8 @@ impl<'w> Request<'w> {
             "--mbox=rd" => self.how.form = Form::Mailbox(Format::Quoted),
             "--mbox=cl" => self.how.form = Form::Mailbox(Format::Counted),
             "--part" => self.is_part_next = true,
+            "--hash" => self.how.hashes = true,
+            "--flowed" => self.how.joins_flowed = true,
             "--progress" => self.how.tells = true,
             _ => self.decide(Task::Wrong),
         }

@@ -2,9 +2,10 @@
 
 use crate::request::{How, Request};
 use mail_lines::range::{FilePart, shows_mailbox, write_first_part, write_range};
-use mail_lines::{Form, Next, Watch, format_of, write_input, write_unread};
+use mail_lines::{Form, Next, Reading, Watch, format_of, write_input, write_unread};
 use mail_program::Fault;
 use mail_tables::TABLES;
+use mailparse::SingleByteTable;
 use std::alloc::{AllocError, Global};
 use std::fs::{self, OpenFile};
 use std::io::{self, BufWriter, ErrorKind, Read, Seek, SeekFrom, Write};
@@ -229,9 +230,11 @@ fn write_part<R: Read + Seek, W: Write>(
         due: range.from.saturating_add(STEP),
     };
     let alloc = rt.alloc();
+    let tables = &TABLES;
+    let reading = reading_of(how, tables);
     if part.number == 1 {
         return write_first_part(
-            alloc, reader, how.form, range.to, file, out, &TABLES, &mut meter,
+            alloc, reader, how.form, range.to, file, out, reading, &mut meter,
         );
     }
     if !shows_mailbox(alloc, reader, how.form)? {
@@ -241,7 +244,16 @@ fn write_part<R: Read + Seek, W: Write>(
     if let Err(error) = reader.seek(SeekFrom::Start(range.reading_start() as u64)) {
         return Err(Fault::Input(error));
     }
-    write_range(alloc, reader, format, range, file, out, &TABLES, &mut meter)
+    write_range(alloc, reader, format, range, file, out, reading, &mut meter)
+}
+
+/// How mails are read for their lines.
+fn reading_of<'t>(how: How, tables: &'t [SingleByteTable<'t>]) -> Reading<'t> {
+    Reading {
+        tables,
+        hashes: how.hashes,
+        joins_flowed: how.joins_flowed,
+    }
 }
 
 /// Writes the mails of an input.
@@ -258,7 +270,9 @@ fn run_input<R: Read, W: Write>(
         is_wanted: how.tells,
         due: STEP,
     };
-    match write_input(rt.alloc(), reader, how.form, file, out, &TABLES, &mut meter) {
+    let tables = &TABLES;
+    let reading = reading_of(how, tables);
+    match write_input(rt.alloc(), reader, how.form, file, out, reading, &mut meter) {
         Ok(is_clean) => Ok(Outcome::of(is_clean)),
         Err(Fault::Input(error)) => fail(rt, file, &error, out),
         Err(fault) => Err(fault),
@@ -274,11 +288,9 @@ fn run_folder<W: Write>(
 ) -> Result<Outcome, Fault> {
     let mut outcome = Outcome::Clean;
     let mut is_maildir = false;
-    let mail = How {
-        form: Form::Mail,
-        part: None,
-        tells: how.tells,
-    };
+    let mut mail = how;
+    mail.form = Form::Mail;
+    mail.part = None;
     for part in ["cur", "new"] {
         let path = format!(in rt.alloc(); "{name}/{part}")?;
         if is_folder(rt, path.as_str()) {

@@ -6,6 +6,7 @@ pub mod Values
 pub mod Written
 pub mod Fields
 pub mod Part
+pub mod Inside
 pub mod Mail
 pub mod Lines
 pub mod Stream

@@ -1,6 +1,6 @@
 -- Which mails of a mailbox have a line: each, or those whose separator begins in a range of places; the program's own form.
 use Rattle.std.specs.Prelude.{◌≡◌, ◌<◌, ◌^◌, ℕ, Bool, true, false, not, ◌&&◌, nat_lt, List, [], Option, Some, None, take}
-use Rattle.mail_codec.specs.Charset.{Charsets}
+use Rattle.mail_lines.specs.Reading.{Reading}
 use Rattle.mail_data.specs.Mailbox.{Entry, front_length}
 use Rattle.mail_data.specs.MailboxFormats.{entries_in, mail_in}
 use Rattle.mail_data.specs.MailboxParts.{Placed, in_range, placed_from}
@@ -46,17 +46,17 @@ abbrev pub OnlyIf : Bool → Lines → Lines
 OnlyIf true Are = Are
 OnlyIf false Are = λ is_clean text. (is_clean ≡ true) × (text ≡ [])
 
--- Under the charsets that are known.
-module _ (known : Charsets) where
+-- Under what is asked for.
+module _ (reading : Reading) where
   -- the line of a mail of a mailbox in a format whose separator begins there, if it has one
   abbrev pub IsEntryLine : Format → Option (List ℕ) → Which → ℕ → Entry → Lines
   IsEntryLine format file which at entry =
-      OnlyIf (is_wanted which at) (IsLine known (origin_at file (number_of which) at entry) (mail_in format entry.mail))
+      OnlyIf (is_wanted which at) (IsLine reading (origin_at file (number_of which) at entry) (mail_in format entry.mail))
 
   -- the lines of those that have one of these mails, in order
   abbrev pub AreChosen : Format → Option (List ℕ) → Which → List Placed → Lines
-  AreChosen format file (Numbered number) mails = AreLines known format file (Some number) mails
-  AreChosen format file (Within from to) mails = AreLines known format file None (in_range from to mails)
+  AreChosen format file (Numbered number) mails = AreLines reading format file (Some number) mails
+  AreChosen format file (Within from to) mails = AreLines reading format file None (in_range from to mails)
 
   -- the lines of a mailbox: the error for what stands before the first mail, and then those of the mails that have one
   abbrev pub AreMailboxChosen : Format → Option (List ℕ) → Which → List ℕ → Lines
@@ -66,7 +66,7 @@ module _ (known : Charsets) where
   -- the lines of an input that is a mailbox in a format, or one mail
   abbrev pub AreChosenOf : Format → Bool → Option (List ℕ) → Which → List ℕ → Lines
   AreChosenOf format true file which bytes = AreMailboxChosen format file which bytes
-  AreChosenOf format false file which bytes = IsMailLine known file bytes
+  AreChosenOf format false file which bytes = IsMailLine reading file bytes
 
   -- the lines of an input of this form
   abbrev pub AreInputChosen : Form → Option (List ℕ) → Which → List ℕ → Lines

@@ -1,9 +1,12 @@
 pub mod Strings
 pub mod Written
+pub mod Reading
 pub mod Fields
+pub mod Addresses
 pub mod Origin
 pub mod Body
 pub mod Part
+pub mod Inside
 pub mod Mail
 pub mod Lines
 pub mod Chosen

@@ -3,7 +3,7 @@ use Rattle.std.specs.Prelude.{◌≡◌, ℕ, Bool, true, false, ◌&&◌, List,
 use Rattle.std.specs.Char.{is_ascii_whitespace}
 use Rattle.std.specs.Io.KnownBytes.{Appends, Consumes, IsAtEnd}
 use Rattle.std.specs.List.{list_all}
-use Rattle.mail_codec.specs.Charset.{Charsets}
+use Rattle.mail_lines.specs.Reading.{Reading}
 use Rattle.mailparse.specs.Mail.{Tree, read_mail_in}
 use Rattle.mailparse.specs.Refusal.{Reads}
 use Rattle.mail_program.specs.declared.fault.Fault.{Fault}
@@ -65,16 +65,16 @@ format_of Either = Plain
 format_of Mail = Plain
 format_of (Mailbox format) = format
 
--- Under the charsets that are known.
-module _ (known : Charsets) where
+-- Under what is asked for.
+module _ (reading : Reading) where
   -- the line of a mail from there, or of its refusal
   abbrev pub IsLineOf : Origin → Reads Tree → Lines
-  IsLineOf origin (Ok mail) is_clean text = (is_clean ≡ true) × (object : List ℕ) × IsMailText known origin mail object × (text ≡ object ++ codes "\n")
+  IsLineOf origin (Ok mail) is_clean text = (is_clean ≡ true) × (object : List ℕ) × IsMailText reading origin mail object × (text ≡ object ++ codes "\n")
   IsLineOf origin (Err refusal) is_clean text = (is_clean ≡ false) × (text ≡ error_line origin (refusal_text refusal))
 
   -- the line of the bytes of a mail from there
   abbrev pub IsLine : Origin → List ℕ → Lines
-  IsLine origin bytes = IsLineOf origin (read_mail_in known 100 bytes)
+  IsLine origin bytes = IsLineOf origin (read_mail_in reading.known 100 bytes)
 
   -- the line of a file that is one mail
   abbrev pub IsMailLine : Option (List ℕ) → List ℕ → Lines

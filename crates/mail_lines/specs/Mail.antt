@@ -9,9 +9,13 @@ use Rattle.mail_data.specs.PartPlaces.{places}
 use Rattle.mail_data.specs.lenient.Date.{Dated, Zoned, date_in}
 use Rattle.mail_data.specs.declared.lenient.date.error.DateError.{DateError}
 use Rattle.mail_data.specs.declared.lenient.date.error.DateError.TheVariants.{Day, Month, Year, Time, Zone, TrailingText}
+use Rattle.mail_lines.specs.Addresses.{addresses_text}
 use Rattle.mail_lines.specs.Fields.{value_of, ids_of}
+use Rattle.mail_data.specs.InnerMails.{InnerMail}
+use Rattle.mail_lines.specs.Inside.{AreInside, forwarded_text, mails_inside}
 use Rattle.mail_lines.specs.Origin.{Origin, origin_text}
 use Rattle.mail_lines.specs.Part.{IsPartText, AreJoined}
+use Rattle.mail_lines.specs.Reading.{Reading}
 use Rattle.mail_lines.specs.Strings.{json_text, seconds_text, text_or_null, json_texts}
 
 -- what is missing in a date, or wrong in it
@@ -42,7 +46,8 @@ raw_value_text before key node = before ++ text_or_null (option_map (λ header. 
 abbrev pub raw_text : Node → List ℕ
 raw_text node =
     raw_value_text (codes ",\"raw\":{\"from\":") (codes "From") node ++ raw_value_text (codes ",\"to\":") (codes "To") node
-    ++ raw_value_text (codes ",\"cc\":") (codes "Cc") node ++ raw_value_text (codes ",\"reply_to\":") (codes "Reply-To") node ++ codes "}"
+    ++ raw_value_text (codes ",\"cc\":") (codes "Cc") node ++ raw_value_text (codes ",\"bcc\":") (codes "Bcc") node
+    ++ raw_value_text (codes ",\"reply_to\":") (codes "Reply-To") node ++ raw_value_text (codes ",\"sender\":") (codes "Sender") node ++ codes "}"
 
 -- Under the charsets that are known.
 module _ (known : Charsets) where
@@ -52,10 +57,7 @@ module _ (known : Charsets) where
 
   -- the members that are values of headers
   abbrev pub values_text : Node → List ℕ
-  values_text node =
-      value_text (codes ",\"subject\":") (codes "Subject") node ++ value_text (codes ",\"from\":") (codes "From") node
-      ++ value_text (codes ",\"to\":") (codes "To") node ++ value_text (codes ",\"cc\":") (codes "Cc") node
-      ++ value_text (codes ",\"reply_to\":") (codes "Reply-To") node
+  values_text node = value_text (codes ",\"subject\":") (codes "Subject") node ++ addresses_text known node
 
   -- the ids in the first header with a name, after these words; each with an `@` where one is needed
   abbrev pub id_list_text : List ℕ → Bool → List ℕ → Node → List ℕ
@@ -67,14 +69,15 @@ module _ (known : Charsets) where
       id_list_text (codes ",\"message_id\":") false (codes "Message-ID") node ++ id_list_text (codes ",\"in_reply_to\":") true (codes "In-Reply-To") node
       ++ id_list_text (codes ",\"references\":") true (codes "References") node
 
-  -- the object of a mail from there, whose parts have this text
-  abbrev pub mail_text : Origin → Node → List ℕ → List ℕ
-  mail_text origin node parts =
+  -- the object of a mail from there, with these mails inside, whose parts have this text
+  abbrev pub mail_text : Origin → Node → List InnerMail → List ℕ → List ℕ
+  mail_text origin node inside parts =
       origin_text origin ++ values_text node ++ raw_text node ++ date_text (option_map date_in (value_of known (codes "Date") node))
-      ++ ids_text node ++ codes ",\"parts\":[" ++ parts ++ codes "]}"
+      ++ ids_text node ++ codes ",\"parts\":[" ++ parts ++ codes "]" ++ forwarded_text origin.start inside ++ codes "}"
 
--- a text is that of the object of a mail from there
-abbrev pub IsMailText : Charsets → Origin → Tree → List ℕ → Type 0
-IsMailText known origin mail text =
-    (parts : List ℕ) × AreJoined (IsPartText known origin.start) (places mail (placements 0 mail)) parts
-    × (text ≡ mail_text known origin (root mail) parts)
+-- a text is that of the object of a mail from there: its own parts, and then those of the mails inside
+abbrev pub IsMailText : Reading → Origin → Tree → List ℕ → Type 0
+IsMailText reading origin mail text =
+    (parts : List ℕ) × (others : List ℕ) × AreJoined (IsPartText reading (Some origin.start)) (places mail (placements 0 mail)) parts
+    × AreInside reading origin.start (mails_inside reading.known mail) others
+    × (text ≡ mail_text reading.known origin (root mail) (mails_inside reading.known mail) (parts ++ others))

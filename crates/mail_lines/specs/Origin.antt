@@ -27,7 +27,7 @@ bounds_text start end = codes ",\"start\":" ++ (number_text start ++ (codes ",\"
 -- the members that the line of a mail begins with
 abbrev pub origin_text : Origin → List ℕ
 origin_text origin =
-    codes "{\"schema\":3,\"file\":" ++ text_or_null origin.file ++ codes ",\"number\":" ++ number_or_null origin.number
+    codes "{\"schema\":4,\"file\":" ++ text_or_null origin.file ++ codes ",\"number\":" ++ number_or_null origin.number
     ++ bounds_text origin.start origin.end
 
 -- the line of an error
@@ -37,5 +37,5 @@ error_line origin text = origin_text origin ++ codes ",\"error\":" ++ json_text 
 -- the line of an input that could not be read
 abbrev pub unread_line : Option (List ℕ) → List ℕ → List ℕ
 unread_line file text =
-    codes "{\"schema\":3,\"file\":" ++ text_or_null file ++ codes ",\"number\":null,\"start\":null,\"end\":null,\"error\":" ++ json_text text
+    codes "{\"schema\":4,\"file\":" ++ text_or_null file ++ codes ",\"number\":null,\"start\":null,\"end\":null,\"error\":" ++ json_text text
     ++ codes "}\n"

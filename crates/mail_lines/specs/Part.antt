@@ -1,5 +1,5 @@
 -- The text that is written of each part of a mail; the program's own form.
-use Rattle.std.specs.Prelude.{◌≡◌, ℕ, ◌+◌, ◌^◌, ◌-◌, min, Bool, true, false, not, ◌&&◌, List, [], ◌∷◌, ◌++◌, length, map, Ok, Err, codes}
+use Rattle.std.specs.Prelude.{◌≡◌, ℕ, ◌+◌, ◌^◌, ◌-◌, min, Bool, true, false, not, ◌&&◌, List, [], ◌∷◌, ◌++◌, length, map, Option, Some, None, Ok, Err, codes}
 use Rattle.std.specs.Cmp.Lexicographic.{slice_cmp}
 use Rattle.std.specs.List.Sorted.{IsStrictlySortedBy}
 use Rattle.std.specs.Map.{lookup}
@@ -17,12 +17,16 @@ use Rattle.mailparse.specs.Pairs.{Texts}
 use Rattle.mailparse.specs.Refusal.{Reads}
 use Rattle.mailparse.specs.Value.{lenient_value_in}
 use Rattle.mail_data.specs.Files.{describes_attachment, is_attachment_disposition, is_leaf, name_in}
+use Rattle.mail_data.specs.Flowed.{unflowed_of}
 use Rattle.mail_data.specs.PartPlaces.{Place}
 use Rattle.mail_data.specs.Texts.{text_type}
 use Rattle.mail_data.specs.lenient.Encoding.{lenient_body_kind}
-use Rattle.mail_data.specs.lenient.Texts.{charset_used, lenient_bytes, lenient_text, text_read}
+use Rattle.mail_data.specs.lenient.Texts.{BodyText, charset_used, lenient_bytes, lenient_text, text_read}
 use Rattle.mail_lines.specs.Body.{encoding_text, decoded_size}
 use Rattle.mail_lines.specs.Fields.{refusal_text, disposition_name}
+use Rattle.mail_lines.specs.Origin.{number_or_null}
+use Rattle.mail_lines.specs.Reading.{Reading}
+use Rattle.mail_program.specs.Hash.{hash_text}
 use Rattle.mail_lines.specs.Strings.{json_text, number_text, text_or_null, joined}
 
 -- a sum, or the greatest number of 64 bits, where no file ends
@@ -69,16 +73,30 @@ disposition_text disposition node is_attachment =
     codes ",\"disposition\":" ++ text_or_null (disposition_name disposition node) ++ codes ",\"file_name\":" ++ text_or_null (name_in disposition node.ctype)
     ++ codes ",\"attachment\":" ++ flag_text is_attachment
 
+-- a place in the input, by where the mail begins in which it is counted; none, where that mail does not stand in the input
+abbrev pub place_in : Option ℕ → ℕ → Option ℕ
+place_in (Some start) at = Some (saturating_add start at)
+place_in None at = None
+
 -- the members of an encoding by its name, of where a part stands, and of how many bytes its body has
-abbrev pub place_text : List ℕ → ℕ → ℕ → ℕ → List ℕ
+abbrev pub place_text : List ℕ → Option ℕ → Option ℕ → ℕ → List ℕ
 place_text name start end size =
-    codes ",\"encoding\":\"" ++ name ++ codes "\",\"start\":" ++ number_text start ++ codes ",\"end\":" ++ number_text end
+    codes ",\"encoding\":\"" ++ name ++ codes "\",\"start\":" ++ number_or_null start ++ codes ",\"end\":" ++ number_or_null end
     ++ codes ",\"size\":" ++ number_text size
 
 -- the member of how many bytes a body stands for, or of why it is refused
 abbrev pub size_text : Reads ℕ → List ℕ
 size_text (Ok size) = codes ",\"decoded_size\":" ++ number_text size
 size_text (Err refusal) = codes ",\"decoded_size\":null,\"error\":" ++ json_text (refusal_text refusal)
+
+-- the hash of what can be read of a body, if it is wanted
+abbrev pub hash_of : Bool → BodyKind → List ℕ → Option (List ℕ)
+hash_of true kind body = Some (hash_text (lenient_bytes kind body).bytes)
+hash_of false kind body = None
+
+-- the member of the hash
+abbrev pub sha256_text : Option (List ℕ) → List ℕ
+sha256_text hash = codes ",\"sha256\":" ++ text_or_null hash
 
 -- the member that says that a body is damaged, where it is
 abbrev pub damaged_text : Bool → List ℕ
@@ -90,6 +108,15 @@ abbrev pub text_text : Bool → List ℕ → List ℕ → Bool → List ℕ
 text_text false text charset is_damaged = codes ",\"text\":null"
 text_text true text charset is_damaged =
     codes ",\"text\":" ++ json_text text ++ codes ",\"text_charset\":" ++ json_text charset ++ damaged_text is_damaged
+
+-- a text of this type as it is shown: with each paragraph as one line where it flows, if that is wanted
+abbrev pub text_shown : Bool → ContentType → List ℕ → List ℕ
+text_shown true ctype text = unflowed_of ctype text
+text_shown false ctype text = text
+
+-- the members of the text of a body that was read
+abbrev pub read_text : BodyText → List ℕ
+read_text read = text_text true read.text read.charset read.is_damaged
 
 -- Under the charsets that are known.
 module _ (known : Charsets) where
@@ -105,26 +132,29 @@ module _ (known : Charsets) where
   abbrev pub shown_text : List ℕ → List ℕ → Bool → List ℕ
   shown_text label bytes is_damaged = text_text true (lenient_text known label bytes) (charset_used known label bytes) is_damaged
 
-  -- the members of the text of a body that is to be read or not
-  abbrev pub body_text : Bool → BodyKind → Content → List ℕ
-  body_text shows kind body =
+  -- the members of the text of a body that is to be read or not; paragraphs that flow are one line each, if that is wanted
+  abbrev pub body_text : Bool → Bool → BodyKind → Content → List ℕ
+  body_text joins shows kind body =
       let read = text_read known body.ctype.charset (lenient_bytes kind body.raw) in
-      text_text shows read.text read.charset read.is_damaged
+      text_text shows (text_shown joins body.ctype read.text) read.charset read.is_damaged
 
-  -- the object of a part of a mail that begins there in the input, whose type has this text
-  abbrev pub part_text : ℕ → Place → List ℕ → List ℕ
+-- For what is asked.
+module _ (reading : Reading) where
+  -- the object of a part of a mail that begins there in the input, if it stands there; its type has this text
+  abbrev pub part_text : Option ℕ → Place → List ℕ → List ℕ
   part_text start place type =
       let node = root place.part in
       let kind = lenient_body_kind node in
-      let disposition = shown_as_in known node in
+      let disposition = shown_as_in reading.known node in
       let attached = is_attachment place.part disposition in
       codes "{\"path\":" ++ json_text place.path ++ type ++ disposition_text disposition node attached
-      ++ place_text (encoding_text kind) (saturating_add start place.placement.whole.start) (saturating_add start place.placement.whole.end) (length node.body)
-      ++ size_text (decoded_size kind node.body) ++ headers_text node.headers
-      ++ body_text (is_read place.part disposition) kind (content_of node) ++ codes "}"
+      ++ place_text (encoding_text kind) (place_in start place.placement.whole.start) (place_in start place.placement.whole.end) (length node.body)
+      ++ size_text (decoded_size kind node.body) ++ sha256_text (hash_of (reading.hashes && attached) kind node.body)
+      ++ headers_text reading.known node.headers
+      ++ body_text reading.known reading.joins_flowed (is_read place.part disposition) kind (content_of node) ++ codes "}"
 
   -- a text is that of the object of a part of a mail that begins there
-  abbrev pub IsPartText : ℕ → Place → List ℕ → Type 0
+  abbrev pub IsPartText : Option ℕ → Place → List ℕ → Type 0
   IsPartText start place text = (type : List ℕ) × IsTypeText (root place.part).ctype type × (text ≡ part_text start place type)
 
 -- a text is that of items, each after a comma

@@ -1,7 +1,7 @@
 -- The lines of a part of an input: of the mails of a mailbox whose separator begins in it; the program's own form.
 use Rattle.std.specs.Prelude.{◌≡◌, ℕ, zero, suc, ◌+◌, ◌-◌, Bool, true, false, List, ◌++◌, take, Option, None, Result, Ok, Err}
 use Rattle.std.specs.Io.KnownBytes.{Consumes}
-use Rattle.mail_codec.specs.Charset.{Charsets}
+use Rattle.mail_lines.specs.Reading.{Reading}
 use Rattle.mail_program.specs.Streams.{IsReadFault}
 use Rattle.mail_program.specs.declared.fault.Fault.{Fault}
 use Rattle.mail_data.specs.Mailbox.{front_length}
@@ -29,20 +29,20 @@ has_parts Counted = false
 abbrev pub placed_in : Format → List ℕ → List Placed
 placed_in format bytes = placed_from (front_length bytes) (entries_in format bytes)
 
--- Under the charsets that are known.
-module _ (known : Charsets) where
+-- Under what is asked for.
+module _ (reading : Reading) where
   -- the lines of the mails of a mailbox that begin in a range of places
   abbrev pub AreRangeLines : Format → Option (List ℕ) → (from to : ℕ) → List ℕ → Lines
-  AreRangeLines format file from to bytes = AreLines known format file None (in_range from to (placed_in format bytes))
+  AreRangeLines format file from to bytes = AreLines reading format file None (in_range from to (placed_in format bytes))
 
   -- the same, where the bytes are those of the mailbox from a place on
   abbrev pub AreRangeLinesAt : Format → Option (List ℕ) → (from to start : ℕ) → List ℕ → Lines
   AreRangeLinesAt format file from to start bytes =
-      AreLines known format file None (in_range from to (placed_from (start + front_length bytes) (entries_in format bytes)))
+      AreLines reading format file None (in_range from to (placed_from (start + front_length bytes) (entries_in format bytes)))
 
   -- the lines of the first part of an input, which ends there
   abbrev pub AreFirstLines : Form → Option (List ℕ) → ℕ → List ℕ → Lines
-  AreFirstLines form file to bytes = AreInputChosen known form file (Within 0 to) bytes
+  AreFirstLines form file to bytes = AreInputChosen reading form file (Within 0 to) bytes
 
   -- the lines of a part of so many, counted from 0: an input that is one mail is in the first
   abbrev pub ArePartLines : Form → Option (List ℕ) → List ℕ → (count number : ℕ) → Lines
@@ -52,8 +52,8 @@ module _ (known : Charsets) where
 
   -- the lines of an input without the numbers of mails, if it is a mailbox in a format, or one mail
   abbrev pub AreUnnumberedOf : Format → Bool → Option (List ℕ) → List ℕ → Lines
-  AreUnnumberedOf format true file bytes = AreAfterFront file (take (front_length bytes) bytes) (AreLines known format file None (placed_in format bytes))
-  AreUnnumberedOf format false file bytes = IsMailLine known file bytes
+  AreUnnumberedOf format true file bytes = AreAfterFront file (take (front_length bytes) bytes) (AreLines reading format file None (placed_in format bytes))
+  AreUnnumberedOf format false file bytes = IsMailLine reading file bytes
 
   -- the lines of an input of this form without the numbers of mails
   abbrev pub AreUnnumberedLines : Form → Option (List ℕ) → List ℕ → Lines

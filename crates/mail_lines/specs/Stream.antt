@@ -1,7 +1,7 @@
 -- What is read of an input before lines are written of it, and which lines those are; the program's own form.
 use Rattle.std.specs.Prelude.{◌≡◌, ℕ, Bool, true, false, ◌&&◌, List, [], ◌++◌, Option, Some, None, is_some, Result, Ok, Err}
 use Rattle.std.specs.Io.KnownBytes.{Appends, Consumes, IsAtEnd}
-use Rattle.mail_codec.specs.Charset.{Charsets}
+use Rattle.mail_lines.specs.Reading.{Reading}
 use Rattle.mail_program.specs.Streams.{IsReadFault}
 use Rattle.mail_program.specs.declared.fault.Fault.{Fault}
 use Rattle.mail_data.specs.Mailbox.{Entry, has_front, has_line}
@@ -59,13 +59,13 @@ Ends (Within from to) = HasLeft
 abbrev pub WritesChosen : Which → (left_before left old new : Option (List ℕ)) → Result Bool Fault → (List ℕ → Lines) → Type 0
 WritesChosen which left_before left old new r Are = WritesUpTo (Ends which) left_before left old new r Are
 
--- Under the charsets that are known, of a file that is a mailbox in a format.
-module _ (known : Charsets) (format : Format) (file : Option (List ℕ)) where
+-- Under what is asked for, of a file that is a mailbox in a format.
+module _ (reading : Reading) (format : Format) (file : Option (List ℕ)) where
   -- what was written of mails, the first of which begins there, and what any lines of the mails that are left complete
   abbrev pub Continues : Which → ℕ → List Entry → Which → ℕ → List Entry → Bool → List ℕ → Type 0
   Continues first start all which at left is_clean done =
-      (others : Bool) (lines : List ℕ) → AreChosen known format file which (placed_from at left) others lines
-      → AreChosen known format file first (placed_from start all) (is_clean && others) (done ++ lines)
+      (others : Bool) (lines : List ℕ) → AreChosen reading format file which (placed_from at left) others lines
+      → AreChosen reading format file first (placed_from start all) (is_clean && others) (done ++ lines)
 
   -- the lines of the mails at the front of the bytes were written, up to the rest; whatever follows, they are those of its first mails
   abbrev pub WritesSettled : (old new : Option (List ℕ)) → Which → ℕ → List ℕ → Which → ℕ → List ℕ → Bool → Type 0

@@ -1,5 +1,5 @@
 -- The values that the lines stand for, in the form that the kit's parser of JSON gives them; the program's own form.
-use Rattle.std.specs.Prelude.{◌≡◌, ℕ, ℤ, Bool, true, false, not, ◌==◌, List, [], ◌∷◌, ◌++◌, length, map, Option, Some, None, option_map, Ok, Err, codes}
+use Rattle.std.specs.Prelude.{◌≡◌, ℕ, ℤ, Bool, true, false, not, ◌&&◌, ◌==◌, List, [], ◌∷◌, ◌++◌, length, map, Option, Some, None, option_map, Ok, Err, codes}
 use Rattle.std.specs.List.{flat_map, list_all, AllByRecursion}
 use Rattle.json.specs.Json.{Json, null, boolean, number, string, array, object, Members, no_members, member, document}
 use Rattle.json.specs.Strict.{HasUniqueKeys}
@@ -20,11 +20,18 @@ use Rattle.mail_data.specs.PartPlaces.{Place, places}
 use Rattle.mail_data.specs.lenient.Date.{Dated, Zoned, date_in}
 use Rattle.mail_data.specs.lenient.Encoding.{lenient_body_kind}
 use Rattle.mail_data.specs.lenient.Texts.{lenient_bytes, text_read}
+use Rattle.mail_address.specs.Addresses.{Element, Single, single, group}
+use Rattle.mail_address.specs.Headers.{addresses_of}
+use Rattle.mail_address.specs.Mailbox.{Parts}
+use Rattle.mail_lines.specs.Addresses.{canonical, name_of, unless_empty}
 use Rattle.mail_lines.specs.Body.{encoding_text, decoded_size}
 use Rattle.mail_lines.specs.Fields.{refusal_text, disposition_name, value_of, ids_of}
+use Rattle.mail_data.specs.InnerMails.{InnerMail}
+use Rattle.mail_lines.specs.Inside.{inside_start, mails_inside, parts_inside}
 use Rattle.mail_lines.specs.Mail.{date_fault_text}
 use Rattle.mail_lines.specs.Origin.{Origin}
-use Rattle.mail_lines.specs.Part.{Lists, is_attachment, is_read, saturating_add}
+use Rattle.mail_lines.specs.Part.{Lists, hash_of, is_attachment, is_read, place_in, text_shown}
+use Rattle.mail_lines.specs.Reading.{Reading}
 use Rattle.mail_lines.specs.Strings.{number_text, seconds_text}
 
 -- a byte that ends no line
@@ -77,7 +84,7 @@ number_or_null_value None = null
 
 -- the members of the number of this form and of a file
 abbrev pub file_members : Option (List ℕ) → List Member
-file_members file = one (codes "schema") (number_value 3) ++ one (codes "file") (string_or_null file)
+file_members file = one (codes "schema") (number_value 4) ++ one (codes "file") (string_or_null file)
 
 -- the members that the line of a mail begins with
 abbrev pub origin_members : Origin → List Member
@@ -110,15 +117,30 @@ disposition_members disposition node is_attachment =
     ++ one (codes "file_name") (string_or_null (name_in disposition node.ctype)) ++ one (codes "attachment") (boolean is_attachment)
 
 -- the members of an encoding, of where a part stands, and of how many bytes its body has
-abbrev pub place_members : BodyKind → ℕ → ℕ → ℕ → List Member
+abbrev pub place_members : BodyKind → Option ℕ → Option ℕ → ℕ → List Member
 place_members kind start end size =
-    one (codes "encoding") (string (encoding_text kind)) ++ one (codes "start") (number_value start) ++ one (codes "end") (number_value end)
+    one (codes "encoding") (string (encoding_text kind)) ++ one (codes "start") (number_or_null_value start)
+    ++ one (codes "end") (number_or_null_value end)
     ++ one (codes "size") (number_value size)
 
 -- the member of how many bytes a body stands for, or of why it is refused
 abbrev pub size_members : Reads ℕ → List Member
 size_members (Ok size) = one (codes "decoded_size") (number_value size)
 size_members (Err refusal) = one (codes "decoded_size") null ++ one (codes "error") (string (refusal_text refusal))
+
+-- the object of a mail inside
+abbrev pub inner_value : ℕ → InnerMail → Json
+inner_value start inner =
+    object_of (one (codes "path") (string inner.path) ++ one (codes "start") (number_or_null_value (inside_start start inner.start))
+    ++ one (codes "error") (string_or_null (option_map refusal_text inner.refusal)))
+
+-- the member of the mails inside
+abbrev pub forwarded_members : ℕ → List InnerMail → List Member
+forwarded_members start mails = one (codes "forwarded") (list_of (map (inner_value start) mails))
+
+-- the member of a hash
+abbrev pub sha256_members : Option (List ℕ) → List Member
+sha256_members hash = one (codes "sha256") (string_or_null hash)
 
 -- the member that says that a body is damaged
 abbrev pub damaged_members : Bool → List Member
@@ -146,6 +168,10 @@ date_members None = one (codes "date") null
 date_members (Some (Ok date)) = one (codes "date") (seconds_value date.0) ++ zone_members date.1
 date_members (Some (Err fault)) = one (codes "date") null ++ one (codes "date_error") (string (date_fault_text fault))
 
+-- the object of what is no address
+abbrev pub unknown_value : List ℕ → Json
+unknown_value text = object_of (one (codes "unknown") (string (latin1_text text)))
+
 -- the member of a value as it stands in the mail
 abbrev pub raw_member : List ℕ → List ℕ → Node → List Member
 raw_member name key node = one name (string_or_null (option_map (λ header. latin1_text header.value) (first_with_key key node.headers)))
@@ -154,7 +180,8 @@ raw_member name key node = one name (string_or_null (option_map (λ header. lati
 abbrev pub raw_members : Node → List Member
 raw_members node =
     raw_member (codes "from") (codes "From") node ++ raw_member (codes "to") (codes "To") node ++ raw_member (codes "cc") (codes "Cc") node
-    ++ raw_member (codes "reply_to") (codes "Reply-To") node
+    ++ raw_member (codes "bcc") (codes "Bcc") node ++ raw_member (codes "reply_to") (codes "Reply-To") node
+    ++ raw_member (codes "sender") (codes "Sender") node
 
 -- each value is that of the item at its place
 abbrev pub AreValues : {A : Type 0} → (A → Json → Type 0) → List A → List Json → Type 0
@@ -168,39 +195,23 @@ module _ (known : Charsets) where
   header_value header = list_of (string (key_text header) ∷ string (lenient_value_in known header.value) ∷ [])
 
   -- the members of the text of a body that is to be read or not
-  abbrev pub body_members : Bool → BodyKind → Content → List Member
-  body_members shows kind body =
+  abbrev pub body_members : Bool → Bool → BodyKind → Content → List Member
+  body_members joins shows kind body =
       let read = text_read known body.ctype.charset (lenient_bytes kind body.raw) in
-      text_members shows read.text read.charset read.is_damaged
+      text_members shows (text_shown joins body.ctype read.text) read.charset read.is_damaged
 
   -- the members of a part of a mail that begins there, whose type has these parameters: those before its sizes, and those after them
-  abbrev pub front_members : ℕ → Place → List (List ℕ × List ℕ) → List Member
+  abbrev pub front_members : Option ℕ → Place → List (List ℕ × List ℕ) → List Member
   front_members start place pairs =
       let node = root place.part in
       let disposition = shown_as_in known node in
       one (codes "path") (string place.path) ++ type_members node.ctype.mimetype node.ctype.charset pairs
       ++ disposition_members disposition node (is_attachment place.part disposition)
-      ++ place_members (lenient_body_kind node) (saturating_add start place.placement.whole.start) (saturating_add start place.placement.whole.end)
+      ++ place_members (lenient_body_kind node) (place_in start place.placement.whole.start) (place_in start place.placement.whole.end)
       (length node.body)
 
   abbrev pub headers_member : Place → List Member
   headers_member place = one (codes "headers") (list_of (map header_value (root place.part).headers))
-
-  abbrev pub content_members : Place → List Member
-  content_members place =
-      let node = root place.part in
-      headers_member place
-      ++ body_members (is_read place.part (shown_as_in known node)) (lenient_body_kind node) (content_of node)
-
-  abbrev pub part_members : ℕ → Place → List (List ℕ × List ℕ) → List Member
-  part_members start place pairs =
-      let node = root place.part in
-      front_members start place pairs ++ size_members (decoded_size (lenient_body_kind node) node.body) ++ content_members place
-
-  -- a value is the object of a part of a mail that begins there
-  abbrev pub IsPartValue : ℕ → Place → Json → Type 0
-  IsPartValue start place value =
-      (pairs : List (List ℕ × List ℕ)) × Lists (root place.part).ctype.params pairs × (value ≡ object_of (part_members start place pairs))
 
   -- the member of the value of the first header with a name; of the ids in it
   abbrev pub value_member : List ℕ → List ℕ → Node → List Member
@@ -209,29 +220,87 @@ module _ (known : Charsets) where
   abbrev pub ids_member : List ℕ → Bool → List ℕ → Node → List Member
   ids_member name needs_at key node = one name (strings (ids_of known needs_at key node))
 
+  -- the object of a mailbox; of an element without members; of a group; of an element of a list
+  abbrev pub mailbox_value : Parts → Json
+  mailbox_value parts =
+      object_of (one (codes "name") (string_or_null (unless_empty (name_of known parts.display_name))) ++ one (codes "address") (string (canonical parts)))
+
+  abbrev pub single_or_unknown_value : Option Parts → List ℕ → Json
+  single_or_unknown_value (Some parts) text = mailbox_value parts
+  single_or_unknown_value None text = unknown_value text
+
+  abbrev pub single_value : Single → Json
+  single_value s = single_or_unknown_value s.mailbox s.text
+
+  abbrev pub group_value : List ℕ → List Single → Json
+  group_value name members =
+      object_of (one (codes "group") (string (name_of known name)) ++ one (codes "members") (list_of (map single_value members)))
+
+  abbrev pub element_value : Element → Json
+  element_value (single s) = single_value s
+  element_value (group g) = group_value g.display_name g.members
+
+  -- the member of the addresses in all headers with a name
+  abbrev pub addresses_member : List ℕ → List ℕ → Node → List Member
+  addresses_member name key node = one name (list_of (map element_value (addresses_of key node.headers)))
+
+  -- the members of who wrote a mail and to whom
+  abbrev pub addresses_members : Node → List Member
+  addresses_members node =
+      addresses_member (codes "from") (codes "From") node ++ addresses_member (codes "to") (codes "To") node
+      ++ addresses_member (codes "cc") (codes "Cc") node ++ addresses_member (codes "bcc") (codes "Bcc") node
+      ++ addresses_member (codes "reply_to") (codes "Reply-To") node ++ addresses_member (codes "sender") (codes "Sender") node
+
   -- the members that are values of headers; that are ids of headers
   abbrev pub values_members : Node → List Member
-  values_members node =
-      value_member (codes "subject") (codes "Subject") node ++ value_member (codes "from") (codes "From") node
-      ++ value_member (codes "to") (codes "To") node ++ value_member (codes "cc") (codes "Cc") node
-      ++ value_member (codes "reply_to") (codes "Reply-To") node
+  values_members node = value_member (codes "subject") (codes "Subject") node ++ addresses_members node
 
   abbrev pub ids_members : Node → List Member
   ids_members node =
       ids_member (codes "message_id") false (codes "Message-ID") node ++ ids_member (codes "in_reply_to") true (codes "In-Reply-To") node
       ++ ids_member (codes "references") true (codes "References") node
 
-  -- the members of a mail from there, whose parts have these values
-  abbrev pub mail_members : Origin → Node → List Json → List Member
-  mail_members origin node parts =
+  -- the members of a mail from there, with these mails inside, whose parts have these values
+  abbrev pub mail_members : Origin → Node → List InnerMail → List Json → List Member
+  mail_members origin node inside parts =
       origin_members origin ++ values_members node ++ one (codes "raw") (object_of (raw_members node))
       ++ date_members (option_map date_in (value_of known (codes "Date") node)) ++ ids_members node ++ one (codes "parts") (list_of parts)
+      ++ forwarded_members origin.start inside
 
-  -- a value is the object of a mail from there
+-- For what is asked.
+module _ (reading : Reading) where
+  abbrev pub content_members : Place → List Member
+  content_members place =
+      let node = root place.part in
+      let kind = lenient_body_kind node in
+      let disposition = shown_as_in reading.known node in
+      sha256_members (hash_of (reading.hashes && is_attachment place.part disposition) kind node.body)
+      ++ headers_member reading.known place
+      ++ body_members reading.known reading.joins_flowed (is_read place.part disposition) kind (content_of node)
+
+  abbrev pub part_members : Option ℕ → Place → List (List ℕ × List ℕ) → List Member
+  part_members start place pairs =
+      let node = root place.part in
+      front_members reading.known start place pairs ++ size_members (decoded_size (lenient_body_kind node) node.body) ++ content_members place
+
+  -- a value is the object of a part of a mail that begins there
+  abbrev pub IsPartValue : Option ℕ → Place → Json → Type 0
+  IsPartValue start place value =
+      (pairs : List (List ℕ × List ℕ)) × Lists (root place.part).ctype.params pairs × (value ≡ object_of (part_members start place pairs))
+
+  -- values are the objects of the parts of mails inside
+  abbrev pub AreInsideValues : ℕ → List InnerMail → List Json → Type 0
+  AreInsideValues start [] values = values ≡ []
+  AreInsideValues start (inner ∷ mails) values =
+      (first : List Json) × (others : List Json) × AreValues (IsPartValue (inside_start start inner.start)) (parts_inside reading.known inner) first
+      × AreInsideValues start mails others × (values ≡ first ++ others)
+
+  -- a value is the object of a mail from there: with its own parts, and then those of the mails inside
   abbrev pub IsMailValue : Origin → Tree → Json → Type 0
   IsMailValue origin mail value =
-      (parts : List Json) × AreValues (IsPartValue origin.start) (places mail (placements 0 mail)) parts
-      × (value ≡ object_of (mail_members origin (root mail) parts))
+      (parts : List Json) × (others : List Json) × AreValues (IsPartValue (Some origin.start)) (places mail (placements 0 mail)) parts
+      × AreInsideValues origin.start (mails_inside reading.known mail) others
+      × (value ≡ object_of (mail_members reading.known origin (root mail) (mails_inside reading.known mail) (parts ++ others)))
 
   -- a value is that of the line of a mail from there, or of its refusal
   abbrev pub IsLineValue : Origin → Reads Tree → Json → Type 0

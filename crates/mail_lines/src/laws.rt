@@ -3,13 +3,13 @@ ghost use Rattle.std.specs.Prelude.{◌++◌, ◌-◌, ◌<◌, ◌≡◌, ◌�
 ghost use Rattle.std.specs.Prelude.{true, ℕ};
 ghost use Rattle.std.specs.List.{flat_map, list_all};
 ghost use Rattle.json.specs.Json.{Json};
-ghost use Rattle.mail_codec.specs.Charset.{Charsets};
 ghost use Rattle.mail_codec.specs.Places.{values_below};
 ghost use Rattle.mail_data.specs.declared.mailbox.formats.Format.{Format};
 ghost use Rattle.mailparse.specs.Mail.{Tree};
 ghost use Rattle.mailparse.specs.Refusal.{Reads};
 ghost use Rattle.mail_lines.specs.Lines.{AreMailboxLines, IsLineOf, format_of};
 ghost use Rattle.mail_lines.specs.Origin.{Origin, unread_line};
+ghost use Rattle.mail_lines.specs.Reading.{Reading};
 ghost use Rattle.mail_lines.specs.Range.{ArePartLines, AreRangeLines, AreRangeLinesAt};
 ghost use Rattle.mail_lines.specs.Range.{AreUnnumberedLines, has_parts, reading_start};
 ghost use Rattle.mail_lines.specs.declared.chosen.Form.{Form};
@@ -20,16 +20,16 @@ ghost use Rattle.mail_lines.specs.Values.{AreJsonLines, IsJsonLine, IsLineValue,
 /// twice. For the line of a mail, or of its refusal, it is the value that `IsLineValue` gives, and
 /// for that of an input that could not be read the one of `unread_value`.
 pub fn lines_are_json()
-    ensures line { (known : Charsets) (origin : Origin) (mail : Reads Tree) (is_clean : Bool)
-        (text : List ℕ) → IsLineOf known origin mail is_clean text →
-        (value : Json) × (object : List ℕ) × IsLineValue known origin mail value
+    ensures line { (reading : Reading) (origin : Origin) (mail : Reads Tree) (is_clean : Bool)
+        (text : List ℕ) → IsLineOf reading origin mail is_clean text →
+        (value : Json) × (object : List ℕ) × IsLineValue reading origin mail value
         × IsJsonLine value object × (text ≡ object ++ codes "\n") }
-    ensures all { (known : Charsets) (format : Format) (file : Option (List ℕ)) (bytes : List ℕ)
-        (is_clean : Bool) (text : List ℕ) → AreMailboxLines known format file bytes is_clean text →
+    ensures all { (reading : Reading) (format : Format) (file : Option (List ℕ)) (bytes : List ℕ)
+        (is_clean : Bool) (text : List ℕ) → AreMailboxLines reading format file bytes is_clean text →
         AreJsonLines text }
-    ensures part { (known : Charsets) (form : Form) (file : Option (List ℕ)) (bytes : List ℕ)
+    ensures part { (reading : Reading) (form : Form) (file : Option (List ℕ)) (bytes : List ℕ)
         (count number : ℕ) (is_clean : Bool) (text : List ℕ) →
-        ArePartLines known form file bytes count number is_clean text → AreJsonLines text }
+        ArePartLines reading form file bytes count number is_clean text → AreJsonLines text }
     ensures unread { (file : Option (List ℕ)) (text : List ℕ) → (object : List ℕ)
         × IsJsonLine (unread_value file text) object
         × (unread_line file text ≡ object ++ codes "\n") }
@@ -38,12 +38,12 @@ pub fn lines_are_json()
 /// The lines of equal parts of an input, one after another, are those of the whole without the
 /// numbers of mails, and no error is among them exactly if none is in any part.
 pub fn parts_join()
-    ensures { (known : Charsets) (form : Form) (file : Option (List ℕ)) (bytes : List ℕ)
+    ensures { (reading : Reading) (form : Form) (file : Option (List ℕ)) (bytes : List ℕ)
         (count : ℕ) (are_clean : ℕ → Bool) (texts : ℕ → List ℕ) →
         has_parts (format_of form) ≡ true → 0 < count →
         ((k : ℕ) → k < count →
-        ArePartLines known form file bytes count k (are_clean k) (texts k)) →
-        AreUnnumberedLines known form file bytes
+        ArePartLines reading form file bytes count k (are_clean k) (texts k)) →
+        AreUnnumberedLines reading form file bytes
         (list_all (λ is_clean. is_clean) (values_below count are_clean))
         (flat_map (λ text. text) (values_below count texts)) }
 {}
@@ -51,10 +51,10 @@ pub fn parts_join()
 /// The lines of the mails that begin in a range of places are found by reading from its
 /// `reading_start` on.
 pub fn range_is_found()
-    ensures { (known : Charsets) (format : Format) (file : Option (List ℕ)) (bytes : List ℕ)
+    ensures { (reading : Reading) (format : Format) (file : Option (List ℕ)) (bytes : List ℕ)
         (from to : ℕ) (is_clean : Bool) (text : List ℕ) → has_parts format ≡ true →
         from ≤ length bytes →
-        AreRangeLinesAt known format file from to (reading_start from)
+        AreRangeLinesAt reading format file from to (reading_start from)
         (drop (reading_start from) bytes) is_clean text →
-        AreRangeLines known format file from to bytes is_clean text }
+        AreRangeLines reading format file from to bytes is_clean text }
 {}

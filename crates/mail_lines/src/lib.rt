@@ -1,19 +1,23 @@
 //! Mails and mailboxes as lines of JSON, over any reader and writer.
 #![tactic(auto)]
 
+mod addresses;
 mod body;
 mod chosen;
 mod fields;
+mod inside;
 pub mod laws;
 mod lines;
 mod mail;
 mod origin;
 mod part;
 pub mod range;
+mod reading;
 mod stream;
 mod strings;
 
 pub use chosen::{Form, Next, Which};
 pub use lines::write_single;
 pub use origin::write_unread;
+pub use reading::Reading;
 pub use stream::{Unwatched, Watch, format_of, write_input};

@@ -2,7 +2,7 @@
 ghost use Rattle.std.specs.Prelude.{◌≡◌, option_map};
 ghost use Rattle.std.specs.Char.{is_ascii_whitespace};
 ghost use Rattle.std.specs.List.{list_all};
-ghost use Rattle.mail_codec.specs.Tables.{charsets_with};
+ghost use Rattle.mail_lines.specs.Reading.{reading_of};
 ghost use Rattle.mail_data.specs.FormatViews.{left_in};
 ghost use Rattle.mail_data.specs.MailboxFormats.{mail_in};
 ghost use Rattle.mail_data.specs.MailboxParts.{placed_from};
@@ -14,12 +14,13 @@ use crate::chosen::{Next, Which};
 use crate::fields::refusal_text;
 use crate::mail::write_mail;
 use crate::origin::{Origin, write_error};
+use crate::reading::Reading;
 use crate::strings::write_word;
 use mail_data::mailbox::MailboxEntry;
 use mail_data::mailbox::formats::{Format, MailboxIn, read_mailbox_in};
 use mail_data::mailbox::quoted::unquoted;
 use mail_program::Fault;
-use mailparse::{SingleByteTable, parse_mail_with};
+use mailparse::parse_mail_with;
 use std::alloc::Global;
 use std::io::Write;
 
@@ -33,23 +34,24 @@ use std::io::Write;
 /// # Examples
 ///
 /// ```rust
-/// use mail_lines::write_single;
+/// use mail_lines::{Reading, write_single};
 ///
 /// let mut out = Vec::new(alloc);
-/// assert!(rt; !write_single(alloc, b" refused", None, &mut out, &[])?);
-/// let line = b"{\"schema\":3,\"file\":null,\"number\":null,\"start\":0,\"end\":8,\"error\":";
+/// let reading = Reading::new(&[]);
+/// assert!(rt; !write_single(alloc, b" refused", None, &mut out, reading)?);
+/// let line = b"{\"schema\":4,\"file\":null,\"number\":null,\"start\":0,\"end\":8,\"error\":";
 /// assert!(rt; out.as_slice().starts_with(line));
-/// assert!(rt; write_single(alloc, b"Subject: Hi\n\nHello\n", None, &mut out, &[])?);
+/// assert!(rt; write_single(alloc, b"Subject: Hi\n\nHello\n", None, &mut out, reading)?);
 /// ```
 pub fn write_single<W: Write>(
     alloc: Global,
     input: &[u8],
     file: Option<&str>,
     out: &mut W,
-    tables: &[SingleByteTable<'_>],
+    reading: Reading<'_>,
 ) -> Result<bool, Fault>
     ensures { WritesLines (W.contents out.old) (W.contents out.new) result (IsMailLine
-        (charsets_with tables.now) (option_map (λ name. name.now) file.entry) input.now) }
+        (reading_of reading.entry) (option_map (λ name. name.now) file.entry) input.now) }
 {
     let origin = Origin {
         file,
@@ -57,7 +59,7 @@ pub fn write_single<W: Write>(
         start: 0,
         end: input.len(),
     };
-    write_line(alloc, input, &origin, out, tables)
+    write_line(alloc, input, &origin, out, reading)
 }
 
 /// Writes the mails of a mailbox in a format that are to have a line, and an error for what stands
@@ -74,10 +76,10 @@ pub fn write_mailbox<W: Write>(
     which: Which,
     file: Option<&str>,
     out: &mut W,
-    tables: &[SingleByteTable<'_>],
+    reading: Reading<'_>,
 ) -> Result<bool, Fault>
     ensures { WritesLines (W.contents out.old) (W.contents out.new) result
-        (AreMailboxChosen (charsets_with tables.now) format
+        (AreMailboxChosen (reading_of reading.entry) format
         (option_map (λ name. name.now) file.entry) which input.now) }
 {
     let mails = read_mailbox_in(format, input);
@@ -87,7 +89,7 @@ pub fn write_mailbox<W: Write>(
         which,
         at: front.len(),
     };
-    let are_read = write_mails(alloc, mails, format, first, file, out, tables)?;
+    let are_read = write_mails(alloc, mails, format, first, file, out, reading)?;
     Ok(is_all_whitespace & are_read)
 }
 
@@ -146,16 +148,16 @@ pub fn write_mails<W: Write>(
     first: Next,
     file: Option<&str>,
     out: &mut W,
-    tables: &[SingleByteTable<'_>],
+    reading: Reading<'_>,
 ) -> Result<bool, Fault>
     ensures { WritesLines (W.contents out.old) (W.contents out.new) result
-        (AreChosen (charsets_with tables.now) format (option_map (λ name. name.now) file.entry)
+        (AreChosen (reading_of reading.entry) format (option_map (λ name. name.now) file.entry)
         first.which (placed_from first.at (left_in mails.entry))) }
 {
     let mut next = first;
     let mut is_clean = true;
     for entry in mails {
-        let is_read = write_entry(alloc, &entry, format, next, file, out, tables)?;
+        let is_read = write_entry(alloc, &entry, format, next, file, out, reading)?;
         is_clean &= is_read;
         next = next.after(&entry);
     }
@@ -176,14 +178,14 @@ pub fn write_entry<W: Write>(
     next: Next,
     file: Option<&str>,
     out: &mut W,
-    tables: &[SingleByteTable<'_>],
+    reading: Reading<'_>,
 ) -> Result<bool, Fault>
     ensures { WritesLines (W.contents out.old) (W.contents out.new) result
-        (IsEntryLine (charsets_with tables.now) format (option_map (λ name. name.now) file.entry)
+        (IsEntryLine (reading_of reading.entry) format (option_map (λ name. name.now) file.entry)
         next.which next.at entry.now) }
 {
     if next.is_wanted() {
-        write_wanted(alloc, entry, format, next, file, out, tables)
+        write_wanted(alloc, entry, format, next, file, out, reading)
     } else {
         Ok(true)
     }
@@ -197,10 +199,10 @@ fn write_wanted<W: Write>(
     next: Next,
     file: Option<&str>,
     out: &mut W,
-    tables: &[SingleByteTable<'_>],
+    reading: Reading<'_>,
 ) -> Result<bool, Fault>
     ensures { WritesLines (W.contents out.old) (W.contents out.new) result
-        (IsLine (charsets_with tables.now) (origin_at (option_map (λ name. name.now) file.entry)
+        (IsLine (reading_of reading.entry) (origin_at (option_map (λ name. name.now) file.entry)
         (number_of next.which) next.at entry.now) (mail_in format entry.now.mail)) }
 {
     let start = next.at.saturating_add(entry.separator().len());
@@ -211,10 +213,10 @@ fn write_wanted<W: Write>(
         end: start.saturating_add(entry.mail().len()),
     };
     match format {
-        Format::Plain | Format::Counted => write_line(alloc, entry.mail(), &origin, out, tables),
+        Format::Plain | Format::Counted => write_line(alloc, entry.mail(), &origin, out, reading),
         Format::Quoted => {
             let mail = unquoted(alloc, entry.mail())?;
-            write_line(alloc, mail.as_slice(), &origin, out, tables)
+            write_line(alloc, mail.as_slice(), &origin, out, reading)
         }
     }
 }
@@ -225,14 +227,14 @@ fn write_line<W: Write>(
     raw: &[u8],
     origin: &Origin<'_>,
     out: &mut W,
-    tables: &[SingleByteTable<'_>],
+    reading: Reading<'_>,
 ) -> Result<bool, Fault>
     ensures { WritesLines (W.contents out.old) (W.contents out.new) result
-        (IsLine (charsets_with tables.now) (origin_of origin.now) raw.now) }
+        (IsLine (reading_of reading.entry) (origin_of origin.now) raw.now) }
 {
-    match parse_mail_with(alloc, raw, tables) {
+    match parse_mail_with(alloc, raw, reading.tables) {
         Ok(mail) => {
-            write_mail(alloc, out, &mail, origin, tables)?;
+            write_mail(alloc, out, &mail, origin, reading)?;
             write_word(out, "\n")?;
             Ok(true)
         }

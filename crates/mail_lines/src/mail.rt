@@ -10,22 +10,26 @@ ghost use Rattle.mail_lines.specs.Mail.{IsMailText, date_fault_text, date_text, 
 ghost use Rattle.mail_lines.specs.Mail.{ids_text, raw_text, raw_value_text, value_text, values_text};
 ghost use Rattle.mail_lines.specs.Mail.{zone_text};
 ghost use Rattle.mail_lines.specs.Origin.{origin_of};
+ghost use Rattle.mail_lines.specs.Reading.{reading_of};
 ghost use Rattle.mail_lines.specs.Strings.{seconds_text};
 ghost use Rattle.mail_lines.specs.Written.{Writes, WritesOne};
 
+use crate::addresses::write_addresses;
 use crate::fields::{ids_of, value_of};
+use crate::inside::{write_forwarded, write_inside};
 use crate::origin::{Origin, write_origin};
 use crate::part::write_parts;
+use crate::reading::Reading;
 use crate::strings::{write_optional, write_text, write_texts, write_word};
 use mail_codec::charset::decode_latin1;
+use mail_data::inner_mails::inner_mails;
 use mail_data::lenient::{DateError, date_in};
 use mail_program::Fault;
 use mailparse::{MailHeaderMap, ParsedMail, SingleByteTable};
 use std::alloc::Global;
 use std::io::Write;
 
-/// Writes the object of a mail from there, where texts may also be in the charsets of some tables. It
-/// is a mail as it was parsed.
+/// Writes the object of a mail from there. It is a mail as it was parsed.
 ///
 /// # Errors
 ///
@@ -36,20 +40,24 @@ pub fn write_mail<W: Write>(
     out: &mut W,
     mail: &ParsedMail<'_>,
     origin: &Origin<'_>,
-    tables: &[SingleByteTable<'_>],
+    reading: Reading<'_>,
 ) -> Result<(), Fault>
     requires placed { placements_of mail.now ≡ placements 0 (tree_of mail.now) }
     ensures { WritesOne (W.contents out.old) (W.contents out.new) result
-        (IsMailText (charsets_with tables.now) (origin_of origin.now) (tree_of mail.now)) }
+        (IsMailText (reading_of reading.entry) (origin_of origin.now) (tree_of mail.now)) }
 {
     write_origin(alloc, out, origin)?;
-    write_values(alloc, out, mail, tables)?;
+    write_values(alloc, out, mail, reading.tables)?;
     write_raw(alloc, out, mail)?;
-    write_date(alloc, out, mail, tables)?;
-    write_ids(alloc, out, mail, tables)?;
+    write_date(alloc, out, mail, reading.tables)?;
+    write_ids(alloc, out, mail, reading.tables)?;
+    let inside = inner_mails(alloc, mail, reading.tables)?;
     write_word(out, ",\"parts\":[")?;
-    write_parts(alloc, out, mail, origin.start, tables)?;
-    write_word(out, "]}")
+    write_parts(alloc, out, mail, origin.start, reading)?;
+    write_inside(alloc, out, inside.as_slice(), origin.start, reading)?;
+    write_word(out, "]")?;
+    write_forwarded(alloc, out, inside.as_slice(), origin.start)?;
+    write_word(out, "}")
 }
 
 /// Writes the members that are values of headers.
@@ -63,10 +71,7 @@ fn write_values<W: Write>(
         (values_text (charsets_with tables.now) (root (tree_of mail.now))) }
 {
     write_value(alloc, out, ",\"subject\":", mail, "Subject", tables)?;
-    write_value(alloc, out, ",\"from\":", mail, "From", tables)?;
-    write_value(alloc, out, ",\"to\":", mail, "To", tables)?;
-    write_value(alloc, out, ",\"cc\":", mail, "Cc", tables)?;
-    write_value(alloc, out, ",\"reply_to\":", mail, "Reply-To", tables)
+    write_addresses(alloc, out, mail, tables)
 }
 
 /// Writes the value of the first header with this name, after these words.
@@ -94,7 +99,9 @@ fn write_raw<W: Write>(alloc: Global, out: &mut W, mail: &ParsedMail<'_>) -> Res
     write_raw_value(alloc, out, ",\"raw\":{\"from\":", mail, "From")?;
     write_raw_value(alloc, out, ",\"to\":", mail, "To")?;
     write_raw_value(alloc, out, ",\"cc\":", mail, "Cc")?;
+    write_raw_value(alloc, out, ",\"bcc\":", mail, "Bcc")?;
     write_raw_value(alloc, out, ",\"reply_to\":", mail, "Reply-To")?;
+    write_raw_value(alloc, out, ",\"sender\":", mail, "Sender")?;
     write_word(out, "}")
 }
 

@@ -33,7 +33,7 @@ pub fn write_origin<W: Write>(alloc: Global, out: &mut W, origin: &Origin<'_>) -
     ensures { Writes (W.contents out.old) (W.contents out.new) result
         (origin_text (origin_of origin.now)) }
 {
-    write_word(out, "{\"schema\":3,\"file\":")?;
+    write_word(out, "{\"schema\":4,\"file\":")?;
     write_name(alloc, out, origin.file)?;
     write_word(out, ",\"number\":")?;
     write_number_or_null(out, origin.number)?;
@@ -49,7 +49,11 @@ fn write_bounds<W: Write>(out: &mut W, start: usize, end: usize) -> Result<(), F
 }
 
 /// Writes a number, or `null` where there is none.
-fn write_number_or_null<W: Write>(out: &mut W, number: Option<usize>) -> Result<(), Fault>
+///
+/// # Errors
+///
+/// `Fault::Output` where a write fails.
+pub fn write_number_or_null<W: Write>(out: &mut W, number: Option<usize>) -> Result<(), Fault>
     ensures { Writes (W.contents out.old) (W.contents out.new) result (number_or_null number) }
 {
     match number {
@@ -59,7 +63,11 @@ fn write_number_or_null<W: Write>(out: &mut W, number: Option<usize>) -> Result<
 }
 
 /// Writes a number.
-fn write_number<W: Write>(out: &mut W, number: usize) -> Result<(), Fault>
+///
+/// # Errors
+///
+/// `Fault::Output` where a write fails.
+pub fn write_number<W: Write>(out: &mut W, number: usize) -> Result<(), Fault>
     ensures { Writes (W.contents out.old) (W.contents out.new) result (number_text number) }
 {
     write!(out, "{number}")?;
@@ -101,7 +109,7 @@ pub fn write_error<W: Write>(
 ///
 /// let mut out = Vec::new(alloc);
 /// write_unread(alloc, &mut out, Some("in.eml"), "it is a folder")?;
-/// let text = "{\"schema\":3,\"file\":\"in.eml\",\"number\":null,\"start\":null,\"end\":null,";
+/// let text = "{\"schema\":4,\"file\":\"in.eml\",\"number\":null,\"start\":null,\"end\":null,";
 /// assert!(rt; out.as_slice().starts_with(text.as_bytes()));
 /// assert!(rt; out.as_slice().ends_with(b"\"error\":\"it is a folder\"}\n"));
 /// ```
@@ -114,7 +122,7 @@ pub fn write_unread<W: Write>(
     ensures { Writes (W.contents out.old) (W.contents out.new) result
         (unread_line (option_map (λ name. name.now) file.entry) error.now) }
 {
-    write_word(out, "{\"schema\":3,\"file\":")?;
+    write_word(out, "{\"schema\":4,\"file\":")?;
     write_name(alloc, out, file)?;
     write_word(
         out,

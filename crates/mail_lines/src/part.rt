@@ -1,33 +1,39 @@
 //! The objects of the parts.
-ghost use Rattle.std.specs.Prelude.{◌≡◌, ℕ, List, IfOk};
+ghost use Rattle.std.specs.Prelude.{◌&&◌, ◌≡◌, ℕ, List, IfOk, Some, true, false};
 ghost use Rattle.std.specs.Cow.{cow_slice_items};
 ghost use Rattle.mail_codec.specs.Tables.{charsets_with};
 ghost use Rattle.mailparse.specs.Body.{BodyKind, decoded};
-ghost use Rattle.mailparse.specs.BodyViews.{Content};
+ghost use Rattle.mailparse.specs.BodyViews.{Content, content_of};
 ghost use Rattle.mailparse.specs.Mail.{root};
 ghost use Rattle.mailparse.specs.Outcome.{AnswersOrMemory, IsMemory};
 ghost use Rattle.mailparse.specs.Views as views;
 ghost use Rattle.mailparse.specs.Views.{content_type, placements_of, tree_of};
 ghost use Rattle.mail_data.specs.PartPlaces.{places};
 ghost use Rattle.mail_data.specs.lenient.Base64.{base64_front};
+ghost use Rattle.mail_data.specs.lenient.Encoding.{lenient_body_kind};
 ghost use Rattle.mail_data.specs.PlaceViews.{place_view};
 ghost use Rattle.mail_lines.specs.Body.{decoded_size};
 ghost use Rattle.mail_lines.specs.Part.{AreJoined, IsPartText, IsTypeText, body_text, damaged_text};
-ghost use Rattle.mail_lines.specs.Part.{shown_text};
+ghost use Rattle.mail_lines.specs.Part.{hash_of, place_in, sha256_text, shown_text};
+ghost use Rattle.mail_lines.specs.Reading.{reading_of};
+ghost use Rattle.mail_program.specs.Hash.{hash_text};
 ghost use Rattle.mail_lines.specs.Part.{disposition_text, flag_text, header_text, headers_text};
 ghost use Rattle.mail_lines.specs.Part.{is_attachment, is_read, parameter_text, place_text, size_text};
 ghost use Rattle.mail_lines.specs.Written.{Writes, WritesOne};
 
 use crate::body::{decoded, encoding_name};
 use crate::fields::{disposition_name, refusal_text};
+use crate::origin::{write_number, write_number_or_null};
+use crate::reading::Reading;
 use crate::strings::{
     write_comma, write_name, write_optional, write_owned, write_text, write_word,
 };
 use mail_data::files::{describes_attachment, is_attachment_disposition, is_leaf, named_file};
+use mail_data::flowed::flowed_text;
 use mail_data::lenient::{base64_front, charset_used, lenient_body, lenient_text};
 use mail_data::places::{Place, places};
 use mail_data::texts::text_type;
-use mail_program::Fault;
+use mail_program::{Fault, sha256_text};
 use mailparse::{
     MailHeader, MailParseError, ParsedContentDisposition, ParsedContentType, ParsedMail,
     SingleByteTable,
@@ -37,7 +43,7 @@ use std::borrow::CowSlice;
 use std::io::Write;
 
 /// Writes the objects of a mail that begins at this offset of the input and of its parts, a comma
-/// between two.
+/// between two; those of the mails inside it are not among them.
 ///
 /// # Errors
 ///
@@ -48,58 +54,74 @@ pub fn write_parts<W: Write>(
     out: &mut W,
     mail: &ParsedMail<'_>,
     start: usize,
-    tables: &[SingleByteTable<'_>],
+    reading: Reading<'_>,
 ) -> Result<(), Fault>
     ensures { WritesOne (W.contents out.old) (W.contents out.new) result
-        (AreJoined (IsPartText (charsets_with tables.now) start)
+        (AreJoined (IsPartText (reading_of reading.entry) (Some start))
         (places (tree_of mail.now) (placements_of mail.now))) }
 {
     let found = places(alloc, mail)?;
     let mut is_first = true;
     for place in &found {
         write_comma(out, is_first)?;
-        write_part(alloc, out, place, start, tables)?;
+        write_part(alloc, out, place, Some(start), reading)?;
         is_first = false;
     }
     Ok(())
 }
 
-/// Writes the object of a part, without its parts.
-fn write_part<W: Write>(
+/// Writes the object of a part, without its parts. The mail begins there, if it stands in the input.
+///
+/// # Errors
+///
+/// `Fault::Output` where a write fails, and `Fault::Mail` with `MailParseError::Memory` where it runs
+/// out of memory.
+pub fn write_part<W: Write>(
     alloc: Global,
     out: &mut W,
     place: &Place<'_, '_>,
-    start: usize,
-    tables: &[SingleByteTable<'_>],
+    start: Option<usize>,
+    reading: Reading<'_>,
 ) -> Result<(), Fault>
     ensures { WritesOne (W.contents out.old) (W.contents out.new) result
-        (IsPartText (charsets_with tables.now) start (place_view place.now)) }
+        (IsPartText (reading_of reading.entry) start (place_view place.now)) }
 {
     let part = place.part;
     write_word(out, "{\"path\":")?;
     write_text(alloc, out, place.path.as_str())?;
     write_type(alloc, out, &part.ctype)?;
-    let disposition = part.get_content_disposition_with(alloc, tables)?;
+    let disposition = part.get_content_disposition_with(alloc, reading.tables)?;
     let is_attachment = is_attachment(alloc, part, &disposition)?;
     write_disposition(alloc, out, part, &disposition, is_attachment)?;
     let body = lenient_body(alloc, part)?;
-    let begin = start.saturating_add(place.byte_range.start);
-    let end = start.saturating_add(place.byte_range.end);
+    let begin = place_in(start, place.byte_range.start);
+    let end = place_in(start, place.byte_range.end);
     write_place(out, encoding_name(&body), begin, end, body.get_raw().len())?;
     let bytes = decoded(alloc, &body);
     write_decoded_size(alloc, out, &bytes)?;
-    write_headers(alloc, out, part.headers.as_slice(), tables)?;
+    let is_hashed = is_hashed(reading.hashes, is_attachment);
+    write_hash(alloc, out, &bytes, body.get_raw(), is_hashed)?;
+    write_headers(alloc, out, part.headers.as_slice(), reading.tables)?;
     let is_read = is_read(part, &disposition);
-    write_body_text(
-        alloc,
-        out,
-        bytes,
-        body.get_raw(),
-        &part.ctype,
-        is_read,
-        tables,
-    )?;
+    write_part_text(alloc, out, bytes, body.get_raw(), part, is_read, reading)?;
     write_word(out, "}")
+}
+
+/// Whether a part has its hash: where hashes are asked for, a file has.
+fn is_hashed(hashes: bool, is_attachment: bool) -> bool
+    ensures { result ≡ (hashes && is_attachment) }
+{
+    hashes && is_attachment
+}
+
+/// A place in the input, by where the mail begins in which it is counted.
+fn place_in(start: Option<usize>, at: usize) -> Option<usize>
+    ensures { result ≡ place_in start at }
+{
+    match start {
+        Some(start) => Some(start.saturating_add(at)),
+        None => None,
+    }
 }
 
 /// Whether the body of a part is a text that is to be read.
@@ -115,18 +137,21 @@ fn is_read(part: &ParsedMail<'_>, disposition: &ParsedContentDisposition) -> boo
 fn write_place<W: Write>(
     out: &mut W,
     encoding: &str,
-    start: usize,
-    end: usize,
+    start: Option<usize>,
+    end: Option<usize>,
     size: usize,
 ) -> Result<(), Fault>
     ensures { Writes (W.contents out.old) (W.contents out.new) result
         (place_text encoding.now start end size) }
 {
-    write!(
-        out,
-        ",\"encoding\":\"{encoding}\",\"start\":{start},\"end\":{end},\"size\":{size}"
-    )?;
-    Ok(())
+    write_word(out, ",\"encoding\":\"")?;
+    write_word(out, encoding)?;
+    write_word(out, "\",\"start\":")?;
+    write_number_or_null(out, start)?;
+    write_word(out, ",\"end\":")?;
+    write_number_or_null(out, end)?;
+    write_word(out, ",\"size\":")?;
+    write_number(out, size)
 }
 
 /// Writes the type, its charset and its parameters.
@@ -231,6 +256,87 @@ fn write_decoded_size<W: Write>(
     }
 }
 
+/// Writes the hash of what can be read of a body, or `null` where it is not wanted.
+fn write_hash<W: Write>(
+    alloc: Global,
+    out: &mut W,
+    bytes: &Result<CowSlice<'_, u8>, MailParseError>,
+    raw: &[u8],
+    is_wanted: bool,
+) -> Result<(), Fault>
+    ensures { (kind : BodyKind) →
+        AnswersOrMemory cow_slice_items bytes.now (decoded kind raw.now) →
+        Writes (W.contents out.old) (W.contents out.new) result
+        (sha256_text (hash_of is_wanted kind raw.now)) }
+{
+    if !is_wanted {
+        return write_word(out, ",\"sha256\":null");
+    }
+    match bytes {
+        Ok(decoded) => write_sha256(alloc, out, decoded.as_slice()),
+        Err(error) => {
+            let front = front_bytes(alloc, error, raw)?;
+            write_sha256(alloc, out, front.as_slice())
+        }
+    }
+}
+
+/// Writes the member of the hash of bytes.
+fn write_sha256<W: Write>(alloc: Global, out: &mut W, bytes: &[u8]) -> Result<(), Fault>
+    ensures { Writes (W.contents out.old) (W.contents out.new) result
+        (sha256_text (Some (hash_text bytes.now))) }
+{
+    let text = sha256_text(alloc, bytes)?;
+    write_word(out, ",\"sha256\":")?;
+    write_owned(alloc, out, text)
+}
+
+/// Writes the members of the text of a part that is to be read, or `null` where it is not to be.
+fn write_part_text<W: Write>(
+    alloc: Global,
+    out: &mut W,
+    bytes: Result<CowSlice<'_, u8>, MailParseError>,
+    raw: &[u8],
+    part: &ParsedMail<'_>,
+    is_read: bool,
+    reading: Reading<'_>,
+) -> Result<(), Fault>
+    ensures { AnswersOrMemory cow_slice_items bytes.entry
+        (decoded (lenient_body_kind (root (tree_of part.now))) (root (tree_of part.now)).body) →
+        (root (tree_of part.now)).body ≡ raw.now →
+        Writes (W.contents out.old) (W.contents out.new) result
+        (body_text (charsets_with reading.entry.tables.now) reading.entry.joins_flowed is_read
+        (lenient_body_kind (root (tree_of part.now))) (content_of (root (tree_of part.now)))) }
+{
+    if reading.joins_flowed {
+        return write_flowed(alloc, out, part, is_read, reading.tables);
+    }
+    write_body_text(alloc, out, bytes, raw, &part.ctype, is_read, reading.tables)
+}
+
+/// Does what `write_part_text` does, with each paragraph that flows as one line.
+fn write_flowed<W: Write>(
+    alloc: Global,
+    out: &mut W,
+    part: &ParsedMail<'_>,
+    is_read: bool,
+    tables: &[SingleByteTable<'_>],
+) -> Result<(), Fault>
+    ensures { Writes (W.contents out.old) (W.contents out.new) result
+        (body_text (charsets_with tables.now) true is_read
+        (lenient_body_kind (root (tree_of part.now))) (content_of (root (tree_of part.now)))) }
+{
+    if !is_read {
+        return write_word(out, ",\"text\":null");
+    }
+    let read = flowed_text(alloc, part, tables)?;
+    write_word(out, ",\"text\":")?;
+    write_text(alloc, out, read.text.as_str())?;
+    write_word(out, ",\"text_charset\":")?;
+    write_text(alloc, out, read.charset.as_str())?;
+    write_word(out, damaged_text(read.is_damaged))
+}
+
 /// Writes the members of the text of a body that is to be read, or `null` where it is not to be.
 fn write_body_text<W: Write>(
     alloc: Global,
@@ -245,7 +351,7 @@ fn write_body_text<W: Write>(
         AnswersOrMemory cow_slice_items bytes.entry (decoded kind given.raw) →
         given.raw ≡ raw.now → given.ctype ≡ content_type ctype.now →
         Writes (W.contents out.old) (W.contents out.new) result
-        (body_text (charsets_with tables.now) is_read kind given) }
+        (body_text (charsets_with tables.now) false is_read kind given) }
 {
     if !is_read {
         return write_word(out, ",\"text\":null");

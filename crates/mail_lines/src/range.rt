@@ -1,16 +1,16 @@
 //! The lines of a part of a file: of the mails of a mailbox that begin in it.
 ghost use Rattle.std.specs.Prelude.{◌*◌, ◌-◌, ◌/◌, ◌<◌, ◌≡◌, ◌≤◌, List, length, option_map, ℕ};
-ghost use Rattle.mail_codec.specs.Tables.{charsets_with};
+ghost use Rattle.mail_lines.specs.Reading.{reading_of};
 ghost use Rattle.mail_data.specs.MailboxParts.{part_start};
 ghost use Rattle.mail_lines.specs.Range.{AreFirstLines, AreRangeLinesAt, ShowsMailbox, WritesPart};
 ghost use Rattle.mail_lines.specs.Range.{reading_start};
 
 use crate::chosen::{Form, Next, Which};
 use crate::lines::write_mails;
+use crate::reading::Reading;
 use crate::stream::{Wanted, Watch, is_mailbox, read_until, write_chosen, write_rest};
 use mail_data::mailbox::formats::{Format, read_mailbox_in};
 use mail_program::Fault;
-use mailparse::SingleByteTable;
 use std::alloc::Global;
 use std::io::{Read, Write};
 
@@ -123,13 +123,14 @@ pub fn shows_mailbox<R: Read>(alloc: Global, reader: &mut R, form: Form) -> Resu
 ///
 /// ```rust
 /// use mail_lines::range::write_first_part;
-/// use mail_lines::{Form, Unwatched};
+/// use mail_lines::{Form, Reading, Unwatched};
 ///
 /// let mut reader = b"From a@b Fri Jul  8 12:08:34 2011\nA: 1\n\nFrom a@b Fri Jul  8 12:08:34 2011\n"
 ///     .as_slice();
 /// let mut out = Vec::new(alloc);
-/// let watch = &mut Unwatched;
-/// assert!(rt; write_first_part(alloc, &mut reader, Form::Either, 40, None, &mut out, &[], watch)?);
+/// let (reading, watch) = (Reading::new(&[]), &mut Unwatched);
+/// let form = Form::Either;
+/// assert!(rt; write_first_part(alloc, &mut reader, form, 40, None, &mut out, reading, watch)?);
 /// assert_eq!(rt; out.as_slice().iter().filter(|byte| **byte == b'\n').count(), 1);
 /// ```
 pub fn write_first_part<R: Read, W: Write, M: Watch>(
@@ -139,15 +140,15 @@ pub fn write_first_part<R: Read, W: Write, M: Watch>(
     to: usize,
     file: Option<&str>,
     out: &mut W,
-    tables: &[SingleByteTable<'_>],
+    reading: Reading<'_>,
     watch: &mut M,
 ) -> Result<bool, Fault>
     ensures { WritesPart (R.remaining reader.old) (R.remaining reader.new)
         (W.contents out.old) (W.contents out.new) result (AreFirstLines
-        (charsets_with tables.now) form (option_map (λ name. name.now) file.entry) to) }
+        (reading_of reading.entry) form (option_map (λ name. name.now) file.entry) to) }
 {
     let which = Which::Within(0, to);
-    write_chosen(alloc, reader, form, which, file, out, tables, watch)
+    write_chosen(alloc, reader, form, which, file, out, reading, watch)
 }
 
 /// Writes the lines of the mails of a mailbox in a format that begin in a range, where the reader
@@ -162,17 +163,18 @@ pub fn write_first_part<R: Read, W: Write, M: Watch>(
 ///
 /// ```rust
 /// use mail_data::mailbox::formats::Format;
-/// use mail_lines::Unwatched;
+/// use mail_lines::{Reading, Unwatched};
 /// use mail_lines::range::{Range, write_range};
 ///
 /// let mailbox = b"From a@b Fri Jul  8 12:08:34 2011\nA: 1\n\nFrom a@b Fri Jul  8 12:08:34 2011\n";
 /// let range = Range { from: 20, to: 60 };
 /// let mut reader = &mailbox[range.reading_start()..];
 /// let mut out = Vec::new(alloc);
-/// let watch = &mut Unwatched;
-/// assert!(rt; write_range(alloc, &mut reader, Format::Plain, range, None, &mut out, &[], watch)?);
+/// let (reading, watch) = (Reading::new(&[]), &mut Unwatched);
+/// let format = Format::Plain;
+/// assert!(rt; write_range(alloc, &mut reader, format, range, None, &mut out, reading, watch)?);
 /// assert!(rt; out.as_slice().starts_with(
-///     b"{\"schema\":3,\"file\":null,\"number\":null,\"start\":74,"
+///     b"{\"schema\":4,\"file\":null,\"number\":null,\"start\":74,"
 /// ));
 /// ```
 pub fn write_range<R: Read, W: Write, M: Watch>(
@@ -182,12 +184,12 @@ pub fn write_range<R: Read, W: Write, M: Watch>(
     range: Range,
     file: Option<&str>,
     out: &mut W,
-    tables: &[SingleByteTable<'_>],
+    reading: Reading<'_>,
     watch: &mut M,
 ) -> Result<bool, Fault>
     ensures { WritesPart (R.remaining reader.old) (R.remaining reader.new)
         (W.contents out.old) (W.contents out.new) result (AreRangeLinesAt
-        (charsets_with tables.now) format (option_map (λ name. name.now) file.entry)
+        (reading_of reading.entry) format (option_map (λ name. name.now) file.entry)
         range.from range.to (reading_start range.from)) }
 {
     let mut read = Vec::new(alloc);
@@ -199,8 +201,10 @@ pub fn write_range<R: Read, W: Write, M: Watch>(
         at: range.reading_start().saturating_add(front.len()),
     };
     if has_ended {
-        return write_mails(alloc, mails, format, first, file, out, tables);
+        return write_mails(alloc, mails, format, first, file, out, reading);
     }
     let rest = &read[front.len()..];
-    write_rest(alloc, reader, rest, format, first, file, out, tables, watch)
+    write_rest(
+        alloc, reader, rest, format, first, file, out, reading, watch,
+    )
 }

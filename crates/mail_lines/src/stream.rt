@@ -1,6 +1,6 @@
 //! The lines of an input that is read in blocks.
 ghost use Rattle.std.specs.Prelude.{◌≡◌, ◌++◌, IfErr, IfOk, [], option_map, true};
-ghost use Rattle.mail_codec.specs.Tables.{charsets_with};
+ghost use Rattle.mail_lines.specs.Reading.{reading_of};
 ghost use Rattle.mail_data.specs.Mailbox.{has_front};
 ghost use Rattle.mail_data.specs.MailboxFormats.{entries_in};
 ghost use Rattle.mail_data.specs.MailboxParts.{placed_from};
@@ -13,10 +13,10 @@ ghost use Rattle.mail_lines.specs.Written.{IsEnd, Writes};
 
 use crate::chosen::{Form, Next, Which};
 use crate::lines::{write_entry, write_front, write_mailbox, write_mails, write_single};
+use crate::reading::Reading;
 use mail_data::mailbox::formats::{Format, read_mailbox_in, settled_entry_in};
 use mail_data::mailbox::{self, has_front, has_line};
 use mail_program::{Fault, read_more};
-use mailparse::SingleByteTable;
 use std::alloc::{AllocError, Global};
 use std::io::{self, ErrorKind, Read, Write};
 
@@ -77,14 +77,15 @@ struct Settled<'a> {
 /// # Examples
 ///
 /// ```rust
-/// use mail_lines::{Form, Unwatched, write_input};
+/// use mail_lines::{Form, Reading, Unwatched, write_input};
 ///
 /// let mut reader = b"From a@b Fri Jul  8 12:08:34 2011\nSubject: Hi\n\nHello\n".as_slice();
 /// let mut out = Vec::new(alloc);
+/// let reading = Reading::new(&[]);
 /// let is_clean =
-///     write_input(alloc, &mut reader, Form::Either, None, &mut out, &[], &mut Unwatched)?;
+///     write_input(alloc, &mut reader, Form::Either, None, &mut out, reading, &mut Unwatched)?;
 /// assert!(rt; is_clean);
-/// assert!(rt; out.as_slice().starts_with(b"{\"schema\":3,\"file\":null,\"number\":1,\"start\":34,"));
+/// assert!(rt; out.as_slice().starts_with(b"{\"schema\":4,\"file\":null,\"number\":1,\"start\":34,"));
 /// ```
 pub fn write_input<R: Read, W: Write, M: Watch>(
     alloc: Global,
@@ -92,15 +93,15 @@ pub fn write_input<R: Read, W: Write, M: Watch>(
     form: Form,
     file: Option<&str>,
     out: &mut W,
-    tables: &[SingleByteTable<'_>],
+    reading: Reading<'_>,
     watch: &mut M,
 ) -> Result<bool, Fault>
     ensures { WritesInput (R.remaining reader.old) (R.remaining reader.new)
         (W.contents out.old) (W.contents out.new) result (AreInputLines
-        (charsets_with tables.now) form (option_map (λ name. name.now) file.entry)) }
+        (reading_of reading.entry) form (option_map (λ name. name.now) file.entry)) }
 {
     let which = Which::Numbered(1);
-    write_chosen(alloc, reader, form, which, file, out, tables, watch)
+    write_chosen(alloc, reader, form, which, file, out, reading, watch)
 }
 
 /// Writes the lines of an input, of a mailbox those of the mails that are to have one, each as soon as
@@ -117,17 +118,17 @@ pub fn write_chosen<R: Read, W: Write, M: Watch>(
     which: Which,
     file: Option<&str>,
     out: &mut W,
-    tables: &[SingleByteTable<'_>],
+    reading: Reading<'_>,
     watch: &mut M,
 ) -> Result<bool, Fault>
     ensures { WritesChosen which (R.remaining reader.old) (R.remaining reader.new)
         (W.contents out.old) (W.contents out.new) result (AreInputChosen
-        (charsets_with tables.now) form (option_map (λ name. name.now) file.entry) which) }
+        (reading_of reading.entry) form (option_map (λ name. name.now) file.entry) which) }
 {
     let mut read = Vec::new(alloc);
     let has_ended = read_until(alloc, reader, &mut read, first_wanted(form))?;
     if has_ended {
-        return write_whole(alloc, read.as_slice(), form, which, file, out, tables);
+        return write_whole(alloc, read.as_slice(), form, which, file, out, reading);
     }
     if is_mailbox(form, read.as_slice()) {
         let format = format_of(form);
@@ -139,12 +140,12 @@ pub fn write_chosen<R: Read, W: Write, M: Watch>(
             which,
             file,
             out,
-            tables,
+            reading,
             watch,
         );
     }
     read_until(alloc, reader, &mut read, Wanted::End)?;
-    write_single(alloc, read.as_slice(), file, out, tables)
+    write_single(alloc, read.as_slice(), file, out, reading)
 }
 
 /// Writes the lines of an input that was read to its end. Returns whether there was no error.
@@ -155,16 +156,16 @@ fn write_whole<W: Write>(
     which: Which,
     file: Option<&str>,
     out: &mut W,
-    tables: &[SingleByteTable<'_>],
+    reading: Reading<'_>,
 ) -> Result<bool, Fault>
     ensures { WritesLines (W.contents out.old) (W.contents out.new) result
-        (AreInputChosen (charsets_with tables.now) form
+        (AreInputChosen (reading_of reading.entry) form
         (option_map (λ name. name.now) file.entry) which input.now) }
 {
     if is_mailbox(form, input) {
-        write_mailbox(alloc, input, format_of(form), which, file, out, tables)
+        write_mailbox(alloc, input, format_of(form), which, file, out, reading)
     } else {
-        write_single(alloc, input, file, out, tables)
+        write_single(alloc, input, file, out, reading)
     }
 }
 
@@ -255,13 +256,13 @@ fn write_following<R: Read, W: Write, M: Watch>(
     which: Which,
     file: Option<&str>,
     out: &mut W,
-    tables: &[SingleByteTable<'_>],
+    reading: Reading<'_>,
     watch: &mut M,
 ) -> Result<bool, Fault>
     requires { has_front read.now ≡ true }
     ensures { WritesChosen which (R.remaining reader.old) (R.remaining reader.new)
         (W.contents out.old) (W.contents out.new) result (λ more. AreMailboxChosen
-        (charsets_with tables.now) format (option_map (λ name. name.now) file.entry) which
+        (reading_of reading.entry) format (option_map (λ name. name.now) file.entry) which
         (read.now ++ more)) }
 {
     let front = read_mailbox_in(format, read).front();
@@ -271,7 +272,9 @@ fn write_following<R: Read, W: Write, M: Watch>(
         at: front.len(),
     };
     let rest = &read[front.len()..];
-    let are_read = write_rest(alloc, reader, rest, format, first, file, out, tables, watch)?;
+    let are_read = write_rest(
+        alloc, reader, rest, format, first, file, out, reading, watch,
+    )?;
     Ok(is_all_whitespace & are_read)
 }
 
@@ -291,12 +294,12 @@ pub fn write_rest<R: Read, W: Write, M: Watch>(
     first: Next,
     file: Option<&str>,
     out: &mut W,
-    tables: &[SingleByteTable<'_>],
+    reading: Reading<'_>,
     watch: &mut M,
 ) -> Result<bool, Fault>
     ensures { WritesChosen first.which (R.remaining reader.old) (R.remaining reader.new)
         (W.contents out.old) (W.contents out.new) result (λ more. AreChosen
-        (charsets_with tables.now) format (option_map (λ name. name.now) file.entry)
+        (reading_of reading.entry) format (option_map (λ name. name.now) file.entry)
         first.which (placed_from first.at (entries_in format (read.now ++ more)))) }
 {
     let mut is_clean = true;
@@ -309,10 +312,10 @@ pub fn write_rest<R: Read, W: Write, M: Watch>(
         let has_ended = read_until(alloc, reader, &mut pending, Wanted::FirstMail(format))?;
         if has_ended {
             let mails = read_mailbox_in(format, pending.as_slice());
-            let are_read = write_mails(alloc, mails, format, next, file, out, tables)?;
+            let are_read = write_mails(alloc, mails, format, next, file, out, reading)?;
             return Ok(is_clean & are_read);
         }
-        let settled = write_settled(alloc, pending.as_slice(), format, next, file, out, tables)?;
+        let settled = write_settled(alloc, pending.as_slice(), format, next, file, out, reading)?;
         flush(out)?;
         is_clean &= settled.is_clean;
         next = settled.next;
@@ -330,9 +333,9 @@ fn write_settled<'a, W: Write>(
     first: Next,
     file: Option<&str>,
     out: &mut W,
-    tables: &[SingleByteTable<'_>],
+    reading: Reading<'_>,
 ) -> Result<Settled<'a>, Fault>
-    ensures written { IfOk result (λ s. WritesSettled (charsets_with tables.now) format
+    ensures written { IfOk result (λ s. WritesSettled (reading_of reading.entry) format
         (option_map (λ name. name.now) file.entry) (W.contents out.old) (W.contents out.new)
         first.which first.at bytes.now s.next.which s.next.at s.rest.now s.is_clean) }
     ensures failed { IfErr result IsEnd }
@@ -341,7 +344,7 @@ fn write_settled<'a, W: Write>(
     let mut next = first;
     let mut is_clean = true;
     'mails: while let Some((entry, after)) = settled_entry_in(format, rest) {
-        let is_read = write_entry(alloc, &entry, format, next, file, out, tables)?;
+        let is_read = write_entry(alloc, &entry, format, next, file, out, reading)?;
         is_clean &= is_read;
         next = next.after(&entry);
         rest = after;

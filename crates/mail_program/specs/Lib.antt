@@ -1,3 +1,4 @@
 pub mod Fault
+pub mod Hash
 pub mod Outcome
 pub mod Streams

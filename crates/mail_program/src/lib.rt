@@ -3,10 +3,12 @@
 
 mod command;
 mod fault;
+mod hash;
 mod outcome;
 mod streams;
 
 pub use command::{VERSION, Word, arguments};
 pub use fault::Fault;
+pub use hash::sha256_text;
 pub use outcome::{Outcome, status_of};
 pub use streams::{read_input, read_more, write_output};

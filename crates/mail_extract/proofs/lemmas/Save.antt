@@ -17,7 +17,7 @@ use Rattle.mail_data.specs.PartPlaces.{Place}
 use Rattle.mail_extract.specs.Chosen.{is_saved}
 use Rattle.mail_extract.specs.Content.{Content}
 use Rattle.mail_extract.specs.Folder.{Creates, File, has_file}
-use Rattle.mail_extract.specs.Hash.{hash_text}
+use Rattle.mail_program.specs.Hash.{hash_text}
 use Rattle.mail_extract.specs.declared.folder.Created.{Created}
 use Rattle.mail_extract.specs.declared.folder.Created.TheVariants.{Taken}
 use Rattle.mail_extract.specs.Names.{IsNumbered}

@@ -2,7 +2,7 @@
 use Rattle.std.proofs.Common.{◌≡◌, ℕ, ℤ, zero, suc, Bool, true, false, List, [], ◌∷◌, ◌++◌, length, map, drop, take, Option, Some, None, Ok, Err, refl, sym, ap, subst, ◌∙◌, arith, append_assoc, append-nil}
 use Rattle.std.proofs.lemmas.Fmt.{decimal_digit}
 use Rattle.std.proofs.lemmas.Grind.{flat_map-append}
-use Rattle.std.specs.Prelude.{codes, option_map}
+use Rattle.std.specs.Prelude.{codes, option_map, ◌&&◌}
 use Rattle.std.specs.Cmp.Lexicographic.{slice_cmp}
 use Rattle.std.specs.List.{AllByRecursion}
 use Rattle.std.specs.List.Sorted.{IsStrictlySortedBy}
@@ -14,7 +14,7 @@ use Rattle.mailparse.specs.Body.{BodyKind, in_base64, in_quoted_printable, in_7b
 use Rattle.mailparse.specs.BodyViews.{content_of}
 use Rattle.mailparse.specs.Disposition.{Disposition}
 use Rattle.mailparse.specs.Header.{Header, key_text}
-use Rattle.mailparse.specs.Mail.{Node, Tree, root, shown_as_in, read_mail_in}
+use Rattle.mailparse.specs.Mail.{Forest, Node, Tree, tree, root, shown_as_in, read_mail_in}
 use Rattle.mailparse.specs.Map.{first_with_key}
 use Rattle.mailparse.specs.Placement.{placements}
 use Rattle.mailparse.specs.Refusal.{Reads}
@@ -28,16 +28,23 @@ use Rattle.mail_data.specs.declared.mailbox.formats.Format.{Format}
 use Rattle.mail_data.specs.lenient.Date.{Dated, Zoned, date_in}
 use Rattle.mail_data.specs.lenient.Encoding.{lenient_body_kind}
 use Rattle.mail_data.specs.lenient.Texts.{lenient_bytes, text_read}
+use Rattle.mail_address.specs.Addresses.{Element, Single, single, group}
+use Rattle.mail_address.specs.Headers.{addresses_of}
+use Rattle.mail_address.specs.Mailbox.{Parts}
+use Rattle.mail_lines.specs.Addresses.{addresses_text, canonical, element_text, group_text, mailbox_text, name_of, single_or_unknown, single_text, unknown_text, unless_empty}
 use Rattle.mail_lines.specs.Body.{encoding_text, decoded_size}
 use Rattle.mail_lines.specs.Fields.{refusal_text, disposition_name, value_of, ids_of}
+use Rattle.mail_data.specs.InnerMails.{InnerMail}
+use Rattle.mail_lines.specs.Inside.{AreInside, forwarded_text, inner_text, inside_start, mails_inside, parts_inside}
 use Rattle.mail_lines.specs.Mail.{IsMailText, date_text, date_fault_text, ids_text, raw_text, values_text, zone_text}
-use Rattle.mail_lines.specs.Part.{AreAfterCommas, AreJoined, IsPartText, body_text, disposition_text, flag_text, header_text, headers_text, is_attachment, is_read, parameter_text, part_text, place_text, saturating_add, size_text, text_text, type_text}
+use Rattle.mail_lines.specs.Part.{AreAfterCommas, AreJoined, IsPartText, body_text, disposition_text, flag_text, hash_of, header_text, headers_text, is_attachment, is_read, parameter_text, part_text, place_in, place_text, sha256_text, size_text, text_shown, text_text, type_text}
 use Rattle.mail_lines.specs.Chosen.{AreChosenOf, OnlyIf}
 use Rattle.mail_lines.specs.Lines.{AreLines, AreMailboxLines, IsFront, IsLineOf, format_of, is_mailbox, origin_at}
 use Rattle.mail_lines.specs.Origin.{Origin, error_line, number_or_null, origin_text, unread_line}
+use Rattle.mail_lines.specs.Reading.{Reading}
 use Rattle.mail_lines.specs.Range.{ArePartLines, placed_in}
 use Rattle.mail_lines.specs.Strings.{json_text, number_text, seconds_text, text_or_null, json_texts, after_commas, joined}
-use Rattle.mail_lines.specs.Values.{AreJsonLines, AreValues, IsJsonLine, IsLineValue, IsMailValue, IsPartValue, content_members, date_members, disposition_members, error_value, file_members, front_members, header_value, headers_member, ids_members, list_of, mail_members, number_or_null_value, number_value, object_of, one, origin_members, parameter_member, part_members, place_members, raw_members, seconds_value, size_members, string_or_null, strings, text_members, type_members, unread_value, values_members, zone_members}
+use Rattle.mail_lines.specs.Values.{AreInsideValues, AreJsonLines, AreValues, IsJsonLine, IsLineValue, IsMailValue, IsPartValue, addresses_members, content_members, date_members, disposition_members, element_value, error_value, file_members, forwarded_members, front_members, group_value, header_value, headers_member, ids_members, inner_value, list_of, mail_members, mailbox_value, number_or_null_value, number_value, object_of, one, origin_members, parameter_member, part_members, place_members, raw_members, seconds_value, sha256_members, single_or_unknown_value, single_value, size_members, string_or_null, strings, text_members, type_members, unknown_value, unread_value, values_members, zone_members}
 use Rattle.mail_lines.specs.declared.chosen.Which.TheVariants.{Within}
 use Rattle.mail_lines.specs.declared.chosen.Form.{Form}
 use Rattle.mail_lines.proofs.lemmas.Strings.{number_text-fits}
@@ -103,16 +110,20 @@ encoding_written d kind = subst (IsWritten d (string (encoding_text kind))) (quo
     quoted_kind in_8bit = json_text-plain (codes "8bit") refl
     quoted_kind in_binary = json_text-plain (codes "binary") refl
 
-place_written : (d : ℕ) (kind : BodyKind) (start end size : ℕ)
+number_or_null_written : (d : ℕ) (n : Option ℕ) → IsWritten d (number_or_null_value n) (number_or_null n)
+number_or_null_written d (Some n) = number_written d n
+number_or_null_written d None = null_written d
+
+place_written : (d : ℕ) (kind : BodyKind) (start end : Option ℕ) (size : ℕ)
     → AreWritten d (place_members kind start end size) (place_text (encoding_text kind) start end size)
 place_written d kind start end size =
     let name = encoding_text kind in
     let words = codes ",\"encoding\":\"" ++ name in
     let encoding = enclosed_written d [] [] (codes "encoding") refl (string name) (34 ∷ []) name (34 ∷ []) (record { same = refl; good = tt }) (encoding_written d kind) in
-    let first = more_written d _ _ (codes "start") refl (number_value start) (number_text start) encoding (number_written d start) in
-    let two = one (codes "encoding") (string name) ++ one (codes "start") (number_value start) in
-    let grouped = subst (λ (t : List ℕ). AreWritten d two (t ++ number_text start)) (append_assoc words (34 ∷ []) (before_value (codes "start"))) first in
-    let second = more_written d _ _ (codes "end") refl (number_value end) (number_text end) grouped (number_written d end) in
+    let first = more_written d _ _ (codes "start") refl (number_or_null_value start) (number_or_null start) encoding (number_or_null_written d start) in
+    let two = one (codes "encoding") (string name) ++ one (codes "start") (number_or_null_value start) in
+    let grouped = subst (λ (t : List ℕ). AreWritten d two (t ++ number_or_null start)) (append_assoc words (34 ∷ []) (before_value (codes "start"))) first in
+    let second = more_written d _ _ (codes "end") refl (number_or_null_value end) (number_or_null end) grouped (number_or_null_written d end) in
     more_written d _ _ (codes "size") refl (number_value size) (number_text size) second (number_written d size)
 
 size_written : (d : ℕ) (size : Reads ℕ) → AreWritten d (size_members size) (size_text size)
@@ -121,6 +132,9 @@ size_written d (Err refusal) =
     let why = refusal_text refusal in
     let size = one_written d (codes "decoded_size") refl null (codes "null") (null_written d) in
     more_written d _ _ (codes "error") refl (string why) (json_text why) size (string_written d why)
+
+sha256_written : (d : ℕ) (hash : Option (List ℕ)) → AreWritten d (sha256_members hash) (sha256_text hash)
+sha256_written d hash = one_written d (codes "sha256") refl (string_or_null hash) (text_or_null hash) (optional_written d hash)
 
 text_written : (d : ℕ) (shows : Bool) (text charset : List ℕ) (is_damaged : Bool)
     → AreWritten d (text_members shows text charset is_damaged) (text_text shows text charset is_damaged)
@@ -137,15 +151,11 @@ text_written d true text charset true =
 
 -- ---- where a line is from
 
-file_written : (d : ℕ) (file : Option (List ℕ)) → AreWritten d (file_members file) (codes ",\"schema\":3,\"file\":" ++ text_or_null file)
+file_written : (d : ℕ) (file : Option (List ℕ)) → AreWritten d (file_members file) (codes ",\"schema\":4,\"file\":" ++ text_or_null file)
 file_written d file =
-    let three = subst (IsWritten d (number_value 3)) (sym (number_text-fits 3 (omega arith)) ∙ decimal_digit 3 (omega arith)) (number_written d 3) in
-    let schema = one_written d (codes "schema") refl (number_value 3) (codes "3") three in
+    let four = subst (IsWritten d (number_value 4)) (sym (number_text-fits 4 (omega arith)) ∙ decimal_digit 4 (omega arith)) (number_written d 4) in
+    let schema = one_written d (codes "schema") refl (number_value 4) (codes "4") four in
     more_written d _ _ (codes "file") refl (string_or_null file) (text_or_null file) schema (optional_written d file)
-
-number_or_null_written : (d : ℕ) (n : Option ℕ) → IsWritten d (number_or_null_value n) (number_or_null n)
-number_or_null_written d (Some n) = number_written d n
-number_or_null_written d None = null_written d
 
 -- the members of an origin, each after a comma
 abbrev origin_commas : Origin → List ℕ
@@ -171,9 +181,12 @@ raw_written d node =
     let member = λ (name key : List ℕ) (plain : are_plain name ≡ true). one_written d name plain (string_or_null (value key)) (text_or_null (value key))
     (optional_written d (value key)) in
     let text : List ℕ = codes ",\"from\":" ++ text_or_null (value (codes "From")) ++ (codes ",\"to\":" ++ text_or_null (value (codes "To")))
-    ++ (codes ",\"cc\":" ++ text_or_null (value (codes "Cc"))) ++ (codes ",\"reply_to\":" ++ text_or_null (value (codes "Reply-To"))) in
-    let members = then_written d _ _ _ _ (then_written d _ _ _ _ (then_written d _ _ _ _ (member (codes "from") (codes "From") refl)
-    (member (codes "to") (codes "To") refl)) (member (codes "cc") (codes "Cc") refl)) (member (codes "reply_to") (codes "Reply-To") refl) in
+    ++ (codes ",\"cc\":" ++ text_or_null (value (codes "Cc"))) ++ (codes ",\"bcc\":" ++ text_or_null (value (codes "Bcc")))
+    ++ (codes ",\"reply_to\":" ++ text_or_null (value (codes "Reply-To"))) ++ (codes ",\"sender\":" ++ text_or_null (value (codes "Sender"))) in
+    let receivers = then_written d _ _ _ _ (then_written d _ _ _ _ (then_written d _ _ _ _ (member (codes "from") (codes "From") refl)
+    (member (codes "to") (codes "To") refl)) (member (codes "cc") (codes "Cc") refl)) (member (codes "bcc") (codes "Bcc") refl) in
+    let members = then_written d _ _ _ _ (then_written d _ _ _ _ receivers (member (codes "reply_to") (codes "Reply-To") refl))
+    (member (codes "sender") (codes "Sender") refl) in
     one_written (suc d) (codes "raw") refl (object_of (raw_members node)) (123 ∷ (drop 1 text ++ (125 ∷ [])))
     (object_written d (raw_members node) text members (distinct_names (names (raw_members node)) refl))
 
@@ -193,89 +206,144 @@ module _ (known : Charsets) where
       enclosed_written (suc (suc d)) [] [] (codes "headers") refl (list_of (map (header_value known) headers)) (91 ∷ []) (joined (header_text known) headers) (93 ∷ [])
       (record { same = refl; good = tt }) (mapped_written (suc d) (header_value known) (header_text known) (header_written d) headers)
 
+module _ (reading : Reading) where
   -- no name comes twice, whether the size is known or not, and whatever is said of the text
-  part_distinct : (start : ℕ) (place : Place) (pairs : List (List ℕ × List ℕ)) (size : Reads ℕ) (shows : Bool) (text charset : List ℕ) (is_damaged : Bool)
-      → all_distinct (names (front_members known start place pairs ++ size_members size ++ (headers_member known place ++ text_members shows text charset is_damaged))) ≡ true
-  part_distinct start place pairs (Ok size) false text charset is_damaged = refl
-  part_distinct start place pairs (Ok size) true text charset true = refl
-  part_distinct start place pairs (Ok size) true text charset false = refl
-  part_distinct start place pairs (Err refusal) false text charset is_damaged = refl
-  part_distinct start place pairs (Err refusal) true text charset true = refl
-  part_distinct start place pairs (Err refusal) true text charset false = refl
+  part_distinct : (start : Option ℕ) (place : Place) (pairs : List (List ℕ × List ℕ)) (size : Reads ℕ) (hash : Option (List ℕ)) (shows : Bool)
+      (text charset : List ℕ) (is_damaged : Bool)
+      → all_distinct (names (front_members reading.known start place pairs ++ size_members size
+      ++ (sha256_members hash ++ headers_member reading.known place ++ text_members shows text charset is_damaged))) ≡ true
+  part_distinct start place pairs (Ok size) hash false text charset is_damaged = refl
+  part_distinct start place pairs (Ok size) hash true text charset true = refl
+  part_distinct start place pairs (Ok size) hash true text charset false = refl
+  part_distinct start place pairs (Err refusal) hash false text charset is_damaged = refl
+  part_distinct start place pairs (Err refusal) hash true text charset true = refl
+  part_distinct start place pairs (Err refusal) hash true text charset false = refl
 
   -- the members of a part, each after a comma
-  part_commas : (start : ℕ) (place : Place) (pairs : List (List ℕ × List ℕ)) → IsStrictlySortedBy (slice_cmp nat_cmp) (map (λ p. p.0) pairs)
-      → (text : List ℕ) × AreWritten 2 (part_members known start place pairs) text
-      × (123 ∷ (drop 1 text ++ (125 ∷ [])) ≡ part_text known start place (type_text (root place.part).ctype.mimetype (root place.part).ctype.charset pairs))
+  part_commas : (start : Option ℕ) (place : Place) (pairs : List (List ℕ × List ℕ)) → IsStrictlySortedBy (slice_cmp nat_cmp) (map (λ p. p.0) pairs)
+      → (text : List ℕ) × AreWritten 2 (part_members reading start place pairs) text
+      × (123 ∷ (drop 1 text ++ (125 ∷ [])) ≡ part_text reading start place (type_text (root place.part).ctype.mimetype (root place.part).ctype.charset pairs))
   part_commas start place pairs ordered =
       let node = root place.part in
       let kind = lenient_body_kind node in
-      let disposition = shown_as_in known node in
+      let disposition = shown_as_in reading.known node in
       let attached = is_attachment place.part disposition in
       let shows = is_read place.part disposition in
+      let from = place_in start place.placement.whole.start in
+      let to = place_in start place.placement.whole.end in
       let path = one_written 2 (codes "path") refl (string place.path) (json_text place.path) (string_written 2 place.path) in
       let type = then_written 2 _ _ _ _ path (type_written 1 node.ctype.mimetype node.ctype.charset pairs ordered) in
       let shown = then_written 2 _ _ _ _ type (disposition_written 2 disposition node attached) in
-      let front = then_written 2 _ _ _ _ shown (place_written 2 kind (saturating_add start place.placement.whole.start) (saturating_add start place.placement.whole.end) (length node.body)) in
-      let sized = then_written 2 (front_members known start place pairs) (size_members (decoded_size kind node.body)) _ _ front (size_written 2 (decoded_size kind node.body)) in
-      let read = text_read known node.ctype.charset (lenient_bytes kind node.body) in
-      let content = then_written 2 (headers_member known place) (text_members shows read.text read.charset read.is_damaged) _ _ (headers_written 0 node.headers)
-      (text_written 2 shows read.text read.charset read.is_damaged) in
-      let all = then_written 2 (front_members known start place pairs ++ size_members (decoded_size kind node.body)) (content_members known place) _ _ sized content in
+      let front = then_written 2 _ _ _ _ shown (place_written 2 kind from to (length node.body)) in
+      let size = size_members (decoded_size kind node.body) in
+      let sized = then_written 2 (front_members reading.known start place pairs) size _ _ front (size_written 2 (decoded_size kind node.body)) in
+      let read = text_read reading.known node.ctype.charset (lenient_bytes kind node.body) in
+      let text = text_shown reading.joins_flowed node.ctype read.text in
+      let hash = hash_of (reading.hashes && attached) kind node.body in
+      let hashed = then_written 2 (sha256_members hash) (headers_member reading.known place) _ _ (sha256_written 2 hash) (headers_written reading.known 0 node.headers) in
+      let content = then_written 2 (sha256_members hash ++ headers_member reading.known place) (text_members shows text read.charset read.is_damaged) _ _ hashed
+      (text_written 2 shows text read.charset read.is_damaged) in
+      let all = then_written 2 (front_members reading.known start place pairs ++ size) (content_members reading place) _ _ sized content in
       let before : List ℕ = codes ",\"path\":" ++ json_text place.path ++ type_text node.ctype.mimetype node.ctype.charset pairs
-      ++ disposition_text disposition node attached ++ place_text (encoding_text kind) (saturating_add start place.placement.whole.start) (saturating_add start place.placement.whole.end) (length node.body)
-      ++ size_text (decoded_size kind node.body) in
-      let headers : List ℕ = headers_text known node.headers in
-      let body : List ℕ = body_text known shows kind (content_of node) in (
-        before ++ (headers ++ body),
+      ++ disposition_text disposition node attached ++ place_text (encoding_text kind) from to (length node.body) ++ size_text (decoded_size kind node.body) in
+      let hash_words : List ℕ = sha256_text hash in
+      let headers : List ℕ = headers_text reading.known node.headers in
+      let body : List ℕ = body_text reading.known reading.joins_flowed shows kind (content_of node) in
+      let grouped : (before ++ hash_words ++ headers) ++ body ≡ before ++ (hash_words ++ headers ++ body) =
+      ap (λ (t : List ℕ). t ++ body) (append_assoc before hash_words headers) ∙ append_assoc before (hash_words ++ headers) body in (
+        before ++ (hash_words ++ headers ++ body),
         all,
-        ap (λ (t : List ℕ). 123 ∷ (drop 1 t ++ (125 ∷ []))) (sym (append_assoc before headers body)),
+        ap (λ (t : List ℕ). 123 ∷ (drop 1 t ++ (125 ∷ []))) (sym grouped),
       )
 
-  part_written : (start : ℕ) (place : Place) (text : List ℕ) → IsPartText known start place text → (value : Json) × IsPartValue known start place value × IsWritten 3 value text
+  part_written : (start : Option ℕ) (place : Place) (text : List ℕ) → IsPartText reading start place text
+      → (value : Json) × IsPartValue reading start place value × IsWritten 3 value text
   part_written start place text is =
       let type = is.1 in
       let pairs = type.0 in
       let commas = part_commas start place pairs type.1.ordered in
       let node = root place.part in
-      let read = text_read known node.ctype.charset (lenient_bytes (lenient_body_kind node) node.body) in
-      let object = object_written 2 (part_members known start place pairs) commas.0 commas.1
-      (distinct_names (names (part_members known start place pairs))
-      (part_distinct start place pairs (decoded_size (lenient_body_kind node) node.body) (is_read place.part (shown_as_in known node)) read.text read.charset read.is_damaged)) in (
-        object_of (part_members known start place pairs),
+      let disposition = shown_as_in reading.known node in
+      let read = text_read reading.known node.ctype.charset (lenient_bytes (lenient_body_kind node) node.body) in
+      let object = object_written 2 (part_members reading start place pairs) commas.0 commas.1
+      (distinct_names (names (part_members reading start place pairs))
+      (part_distinct start place pairs (decoded_size (lenient_body_kind node) node.body)
+      (hash_of (reading.hashes && is_attachment place.part disposition) (lenient_body_kind node) node.body) (is_read place.part disposition)
+      (text_shown reading.joins_flowed node.ctype read.text) read.charset read.is_damaged)) in (
+        object_of (part_members reading start place pairs),
         (pairs, type.1, refl),
-        subst (IsWritten 3 (object_of (part_members known start place pairs))) (commas.2 ∙ ap (part_text known start place) (sym type.2) ∙ sym is.2) object,
+        subst (IsWritten 3 (object_of (part_members reading start place pairs))) (commas.2 ∙ ap (part_text reading start place) (sym type.2) ∙ sym is.2) object,
       )
 
-  parts_written : (start : ℕ) (all : List Place) (text : List ℕ) → AreAfterCommas (IsPartText known start) all text
-      → (values : List Json) × AreValues (IsPartValue known start) all values × (text ≡ after_commas text_of values) × AllByRecursion (IsGood 3) values
+  parts_written : (start : Option ℕ) (all : List Place) (text : List ℕ) → AreAfterCommas (IsPartText reading start) all text
+      → (values : List Json) × AreValues (IsPartValue reading start) all values × (text ≡ after_commas text_of values) × AllByRecursion (IsGood 3) values
   parts_written start [] text is = ([], refl, is, tt)
   parts_written start (place ∷ others) text is =
       let first = part_written start place is.0 is.2 in
       let rest = parts_written start others is.1 is.3 in
       (first.0 ∷ rest.0, (first.0, rest.0, first.1, rest.1, refl), is.4 ∙ (λ i. 44 ∷ (first.2.same i ++ rest.2 i)), (first.2.good, rest.3))
 
-  -- the list of the parts
-  parts_joined : (start : ℕ) (all : List Place) (text : List ℕ) → AreJoined (IsPartText known start) all text
-      → (values : List Json) × AreValues (IsPartValue known start) all values × IsWritten 4 (list_of values) (91 ∷ (text ++ (93 ∷ [])))
-  parts_joined start [] text is =
-      ([], refl, subst (λ (t : List ℕ). IsWritten 4 (list_of []) (91 ∷ (t ++ (93 ∷ [])))) (sym is) (mapped_written 3 (λ t. string t) json_text (string_written 3) []))
-  parts_joined start (place ∷ others) text is =
-      let all = parts_written start (place ∷ others) (codes "," ++ text) (is.0, is.1, is.2, is.3, ap (λ (t : List ℕ). codes "," ++ t) is.4) in
-      (all.0, all.1, list_written 3 all.0 text all.2 all.3)
-
+module _ (known : Charsets) where
   -- ---- the object of a mail
 
-  value_written : (d : ℕ) (node : Node) (key : List ℕ) → IsWritten d (string_or_null (value_of known key node)) (text_or_null (value_of known key node))
-  value_written d node key = optional_written d (value_of known key node)
+  mailbox_written : (d : ℕ) (parts : Parts) → IsWritten (suc d) (mailbox_value known parts) (mailbox_text known parts)
+  mailbox_written d parts =
+      let name = unless_empty (name_of known parts.display_name) in
+      let address = canonical parts in
+      let members = one (codes "name") (string_or_null name) ++ one (codes "address") (string address) in
+      object_written d members (codes ",\"name\":" ++ text_or_null name ++ codes ",\"address\":" ++ json_text address)
+      (more_written d _ _ (codes "address") refl (string address) (json_text address)
+      (one_written d (codes "name") refl (string_or_null name) (text_or_null name) (optional_written d name)) (string_written d address))
+      (distinct_names (names members) refl)
 
-  values_written : (d : ℕ) (node : Node) → AreWritten d (values_members known node) (values_text known node)
+  unknown_written : (d : ℕ) (text : List ℕ) → IsWritten (suc d) (unknown_value text) (unknown_text text)
+  unknown_written d text =
+      let shown = latin1_text text in
+      let members = one (codes "unknown") (string shown) in
+      object_written d members (codes ",\"unknown\":" ++ json_text shown)
+      (one_written d (codes "unknown") refl (string shown) (json_text shown) (string_written d shown)) (distinct_names (names members) refl)
+
+  single_or_unknown_written : (d : ℕ) (parts : Option Parts) (text : List ℕ)
+      → IsWritten (suc d) (single_or_unknown_value known parts text) (single_or_unknown known parts text)
+  single_or_unknown_written d (Some parts) text = mailbox_written d parts
+  single_or_unknown_written d None text = unknown_written d text
+
+  single_written : (d : ℕ) (s : Single) → IsWritten (suc d) (single_value known s) (single_text known s)
+  single_written d s = single_or_unknown_written d s.mailbox s.text
+
+  group_written : (d : ℕ) (name : List ℕ) (members : List Single)
+      → IsWritten (suc (suc (suc d))) (group_value known name members) (group_text known name members)
+  group_written d name members =
+      let shown = name_of known name in
+      let values = list_of (map (single_value known) members) in
+      let all = one (codes "group") (string shown) ++ one (codes "members") values in
+      let text : List ℕ = codes ",\"group\":" ++ json_text shown ++ codes ",\"members\":[" ++ joined (single_text known) members in
+      let named = one_written (suc (suc d)) (codes "group") refl (string shown) (json_text shown) (string_written (suc (suc d)) shown) in
+      let listed = enclosed_written (suc (suc d)) _ _ (codes "members") refl values (91 ∷ []) (joined (single_text known) members) (93 ∷ []) named
+      (mapped_written (suc d) (single_value known) (single_text known) (single_written d) members) in
+      subst (IsWritten (suc (suc (suc d))) (group_value known name members)) (ap (λ t. 123 ∷ t) (append_assoc (drop 1 text) (93 ∷ []) (125 ∷ [])))
+      (object_written (suc (suc d)) all (text ++ (93 ∷ [])) listed (distinct_names (names all) refl))
+
+  element_written : (d : ℕ) (element : Element) → IsWritten (suc (suc (suc d))) (element_value known element) (element_text known element)
+  element_written d (single s) = single_written (suc (suc d)) s
+  element_written d (group g) = group_written d g.display_name g.members
+
+  addresses_written : (d : ℕ) (node : Node) → AreWritten (suc (suc (suc (suc d)))) (addresses_members known node) (addresses_text known node)
+  addresses_written d node =
+      let list = λ (key : List ℕ). addresses_of key node.headers in
+      let member = λ (name key : List ℕ) (plain : are_plain name ≡ true). enclosed_written (suc (suc (suc (suc d)))) [] [] name plain
+      (list_of (map (element_value known) (list key))) (91 ∷ []) (joined (element_text known) (list key)) (93 ∷ []) (record { same = refl; good = tt })
+      (mapped_written (suc (suc (suc d))) (element_value known) (element_text known) (element_written d) (list key)) in
+      let next = then_written (suc (suc (suc (suc d)))) in
+      next _ _ _ _ (next _ _ _ _ (next _ _ _ _ (next _ _ _ _ (next _ _ _ _ (member (codes "from") (codes "From") refl)
+      (member (codes "to") (codes "To") refl)) (member (codes "cc") (codes "Cc") refl)) (member (codes "bcc") (codes "Bcc") refl))
+      (member (codes "reply_to") (codes "Reply-To") refl)) (member (codes "sender") (codes "Sender") refl)
+
+  values_written : (d : ℕ) (node : Node) → AreWritten (suc (suc (suc (suc d)))) (values_members known node) (values_text known node)
   values_written d node =
-      let member = λ (name key : List ℕ) (plain : are_plain name ≡ true). one_written d name plain (string_or_null (value_of known key node))
-      (text_or_null (value_of known key node)) (value_written d node key) in
-      then_written d _ _ _ _ (then_written d _ _ _ _ (then_written d _ _ _ _ (then_written d _ _ _ _ (member (codes "subject") (codes "Subject") refl)
-      (member (codes "from") (codes "From") refl)) (member (codes "to") (codes "To") refl)) (member (codes "cc") (codes "Cc") refl))
-      (member (codes "reply_to") (codes "Reply-To") refl)
+      let subject = value_of known (codes "Subject") node in
+      then_written (suc (suc (suc (suc d)))) _ _ _ _ (one_written (suc (suc (suc (suc d)))) (codes "subject") refl (string_or_null subject)
+      (text_or_null subject) (optional_written (suc (suc (suc (suc d)))) subject)) (addresses_written d node)
 
   ids_written : (d : ℕ) (node : Node) → AreWritten (suc d) (ids_members known node) (ids_text known node)
   ids_written d node =
@@ -303,42 +371,89 @@ module _ (known : Charsets) where
       more_written d _ _ (codes "date_error") refl (string why) (json_text why) date (string_written d why)
 
   -- no name comes twice, whether the zone of a date is known or not
-  zone_distinct : (origin : Origin) (node : Node) (parts : List Json) (seconds : ℤ) (is_known : Bool)
+  zone_distinct : (origin : Origin) (node : Node) (inside : List InnerMail) (parts : List Json) (seconds : ℤ) (is_known : Bool)
       → all_distinct (names (origin_members origin ++ values_members known node ++ one (codes "raw") (object_of (raw_members node))
-      ++ (one (codes "date") (seconds_value seconds) ++ zone_members is_known) ++ ids_members known node ++ one (codes "parts") (list_of parts))) ≡ true
-  zone_distinct origin node parts seconds true = refl
-  zone_distinct origin node parts seconds false = refl
+      ++ (one (codes "date") (seconds_value seconds) ++ zone_members is_known) ++ ids_members known node ++ one (codes "parts") (list_of parts)
+      ++ forwarded_members origin.start inside)) ≡ true
+  zone_distinct origin node inside parts seconds true = refl
+  zone_distinct origin node inside parts seconds false = refl
 
   -- nor whether there is a date or not
-  mail_distinct : (origin : Origin) (node : Node) (parts : List Json) (date : Option (Dated Zoned))
+  mail_distinct : (origin : Origin) (node : Node) (inside : List InnerMail) (parts : List Json) (date : Option (Dated Zoned))
       → all_distinct (names (origin_members origin ++ values_members known node ++ one (codes "raw") (object_of (raw_members node)) ++ date_members date
-      ++ ids_members known node ++ one (codes "parts") (list_of parts))) ≡ true
-  mail_distinct origin node parts None = refl
-  mail_distinct origin node parts (Some (Ok date)) = zone_distinct origin node parts date.0 date.1
-  mail_distinct origin node parts (Some (Err fault)) = refl
+      ++ ids_members known node ++ one (codes "parts") (list_of parts) ++ forwarded_members origin.start inside)) ≡ true
+  mail_distinct origin node inside parts None = refl
+  mail_distinct origin node inside parts (Some (Ok date)) = zone_distinct origin node inside parts date.0 date.1
+  mail_distinct origin node inside parts (Some (Err fault)) = refl
 
-  mail_written : (origin : Origin) (mail : Tree) (text : List ℕ) → IsMailText known origin mail text
-      → (value : Json) × IsMailValue known origin mail value × IsWritten 5 value text
-  mail_written origin mail text is =
-      let node = root mail in
-      let date = option_map date_in (value_of known (codes "Date") node) in
-      let parts = parts_joined origin.start (places mail (placements 0 mail)) is.0 is.1 in
-      let members = mail_members known origin node parts.0 in
-      let valued = then_written 4 (origin_members origin) (values_members known node) _ _ (origin_written 4 origin) (values_written 4 node) in
-      let raw = then_written 4 (origin_members origin ++ values_members known node) (one (codes "raw") (object_of (raw_members node))) _ _ valued (raw_written 3 node) in
-      let dated = then_written 4 (origin_members origin ++ values_members known node ++ one (codes "raw") (object_of (raw_members node))) (date_members date) _ _ raw
-      (date_written 4 date) in
-      let ids = then_written 4 (origin_members origin ++ values_members known node ++ one (codes "raw") (object_of (raw_members node)) ++ date_members date)
-      (ids_members known node) _ _ dated (ids_written 3 node) in
-      let all = enclosed_written 4
-      (origin_members origin ++ values_members known node ++ one (codes "raw") (object_of (raw_members node)) ++ date_members date ++ ids_members known node) _
-      (codes "parts") refl (list_of parts.0) (91 ∷ []) is.0 (93 ∷ []) ids parts.2 in
-      let before : List ℕ = origin_commas origin ++ values_text known node ++ raw_text node ++ date_text date ++ ids_text known node ++ codes ",\"parts\":[" ++ is.0 in
-      let object = object_written 4 members (before ++ (93 ∷ [])) all (distinct_names (names members) (mail_distinct origin node parts.0 date)) in (
-        object_of members,
-        (parts.0, parts.1, refl),
-        subst (IsWritten 5 (object_of members)) (ap (λ t. 123 ∷ t) (append_assoc (drop 1 before) (93 ∷ []) (125 ∷ [])) ∙ sym is.2) object,
+module _ (reading : Reading) where
+  -- ---- the mails inside
+
+  goods_then : (d : ℕ) (xs ys : List Json) → AllByRecursion (IsGood d) xs → AllByRecursion (IsGood d) ys → AllByRecursion (IsGood d) (xs ++ ys)
+  goods_then d [] ys h k = k
+  goods_then d (x ∷ xs) ys h k = (h.0, goods_then d xs ys h.1 k)
+
+  inside_written : (start : ℕ) (mails : List InnerMail) (text : List ℕ) → AreInside reading start mails text
+      → (values : List Json) × AreInsideValues reading start mails values × (text ≡ after_commas text_of values) × AllByRecursion (IsGood 3) values
+  inside_written start [] text is = ([], refl, is, tt)
+  inside_written start (inner ∷ mails) text is =
+      let first = parts_written reading (inside_start start inner.start) (parts_inside reading.known inner) is.0 is.2 in
+      let rest = inside_written start mails is.1 is.3 in (
+        first.0 ++ rest.0,
+        (first.0, rest.0, first.1, rest.1, refl),
+        is.4 ∙ (λ i. first.2 i ++ rest.2 i) ∙ sym (flat_map-append (λ (j : Json). codes "," ++ text_of j) first.0 rest.0),
+        goods_then 3 first.0 rest.0 first.3 rest.3,
       )
+
+  -- the list of all parts: the mail's own, and those of the mails inside
+  all_parts : (start : ℕ) (node : Node) (forest : Forest) (mails : List InnerMail) (a b : List ℕ)
+      → AreJoined (IsPartText reading (Some start)) (places (tree node forest) (placements 0 (tree node forest))) a → AreInside reading start mails b
+      → (own : List Json) × (inside : List Json) × AreValues (IsPartValue reading (Some start)) (places (tree node forest) (placements 0 (tree node forest))) own
+      × AreInsideValues reading start mails inside × IsWritten 4 (list_of (own ++ inside)) (91 ∷ ((a ++ b) ++ (93 ∷ [])))
+  all_parts start node forest mails a b is h =
+      let own = parts_written reading (Some start) (places (tree node forest) (placements 0 (tree node forest))) (codes "," ++ a) (is.0, is.1, is.2, is.3, ap (λ (t : List ℕ). codes "," ++ t) is.4) in
+      let inside = inside_written start mails b h in
+      let same : 44 ∷ (a ++ b) ≡ after_commas text_of (own.0 ++ inside.0) =
+      (λ i. own.2 i ++ inside.2 i) ∙ sym (flat_map-append (λ (j : Json). codes "," ++ text_of j) own.0 inside.0) in
+      (own.0, inside.0, own.1, inside.1, list_written 3 (own.0 ++ inside.0) (a ++ b) same (goods_then 3 own.0 inside.0 own.3 inside.3))
+
+  inner_written : (d start : ℕ) (inner : InnerMail) → IsWritten (suc d) (inner_value start inner) (inner_text start inner)
+  inner_written d start inner =
+      let at = inside_start start inner.start in
+      let why = option_map refusal_text inner.refusal in
+      let members = one (codes "path") (string inner.path) ++ one (codes "start") (number_or_null_value at) ++ one (codes "error") (string_or_null why) in
+      let path = one_written d (codes "path") refl (string inner.path) (json_text inner.path) (string_written d inner.path) in
+      let placed = more_written d _ _ (codes "start") refl (number_or_null_value at) (number_or_null at) path (number_or_null_written d at) in
+      object_written d members (codes ",\"path\":" ++ json_text inner.path ++ codes ",\"start\":" ++ number_or_null at ++ codes ",\"error\":" ++ text_or_null why)
+      (more_written d _ _ (codes "error") refl (string_or_null why) (text_or_null why) placed (optional_written d why)) (distinct_names (names members) refl)
+
+  forwarded_written : (d start : ℕ) (mails : List InnerMail) → AreWritten (suc (suc d)) (forwarded_members start mails) (forwarded_text start mails)
+  forwarded_written d start mails =
+      enclosed_written (suc (suc d)) [] [] (codes "forwarded") refl (list_of (map (inner_value start) mails)) (91 ∷ []) (joined (inner_text start) mails) (93 ∷ [])
+      (record { same = refl; good = tt }) (mapped_written (suc d) (inner_value start) (inner_text start) (inner_written d start) mails)
+
+  mail_written : (origin : Origin) (mail : Tree) (text : List ℕ) → IsMailText reading origin mail text
+      → (value : Json) × IsMailValue reading origin mail value × IsWritten 5 value text
+  mail_written origin (tree node forest) text is =
+      let inside = mails_inside reading.known (tree node forest) in
+      let date = option_map date_in (value_of reading.known (codes "Date") node) in
+      let parts = all_parts origin.start node forest inside is.0 is.1 is.2 is.3 in
+      let values = parts.0 ++ parts.1 in
+      let members = mail_members reading.known origin node inside values in
+      let head = origin_members origin ++ values_members reading.known node in
+      let raws = head ++ one (codes "raw") (object_of (raw_members node)) in
+      let dates = raws ++ date_members date in
+      let valued = then_written 4 (origin_members origin) (values_members reading.known node) _ _ (origin_written 4 origin) (values_written reading.known 0 node) in
+      let raw = then_written 4 head (one (codes "raw") (object_of (raw_members node))) _ _ valued (raw_written 3 node) in
+      let dated = then_written 4 raws (date_members date) _ _ raw (date_written reading.known 4 date) in
+      let ids = then_written 4 dates (ids_members reading.known node) _ _ dated (ids_written reading.known 3 node) in
+      let listed = enclosed_written 4 (dates ++ ids_members reading.known node) _ (codes "parts") refl (list_of values) (91 ∷ []) (is.0 ++ is.1) (93 ∷ []) ids parts.4 in
+      let all = then_written 4 (dates ++ ids_members reading.known node ++ one (codes "parts") (list_of values)) (forwarded_members origin.start inside) _ _ listed
+      (forwarded_written 2 origin.start inside) in
+      let words : List ℕ = origin_commas origin ++ values_text reading.known node ++ raw_text node ++ date_text date ++ ids_text reading.known node
+      ++ codes ",\"parts\":[" ++ (is.0 ++ is.1) ++ codes "]" ++ forwarded_text origin.start inside in
+      let object = object_written 4 members words all (distinct_names (names members) (mail_distinct reading.known origin node inside values date)) in
+      (object_of members, (parts.0, parts.1, parts.2, parts.3, refl), subst (IsWritten 5 (object_of members)) (sym is.4) object)
 
 -- ---- lines
 
@@ -367,7 +482,7 @@ unread_is_json file text =
     let why = more_written 0 _ _ (codes "error") refl (string text) (json_text text) nulls (string_written 0 text) in
     let members = file_members file ++ (one (codes "number") null ++ one (codes "start") null ++ one (codes "end") null ++ one (codes "error") (string text)) in
     let rest : List ℕ = codes ",\"number\":null,\"start\":null,\"end\":null,\"error\":" in
-    let front : List ℕ = codes ",\"schema\":3,\"file\":" ++ text_or_null file in
+    let front : List ℕ = codes ",\"schema\":4,\"file\":" ++ text_or_null file in
     let all = then_written 0 (file_members file) _ front (rest ++ json_text text) (file_written 0 file) why in
     let object = object_written 0 members (front ++ (rest ++ json_text text)) all (distinct_names (names members) refl) in
     let shown : List ℕ = 123 ∷ (drop 1 front ++ rest ++ json_text text ++ codes "}") in
@@ -377,12 +492,12 @@ unread_is_json file text =
       sym (ap (λ (t : List ℕ). 123 ∷ t) (append_assoc (drop 1 front ++ rest ++ json_text text) (codes "}") (codes "\n"))),
     )
 
-pub line_is_json : (known : Charsets) (origin : Origin) (mail : Reads Tree) (is_clean : Bool) (text : List ℕ) → IsLineOf known origin mail is_clean text
-    → IsOneLine (IsLineValue known origin mail) text
-line_is_json known origin (Ok mail) is_clean text is =
-    let w = mail_written known origin mail is.1 is.2 in
+pub line_is_json : (reading : Reading) (origin : Origin) (mail : Reads Tree) (is_clean : Bool) (text : List ℕ) → IsLineOf reading origin mail is_clean text
+    → IsOneLine (IsLineValue reading origin mail) text
+line_is_json reading origin (Ok mail) is_clean text is =
+    let w = mail_written reading origin mail is.1 is.2 in
     (w.0, is.1, w.1, json_line 5 w.0 is.1 (omega arith) w.2, is.3)
-line_is_json known origin (Err refusal) is_clean text is =
+line_is_json reading origin (Err refusal) is_clean text is =
     let e = error_is_line origin (refusal_text refusal) in
     (e.0, e.1, e.2, e.3, is.1 ∙ e.4)
 
@@ -407,13 +522,13 @@ lines_as : (a b : List ℕ) → a ≡ b → AreJsonLines b → AreJsonLines a
 lines_as a b e p = subst AreJsonLines (sym e) p
 
 -- Of a file that is a mailbox in a format.
-module _ (known : Charsets) (format : Format) (file : Option (List ℕ)) where
-  mails_are_lines : (mails : List Placed) (number : Option ℕ) (is_clean : Bool) (text : List ℕ) → AreLines known format file number mails is_clean text → AreJsonLines text
+module _ (reading : Reading) (format : Format) (file : Option (List ℕ)) where
+  mails_are_lines : (mails : List Placed) (number : Option ℕ) (is_clean : Bool) (text : List ℕ) → AreLines reading format file number mails is_clean text → AreJsonLines text
   mails_are_lines [] number is_clean text is = lines_as text [] is.1 no_lines
   mails_are_lines (mail ∷ mails) number is_clean text is =
       lines_as text (is.2 ++ is.3) is.7
       (lines_then is.2 is.3
-      (one_json_line _ is.2 (line_is_json known (origin_at file number mail.start mail.entry) (read_mail_in known 100 (mail_in format mail.entry.mail)) is.0 is.2 is.4))
+      (one_json_line _ is.2 (line_is_json reading (origin_at file number mail.start mail.entry) (read_mail_in reading.known 100 (mail_in format mail.entry.mail)) is.0 is.2 is.4))
       (mails_are_lines mails _ is.1 is.3 is.5))
 
   front_is_line : (front : List ℕ) (is_all_whitespace : Bool) (text : List ℕ) → IsFront file front is_all_whitespace text → AreJsonLines text
@@ -423,32 +538,32 @@ module _ (known : Charsets) (format : Format) (file : Option (List ℕ)) where
       let why = codes "The mailbox does not begin with a separator" in
       lines_as text (error_line origin why) is.1 (one_json_line _ _ (error_is_line origin why))
 
-pub mailbox_is_lines : (known : Charsets) (format : Format) (file : Option (List ℕ)) (bytes : List ℕ) (is_clean : Bool) (text : List ℕ)
-    → AreMailboxLines known format file bytes is_clean text → AreJsonLines text
-mailbox_is_lines known format file bytes is_clean text is =
+pub mailbox_is_lines : (reading : Reading) (format : Format) (file : Option (List ℕ)) (bytes : List ℕ) (is_clean : Bool) (text : List ℕ)
+    → AreMailboxLines reading format file bytes is_clean text → AreJsonLines text
+mailbox_is_lines reading format file bytes is_clean text is =
     lines_as text (is.2 ++ is.3) is.7
-    (lines_then is.2 is.3 (front_is_line known format file (take (front_length bytes) bytes) is.0 is.2 is.4) (mails_are_lines known format file (placed_from (front_length bytes) (entries_in format bytes)) _ is.1 is.3 is.5))
+    (lines_then is.2 is.3 (front_is_line reading format file (take (front_length bytes) bytes) is.0 is.2 is.4) (mails_are_lines reading format file (placed_from (front_length bytes) (entries_in format bytes)) _ is.1 is.3 is.5))
 
 -- the first part of an input that is a mailbox in a format, or one mail
-first_is_lines : (known : Charsets) (format : Format) (is_box : Bool) (file : Option (List ℕ)) (to : ℕ) (bytes : List ℕ) (is_clean : Bool) (text : List ℕ)
-    → AreChosenOf known format is_box file (Within 0 to) bytes is_clean text → AreJsonLines text
-first_is_lines known format true file to bytes is_clean text is =
+first_is_lines : (reading : Reading) (format : Format) (is_box : Bool) (file : Option (List ℕ)) (to : ℕ) (bytes : List ℕ) (is_clean : Bool) (text : List ℕ)
+    → AreChosenOf reading format is_box file (Within 0 to) bytes is_clean text → AreJsonLines text
+first_is_lines reading format true file to bytes is_clean text is =
     lines_as text (is.2 ++ is.3) is.7
-    (lines_then is.2 is.3 (front_is_line known format file (take (front_length bytes) bytes) is.0 is.2 is.4) (mails_are_lines known format file (in_range 0 to (placed_in format bytes)) None is.1 is.3 is.5))
-first_is_lines known format false file to bytes is_clean text is =
+    (lines_then is.2 is.3 (front_is_line reading format file (take (front_length bytes) bytes) is.0 is.2 is.4) (mails_are_lines reading format file (in_range 0 to (placed_in format bytes)) None is.1 is.3 is.5))
+first_is_lines reading format false file to bytes is_clean text is =
     let origin : Origin = record { file = file; number = None; start = 0; end = length bytes } in
-    one_json_line _ text (line_is_json known origin (read_mail_in known 100 bytes) is_clean text is)
+    one_json_line _ text (line_is_json reading origin (read_mail_in reading.known 100 bytes) is_clean text is)
 
 -- mails that have lines, or none
-wanted_is_lines : (known : Charsets) (format : Format) (wanted : Bool) (file : Option (List ℕ)) (mails : List Placed) (is_clean : Bool) (text : List ℕ)
-    → OnlyIf wanted (AreLines known format file None mails) is_clean text → AreJsonLines text
-wanted_is_lines known format true file mails is_clean text is = mails_are_lines known format file mails None is_clean text is
-wanted_is_lines known format false file mails is_clean text is = lines_as text [] is.1 no_lines
+wanted_is_lines : (reading : Reading) (format : Format) (wanted : Bool) (file : Option (List ℕ)) (mails : List Placed) (is_clean : Bool) (text : List ℕ)
+    → OnlyIf wanted (AreLines reading format file None mails) is_clean text → AreJsonLines text
+wanted_is_lines reading format true file mails is_clean text is = mails_are_lines reading format file mails None is_clean text is
+wanted_is_lines reading format false file mails is_clean text is = lines_as text [] is.1 no_lines
 
-pub part_is_lines : (known : Charsets) (form : Form) (file : Option (List ℕ)) (bytes : List ℕ) (count number : ℕ) (is_clean : Bool) (text : List ℕ)
-    → ArePartLines known form file bytes count number is_clean text → AreJsonLines text
-part_is_lines known form file bytes count zero is_clean text is =
-    first_is_lines known (format_of form) (is_mailbox form bytes) file (part_start bytes count 1) bytes is_clean text is
-part_is_lines known form file bytes count (suc number) is_clean text is =
-    wanted_is_lines known (format_of form) (is_mailbox form bytes) file
+pub part_is_lines : (reading : Reading) (form : Form) (file : Option (List ℕ)) (bytes : List ℕ) (count number : ℕ) (is_clean : Bool) (text : List ℕ)
+    → ArePartLines reading form file bytes count number is_clean text → AreJsonLines text
+part_is_lines reading form file bytes count zero is_clean text is =
+    first_is_lines reading (format_of form) (is_mailbox form bytes) file (part_start bytes count 1) bytes is_clean text is
+part_is_lines reading form file bytes count (suc number) is_clean text is =
+    wanted_is_lines reading (format_of form) (is_mailbox form bytes) file
     (in_range (part_start bytes count (suc number)) (part_start bytes count (suc (suc number))) (placed_in (format_of form) bytes)) is_clean text is

@@ -3,7 +3,7 @@ use Rattle.std.proofs.Common.{◌≡◌, ℕ, ◌+◌, ◌<◌, ◌≤◌, Bool,
 use Rattle.std.specs.Prelude.{min, not, nat_lt, ◌-◌, ◌^◌}
 use Rattle.std.proofs.lemmas.Bool.{cases_Bool, cases_lt, cond-false, cond-true, false≢true, le-ltb, lt-ltb}
 use Rattle.std.proofs.lemmas.List.{append-nil, length-take-le}
-use Rattle.mail_codec.specs.Charset.{Charsets}
+use Rattle.mail_lines.specs.Reading.{Reading}
 use Rattle.mail_data.specs.Mailbox.{Entry, entry_bytes, front_length}
 use Rattle.mail_data.specs.MailboxFormats.{entries_in, mail_in}
 use Rattle.mail_data.specs.MailboxParts.{Placed, begins_in, in_range, placed_from}
@@ -88,9 +88,9 @@ pub unwanted_lines : (Are : Lines) (w : Bool) → w ≡ false → OnlyIf w Are t
 unwanted_lines Are w h = subst (λ (v : Bool). OnlyIf v Are true []) (sym h) (refl, refl)
 
 -- Of a file that is a mailbox in a format.
-module _ (known : Charsets) (format : Format) (file : Option (List ℕ)) where
+module _ (reading : Reading) (format : Format) (file : Option (List ℕ)) where
   lines-capped : (a b : ℕ) (mails : List Entry) (number : Option ℕ) (is_clean : Bool) (text : List ℕ) → capped a ≡ capped b
-      → AreLines known format file number (placed_from a mails) is_clean text → AreLines known format file number (placed_from b mails) is_clean text
+      → AreLines reading format file number (placed_from a mails) is_clean text → AreLines reading format file number (placed_from b mails) is_clean text
   lines-capped a b [] number is_clean text same h = h
   lines-capped a b (entry ∷ mails) number is_clean text same h =
       let later : capped (a + length (entry_bytes entry)) ≡ capped (b + length (entry_bytes entry)) = sum-capped a b (length (entry_bytes entry)) same in (
@@ -98,7 +98,7 @@ module _ (known : Charsets) (format : Format) (file : Option (List ℕ)) where
         h.1,
         h.2,
         h.3,
-        subst (λ (o : Origin). IsLine known o (mail_in format entry.mail) h.0 h.2) (origin-capped file number a b entry same) h.4,
+        subst (λ (o : Origin). IsLine reading o (mail_in format entry.mail) h.0 h.2) (origin-capped file number a b entry same) h.4,
         lines-capped (a + length (entry_bytes entry)) (b + length (entry_bytes entry)) mails (next_number number) h.1 h.3 later h.5,
         h.6,
         h.7,
@@ -106,29 +106,29 @@ module _ (known : Charsets) (format : Format) (file : Option (List ℕ)) where
 
   -- the lines of mails in a range
   abbrev AreIn : (from to : ℕ) → List Placed → Lines
-  AreIn from to mails = AreLines known format file None (in_range from to mails)
+  AreIn from to mails = AreLines reading format file None (in_range from to mails)
 
   -- a mail in the range, and the others
   in-first : (from to : ℕ) (mail : Placed) (rest : List Placed) (is_clean : Bool) (text : List ℕ) → begins_in from to mail ≡ true
-      → AreLines known format file None (mail ∷ in_range from to rest) is_clean text → AreIn from to (mail ∷ rest) is_clean text
+      → AreLines reading format file None (mail ∷ in_range from to rest) is_clean text → AreIn from to (mail ∷ rest) is_clean text
   in-first from to mail rest is_clean text is h =
-      subst (λ (ms : List Placed). AreLines known format file None ms is_clean text) (sym (cond-true (begins_in from to mail) (mail ∷ in_range from to rest) (in_range from to rest) is)) h
+      subst (λ (ms : List Placed). AreLines reading format file None ms is_clean text) (sym (cond-true (begins_in from to mail) (mail ∷ in_range from to rest) (in_range from to rest) is)) h
 
   first-in : (from to : ℕ) (mail : Placed) (rest : List Placed) (is_clean : Bool) (text : List ℕ) → begins_in from to mail ≡ true
-      → AreIn from to (mail ∷ rest) is_clean text → AreLines known format file None (mail ∷ in_range from to rest) is_clean text
+      → AreIn from to (mail ∷ rest) is_clean text → AreLines reading format file None (mail ∷ in_range from to rest) is_clean text
   first-in from to mail rest is_clean text is h =
-      subst (λ (ms : List Placed). AreLines known format file None ms is_clean text) (cond-true (begins_in from to mail) (mail ∷ in_range from to rest) (in_range from to rest) is) h
+      subst (λ (ms : List Placed). AreLines reading format file None ms is_clean text) (cond-true (begins_in from to mail) (mail ∷ in_range from to rest) (in_range from to rest) is) h
 
   -- a mail outside it
   out-first : (from to : ℕ) (mail : Placed) (rest : List Placed) (is_clean : Bool) (text : List ℕ) → begins_in from to mail ≡ false
       → AreIn from to rest is_clean text → AreIn from to (mail ∷ rest) is_clean text
   out-first from to mail rest is_clean text fails h =
-      subst (λ (ms : List Placed). AreLines known format file None ms is_clean text) (sym (cond-false (begins_in from to mail) (mail ∷ in_range from to rest) (in_range from to rest) fails)) h
+      subst (λ (ms : List Placed). AreLines reading format file None ms is_clean text) (sym (cond-false (begins_in from to mail) (mail ∷ in_range from to rest) (in_range from to rest) fails)) h
 
   first-out : (from to : ℕ) (mail : Placed) (rest : List Placed) (is_clean : Bool) (text : List ℕ) → begins_in from to mail ≡ false
       → AreIn from to (mail ∷ rest) is_clean text → AreIn from to rest is_clean text
   first-out from to mail rest is_clean text fails h =
-      subst (λ (ms : List Placed). AreLines known format file None ms is_clean text) (cond-false (begins_in from to mail) (mail ∷ in_range from to rest) (in_range from to rest) fails) h
+      subst (λ (ms : List Placed). AreLines reading format file None ms is_clean text) (cond-false (begins_in from to mail) (mail ∷ in_range from to rest) (in_range from to rest) fails) h
 
   in-capped : (from to : ℕ) → from < 2 ^ 64 → to < 2 ^ 64 → (a b : ℕ) (mails : List Entry) (is_clean : Bool) (text : List ℕ) → capped a ≡ capped b
       → AreIn from to (placed_from a mails) is_clean text → AreIn from to (placed_from b mails) is_clean text
@@ -147,7 +147,7 @@ module _ (known : Charsets) (format : Format) (file : Option (List ℕ)) where
               cut.1,
               cut.2,
               cut.3,
-              subst (λ (o : Origin). IsLine known o (mail_in format entry.mail) cut.0 cut.2) (origin-capped file None a b entry same) cut.4,
+              subst (λ (o : Origin). IsLine reading o (mail_in format entry.mail) cut.0 cut.2) (origin-capped file None a b entry same) cut.4,
               in-capped from to low high (a + size) (b + size) mails cut.1 cut.3 later cut.5,
               cut.6,
               cut.7,
@@ -158,17 +158,17 @@ module _ (known : Charsets) (format : Format) (file : Option (List ℕ)) where
       ]
 
   pub chosen_capped : (which : Which) → Fits which → (a b : ℕ) (mails : List Entry) (is_clean : Bool) (text : List ℕ) → capped a ≡ capped b
-      → AreChosen known format file which (placed_from a mails) is_clean text → AreChosen known format file which (placed_from b mails) is_clean text
+      → AreChosen reading format file which (placed_from a mails) is_clean text → AreChosen reading format file which (placed_from b mails) is_clean text
   chosen_capped (Numbered number) fits a b mails is_clean text same h = lines-capped a b mails (Some number) is_clean text same h
   chosen_capped (Within from to) fits a b mails is_clean text same h = in-capped from to fits.0 fits.1 a b mails is_clean text same h
 
   -- the line of the first mail, if it has one, and those of the others
-  chosen-cons : (which : Which) (at : ℕ) (entry : Entry) (rest : List Placed) (one others : Bool) (line lines : List ℕ) → IsEntryLine known format file which at entry one line
-      → AreChosen known format file (next_which which) rest others lines → AreChosen known format file which (record { start = at; entry = entry } ∷ rest) (one && others) (line ++ lines)
+  chosen-cons : (which : Which) (at : ℕ) (entry : Entry) (rest : List Placed) (one others : Bool) (line lines : List ℕ) → IsEntryLine reading format file which at entry one line
+      → AreChosen reading format file (next_which which) rest others lines → AreChosen reading format file which (record { start = at; entry = entry } ∷ rest) (one && others) (line ++ lines)
   chosen-cons (Numbered number) at entry rest one others line lines p h = (one, others, line, lines, p, h, refl, refl)
   chosen-cons (Within from to) at entry rest one others line lines p h =
       let mail : Placed = record { start = at; entry = entry } in
-      let Are : Lines = IsLine known (origin_at file None at entry) (mail_in format entry.mail) in
+      let Are : Lines = IsLine reading (origin_at file None at entry) (mail_in format entry.mail) in
       elim (cases_Bool (begins_in from to mail)) [
         | inl is ↦
             in-first from to mail rest (one && others) (line ++ lines) is (one, others, line, lines, subst (λ (w : Bool). OnlyIf w Are one line) is p, h, refl, refl)
@@ -179,65 +179,65 @@ module _ (known : Charsets) (format : Format) (file : Option (List ℕ)) where
       ]
 
   -- behind the range nothing is written
-  pub chosen_past : (which : Which) (at : ℕ) (mails : List Entry) → is_past which at ≡ true → AreChosen known format file which (placed_from at mails) true []
+  pub chosen_past : (which : Which) (at : ℕ) (mails : List Entry) → is_past which at ≡ true → AreChosen reading format file which (placed_from at mails) true []
   chosen_past (Numbered number) at mails h = absurd (false≢true h)
   chosen_past (Within from to) at mails h =
-      subst (λ (ms : List Placed). AreLines known format file None ms true []) (sym (none_begins from to at mails (not_before at to h))) (refl, refl)
+      subst (λ (ms : List Placed). AreLines reading format file None ms true []) (sym (none_begins from to at mails (not_before at to h))) (refl, refl)
 
-  pub lines_start : (first : Which) (start : ℕ) (all left : List Entry) → left ≡ all → Continues known format file first start all first start left true []
-  lines_start first start all left e = λ others lines h. subst (λ (es : List Entry). AreChosen known format file first (placed_from start es) others lines) e h
+  pub lines_start : (first : Which) (start : ℕ) (all left : List Entry) → left ≡ all → Continues reading format file first start all first start left true []
+  lines_start first start all left e = λ others lines h. subst (λ (es : List Entry). AreChosen reading format file first (placed_from start es) others lines) e h
 
   -- one mail more
   pub lines_more : (first : Which) (start : ℕ) (which after_which : Which) (at after : ℕ) (all left next : List Entry) (entry : Entry)
       (is_clean one : Bool) (done line : List ℕ) → Fits after_which → left ≡ entry ∷ next → after_which ≡ next_which which → after ≡ after_entry at entry
-      → IsEntryLine known format file which at entry one line → Continues known format file first start all which at left is_clean done
-      → Continues known format file first start all after_which after next (is_clean && one) (done ++ line)
+      → IsEntryLine reading format file which at entry one line → Continues reading format file first start all which at left is_clean done
+      → Continues reading format file first start all after_which after next (is_clean && one) (done ++ line)
   lines_more first start which after_which at after all left next entry is_clean one done line fits e is_which is_after p here = λ others lines h.
       let size = length (entry_bytes entry) in
       let place : capped after ≡ capped (at + size) = ap capped is_after ∙ after-capped at entry in
       let rest =
-      subst (λ (w : Which). AreChosen known format file w (placed_from (at + size) next) others lines) is_which
+      subst (λ (w : Which). AreChosen reading format file w (placed_from (at + size) next) others lines) is_which
       (chosen_capped after_which fits after (at + size) next others lines place h) in
       let whole =
       here (one && others) (line ++ lines)
-      (subst (λ (es : List Entry). AreChosen known format file which (placed_from at es) (one && others) (line ++ lines)) (sym e)
+      (subst (λ (es : List Entry). AreChosen reading format file which (placed_from at es) (one && others) (line ++ lines)) (sym e)
       (chosen-cons which at entry (placed_from (at + size) next) one others line lines p rest)) in
-      subst (λ (w : Bool). AreChosen known format file first (placed_from start all) w ((done ++ line) ++ lines)) (and_grouped is_clean one others)
-      (subst (λ (t : List ℕ). AreChosen known format file first (placed_from start all) (is_clean && (one && others)) t) (sym (append_assoc done line lines)) whole)
+      subst (λ (w : Bool). AreChosen reading format file first (placed_from start all) w ((done ++ line) ++ lines)) (and_grouped is_clean one others)
+      (subst (λ (t : List ℕ). AreChosen reading format file first (placed_from start all) (is_clean && (one && others)) t) (sym (append_assoc done line lines)) whole)
 
   -- nothing more is written
   pub lines_stop : (first : Which) (start : ℕ) (which : Which) (at : ℕ) (all left : List Entry) (is_clean : Bool) (done : List ℕ)
-      → AreChosen known format file which (placed_from at left) true [] → Continues known format file first start all which at left is_clean done
-      → AreChosen known format file first (placed_from start all) is_clean done
+      → AreChosen reading format file which (placed_from at left) true [] → Continues reading format file first start all which at left is_clean done
+      → AreChosen reading format file first (placed_from start all) is_clean done
   lines_stop first start which at all left is_clean done none here =
-      subst (λ (w : Bool). AreChosen known format file first (placed_from start all) w done) (and_true is_clean)
-      (subst (λ (t : List ℕ). AreChosen known format file first (placed_from start all) (is_clean && true) t) (append-nil done) (here true [] none))
+      subst (λ (w : Bool). AreChosen reading format file first (placed_from start all) w done) (and_true is_clean)
+      (subst (λ (t : List ℕ). AreChosen reading format file first (placed_from start all) (is_clean && true) t) (append-nil done) (here true [] none))
 
-  no-mails : (which : Which) → AreChosen known format file which [] true []
+  no-mails : (which : Which) → AreChosen reading format file which [] true []
   no-mails (Numbered number) = (refl, refl)
   no-mails (Within from to) = (refl, refl)
 
   -- no mail is left
   pub lines_end : (first : Which) (start : ℕ) (which : Which) (at : ℕ) (all left : List Entry) (is_clean : Bool) (done : List ℕ) → left ≡ []
-      → Continues known format file first start all which at left is_clean done → AreChosen known format file first (placed_from start all) is_clean done
+      → Continues reading format file first start all which at left is_clean done → AreChosen reading format file first (placed_from start all) is_clean done
   lines_end first start which at all left is_clean done e here =
       lines_stop first start which at all left is_clean done
-      (subst (λ (es : List Entry). AreChosen known format file which (placed_from at es) true []) (sym e) (no-mails which)) here
+      (subst (λ (es : List Entry). AreChosen reading format file which (placed_from at es) true []) (sym e) (no-mails which)) here
 
   -- the error for what stands before the first mail, and the lines of the mails
   pub mailbox_lines : (which : Which) (bytes front : List ℕ) (left : List Entry) (is_all_whitespace are_read : Bool) (error lines : List ℕ)
       → front ≡ take (front_length bytes) bytes → left ≡ entries_in format bytes → IsFront file front is_all_whitespace error
-      → AreChosen known format file which (placed_from (length front) left) are_read lines
-      → AreMailboxChosen known format file which bytes (is_all_whitespace && are_read) (error ++ lines)
+      → AreChosen reading format file which (placed_from (length front) left) are_read lines
+      → AreMailboxChosen reading format file which bytes (is_all_whitespace && are_read) (error ++ lines)
   mailbox_lines which bytes front left is_all_whitespace are_read error lines e f p q =
       let size : length front ≡ front_length bytes = ap length e ∙ length-take-le (front_length bytes) bytes (front_length-≤ bytes) in
-      let mails = subst (λ (es : List Entry). AreChosen known format file which (placed_from (length front) es) are_read lines) f q in (
+      let mails = subst (λ (es : List Entry). AreChosen reading format file which (placed_from (length front) es) are_read lines) f q in (
         is_all_whitespace,
         are_read,
         error,
         lines,
         subst (λ (bs : List ℕ). IsFront file bs is_all_whitespace error) e p,
-        subst (λ (n : ℕ). AreChosen known format file which (placed_from n (entries_in format bytes)) are_read lines) size mails,
+        subst (λ (n : ℕ). AreChosen reading format file which (placed_from n (entries_in format bytes)) are_read lines) size mails,
         refl,
         refl,
       )

@@ -4,7 +4,7 @@ use Rattle.std.proofs.KnownBytes.{Consumes-trans}
 use Rattle.std.specs.Io.KnownBytes.{Consumes, IsAtEnd}
 use Rattle.std.proofs.lemmas.Bool.{and_from, false≢true, ltb-true}
 use Rattle.std.proofs.lemmas.List.{append-nil, length-take-le, take-append-le}
-use Rattle.mail_codec.specs.Charset.{Charsets}
+use Rattle.mail_lines.specs.Reading.{Reading}
 use Rattle.mail_program.specs.declared.fault.Fault.{Fault}
 use Rattle.mail_data.specs.Lines.{line_length}
 use Rattle.mail_data.specs.Mailbox.{Entry, front_length, has_front, has_line, is_before_text}
@@ -102,39 +102,39 @@ input_whole Follow a b old new (Ok is_clean) all Are AreAll p ended lines w =
 input_whole Follow a b old new (Err fault) all Are AreAll p ended lines w = end_is_fault fault w
 
 -- the lines of all mails of a mailbox are numbered from 1
-numbered_lines : (known : Charsets) (format : Format) (file : Option (List ℕ)) (is : Bool) (bytes same : List ℕ) (is_clean : Bool) (text : List ℕ) → same ≡ bytes
-    → AreChosenOf known format is file (Numbered 1) same is_clean text → AreLinesOf known format is file bytes is_clean text
-numbered_lines known format file true bytes same is_clean text e h = subst (λ (bs : List ℕ). AreLinesOf known format true file bs is_clean text) e h
-numbered_lines known format file false bytes same is_clean text e h = subst (λ (bs : List ℕ). AreLinesOf known format false file bs is_clean text) e h
+numbered_lines : (reading : Reading) (format : Format) (file : Option (List ℕ)) (is : Bool) (bytes same : List ℕ) (is_clean : Bool) (text : List ℕ) → same ≡ bytes
+    → AreChosenOf reading format is file (Numbered 1) same is_clean text → AreLinesOf reading format is file bytes is_clean text
+numbered_lines reading format file true bytes same is_clean text e h = subst (λ (bs : List ℕ). AreLinesOf reading format true file bs is_clean text) e h
+numbered_lines reading format file false bytes same is_clean text e h = subst (λ (bs : List ℕ). AreLinesOf reading format false file bs is_clean text) e h
 
-pub input_numbered : (known : Charsets) (form : Form) (file : Option (List ℕ)) (a b old new : Option (List ℕ)) (r : Result Bool Fault)
-    → WritesChosen (Numbered 1) a b old new r (AreInputChosen known form file (Numbered 1)) → WritesInput a b old new r (AreInputLines known form file)
-input_numbered known form file a b old new (Ok is_clean) w =
+pub input_numbered : (reading : Reading) (form : Form) (file : Option (List ℕ)) (a b old new : Option (List ℕ)) (r : Result Bool Fault)
+    → WritesChosen (Numbered 1) a b old new r (AreInputChosen reading form file (Numbered 1)) → WritesInput a b old new r (AreInputLines reading form file)
+input_numbered reading form file a b old new (Ok is_clean) w =
     let same : w.0 ++ w.1 ≡ w.0 = ap (λ (bs : List ℕ). w.0 ++ bs) w.3.1 ∙ append-nil w.0 in (
       w.0,
       w.2,
       w.3.0,
       w.4,
-      subst (λ (bs : List ℕ). AreInputLines known form file bs is_clean w.4) same (numbered_lines known (format_of form) file (is_mailbox form (w.0 ++ w.1)) (w.0 ++ w.1) (w.0 ++ w.1) is_clean w.4 refl w.5),
+      subst (λ (bs : List ℕ). AreInputLines reading form file bs is_clean w.4) same (numbered_lines reading (format_of form) file (is_mailbox form (w.0 ++ w.1)) (w.0 ++ w.1) (w.0 ++ w.1) is_clean w.4 refl w.5),
       w.6,
     )
-input_numbered known form file a b old new (Err fault) w = w
+input_numbered reading form file a b old new (Err fault) w = w
 
 -- Of a file that is a mailbox in a format.
-module _ (known : Charsets) (format : Format) (file : Option (List ℕ)) where
+module _ (reading : Reading) (format : Format) (file : Option (List ℕ)) where
   -- the lines of an input that is a mailbox, or that is not, of which what was wanted first was read
   pub input_lines : (form : Form) (which : Which) (read more same : List ℕ) (is is_clean : Bool) (text : List ℕ) → same ≡ read ++ more → is_there (first_wanted form) read ≡ true
-      → is_mailbox form read ≡ is → AreChosenOf known format is file which same is_clean text
-      → AreChosenOf known format (is_mailbox form (read ++ more)) file which (read ++ more) is_clean text
+      → is_mailbox form read ≡ is → AreChosenOf reading format is file which same is_clean text
+      → AreChosenOf reading format (is_mailbox form (read ++ more)) file which (read ++ more) is_clean text
   input_lines form which read more same is is_clean text e there is_form h =
-      subst (λ (bytes : List ℕ). AreChosenOf known format (is_mailbox form (read ++ more)) file which bytes is_clean text) e
-      (subst (λ (w : Bool). AreChosenOf known format w file which same is_clean text) (sym (form_stays form read more there ∙ is_form)) h)
+      subst (λ (bytes : List ℕ). AreChosenOf reading format (is_mailbox form (read ++ more)) file which bytes is_clean text) e
+      (subst (λ (w : Bool). AreChosenOf reading format w file which same is_clean text) (sym (form_stays form read more there ∙ is_form)) h)
 
   -- the error for what stands before the first mail, and the lines of the mails in what was read and in what follows
   pub front_lines : (which : Which) (read front rest : List ℕ) (is_all_whitespace : Bool) (error : List ℕ) → has_front read ≡ true → front ≡ take (front_length read) read
       → rest ≡ drop (length front) read → IsFront file front is_all_whitespace error → (later : List ℕ) (others : Bool) (lines : List ℕ)
-      → AreChosen known format file which (placed_from (length front) (entries_in format (rest ++ later))) others lines
-      → AreMailboxChosen known format file which (read ++ later) (is_all_whitespace && others) (error ++ lines)
+      → AreChosen reading format file which (placed_from (length front) (entries_in format (rest ++ later))) others lines
+      → AreMailboxChosen reading format file which (read ++ later) (is_all_whitespace && others) (error ++ lines)
   front_lines which read front rest is_all_whitespace error settled is_front is_rest p later others lines h =
       let stays = front-stays read later settled in
       let size : length front ≡ front_length read = ap length is_front ∙ length-take-le (front_length read) read (front_length-≤ read) in
@@ -148,8 +148,8 @@ module _ (known : Charsets) (format : Format) (file : Option (List ℕ)) where
         error,
         lines,
         subst (λ (bytes : List ℕ). IsFront file bytes is_all_whitespace error) same p,
-        subst (λ (es : List Entry). AreChosen known format file which (placed_from (front_length (read ++ later)) es) others lines) mails
-            (subst (λ (n : ℕ). AreChosen known format file which (placed_from n (entries_in format (rest ++ later))) others lines) place h),
+        subst (λ (es : List Entry). AreChosen reading format file which (placed_from (front_length (read ++ later)) es) others lines) mails
+            (subst (λ (n : ℕ). AreChosen reading format file which (placed_from n (entries_in format (rest ++ later))) others lines) place h),
         refl,
         refl,
       )
@@ -157,44 +157,44 @@ module _ (known : Charsets) (format : Format) (file : Option (List ℕ)) where
   -- what was written of the mails of bytes of which some were read at first and more since, and what any lines of the mails that are left complete
   abbrev pub Follows : Which → ℕ → List ℕ → List ℕ → Which → ℕ → List ℕ → Bool → List ℕ → Type 0
   Follows first start read more which at pending is_clean done =
-      (later : List ℕ) → Continues known format file first start (entries_in format (read ++ (more ++ later))) which at (entries_in format (pending ++ later)) is_clean done
+      (later : List ℕ) → Continues reading format file first start (entries_in format (read ++ (more ++ later))) which at (entries_in format (pending ++ later)) is_clean done
 
   pub follows_start : (first : Which) (start : ℕ) (read pending : List ℕ) → pending ≡ read → Follows first start read [] first start pending true []
   follows_start first start read pending e = λ later others lines h.
-      subst (λ (bs : List ℕ). AreChosen known format file first (placed_from start (entries_in format (bs ++ later))) others lines) e h
+      subst (λ (bs : List ℕ). AreChosen reading format file first (placed_from start (entries_in format (bs ++ later))) others lines) e h
 
   -- bytes were read
   pub follows_more : (first : Which) (start : ℕ) (read more taken : List ℕ) (which : Which) (at : ℕ) (pending after : List ℕ) (is_clean : Bool) (done : List ℕ) → after ≡ pending ++ taken
       → Follows first start read more which at pending is_clean done → Follows first start read (more ++ taken) which at after is_clean done
   follows_more first start read more taken which at pending after is_clean done e here = λ later others lines h.
       let bytes : after ++ later ≡ pending ++ (taken ++ later) = ap (λ (bs : List ℕ). bs ++ later) e ∙ append_assoc pending taken later in
-      subst (λ (bs : List ℕ). AreChosen known format file first (placed_from start (entries_in format (read ++ bs))) (is_clean && others) (done ++ lines)) (sym (append_assoc more taken later))
-      (here (taken ++ later) others lines (subst (λ (bs : List ℕ). AreChosen known format file which (placed_from at (entries_in format bs)) others lines) bytes h))
+      subst (λ (bs : List ℕ). AreChosen reading format file first (placed_from start (entries_in format (read ++ bs))) (is_clean && others) (done ++ lines)) (sym (append_assoc more taken later))
+      (here (taken ++ later) others lines (subst (λ (bs : List ℕ). AreChosen reading format file which (placed_from at (entries_in format bs)) others lines) bytes h))
 
   -- the lines of mails were written
   pub follows_settled : (first : Which) (start : ℕ) (read more : List ℕ) (which next : Which) (at after : ℕ) (pending rest left : List ℕ) (is_clean are_read : Bool) (done lines : List ℕ) → left ≡ rest
-      → ((later : List ℕ) → Continues known format file which at (entries_in format (pending ++ later)) next after (entries_in format (rest ++ later)) are_read lines)
+      → ((later : List ℕ) → Continues reading format file which at (entries_in format (pending ++ later)) next after (entries_in format (rest ++ later)) are_read lines)
       → Follows first start read more which at pending is_clean done → Follows first start read more next after left (is_clean && are_read) (done ++ lines)
   follows_settled first start read more which next at after pending rest left is_clean are_read done lines e written here = λ later others last h.
       let all = placed_from start (entries_in format (read ++ (more ++ later))) in
       let whole =
       here later (are_read && others) (lines ++ last)
-      (written later others last (subst (λ (bs : List ℕ). AreChosen known format file next (placed_from after (entries_in format (bs ++ later))) others last) e h)) in
-      subst (λ (w : Bool). AreChosen known format file first all w ((done ++ lines) ++ last)) (and_grouped is_clean are_read others)
-      (subst (λ (t : List ℕ). AreChosen known format file first all (is_clean && (are_read && others)) t) (sym (append_assoc done lines last)) whole)
+      (written later others last (subst (λ (bs : List ℕ). AreChosen reading format file next (placed_from after (entries_in format (bs ++ later))) others last) e h)) in
+      subst (λ (w : Bool). AreChosen reading format file first all w ((done ++ lines) ++ last)) (and_grouped is_clean are_read others)
+      (subst (λ (t : List ℕ). AreChosen reading format file first all (is_clean && (are_read && others)) t) (sym (append_assoc done lines last)) whole)
 
   -- the last bytes were read, and the lines of the mails that were left were written
   pub follows_end : (first : Which) (start : ℕ) (read more taken : List ℕ) (which : Which) (at : ℕ) (pending after : List ℕ) (left : List Entry) (is_clean are_read : Bool) (done lines : List ℕ)
-      → after ≡ pending ++ taken → left ≡ entries_in format after → AreChosen known format file which (placed_from at left) are_read lines
+      → after ≡ pending ++ taken → left ≡ entries_in format after → AreChosen reading format file which (placed_from at left) are_read lines
       → Follows first start read more which at pending is_clean done
-      → AreChosen known format file first (placed_from start (entries_in format (read ++ ((more ++ taken) ++ [])))) (is_clean && are_read) (done ++ lines)
+      → AreChosen reading format file first (placed_from start (entries_in format (read ++ ((more ++ taken) ++ [])))) (is_clean && are_read) (done ++ lines)
   follows_end first start read more taken which at pending after left is_clean are_read done lines e f p here =
-      subst (λ (bs : List ℕ). AreChosen known format file first (placed_from start (entries_in format (read ++ bs))) (is_clean && are_read) (done ++ lines)) (sym (append-nil (more ++ taken)))
-      (here taken are_read lines (subst (λ (es : List Entry). AreChosen known format file which (placed_from at es) are_read lines) (f ∙ ap (entries_in format) e) p))
+      subst (λ (bs : List ℕ). AreChosen reading format file first (placed_from start (entries_in format (read ++ bs))) (is_clean && are_read) (done ++ lines)) (sym (append-nil (more ++ taken)))
+      (here taken are_read lines (subst (λ (es : List Entry). AreChosen reading format file which (placed_from at es) are_read lines) (f ∙ ap (entries_in format) e) p))
 
   -- no mail that follows is to have a line
   pub follows_past : (first : Which) (start : ℕ) (read more later : List ℕ) (which : Which) (at : ℕ) (pending : List ℕ) (is_clean : Bool) (done : List ℕ) → is_past which at ≡ true
-      → Follows first start read more which at pending is_clean done → AreChosen known format file first (placed_from start (entries_in format (read ++ (more ++ later)))) is_clean done
+      → Follows first start read more which at pending is_clean done → AreChosen reading format file first (placed_from start (entries_in format (read ++ (more ++ later)))) is_clean done
   follows_past first start read more later which at pending is_clean done past here =
-      lines_stop known format file first start which at (entries_in format (read ++ (more ++ later))) (entries_in format (pending ++ later)) is_clean done
-      (chosen_past known format file which at (entries_in format (pending ++ later)) past) (here later)
+      lines_stop reading format file first start which at (entries_in format (read ++ (more ++ later))) (entries_in format (pending ++ later)) is_clean done
+      (chosen_past reading format file which at (entries_in format (pending ++ later)) past) (here later)

@@ -1,5 +1,5 @@
 -- Lemmas on JSON text, and on items with commas.
-use Rattle.std.proofs.Common.{◌≡◌, ℕ, suc, ◌+◌, ◌<◌, Bool, true, false, List, [], ◌∷◌, ◌++◌, length, drop, get_or, min, ℤ, pos, negsuc, Option, String, Global, FitsSigned, w64, decimal, arith, string_bytes, sym, ap, subst, ◌∙◌, append_assoc, add-one, drop-cons}
+use Rattle.std.proofs.Common.{◌≡◌, ℕ, zero, suc, ◌+◌, ◌<◌, Bool, true, false, List, [], ◌∷◌, ◌++◌, length, drop, get_or, min, ℤ, pos, negsuc, Option, String, Global, FitsSigned, w64, decimal, arith, string_bytes, map, refl, sym, ap, subst, ◌∙◌, append_assoc, add-one, drop-cons}
 use Rattle.std.proofs.KnownBytes.{Appends-nil, Appends-trans}
 use Rattle.std.proofs.lemmas.Bool.{cond-true, cond-false}
 use Rattle.std.proofs.lemmas.List.{append-nil}
@@ -96,6 +96,20 @@ wrote_more text old a b c false x left rest all e here p q =
       wrote,
       append_assoc here.0 (codes "," ++ text x) (after_commas text rest) ∙ ap (λ xs. here.0 ++ after_commas text xs) (sym e) ∙ here.2,
     )
+
+-- an element of a list, whatever stands for one past its end
+get_any : {A : Type 0} (xs : List A) (i : ℕ) (d : A) → get_or xs i d ≡ get_or xs i (get_or xs i d)
+get_any [] i d = refl
+get_any (x ∷ xs) zero d = refl
+get_any (x ∷ xs) (suc i) d = get_any xs i d
+
+-- the same of the views of elements of a list
+pub wrote_item : {X A : Type 0} (view : X → A) (text : A → List ℕ) (old a b c : Option (List ℕ)) (first : Bool) (xs : List X) (i : ℕ) (d : X) (all : List A)
+    → i < length xs → Wrote text old a first (map view (drop i xs)) all → Appends a b (comma first) → Appends b c (text (view (get_or xs i d)))
+    → Wrote text old c false (map view (drop (i + 1) xs)) all
+wrote_item view text old a b c first xs i d all h here p q =
+    let x = get_or xs i d in
+    wrote_more text old a b c first (view x) (map view (drop i xs)) (map view (drop (i + 1) xs)) all (ap (map view) (drop_next xs i x h (get_any xs i d))) here p q
 
 -- nothing is left
 ended : {A : Type 0} (text : A → List ℕ) (old new : Option (List ℕ)) (all : List A) (done left : List ℕ) → left ≡ []

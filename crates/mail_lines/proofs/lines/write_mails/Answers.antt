@@ -1,6 +1,6 @@
 use Rattle.std.proofs.Common.{◌++◌, option_map}
 use Rattle.std.proofs.KnownBytes.{Appends-trans}
-use Rattle.mail_codec.specs.Tables.{charsets_with}
+use Rattle.mail_lines.specs.Reading.{reading_of}
 use Rattle.mail_data.specs.FormatViews.{left_in}
 use Rattle.mail_lines.proofs.lemmas.Lines.{lines_end, lines_more}
 use Rattle.mail_lines.proofs.lines.write_mails.Goals as goal
@@ -12,7 +12,7 @@ loop-entry-preserved g c =
     let after = c.after-next in (
       here.0 ++ line.0,
       Appends-trans _ _ _ here.0 line.0 here.1 line.2,
-      lines_more (charsets_with c.args.tables.now) c.args.format (option_map (λ name. name.now) c.args.file) c.args.first.which c.args.first.at c.loop-entry.next.which
+      lines_more (reading_of c.args.reading) c.args.format (option_map (λ name. name.now) c.args.file) c.args.first.which c.args.first.at c.loop-entry.next.which
           after.result.which c.loop-entry.next.at after.result.at (left_in c.args.mails) (left_in c.loop-entry.entry-iterator) (left_in c.next.new.self)
           c.in-Some.entry c.loop-entry.is_clean c.in_ok-is_read.is_read here.0 line.0 after.ensures.fits c.in-Some.ensures.steps after.ensures.which after.ensures.at line.1 here.2,
     )
@@ -21,7 +21,7 @@ pub returns : goal.returns
 returns g c =
     let here = c.loop-entry.invariant in (
       here.0,
-      lines_end (charsets_with c.args.tables.now) c.args.format (option_map (λ name. name.now) c.args.file) c.args.first.which c.args.first.at c.loop-entry.next.which
+      lines_end (reading_of c.args.reading) c.args.format (option_map (λ name. name.now) c.args.file) c.args.first.which c.args.first.at c.loop-entry.next.which
           c.loop-entry.next.at (left_in c.args.mails) (left_in c.loop-entry.entry-iterator) c.loop-entry.is_clean here.0 c.in-None.ensures.steps.0 here.2,
       here.1,
     )

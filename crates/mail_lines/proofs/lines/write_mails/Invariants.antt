@@ -1,7 +1,7 @@
 -- What was written is completed by the lines of the mails that are left.
 use Rattle.std.proofs.Common.{ℕ, List, option_map}
 use Rattle.std.specs.Io.KnownBytes.{Appends}
-use Rattle.mail_codec.specs.Tables.{charsets_with}
+use Rattle.mail_lines.specs.Reading.{reading_of}
 use Rattle.mail_data.specs.FormatViews.{left_in}
 use Rattle.mail_lines.specs.Stream.{Continues}
 use Rattle.mail_lines.proofs.lines.write_mails.Given as goal
@@ -9,5 +9,5 @@ use Rattle.mail_lines.proofs.lines.write_mails.Given as goal
 abbrev pub invariant-loop-entry : goal.invariant-loop-entry
 invariant-loop-entry g l =
     (done : List ℕ) × Appends (g.W.Write.contents l.fn.out) (g.W.Write.contents l.out) done
-    × Continues (charsets_with l.tables) l.format (option_map (λ name. name.now) l.fn.file) l.fn.first.which l.fn.first.at (left_in l.fn.mails)
+    × Continues (reading_of l.fn.reading) l.format (option_map (λ name. name.now) l.fn.file) l.fn.first.which l.fn.first.at (left_in l.fn.mails)
     l.next.which l.next.at (left_in l.entry-iterator) l.is_clean done

@@ -14,7 +14,7 @@ use Rattle.mail_lines.proofs.part.write_body_text.Goals as goal
 
 pub returns-then-not-is_read : goal.returns-then-not-is_read
 returns-then-not-is_read g c = λ kind given is raw type.
-    writes_as _ _ c.write_word.result _ _ (text-hidden (charsets_with c.args.tables.now) c.args.is_read kind given c.if-not-is_read.true) c.write_word.ensures
+    writes_as _ _ c.write_word.result _ _ (text-hidden (charsets_with c.args.tables.now) false c.args.is_read kind given c.if-not-is_read.true) c.write_word.ensures
 
 pub returns-in-Ok : goal.returns-in-Ok
 returns-in-Ok g c = λ kind given is raw type.

@@ -1,14 +1,18 @@
 use Rattle.std.proofs.Common.{◌≡◌, List, ℕ, length, refl, sym, ap, subst, ◌∙◌}
+use Rattle.std.specs.Prelude.{◌&&◌}
+use Rattle.std.specs.Cow.{cow_slice_items}
+use Rattle.mailparse.specs.Body.{decoded}
+use Rattle.mailparse.specs.Outcome.{AnswersOrMemory}
 use Rattle.std.proofs.lemmas.Result.{err_from_is_err_and}
 use Rattle.std.proofs.KnownBytes.{Appends-trans}
-use Rattle.mail_codec.specs.Tables.{charsets_with}
+use Rattle.mail_lines.specs.Reading.{reading_of}
 use Rattle.mailparse.specs.BodyViews.{content_of}
 use Rattle.mailparse.specs.ContentType.{ContentType}
 use Rattle.mailparse.specs.Disposition.{Disposition}
 use Rattle.mailparse.specs.Mail.{root, shown_as_in}
 use Rattle.mailparse.specs.Views.{disposition, tree_of}
 use Rattle.mail_data.specs.lenient.Encoding.{lenient_body_kind}
-use Rattle.mail_lines.specs.Part.{IsTypeText, body_text, disposition_text, headers_text, is_attachment, is_read, place_text, IsPartText, part_text, saturating_add}
+use Rattle.mail_lines.specs.Part.{IsTypeText, body_text, disposition_text, headers_text, hash_of, is_attachment, is_read, place_in, place_text, IsPartText, part_text, sha256_text}
 use Rattle.mail_lines.specs.Strings.{json_text}
 use Rattle.mail_data.specs.PlaceViews.{place_view}
 use Rattle.mail_lines.specs.Body.{encoding_text}
@@ -19,21 +23,22 @@ use Rattle.mail_lines.proofs.part.write_part.Goals as goal
 
 pub returns : goal.returns
 returns g c =
-    let known = charsets_with c.args.tables.now in
+    let reading = reading_of c.args.reading in
+    let known = reading.known in
     let m = c.args.place.now.part.now in
     let node = root (tree_of m) in
     let kind = lenient_body_kind node in
     let given = content_of node in
     let place = place_view c.args.place.now in
-    let begin = saturating_add c.args.start place.placement.whole.start in
-    let end = saturating_add c.args.start place.placement.whole.end in
+    let begin = place_in c.args.start place.placement.whole.start in
+    let end = place_in c.args.start place.placement.whole.end in
     let type = c.in_ok-write_type.ensures in
     let is_body = c.in_ok-body.ensures.read in
     let read = c.decoded-bytes.ensures kind given is_body in
     let places =
-    ap (λ (name : List ℕ). place_text name c.saturating_add-begin.result c.saturating_add-end.result (length c.get_raw.result.now)) (c.encoding_name.ensures kind given is_body)
-    ∙ ap (λ n. place_text (encoding_text kind) n c.saturating_add-end.result (length c.get_raw.result.now)) c.saturating_add-begin.ensures
-    ∙ ap (λ n. place_text (encoding_text kind) begin n (length c.get_raw.result.now)) c.saturating_add-end.ensures
+    ap (λ (name : List ℕ). place_text name c.place_in-begin.result c.place_in-end.result (length c.get_raw.result.now)) (c.encoding_name.ensures kind given is_body)
+    ∙ ap (λ n. place_text (encoding_text kind) n c.place_in-end.result (length c.get_raw.result.now)) c.place_in-begin.ensures
+    ∙ ap (λ n. place_text (encoding_text kind) begin n (length c.get_raw.result.now)) c.place_in-end.ensures
     ∙ ap (λ (raw : List ℕ). place_text (encoding_text kind) begin end (length raw)) (c.get_raw.ensures.made kind given is_body) in
     let headers = ap (headers_text known) (c.as_slice.ensures.value ∙ headers-out m) in
     let same : shown_as_in known node ≡ disposition c.in_ok-disposition.disposition = ok_same _ _ c.in_ok-disposition.ensures in
@@ -42,17 +47,24 @@ returns g c =
     ap (λ (d : Disposition). disposition_text d node c.in_ok-is_attachment.is_attachment) (sym same)
     ∙ ap (disposition_text (shown_as_in known node) node) attached in
     let shows = c.is_read-is_read.ensures ∙ ap (is_read (tree_of m)) (sym same) in
-    let raw = sym (c.get_raw-2.ensures.made kind given is_body) in
-    let body = ap (λ is. body_text known is kind given) shows in
+    let raw = c.get_raw-2.ensures.made kind given is_body in
+    let hashed =
+    ap (λ is. sha256_text (hash_of is kind c.get_raw-2.result.now)) c.is_hashed-is_hashed.ensures
+    ∙ ap (λ is. sha256_text (hash_of (c.args.reading.hashes && is) kind c.get_raw-2.result.now)) attached
+    ∙ ap (λ (b : List ℕ). sha256_text (hash_of (c.args.reading.hashes && is_attachment (tree_of m) (shown_as_in known node)) kind b)) raw in
+    let hash_bytes = subst (λ (b : List ℕ). AnswersOrMemory cow_slice_items c.decoded-bytes.result (decoded kind b)) (sym raw) read in
+    let text = sym (c.get_raw-3.ensures.made kind given is_body) in
+    let body = ap (λ is. body_text known c.args.reading.joins_flowed is kind given) shows in
     let one = Appends-trans _ _ _ _ _ c.in_ok-write_word.ensures (appends_as _ _ _ _ (ap json_text c.as_str.ensures.value) c.in_ok-write_text.ensures) in
     let two = Appends-trans _ _ _ _ _ one type.2 in
     let three = Appends-trans _ _ _ _ _ two (appends_as _ _ _ _ members c.in_ok-write_disposition.ensures) in
     let four = Appends-trans _ _ _ _ _ three (appends_as _ _ _ _ places c.in_ok-write_place.ensures) in
     let five = Appends-trans _ _ _ _ _ four (c.in_ok-write_decoded_size.ensures kind given.raw read) in
-    let six = Appends-trans _ _ _ _ _ five (appends_as _ _ _ _ headers c.in_ok-write_headers.ensures) in
-    let seven = Appends-trans _ _ _ _ _ six (appends_as _ _ _ _ body (c.in_ok-write_body_text.ensures kind given read raw (sym (ctype-out m)))) in
+    let hash = Appends-trans _ _ _ _ _ five (appends_as _ _ _ _ hashed (c.in_ok-write_hash.ensures kind hash_bytes)) in
+    let six = Appends-trans _ _ _ _ _ hash (appends_as _ _ _ _ headers c.in_ok-write_headers.ensures) in
+    let seven = Appends-trans _ _ _ _ _ six (appends_as _ _ _ _ body (c.in_ok-write_part_text.ensures read text)) in
     let written = writes_then _ _ _ _ _ _ seven c.write_word-2.ensures in
-    writes_one (IsPartText known c.args.start place) _ _ _ (part_text known c.args.start place type.0)
+    writes_one (IsPartText reading c.args.start place) _ _ _ (part_text reading c.args.start place type.0)
     (type.0, subst (λ (t : ContentType). IsTypeText t type.0) (ctype-out m) type.1, refl) written
 
 pub returns-in_err-write_decoded_size : goal.returns-in_err-write_decoded_size
@@ -62,9 +74,18 @@ returns-in_err-write_decoded_size g c =
     let read = c.decoded-bytes.ensures (lenient_body_kind node) (content_of node) c.in_ok-body.ensures.read in
     rw (p.1, p.2) (c.in_err-write_decoded_size.ensures (lenient_body_kind node) node.body read)
 
-pub returns-in_err-write_body_text : goal.returns-in_err-write_body_text
-returns-in_err-write_body_text g c =
+pub returns-in_err-write_hash : goal.returns-in_err-write_hash
+returns-in_err-write_hash g c =
     let node = root (tree_of c.args.place.now.part.now) in
-    let p = err_from_is_err_and c.from_residual-in_err-write_body_text.result c.from_residual-in_err-write_body_text.ensures.1 in
+    let kind = lenient_body_kind node in
+    let p = err_from_is_err_and c.from_residual-in_err-write_hash.result c.from_residual-in_err-write_hash.ensures.1 in
+    let read = c.decoded-bytes.ensures kind (content_of node) c.in_ok-body.ensures.read in
+    let raw = sym (c.get_raw-2.ensures.made kind (content_of node) c.in_ok-body.ensures.read) in
+    rw (p.1, p.2) (c.in_err-write_hash.ensures kind (subst (λ (b : List ℕ). AnswersOrMemory cow_slice_items c.decoded-bytes.result (decoded kind b)) raw read))
+
+pub returns-in_err-write_part_text : goal.returns-in_err-write_part_text
+returns-in_err-write_part_text g c =
+    let node = root (tree_of c.args.place.now.part.now) in
+    let p = err_from_is_err_and c.from_residual-in_err-write_part_text.result c.from_residual-in_err-write_part_text.ensures.1 in
     let read = c.decoded-bytes.ensures (lenient_body_kind node) (content_of node) c.in_ok-body.ensures.read in
-    rw (p.1, p.2) (c.in_err-write_body_text.ensures (lenient_body_kind node) (content_of node) read (sym (c.get_raw-2.ensures.made (lenient_body_kind node) (content_of node) c.in_ok-body.ensures.read)) (sym (ctype-out c.args.place.now.part.now)))
+    rw (p.1, p.2) (c.in_err-write_part_text.ensures read (sym (c.get_raw-3.ensures.made (lenient_body_kind node) (content_of node) c.in_ok-body.ensures.read)))

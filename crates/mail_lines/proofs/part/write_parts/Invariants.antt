@@ -1,7 +1,7 @@
 -- What was written is completed by the objects of the parts that are left.
-use Rattle.std.proofs.Common.{List, ℕ, map, drop}
+use Rattle.std.proofs.Common.{Some, List, ℕ, map, drop}
 use Rattle.std.specs.Io.KnownBytes.{Appends}
-use Rattle.mail_codec.specs.Tables.{charsets_with}
+use Rattle.mail_lines.specs.Reading.{reading_of}
 use Rattle.mail_data.specs.PlaceViews.{place_view}
 use Rattle.mail_lines.specs.Part.{IsPartText}
 use Rattle.mail_lines.proofs.lemmas.Part.{Joins}
@@ -10,4 +10,4 @@ use Rattle.mail_lines.proofs.part.write_parts.Given as goal
 abbrev pub invariant-loop-place : goal.invariant-loop-place
 invariant-loop-place g l =
     (done : List ℕ) × Appends (g.W.Write.contents l.initial.out) (g.W.Write.contents l.out) done
-    × Joins (IsPartText (charsets_with l.tables) l.start) l.is_first (map place_view (drop l.place-index l.place-items)) (map place_view l.place-items) done
+    × Joins (IsPartText (reading_of l.fn.reading) (Some l.start)) l.is_first (map place_view (drop l.place-index l.place-items)) (map place_view l.place-items) done

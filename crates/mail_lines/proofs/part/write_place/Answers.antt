@@ -1,15 +1,14 @@
-use Rattle.std.proofs.Common.{◌∙◌, ◌++◌}
-use Rattle.std.specs.Prelude.{codes}
-use Rattle.mail_lines.proofs.lemmas.Strings.{number_text-fits}
-use Rattle.mail_lines.proofs.lemmas.Written.{appends_as, grouped}
+use Rattle.std.proofs.KnownBytes.{Appends-trans}
+use Rattle.mail_lines.proofs.lemmas.Written.{writes_then}
 use Rattle.mail_lines.proofs.part.write_place.Goals as goal
 
 pub returns : goal.returns
 returns g c =
-    let start = number_text-fits c.args.start c.ranges.start.fits in
-    let end = number_text-fits c.args.end c.ranges.end.fits in
-    let size = number_text-fits c.args.size c.ranges.size.fits in
-    appends_as _ _ _ _
-    (grouped (codes ",\"encoding\":\"") c.args.encoding.now (codes "\",\"start\":") _ (codes ",\"end\":") _ (codes ",\"size\":") _
-    ∙ (λ i. codes ",\"encoding\":\"" ++ c.args.encoding.now ++ codes "\",\"start\":" ++ start i ++ codes ",\"end\":" ++ end i ++ codes ",\"size\":" ++ size i))
-    c.in_ok-write.ensures.bytes
+    let name = Appends-trans _ _ _ _ _ c.in_ok-write_word.ensures c.in_ok-write_word-2.ensures in
+    let three = Appends-trans _ _ _ _ _ name c.in_ok-write_word-3.ensures in
+    let start = Appends-trans _ _ _ _ _ three c.in_ok-write_number_or_null.ensures in
+    let five = Appends-trans _ _ _ _ _ start c.in_ok-write_word-4.ensures in
+    let end = Appends-trans _ _ _ _ _ five c.in_ok-write_number_or_null-2.ensures in
+    let seven = Appends-trans _ _ _ _ _ end c.in_ok-write_word-5.ensures in
+    let written = writes_then _ _ _ _ _ _ seven c.write_number.ensures in
+    written

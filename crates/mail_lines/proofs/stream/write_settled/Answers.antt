@@ -1,6 +1,6 @@
 use Rattle.std.proofs.Common.{◌++◌, ap, option_map, sym, ◌∙◌}
 use Rattle.std.proofs.KnownBytes.{Appends-trans}
-use Rattle.mail_codec.specs.Tables.{charsets_with}
+use Rattle.mail_lines.specs.Reading.{reading_of}
 use Rattle.mail_data.specs.MailboxFormats.{entries_in}
 use Rattle.mail_data.proofs.lemmas.MailboxFormats.{settled_in-stays}
 use Rattle.mail_lines.specs.Chosen.{is_range}
@@ -16,7 +16,7 @@ mails-preserved g c =
     let rest = c.in-Some.after.now in (
       here.0 ++ line.0,
       Appends-trans _ _ _ here.0 line.0 here.1 line.2,
-      λ more. lines_more (charsets_with c.args.tables.now) c.args.format (option_map (λ name. name.now) c.args.file) c.args.first.which c.args.first.at next.which
+      λ more. lines_more (reading_of c.args.reading) c.args.format (option_map (λ name. name.now) c.args.file) c.args.first.which c.args.first.at next.which
           after.result.which next.at after.result.at (entries_in c.args.format (c.args.bytes.now ++ more)) (entries_in c.args.format (c.mails.rest.now ++ more)) (entries_in c.args.format (rest ++ more))
           c.in-Some.entry c.mails.is_clean c.in_ok-is_read.is_read here.0 line.0 after.ensures.fits (settled_in-stays c.args.format c.mails.rest.now more rest c.in-Some.entry (sym c.in-Some.ensures.value))
           after.ensures.which after.ensures.at line.1 (here.2 more),

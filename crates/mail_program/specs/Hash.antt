@@ -1,4 +1,4 @@
--- The hash of a file, as its line has it.
+-- The hash of bytes, as it is shown.
 use Rattle.std.specs.Prelude.{ℕ, List}
 use Rattle.hex.specs.Hex.{encode_lower}
 use Rattle.sha2.specs.Sha256.{sha256}

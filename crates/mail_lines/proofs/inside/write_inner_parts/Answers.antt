@@ -1,0 +1,36 @@
+use Rattle.std.proofs.Common.{◌≡◌, ℕ, List, [], Ok, Err, refl, sym, ap, subst, ◌∙◌}
+use Rattle.std.proofs.KnownBytes.{Appends-nil}
+use Rattle.std.specs.String.{string_bytes}
+use Rattle.mailparse.specs.Mail.{read_mail_in}
+use Rattle.mailparse.specs.Placement.{Placement}
+use Rattle.mailparse.specs.Views.{placements_of, tree_of}
+use Rattle.mail_data.specs.InnerMails.{places_under}
+use Rattle.mail_data.specs.PartPlaces.{Place}
+use Rattle.mail_lines.specs.Inside.{inside_start}
+use Rattle.mail_lines.specs.Part.{AreAfterCommas, IsPartText}
+use Rattle.mail_lines.specs.Reading.{reading_of}
+use Rattle.mail_lines.proofs.lemmas.Fields.{refused_or_memory}
+use Rattle.mail_lines.proofs.lemmas.Inside.{inside_as, parts-read, parts-refused}
+use Rattle.mail_lines.proofs.inside.write_inner_parts.Goals as goal
+
+pub returns-in-Ok : goal.returns-in-Ok
+returns-in-Ok g c =
+    let reading = reading_of c.args.reading in
+    let inner = c.args.inner.now in
+    let mail = c.in-Ok.mail in
+    let bytes = ap (λ (b : List ℕ). read_mail_in reading.known 100 b) c.as_slice.ensures.value in
+    let given : read_mail_in reading.known 100 inner.bytes.items ≡ Ok (tree_of mail) = sym bytes ∙ c.in-Ok.ensures.read in
+    let path = ap (λ (p : List ℕ). places_under p (tree_of mail) (placements_of mail)) c.as_str.ensures.value in
+    let placed = ap (λ (ps : List Placement). places_under (string_bytes inner.path) (tree_of mail) ps) c.in-Ok.ensures.places in
+    let parts = path ∙ placed ∙ parts-read (string_bytes inner.path) _ (tree_of mail) given in
+    inside_as reading _ _ _ _ _ _ c.write_places.result c.inside_start-start.ensures parts c.write_places.ensures
+
+pub returns-in_ok-refused-in-Err : goal.returns-in_ok-refused-in-Err
+returns-in_ok-refused-in-Err g c =
+    let reading = reading_of c.args.reading in
+    let inner = c.args.inner.now in
+    let bytes = ap (λ (b : List ℕ). read_mail_in reading.known 100 b) c.as_slice.ensures.value in
+    let refusal = refused_or_memory c.in-Err.error (read_mail_in reading.known 100 c.as_slice.result.now) c.in_ok-refused-in-Err.ensures c.in-Err.ensures.read in
+    let given : read_mail_in reading.known 100 inner.bytes.items ≡ Err refusal.0 = sym bytes ∙ refusal.2 in
+    let none = parts-refused (string_bytes inner.path) _ refusal.0 given in
+    ([], subst (λ (xs : List Place). AreAfterCommas (IsPartText reading (inside_start c.args.start inner.start)) xs []) none refl, Appends-nil _)

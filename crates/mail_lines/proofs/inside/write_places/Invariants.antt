@@ -1,0 +1,13 @@
+-- What was written is completed by the objects of the parts that are left.
+use Rattle.std.proofs.Common.{List, ℕ, map, drop}
+use Rattle.std.specs.Io.KnownBytes.{Appends}
+use Rattle.mail_data.specs.PlaceViews.{place_view}
+use Rattle.mail_lines.specs.Part.{IsPartText}
+use Rattle.mail_lines.specs.Reading.{reading_of}
+use Rattle.mail_lines.proofs.lemmas.Inside.{Commas}
+use Rattle.mail_lines.proofs.inside.write_places.Given as goal
+
+abbrev pub invariant-loop-place : goal.invariant-loop-place
+invariant-loop-place g l =
+    (done : List ℕ) × Appends (g.W.Write.contents l.initial.out) (g.W.Write.contents l.out) done
+    × Commas (IsPartText (reading_of l.fn.reading) l.start) (map place_view (drop l.place-index l.place-items)) (map place_view l.place-items) done

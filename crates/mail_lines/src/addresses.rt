@@ -1,0 +1,188 @@
+//! The members of who wrote a mail and to whom.
+ghost use Rattle.std.specs.Prelude.{◌≡◌, map, string_bytes};
+ghost use Rattle.mail_codec.specs.Tables.{charsets_with};
+ghost use Rattle.mailparse.specs.Mail.{root};
+ghost use Rattle.mailparse.specs.Map.{text_found};
+ghost use Rattle.mailparse.specs.Views.{tree_of};
+ghost use Rattle.mail_address.specs.AddressViews.{element_view, group_view, mailbox_view};
+ghost use Rattle.mail_address.specs.AddressViews.{member_view};
+ghost use Rattle.mail_lines.specs.Addresses.{address_list_text, addresses_text, element_text};
+ghost use Rattle.mail_lines.specs.Addresses.{group_text, single_text, unknown_text, unless_empty};
+ghost use Rattle.mail_lines.specs.Strings.{joined};
+ghost use Rattle.mail_lines.specs.Written.{Writes};
+
+use crate::strings::{write_comma, write_optional, write_owned, write_text, write_word};
+use mail_address::{Address, Group, Mailbox, Member, Unknown, addresses_of};
+use mail_codec::charset::decode_latin1;
+use mail_program::Fault;
+use mailparse::{ParsedMail, SingleByteTable};
+use std::alloc::Global;
+use std::io::Write;
+
+/// Writes the members of who wrote a mail and to whom.
+///
+/// # Errors
+///
+/// `Fault::Output` where a write fails, and `Fault::Mail` with `MailParseError::Memory` where it runs
+/// out of memory.
+pub fn write_addresses<W: Write>(
+    alloc: Global,
+    out: &mut W,
+    mail: &ParsedMail<'_>,
+    tables: &[SingleByteTable<'_>],
+) -> Result<(), Fault>
+    ensures { Writes (W.contents out.old) (W.contents out.new) result
+        (addresses_text (charsets_with tables.now) (root (tree_of mail.now))) }
+{
+    write_address_list(alloc, out, ",\"from\":", mail, "From", tables)?;
+    write_address_list(alloc, out, ",\"to\":", mail, "To", tables)?;
+    write_address_list(alloc, out, ",\"cc\":", mail, "Cc", tables)?;
+    write_address_list(alloc, out, ",\"bcc\":", mail, "Bcc", tables)?;
+    write_address_list(alloc, out, ",\"reply_to\":", mail, "Reply-To", tables)?;
+    write_address_list(alloc, out, ",\"sender\":", mail, "Sender", tables)
+}
+
+/// Writes the addresses in all headers with this name, after these words.
+fn write_address_list<W: Write>(
+    alloc: Global,
+    out: &mut W,
+    before: &str,
+    mail: &ParsedMail<'_>,
+    key: &str,
+    tables: &[SingleByteTable<'_>],
+) -> Result<(), Fault>
+    ensures { Writes (W.contents out.old) (W.contents out.new) result (address_list_text
+        (charsets_with tables.now) before.now key.now (root (tree_of mail.now))) }
+{
+    let list = addresses_of(alloc, &mail.headers, key)?;
+    write_word(out, before)?;
+    write_word(out, "[")?;
+    write_elements(alloc, out, list.as_slice(), tables)?;
+    write_word(out, "]")
+}
+
+/// Writes the elements of a list, a comma between two.
+fn write_elements<W: Write>(
+    alloc: Global,
+    out: &mut W,
+    elements: &[Address<'_>],
+    tables: &[SingleByteTable<'_>],
+) -> Result<(), Fault>
+    ensures { Writes (W.contents out.old) (W.contents out.new) result
+        (joined (element_text (charsets_with tables.now)) (map element_view elements.now)) }
+{
+    let mut is_first = true;
+    for element in elements {
+        write_comma(out, is_first)?;
+        write_element(alloc, out, element, tables)?;
+        is_first = false;
+    }
+    Ok(())
+}
+
+/// Writes an element of a list.
+fn write_element<W: Write>(
+    alloc: Global,
+    out: &mut W,
+    element: &Address<'_>,
+    tables: &[SingleByteTable<'_>],
+) -> Result<(), Fault>
+    ensures { Writes (W.contents out.old) (W.contents out.new) result
+        (element_text (charsets_with tables.now) (element_view element.now)) }
+{
+    match element {
+        Address::Mailbox(mailbox) => write_mailbox(alloc, out, mailbox, tables),
+        Address::Group(group) => write_group(alloc, out, group, tables),
+        Address::Unknown(unknown) => write_unknown(alloc, out, unknown),
+    }
+}
+
+/// Writes a group: its name and its members.
+fn write_group<W: Write>(
+    alloc: Global,
+    out: &mut W,
+    group: &Group<'_>,
+    tables: &[SingleByteTable<'_>],
+) -> Result<(), Fault>
+    ensures { Writes (W.contents out.old) (W.contents out.new) result (group_text
+        (charsets_with tables.now) group.now.display_name.now (group_view group.now).members) }
+{
+    let name = group.get_display_name_with(alloc, tables)?;
+    write_word(out, "{\"group\":")?;
+    write_owned(alloc, out, name)?;
+    write_word(out, ",\"members\":[")?;
+    write_members(alloc, out, group.members.as_slice(), tables)?;
+    write_word(out, "]}")
+}
+
+/// Writes the members of a group, a comma between two.
+fn write_members<W: Write>(
+    alloc: Global,
+    out: &mut W,
+    members: &[Member<'_>],
+    tables: &[SingleByteTable<'_>],
+) -> Result<(), Fault>
+    ensures { Writes (W.contents out.old) (W.contents out.new) result
+        (joined (single_text (charsets_with tables.now)) (map member_view members.now)) }
+{
+    let mut is_first = true;
+    for member in members {
+        write_comma(out, is_first)?;
+        write_member(alloc, out, member, tables)?;
+        is_first = false;
+    }
+    Ok(())
+}
+
+/// Writes a member of a group.
+fn write_member<W: Write>(
+    alloc: Global,
+    out: &mut W,
+    member: &Member<'_>,
+    tables: &[SingleByteTable<'_>],
+) -> Result<(), Fault>
+    ensures { Writes (W.contents out.old) (W.contents out.new) result
+        (single_text (charsets_with tables.now) (member_view member.now)) }
+{
+    match member {
+        Member::Mailbox(mailbox) => write_mailbox(alloc, out, mailbox, tables),
+        Member::Unknown(unknown) => write_unknown(alloc, out, unknown),
+    }
+}
+
+/// Writes a mailbox: its name, or `null` where it has none, and its address.
+fn write_mailbox<W: Write>(
+    alloc: Global,
+    out: &mut W,
+    mailbox: &Mailbox<'_>,
+    tables: &[SingleByteTable<'_>],
+) -> Result<(), Fault>
+    ensures { Writes (W.contents out.old) (W.contents out.new) result
+        (single_text (charsets_with tables.now) (mailbox_view mailbox.now)) }
+{
+    let name = mailbox.get_display_name_with(alloc, tables)?;
+    let address = mailbox.get_address(alloc)?;
+    write_word(out, "{\"name\":")?;
+    write_optional(alloc, out, unless_empty(name))?;
+    write_word(out, ",\"address\":")?;
+    write_owned(alloc, out, address)?;
+    write_word(out, "}")
+}
+
+/// A text, or `None` where it is empty.
+fn unless_empty(text: String) -> Option<String>
+    ensures { text_found result ≡ unless_empty (string_bytes text) }
+{
+    if text.is_empty() { None } else { Some(text) }
+}
+
+/// Writes what is no address, as it stands in the mail.
+fn write_unknown<W: Write>(alloc: Global, out: &mut W, unknown: &Unknown<'_>) -> Result<(), Fault>
+    ensures { Writes (W.contents out.old) (W.contents out.new) result
+        (unknown_text unknown.now.text.now) }
+{
+    let text = decode_latin1(alloc, unknown.text)?;
+    write_word(out, "{\"unknown\":")?;
+    write_text(alloc, out, text.as_str())?;
+    write_word(out, "}")
+}
