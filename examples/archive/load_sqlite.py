@@ -48,9 +48,7 @@ TAGS = re.compile(r"<(style|script)\b.*?</\1|<[^>]*>", re.DOTALL | re.IGNORECASE
 
 
 def people(value):
-    """The text of a header's addresses: the member is a text, or a list of objects."""
-    if not isinstance(value, list):
-        return value
+    """The text of a header's addresses."""
     return ", ".join(
         people(one["members"]) if "members" in one
         else one["unknown"] if "unknown" in one
