@@ -2,6 +2,7 @@
 
 use mail_codec::bytescan::{find, find_byte, strip_ascii_whitespace};
 use mail_codec::transfer::{decode_base64, decode_base64_body, decode_quoted_printable};
+use mail_data::mailbox::read_mailbox;
 use mailparse::{MailParseError, ParsedMail, parse_mail};
 use std::alloc::Global;
 
@@ -18,6 +19,8 @@ pub fn run(alloc: Global, name: &str, input: &[u8]) -> Result<usize, MailParseEr
         "parse" => Ok(parse_mail(alloc, input)?.headers.len()),
         "values" => values(alloc, &parse_mail(alloc, input)?),
         "full" => full(alloc, &parse_mail(alloc, input)?),
+        "mailbox-parse" => mails(alloc, false, input),
+        "mailbox-full" => mails(alloc, true, input),
         _ => Err(MailParseError::Generic("no work has this name")),
     }
 }
@@ -47,6 +50,26 @@ fn length_of(decoded: Result<Vec<u8>, usize>) -> Result<usize, MailParseError> {
     match decoded {
         Ok(bytes) => Ok(bytes.len()),
         Err(_) => Err(MailParseError::Generic("the input is not Base64")),
+    }
+}
+
+/// Reads each message of a mailbox on its own. Tells how much all made.
+fn mails(alloc: Global, is_full: bool, mailbox: &[u8]) -> Result<usize, MailParseError> {
+    let mut made = 0usize;
+    for entry in read_mailbox(mailbox) {
+        made = made.saturating_add(mail(alloc, is_full, entry.mail())?);
+    }
+    Ok(made)
+}
+
+/// Reads a message, and all of it where that is asked for. Tells how much it made; one that is
+/// refused counts as none.
+fn mail(alloc: Global, is_full: bool, input: &[u8]) -> Result<usize, MailParseError> {
+    match parse_mail(alloc, input) {
+        Ok(mail) if is_full => full(alloc, &mail),
+        Ok(mail) => Ok(mail.headers.len()),
+        Err(MailParseError::Memory(e)) => Err(MailParseError::Memory(e)),
+        Err(_refusal) => Ok(0),
     }
 }
 
