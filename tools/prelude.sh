@@ -167,3 +167,10 @@ memory() {
     /usr/bin/time -q -o "$work/memory" -f %M timeout "$@" < "$work/input" > /dev/null 2>&1 || true
     tail -n 1 "$work/memory"
 }
+
+# instructions COMMAND..: how many instructions a run on the file `input` takes, the same in each run;
+# nothing where it fails. It needs valgrind
+instructions() {
+    valgrind --tool=callgrind --callgrind-out-file=/dev/null "$@" < "$work/input" 2>&1 > /dev/null |
+        sed -n 's/^.*Collected *: *//p'
+}

@@ -23,8 +23,7 @@ make_work
 # tenths of a millisecond
 work_of_run() {
     if command -v valgrind > /dev/null; then
-        valgrind --tool=callgrind --callgrind-out-file=/dev/null "$show" < "$work/input" 2>&1 \
-            > /dev/null | sed -n 's/^.*Collected *: *//p'
+        instructions "$show"
     else
         seconds 15 60 "$show" | awk '{ printf "%d\n", 10000 * $1 }'
     fi

@@ -30,6 +30,27 @@ fn all(input: &[u8]) -> usize {
     })
 }
 
+/// The mails of a mailbox: what stands behind each line that begins with `From `.
+fn mails(mailbox: &[u8]) -> impl Iterator<Item = &[u8]> {
+    let mut left = mailbox.starts_with(b"From ").then_some(mailbox);
+    std::iter::from_fn(move || {
+        let (_separator, rest) = left?.split_at(memchr::memchr(b'\n', left?)? + 1);
+        let next = memchr::memmem::find(rest, b"\nFrom ").map(|place| place + 1);
+        left = next.map(|place| &rest[place..]);
+        Some(&rest[..next.unwrap_or(rest.len())])
+    })
+}
+
+/// Reads each mail of a mailbox on its own, as `parse` does.
+fn mailbox_parse(input: &[u8]) -> usize {
+    mails(black_box(input)).map(parse).sum()
+}
+
+/// Reads each mail of a mailbox on its own, as `all` does.
+fn mailbox_all(input: &[u8]) -> usize {
+    mails(black_box(input)).map(all).sum()
+}
+
 /// Looks for a byte that is absent; how many bytes come before it.
 fn absent(input: &[u8]) -> usize {
     memchr::memchr(0, black_box(input)).unwrap_or(input.len())
@@ -46,11 +67,24 @@ fn lines(input: &[u8]) -> usize {
     count
 }
 
-/// Writes the times of so many rounds of each work on a mail.
-pub fn bench(out: &mut String, input: &[u8], rounds: usize) {
-    let _ = writeln!(out, "bytes {}\ndecoded {}", input.len(), full(input));
-    let works: [Work; 3] = [("parse", parse), ("full", full), ("all", all)];
-    times(out, &works, input, rounds);
+/// Writes the times of so many rounds of the works of these names on a mail or a mailbox; of `parse`,
+/// `full` and `all` where none is named.
+pub fn bench(out: &mut String, input: &[u8], rounds: usize, names: &[String]) {
+    let works: [Work; 5] = [
+        ("parse", parse),
+        ("full", full),
+        ("all", all),
+        ("mailbox-parse", mailbox_parse),
+        ("mailbox-all", mailbox_all),
+    ];
+    if names.is_empty() {
+        let _ = writeln!(out, "bytes {}\ndecoded {}", input.len(), full(input));
+        times(out, &works[..3], input, rounds);
+    }
+    for name in names {
+        let named = works.iter().filter(|(work, _)| work == name);
+        times(out, &named.copied().collect::<Vec<Work>>(), input, rounds);
+    }
 }
 
 /// Writes the times of so many rounds of each search.

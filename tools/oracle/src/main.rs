@@ -61,7 +61,8 @@ fn run() -> Result<ExitCode, Fault> {
     match command {
         "bench" => {
             let rounds = words.get(1).and_then(|count| count.parse().ok());
-            bench::bench(&mut output, &input, rounds.unwrap_or(10));
+            let names = words.get(2..).unwrap_or_default();
+            bench::bench(&mut output, &input, rounds.unwrap_or(10), names);
         }
         "search" => {
             let rounds = words.get(1).and_then(|count| count.parse().ok());

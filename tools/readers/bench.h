@@ -1,0 +1,118 @@
+/* What the readers of this folder share: the command `bench ROUNDS WORK..`, as README.md says. */
+#ifndef BENCH_H
+#define BENCH_H
+
+#ifndef _GNU_SOURCE
+#define _GNU_SOURCE
+#endif
+#include <stdio.h>
+#include <stdlib.h>
+#include <string.h>
+#include <time.h>
+
+/* What is timed: reads so many bytes. Returns how much that made, so that no compiler leaves it out. */
+typedef size_t (*reading)(const char *bytes, size_t length);
+
+/* A work and its name. */
+struct work {
+    const char *name;
+    reading read;
+};
+
+/* The whole of standard input, and its length; ends the program where it cannot be read. */
+static inline char *bench_input(size_t *length)
+{
+    size_t room = 1 << 20, used = 0, read;
+    char *bytes = (char *)malloc(room);
+    while (bytes && (read = fread(bytes + used, 1, room - used, stdin)) > 0) {
+        used += read;
+        if (used == room)
+            bytes = (char *)realloc(bytes, room *= 2);
+    }
+    if (!bytes || ferror(stdin)) {
+        fprintf(stderr, "standard input cannot be read\n");
+        exit(2);
+    }
+    *length = used;
+    return bytes;
+}
+
+/* Which of two times is less. */
+static inline int bench_order(const void *left, const void *right)
+{
+    double one = *(const double *)left, other = *(const double *)right;
+    return (one > other) - (one < other);
+}
+
+/* Times so many rounds of a work, and prints the least and the median, in nanoseconds for each byte. */
+static inline void bench_work(const struct work *work, const char *bytes, size_t length, size_t rounds)
+{
+    double *times = (double *)malloc(rounds * sizeof *times);
+    size_t made = 0;
+    if (!times)
+        exit(2);
+    for (size_t round = 0; round < rounds; round++) {
+        struct timespec start, end;
+        clock_gettime(CLOCK_MONOTONIC, &start);
+        made = work->read(bytes, length);
+        clock_gettime(CLOCK_MONOTONIC, &end);
+        times[round] = (end.tv_sec - start.tv_sec) * 1e9 + (end.tv_nsec - start.tv_nsec);
+        times[round] /= length ? length : 1;
+    }
+    qsort(times, rounds, sizeof *times, bench_order);
+    printf("%s min %.3f median %.3f ns/byte, makes %zu\n", work->name, times[0], times[rounds / 2], made);
+    free(times);
+}
+
+/* Runs the command over these works, the last of which has no name. Returns the status of the program. */
+static inline int bench(int count, char **words, const struct work *works)
+{
+    size_t rounds = count > 2 && !strcmp(words[1], "bench") ? strtoul(words[2], NULL, 10) : 0;
+    size_t length;
+    char *bytes;
+    if (!rounds) {
+        fprintf(stderr, "usage: %s bench ROUNDS WORK..\n", words[0]);
+        return 2;
+    }
+    bytes = bench_input(&length);
+    for (int at = 3; at < count; at++) {
+        const struct work *work = works;
+        while (work->name && strcmp(work->name, words[at]))
+            work++;
+        if (!work->name) {
+            fprintf(stderr, "%s: no work has the name %s\n", words[0], words[at]);
+            return 2;
+        }
+        bench_work(work, bytes, length, rounds);
+    }
+    free(bytes);
+    return 0;
+}
+
+/* Where a line of a mailbox begins that separates mails, from a place where a line begins; or its end. */
+static inline const char *bench_separator(const char *at, const char *end)
+{
+    while (end - at >= 5 && memcmp(at, "From ", 5)) {
+        const char *line_end = (const char *)memmem(at, end - at, "\nFrom ", 6);
+        if (!line_end)
+            return end;
+        at = line_end + 1;
+    }
+    return end - at >= 5 ? at : end;
+}
+
+/* Reads each mail of a mailbox on its own: what stands behind each line that begins with `From `. */
+static inline size_t bench_mailbox(const char *bytes, size_t length, reading read)
+{
+    const char *end = bytes + length, *at = bench_separator(bytes, end);
+    size_t made = 0;
+    while (at < end) {
+        const char *line_end = (const char *)memchr(at, '\n', end - at);
+        const char *start = line_end ? line_end + 1 : end;
+        at = bench_separator(start, end);
+        made += read(start, at - start);
+    }
+    return made;
+}
+
+#endif
