@@ -10,10 +10,12 @@ mod mail;
 mod origin;
 mod part;
 pub mod range;
+mod reports;
 mod stream;
 mod strings;
 
 pub use chosen::{Form, Next, Which};
 pub use lines::write_single;
 pub use origin::write_unread;
+pub use reports::write_recipients;
 pub use stream::{Unwatched, Watch, format_of, write_input};
