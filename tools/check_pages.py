@@ -19,7 +19,7 @@ import sys
 from shared.checks import TOP, finish, text_of
 from shared.fences import fences_of
 
-PAGES = ("*.md", "docs/*.md", "crates/*/data/README.md", "tools/*/README.md", "examples/*/README.md")
+PAGES = ("*.md", "docs/*.md", "python/*.md", "crates/*/data/README.md", "tools/*/README.md", "examples/*/README.md")
 CLAIMS = ("docs/ARCHITECTURE.md", "docs/CALLING.md", "docs/PROVED.md")
 SOURCES = ("crates/*/src/**/*.rt", "crates/*/specs/**/*.antt")
 DECLARED = re.compile(
@@ -50,7 +50,7 @@ def links(page, text):
 
 def paths(text):
     """For each path in backquotes what it is, and whether it is there; not what is built, nor CRATE and the like."""
-    for path in re.findall(r"`(?:\./)?((?:crates|docs|tools|samples|examples|\.ci)/[\w./-]*)(?: [^`]*)?`", text):
+    for path in re.findall(r"`(?:\./)?((?:crates|docs|tools|samples|examples|python|\.ci)/[\w./-]*)(?: [^`]*)?`", text):
         if not re.search(r"/out/|\b[A-Z]+\b(?<!README)(?!\.md)", path):
             yield f"the path {path}", os.path.exists(os.path.join(TOP, path))
 

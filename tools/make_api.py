@@ -1,11 +1,11 @@
 #!/usr/bin/env python3
 """Makes docs/API.md, the page of all public types and calls with their contracts, from the sources.
 
-A library is a crate of crates.txt that has src/lib.rt. One is left out: whose first line says that it is for the
-suite only, and on which no crate but mail_vectors stands. Of each public item the page has the signature, the first
-sentence of its doc comment and the clauses of its contract; of a law, its name and what it says. With
---check it writes nothing and compares the page with the sources: the last line is then `N passed, N failed`,
-and the status is 1 where they differ.
+A library is a crate of crates.txt that has src/lib.rt. Static ones are left out, and one whose first line says that
+it is for the suite only, and on which no crate but mail_vectors stands. Of each public item the page has the
+signature, the first sentence of its doc comment and the clauses of its contract; of a law, its name and what it says.
+With --check it writes nothing and compares the page with the sources: the last line is then `N passed, N failed`, and
+the status is 1 where they differ.
 """
 import argparse
 import difflib
@@ -58,9 +58,14 @@ def is_for_suite(crate):
     return root_of(crate).startswith(FOR_SUITE) and users == ["mail_vectors"]
 
 
+def is_static(crate):
+    """Whether a crate is a static library, whose calls are described in a header."""
+    return re.search(rf"^{crate} staticlib:", text_of("crates.txt"), re.MULTILINE) is not None
+
+
 def libraries():
-    """The crates that are libraries, lowest first, without those that only the suite uses."""
-    return [name for name in crates() if root_of(name) and not is_for_suite(name)]
+    """The crates that are libraries, lowest first, without static ones and those that only the suite uses."""
+    return [name for name in crates() if root_of(name) and not is_static(name) and not is_for_suite(name)]
 
 
 def found(pattern, text):

@@ -115,7 +115,7 @@ class Run:
     """A copy of the repository with the proofs of its crates; of each edit whether it passed, and what each check took."""
 
     def __init__(self, room, jobs, is_kept):
-        listed = dict(re.findall(r"^(\w+):(.*)", (TOP / "crates.txt").read_text("utf-8"), re.M))
+        listed = dict(re.findall(r"^(\w+)[^:#\n]*:(.*)", (TOP / "crates.txt").read_text("utf-8"), re.M))
         self.deps = {name: [it for it in below.split() if it in listed] for name, below in listed.items()}
         self.room, self.lanes, self.proofs = room, threading.Semaphore(jobs), {}
         self.passed, self.seconds, self.is_over = [], [], False

@@ -13,3 +13,4 @@ pub mod Chosen
 pub mod Stream
 pub mod Range
 pub mod Values
+pub mod Reports

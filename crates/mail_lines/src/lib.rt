@@ -13,6 +13,7 @@ mod origin;
 mod part;
 pub mod range;
 mod reading;
+mod reports;
 mod stream;
 mod strings;
 
@@ -20,4 +21,5 @@ pub use chosen::{Form, Next, Which};
 pub use lines::write_single;
 pub use origin::write_unread;
 pub use reading::Reading;
+pub use reports::write_recipients;
 pub use stream::{Unwatched, Watch, format_of, write_input};

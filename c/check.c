@@ -1,0 +1,462 @@
+/* Tests the C library; tools/check_c.sh builds and runs it, linked so that this file sees each call for memory.
+ *
+ *   check cases           every code of every call, rooms of every length around the right one, empty inputs, null
+ *                         pointers with length 0, and each call for memory refused in turn
+ *   check threads FILE..  eight threads, each over all cases and files, with the results of one
+ *   check lines FILE..    the line of each mail, or that of its refusal, as mail_json --mail writes it
+ *
+ * The first two end in `N passed, N failed`.
+ */
+#include "rocktray.h"
+
+#include <pthread.h>
+#include <stdatomic.h>
+#include <stdio.h>
+#include <stdlib.h>
+#include <string.h>
+
+#define THREADS 8
+
+/* Calls for memory. The linker leads the library's calls here (--wrap). */
+
+void *__real_malloc(size_t size);
+void *__real_realloc(void *block, size_t size);
+void __real_free(void *block);
+
+static _Thread_local long calls, refuse_at, blocks;
+static _Thread_local int is_library, refuses_all_after;
+
+static int is_refused(void)
+{
+    calls++;
+    return refuse_at && (calls == refuse_at || (refuses_all_after && calls > refuse_at));
+}
+
+void *__wrap_malloc(size_t size)
+{
+    void *block;
+    if (!is_library)
+        return __real_malloc(size);
+    block = is_refused() ? NULL : __real_malloc(size);
+    blocks += block != NULL;
+    return block;
+}
+
+void *__wrap_realloc(void *block, size_t size)
+{
+    void *moved;
+    if (!is_library)
+        return __real_realloc(block, size);
+    moved = is_refused() ? NULL : __real_realloc(block, size);
+    blocks += block == NULL && moved != NULL;
+    return moved;
+}
+
+void __wrap_free(void *block)
+{
+    if (is_library)
+        blocks -= block != NULL;
+    __real_free(block);
+}
+
+/* Cases. */
+
+enum kind { JSON, CONTENT, TEXT, HEADER, RAW_HEADER, IDS, OWN_IDS, RECIPIENTS, REASON };
+
+struct bytes {
+    const uint8_t *at;
+    size_t length;
+};
+
+#define BYTES(text) { (const uint8_t *)(text), sizeof(text) - 1 }
+#define NOTHING { NULL, 0 }
+
+struct test {
+    enum kind kind;
+    struct bytes input;
+    struct bytes name;
+    size_t number; /* of a header, or the code of a reason */
+    uint32_t code;
+    struct bytes result;
+};
+
+#define PART "Content-Type: text/plain; charset="
+#define IN_BASE64 "Content-Transfer-Encoding: base64\n\n"
+#define REPORT "Content-Type: multipart/report; boundary=b\n\n--b\nContent-Type: message/delivery-status\n\n"
+
+static const struct test tests[] = {
+    /* no `result` is compared for JSON: `check lines` does that */
+    { JSON, BYTES("Subject: Hi\n\nHello\n"), NOTHING, 0, ROCKTRAY_DONE, NOTHING },
+    { JSON, NOTHING, NOTHING, 0, ROCKTRAY_DONE, NOTHING },
+    { JSON, BYTES(" Subject: Hi\n\n"), NOTHING, 0, ROCKTRAY_LEADING_SPACE, NOTHING },
+    { JSON, BYTES("Subject: Hi\n\rHello"), NOTHING, 0, ROCKTRAY_LONE_CARRIAGE_RETURN, NOTHING },
+    /* RFC 2045, section 6; RFC 4648, section 10 */
+    { CONTENT, BYTES(IN_BASE64 "Zm9vYmFy"), NOTHING, 0, ROCKTRAY_DONE, BYTES("foobar") },
+    { CONTENT, BYTES(IN_BASE64 "Zm9v*mFy"), NOTHING, 0, ROCKTRAY_NOT_BASE64, NOTHING },
+    { CONTENT, BYTES("Content-Transfer-Encoding: quoted-printable\n\na=3Db=\nc"), NOTHING, 0, ROCKTRAY_DONE,
+      BYTES("a=bc") },
+    { CONTENT, BYTES("\n\0\xff"), NOTHING, 0, ROCKTRAY_DONE, BYTES("\0\xff") },
+    { CONTENT, NOTHING, NOTHING, 0, ROCKTRAY_DONE, BYTES("") },
+    { CONTENT, BYTES(" x"), NOTHING, 0, ROCKTRAY_LEADING_SPACE, NOTHING },
+    { CONTENT, BYTES("\rx"), NOTHING, 0, ROCKTRAY_LONE_CARRIAGE_RETURN, NOTHING },
+    /* the Encoding Standard */
+    { TEXT, BYTES(PART "windows-1252\n\n5 \x80"), NOTHING, 0, ROCKTRAY_DONE, BYTES("5 \xe2\x82\xac") },
+    { TEXT, BYTES(PART "koi8-r\n\n\xd0\xd2"), NOTHING, 0, ROCKTRAY_DONE, BYTES("\xd0\xbf\xd1\x80") },
+    { TEXT, BYTES(PART "utf-8\n\n\xff"), NOTHING, 0, ROCKTRAY_DONE, BYTES("\xef\xbf\xbd") },
+    { TEXT, BYTES(IN_BASE64 "Zm9v*mFy"), NOTHING, 0, ROCKTRAY_DONE, BYTES("foo") },
+    { TEXT, NOTHING, NOTHING, 0, ROCKTRAY_DONE, BYTES("") },
+    { TEXT, BYTES(" x"), NOTHING, 0, ROCKTRAY_LEADING_SPACE, NOTHING },
+    /* RFC 2047; RFC 5322, section 2.2.3 */
+    { HEADER, BYTES("Subject: =?utf-8?q?caf=C3=A9?=\r\n at noon\r\n\r\n"), BYTES("SUBJECT"), 0, ROCKTRAY_DONE,
+      BYTES("caf\xc3\xa9 at noon") },
+    { HEADER, BYTES("To: a\nCc: c\nTo: b\n"), BYTES("to"), 1, ROCKTRAY_DONE, BYTES("b") },
+    { HEADER, BYTES("To: a\nCc: c\nTo: b\n"), BYTES("to"), 2, ROCKTRAY_ABSENT, NOTHING },
+    { HEADER, BYTES("To: a\n\nCc: c\n"), BYTES("Cc"), 0, ROCKTRAY_ABSENT, NOTHING },
+    { HEADER, BYTES("To: a\n"), BYTES("To"), (size_t)-1, ROCKTRAY_ABSENT, NOTHING },
+    { HEADER, BYTES("To:\n"), BYTES("To"), 0, ROCKTRAY_DONE, BYTES("") },
+    { HEADER, BYTES(": x\n"), NOTHING, 0, ROCKTRAY_DONE, BYTES("x") },
+    { HEADER, BYTES("To: a\n"), BYTES("\xff"), 0, ROCKTRAY_NOT_UTF8, NOTHING },
+    { HEADER, NOTHING, NOTHING, 0, ROCKTRAY_ABSENT, NOTHING },
+    { HEADER, BYTES(" To: a\n"), BYTES("To"), 0, ROCKTRAY_LEADING_SPACE, NOTHING },
+    { RAW_HEADER, BYTES("A:  b \r\n\tc\r\n\r\n"), BYTES("a"), 0, ROCKTRAY_DONE, BYTES("b \r\n\tc") },
+    { RAW_HEADER, BYTES("To: a\nTo: =?x?q?y?=\n"), BYTES("To"), 1, ROCKTRAY_DONE, BYTES("=?x?q?y?=") },
+    { RAW_HEADER, BYTES("To: a\n"), BYTES("From"), 0, ROCKTRAY_ABSENT, NOTHING },
+    { RAW_HEADER, BYTES("To: a\n"), BYTES("\xc3"), 0, ROCKTRAY_NOT_UTF8, NOTHING },
+    { RAW_HEADER, BYTES("To: a\n\r"), BYTES("To"), 0, ROCKTRAY_LONE_CARRIAGE_RETURN, NOTHING },
+    /* RFC 5322, section 3.6.4 */
+    { IDS, BYTES("<a@b>\n <no> x <c@d>"), NOTHING, 0, ROCKTRAY_DONE, BYTES("<a@b><c@d>") },
+    { OWN_IDS, BYTES("<1234> <>"), NOTHING, 0, ROCKTRAY_DONE, BYTES("<1234>") },
+    { IDS, NOTHING, NOTHING, 0, ROCKTRAY_DONE, BYTES("") },
+    { IDS, BYTES("<a@b\xff>"), NOTHING, 0, ROCKTRAY_NOT_UTF8, NOTHING },
+    /* RFC 3464, section 2 */
+    { RECIPIENTS, BYTES(REPORT "Reporting-MTA: dns; mx\n\nFinal-Recipient: rfc822; \"a\"@b\nAction: failed\n\n--b--\n"),
+      NOTHING, 0, ROCKTRAY_DONE,
+      BYTES("[{\"final_recipient\":\"\\\"a\\\"@b\",\"original_recipient\":null,\"action\":\"failed\",\"status\":null,"
+            "\"diagnostic_code\":null}]\n") },
+    { RECIPIENTS, BYTES("Subject: no report\n\n"), NOTHING, 0, ROCKTRAY_DONE, BYTES("[]\n") },
+    { RECIPIENTS, NOTHING, NOTHING, 0, ROCKTRAY_DONE, BYTES("[]\n") },
+    { RECIPIENTS, BYTES(" x"), NOTHING, 0, ROCKTRAY_LEADING_SPACE, NOTHING },
+    { REASON, NOTHING, NOTHING, ROCKTRAY_TOO_DEEP, ROCKTRAY_DONE, BYTES("Recursion limit reached") },
+    { REASON, NOTHING, NOTHING, ROCKTRAY_DATE_MONTH, ROCKTRAY_DONE, BYTES("no month") },
+    { REASON, NOTHING, NOTHING, 1000, ROCKTRAY_DONE, BYTES("no code of this library") },
+};
+
+#define TESTS (sizeof tests / sizeof tests[0])
+
+static uint32_t call(const struct test *test, uint8_t *room, size_t length, size_t *needed)
+{
+    const struct bytes in = test->input, name = test->name;
+    uint32_t code = 0;
+    is_library = 1;
+    switch (test->kind) {
+    case JSON: code = rocktray_json(in.at, in.length, room, length, needed); break;
+    case CONTENT: code = rocktray_content(in.at, in.length, room, length, needed); break;
+    case TEXT: code = rocktray_text(in.at, in.length, room, length, needed); break;
+    case HEADER:
+        code = rocktray_header(in.at, in.length, name.at, name.length, test->number, room, length, needed);
+        break;
+    case RAW_HEADER:
+        code = rocktray_raw_header(in.at, in.length, name.at, name.length, test->number, room, length, needed);
+        break;
+    case IDS: code = rocktray_ids(in.at, in.length, true, room, length, needed); break;
+    case OWN_IDS: code = rocktray_ids(in.at, in.length, false, room, length, needed); break;
+    case RECIPIENTS: code = rocktray_recipients(in.at, in.length, room, length, needed); break;
+    case REASON: code = rocktray_reason((uint32_t)test->number, room, length, needed); break;
+    }
+    is_library = 0;
+    return code;
+}
+
+static atomic_long passed, failed;
+
+static void count(int is_right, const char *what, size_t which)
+{
+    if (is_right) {
+        passed++;
+    } else {
+        failed++;
+        printf("FAILED %s of test %zu\n", what, which);
+    }
+}
+
+/* A room of its own block, so that the sanitizer sees each byte beyond it; it is filled, and what comes behind the
+ * result has to stay. */
+static uint8_t *filled_room(size_t length)
+{
+    uint8_t *room = malloc(length ? length : 1);
+    memset(room, 0xA5, length);
+    return room;
+}
+
+static int is_filled(const uint8_t *room, size_t from, size_t to)
+{
+    for (size_t i = from; i < to; i++)
+        if (room[i] != 0xA5)
+            return 0;
+    return 1;
+}
+
+/* One call in a room of that length: the code, *needed, the result, and what must not be touched. */
+static int goes(const struct test *test, size_t length, uint32_t code, size_t whole)
+{
+    uint8_t *room = length ? filled_room(length) : NULL;
+    size_t needed = 77;
+    int is_right;
+    blocks = 0;
+    is_right = call(test, room, length, &needed) == code && blocks == 0;
+    if (code == ROCKTRAY_DONE)
+        is_right = is_right && needed == whole && is_filled(room, whole, length)
+            && (test->kind == JSON || !whole || memcmp(room, test->result.at, whole) == 0);
+    else
+        is_right = is_right && needed == (code == ROCKTRAY_TOO_SHORT ? whole : 77) && is_filled(room, 0, length);
+    free(room);
+    return is_right;
+}
+
+static void check_rooms(const struct test *test, size_t which)
+{
+    size_t whole = test->result.length;
+    if (test->code != ROCKTRAY_DONE) {
+        count(goes(test, 100, test->code, 0), "a refusal", which);
+        count(goes(test, 0, test->code, 0), "a refusal without a room", which);
+        return;
+    }
+    if (test->kind == JSON) {
+        call(test, NULL, 0, &whole);
+        count(whole > 0, "the length", which);
+    }
+    count(goes(test, whole, ROCKTRAY_DONE, whole), "the right room", which);
+    count(goes(test, whole + 100, ROCKTRAY_DONE, whole), "a larger room", which);
+    if (whole) {
+        count(goes(test, whole - 1, ROCKTRAY_TOO_SHORT, whole), "a room one byte short", which);
+        count(goes(test, 0, ROCKTRAY_TOO_SHORT, whole), "no room", which);
+    }
+}
+
+/* The Nth call for memory is refused, for each N, alone and with all after it. */
+static void check_memory(const struct test *test, size_t which)
+{
+    uint8_t *room = filled_room(4096);
+    long all;
+    size_t needed;
+    calls = 0;
+    call(test, room, 4096, &needed);
+    all = calls;
+    for (refuses_all_after = 0; refuses_all_after < 2; refuses_all_after++) {
+        for (long at = 1; at <= all; at++) {
+            uint32_t code;
+            memset(room, 0xA5, 4096);
+            needed = 77;
+            calls = blocks = 0;
+            refuse_at = at;
+            code = call(test, room, 4096, &needed);
+            refuse_at = 0;
+            count(code == ROCKTRAY_NO_MEMORY && needed == 77 && is_filled(room, 0, 4096) && blocks == 0,
+                  "a refused call for memory", which);
+        }
+    }
+    free(room);
+}
+
+static void check_date(const char *text, uint32_t code, int64_t seconds, bool is_known)
+{
+    int64_t told = -77;
+    bool is_told_known = !is_known;
+    uint32_t given = rocktray_date((const uint8_t *)text, text ? strlen(text) : 0, &told, &is_told_known);
+    if (code == ROCKTRAY_DONE)
+        count(given == code && told == seconds && is_told_known == is_known, text, 0);
+    else
+        count(given == code && told == -77 && is_told_known == !is_known, text ? text : "no date", 0);
+}
+
+/* RFC 5322, section 3.3 and appendix A; the seconds are those of GNU date */
+static void check_dates(void)
+{
+    check_date("Fri, 21 Nov 1997 09:55:06 -0600", ROCKTRAY_DONE, 880127706, true);
+    check_date("1 Jan 1970 00:00 XYZ", ROCKTRAY_DONE, 0, false);
+    check_date("31 Dec 1969 23:59:59 +0000", ROCKTRAY_DONE, -1, true);
+    check_date(NULL, ROCKTRAY_DATE_DAY, 0, false);
+    check_date("30 Feb 2012 20:57 +0200", ROCKTRAY_DATE_DAY, 0, false);
+    check_date("1 Foo 2012 20:57 +0200", ROCKTRAY_DATE_MONTH, 0, false);
+    check_date("1 Jan 1", ROCKTRAY_DATE_YEAR, 0, false);
+    check_date("1 Jan 2012 x", ROCKTRAY_DATE_TIME, 0, false);
+    check_date("1 Jan 2012 20:57 +9", ROCKTRAY_DATE_ZONE, 0, false);
+    check_date("1 Jan 2012 20:57 +0200 2", ROCKTRAY_DATE_TRAILING_TEXT, 0, true);
+    check_date("\xff", ROCKTRAY_NOT_UTF8, 0, true);
+}
+
+/* RFC 4155, appendix A */
+static void check_mailboxes(void)
+{
+    static const char box[] = "junk\n\nFrom a Fri Jul  8 12:08:34 2011\nSubject: 1\n\none\n\n"
+                              "From b Fri Jul  8 12:09:34 2011\n\ntwo";
+    static const char *const mails[] = { "Subject: 1\n\none\n", "\ntwo" };
+    const uint8_t *at = (const uint8_t *)box;
+    size_t left = sizeof box - 1, start = 77, end = 78, next = 79;
+    for (int i = 0; i < 2; i++) {
+        uint32_t code = rocktray_next_mail(at, left, false, &start, &end, &next);
+        count(code == ROCKTRAY_DONE && end - start == strlen(mails[i]) && memcmp(at + start, mails[i], end - start) == 0,
+              "a mail of a mailbox", (size_t)i);
+        if (code != ROCKTRAY_DONE)
+            return;
+        at += next;
+        left -= next;
+    }
+    start = 77, end = 78, next = 79;
+    count(left == 0 && rocktray_next_mail(at, left, false, &start, &end, &next) == ROCKTRAY_ABSENT && start == 77
+              && end == 78 && next == 79,
+          "the end of a mailbox", 0);
+    count(rocktray_next_mail(NULL, 0, true, &start, &end, &next) == ROCKTRAY_ABSENT && start == 77, "no mailbox", 0);
+}
+
+/* A mail with so many parts within parts. */
+static void check_levels(void)
+{
+    for (int levels = 100; levels <= 101; levels++) {
+        char *mail = calloc(1, 10000);
+        size_t needed = 77;
+        uint32_t code;
+        for (int i = 0; i < levels; i++)
+            sprintf(mail + strlen(mail), "Content-Type: multipart/mixed; boundary=b%03d\n\n--b%03d\n", i, i);
+        strcat(mail, "\nx");
+        code = rocktray_json((uint8_t *)mail, strlen(mail), NULL, 0, &needed);
+        count(levels == 100 ? code == ROCKTRAY_TOO_SHORT && needed > 77 : code == ROCKTRAY_TOO_DEEP && needed == 77,
+              "levels", (size_t)levels);
+        free(mail);
+    }
+}
+
+static int check_cases(void)
+{
+    for (size_t i = 0; i < TESTS; i++) {
+        check_rooms(&tests[i], i);
+        check_memory(&tests[i], i);
+    }
+    check_dates();
+    check_mailboxes();
+    check_levels();
+    return 0;
+}
+
+/* Files. */
+
+static struct bytes read_file(const char *name)
+{
+    FILE *file = fopen(name, "rb");
+    struct bytes read = NOTHING;
+    uint8_t *all;
+    if (!file || fseek(file, 0, SEEK_END)) {
+        perror(name);
+        exit(1);
+    }
+    read.length = (size_t)ftell(file);
+    rewind(file);
+    all = malloc(read.length ? read.length : 1);
+    if (fread(all, 1, read.length, file) != read.length) {
+        perror(name);
+        exit(1);
+    }
+    fclose(file);
+    read.at = all;
+    return read;
+}
+
+/* The result of a call in a room of its own, or the text of its code. */
+static struct bytes result_of(const struct test *test, uint32_t *code)
+{
+    struct bytes result = NOTHING;
+    uint8_t *room = NULL;
+    *code = call(test, NULL, 0, &result.length);
+    if (*code == ROCKTRAY_TOO_SHORT) {
+        room = malloc(result.length);
+        *code = call(test, room, result.length, &result.length);
+    }
+    result.at = room;
+    return result;
+}
+
+static int write_lines(char **names)
+{
+    for (; *names; names++) {
+        struct test test = { JSON, read_file(*names), NOTHING, 0, 0, NOTHING };
+        uint32_t code;
+        struct bytes line = result_of(&test, &code);
+        if (code == ROCKTRAY_DONE) {
+            fwrite(line.at, 1, line.length, stdout);
+        } else {
+            struct test reason = { REASON, NOTHING, NOTHING, code, 0, NOTHING };
+            struct bytes text = result_of(&reason, &code);
+            printf("refused %zu %.*s\n", test.input.length, (int)text.length, (const char *)text.at);
+            free((void *)text.at);
+        }
+        free((void *)line.at);
+        free((void *)test.input.at);
+    }
+    return 0;
+}
+
+/* Threads. */
+
+static struct bytes *files;
+static size_t count_of_files;
+
+/* A number that the results of all calls over all files and tests give. */
+static uint64_t run_all(void)
+{
+    uint64_t sum = 14695981039346656037u;
+    for (size_t i = 0; i < count_of_files + TESTS; i++) {
+        for (int kind = JSON; kind <= RECIPIENTS; kind++) {
+            struct test test = { kind, i < TESTS ? tests[i].input : files[i - TESTS], BYTES("subject"), 0, 0, NOTHING };
+            uint32_t code;
+            struct bytes result = result_of(&test, &code);
+            sum = (sum ^ code) * 1099511628211u;
+            for (size_t j = 0; j < result.length && code == ROCKTRAY_DONE; j++)
+                sum = (sum ^ result.at[j]) * 1099511628211u;
+            free((void *)result.at);
+        }
+    }
+    return sum;
+}
+
+static void *run_thread(void *sum)
+{
+    *(uint64_t *)sum = run_all();
+    return NULL;
+}
+
+static int check_threads(char **names)
+{
+    pthread_t threads[THREADS];
+    uint64_t sums[THREADS], sum;
+    while (names[count_of_files])
+        count_of_files++;
+    files = malloc((count_of_files + 1) * sizeof *files);
+    for (size_t i = 0; i < count_of_files; i++)
+        files[i] = read_file(names[i]);
+    sum = run_all();
+    for (int i = 0; i < THREADS; i++)
+        if (pthread_create(&threads[i], NULL, run_thread, &sums[i]))
+            exit(1);
+    for (int i = 0; i < THREADS; i++) {
+        pthread_join(threads[i], NULL);
+        count(sums[i] == sum, "a thread", (size_t)i);
+    }
+    for (size_t i = 0; i < count_of_files; i++)
+        free((void *)files[i].at);
+    free(files);
+    return 0;
+}
+
+int main(int count_of_words, char **words)
+{
+    if (count_of_words == 2 && strcmp(words[1], "cases") == 0)
+        check_cases();
+    else if (count_of_words > 1 && strcmp(words[1], "threads") == 0)
+        check_threads(words + 2);
+    else if (count_of_words > 1 && strcmp(words[1], "lines") == 0)
+        return write_lines(words + 2);
+    else
+        return 2;
+    printf("%ld passed, %ld failed\n", passed, failed);
+    return failed != 0;
+}

@@ -1,0 +1,4 @@
+pub mod Room
+pub mod Ids
+pub mod Mailbox
+pub mod Texts

@@ -1,0 +1,11 @@
+use Rattle.std.proofs.Common.{◌≡◌, refl}
+use Rattle.mail_c.specs.Calls.{recipients}
+use Rattle.mail_c.specs.Room.{Found}
+use Rattle.mail_c.proofs.lemmas.Room.{ends, gives}
+use Rattle.mail_c.proofs.rocktray_recipients.Goals as goal
+
+pub returns : goal.returns
+returns c =
+    let given = recipients c.args.mail.now in
+    let found = gives (λ (found : Found). given ≡ found) given c.recipients.result refl c.recipients.ensures in
+    ends (λ (found : Found). given ≡ found) c.recipients.result _ _ _ _ _ found c.leave.ensures

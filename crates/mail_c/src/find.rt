@@ -1,0 +1,176 @@
+//! What calls find, over any tables.
+ghost use Rattle.std.specs.Prelude.{◌≡◌, ◌++◌, IfOk, OnOk, flat_map, map, string_bytes};
+ghost use Rattle.mail_codec.specs.Tables.{charsets_with};
+ghost use Rattle.mailparse.specs.Outcome.{Answers, AnswersOrMemory, IsMemory};
+ghost use Rattle.mail_data.specs.lenient.Ids.{found_in};
+ghost use Rattle.mail_c.specs.Calls.{IsJson, bracketed, content, ids, raw_value, recipients};
+ghost use Rattle.mail_c.specs.Calls.{text, text_in, value};
+ghost use Rattle.mail_c.specs.Room.{Gives, bytes_found};
+
+use mail_data::lenient::{body_text, ids_in, lenient_body, own_ids_in};
+use mail_lines::{write_recipients, write_single};
+use mailparse::body::Body;
+use mailparse::{
+    MailHeaderMap, MailParseError, SingleByteTable, parse_headers, parse_mail, parse_mail_with,
+};
+use std::alloc::{AllocError, Global};
+use std::borrow::CowStr;
+
+/// The line of JSON of a mail.
+pub(crate) fn json(
+    alloc: Global,
+    raw: &[u8],
+    tables: &[SingleByteTable<'_>],
+) -> Result<Option<Vec<u8>>, MailParseError>
+    ensures { Gives (IsJson (charsets_with tables.now) raw.now) result }
+{
+    let mut line = Vec::new(alloc);
+    match write_single(alloc, raw, None, &mut line, tables) {
+        Ok(true) => Ok(Some(line)),
+        Ok(false) => match parse_mail_with(alloc, raw, tables) {
+            Ok(_) => unreachable!(),
+            Err(error) => Err(error),
+        },
+        Err(_) => Err(MailParseError::Memory(AllocError)),
+    }
+}
+
+/// What a delivery report says of each recipient, as JSON.
+#[tactic(auto, unfolding(crate::specs::Calls::recipients))]
+pub(crate) fn recipients(alloc: Global, raw: &[u8]) -> Result<Option<Vec<u8>>, MailParseError>
+    ensures { AnswersOrMemory bytes_found result (recipients raw.now) }
+{
+    let mail = parse_mail(alloc, raw)?;
+    let mut line = Vec::new(alloc);
+    match write_recipients(alloc, &mail, &mut line) {
+        Ok(()) => Ok(Some(line)),
+        Err(_) => Err(MailParseError::Memory(AllocError)),
+    }
+}
+
+/// The bytes that the body of a message stands for.
+#[tactic(auto, unfolding(crate::specs::Calls::content, mailparse::specs::Body::decoded))]
+pub(crate) fn content(alloc: Global, raw: &[u8]) -> Result<Option<Vec<u8>>, MailParseError>
+    ensures { AnswersOrMemory bytes_found result (content raw.now) }
+{
+    let mail = parse_mail(alloc, raw)?;
+    match lenient_body(alloc, &mail)? {
+        Body::Base64(body) => Ok(Some(body.get_decoded(alloc)?)),
+        Body::QuotedPrintable(body) => Ok(Some(body.get_decoded(alloc)?)),
+        Body::SevenBit(body) => Ok(Some(body.get_raw().to_vec(alloc)?)),
+        Body::EightBit(body) => Ok(Some(body.get_raw().to_vec(alloc)?)),
+        Body::Binary(body) => Ok(Some(body.get_raw().to_vec(alloc)?)),
+    }
+}
+
+/// The text of the body of a message.
+#[tactic(auto, unfolding(crate::specs::Calls::text))]
+pub(crate) fn text(
+    alloc: Global,
+    raw: &[u8],
+    tables: &[SingleByteTable<'_>],
+) -> Result<Option<Vec<u8>>, MailParseError>
+    ensures { AnswersOrMemory bytes_found result (text (charsets_with tables.now) raw.now) }
+{
+    let mail = parse_mail_with(alloc, raw, tables)?;
+    let read = body_text(alloc, &mail, tables)?;
+    Ok(Some(read.text.into_bytes()))
+}
+
+/// The value of the header with a name that so many others with it stand before, as it stands in the
+/// message.
+#[tactic(auto, unfolding(crate::specs::Calls::raw_value))]
+pub(crate) fn raw_value(
+    alloc: Global,
+    raw: &[u8],
+    name: &[u8],
+    number: usize,
+) -> Result<Option<Vec<u8>>, MailParseError>
+    ensures { AnswersOrMemory bytes_found result (raw_value raw.now name.now number) }
+{
+    let name = text_in(name)?;
+    let (headers, _) = parse_headers(alloc, raw)?;
+    let named = headers.get_all_headers(alloc, name)?;
+    match named.as_slice().get(number) {
+        Some(header) => Ok(Some(header.get_value_raw().to_vec(alloc)?)),
+        None => Ok(None),
+    }
+}
+
+/// The text of that value.
+#[tactic(auto, unfolding(crate::specs::Calls::value))]
+pub(crate) fn value(
+    alloc: Global,
+    raw: &[u8],
+    name: &[u8],
+    number: usize,
+    tables: &[SingleByteTable<'_>],
+) -> Result<Option<Vec<u8>>, MailParseError>
+    ensures { AnswersOrMemory bytes_found result
+        (value (charsets_with tables.now) raw.now name.now number) }
+{
+    let name = text_in(name)?;
+    let (headers, _) = parse_headers(alloc, raw)?;
+    let named = headers.get_all_headers(alloc, name)?;
+    match named.as_slice().get(number) {
+        Some(header) => Ok(Some(header.get_value_with(alloc, tables)?.into_bytes())),
+        None => Ok(None),
+    }
+}
+
+/// The ids of a text, each between its brackets.
+#[tactic(auto, unfolding(crate::specs::Calls::ids))]
+pub(crate) fn ids(
+    alloc: Global,
+    text: &[u8],
+    needs_at: bool,
+) -> Result<Option<Vec<u8>>, MailParseError>
+    ensures { AnswersOrMemory bytes_found result (ids needs_at text.now) }
+{
+    let text = text_in(text)?;
+    let found = found_in(alloc, text, needs_at)?;
+    Ok(Some(bracketed(alloc, found.as_slice())?))
+}
+
+/// The ids of a text, each with an `@` where one is needed.
+fn found_in(alloc: Global, text: &str, needs_at: bool) -> Result<Vec<String>, AllocError>
+    ensures { IfOk result (λ ids. map string_bytes ids.items ≡ found_in needs_at text.now) }
+{
+    if needs_at {
+        ids_in(alloc, text)
+    } else {
+        own_ids_in(alloc, text)
+    }
+}
+
+/// Ids, each between its brackets.
+fn bracketed(alloc: Global, ids: &[String]) -> Result<Vec<u8>, AllocError>
+    ensures { IfOk result (λ bytes.
+        bytes.items ≡ flat_map bracketed (map string_bytes ids.now)) }
+{
+    let mut bytes = Vec::new(alloc);
+    for id in ids {
+        push_id(&mut bytes, id.as_bytes())?;
+    }
+    Ok(bytes)
+}
+
+/// Appends an id between its brackets.
+fn push_id(bytes: &mut Vec<u8>, id: &[u8]) -> Result<(), AllocError>
+    ensures { OnOk result (bytes.new.items ≡ bytes.old.items ++ bracketed id.now) }
+{
+    bytes.push(b'<')?;
+    bytes.extend_from_slice(id)?;
+    bytes.push(b'>')?;
+    Ok(())
+}
+
+/// The text that bytes are.
+pub(crate) fn text_in(bytes: &[u8]) -> Result<&str, MailParseError>
+    ensures { Answers (λ text. text.now) result (text_in bytes.now) }
+{
+    match str::from_utf8(bytes) {
+        Ok(text) => Ok(text),
+        Err(_) => Err(MailParseError::EncodingError(CowStr::Borrowed("The text is not UTF-8"))),
+    }
+}

@@ -1,0 +1,102 @@
+//! What delivery reports say, as JSON.
+ghost use Rattle.std.specs.Prelude.{◌≡◌, codes, option_map};
+ghost use Rattle.mailparse.specs.Views.{tree_of};
+ghost use Rattle.mail_data.specs.Bounce.{recipients};
+ghost use Rattle.mail_data.specs.BounceViews.{delivery};
+ghost use Rattle.mail_lines.specs.Reports.{deliveries_text, delivery_text, field_text};
+ghost use Rattle.mail_lines.specs.Written.{Writes};
+
+use crate::strings::{write_comma, write_name, write_word};
+use mail_data::bounce::{Recipient, recipients};
+use mail_program::Fault;
+use mailparse::ParsedMail;
+use std::alloc::Global;
+use std::io::Write;
+
+/// Writes what a delivery report says of each recipient (RFC 3464, section 2.3), as a line with one
+/// list: an object for each, with the members `final_recipient`, `original_recipient`, `action`,
+/// `status` and `diagnostic_code`, which are strings or `null`. The list is empty where the mail is no
+/// such report. Takes memory as `mail_data::bounce::recipients` does, and for each string.
+///
+/// # Errors
+///
+/// `Fault::Output` where a write fails, and `Fault::Mail` with `MailParseError::Memory` where it runs
+/// out of memory.
+///
+/// # Examples
+///
+/// ```rust
+/// use mail_lines::write_recipients;
+/// use mailparse::parse_mail;
+///
+/// let raw = b"Content-Type: multipart/report; boundary=b\n\n\
+///     --b\nContent-Type: message/delivery-status\n\n\
+///     Reporting-MTA: dns; mx.example.org\n\n\
+///     Final-Recipient: rfc822; ann@example.org\nAction: failed\n\n--b--\n";
+/// let mut out = Vec::new(alloc);
+/// write_recipients(alloc, &parse_mail(alloc, raw)?, &mut out)?;
+/// let line = b"[{\"final_recipient\":\"ann@example.org\",\"original_recipient\":null,";
+/// assert!(rt; out.as_slice().starts_with(line));
+/// assert!(rt; out.as_slice().ends_with(b"\"status\":null,\"diagnostic_code\":null}]\n"));
+/// ```
+pub fn write_recipients<W: Write>(
+    alloc: Global,
+    mail: &ParsedMail<'_>,
+    out: &mut W,
+) -> Result<(), Fault>
+    ensures { Writes (W.contents out.old) (W.contents out.new) result
+        (deliveries_text (recipients (tree_of mail.now))) }
+{
+    let found = recipients(alloc, mail)?;
+    write_word(out, "[")?;
+    let mut is_first = true;
+    for recipient in &found {
+        write_comma(out, is_first)?;
+        write_recipient(alloc, out, recipient)?;
+        is_first = false;
+    }
+    write_word(out, "]\n")
+}
+
+/// Writes the object of a recipient.
+fn write_recipient<W: Write>(alloc: Global, out: &mut W, recipient: &Recipient) -> Result<(), Fault>
+    ensures { Writes (W.contents out.old) (W.contents out.new) result
+        (delivery_text (delivery recipient.now)) }
+{
+    let r = recipient;
+    write_field(
+        alloc,
+        out,
+        "{\"final_recipient\":",
+        r.final_recipient.as_deref(),
+    )?;
+    write_field(
+        alloc,
+        out,
+        ",\"original_recipient\":",
+        r.original_recipient.as_deref(),
+    )?;
+    write_field(alloc, out, ",\"action\":", r.action.as_deref())?;
+    write_field(alloc, out, ",\"status\":", r.status.as_deref())?;
+    write_field(
+        alloc,
+        out,
+        ",\"diagnostic_code\":",
+        r.diagnostic_code.as_deref(),
+    )?;
+    write_word(out, "}")
+}
+
+/// Writes what leads to a member, and its string, or `null` where there is none.
+fn write_field<W: Write>(
+    alloc: Global,
+    out: &mut W,
+    lead: &str,
+    text: Option<&str>,
+) -> Result<(), Fault>
+    ensures { Writes (W.contents out.old) (W.contents out.new) result
+        (field_text lead.now (option_map (λ text. text.now) text.entry)) }
+{
+    write_word(out, lead)?;
+    write_name(alloc, out, text)
+}

