@@ -19,6 +19,7 @@ use Rattle.mail_data.specs.lenient.Encoding.{lenient_body_kind}
 use Rattle.mail_data.specs.lenient.Ids.{found_in}
 use Rattle.mail_data.specs.lenient.Texts.{body_text}
 use Rattle.mail_lines.specs.Lines.{IsMailLine}
+use Rattle.mail_lines.specs.Reading.{Reading}
 use Rattle.mail_lines.specs.Reports.{deliveries_text}
 use Rattle.mail_c.specs.Codes.{absent, date_code, done, not_utf8}
 use Rattle.mail_c.specs.Room.{Found}
@@ -54,9 +55,13 @@ raw_value raw name number = do
 
 -- Under the charsets that are known.
 module _ (known : Charsets) where
+  -- without hashes, and with texts as they stand
+  abbrev pub plain_reading : Reading
+  plain_reading = record { known = known; hashes = false; joins_flowed = false }
+
   -- the line of JSON of a mail that is not refused
   abbrev pub IsJson : List ℕ → Found → Type 0
-  IsJson raw (Ok (Some line)) = IsMailLine known None raw true line
+  IsJson raw (Ok (Some line)) = IsMailLine plain_reading None raw true line
   IsJson raw (Ok None) = ⊥
   IsJson raw (Err refusal) = read_mail_in known 100 raw ≡ Err refusal
 

@@ -8,7 +8,7 @@ ghost use Rattle.mail_c.specs.Calls.{text, text_in, value};
 ghost use Rattle.mail_c.specs.Room.{Gives, bytes_found};
 
 use mail_data::lenient::{body_text, ids_in, lenient_body, own_ids_in};
-use mail_lines::{write_recipients, write_single};
+use mail_lines::{Reading, write_recipients, write_single};
 use mailparse::body::Body;
 use mailparse::{
     MailHeaderMap, MailParseError, SingleByteTable, parse_headers, parse_mail, parse_mail_with,
@@ -25,7 +25,12 @@ pub(crate) fn json(
     ensures { Gives (IsJson (charsets_with tables.now) raw.now) result }
 {
     let mut line = Vec::new(alloc);
-    match write_single(alloc, raw, None, &mut line, tables) {
+    let reading = Reading {
+        tables,
+        hashes: false,
+        joins_flowed: false,
+    };
+    match write_single(alloc, raw, None, &mut line, reading) {
         Ok(true) => Ok(Some(line)),
         Ok(false) => match parse_mail_with(alloc, raw, tables) {
             Ok(_) => unreachable!(),
