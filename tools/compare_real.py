@@ -25,7 +25,7 @@ import sys
 import tempfile
 
 from read_by_email import body_of, ids, is_file, mails_of, parts_of, raw_value, seconds, shown, text_of, value_of
-from shared.extracted import saved_files
+from shared.extracted import bytes_of, closed, saved_files
 from shared.programs import built_program
 
 BATCH = 1000
@@ -146,9 +146,10 @@ def not_reached(mail):
     return [text.split(";", 1)[-1].strip() for text in found if text is not None]
 
 
-def sizes(mail):
+def sizes(data):
     """The names and sizes of the files of a mail."""
-    return [(part.get_filename(), len(body_of(part))) for _path, part in parts_of(mail) if is_file(part)]
+    mail = email.message_from_bytes(closed(data))
+    return [(part.get_filename(), len(bytes_of(part))) for _path, part in parts_of(mail) if is_file(part)]
 
 
 def own_id(mail):
@@ -182,7 +183,6 @@ READERS = {
     "date": lambda mail: seconds(raw_value(mail, "date")),
     "id": own_id,
     "texts": texts,
-    "attachments": sizes,
     "not reached": not_reached,
     "parents": lambda mail: once(ids(raw_value(mail, "references"), True) + ids(raw_value(mail, "in-reply-to"), True)),
 }
@@ -196,7 +196,7 @@ def said_there(data):
             said[item] = reader(email.message_from_bytes(data))
         except Exception as error:  # what the package raises is not said anywhere
             said[item] = Refused(f"{type(error).__name__}: {error}")
-    for item, reader in (("bytes", contents), ("iter_attachments", attachments)):
+    for item, reader in (("attachments", sizes), ("bytes", contents), ("iter_attachments", attachments)):
         try:
             said[item] = reader(data)
         except Exception as error:  # as above
