@@ -26,9 +26,9 @@ import sys
 import tempfile
 
 from read_by_email import (
-    addresses_of, all_parts, body_of, ids, is_file, mails_of, raw_value, seconds, shown, text_of, value_of,
+    addresses_of, all_parts, body_of, ids, is_file, mails_of, parts_of, raw_value, seconds, shown, text_of, value_of,
 )
-from shared.extracted import saved_files
+from shared.extracted import bytes_of, closed, kind_of, saved_files
 from shared.programs import built_program
 
 BATCH = 1000
@@ -149,9 +149,12 @@ def not_reached(mail):
     return [text.split(";", 1)[-1].strip() for text in found if text is not None]
 
 
-def sizes(mail):
-    """The names and sizes of the files of a mail."""
-    return [(part.get_filename(), len(body_of(part))) for _path, part in all_parts(mail) if is_file(part)]
+def sizes(data):
+    """The names and sizes of the files of a mail, and then of the mails inside it."""
+    parts = [part for _path, part in parts_of(email.message_from_bytes(closed(data)))]
+    found = [(part.get_filename(), len(bytes_of(part))) for part in parts if is_file(part)]
+    inside = [bytes_of(part) for part in parts if kind_of(part) in ("message/rfc822", "message/global")]
+    return found + [file for inner in inside for file in sizes(inner)]
 
 
 def own_id(mail):
@@ -185,7 +188,6 @@ READERS = {
     "date": lambda mail: seconds(raw_value(mail, "date")),
     "id": own_id,
     "texts": texts,
-    "attachments": sizes,
     "not reached": not_reached,
     "parents": lambda mail: once(ids(raw_value(mail, "references"), True) + ids(raw_value(mail, "in-reply-to"), True)),
 }
@@ -199,7 +201,7 @@ def said_there(data):
             said[item] = reader(email.message_from_bytes(data))
         except Exception as error:  # what the package raises is not said anywhere
             said[item] = Refused(f"{type(error).__name__}: {error}")
-    for item, reader in (("bytes", contents), ("iter_attachments", attachments)):
+    for item, reader in (("attachments", sizes), ("bytes", contents), ("iter_attachments", attachments)):
         try:
             said[item] = reader(data)
         except Exception as error:  # as above
