@@ -6,14 +6,21 @@ indexes and the labels of the WHATWG Encoding Standard; `rt fmt` then sets the l
 writes nothing and says whether the file is what the sources give; then the last line is
 `N passed, N failed`, and the status is 1 where it is not. What Python's codecs read under each table
 stands in crates/mail_vectors/data/tables.txt.
+
+With --indexes ORACLE it makes the indexes and labels of crates/mail_charsets instead. ORACLE is the
+program of tools/charset_oracle, which decodes each pair and each four bytes by encoding_rs. Then it
+says how many entries Python's codecs read otherwise; docs/DIFFERENCES.md has the reasons.
 """
 import argparse
 import os
 import re
+import struct
+import subprocess
 import sys
 
 TOP = os.path.dirname(os.path.dirname(os.path.abspath(__file__)))
 PATH = os.path.join(TOP, "crates", "mail_tables", "src", "tables.rt")
+INDEX_PATH = os.path.join(TOP, "crates", "mail_charsets", "src", "tables.rt")
 # the name of each encoding in the standard, and that of its characters in encoding_rs
 ENCODINGS = [
     ("IBM866", "ibm866"),
@@ -129,19 +136,134 @@ def source_of(sources):
     return "\n".join(made)
 
 
+def decoded(oracle, label, records):
+    """The texts of records in an encoding, by encoding_rs."""
+    given = label.encode() + b"\n" + b"".join(struct.pack("<H", len(r)) + r for r in records)
+    output = subprocess.run([oracle], input=given, stdout=subprocess.PIPE, check=True).stdout
+    texts, at = [], 0
+    while at < len(output):
+        length = struct.unpack_from("<I", output, at)[0]
+        texts.append(output[at + 4:at + 4 + length].decode())
+        at += 4 + length
+    return texts
+
+
+def code(text):
+    """The code of a text of one character, and 0 for any other."""
+    return ord(text) if len(text) == 1 and text != "\uFFFD" else 0
+
+
+def codec_code(codec, record):
+    """The same by a codec of Python."""
+    try:
+        return code(record.decode(codec))
+    except UnicodeDecodeError:
+        return 0
+
+
+def span(*ends):
+    """The bytes from the first to the last of each two."""
+    return [byte for first, last in zip(ends[::2], ends[1::2]) for byte in range(first, last + 1)]
+
+
+# each index: its name, its label, its lead bytes, its trail bytes, what stands before each pair, and
+# the codec of Python to compare with
+INDEXES = [
+    ("EUC_KR", "euc-kr", span(0x81, 0xFE), span(0x41, 0xFE), b"", "cp949"),
+    ("GB18030", "gb18030", span(0x81, 0xFE), span(0x40, 0x7E, 0x80, 0xFE), b"", "gb18030"),
+    ("BIG5", "big5", span(0x81, 0xFE), span(0x40, 0x7E, 0xA1, 0xFE), b"", "big5hkscs"),
+    ("JIS_0208", "shift_jis", span(0x81, 0x9F, 0xE0, 0xFC), span(0x40, 0x7E, 0x80, 0xFC), b"", "cp932"),
+    ("JIS_0212", "euc-jp", span(0xA1, 0xFE), span(0xA1, 0xFE), b"\x8F", "euc_jp"),
+]
+
+
+def index_of(oracle, row):
+    """The entries of an index, without zeros at its end."""
+    name, label, leads, trails, before, codec = row
+    records = [before + bytes([lead, trail]) for lead in leads for trail in trails]
+    entries = [code(text) for text in decoded(oracle, label, records)]
+    other = sum(a != codec_code(codec, r) for a, r in zip(entries, records))
+    print("%s: %d characters, of which %s reads %d pairs otherwise" % (
+        name, sum(map(bool, entries)), codec, other))
+    if name == "JIS_0208":
+        # the characters of private use are reckoned
+        entries[8836:10716] = [0] * 1880
+    while not entries[-1]:
+        entries.pop()
+    return entries
+
+
+def ranges_of(oracle):
+    """The pointers of four bytes of gb18030 at which the characters of the plane 0 do not go on."""
+    records = [bytes([a, b, c, d]) for a in span(0x81, 0xFE) for b in span(0x30, 0x39)
+               for c in span(0x81, 0xFE) for d in span(0x30, 0x39)]
+    texts = decoded(oracle, "gb18030", records)
+    found = [ord(text) if len(text) == 1 else 0 for text in texts]
+    other = sum(a != 0xFFFD and a != codec_code("gb18030", r) for a, r in zip(found, records))
+    print("four bytes of gb18030: Python reads %d otherwise" % other)
+    assert found[7457] == 0xE7C7 and found[189000:1237576] == list(range(0x10000, 0x110000))
+    ranges, after = [], -1
+    for pointer, entry in enumerate(found[:39420]):
+        if pointer != 7457 and entry != after:
+            ranges.append((pointer, entry))
+            after = entry
+        after += 1
+    return ranges
+
+
+def array_source(name, words, text):
+    """A constant array with a line of documentation."""
+    kind = "(u16, u16)" if words[0].startswith("(") else "u16"
+    width = 12 if kind == "u16" else 6
+    lines = ["/// %s" % text, "#[rattlefmt::skip]", "pub static %s: [%s; %d] = [" % (name, kind, len(words))]
+    for start in range(0, len(words), width):
+        lines.append("    %s," % ", ".join(words[start:start + width]))
+    return "\n".join(lines + ["];"])
+
+
+def index_source(oracle):
+    """The file of the indexes."""
+    indexes = {row[0]: index_of(oracle, row) for row in INDEXES}
+    plane = sorted({entry for entry in indexes["BIG5"] if entry > 0xFFFF})
+    assert all(0x20000 <= entry < 0x30000 for entry in plane) and len(plane) <= 0x800
+    place = {entry: 0xD800 + number for number, entry in enumerate(plane)}
+    indexes["BIG5"] = [place.get(entry, entry) for entry in indexes["BIG5"]]
+    texts = {
+        "EUC_KR": "The index of EUC-KR.",
+        "GB18030": "The index of GBK and gb18030.",
+        "BIG5": "The index of Big5; from 0xD800 on stand the places in `BIG5_PLANE`.",
+        "JIS_0208": "The index of JIS X 0208.",
+        "JIS_0212": "The index of JIS X 0212.",
+    }
+    made = ["//! The indexes, made by `tools/make_tables.py`; do not edit them."]
+    for name, entries in indexes.items():
+        assert all(entry <= 0xFFFF for entry in entries)
+        made.append(array_source(name, ["0x%04X" % entry for entry in entries], texts[name]))
+    made.append(array_source("BIG5_PLANE", ["0x%04X" % (entry - 0x20000) for entry in plane],
+                             "The characters of Big5 from U+20000 on, less that number."))
+    made.append(array_source("GB18030_RANGES", ["(%d, 0x%04X)" % pair for pair in ranges_of(oracle)],
+                             "The ranges of gb18030: a pointer of four bytes, and the character at it."))
+    return "\n\n".join(made) + "\n"
+
+
 def main():
     parser = argparse.ArgumentParser(description=__doc__, formatter_class=argparse.RawDescriptionHelpFormatter)
     parser.add_argument("--check", action="store_true", help="write nothing, and compare")
+    parser.add_argument("--indexes", metavar="ORACLE", help="make those of mail_charsets")
     parser.add_argument("sources", metavar="SOURCES", help="the folder `src` of encoding_rs")
     arguments = parser.parse_args()
     if not os.path.isfile(os.path.join(arguments.sources, "data.rs")):
         parser.error("no file data.rs in %s" % arguments.sources)
-    text = source_of(arguments.sources)
+    path, text = PATH, ""
+    if arguments.indexes:
+        path, text = INDEX_PATH, index_source(arguments.indexes)
+    else:
+        text = source_of(arguments.sources)
     if not arguments.check:
-        with open(PATH, "w", encoding="utf-8") as file:
+        with open(path, "w", encoding="utf-8") as file:
             file.write(text)
         return
-    with open(PATH, encoding="utf-8") as file:
+    with open(path, encoding="utf-8") as file:
         same = unspaced(file.read()) == unspaced(text)
     print("%d passed, %d failed" % (same, not same))
     sys.exit(0 if same else 1)

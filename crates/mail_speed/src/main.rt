@@ -4,11 +4,12 @@
 //! text is, which begins with LF), `whitespace` (ASCII whitespace goes), `base64`, `base64-body`
 //! (Base64 in which whitespace counts as absent, as in the body of a message), `quoted-printable`,
 //! `parse` (a message is read), `values` (and the value of each of its headers), `full` (the same
-//! of each of its parts, and the bodies are decoded), or `mailbox-parse` or `mailbox-full` (the input
-//! is a mailbox, and each message of it is read on its own). How much came out goes to standard
-//! output, and the nanoseconds for each byte of the input, the least and the median of the rounds,
-//! to standard error. tools/time_codecs.sh runs it on large bodies, and tools/time_mails.sh on large
-//! mails and mailboxes.
+//! of each of its parts, and the bodies are decoded), `mailbox-parse` or `mailbox-full` (the input is
+//! a mailbox, and each message of it is read on its own), or the label of an encoding of several
+//! bytes, in which the input is decoded. How much came out goes to standard output, and the
+//! nanoseconds for each byte of the input, the least and the median of the rounds, to standard error.
+//! tools/time_codecs.sh runs it on large bodies, tools/time_charsets.py on texts in each encoding,
+//! and tools/time_mails.sh on large mails and mailboxes.
 #![tactic(auto)]
 
 mod times;

@@ -1,5 +1,6 @@
 //! What is timed.
 
+use mail_charsets::{Encoding, Indexes};
 use mail_codec::bytescan::{find, find_byte, strip_ascii_whitespace};
 use mail_codec::transfer::{decode_base64, decode_base64_body, decode_quoted_printable};
 use mail_data::mailbox::read_mailbox;
@@ -21,7 +22,18 @@ pub fn run(alloc: Global, name: &str, input: &[u8]) -> Result<usize, MailParseEr
         "full" => full(alloc, &parse_mail(alloc, input)?),
         "mailbox-parse" => mails(alloc, false, input),
         "mailbox-full" => mails(alloc, true, input),
-        _ => Err(MailParseError::Generic("no work has this name")),
+        _ => decoded(alloc, name, input),
+    }
+}
+
+/// Decodes in the encoding of several bytes that has this label. Tells how long the text is.
+fn decoded(alloc: Global, label: &str, input: &[u8]) -> Result<usize, MailParseError> {
+    match Encoding::for_label(label.as_bytes()) {
+        Some(encoding) => {
+            let indexes = Indexes::standard();
+            Ok(encoding.decode_under(alloc, &indexes, input)?.len())
+        }
+        None => Err(MailParseError::Generic("no work has this name")),
     }
 }
 

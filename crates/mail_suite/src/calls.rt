@@ -3,6 +3,7 @@
 pub mod bodies;
 mod charsets;
 mod decoders;
+mod encodings;
 mod errors;
 mod headers;
 mod kinds;
@@ -35,6 +36,7 @@ pub fn make(alloc: Global, row: &Row, answer: &mut Answer) -> bool {
         || errors::make(alloc, row, answer)
         || searches::make(alloc, row, answer)
         || charsets::make(alloc, row, answer)
+        || encodings::make(alloc, row, answer)
         || transfer::make(alloc, row, answer)
         || tables::make(alloc, row, answer)
         || decoders::make(alloc, row, answer)

@@ -1,0 +1,12 @@
+use Rattle.std.proofs.Common.{◌≡◌, ◌++◌, length, string_bytes}
+use Rattle.mail_charsets.specs.Front.{front_by, text_by}
+use Rattle.mail_charsets.proofs.encoded.decode.Given as goal
+
+-- what was made, and then the text of the rest, is all
+abbrev pub invariant-rest : goal.invariant-rest
+invariant-rest g l =
+    let front = front_by (g.E.Encoded.long l.encoding) (g.E.Encoded.single l.encoding) (g.E.Encoded.pairs l.encoding) in
+    string_bytes l.text ++ text_by front l.rest ≡ text_by front l.bytes
+
+abbrev pub decreases-rest : goal.decreases-rest
+decreases-rest g l = length l.rest

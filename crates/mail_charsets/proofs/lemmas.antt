@@ -1,0 +1,3 @@
+pub mod Front
+pub mod Few
+pub mod Iso2022Jp

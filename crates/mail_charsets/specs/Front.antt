@@ -1,0 +1,88 @@
+-- How bytes are read in an encoding: the characters at the front, and how many bytes they take; then the same of the bytes after those
+-- (the WHATWG Encoding Standard, sections 4.1 and 5).
+use Rattle.std.specs.Prelude.{ℕ, zero, suc, ◌-◌, ◌<◌, ◌≤◌, ◌||◌, ◌==◌, List, [], ◌∷◌, ◌++◌, length, slice_index, nat_lt, Option, None, Some, encode_utf8_all, if◌then◌else◌}
+use Rattle.std.specs.Int.{is_in_range}
+use Rattle.mail_codec.specs.Charset.{replacement}
+use Rattle.mail_charsets.specs.declared.front.Characters.{Characters}
+use Rattle.mail_charsets.specs.declared.front.Characters.TheVariants.{Nothing, One, Two}
+use Rattle.mail_charsets.specs.declared.front.Front.{Front}
+
+-- characters, and how many bytes they take
+abbrev pub Taken : Type 0
+Taken = List ℕ × ℕ
+
+-- the characters of the bytes after some that have been read already, where the first of them are read so
+abbrev pub chars_after : ℕ → (List ℕ → Taken) → List ℕ → List ℕ
+chars_after skipped front [] = []
+chars_after zero front (byte ∷ bytes) = (front (byte ∷ bytes)).0 ++ chars_after ((front (byte ∷ bytes)).1 - 1) front bytes
+chars_after (suc skipped) front (byte ∷ bytes) = chars_after skipped front bytes
+
+-- of so many bytes at least one is taken, at most four, and no more than there are
+abbrev pub TakesFew : ℕ → Taken → Type 0
+TakesFew count taken = (0 < taken.1) × (taken.1 ≤ count) × (taken.1 ≤ 4)
+
+-- the characters of bytes of which those at the front are read so
+abbrev pub chars_by : (List ℕ → Taken) → List ℕ → List ℕ
+chars_by front bytes = chars_after 0 front bytes
+
+-- the text of bytes of which those at the front are read so
+unfoldable pub text_by : (List ℕ → Taken) → List ℕ → List ℕ
+text_by front bytes = encode_utf8_all (chars_by front bytes)
+
+-- so many bytes are no character
+abbrev pub fault : ℕ → Taken
+fault taken = (replacement ∷ [], taken)
+
+-- a character of one byte, if there is one
+abbrev pub one_or : Option ℕ → Taken → Taken
+one_or None other = other
+one_or (Some character) other = (character ∷ [], 1)
+
+-- what is taken for a sequence of more than two bytes, if there is one
+abbrev pub long_or : Option Taken → Taken → Taken
+long_or None other = other
+long_or (Some taken) other = taken
+
+-- so many bytes with their characters, or another number of bytes that are no character
+abbrev pub whole_or : List ℕ → ℕ → ℕ → Taken
+whole_or [] taken faulty = fault faulty
+whole_or (character ∷ others) taken faulty = (character ∷ others, taken)
+
+-- how many of some bytes are no character together: all, but an ASCII byte at their end is read again
+abbrev pub faulty : ℕ → ℕ → ℕ
+faulty last taken = if nat_lt last 0x80 then taken - 1 else taken
+
+-- a lead byte and the byte after it, with their characters, if they have any
+abbrev pub pair : List ℕ → ℕ → Taken
+pair characters trail = whole_or characters 2 (faulty trail 2)
+
+-- The characters at the front where ASCII bytes are themselves: a byte that stands alone has its character by `single`, and any other
+-- byte is a lead byte. A lead byte at the end is no character. With the bytes after it a lead byte may begin a longer sequence, and else
+-- it has its characters with the byte after it.
+unfoldable pub front_by : (List ℕ → Option Taken) → (ℕ → Option ℕ) → (ℕ → ℕ → List ℕ) → List ℕ → Taken
+front_by long single pairs bytes =
+    let byte = slice_index bytes 0 in let trail = slice_index bytes 1 in
+    if nat_lt byte 0x80 then (byte ∷ [], 1) else
+    one_or (single byte) (if nat_lt (length bytes) 2 then fault 1 else long_or (long bytes) (pair (pairs byte trail) trail))
+
+-- no sequence is longer than two bytes
+abbrev pub no_long : List ℕ → Option Taken
+no_long bytes = None
+
+-- the characters of a code: one, or none where it is 0 or a surrogate
+abbrev pub code_chars : ℕ → List ℕ
+code_chars code = if (code == 0) || is_in_range 0xD800 0xDFFF code then [] else code ∷ []
+
+-- the characters that an index has at a pointer (section 5): 0 stands where it has none
+abbrev pub chars_at : List ℕ → ℕ → List ℕ
+chars_at index pointer = code_chars (slice_index index pointer)
+
+-- the characters of the code's enum
+abbrev pub characters_of : Characters → List ℕ
+characters_of Nothing = []
+characters_of (One character) = character ∷ []
+characters_of (Two first second) = first ∷ second ∷ []
+
+-- what stands at the front, in the words above
+abbrev pub taken_of : Front → Taken
+taken_of front = (characters_of front.characters, front.taken)

@@ -1,0 +1,9 @@
+pub mod Front
+pub mod EucKr
+pub mod ShiftJis
+pub mod Gb18030
+pub mod Big5
+pub mod EucJp
+pub mod Iso2022Jp
+pub mod Encoding
+pub mod All

@@ -1,0 +1,144 @@
+//! The encodings with their labels, and the text of bytes in each.
+ghost use Rattle.std.specs.Prelude.{◌≡◌, find, option_map, IfOk, string_bytes};
+ghost use Rattle.mail_codec.specs.Charset.{is_among_labels};
+ghost use Rattle.mail_charsets.specs.Encoding.{encoding_of_label, labels_by_encoding, replacement_text, text_in};
+
+use crate::big5::decode_big5;
+use crate::euc_jp::decode_euc_jp;
+use crate::euc_kr::decode_euc_kr;
+use crate::gb18030::decode_gb18030;
+use crate::indexes::Indexes;
+use crate::iso_2022_jp::decode_iso_2022_jp;
+use crate::labels;
+use crate::shift_jis::decode_shift_jis;
+use crate::x_user_defined::decode_x_user_defined;
+use mail_codec::charset::is_among;
+use std::alloc::{AllocError, Global};
+
+/// An encoding of the WHATWG Encoding Standard that has no table of single bytes, and is none of the
+/// four charsets of `mail_codec`.
+#[derive(Clone, Copy, Debug, PartialEq, Eq)]
+pub enum Encoding {
+    /// GBK, which is read as gb18030.
+    Gbk,
+    /// gb18030.
+    Gb18030,
+    /// Big5.
+    Big5,
+    /// EUC-JP.
+    EucJp,
+    /// ISO-2022-JP.
+    Iso2022Jp,
+    /// Shift_JIS.
+    ShiftJis,
+    /// EUC-KR.
+    EucKr,
+    /// The replacement encoding, for encodings that are not safe to read.
+    Replacement,
+    /// x-user-defined.
+    XUserDefined,
+}
+
+impl Encoding {
+    /// Returns the encoding that has the label, or `None` where no encoding here has it (the WHATWG
+    /// Encoding Standard, section 4.2).
+    ///
+    /// ASCII whitespace around the label (space, tab, LF, FF, CR) and ASCII case do not count.
+    /// Takes no memory.
+    ///
+    /// # Examples
+    ///
+    /// ```rust
+    /// use mail_charsets::Encoding;
+    ///
+    /// assert_eq!(rt; Encoding::for_label(b" KS_C_5601-1987 "), Some(Encoding::EucKr));
+    /// assert_eq!(rt; Encoding::for_label(b"x-sjis"), Some(Encoding::ShiftJis));
+    /// assert_eq!(rt; Encoding::for_label(b"utf-8"), None);
+    /// ```
+    pub fn for_label(label: &[u8]) -> Option<Encoding>
+        ensures { result ≡ encoding_of_label label.now }
+    {
+        encoding_of(label.trim_ascii())
+    }
+
+    /// Returns the text of the bytes in this encoding under indexes, reading a byte order mark like
+    /// any other bytes (the WHATWG Encoding Standard, sections 10 to 14).
+    ///
+    /// What is not a character reads as U+FFFD. Takes memory for the text.
+    ///
+    /// # Errors
+    ///
+    /// Where it runs out of memory.
+    ///
+    /// # Examples
+    ///
+    /// ```rust
+    /// use mail_charsets::{Encoding, Indexes};
+    ///
+    /// let indexes = Indexes::standard();
+    /// let text = Encoding::EucKr.decode_under(alloc, &indexes, b"\xC7\xD1 a")?;
+    /// assert_eq!(rt; text.as_str(), "한 a");
+    /// ```
+    pub fn decode_under(
+        self,
+        alloc: Global,
+        indexes: &Indexes<'_>,
+        bytes: &[u8],
+    ) -> Result<String, AllocError>
+        ensures { IfOk result (λ t. string_bytes t ≡ text_in indexes.now self bytes.now) }
+    {
+        match self {
+            Encoding::Gbk => decode_gb18030(alloc, indexes.gb18030, indexes.gb18030_ranges, bytes),
+            Encoding::Gb18030 => {
+                decode_gb18030(alloc, indexes.gb18030, indexes.gb18030_ranges, bytes)
+            }
+            Encoding::Big5 => decode_big5(alloc, indexes.big5, indexes.big5_plane, bytes),
+            Encoding::EucJp => decode_euc_jp(alloc, indexes.jis_0208, indexes.jis_0212, bytes),
+            Encoding::Iso2022Jp => decode_iso_2022_jp(alloc, indexes.jis_0208, bytes),
+            Encoding::ShiftJis => decode_shift_jis(alloc, indexes.jis_0208, bytes),
+            Encoding::EucKr => decode_euc_kr(alloc, indexes.euc_kr, bytes),
+            Encoding::Replacement => decode_replacement(alloc, bytes),
+            Encoding::XUserDefined => decode_x_user_defined(alloc, bytes),
+        }
+    }
+}
+
+/// The text of the bytes in the replacement encoding.
+fn decode_replacement(alloc: Global, bytes: &[u8]) -> Result<String, AllocError>
+    ensures { IfOk result (λ t. string_bytes t ≡ replacement_text bytes.now) }
+{
+    let mut text = String::new(alloc);
+    if bytes.is_empty() {
+        return Ok(text);
+    }
+    text.push(char::REPLACEMENT_CHARACTER)?;
+    Ok(text)
+}
+
+/// The encoding that has the label, ignoring ASCII case.
+fn encoding_of(label: &[u8]) -> Option<Encoding>
+    ensures { result ≡ option_map (λ row. row.0)
+        (find (λ row. is_among_labels row.1 label.now) labels_by_encoding) }
+{
+    if is_among(&labels::GBK, label) {
+        Some(Encoding::Gbk)
+    } else if is_among(&labels::GB18030, label) {
+        Some(Encoding::Gb18030)
+    } else if is_among(&labels::BIG5, label) {
+        Some(Encoding::Big5)
+    } else if is_among(&labels::EUC_JP, label) {
+        Some(Encoding::EucJp)
+    } else if is_among(&labels::ISO_2022_JP, label) {
+        Some(Encoding::Iso2022Jp)
+    } else if is_among(&labels::SHIFT_JIS, label) {
+        Some(Encoding::ShiftJis)
+    } else if is_among(&labels::EUC_KR, label) {
+        Some(Encoding::EucKr)
+    } else if is_among(&labels::REPLACEMENT, label) {
+        Some(Encoding::Replacement)
+    } else if is_among(&labels::X_USER_DEFINED, label) {
+        Some(Encoding::XUserDefined)
+    } else {
+        None
+    }
+}

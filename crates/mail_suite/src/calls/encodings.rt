@@ -1,0 +1,55 @@
+//! The encodings of several bytes. Where no encoding has the label, `none` comes out.
+//!
+//! ```text
+//! encoding_for_label LABEL.. => gbk | gb18030 | big5 | euc-jp | iso-2022-jp | shift_jis | euc-kr
+//!     | replacement | x-user-defined | none ..
+//! decode_encoding LABEL BYTES.. => TEXT..
+//! ```
+
+use crate::notation::{Answer, Row};
+use mail_charsets::{Encoding, Indexes};
+use std::alloc::Global;
+
+/// Makes the call of a row, if it is one of these.
+pub fn make(alloc: Global, row: &Row, answer: &mut Answer) -> bool {
+    match row.call.as_str() {
+        "encoding_for_label" => find_encodings(row, answer),
+        "decode_encoding" => decode(alloc, row, answer),
+        _ => return false,
+    }
+    true
+}
+
+/// The encoding of each label.
+fn find_encodings(row: &Row, answer: &mut Answer) {
+    for at in 0..row.count() {
+        answer.word(name(Encoding::for_label(row.bytes(at))));
+    }
+}
+
+/// The name of an encoding.
+fn name(encoding: Option<Encoding>) -> &'static str {
+    match encoding {
+        Some(Encoding::Gbk) => "gbk",
+        Some(Encoding::Gb18030) => "gb18030",
+        Some(Encoding::Big5) => "big5",
+        Some(Encoding::EucJp) => "euc-jp",
+        Some(Encoding::Iso2022Jp) => "iso-2022-jp",
+        Some(Encoding::ShiftJis) => "shift_jis",
+        Some(Encoding::EucKr) => "euc-kr",
+        Some(Encoding::Replacement) => "replacement",
+        Some(Encoding::XUserDefined) => "x-user-defined",
+        None => "none",
+    }
+}
+
+/// The texts of bytes under a label.
+fn decode(alloc: Global, row: &Row, answer: &mut Answer) {
+    let Some(encoding) = Encoding::for_label(row.bytes(0)) else {
+        return answer.word("none");
+    };
+    let indexes = Indexes::standard();
+    for at in 1..row.count() {
+        answer.made(encoding.decode_under(alloc, &indexes, row.bytes(at)));
+    }
+}
