@@ -229,7 +229,7 @@ def check_forwarded():
         same((object_["text"], object_["attachment"]), (text, path in ("1.2", "2.2")), f"a part of a mail inside, {path}")
         same(object_["start"] is None, path.startswith("2"), f"where a part of a mail inside stands, {path}")
     whole = found["parts"][5]
-    same((FROM + data)[whole["start"]:whole["end"]], inner[:-1], "where a mail inside stands")
+    same((FROM + data)[whole["start"]:whole["end"]], inner, "where a mail inside stands")
     deep = b"Content-Type: message/rfc822\n\n" * 120 + b"Subject: end\n\n"
     found = objects([], deep, 0, "mails inside one another")[0]
     same((len(found["forwarded"]), found["parts"][-1]["path"]), (99, ".".join(["1"] * 100)), "mails inside one another")

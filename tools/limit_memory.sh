@@ -35,7 +35,7 @@ part = {
 mail = {"schema": 4, "file": None, "number": None, "start": 0, "end": size, "subject": subject}
 lists = ("from", "to", "cc", "bcc", "reply_to", "sender")
 mail.update({name: [] for name in lists})
-mail["raw"] = {name: None for name in lists}
+mail["raw"] = {name: None for name in ("from", "to", "cc", "bcc", "reply_to", "sender")}
 mail.update(date=None, message_id=[], in_reply_to=[], references=[], parts=[part], forwarded=[])
 sys.stdout.buffer.write((json.dumps(mail, ensure_ascii=False, separators=(",", ":")) + "\n").encode())
 END
