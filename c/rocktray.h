@@ -59,7 +59,8 @@ enum rocktray_code {
 
 /* Writes a mail as one line of JSON, LF included, as the program mail_json does: headers, dates, ids, and all parts
  * with their types, texts and places (docs/mail_json.schema.json). A part's own bytes are mail[start] to mail[end - 1],
- * by the members `start` and `end` of its object. Refuses ROCKTRAY_LEADING_SPACE, _LONE_CARRIAGE_RETURN, _TOO_DEEP. */
+ * by the members `start` and `end` of its object; these are null for parts of a forwarded mail that is encoded: read it
+ * by rocktray_content first. Refuses ROCKTRAY_LEADING_SPACE, _LONE_CARRIAGE_RETURN, _TOO_DEEP. */
 uint32_t rocktray_json(const uint8_t *mail, size_t mail_length, uint8_t *room, size_t room_length, size_t *needed);
 
 /* Writes the bytes that the body of a mail or a part stands for, without its transfer encoding: the file, where it is

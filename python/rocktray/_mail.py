@@ -4,7 +4,6 @@ from __future__ import annotations
 
 import email.message
 import email.policy
-import email.utils
 import json
 from datetime import datetime, timedelta, timezone
 from typing import Any, Dict, Iterator, List, NamedTuple, Optional, Tuple, Union, cast
@@ -35,10 +34,8 @@ class Recipient(NamedTuple):
 
 def _addresses(value: Any) -> List[Address]:
     """The mailboxes of a member of the JSON, those of groups among them."""
-    if isinstance(value, str):  # before schema 4 of the JSON
-        return [Address(*pair) for pair in email.utils.getaddresses([value])]
     found: List[Address] = []
-    for item in value or []:
+    for item in value:
         if "members" in item:
             found += _addresses(item["members"])
         elif "address" in item:
@@ -46,6 +43,22 @@ def _addresses(value: Any) -> List[Address]:
         else:
             found.append(Address(item["unknown"], ""))
     return found
+
+
+def _own_parts(value: Dict[str, Any]) -> List[Dict[str, Any]]:
+    """The objects of the mail and of its parts. Those of the mails inside it come after them: the first is at the path of a
+    part that holds one, or right below it.
+    """
+    parts = cast("List[Dict[str, Any]]", value["parts"])
+    holders = {inside["path"] for inside in value["forwarded"]}
+    if holders:
+        seen = set()
+        for index, part in enumerate(parts):
+            path = part["path"]
+            if path in seen or path.rpartition(".")[0] in holders:
+                return parts[:index]
+            seen.add(path)
+    return parts
 
 
 class Header:
@@ -251,8 +264,8 @@ class Mail:
     def from_(self) -> List[Address]:
         """The mailboxes in From, each a pair of a name and an address.
 
-        >>> parse(b"From: =?utf-8?q?Jos=C3=A9_Doe?= <j@example.org>\\n\\n").from_
-        [Address(name='José Doe', address='j@example.org')]
+        >>> parse(b"From: =?utf-8?q?Doe=2C_Jos=C3=A9?= <j@example.org>\\n\\n").from_
+        [Address(name='Doe, José', address='j@example.org')]
         """
         return _addresses(self._object["from"])
 
@@ -269,12 +282,12 @@ class Mail:
     @property
     def bcc(self) -> List[Address]:
         """The mailboxes in Bcc."""
-        return _addresses(self._object.get("bcc"))
+        return _addresses(self._object["bcc"])
 
     @property
     def sender(self) -> List[Address]:
         """The mailbox in Sender, which a mail has whose From names several, or that another sent."""
-        return _addresses(self._object.get("sender"))
+        return _addresses(self._object["sender"])
 
     @property
     def reply_to(self) -> List[Address]:
@@ -336,13 +349,13 @@ class Mail:
         return self.raw[value["start"] : value["end"]]
 
     def walk(self) -> Iterator[Part]:
-        """The mail itself and then its parts, each before its own parts.
+        """The mail itself and then its parts, each before its own parts; `forwarded` has the mails inside it.
 
         >>> raw = b"Content-Type: multipart/mixed; boundary=b\\n\\n--b\\n\\none\\n--b\\n\\ntwo\\n--b--\\n"
         >>> [(part.path, part.content_type, part.text) for part in parse(raw).walk()]
         [('', 'multipart/mixed', None), ('1', 'text/plain', 'one'), ('2', 'text/plain', 'two')]
         """
-        for index, value in enumerate(self._object["parts"]):
+        for index, value in enumerate(_own_parts(self._object)):
             yield Part(self, value, index)
 
     def attachments(self) -> List[Part]:

@@ -1,5 +1,6 @@
 """Mails and parts: what they have, pickling, threads, and hostile input."""
 
+import base64
 import datetime
 import email
 import email.policy
@@ -46,6 +47,28 @@ def test_sample(samples):
     assert mail.from_ == [rocktray.Address("Ana Lima", "ana@example.org")]
     assert mail.date == datetime.datetime(2025, 3, 3, 14, 30, tzinfo=datetime.timezone.utc)
     assert [part.file_name for part in mail.attachments()] == ["Rechnung für März €-2025.pdf"]
+
+
+def test_forged_sender():
+    mail = rocktray.parse(b"From: =?utf-8?q?boss=40corp=2Ecom_=3Cboss=40corp=2Ecom=3E=2C?= <evil@x.org>\n\n")
+    assert mail.from_ == [rocktray.Address("boss@corp.com <boss@corp.com>,", "evil@x.org")]
+
+
+def test_addresses():
+    mail = rocktray.parse(b"To: Team: a@b, \"C, D\" <c@d>;, e@f\nCc: nobody\nCc: g@h\n\n")
+    assert mail.to == [("", "a@b"), ("C, D", "c@d"), ("", "e@f")]
+    assert mail.cc == [("nobody", ""), ("", "g@h")]
+    assert mail.bcc == mail.sender == mail.reply_to == []
+
+
+def test_forwarded():
+    inside = b"Subject: inside\nContent-Type: multipart/mixed; boundary=i\n\n--i\n\none\n--i--\n"
+    for encoding, body in ((b"7bit", inside), (b"base64", base64.encodebytes(inside))):
+        head = b"Content-Type: multipart/mixed; boundary=b\n\n--b\nContent-Type: message/rfc822\nContent-Transfer-Encoding: "
+        mail = rocktray.parse(head + encoding + b"\n\n" + body + b"\n--b\n\ntwo\n--b--\n")
+        assert [part.path for part in mail.walk()] == ["", "1", "2"]
+        assert [one.subject for one in mail.forwarded()] == ["inside"]
+        assert (mail.text, mail.forwarded()[0].text) == ("two", "one")
 
 
 def test_bounce(samples):
