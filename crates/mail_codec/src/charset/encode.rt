@@ -17,7 +17,7 @@ ghost use Rattle.std.specs.Char.{IsScalar};
 ///
 /// let mut buffer = *b"caf....";
 /// assert_eq!(rt; put_char(&mut buffer, 3, 'é'), 5);
-/// assert_eq!(rt; &buffer[..5], b"caf\xC3\xA9");
+/// assert_eq!(rt; &buffer[..5], b"caf\xC3\xA9".as_slice());
 /// ```
 pub fn put_char(buffer: &mut [u8], at: usize, character: char) -> usize
     requires room { at + 4 ≤ length buffer.old }
