@@ -1,5 +1,5 @@
 #!/usr/bin/env bash
-# try_outside.sh: does what the README's section "As a library" says, in a repository of its own.
+# try_outside.sh: does what the README's section "Three ways in" says, in a repository of its own.
 #
 # Its commands, its program and what this prints are taken from the README's text. The commands copy the
 # library and write crates.txt; the program is built and run by `rt try`, without a proof. The section has
@@ -10,7 +10,7 @@
 arguments=
 . "$(dirname "$0")/prelude.sh"
 make_work
-awk '/^## / { is_in = $0 == "## As a library" } is_in' "$top/README.md" > "$work/section"
+awk '/^## / { is_in = $0 == "## Three ways in" } is_in' "$top/README.md" > "$work/section"
 
 # fence WORD: the lines of the section's fence that begins with this word
 fence() {

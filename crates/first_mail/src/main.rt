@@ -2,7 +2,6 @@
 #![tactic(auto)]
 
 use mail_data::files::{attachments_with, file_name_with};
-use mail_data::texts::text_part_with;
 use mail_tables::TABLES;
 use mailparse::{MailHeaderMap, parse_mail_with};
 use std::io::Read;
@@ -15,9 +14,6 @@ fn main(rt: HostRuntime) -> anyhow::Result<()> {
     let mail = parse_mail_with(alloc, raw.as_slice(), tables)?;
     if let Some(subject) = mail.headers.get_first_header("Subject") {
         println!(rt; "Subject: {}", subject.get_value_with(alloc, tables)?)?;
-    }
-    if let Some(part) = text_part_with(alloc, &mail, tables)? {
-        println!(rt; "{}", part.get_body_with(alloc, tables)?)?;
     }
     for file in attachments_with(alloc, &mail, tables)? {
         if let Some(name) = file_name_with(alloc, file.part, tables)? {
