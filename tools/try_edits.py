@@ -10,7 +10,7 @@ which no two change one function: a body is proved against the contracts of what
 one another. Of the other crates only what edits change is checked, with what it calls. An edit passes if each of its
 functions is refused for a goal, and not only because its proof names what is gone; all others have to be proved or to
 wait. An edit for which a batch does not show this is tried alone. First, edits that change nothing have to be reported
-as not refused. The last line is `N passed, N failed`.
+as not refused. With --archive the static library is built over the same proofs. The last line is `N passed, N failed`.
 """
 
 import argparse
@@ -186,22 +186,31 @@ class Run:
             else:
                 self.passed.append(is_refused)
 
+    def build_archive(self, to):
+        """Builds the static library of this file name, once the crates below it are proved."""
+        crate = Path(to).stem.removeprefix("lib")
+        for it in self.deps[crate]:
+            self.proofs[it].result()
+        self.rt("built", f"{self.room}/base/crates/{crate}", "lib", jobs=2)
+        shutil.copyfile(f"{self.room}/base/crates/{crate}/out/lib{crate}.a", to)
+
     def show_that_it_can_fail(self, edits):
         """Tries edits that change nothing."""
         same = [it._replace(changes=tuple((file, old, old) for file, old, _ in it.changes)) for it in edits]
         if any(goals is not None for it in self.check(same, f"{len(same)} edits that change nothing").values() for goals in it):
             raise Stopped("edits that change nothing are said to be refused")
 
-    def try_all(self, edits):
+    def try_all(self, edits, archive):
         """Proves the crates on which others stand, and the lowest with edits, and tries all batches over these."""
         batches = batches_of(sorted(edits, key=lambda it: list(self.deps).index(it.crate)))
         below = {batches[0][0].crate}.union(*(self.below(it.crate) - {it.crate} for it in edits))
-        with ThreadPoolExecutor(len(self.deps) + len(batches) + 1) as pool:
+        with ThreadPoolExecutor(len(self.deps) + len(batches) + 2) as pool:
             for it in [it for it in self.deps if it in below and (TOP / f"crates/{it}/src/lib.rt").exists()]:
                 self.proofs[it] = pool.submit(self.prove, it)
             first = pool.submit(self.show_that_it_can_fail, batches[0])
             try:
-                for ended in [pool.submit(self.try_batch, it, first) for it in batches]:
+                built = [pool.submit(self.build_archive, archive)] if archive else []
+                for ended in [pool.submit(self.try_batch, it, first) for it in batches] + built:
                     ended.result()
             finally:
                 self.is_over = True
@@ -226,6 +235,7 @@ def main():
     self_test()
     reader = argparse.ArgumentParser(description=__doc__, formatter_class=argparse.RawDescriptionHelpFormatter)
     reader.add_argument("--kept", action="store_true", help="start from what `rt check` has kept in crates/*/out")
+    reader.add_argument("--archive", metavar="FILE", help="where the static library is to be written")
     memory = int(re.search(r"MemAvailable: *(\d+)", Path("/proc/meminfo").read_text("utf-8"))[1])
     lanes = min(len(os.sched_getaffinity(0)), memory // 4_000_000)
     reader.add_argument("--jobs", type=int, default=max(1, lanes), help="how many checks at once; one a processor and 4 GB")
@@ -238,7 +248,7 @@ def main():
     with tempfile.TemporaryDirectory(prefix="try-edits-") as room:
         run = Run(room, words.jobs, words.kept)
         try:
-            run.try_all([it for it in edits if not words.names or {it.crate, it.name} & set(words.names)])
+            run.try_all([it for it in edits if not words.names or {it.crate, it.name} & set(words.names)], words.archive)
         except Stopped as stopped:
             print(f"stopped: {stopped}")
             run.passed.append(False)
