@@ -8,6 +8,7 @@
 # needs the C library alone.
 arguments='PREFIX'
 . "$(dirname "$0")/prelude.sh"
+[ -d "$(dirname "$1")" ] || usage "there is no folder $(dirname "$1")"
 crate=$top/crates/mail_c
 archive=$crate/out/libmail_c.a
 version=$(sed -n 's/^pub const VERSION: .* = "\(.*\)";$/\1/p' "$top/crates/mail_program/src/command.rt")

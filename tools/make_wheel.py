@@ -15,6 +15,8 @@ def main():
     parser = argparse.ArgumentParser(description=__doc__, formatter_class=argparse.RawDescriptionHelpFormatter)
     parser.add_argument("folder", metavar="FOLDER", help="where the wheel goes; it is made where it is missing")
     folder = parser.parse_args().folder
+    if not os.path.isdir(os.path.dirname(os.path.abspath(folder))):
+        parser.error(f"there is no folder for {folder}")
     source = Path(__file__).resolve().parent.parent / "python" / "make_wheel.py"
     spec = importlib.util.spec_from_file_location("wheel", source)
     wheel = importlib.util.module_from_spec(spec)

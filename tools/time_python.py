@@ -142,6 +142,8 @@ def main():
     reader.add_argument("--rounds", type=int, default=5, metavar="N", help="how many rounds (5)")
     reader.add_argument("folder", nargs="?", metavar="FOLDER", help="a folder of mails, as fetch_real.sh makes it")
     words = reader.parse_args()
+    if words.folder is not None and not os.path.isdir(words.folder):
+        reader.error(f"{words.folder} is no folder")
     sys.path.append(os.path.join(TOP, "python"))
     samples = [contents(path) for path in sorted(glob.glob(f"{TOP}/samples/*.eml"))]
     show("samples", samples * 20, words.rounds)
