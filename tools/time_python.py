@@ -86,11 +86,14 @@ READERS = {"rocktray": read_by_rocktray, "policy=default": read_by_default, "com
 
 def readable(mails):
     """The mails that each reader reads: email raises errors of many kinds."""
+    import rocktray  # an error of which says that it is not installed
+
     kept = []
     for raw in mails:
         try:
-            for read in READERS.values():
-                read(raw)
+            rocktray.parse(raw)
+            read_by_default(raw)
+            read_by_compat32(raw)
         except Exception:  # noqa: BLE001
             continue
         kept.append(raw)

@@ -96,6 +96,10 @@ class Header:
         return f"Header({self.name!r}, {self.value!r})"
 
 
+# the encodings under which a body stands for its own bytes
+_AS_IT_STANDS = ("7bit", "8bit", "binary")
+
+
 class Part:
     """A part of a mail, or the mail itself: the members of its object in the JSON, and its bytes.
 
@@ -173,9 +177,11 @@ class Part:
     @property
     def content(self) -> bytes:
         """The bytes that the body stands for, without its transfer encoding. `Refused` where that is not Base64."""
-        error = self._object.get("error")
-        if error is not None:
-            raise Refused(error, 19)
+        value = self._object
+        if "error" in value:
+            raise Refused(value["error"], 19)
+        if value["encoding"] in _AS_IT_STANDS and not value["type"].startswith("multipart"):
+            return self._mail.raw[value["end"] - value["size"] : value["end"]]
         return _library.content(self.raw)
 
     @property
