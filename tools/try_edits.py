@@ -115,8 +115,10 @@ class Run:
     """A copy of the repository with the proofs of its crates; of each edit whether it passed, and what each check took."""
 
     def __init__(self, room, jobs, is_kept):
-        listed = dict(re.findall(r"^(\w+)[^:#\n]*:(.*)", (TOP / "crates.txt").read_text("utf-8"), re.M))
+        text = (TOP / "crates.txt").read_text("utf-8")
+        listed = dict(re.findall(r"^(\w+)[^:#\n]*:(.*)", text, re.M))
         self.deps = {name: [it for it in below.split() if it in listed] for name, below in listed.items()}
+        self.libraries = [it for it in re.findall(r"^(\w+):", text, re.M) if (TOP / f"crates/{it}/src/lib.rt").exists()]
         self.room, self.lanes, self.proofs = room, threading.Semaphore(jobs), {}
         self.passed, self.seconds, self.is_over = [], [], False
         self.copy(TOP, f"{room}/base", self.deps if is_kept else [], shutil.copy2)
@@ -205,7 +207,7 @@ class Run:
         batches = batches_of(sorted(edits, key=lambda it: list(self.deps).index(it.crate)))
         below = {batches[0][0].crate}.union(*(self.below(it.crate) - {it.crate} for it in edits))
         with ThreadPoolExecutor(len(self.deps) + len(batches) + 2) as pool:
-            for it in [it for it in self.deps if it in below and (TOP / f"crates/{it}/src/lib.rt").exists()]:
+            for it in [it for it in self.libraries if it in below]:
                 self.proofs[it] = pool.submit(self.prove, it)
             first = pool.submit(self.show_that_it_can_fail, batches[0])
             try:
