@@ -493,7 +493,7 @@ def check_calls():
     ended = run([names[0], "/no/such/file", names[1]])
     found = lines(ended.stdout, "a file that is missing")
     same((ended.returncode, len(found)), (1, 3), "a file that is missing")
-    same([found[1][name] for name in ORIGIN], [3, "/no/such/file", None, None, None], "a file that is missing")
+    same([found[1][name] for name in ORIGIN], [4, "/no/such/file", None, None, None], "a file that is missing")
     judge(b"/no/such/file" in ended.stderr, "a file that is missing is named")
     with open("/dev/full", "wb") as full:
         ended = run(names, stdout=full, stderr=subprocess.PIPE)

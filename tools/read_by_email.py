@@ -62,11 +62,13 @@ def mailbox_object(address):
 
 
 def addresses_of(mail, name):
-    """The addresses in all headers with this name, which the package decodes after it has cut them apart."""
+    """The addresses in all headers with this name, which the package decodes after it has cut them apart. Whitespace
+    between two encoded words goes (RFC 2047, section 6.2), which the package keeps in a name."""
     found = []
     for key, value in mail.raw_items():
         if key.lower() == name:
-            for group in email.policy.default.header_factory(key, re.sub(r"\r?\n", "", value)).groups:
+            joined = re.sub(r"(?<=\?=)\s+(?==\?)", "", value)
+            for group in email.policy.default.header_factory(key, re.sub(r"\r?\n", "", joined)).groups:
                 members = [mailbox_object(address) for address in group.addresses]
                 if group.display_name is not None:
                     members = [{"group": without_surrogates(group.display_name), "members": members}]
