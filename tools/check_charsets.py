@@ -139,6 +139,8 @@ def main():
     parser.add_argument("--program", metavar="PROGRAM")
     parser.add_argument("labels", metavar="LABEL", nargs="*", help="the encodings to compare, else all")
     arguments = parser.parse_args()
+    if unknown := [label for label in arguments.labels if label not in BORDERS]:
+        parser.error(f"there is no encoding {unknown[0]} to compare")
     program = arguments.program or built_program("mail_recode")
     total = failed = 0
     with tempfile.TemporaryDirectory() as folder:
