@@ -1,4 +1,5 @@
-//! Times works on the bytes of standard input: `mail_speed ROUNDS WORK..`.
+//! Times works on the bytes of standard input: `mail_speed ROUNDS WORK..`; or writes what they say:
+//! `mail_speed recode LABEL`.
 //!
 //! WORK is `lines` (each LF is found), `absent` (a byte is looked for that is absent), `text` (a
 //! text is, which begins with LF), `whitespace` (ASCII whitespace goes), `base64`, `base64-body`
@@ -10,11 +11,15 @@
 //! nanoseconds for each byte of the input, the least and the median of the rounds, to standard error.
 //! tools/time_codecs.sh runs it on large bodies, tools/time_charsets.py on texts in each encoding,
 //! and tools/time_mails.sh on large mails and mailboxes.
+//!
+//! `recode` writes the text of the input in the encoding of several bytes that has the label, as
+//! UTF-8, for tools/check_charsets.py. The status is 1 where no such encoding has it.
 #![tactic(auto)]
 
 mod times;
 mod work;
 
+use std::alloc::Global;
 use std::env;
 use std::io::{self, Read};
 use std::process::ExitCode;
@@ -22,16 +27,19 @@ use times::{for_each_byte, times_of};
 
 fn main(rt: HostRuntime) -> io::Result<ExitCode> {
     let mut words = env::args(&rt)?.skip(1);
-    let rounds = match words.next() {
-        Some(word) => word.parse::<usize>().unwrap_or(0),
-        None => 0,
-    };
-    if rounds == 0 {
+    let first = words.next().unwrap_or(String::new(rt.alloc()));
+    let is_recode = first.as_str() == "recode";
+    let rounds = first.parse::<usize>().unwrap_or(0);
+    if rounds == 0 && !is_recode {
         eprintln!(rt; "mail_speed: wants a number of rounds, and works")?;
         return Ok(ExitCode::FAILURE);
     }
     let mut input = Vec::new(rt.alloc());
     rt.reader().read_to_end(&mut input)?;
+    if is_recode {
+        let label = words.next().unwrap_or(String::new(rt.alloc()));
+        return recode(&rt, rt.alloc(), label.as_str(), input.as_slice());
+    }
     for work in words {
         match work::run(rt.alloc(), work.as_str(), input.as_slice()) {
             Ok(made) => println!(rt; "{work}: {} bytes make {made}", input.len())?,
@@ -52,4 +60,23 @@ fn main(rt: HostRuntime) -> io::Result<ExitCode> {
         )?;
     }
     Ok(ExitCode::SUCCESS)
+}
+
+/// Writes the text of the input in the encoding of several bytes that has this label.
+fn recode<R: Print + Eprint>(
+    rt: &R,
+    alloc: Global,
+    label: &str,
+    input: &[u8],
+) -> io::Result<ExitCode> {
+    match work::text_of(alloc, label, input)? {
+        Some(text) => {
+            print!(rt; "{text}")?;
+            Ok(ExitCode::SUCCESS)
+        }
+        None => {
+            eprintln!(rt; "mail_speed: no encoding has the label {label}")?;
+            Ok(ExitCode::FAILURE)
+        }
+    }
 }

@@ -5,7 +5,7 @@ use mail_codec::bytescan::{find, find_byte, strip_ascii_whitespace};
 use mail_codec::transfer::{decode_base64, decode_base64_body, decode_quoted_printable};
 use mail_data::mailbox::read_mailbox;
 use mailparse::{MailParseError, ParsedMail, parse_mail};
-use std::alloc::Global;
+use std::alloc::{AllocError, Global};
 
 /// Does the work of this name, and tells how much it made: bytes, lines, or headers of a message.
 pub fn run(alloc: Global, name: &str, input: &[u8]) -> Result<usize, MailParseError> {
@@ -28,12 +28,17 @@ pub fn run(alloc: Global, name: &str, input: &[u8]) -> Result<usize, MailParseEr
 
 /// Decodes in the encoding of several bytes that has this label. Tells how long the text is.
 fn decoded(alloc: Global, label: &str, input: &[u8]) -> Result<usize, MailParseError> {
-    match Encoding::for_label(label.as_bytes()) {
-        Some(encoding) => {
-            let indexes = Indexes::standard();
-            Ok(encoding.decode_under(alloc, &indexes, input)?.len())
-        }
+    match text_of(alloc, label, input)? {
+        Some(text) => Ok(text.len()),
         None => Err(MailParseError::Generic("no work has this name")),
+    }
+}
+
+/// The text of the input in the encoding of several bytes that has this label, if one has it.
+pub fn text_of(alloc: Global, label: &str, input: &[u8]) -> Result<Option<String>, AllocError> {
+    match Encoding::for_label(label.as_bytes()) {
+        Some(encoding) => Ok(Some(encoding.decode_under(alloc, &Indexes::standard(), input)?)),
+        None => Ok(None),
     }
 }
 
