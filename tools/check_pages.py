@@ -4,7 +4,7 @@
 On every page each link has to lead to a file, or to a heading, that is there; and each path in backquotes that
 begins with a folder of the top has to be there. On the pages that claim something of the sources each name in
 backquotes that has a `_` or a `::` inside has to be declared in a source, a definition or crates.txt. A fence of
-the README that names its source, as in ```rust crates/first_mail/src/main.rt, has lines that stand there word for
+the README that names its source, as in ```rust crates/mailparse/src/mail.rt, has lines that stand there word for
 word and one after another.
 
 It prints what is wrong. Each link, path, name and fence counts for one; the last line is `N passed, N failed`,
