@@ -194,7 +194,8 @@ class Run:
         for it in self.deps[crate]:
             self.proofs[it].result()
         self.rt("built", f"{self.room}/base/crates/{crate}", "lib", jobs=2)
-        shutil.copyfile(f"{self.room}/base/crates/{crate}/out/lib{crate}.a", to)
+        shutil.copyfile(f"{self.room}/base/crates/{crate}/out/lib{crate}.a", f"{to}.part")
+        os.replace(f"{to}.part", to)  # whoever waits for it sees it whole
 
     def show_that_it_can_fail(self, edits):
         """Tries edits that change nothing."""
