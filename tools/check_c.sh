@@ -4,8 +4,8 @@
 # c/check.c runs under the address and the undefined-behaviour sanitizer: every code, rooms one byte short,
 # empty inputs, null pointers with length 0, each call for memory refused, and eight threads at once. Of the
 # samples and of 20,000 made mails the library has to write what mail_json writes. The library may need the
-# C library alone, and may export nothing but its calls; rocktray.h has to be C and C++; the program of
-# docs/C.md has to compile and to write what the page shows. It needs gcc, and the program mail_json.
+# C library alone, and may export nothing but its calls; rocktray.h has to be C and C++; examples/attachments.c
+# has to compile and to write what docs/C.md shows. It needs gcc, and the program mail_json.
 #
 # The last line is `N passed, N failed`; the status is 1 where a test failed.
 arguments=
@@ -58,11 +58,6 @@ same() {
     fi
 }
 
-# fences KIND: the fences of docs/C.md of that kind
-fences() {
-    sed -n "/^\`\`\`$1\$/,/^\`\`\`\$/p" "$top/docs/C.md" | grep -v '^```'
-}
-
 # lines: what mail_json writes of the files on standard input, as `check lines` writes it
 lines() {
     xargs -0 "$mail_json" --mail | sed -e 's/^\({"schema":[0-9]*,"file":\)"[^"]*"/\1null/' \
@@ -90,12 +85,11 @@ same 'the lines of mails' "$work/wanted" "$work/lines"
 head -z -n 300 "$work/names" | xargs -0 -x "$work/check" threads > "$work/threads" 2>&1 || true
 counted threads cat "$work/threads"
 
-fences c > "$work/example.c"
 # shellcheck disable=SC2046
-expect 'the program of docs/C.md' gcc -std=c11 -Wall -Wextra -Werror -o "$work/example" "$work/example.c" \
+expect attachments.c gcc -std=c11 -Wall -Wextra -Werror -o "$work/example" "$top/examples/attachments.c" \
     $(sed -n "s|\\\${libdir}|$work/prefix/lib|; s|\\\${includedir}|$work/prefix/include|; s/^Libs: //p; s/^Cflags: //p" \
         "$work/prefix/lib/pkgconfig/rocktray.pc")
-fences console | grep -v '^\$' > "$work/wanted"
+sed -n '/^```console$/,/^```$/p' "$top/docs/C.md" | grep -v '^```\|^\$' > "$work/wanted"
 (cd "$top" && LD_LIBRARY_PATH=$work/prefix/lib "$work/example" samples/attachment.eml) > "$work/given" 2>&1 || true
 same 'what it writes' "$work/wanted" "$work/given"
 finish
