@@ -1,6 +1,5 @@
 use Rattle.std.proofs.Common.{◌++◌, ◌-◌, ◌+◌, List, [], ◌∷◌, ℕ, None, drop, map, sym, ap, subst, ◌∙◌, arith}
 use Rattle.std.specs.Prelude.{flat_map}
-use Rattle.mail_codec.specs.Tables.{charsets_with}
 use Rattle.mailparse.specs.Mail.{read_mail_in}
 use Rattle.mailparse.specs.Outcome.{IsRefusalOrMemory, refusal_of}
 use Rattle.mailparse.specs.Views.{placements_of, tree_of}
@@ -12,8 +11,8 @@ use Rattle.mail_data.proofs.inner_mails.«+push_inner».Goals.{then-holds_mail+i
 use Rattle.mail_data.proofs.inner_mails.«+push_inner».Goals as goal
 
 pub loop-place-preserved : goal.loop-place-preserved
-loop-place-preserved t c =
-    let known = charsets_with c.args.tables.now in
+loop-place-preserved g t c =
+    let known = g.K.KnownCharsets.known c.args.known.now in
     let most = c.args.most - 1 in
     let start = c.args.start in
     let items = c.deref-place-items.result.now in
