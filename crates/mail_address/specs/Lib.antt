@@ -16,3 +16,4 @@ pub use Rattle.mail_codec.specs.Charset
 pub use Rattle.mail_codec.specs.Tables
 pub use Rattle.mailparse.specs.Outcome
 pub use Rattle.mailparse.specs.Value
+pub use Rattle.mail_laws.specs.Encode

@@ -1,9 +1,10 @@
 //! What holds of every list of addresses. Each function does nothing; its contract is the law.
 ghost use Rattle.std.specs.Prelude.{[], ◌≡◌, ◌+◌, ◌∷◌, ◌++◌, List, length, map, suc, true, ℕ};
 ghost use Rattle.mail_codec.specs.Ascii.{backslash, comma, space};
-ghost use Rattle.mail_codec.specs.Charset.{four_charsets};
+ghost use Rattle.mail_codec.specs.Charset.{Charsets, four_charsets};
 ghost use Rattle.mail_codec.specs.Tables.{charsets_with};
 ghost use Rattle.mail_codec.specs.declared.charset.tables.SingleByteTable.{SingleByteTable};
+ghost use Rattle.mail_laws.specs.Encode.{KnowUtf8};
 ghost use Rattle.mail_address.specs.Addresses.{addresses, element_at, element_len, items};
 ghost use Rattle.mail_address.specs.Enclosed.{IsEnclosed, IsInAngles};
 ghost use Rattle.mail_address.specs.Grammar.{FollowGrammar, IsMailbox};
@@ -99,8 +100,8 @@ pub fn mailboxes_are_those_of_the_grammar()
 {}
 
 /// What `write_addresses` writes reads back: as many elements, in order, with the same names,
-/// whatever they hold, and the same addresses in canonical form. This holds whatever tables a
-/// caller has.
+/// whatever they hold, and the same addresses in canonical form. This holds in all charsets that
+/// know UTF-8 by its label as the four do, so also in those with the tables of a caller.
 ///
 /// # Examples
 ///
@@ -108,11 +109,9 @@ pub fn mailboxes_are_those_of_the_grammar()
 /// mail_address::laws::written_addresses_read_back();
 /// ```
 pub fn written_addresses_read_back()
-    ensures shown { (list : List NewAddress) → HaveTexts list → are_writable list ≡ true →
-        map (element_shows four_charsets) (addresses (written_list list))
-        ≡ map element_stands_for list }
-    ensures tables { (tables : List SingleByteTable) (list : List NewAddress) → HaveTexts list →
-        are_writable list ≡ true →
-        map (element_shows (charsets_with tables)) (addresses (written_list list))
-        ≡ map element_stands_for list }
+    ensures shown { (known : Charsets) (list : List NewAddress) → KnowUtf8 known →
+        HaveTexts list → are_writable list ≡ true →
+        map (element_shows known) (addresses (written_list list)) ≡ map element_stands_for list }
+    ensures four { KnowUtf8 four_charsets }
+    ensures tables { (tables : List SingleByteTable) → KnowUtf8 (charsets_with tables) }
 {}

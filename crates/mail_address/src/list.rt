@@ -3,9 +3,8 @@ ghost use Rattle.std.specs.Prelude.{◌≡◌, ◌++◌, ◌+◌, ◌<◌, ◌�
 ghost use Rattle.std.specs.Prelude.{IfSome, MatchOption, ◌∷◌, [], take, option_map, drop};
 ghost use Rattle.std.specs.Prelude.{string_bytes};
 ghost use Rattle.mail_codec.specs.Places.{begins};
-ghost use Rattle.mail_codec.specs.Tables.{charsets_with};
 ghost use Rattle.mailparse.specs.Outcome.{GivesText};
-ghost use Rattle.mailparse.specs.Value.{lenient_value, lenient_value_in, value_text};
+ghost use Rattle.mailparse.specs.Value.{lenient_value_in, value_text};
 ghost use Rattle.mail_address.specs.Text.{address_bytes, phrase_text};
 ghost use Rattle.mail_address.specs.Addresses.{addresses, after_name, element_at, element_len};
 ghost use Rattle.mail_address.specs.Addresses.{group_at, group_len, inner_len, is_group};
@@ -14,9 +13,10 @@ ghost use Rattle.mail_address.specs.Addresses.{name_len, separator_len, single_a
 ghost use Rattle.mail_address.specs.AddressViews.{element_view, group_view, member_view};
 
 use crate::mailbox::{is_phrase, mailbox_of};
-use crate::text::{address_text, name_text, name_text_with};
+use crate::text::{address_text, name_text};
 use crate::tokens::{Span, begins_at, is_all_white, run};
-use mailparse::{MailParseError, SingleByteTable};
+use mail_codec::charset::KnownCharsets;
+use mailparse::MailParseError;
 use std::alloc::{AllocError, Global};
 
 /// A mailbox (RFC 5322, section 3.4). Its parts are the bytes as they are written, with the
@@ -37,7 +37,8 @@ pub struct Mailbox<'a> {
 
 impl<'a> Mailbox<'a> {
     /// Returns the display name as text: without quotes and comments, with one space for
-    /// whitespace, and then with its encoded words decoded (RFC 5322, section 3.4; RFC 2047).
+    /// whitespace, and then with its encoded words decoded in the charsets that are given (RFC 5322,
+    /// section 3.4; RFC 2047).
     ///
     /// The text is empty where there is no name. Whatever it holds, as `<` or a comma, it is a name
     /// and no address. Takes memory for the text.
@@ -50,50 +51,31 @@ impl<'a> Mailbox<'a> {
     ///
     /// ```rust
     /// use mail_address::{Address, read_addresses};
+    /// use mailparse::SingleByteTable;
     ///
     /// for address in &read_addresses(alloc, b"=?utf-8?q?Doe=2C_Ann?= <ann@example.org>")? {
     ///     if let Address::Mailbox(mailbox) = address {
-    ///         assert_eq!(rt; mailbox.get_display_name(alloc)?.as_str(), "Doe, Ann");
+    ///         assert_eq!(rt; mailbox.get_display_name(alloc, &())?.as_str(), "Doe, Ann");
     ///     }
     /// }
-    /// ```
-    pub fn get_display_name(&self, alloc: Global) -> Result<String, MailParseError>
-        ensures { GivesText result (lenient_value (phrase_text self.now.display_name.now)) }
-    {
-        name_text(alloc, self.display_name)
-    }
-
-    /// Returns the display name as `get_display_name` does, where encoded words may also be in the
-    /// charsets of some tables (RFC 2047, section 2).
-    ///
-    /// Takes memory for the text.
-    ///
-    /// # Errors
-    ///
-    /// `MailParseError::Memory` where it runs out of memory.
-    ///
-    /// # Examples
-    ///
-    /// ```rust
-    /// use mail_address::{Address, read_addresses};
-    /// use mailparse::SingleByteTable;
     ///
     /// let tables = [SingleByteTable { labels: &["x-euro"], high: &['€'; 128] }];
     /// for address in &read_addresses(alloc, b"=?x-euro?q?=80?= <ann@example.org>")? {
     ///     if let Address::Mailbox(mailbox) = address {
-    ///         assert_eq!(rt; mailbox.get_display_name_with(alloc, &tables)?.as_str(), "€");
+    ///         let name = mailbox.get_display_name(alloc, &tables.as_slice())?;
+    ///         assert_eq!(rt; name.as_str(), "€");
     ///     }
     /// }
     /// ```
-    pub fn get_display_name_with(
+    pub fn get_display_name<K: KnownCharsets>(
         &self,
         alloc: Global,
-        tables: &[SingleByteTable<'_>],
+        known: &K,
     ) -> Result<String, MailParseError>
-        ensures { GivesText result (lenient_value_in (charsets_with tables.now)
+        ensures { GivesText result (lenient_value_in (K.known known.now)
             (phrase_text self.now.display_name.now)) }
     {
-        name_text_with(alloc, self.display_name, tables)
+        name_text(alloc, self.display_name, known)
     }
 
     /// Returns the address in canonical form, `local@domain`: without comments and whitespace, and
@@ -157,7 +139,8 @@ pub struct Group<'a> {
 
 impl<'a> Group<'a> {
     /// Returns the display name as text: without quotes and comments, with one space for
-    /// whitespace, and then with its encoded words decoded (RFC 5322, section 3.4; RFC 2047).
+    /// whitespace, and then with its encoded words decoded in the charsets that are given (RFC 5322,
+    /// section 3.4; RFC 2047).
     ///
     /// Takes memory for the text.
     ///
@@ -172,47 +155,19 @@ impl<'a> Group<'a> {
     ///
     /// for address in &read_addresses(alloc, b"=?utf-8?q?All=2C?=:;")? {
     ///     if let Address::Group(group) = address {
-    ///         assert_eq!(rt; group.get_display_name(alloc)?.as_str(), "All,");
+    ///         assert_eq!(rt; group.get_display_name(alloc, &())?.as_str(), "All,");
     ///     }
     /// }
     /// ```
-    pub fn get_display_name(&self, alloc: Global) -> Result<String, MailParseError>
-        ensures { GivesText result (lenient_value (phrase_text self.now.display_name.now)) }
-    {
-        name_text(alloc, self.display_name)
-    }
-
-    /// Returns the display name as `get_display_name` does, where encoded words may also be in the
-    /// charsets of some tables (RFC 2047, section 2).
-    ///
-    /// Takes memory for the text.
-    ///
-    /// # Errors
-    ///
-    /// `MailParseError::Memory` where it runs out of memory.
-    ///
-    /// # Examples
-    ///
-    /// ```rust
-    /// use mail_address::{Address, read_addresses};
-    /// use mailparse::SingleByteTable;
-    ///
-    /// let tables = [SingleByteTable { labels: &["x-euro"], high: &['€'; 128] }];
-    /// for address in &read_addresses(alloc, b"=?x-euro?q?=80?=:;")? {
-    ///     if let Address::Group(group) = address {
-    ///         assert_eq!(rt; group.get_display_name_with(alloc, &tables)?.as_str(), "€");
-    ///     }
-    /// }
-    /// ```
-    pub fn get_display_name_with(
+    pub fn get_display_name<K: KnownCharsets>(
         &self,
         alloc: Global,
-        tables: &[SingleByteTable<'_>],
+        known: &K,
     ) -> Result<String, MailParseError>
-        ensures { GivesText result (lenient_value_in (charsets_with tables.now)
+        ensures { GivesText result (lenient_value_in (K.known known.now)
             (phrase_text self.now.display_name.now)) }
     {
-        name_text_with(alloc, self.display_name, tables)
+        name_text(alloc, self.display_name, known)
     }
 }
 

@@ -1,9 +1,8 @@
 //! The text of names and addresses, without quotes, comments and folding.
 ghost use Rattle.std.specs.Prelude.{◌≡◌, ◌++◌, ◌<◌, ◌≤◌, ◌||◌, ◌==◌, false, length, flat_map, IfOk, OnOk, string_bytes};
 ghost use Rattle.std.specs.List.{list_all};
-ghost use Rattle.mail_codec.specs.Tables.{charsets_with};
 ghost use Rattle.mailparse.specs.Outcome.{GivesText};
-ghost use Rattle.mailparse.specs.Value.{lenient_value, lenient_value_in, value_text};
+ghost use Rattle.mailparse.specs.Value.{lenient_value_in, value_text};
 ghost use Rattle.mail_address.specs.Text.{address_bytes, bare, escaped_byte, front_len};
 ghost use Rattle.mail_address.specs.Text.{front_meaning, local_text, meaning, needs_no_quotes};
 ghost use Rattle.mail_address.specs.Text.{phrase_text, quoted_text, unquoted, word_or_space};
@@ -12,8 +11,8 @@ ghost use Rattle.mail_address.specs.Tokens.{dot, is_atom_byte};
 
 use crate::mailbox::{after_white, is_dotted, within_ends};
 use crate::tokens::{Kind, Span, front_token, is_all_white, is_atom_byte, run, step};
-use mail_codec::charset::{SingleByteTable, decode_latin1};
-use mailparse::{MailParseError, value_text, value_text_with};
+use mail_codec::charset::{KnownCharsets, decode_latin1};
+use mailparse::{MailParseError, value_text_in};
 use std::alloc::{AllocError, Global};
 use std::str;
 
@@ -213,23 +212,15 @@ pub(crate) fn address_text(
     Ok(bytes_text(alloc, bytes.as_slice())?)
 }
 
-/// The text of a phrase: its encoded words are decoded last.
-pub(crate) fn name_text(alloc: Global, phrase: &[u8]) -> Result<String, MailParseError>
-    ensures { GivesText result (lenient_value (phrase_text phrase.now)) }
-{
-    let text = phrase_text(alloc, phrase)?;
-    value_text(alloc, text.as_slice())
-}
-
-/// The text of a phrase, under the tables too.
-pub(crate) fn name_text_with(
+/// The text of a phrase: its encoded words are decoded last, in the charsets that are known.
+pub(crate) fn name_text<K: KnownCharsets>(
     alloc: Global,
     phrase: &[u8],
-    tables: &[SingleByteTable<'_>],
+    known: &K,
 ) -> Result<String, MailParseError>
     ensures { GivesText result
-        (lenient_value_in (charsets_with tables.now) (phrase_text phrase.now)) }
+        (lenient_value_in (K.known known.now) (phrase_text phrase.now)) }
 {
     let text = phrase_text(alloc, phrase)?;
-    value_text_with(alloc, text.as_slice(), tables)
+    value_text_in(alloc, text.as_slice(), known)
 }

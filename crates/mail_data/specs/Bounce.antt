@@ -5,11 +5,12 @@ use Rattle.std.specs.List.{list_any, after_first}
 use Rattle.std.specs.Option.{option_map_or}
 use Rattle.std.specs.Str.{bytes_eq, trim}
 use Rattle.mail_codec.specs.Ascii.{semicolon}
+use Rattle.mail_codec.specs.Charset.{Charsets}
 use Rattle.mail_codec.specs.Places.{is_empty}
 use Rattle.mailparse.specs.Block.{HeaderList, read_headers}
 use Rattle.mailparse.specs.Header.{Header}
 use Rattle.mailparse.specs.Mail.{Node, Tree, Forest, tree, no_parts, part_and, root}
-use Rattle.mailparse.specs.Map.{first_value}
+use Rattle.mailparse.specs.Map.{first_value_in}
 use Rattle.mailparse.specs.Refusal.{Refusal}
 use Rattle.mail_data.specs.Archive.{id_among}
 use Rattle.mail_data.specs.lenient.Comments.{without_comments}
@@ -68,21 +69,9 @@ headers_or_none (Err refusal) = []
 unfoldable pub fields : List ℕ → List Header
 fields block = headers_or_none (read_headers block)
 
--- the text of the first field that has this name, without comments and without whitespace around it
-unfoldable pub text_of : List ℕ → List Header → Option (List ℕ)
-text_of name headers = option_map (λ text. trim (without_comments text)) (first_value name headers)
-
 -- what follows the first `;` of a text, or the whole text where there is none
 unfoldable pub after_type : List ℕ → List ℕ
 after_type text = if list_any (λ b. b == semicolon) text then after_first (λ b. b == semicolon) text else text
-
--- the text of such a field after the type that a `;` ends, without whitespace around it
-unfoldable pub typed_text_of : List ℕ → List Header → Option (List ℕ)
-typed_text_of name headers = option_map (λ text. trim (after_type text)) (first_value name headers)
-
--- the address in such a field: what follows the type, without comments
-unfoldable pub address_of : List ℕ → List Header → Option (List ℕ)
-address_of name headers = option_map (λ text. trim (after_type (without_comments text))) (first_value name headers)
 
 -- what a report says of a recipient
 pub record Delivery : Type 0 where
@@ -92,24 +81,38 @@ pub record Delivery : Type 0 where
   pub status : Option (List ℕ)
   pub diagnostic_code : Option (List ℕ)
 
--- what these fields say
-abbrev pub delivery_in : List Header → Delivery
-delivery_in headers = record {
-  final_recipient = address_of (codes "Final-Recipient") headers;
-  original_recipient = address_of (codes "Original-Recipient") headers;
-  action = text_of (codes "Action") headers;
-  status = text_of (codes "Status") headers;
-  diagnostic_code = typed_text_of (codes "Diagnostic-Code") headers;
-}
+-- Under the charsets that are known.
+module _ (known : Charsets) where
+  -- the text of the first field that has this name, without comments and without whitespace around it
+  unfoldable pub text_of : List ℕ → List Header → Option (List ℕ)
+  text_of name headers = option_map (λ text. trim (without_comments text)) (first_value_in known name headers)
 
--- what the status of a delivery says: of each block after the first, which is on the message
-unfoldable pub deliveries : List ℕ → List Delivery
-deliveries status = map (λ block. delivery_in (fields block)) (drop 1 (blocks status))
+  -- the text of such a field after the type that a `;` ends, without whitespace around it
+  unfoldable pub typed_text_of : List ℕ → List Header → Option (List ℕ)
+  typed_text_of name headers = option_map (λ text. trim (after_type text)) (first_value_in known name headers)
 
--- what a mail reports of each recipient; nothing where it is no report
-unfoldable pub recipients : Tree → List Delivery
-recipients t = option_map_or (λ part. deliveries (root part).body) (report_part has_status t) []
+  -- the address in such a field: what follows the type, without comments
+  unfoldable pub address_of : List ℕ → List Header → Option (List ℕ)
+  address_of name headers = option_map (λ text. trim (after_type (without_comments text))) (first_value_in known name headers)
 
--- the id of the mail that a report is about, by the headers that it returns
-unfoldable pub original_message_id : Tree → Option (List ℕ)
-original_message_id t = option_map_or (λ part. id_among (fields (root part).body)) (report_part has_original t) None
+  -- what these fields say
+  abbrev pub delivery_in : List Header → Delivery
+  delivery_in headers = record {
+    final_recipient = address_of (codes "Final-Recipient") headers;
+    original_recipient = address_of (codes "Original-Recipient") headers;
+    action = text_of (codes "Action") headers;
+    status = text_of (codes "Status") headers;
+    diagnostic_code = typed_text_of (codes "Diagnostic-Code") headers;
+  }
+
+  -- what the status of a delivery says: of each block after the first, which is on the message
+  unfoldable pub deliveries : List ℕ → List Delivery
+  deliveries status = map (λ block. delivery_in (fields block)) (drop 1 (blocks status))
+
+  -- what a mail reports of each recipient; nothing where it is no report
+  unfoldable pub recipients : Tree → List Delivery
+  recipients t = option_map_or (λ part. deliveries (root part).body) (report_part has_status t) []
+
+  -- the id of the mail that a report is about, by the headers that it returns
+  unfoldable pub original_message_id : Tree → Option (List ℕ)
+  original_message_id t = option_map_or (λ part. id_among known (fields (root part).body)) (report_part has_original t) None

@@ -3,7 +3,7 @@
 use Rattle.std.specs.Prelude.{ℕ, suc, Bool, true, false, ◌&&◌, ◌||◌, List, [], ◌∷◌, ◌++◌, filter, Option, Some, None, is_some, option_map, codes, decimal, if◌then◌else◌}
 use Rattle.std.specs.List.{after_first, list_any}
 use Rattle.std.specs.Str.{is_utf8, trim}
-use Rattle.mail_codec.specs.Charset.{Charsets, four_charsets, text_of}
+use Rattle.mail_codec.specs.Charset.{Charsets, text_of}
 use Rattle.mail_codec.specs.Places.{is_empty}
 use Rattle.mailparse.specs.ContentType.{ContentType}
 use Rattle.mailparse.specs.Disposition.{Disposition, Kind, attachment}
@@ -98,13 +98,3 @@ module _ (known : Charsets) where
   -- the files of a whole message, with their paths
   abbrev pub attachments_in : Tree → List (List ℕ × Tree)
   attachments_in t = attachments_under (whole_path t) t
-
--- the same under the four charsets
-abbrev pub file_name : Node → Option (List ℕ)
-file_name node = file_name_in four_charsets node
-
-abbrev pub is_attachment : Tree → Bool
-is_attachment t = is_attachment_in four_charsets t
-
-abbrev pub attachments : Tree → List (List ℕ × Tree)
-attachments t = attachments_in four_charsets t

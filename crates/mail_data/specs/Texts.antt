@@ -1,7 +1,7 @@
 -- The text of a mail that is to be read (RFC 2046, sections 4.1 and 5.1.4).
 use Rattle.std.specs.Prelude.{ℕ, Bool, true, false, not, ◌&&◌, List, find, Option, Some, None, codes, if◌then◌else◌}
 use Rattle.std.specs.Str.{bytes_eq}
-use Rattle.mail_codec.specs.Charset.{Charsets, four_charsets}
+use Rattle.mail_codec.specs.Charset.{Charsets}
 use Rattle.mailparse.specs.Mail.{Tree, root, shown_as_in, trees_within}
 use Rattle.mail_data.specs.Files.{is_attachment_disposition, is_attachment_in}
 
@@ -37,7 +37,3 @@ module _ (known : Charsets) where
   -- the part that is to be read: the first text without a name, otherwise the first with one
   unfoldable pub text_part_in : Tree → Option Tree
   text_part_in t = first_tree (first_text false t) (first_text true t)
-
--- the same under the four charsets
-abbrev pub text_part : Tree → Option Tree
-text_part t = text_part_in four_charsets t

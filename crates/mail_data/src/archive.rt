@@ -9,6 +9,7 @@ ghost use Rattle.mailparse.specs.Views.{tree_of};
 ghost use Rattle.mail_data.specs.Archive.{id_among, ids_of, message_id, parents, without_repeats};
 
 use crate::lenient::{ids_in, own_ids_in};
+use mail_codec::charset::KnownCharsets;
 use mailparse::{MailHeader, MailHeaderMap, MailParseError, ParsedMail};
 use std::alloc::{AllocError, Global};
 use std::collections::BTreeSet;
@@ -16,7 +17,8 @@ use std::collections::BTreeSet;
 /// Returns the id of a mail, or `None` where it has none: the first that `own_ids_in` finds in the
 /// first header `Message-ID` (RFC 5322, section 3.6.4). It may be without an `@`.
 ///
-/// Takes memory for the value of the header and the ids in it.
+/// The value is read in the charsets that are given (RFC 2047, section 2). Takes memory for the
+/// value and the ids in it.
 ///
 /// # Errors
 ///
@@ -29,26 +31,33 @@ use std::collections::BTreeSet;
 /// use mailparse::parse_mail;
 ///
 /// let mail = parse_mail(alloc, b"Message-ID: <one@example.org> (sent twice)\n\nHi")?;
-/// let id = message_id(alloc, &mail)?.ok_or("no id")?;
+/// let id = message_id(alloc, &mail, &())?.ok_or("no id")?;
 /// assert_eq!(rt; id.as_str(), "one@example.org");
 /// ```
-pub fn message_id(alloc: Global, mail: &ParsedMail<'_>) -> Result<Option<String>, MailParseError>
-    ensures { AnswersOrMemory text_found result (Ok (message_id (root (tree_of mail.now)))) }
+pub fn message_id<K: KnownCharsets>(
+    alloc: Global,
+    mail: &ParsedMail<'_>,
+    known: &K,
+) -> Result<Option<String>, MailParseError>
+    ensures { AnswersOrMemory text_found result
+        (Ok (message_id (K.known known.now) (root (tree_of mail.now)))) }
 {
-    let id = id_among(alloc, &mail.headers)?;
+    let id = id_among(alloc, &mail.headers, known)?;
     Ok(id)
 }
 
 /// The id of a mail with these headers.
 #[tactic(auto, unfolding(crate::specs::Archive::id_among))]
-pub(crate) fn id_among(
+pub(crate) fn id_among<K: KnownCharsets>(
     alloc: Global,
     headers: &Vec<MailHeader<'_>>,
+    known: &K,
 ) -> Result<Option<String>, MailParseError>
-    ensures read { IfOk result (λ id. text_found id ≡ id_among headers.now.items) }
+    ensures read { IfOk result (λ id.
+        text_found id ≡ id_among (K.known known.now) headers.now.items) }
     ensures only_memory { IfErr result IsMemory }
 {
-    let Some(text) = headers.get_first_value(alloc, "Message-ID")? else {
+    let Some(text) = headers.get_first_value_in(alloc, "Message-ID", known)? else {
         return Ok(None);
     };
     let ids = own_ids_in(alloc, text.as_str())?;
@@ -60,7 +69,8 @@ pub(crate) fn id_among(
 /// order, each once, where it stands first.
 ///
 /// The last id of `References` is that of the mail that is replied to; it mostly stands in
-/// `In-Reply-To` again. Takes memory for the values of the headers, the ids and a set of them.
+/// `In-Reply-To` again. The values are read in the charsets that are given (RFC 2047, section 2).
+/// Takes memory for the values, the ids and a set of them.
 ///
 /// # Errors
 ///
@@ -73,18 +83,22 @@ pub(crate) fn id_among(
 /// use mailparse::parse_mail;
 ///
 /// let mail = parse_mail(alloc, b"References: <one@a> <two@b>\nIn-Reply-To: <two@b>\n\nHi")?;
-/// let ids = parents(alloc, &mail)?;
+/// let ids = parents(alloc, &mail, &())?;
 /// assert_eq!(rt; ids.len(), 2);
 /// assert_eq!(rt; ids[0].as_str(), "one@a");
 /// assert_eq!(rt; ids[1].as_str(), "two@b");
 /// ```
 #[tactic(auto, unfolding(crate::specs::Archive::parents))]
-pub fn parents(alloc: Global, mail: &ParsedMail<'_>) -> Result<Vec<String>, MailParseError>
-    ensures read { GivesTexts result (parents (root (tree_of mail.now))) }
+pub fn parents<K: KnownCharsets>(
+    alloc: Global,
+    mail: &ParsedMail<'_>,
+    known: &K,
+) -> Result<Vec<String>, MailParseError>
+    ensures read { GivesTexts result (parents (K.known known.now) (root (tree_of mail.now))) }
     ensures distinct { IfOk result (λ ids. IsDistinct bytes_eq (map string_bytes ids.items)) }
 {
-    let mut ids = ids_of(alloc, mail, "References")?;
-    let mut replied = ids_of(alloc, mail, "In-Reply-To")?;
+    let mut ids = ids_of(alloc, mail, "References", known)?;
+    let mut replied = ids_of(alloc, mail, "In-Reply-To", known)?;
     ids.append(&mut replied)?;
     let ids = without_repeats(alloc, ids)?;
     Ok(ids)
@@ -92,12 +106,17 @@ pub fn parents(alloc: Global, mail: &ParsedMail<'_>) -> Result<Vec<String>, Mail
 
 /// The ids in the first header that has this name.
 #[tactic(auto, unfolding(crate::specs::Archive::ids_of))]
-fn ids_of(alloc: Global, mail: &ParsedMail<'_>, name: &str) -> Result<Vec<String>, MailParseError>
-    ensures read { IfOk result (λ ids.
-        map string_bytes ids.items ≡ ids_of name.now (root (tree_of mail.now))) }
+fn ids_of<K: KnownCharsets>(
+    alloc: Global,
+    mail: &ParsedMail<'_>,
+    name: &str,
+    known: &K,
+) -> Result<Vec<String>, MailParseError>
+    ensures read { IfOk result (λ ids. map string_bytes ids.items
+        ≡ ids_of (K.known known.now) name.now (root (tree_of mail.now))) }
     ensures only_memory { IfErr result IsMemory }
 {
-    let Some(text) = mail.headers.get_first_value(alloc, name)? else {
+    let Some(text) = mail.headers.get_first_value_in(alloc, name, known)? else {
         return Ok(Vec::new(alloc));
     };
     let ids = ids_in(alloc, text.as_str())?;

@@ -15,6 +15,7 @@ use crate::archive::id_among;
 use crate::forwarding::raw_body;
 use crate::lenient::without_comments;
 use crate::lines::{empty_line, is_empty_line, line_place};
+use mail_codec::charset::KnownCharsets;
 use mailparse::{MailHeader, MailHeaderMap, MailParseError, ParsedMail, parse_headers};
 use std::alloc::{AllocError, Global};
 
@@ -41,11 +42,11 @@ pub struct Recipient {
 /// `message/delivery-status` or a `message/global-delivery-status` (RFC 6533) is used. Its fields
 /// are in blocks separated by empty lines: the first block is about the message, and each other
 /// block is about one recipient. A field is found by its name, ignoring ASCII case, and its text is
-/// read like a header's value, without whitespace around it. In an address or a diagnostic code, the
-/// text up to the first `;` is its type, and is left out. Comments in parentheses are left out of
-/// addresses, actions and status codes. A block that `parse_headers` refuses counts as one without fields. A transfer encoding,
-/// which such a part must not have, is not undone. Takes memory for the blocks, their headers and
-/// the texts.
+/// read like a header's value in the charsets that are given, without whitespace around it. In an
+/// address or a diagnostic code, the text up to the first `;` is its type, and is left out. Comments
+/// in parentheses are left out of addresses, actions and status codes. A block that `parse_headers`
+/// refuses counts as one without fields. A transfer encoding, which such a part must not have, is
+/// not undone. Takes memory for the blocks, their headers and the texts.
 ///
 /// # Errors
 ///
@@ -62,21 +63,25 @@ pub struct Recipient {
 ///     Reporting-MTA: dns; mx.example.org\n\n\
 ///     Final-Recipient: rfc822; ann@example.org\nAction: failed\nStatus: 5.1.1\n\n--b--\n";
 /// let mail = parse_mail(alloc, raw)?;
-/// for recipient in &recipients(alloc, &mail)? {
+/// for recipient in &recipients(alloc, &mail, &())? {
 ///     let address = recipient.final_recipient.as_ref().ok_or("no address")?;
 ///     assert_eq!(rt; address.as_str(), "ann@example.org");
 /// }
 /// ```
 #[tactic(auto, unfolding(crate::specs::Bounce::recipients))]
-pub fn recipients(alloc: Global, mail: &ParsedMail<'_>) -> Result<Vec<Recipient>, MailParseError>
+pub fn recipients<K: KnownCharsets>(
+    alloc: Global,
+    mail: &ParsedMail<'_>,
+    known: &K,
+) -> Result<Vec<Recipient>, MailParseError>
     ensures { AnswersOrMemory (λ found. map delivery found.items) result
-        (Ok (recipients (tree_of mail.now))) }
+        (Ok (recipients (K.known known.now) (tree_of mail.now))) }
 {
     let Some(part) = status_part(mail) else {
         return Ok(Vec::new(alloc));
     };
     let status = raw_body(alloc, part)?;
-    let found = deliveries(alloc, status)?;
+    let found = deliveries(alloc, status, known)?;
     Ok(found)
 }
 
@@ -85,8 +90,9 @@ pub fn recipients(alloc: Global, mail: &ParsedMail<'_>) -> Result<Vec<Recipient>
 ///
 /// The mail has to be a `multipart/report`, and the first of its own parts that is a
 /// `message/rfc822`, a `text/rfc822-headers`, a `message/global` or a `message/global-headers` is
-/// used: its id is read as `archive::message_id` reads one. Headers that `parse_headers` refuses
-/// have none. A transfer encoding is not undone. Takes memory for the headers and the id.
+/// used: its id is read as `archive::message_id` reads one, in the charsets that are given. Headers
+/// that `parse_headers` refuses have none. A transfer encoding is not undone. Takes memory for the
+/// headers and the id.
 ///
 /// # Errors
 ///
@@ -101,22 +107,24 @@ pub fn recipients(alloc: Global, mail: &ParsedMail<'_>) -> Result<Vec<Recipient>
 /// let raw = b"Content-Type: multipart/report; boundary=b\n\n\
 ///     --b\nContent-Type: text/rfc822-headers\n\nMessage-ID: <one@example.org>\n\n--b--\n";
 /// let mail = parse_mail(alloc, raw)?;
-/// let id = original_message_id(alloc, &mail)?.ok_or("no id")?;
+/// let id = original_message_id(alloc, &mail, &())?.ok_or("no id")?;
 /// assert_eq!(rt; id.as_str(), "one@example.org");
 /// ```
 #[tactic(auto, unfolding(crate::specs::Bounce::original_message_id))]
-pub fn original_message_id(
+pub fn original_message_id<K: KnownCharsets>(
     alloc: Global,
     mail: &ParsedMail<'_>,
+    known: &K,
 ) -> Result<Option<String>, MailParseError>
-    ensures { AnswersOrMemory text_found result (Ok (original_message_id (tree_of mail.now))) }
+    ensures { AnswersOrMemory text_found result
+        (Ok (original_message_id (K.known known.now) (tree_of mail.now))) }
 {
     let Some(part) = original_part(mail) else {
         return Ok(None);
     };
     let raw = raw_body(alloc, part)?;
     let headers = fields(alloc, raw)?;
-    let id = id_among(alloc, &headers)?;
+    let id = id_among(alloc, &headers, known)?;
     Ok(id)
 }
 
@@ -171,8 +179,13 @@ fn has_original(part: &ParsedMail<'_>) -> bool
 
 /// What the status of a delivery says of each recipient.
 #[tactic(auto, unfolding(crate::specs::Bounce::deliveries))]
-fn deliveries(alloc: Global, status: &[u8]) -> Result<Vec<Recipient>, MailParseError>
-    ensures read { IfOk result (λ found. map delivery found.items ≡ deliveries status.now) }
+fn deliveries<K: KnownCharsets>(
+    alloc: Global,
+    status: &[u8],
+    known: &K,
+) -> Result<Vec<Recipient>, MailParseError>
+    ensures read { IfOk result (λ found.
+        map delivery found.items ≡ deliveries (K.known known.now) status.now) }
     ensures only_memory { IfErr result IsMemory }
 {
     let mut found = Vec::new(alloc);
@@ -182,7 +195,7 @@ fn deliveries(alloc: Global, status: &[u8]) -> Result<Vec<Recipient>, MailParseE
     };
     for block in others {
         let headers = fields(alloc, block)?;
-        found.push(recipient_in(alloc, &headers)?)?;
+        found.push(recipient_in(alloc, &headers, known)?)?;
     }
     Ok(found)
 }
@@ -235,30 +248,37 @@ fn fields<'s>(alloc: Global, block: &'s [u8]) -> Result<Vec<MailHeader<'s>>, Mai
 }
 
 /// What these fields say of a recipient.
-fn recipient_in(alloc: Global, headers: &Vec<MailHeader<'_>>) -> Result<Recipient, MailParseError>
-    ensures read { IfOk result (λ recipient. delivery recipient ≡ delivery_in headers.now.items) }
+fn recipient_in<K: KnownCharsets>(
+    alloc: Global,
+    headers: &Vec<MailHeader<'_>>,
+    known: &K,
+) -> Result<Recipient, MailParseError>
+    ensures read { IfOk result (λ recipient.
+        delivery recipient ≡ delivery_in (K.known known.now) headers.now.items) }
     ensures only_memory { IfErr result IsMemory }
 {
     Ok(Recipient {
-        final_recipient: address_of(alloc, headers, "Final-Recipient")?,
-        original_recipient: address_of(alloc, headers, "Original-Recipient")?,
-        action: text_of(alloc, headers, "Action")?,
-        status: text_of(alloc, headers, "Status")?,
-        diagnostic_code: typed_text_of(alloc, headers, "Diagnostic-Code")?,
+        final_recipient: address_of(alloc, headers, "Final-Recipient", known)?,
+        original_recipient: address_of(alloc, headers, "Original-Recipient", known)?,
+        action: text_of(alloc, headers, "Action", known)?,
+        status: text_of(alloc, headers, "Status", known)?,
+        diagnostic_code: typed_text_of(alloc, headers, "Diagnostic-Code", known)?,
     })
 }
 
 /// The text of the first field that has this name, without comments and whitespace around it.
 #[tactic(auto, unfolding(crate::specs::Bounce::text_of))]
-fn text_of(
+fn text_of<K: KnownCharsets>(
     alloc: Global,
     headers: &Vec<MailHeader<'_>>,
     name: &str,
+    known: &K,
 ) -> Result<Option<String>, MailParseError>
-    ensures read { IfOk result (λ found. text_found found ≡ text_of name.now headers.now.items) }
+    ensures read { IfOk result (λ found.
+        text_found found ≡ text_of (K.known known.now) name.now headers.now.items) }
     ensures only_memory { IfErr result IsMemory }
 {
-    match headers.get_first_value(alloc, name)? {
+    match headers.get_first_value_in(alloc, name, known)? {
         Some(text) => {
             let text = without_comments(alloc, text.as_str())?;
             Ok(Some(String::from_str(alloc, text.as_str().trim())?))
@@ -269,16 +289,17 @@ fn text_of(
 
 /// The text of such a field after the type that a `;` ends, without whitespace around it.
 #[tactic(auto, unfolding(crate::specs::Bounce::typed_text_of))]
-fn typed_text_of(
+fn typed_text_of<K: KnownCharsets>(
     alloc: Global,
     headers: &Vec<MailHeader<'_>>,
     name: &str,
+    known: &K,
 ) -> Result<Option<String>, MailParseError>
     ensures read { IfOk result (λ found.
-        text_found found ≡ typed_text_of name.now headers.now.items) }
+        text_found found ≡ typed_text_of (K.known known.now) name.now headers.now.items) }
     ensures only_memory { IfErr result IsMemory }
 {
-    match headers.get_first_value(alloc, name)? {
+    match headers.get_first_value_in(alloc, name, known)? {
         Some(text) => {
             let text = after_type(text.as_str()).trim();
             Ok(Some(String::from_str(alloc, text)?))
@@ -289,15 +310,17 @@ fn typed_text_of(
 
 /// The address in such a field: what follows the type, without comments.
 #[tactic(auto, unfolding(crate::specs::Bounce::address_of))]
-fn address_of(
+fn address_of<K: KnownCharsets>(
     alloc: Global,
     headers: &Vec<MailHeader<'_>>,
     name: &str,
+    known: &K,
 ) -> Result<Option<String>, MailParseError>
-    ensures read { IfOk result (λ found. text_found found ≡ address_of name.now headers.now.items) }
+    ensures read { IfOk result (λ found.
+        text_found found ≡ address_of (K.known known.now) name.now headers.now.items) }
     ensures only_memory { IfErr result IsMemory }
 {
-    match headers.get_first_value(alloc, name)? {
+    match headers.get_first_value_in(alloc, name, known)? {
         Some(text) => {
             let text = without_comments(alloc, text.as_str())?;
             let address = after_type(text.as_str()).trim();

@@ -1,15 +1,14 @@
 //! The files that a mail carries.
 ghost use Rattle.std.specs.Prelude.{◌≡◌, ◌++◌, map, option_map, string_bytes, Some, [], ◌∷◌, IfErr, IfOk, OnOk, Ok};
-ghost use Rattle.mail_codec.specs.Tables.{charsets_with};
 ghost use Rattle.mailparse.specs.Mail.{root};
 ghost use Rattle.mailparse.specs.Map.{text_found};
 ghost use Rattle.mailparse.specs.Outcome.{AnswersOrMemory, IsMemory};
 ghost use Rattle.mailparse.specs.Pairs.{text_at};
 ghost use Rattle.mailparse.specs.Views as views;
 ghost use Rattle.mailparse.specs.Views.{content_type, kind, tree_of};
-ghost use Rattle.mail_data.specs.Files.{attachments, attachments_in, attachments_under};
-ghost use Rattle.mail_data.specs.Files.{describes_attachment, file_name, file_name_in, files_among};
-ghost use Rattle.mail_data.specs.Files.{filled, is_attachment, is_attachment_disposition};
+ghost use Rattle.mail_data.specs.Files.{attachments_in, attachments_under, describes_attachment};
+ghost use Rattle.mail_data.specs.Files.{file_name_in, files_among, filled};
+ghost use Rattle.mail_data.specs.Files.{is_attachment_disposition};
 ghost use Rattle.mail_data.specs.Files.{is_attachment_in, is_leaf, name_among, name_in, path_under};
 ghost use Rattle.mail_data.specs.Files.{whole_path};
 ghost use Rattle.mail_data.specs.FileViews.{attachment_view};
@@ -18,9 +17,9 @@ mod left_over;
 mod names;
 
 use left_over::left_over_text;
+use mail_codec::charset::KnownCharsets;
 use mailparse::{
     DispositionType, MailParseError, ParsedContentDisposition, ParsedContentType, ParsedMail,
-    SingleByteTable,
 };
 pub use names::safe_file_name;
 use std::alloc::{AllocError, Global};
@@ -43,8 +42,9 @@ pub struct Attachment<'m, 'a> {
 /// says. A parameter of whitespace alone counts as none.
 ///
 /// The name is as the sender wrote it: `safe_file_name` makes it fit to be used. The disposition is
-/// read in the four charsets that are always known; `file_name_with` knows others. Takes memory for
-/// the disposition and the name.
+/// read in the charsets that are given (RFC 2231, section 4); the type is as the part was read, so
+/// `mailparse::parse_mail_in` reads the mail in the same ones. Takes memory for the disposition and
+/// the name.
 ///
 /// # Errors
 ///
@@ -54,49 +54,27 @@ pub struct Attachment<'m, 'a> {
 ///
 /// ```rust
 /// use mail_data::files::file_name;
-/// use mailparse::parse_mail;
+/// use mailparse::{SingleByteTable, parse_mail};
 ///
 /// let mail = parse_mail(alloc, b"Content-Type: image/png; name=\"a.png\"\n\n")?;
-/// assert_eq!(rt; file_name(alloc, &mail)?.ok_or("no name")?.as_str(), "a.png");
-/// ```
-pub fn file_name(alloc: Global, part: &ParsedMail<'_>) -> Result<Option<String>, MailParseError>
-    ensures { AnswersOrMemory text_found result (Ok (file_name (root (tree_of part.now)))) }
-{
-    file_name_with(alloc, part, &[])
-}
-
-/// Returns the file name of a part as `file_name` does, but the disposition may also be in the
-/// charsets of some tables (RFC 2183, section 2.3; RFC 2231, section 4).
-///
-/// The type is as the part was read: `mailparse::parse_mail_with` reads it with tables. Takes
-/// memory for the disposition and the name.
-///
-/// # Errors
-///
-/// `MailParseError::Memory` where it runs out of memory.
-///
-/// # Examples
-///
-/// ```rust
-/// use mail_data::files::file_name_with;
-/// use mailparse::{SingleByteTable, parse_mail};
+/// assert_eq!(rt; file_name(alloc, &mail, &())?.ok_or("no name")?.as_str(), "a.png");
 ///
 /// let tables = [SingleByteTable { labels: &["x-euro"], high: &['€'; 128] }];
 /// let raw = b"Content-Disposition: attachment; filename*=x-euro''5%E4.txt\n\n";
 /// let mail = parse_mail(alloc, raw)?;
-/// let name = file_name_with(alloc, &mail, &tables)?.ok_or("no name")?;
+/// let name = file_name(alloc, &mail, &tables.as_slice())?.ok_or("no name")?;
 /// assert_eq!(rt; name.as_str(), "5€.txt");
 /// ```
 #[tactic(auto, unfolding(crate::specs::Files::file_name_in))]
-pub fn file_name_with(
+pub fn file_name<K: KnownCharsets>(
     alloc: Global,
     part: &ParsedMail<'_>,
-    tables: &[SingleByteTable<'_>],
+    known: &K,
 ) -> Result<Option<String>, MailParseError>
     ensures { AnswersOrMemory text_found result
-        (Ok (file_name_in (charsets_with tables.now) (root (tree_of part.now)))) }
+        (Ok (file_name_in (K.known known.now) (root (tree_of part.now)))) }
 {
-    let disposition = part.get_content_disposition_with(alloc, tables)?;
+    let disposition = part.get_content_disposition_in(alloc, known)?;
     let name = named_file(alloc, &disposition, &part.ctype)?;
     Ok(name)
 }
@@ -196,8 +174,8 @@ pub fn filled_parameter<'p>(parameters: &'p BTreeMap<String, String>, name: &str
 /// `attachment` or it has a file name (RFC 2183, sections 2.2 and 2.3).
 ///
 /// So an image that is shown in the text counts if it has a name, and a forwarded message
-/// (`message/rfc822`), whose content is not parsed, counts like any other part. Takes memory for
-/// the disposition.
+/// (`message/rfc822`), whose content is not parsed, counts like any other part. The disposition is
+/// read in the charsets that are given (RFC 2231, section 4). Takes memory for the disposition.
 ///
 /// # Errors
 ///
@@ -207,51 +185,28 @@ pub fn filled_parameter<'p>(parameters: &'p BTreeMap<String, String>, name: &str
 ///
 /// ```rust
 /// use mail_data::files::is_attachment;
-/// use mailparse::parse_mail;
+/// use mailparse::{SingleByteTable, parse_mail};
 ///
 /// let mail = parse_mail(alloc, b"Content-Disposition: inline; filename=a.txt\n\n")?;
-/// assert!(rt; is_attachment(alloc, &mail)?);
-/// let mail = parse_mail(alloc, b"Subject: Hi\n\nHello")?;
-/// assert!(rt; !is_attachment(alloc, &mail)?);
-/// ```
-pub fn is_attachment(alloc: Global, part: &ParsedMail<'_>) -> Result<bool, MailParseError>
-    ensures { AnswersOrMemory (λ is. is) result (Ok (is_attachment (tree_of part.now))) }
-{
-    is_attachment_with(alloc, part, &[])
-}
-
-/// Returns whether a part is a file as `is_attachment` does, but the disposition may also be in the
-/// charsets of some tables (RFC 2183, sections 2.2 and 2.3; RFC 2231, section 4).
-///
-/// Takes memory for the disposition.
-///
-/// # Errors
-///
-/// `MailParseError::Memory` where it runs out of memory.
-///
-/// # Examples
-///
-/// ```rust
-/// use mail_data::files::{is_attachment, is_attachment_with};
-/// use mailparse::{SingleByteTable, parse_mail};
+/// assert!(rt; is_attachment(alloc, &mail, &())?);
 ///
 /// let tables = [SingleByteTable { labels: &["x-euro"], high: &['€'; 128] }];
 /// let mail = parse_mail(alloc, b"Content-Disposition: =?x-euro?Q?attachment?=\n\n")?;
-/// assert!(rt; is_attachment_with(alloc, &mail, &tables)?);
-/// assert!(rt; !is_attachment(alloc, &mail)?);
+/// assert!(rt; is_attachment(alloc, &mail, &tables.as_slice())?);
+/// assert!(rt; !is_attachment(alloc, &mail, &())?);
 /// ```
-pub fn is_attachment_with(
+pub fn is_attachment<K: KnownCharsets>(
     alloc: Global,
     part: &ParsedMail<'_>,
-    tables: &[SingleByteTable<'_>],
+    known: &K,
 ) -> Result<bool, MailParseError>
     ensures { AnswersOrMemory (λ is. is) result
-        (Ok (is_attachment_in (charsets_with tables.now) (tree_of part.now))) }
+        (Ok (is_attachment_in (K.known known.now) (tree_of part.now))) }
 {
     if !is_leaf(part) {
         return Ok(false);
     }
-    let disposition = part.get_content_disposition_with(alloc, tables)?;
+    let disposition = part.get_content_disposition_in(alloc, known)?;
     let is_file = describes_attachment(alloc, &disposition, &part.ctype)?;
     Ok(is_file)
 }
@@ -334,7 +289,8 @@ pub fn is_attachment_disposition(disposition: &DispositionType) -> bool
 /// Returns the files of a mail (RFC 2183, section 2), in the order in which they appear, each with
 /// the path of its part.
 ///
-/// Takes memory for the list, the paths and each disposition in turn.
+/// Dispositions are read in the charsets that are given (RFC 2231, section 4). Takes memory for the
+/// list, the paths and each disposition in turn.
 ///
 /// # Errors
 ///
@@ -349,50 +305,21 @@ pub fn is_attachment_disposition(disposition: &DispositionType) -> bool
 /// let raw = b"Content-Type: multipart/mixed; boundary=b\n\n--b\n\nHello\n\
 ///     --b\nContent-Disposition: attachment; filename=a.txt\n\none\n--b--\n";
 /// let mail = parse_mail(alloc, raw)?;
-/// let files = attachments(alloc, &mail)?;
+/// let files = attachments(alloc, &mail, &())?;
 /// assert_eq!(rt; files.len(), 1);
 /// assert_eq!(rt; files[0].path.as_str(), "2");
 /// assert_eq!(rt; files[0].part.get_body_raw(alloc)?.as_slice(), b"one".as_slice());
 /// ```
-pub fn attachments<'m, 'a>(
+pub fn attachments<'m, 'a, K: KnownCharsets>(
     alloc: Global,
     mail: &'m ParsedMail<'a>,
+    known: &K,
 ) -> Result<Vec<Attachment<'m, 'a>>, MailParseError>
     ensures { AnswersOrMemory (λ files. map attachment_view files.items) result
-        (Ok (attachments (tree_of mail.now))) }
-{
-    attachments_with(alloc, mail, &[])
-}
-
-/// Returns the files of a mail as `attachments` does, but dispositions may also be in the charsets
-/// of some tables (RFC 2183, section 2; RFC 2231, section 4).
-///
-/// Takes memory for the list, the paths and each disposition in turn.
-///
-/// # Errors
-///
-/// `MailParseError::Memory` where it runs out of memory.
-///
-/// # Examples
-///
-/// ```rust
-/// use mail_data::files::attachments_with;
-/// use mailparse::{SingleByteTable, parse_mail};
-///
-/// let tables = [SingleByteTable { labels: &["x-euro"], high: &['€'; 128] }];
-/// let mail = parse_mail(alloc, b"Content-Disposition: =?x-euro?Q?attachment?=\n\n")?;
-/// assert_eq!(rt; attachments_with(alloc, &mail, &tables)?.len(), 1);
-/// ```
-pub fn attachments_with<'m, 'a>(
-    alloc: Global,
-    mail: &'m ParsedMail<'a>,
-    tables: &[SingleByteTable<'_>],
-) -> Result<Vec<Attachment<'m, 'a>>, MailParseError>
-    ensures { AnswersOrMemory (λ files. map attachment_view files.items) result
-        (Ok (attachments_in (charsets_with tables.now) (tree_of mail.now))) }
+        (Ok (attachments_in (K.known known.now) (tree_of mail.now))) }
 {
     let mut files = Vec::new(alloc);
-    push_attachments(alloc, mail, whole_path(mail), tables, &mut files)?;
+    push_attachments(alloc, mail, whole_path(mail), known, &mut files)?;
     Ok(files)
 }
 
@@ -405,42 +332,42 @@ pub(crate) fn whole_path(mail: &ParsedMail<'_>) -> &'static str
 }
 
 /// Adds the files of a part that has this path.
-fn push_attachments<'m, 'a>(
+fn push_attachments<'m, 'a, K: KnownCharsets>(
     alloc: Global,
     mail: &'m ParsedMail<'a>,
     path: &str,
-    tables: &[SingleByteTable<'_>],
+    known: &K,
     files: &mut Vec<Attachment<'m, 'a>>,
 ) -> Result<(), MailParseError>
     ensures written { OnOk result (map attachment_view files.new.items
         ≡ map attachment_view files.old.items
-        ++ attachments_under (charsets_with tables.now) path.now (tree_of mail.now)) }
+        ++ attachments_under (K.known known.now) path.now (tree_of mail.now)) }
     ensures only_memory { IfErr result IsMemory }
 {
-    push_own(alloc, mail, path, tables, files)?;
+    push_own(alloc, mail, path, known, files)?;
     let mut number = 0;
     for part in &mail.subparts {
         number += 1;
         let path = path_under(alloc, path, number)?;
-        push_attachments(alloc, part, path.as_str(), tables, files)?;
+        push_attachments(alloc, part, path.as_str(), known, files)?;
     }
     Ok(())
 }
 
 /// Adds a part that has this path, if it is a file.
-fn push_own<'m, 'a>(
+fn push_own<'m, 'a, K: KnownCharsets>(
     alloc: Global,
     part: &'m ParsedMail<'a>,
     path: &str,
-    tables: &[SingleByteTable<'_>],
+    known: &K,
     files: &mut Vec<Attachment<'m, 'a>>,
 ) -> Result<(), MailParseError>
     ensures written { OnOk result (map attachment_view files.new.items
         ≡ map attachment_view files.old.items
-        ++ files_among (charsets_with tables.now) ((path.now, tree_of part.now) ∷ [])) }
+        ++ files_among (K.known known.now) ((path.now, tree_of part.now) ∷ [])) }
     ensures only_memory { IfErr result IsMemory }
 {
-    if !is_attachment_with(alloc, part, tables)? {
+    if !is_attachment(alloc, part, known)? {
         return Ok(());
     }
     let path = String::from_str(alloc, path)?;

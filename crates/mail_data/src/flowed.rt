@@ -1,7 +1,6 @@
 //! Texts whose paragraphs flow over lines.
 ghost use Rattle.std.specs.Prelude.{◌≡◌, ◌<◌, ◌∷◌, ◌++◌, length, drop, map};
 ghost use Rattle.std.specs.Prelude.{codes, replicate, string_bytes, IfOk, OnOk, Ok};
-ghost use Rattle.mail_codec.specs.Tables.{charsets_with};
 ghost use Rattle.mailparse.specs.Mail.{root};
 ghost use Rattle.mailparse.specs.Outcome.{AnswersOrMemory};
 ghost use Rattle.mailparse.specs.Views.{content_type, tree_of};
@@ -15,7 +14,8 @@ ghost use Rattle.mail_data.specs.lenient.TextViews.{text_view};
 
 use crate::lenient::{BodyText, body_text};
 use crate::texts::text_type;
-use mailparse::{MailParseError, ParsedContentType, ParsedMail, SingleByteTable};
+use mail_codec::charset::KnownCharsets;
+use mailparse::{MailParseError, ParsedContentType, ParsedMail};
 use std::alloc::{AllocError, Global};
 
 /// A line of a text.
@@ -48,19 +48,19 @@ struct Line<'t> {
 ///
 /// let raw = b"Content-Type: text/plain; format=flowed\n\none \ntwo\n> a \n> b";
 /// let mail = parse_mail(alloc, raw)?;
-/// let read = flowed_text(alloc, &mail, &[])?;
+/// let read = flowed_text(alloc, &mail, &())?;
 /// assert_eq!(rt; read.text.as_str(), "one two\n> a b");
 /// ```
 #[tactic(auto, unfolding(crate::specs::Flowed::flowed_text))]
-pub fn flowed_text(
+pub fn flowed_text<K: KnownCharsets>(
     alloc: Global,
     part: &ParsedMail<'_>,
-    tables: &[SingleByteTable<'_>],
+    known: &K,
 ) -> Result<BodyText, MailParseError>
     ensures { AnswersOrMemory text_view result
-        (Ok (flowed_text (charsets_with tables.now) (root (tree_of part.now)))) }
+        (Ok (flowed_text (K.known known.now) (root (tree_of part.now)))) }
 {
-    let read = body_text(alloc, part, tables)?;
+    let read = body_text(alloc, part, known)?;
     let text = unflowed_of(alloc, &part.ctype, read.text)?;
     Ok(BodyText {
         text,

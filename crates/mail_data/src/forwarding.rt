@@ -1,36 +1,34 @@
 //! Mails inside mails.
 ghost use Rattle.std.specs.Prelude.{◌≡◌, ◌≤◌, ◌||◌, ◌++◌, option_map, IfErr, IfOk, OnOk, Ok};
-ghost use Rattle.mail_codec.specs.Tables.{charsets_with};
 ghost use Rattle.mailparse.specs.Mail.{root};
 ghost use Rattle.mailparse.specs.Outcome.{AnswersOrMemory, IsMemory};
 ghost use Rattle.mailparse.specs.Views.{tree_of};
-ghost use Rattle.mail_data.specs.Forwarding.{bytes_inside, forwarded, forwarded_bytes};
-ghost use Rattle.mail_data.specs.Forwarding.{forwarded_in, forwards, mail_inside, mails_inside};
+ghost use Rattle.mail_data.specs.Forwarding.{bytes_inside, forwarded_bytes, forwarded_in};
+ghost use Rattle.mail_data.specs.Forwarding.{forwards, mail_inside, mails_inside};
 ghost use Rattle.mail_data.specs.Forwarding.{readable};
 ghost use Rattle.mail_data.specs.ForwardingViews.{bytes_of_each};
 ghost use Rattle.mail_data.specs.lenient.Encoding.{lenient_body_kind};
 
 use crate::lenient::{base64_front, lenient_body};
+use mail_codec::charset::KnownCharsets;
 use mailparse::body::Body;
-use mailparse::{
-    MAX_LEVELS, MailParseError, ParsedMail, SingleByteTable, parse_mail, parse_mail_limited,
-    parse_mail_with,
-};
+use mailparse::{MAX_LEVELS, MailParseError, ParsedMail, parse_mail_in, parse_mail_limited_in};
 use std::alloc::Global;
 
-/// Returns the mail that a part forwards, read as `parse_mail_limited` reads it with parts at most
-/// `levels` levels below it, or `None` where the part forwards none: its type has to be
-/// `message/rfc822` (RFC 2046, section 5.2.1) or `message/global` (RFC 6532, section 3.7).
+/// Returns the mail that a part forwards, read as `parse_mail_limited_in` reads it in the charsets
+/// that are given, with parts at most `levels` levels below it, or `None` where the part forwards
+/// none: its type has to be `message/rfc822` (RFC 2046, section 5.2.1) or `message/global` (RFC
+/// 6532, section 3.7).
 ///
 /// The mail borrows the bytes of the part's body as they are: a transfer encoding is not undone, as
 /// `forwarded_bytes` does. A forwarded mail may itself forward another; that one is read
 /// by a further call, so the caller decides how deep to go. The caller proves that `levels` is at
-/// most `MAX_LEVELS`. Takes memory as `parse_mail_limited` does, and for the name of the transfer
+/// most `MAX_LEVELS`. Takes memory as `parse_mail_limited_in` does, and for the name of the transfer
 /// encoding.
 ///
 /// # Errors
 ///
-/// Those of `parse_mail_limited`: `MailParseError::Generic` where the mail that is forwarded is
+/// Those of `parse_mail_limited_in`: `MailParseError::Generic` where the mail that is forwarded is
 /// refused, and `MailParseError::Memory` where it runs out of memory.
 ///
 /// # Examples
@@ -41,63 +39,25 @@ use std::alloc::Global;
 ///
 /// let raw = b"Content-Type: message/rfc822\n\nSubject: inside\n\nHi";
 /// let mail = parse_mail(alloc, raw)?;
-/// let inside = forwarded(alloc, &mail, 10)?.ok_or("no mail")?;
+/// let inside = forwarded(alloc, &mail, 10, &())?.ok_or("no mail")?;
 /// let subject = inside.headers.get_first_value(alloc, "Subject")?.ok_or("no subject")?;
 /// assert_eq!(rt; subject.as_str(), "inside");
 /// ```
-pub fn forwarded<'m>(
+pub fn forwarded<'m, K: KnownCharsets>(
     alloc: Global,
     part: &'m ParsedMail<'_>,
     levels: u8,
+    known: &K,
 ) -> Result<Option<ParsedMail<'m>>, MailParseError>
     requires { levels ≤ MAX_LEVELS }
     ensures { AnswersOrMemory (λ mail. option_map tree_of mail) result
-        (forwarded levels (root (tree_of part.now))) }
+        (forwarded_in (K.known known.now) levels (root (tree_of part.now))) }
 {
     if !forwards(part) {
         return Ok(None);
     }
     let raw = raw_body(alloc, part)?;
-    match parse_mail_limited(alloc, raw, levels) {
-        Ok(mail) => Ok(Some(mail)),
-        Err(error) => Err(error),
-    }
-}
-
-/// Returns the mail that a part forwards as `forwarded` does, but read as `parse_mail_with` reads it,
-/// so types may also be in the charsets of some tables (RFC 2046, section 5.2.1; RFC 2231, section
-/// 4).
-///
-/// Takes memory as `parse_mail_with` does, and for the name of the transfer encoding.
-///
-/// # Errors
-///
-/// Those of `parse_mail_with`: `MailParseError::Generic` where the mail that is forwarded is
-/// refused, and `MailParseError::Memory` where it runs out of memory.
-///
-/// # Examples
-///
-/// ```rust
-/// use mail_data::forwarding::forwarded_with;
-/// use mailparse::parse_mail;
-///
-/// let mail = parse_mail(alloc, b"Content-Type: message/global\n\nSubject: inside\n\nHi")?;
-/// let inside = forwarded_with(alloc, &mail, &[])?.ok_or("no mail")?;
-/// assert_eq!(rt; inside.headers.len(), 1);
-/// ```
-pub fn forwarded_with<'m>(
-    alloc: Global,
-    part: &'m ParsedMail<'_>,
-    tables: &[SingleByteTable<'_>],
-) -> Result<Option<ParsedMail<'m>>, MailParseError>
-    ensures { AnswersOrMemory (λ mail. option_map tree_of mail) result
-        (forwarded_in (charsets_with tables.now) 100 (root (tree_of part.now))) }
-{
-    if !forwards(part) {
-        return Ok(None);
-    }
-    let raw = raw_body(alloc, part)?;
-    match parse_mail_with(alloc, raw, tables) {
+    match parse_mail_limited_in(alloc, raw, levels, known) {
         Ok(mail) => Ok(Some(mail)),
         Err(error) => Err(error),
     }
@@ -167,7 +127,8 @@ pub(crate) fn readable_bytes(
 /// the mails inside the forwarded ones are left out. A mail that is refused is in the list, but the
 /// mails inside it are not; as with `forwarded`, a transfer encoding is not undone. Takes memory
 /// for the list and a copy of each mail: a byte is copied once for each mail that it belongs to.
-/// Each mail is read, as `parse_mail` reads it, to find those inside it.
+/// Each mail is read, as `parse_mail_in` reads it in the charsets that are given, to find those
+/// inside it.
 ///
 /// # Errors
 ///
@@ -181,31 +142,34 @@ pub(crate) fn readable_bytes(
 ///
 /// let raw = b"Content-Type: message/rfc822\n\nContent-Type: message/rfc822\n\nSubject: a\n\nHi";
 /// let mail = parse_mail(alloc, raw)?;
-/// let mails = mails_inside(alloc, &mail, 10)?;
+/// let mails = mails_inside(alloc, &mail, 10, &())?;
 /// assert_eq!(rt; mails.len(), 2);
 /// assert_eq!(rt; mails[1].as_slice(), b"Subject: a\n\nHi".as_slice());
 /// ```
-pub fn mails_inside(
+pub fn mails_inside<K: KnownCharsets>(
     alloc: Global,
     mail: &ParsedMail<'_>,
     most: u8,
+    known: &K,
 ) -> Result<Vec<Vec<u8>>, MailParseError>
-    ensures { AnswersOrMemory bytes_of_each result (Ok (mails_inside most (tree_of mail.now))) }
+    ensures { AnswersOrMemory bytes_of_each result
+        (Ok (mails_inside (K.known known.now) most (tree_of mail.now))) }
 {
     let mut mails = Vec::new(alloc);
-    push_mails(alloc, mail, most, &mut mails)?;
+    push_mails(alloc, mail, most, known, &mut mails)?;
     Ok(mails)
 }
 
 /// Adds the bytes of each mail inside a mail, no more than so many mails deep.
-fn push_mails(
+fn push_mails<K: KnownCharsets>(
     alloc: Global,
     mail: &ParsedMail<'_>,
     most: u8,
+    known: &K,
     mails: &mut Vec<Vec<u8>>,
 ) -> Result<(), MailParseError>
     ensures written { OnOk result (bytes_of_each mails.new
-        ≡ bytes_of_each mails.old ++ mails_inside most (tree_of mail.now)) }
+        ≡ bytes_of_each mails.old ++ mails_inside (K.known known.now) most (tree_of mail.now)) }
     ensures only_memory { IfErr result IsMemory }
 {
     if most == 0 {
@@ -213,8 +177,8 @@ fn push_mails(
     }
     for part in mail.parts(alloc)? {
         push_bytes(alloc, part, mails)?;
-        if let Some(inside) = mail_inside(alloc, part)? {
-            push_mails(alloc, &inside, most - 1, mails)?;
+        if let Some(inside) = mail_inside(alloc, part, known)? {
+            push_mails(alloc, &inside, most - 1, known, mails)?;
         }
     }
     Ok(())
@@ -243,19 +207,20 @@ fn push_bytes(
 
 /// The mail that a part forwards, if it does and the mail is not refused.
 #[tactic(auto, unfolding(crate::specs::Forwarding::mail_inside))]
-fn mail_inside<'m>(
+fn mail_inside<'m, K: KnownCharsets>(
     alloc: Global,
     part: &'m ParsedMail<'_>,
+    known: &K,
 ) -> Result<Option<ParsedMail<'m>>, MailParseError>
     ensures read { IfOk result (λ mail.
-        option_map tree_of mail ≡ mail_inside (root (tree_of part.now))) }
+        option_map tree_of mail ≡ mail_inside (K.known known.now) (root (tree_of part.now))) }
     ensures only_memory { IfErr result IsMemory }
 {
     if !forwards(part) {
         return Ok(None);
     }
     let raw = raw_body(alloc, part)?;
-    match parse_mail(alloc, raw) {
+    match parse_mail_in(alloc, raw, known) {
         Ok(mail) => Ok(Some(mail)),
         Err(MailParseError::Memory(error)) => Err(MailParseError::Memory(error)),
         Err(_) => Ok(None),

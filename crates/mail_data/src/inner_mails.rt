@@ -1,7 +1,6 @@
 //! The mails inside a mail, with the paths of the parts that hold them.
 ghost use Rattle.std.specs.Prelude.{◌≡◌, ◌++◌, [], ◌∷◌, map, option_and_then, string_bytes};
 ghost use Rattle.std.specs.Prelude.{Some, IfErr, IfOk, OnOk, Ok};
-ghost use Rattle.mail_codec.specs.Tables.{charsets_with};
 ghost use Rattle.mailparse.specs.Body.{BodyKind};
 ghost use Rattle.mailparse.specs.BodyViews.{Content, IsBody};
 ghost use Rattle.mailparse.specs.Outcome.{AnswersOrMemory, IsMemory, refusal_of};
@@ -15,8 +14,9 @@ use crate::files::{is_leaf, path_under};
 use crate::forwarding::{forwards, readable_bytes};
 use crate::lenient::lenient_body;
 use crate::places::{Place, push_places};
+use mail_codec::charset::KnownCharsets;
 use mailparse::body::Body;
-use mailparse::{MAX_LEVELS, MailParseError, ParsedMail, SingleByteTable, parse_mail_with};
+use mailparse::{MAX_LEVELS, MailParseError, ParsedMail, parse_mail_in};
 use std::alloc::{AllocError, Global};
 
 /// A mail inside a mail, as `inner_mails` returns it.
@@ -25,7 +25,7 @@ pub struct InnerMail {
     /// The path of the part that holds it, as IMAP numbers parts (RFC 3501, section 6.4.5): `2.1`
     /// is the first part of the mail in the second part.
     pub path: String,
-    /// Its bytes, without a transfer encoding: `parse_mail_with` reads them, and `places_under`
+    /// Its bytes, without a transfer encoding: `parse_mail_in` reads them, and `places_under`
     /// lists its parts.
     pub bytes: Vec<u8>,
     /// The offset at which these bytes begin in the whole mail, or `None` where they do not stand
@@ -37,7 +37,8 @@ pub struct InnerMail {
 
 /// Returns the mails inside a mail: those that its parts forward, in order, each before those inside
 /// it (RFC 2046, section 5.2.1; RFC 6532, section 3.7). A transfer encoding is undone, as
-/// `forwarding::forwarded_bytes` does, and each mail is read as `parse_mail_with` reads it.
+/// `forwarding::forwarded_bytes` does, and each mail is read as `parse_mail_in` reads it in the
+/// charsets that are given.
 ///
 /// A mail that is refused is in the list with its error, and none inside it is. A part whose path
 /// has `MAX_LEVELS` numbers or more is not looked into, so the time grows with the bytes and the
@@ -56,7 +57,7 @@ pub struct InnerMail {
 /// let raw = b"Content-Type: multipart/mixed; boundary=b\n\n--b\n\nHi\n\
 ///     --b\nContent-Type: message/rfc822\n\nSubject: inside\n\nHello\n--b--\n";
 /// let mail = parse_mail(alloc, raw)?;
-/// let found = inner_mails(alloc, &mail, &[])?;
+/// let found = inner_mails(alloc, &mail, &())?;
 /// assert_eq!(rt; found.len(), 1);
 /// assert_eq!(rt; found[0].path.as_str(), "2");
 /// assert_eq!(rt; found[0].start, Some(85));
@@ -64,33 +65,33 @@ pub struct InnerMail {
 /// let places = places_under(alloc, &inside, found[0].path.as_str())?;
 /// assert_eq!(rt; places[0].path.as_str(), "2.1");
 /// ```
-pub fn inner_mails(
+pub fn inner_mails<K: KnownCharsets>(
     alloc: Global,
     mail: &ParsedMail<'_>,
-    tables: &[SingleByteTable<'_>],
+    known: &K,
 ) -> Result<Vec<InnerMail>, MailParseError>
     ensures { AnswersOrMemory (λ mails. map inner_view mails.items) result
-        (Ok (inner_mails (charsets_with tables.now) 100 [] (Some 0) (tree_of mail.now)
+        (Ok (inner_mails (K.known known.now) 100 [] (Some 0) (tree_of mail.now)
         (placements_of mail.now))) }
 {
     let mut mails = Vec::new(alloc);
-    push_inner(alloc, mail, "", Some(0), MAX_LEVELS, tables, &mut mails)?;
+    push_inner(alloc, mail, "", Some(0), MAX_LEVELS, known, &mut mails)?;
     Ok(mails)
 }
 
 /// Adds the mails inside a mail that the part with this path holds and that begins there, no more
 /// than so many mails deep.
-fn push_inner(
+fn push_inner<K: KnownCharsets>(
     alloc: Global,
     mail: &ParsedMail<'_>,
     path: &str,
     start: Option<usize>,
     most: u8,
-    tables: &[SingleByteTable<'_>],
+    known: &K,
     mails: &mut Vec<InnerMail>,
 ) -> Result<(), MailParseError>
     ensures written { OnOk result (map inner_view mails.new.items ≡ map inner_view mails.old.items
-        ++ inner_mails (charsets_with tables.now) most path.now start (tree_of mail.now)
+        ++ inner_mails (K.known known.now) most path.now start (tree_of mail.now)
         (placements_of mail.now)) }
     ensures only_memory { IfErr result IsMemory }
 {
@@ -102,7 +103,7 @@ fn push_inner(
         if holds_mail(place) {
             let bytes = readable_bytes(alloc, place.part)?;
             let at = mail_start(alloc, start, place)?;
-            match parse_mail_with(alloc, bytes.as_slice(), tables) {
+            match parse_mail_in(alloc, bytes.as_slice(), known) {
                 Ok(inside) => {
                     push_mail(alloc, place, bytes.as_slice(), at, None, mails)?;
                     push_inner(
@@ -111,7 +112,7 @@ fn push_inner(
                         place.path.as_str(),
                         at,
                         most - 1,
-                        tables,
+                        known,
                         mails,
                     )?;
                 }

@@ -1,14 +1,14 @@
 //! The text of a mail.
 ghost use Rattle.std.specs.Prelude.{◌≡◌, Ok};
-ghost use Rattle.mail_codec.specs.Tables.{charsets_with};
 ghost use Rattle.mailparse.specs.Outcome.{AnswersOrMemory};
 ghost use Rattle.mailparse.specs.Views.{tree_of};
 ghost use Rattle.mail_data.specs.Texts.{first_text, first_text_of_type, is_no_text};
-ghost use Rattle.mail_data.specs.Texts.{is_text_of_type, text_part, text_part_in, text_type};
+ghost use Rattle.mail_data.specs.Texts.{is_text_of_type, text_part_in, text_type};
 ghost use Rattle.mail_data.specs.TextViews.{tree_found};
 
-use crate::files::{is_attachment_disposition, is_attachment_with};
-use mailparse::{MailParseError, ParsedMail, SingleByteTable};
+use crate::files::{is_attachment, is_attachment_disposition};
+use mail_codec::charset::KnownCharsets;
+use mailparse::{MailParseError, ParsedMail};
 use std::alloc::Global;
 
 /// Returns the part of a mail that is to be read as its text, or `None` where there is none: the
@@ -19,8 +19,9 @@ use std::alloc::Global;
 /// plain text without a file name, such as a mailing-list footer, takes precedence over an HTML
 /// text beside it. A text that has a file name is a file, as `files::is_attachment` says, and counts
 /// only where no other text is there and its disposition is not `attachment` (RFC 2183, section
-/// 2.1). The type `text` alone is plain text. `lenient::body_text` returns the text of the part.
-/// Takes memory for the list of parts and the dispositions.
+/// 2.1). The dispositions that tell files from texts are read in the charsets that are given (RFC
+/// 2231, section 4). The type `text` alone is plain text. `lenient::body_text` returns the text of
+/// the part. Takes memory for the list of parts and the dispositions.
 ///
 /// # Errors
 ///
@@ -30,92 +31,67 @@ use std::alloc::Global;
 ///
 /// ```rust
 /// use mail_data::texts::text_part;
-/// use mailparse::parse_mail;
+/// use mailparse::{SingleByteTable, parse_mail};
 ///
 /// let raw = b"Content-Type: multipart/alternative; boundary=b\n\n\
 ///     --b\nContent-Type: text/html\n\n<b>Hi</b>\n--b\n\nHi\n--b--\n";
 /// let mail = parse_mail(alloc, raw)?;
-/// let part = text_part(alloc, &mail)?.ok_or("no text")?;
+/// let part = text_part(alloc, &mail, &())?.ok_or("no text")?;
 /// assert_eq!(rt; part.get_body(alloc)?.as_str(), "Hi");
-/// ```
-pub fn text_part<'m, 'a>(
-    alloc: Global,
-    mail: &'m ParsedMail<'a>,
-) -> Result<Option<&'m ParsedMail<'a>>, MailParseError>
-    ensures { AnswersOrMemory tree_found result (Ok (text_part (tree_of mail.now))) }
-{
-    text_part_with(alloc, mail, &[])
-}
-
-/// Returns the part of a mail that is to be read as its text, as `text_part` does, but the
-/// dispositions that tell files from texts may also be in the charsets of some tables (RFC 2046,
-/// sections 4.1 and 5.1.4; RFC 2231, section 4).
-///
-/// Takes memory for the list of parts and the dispositions.
-///
-/// # Errors
-///
-/// `MailParseError::Memory` where it runs out of memory.
-///
-/// # Examples
-///
-/// ```rust
-/// use mail_data::texts::{text_part, text_part_with};
-/// use mailparse::{SingleByteTable, parse_mail};
 ///
 /// let tables = [SingleByteTable { labels: &["x-euro"], high: &['€'; 128] }];
 /// let mail = parse_mail(alloc, b"Content-Disposition: =?x-euro?Q?attachment?=\n\nHi")?;
-/// assert!(rt; text_part_with(alloc, &mail, &tables)?.is_none());
-/// assert!(rt; text_part(alloc, &mail)?.is_some());
+/// assert!(rt; text_part(alloc, &mail, &tables.as_slice())?.is_none());
+/// assert!(rt; text_part(alloc, &mail, &())?.is_some());
 /// ```
 #[tactic(auto, unfolding(crate::specs::Texts::text_part_in))]
-pub fn text_part_with<'m, 'a>(
+pub fn text_part<'m, 'a, K: KnownCharsets>(
     alloc: Global,
     mail: &'m ParsedMail<'a>,
-    tables: &[SingleByteTable<'_>],
+    known: &K,
 ) -> Result<Option<&'m ParsedMail<'a>>, MailParseError>
     ensures { AnswersOrMemory tree_found result
-        (Ok (text_part_in (charsets_with tables.now) (tree_of mail.now))) }
+        (Ok (text_part_in (K.known known.now) (tree_of mail.now))) }
 {
-    if let Some(part) = first_text(alloc, mail, false, tables)? {
+    if let Some(part) = first_text(alloc, mail, false, known)? {
         return Ok(Some(part));
     }
-    let part = first_text(alloc, mail, true, tables)?;
+    let part = first_text(alloc, mail, true, known)?;
     Ok(part)
 }
 
 /// The first plain text, otherwise the first HTML text.
 #[tactic(auto, unfolding(crate::specs::Texts::first_text))]
-fn first_text<'m, 'a>(
+fn first_text<'m, 'a, K: KnownCharsets>(
     alloc: Global,
     mail: &'m ParsedMail<'a>,
     may_have_name: bool,
-    tables: &[SingleByteTable<'_>],
+    known: &K,
 ) -> Result<Option<&'m ParsedMail<'a>>, MailParseError>
     ensures { AnswersOrMemory tree_found result
-        (Ok (first_text (charsets_with tables.now) may_have_name (tree_of mail.now))) }
+        (Ok (first_text (K.known known.now) may_have_name (tree_of mail.now))) }
 {
-    if let Some(part) = first_text_of_type(alloc, mail, may_have_name, "text/plain", tables)? {
+    if let Some(part) = first_text_of_type(alloc, mail, may_have_name, "text/plain", known)? {
         return Ok(Some(part));
     }
-    let part = first_text_of_type(alloc, mail, may_have_name, "text/html", tables)?;
+    let part = first_text_of_type(alloc, mail, may_have_name, "text/html", known)?;
     Ok(part)
 }
 
 /// The first text of this type.
 #[tactic(auto, unfolding(crate::specs::Texts::first_text_of_type))]
-fn first_text_of_type<'m, 'a>(
+fn first_text_of_type<'m, 'a, K: KnownCharsets>(
     alloc: Global,
     mail: &'m ParsedMail<'a>,
     may_have_name: bool,
     mimetype: &str,
-    tables: &[SingleByteTable<'_>],
+    known: &K,
 ) -> Result<Option<&'m ParsedMail<'a>>, MailParseError>
     ensures { AnswersOrMemory tree_found result (Ok (first_text_of_type
-        (charsets_with tables.now) may_have_name mimetype.now (tree_of mail.now))) }
+        (K.known known.now) may_have_name mimetype.now (tree_of mail.now))) }
 {
     for part in mail.parts(alloc)? {
-        if is_text_of_type(alloc, part, may_have_name, mimetype, tables)? {
+        if is_text_of_type(alloc, part, may_have_name, mimetype, known)? {
             return Ok(Some(part));
         }
     }
@@ -124,37 +100,37 @@ fn first_text_of_type<'m, 'a>(
 
 /// Whether a part is a text of this type.
 #[tactic(auto, unfolding(crate::specs::Texts::is_text_of_type))]
-fn is_text_of_type(
+fn is_text_of_type<K: KnownCharsets>(
     alloc: Global,
     part: &ParsedMail<'_>,
     may_have_name: bool,
     mimetype: &str,
-    tables: &[SingleByteTable<'_>],
+    known: &K,
 ) -> Result<bool, MailParseError>
     ensures { AnswersOrMemory (λ is. is) result (Ok (is_text_of_type
-        (charsets_with tables.now) may_have_name mimetype.now (tree_of part.now))) }
+        (K.known known.now) may_have_name mimetype.now (tree_of part.now))) }
 {
     if text_type(part.ctype.mimetype.as_str()) != mimetype {
         return Ok(false);
     }
-    Ok(!is_no_text(alloc, part, may_have_name, tables)?)
+    Ok(!is_no_text(alloc, part, may_have_name, known)?)
 }
 
 /// Whether a part is marked as an attachment, or is a file, where a text may not have a name.
 #[tactic(auto, unfolding(crate::specs::Texts::is_no_text))]
-fn is_no_text(
+fn is_no_text<K: KnownCharsets>(
     alloc: Global,
     part: &ParsedMail<'_>,
     may_have_name: bool,
-    tables: &[SingleByteTable<'_>],
+    known: &K,
 ) -> Result<bool, MailParseError>
     ensures { AnswersOrMemory (λ is. is) result
-        (Ok (is_no_text (charsets_with tables.now) may_have_name (tree_of part.now))) }
+        (Ok (is_no_text (K.known known.now) may_have_name (tree_of part.now))) }
 {
     if !may_have_name {
-        return is_attachment_with(alloc, part, tables);
+        return is_attachment(alloc, part, known);
     }
-    let disposition = part.get_content_disposition_with(alloc, tables)?;
+    let disposition = part.get_content_disposition_in(alloc, known)?;
     Ok(is_attachment_disposition(&disposition.disposition))
 }
 

@@ -6,6 +6,7 @@ use Rattle.std.proofs.lemmas.List.{append-nil, drop_all}
 use Rattle.std.specs.List.{after_first, position_or_len}
 use Rattle.mailparse.proofs.lemmas.EncodedWord.{any_from_place}
 use Rattle.mailparse.specs.Header.{Header}
+use Rattle.mail_codec.specs.Charset.{Charsets}
 use Rattle.mail_codec.specs.Places.{is_empty}
 use Rattle.mail_data.specs.Bounce.{Delivery, after_block, after_type, block_at, block_length, blocks, deliveries, delivery_in, fields, pieces_within, address_of, text_of, typed_text_of}
 use Rattle.mail_data.specs.Lines.{empty_line, is_empty_line}
@@ -113,33 +114,33 @@ blocks-end rest found all r is none before =
 
 -- ---- what the fields say
 
-pub delivery-is : (headers : List Header) (final original action status code : Option (List ℕ)) → final ≡ address_of (codes "Final-Recipient") headers
-    → original ≡ address_of (codes "Original-Recipient") headers → action ≡ text_of (codes "Action") headers → status ≡ text_of (codes "Status") headers
-    → code ≡ typed_text_of (codes "Diagnostic-Code") headers
-    → ◌≡◌ {A = Delivery} (record { final_recipient = final; original_recipient = original; action = action; status = status; diagnostic_code = code }) (delivery_in headers)
-delivery-is headers final original action status code a b c d e = rw (a, b, c, d, e) refl
+pub delivery-is : (known : Charsets) (headers : List Header) (final original action status code : Option (List ℕ)) → final ≡ address_of known (codes "Final-Recipient") headers
+    → original ≡ address_of known (codes "Original-Recipient") headers → action ≡ text_of known (codes "Action") headers → status ≡ text_of known (codes "Status") headers
+    → code ≡ typed_text_of known (codes "Diagnostic-Code") headers
+    → ◌≡◌ {A = Delivery} (record { final_recipient = final; original_recipient = original; action = action; status = status; diagnostic_code = code }) (delivery_in known headers)
+delivery-is known headers final original action status code a b c d e = rw (a, b, c, d, e) refl
 
 -- ---- the recipients
 
-pub deliveries-none : (status : List ℕ) (items : List (Bor (List ℕ))) → map (λ (b : Bor (List ℕ)). b.now) items ≡ blocks status → length items ≡ 0 → [] ≡ deliveries status
+pub deliveries-none : (known : Charsets) (status : List ℕ) (items : List (Bor (List ℕ))) → map (λ (b : Bor (List ℕ)). b.now) items ≡ blocks status → length items ≡ 0 → [] ≡ deliveries known status
 unfolding deliveries
-deliveries-none status [] is none = ap (λ (l : List (List ℕ)). map (λ block. delivery_in (fields block)) (drop 1 l)) is
-deliveries-none status (b ∷ items) is none = absurd (omega arith)
+deliveries-none known status [] is none = ap (λ (l : List (List ℕ)). map (λ block. delivery_in known (fields block)) (drop 1 l)) is
+deliveries-none known status (b ∷ items) is none = absurd (omega arith)
 
-pub deliveries-some : (status : List ℕ) (items : List (Bor (List ℕ))) (first : Bor (List ℕ)) (others : List (Bor (List ℕ))) (found : List Delivery)
-    → map (λ (b : Bor (List ℕ)). b.now) items ≡ blocks status → items ≡ first ∷ others → found ≡ map (λ (b : Bor (List ℕ)). delivery_in (fields b.now)) others → found ≡ deliveries status
+pub deliveries-some : (known : Charsets) (status : List ℕ) (items : List (Bor (List ℕ))) (first : Bor (List ℕ)) (others : List (Bor (List ℕ))) (found : List Delivery)
+    → map (λ (b : Bor (List ℕ)). b.now) items ≡ blocks status → items ≡ first ∷ others → found ≡ map (λ (b : Bor (List ℕ)). delivery_in known (fields b.now)) others → found ≡ deliveries known status
 unfolding deliveries
-deliveries-some status items first others found is cut all =
+deliveries-some known status items first others found is cut all =
     all ∙ each others
-    ∙ ap (λ (l : List (Bor (List ℕ))). map (λ block. delivery_in (fields block)) (drop 1 (map (λ (b : Bor (List ℕ)). b.now) l))) (sym cut)
-    ∙ ap (λ (l : List (List ℕ)). map (λ block. delivery_in (fields block)) (drop 1 l)) is
+    ∙ ap (λ (l : List (Bor (List ℕ))). map (λ block. delivery_in known (fields block)) (drop 1 (map (λ (b : Bor (List ℕ)). b.now) l))) (sym cut)
+    ∙ ap (λ (l : List (List ℕ)). map (λ block. delivery_in known (fields block)) (drop 1 l)) is
   where
-    each : (bs : List (Bor (List ℕ))) → map (λ (b : Bor (List ℕ)). delivery_in (fields b.now)) bs ≡ map (λ block. delivery_in (fields block)) (map (λ (b : Bor (List ℕ)). b.now) bs)
+    each : (bs : List (Bor (List ℕ))) → map (λ (b : Bor (List ℕ)). delivery_in known (fields b.now)) bs ≡ map (λ block. delivery_in known (fields block)) (map (λ (b : Bor (List ℕ)). b.now) bs)
     each [] = refl
-    each (b ∷ bs) = ap (λ (l : List Delivery). delivery_in (fields b.now) ∷ l) (each bs)
+    each (b ∷ bs) = ap (λ (l : List Delivery). delivery_in known (fields b.now) ∷ l) (each bs)
 
-pub deliveries-end : (others : List (Bor (List ℕ))) (n : ℕ) (found : List Delivery) → length others ≤ n
-    → found ++ map (λ (b : Bor (List ℕ)). delivery_in (fields b.now)) (drop n others) ≡ map (λ (b : Bor (List ℕ)). delivery_in (fields b.now)) others
-    → found ≡ map (λ (b : Bor (List ℕ)). delivery_in (fields b.now)) others
-deliveries-end others n found past all =
-    sym (append-nil found) ∙ ap (λ (l : List (Bor (List ℕ))). found ++ map (λ (b : Bor (List ℕ)). delivery_in (fields b.now)) l) (sym (drop_all n others past)) ∙ all
+pub deliveries-end : (known : Charsets) (others : List (Bor (List ℕ))) (n : ℕ) (found : List Delivery) → length others ≤ n
+    → found ++ map (λ (b : Bor (List ℕ)). delivery_in known (fields b.now)) (drop n others) ≡ map (λ (b : Bor (List ℕ)). delivery_in known (fields b.now)) others
+    → found ≡ map (λ (b : Bor (List ℕ)). delivery_in known (fields b.now)) others
+deliveries-end known others n found past all =
+    sym (append-nil found) ∙ ap (λ (l : List (Bor (List ℕ))). found ++ map (λ (b : Bor (List ℕ)). delivery_in known (fields b.now)) l) (sym (drop_all n others past)) ∙ all

@@ -1,14 +1,14 @@
 -- Lemmas on a counted mail that was read with what decides where it ends: it stays the same whatever follows.
-use Rattle.std.proofs.Common.{◌≡◌, ℕ, zero, suc, ◌+◌, ◌-◌, ◌<◌, ◌≤◌, Bool, true, false, cond, List, [], ◌∷◌, ◌++◌, ◌&&◌, ◌||◌, Option, Some, None, length, take, drop, refl, sym, ap, subst, ◌∙◌, arith, length-append, length-drop, inl, inr}
-use Rattle.std.specs.Prelude.{◌==◌, min, nat_eq, nat_le, nat_lt, option_and_then}
+use Rattle.std.proofs.Common.{◌≡◌, ℕ, suc, ◌+◌, ◌-◌, ◌<◌, ◌≤◌, Bool, true, false, cond, List, [], ◌∷◌, ◌++◌, ◌&&◌, ◌||◌, Option, Some, None, length, take, drop, refl, sym, ap, subst, ◌∙◌, arith, length-append, length-drop, inl, inr}
+use Rattle.std.specs.Prelude.{◌==◌, nat_eq, nat_le, nat_lt, option_and_then}
 use Rattle.std.specs.Option.{unwrap_or}
 use Rattle.std.proofs.lemmas.Bool.{and_left, and_parts, cases_Bool, cases_lt, cond-false, cond-true, false≢true, le-leb, le-ltb, ltb-true}
-use Rattle.std.proofs.lemmas.List.{drop-append-le, drop-drop, length-take, take-append-le}
+use Rattle.std.proofs.lemmas.List.{drop-append-le, length-take, take-append-le}
 use Rattle.mail_codec.specs.Places.{begins, first_place, is_empty}
-use Rattle.mail_codec.proofs.lemmas.Places.{first_place-≤, least-before, least-is, least-passes, true_not_false}
+use Rattle.mail_codec.proofs.lemmas.Places.{least-before, least-is, least-passes}
 use Rattle.mail_data.specs.CountedMails.{after_counted, block_length, block_place, content_length, counted, counted_at, counted_from, counted_length, counted_place, is_count_known, is_known, is_place_known, is_short_separator, may_end, next_counted, settled_counted}
 use Rattle.mail_data.specs.Lines.{after_empty_line, after_line, empty_line, is_empty_line, line_length, line_place, starts_line}
-use Rattle.mail_data.specs.Mailbox.{Entry, entry_at, is_before_text, mail_length, next_entry}
+use Rattle.mail_data.specs.Mailbox.{Entry, is_before_text, mail_length, next_entry}
 use Rattle.mail_data.specs.Separator.{is_separator}
 use Rattle.mail_data.proofs.lemmas.CountedMails.{counted_from-some, leb-false_from}
 use Rattle.mail_data.proofs.lemmas.Lines.{is_line, line_length-some_bytes}

@@ -1,8 +1,8 @@
 -- Lemmas on counted mails: where they end, and that they make up the mailbox.
-use Rattle.std.proofs.Common.{◌≡◌, ℕ, zero, suc, ◌+◌, ◌-◌, ◌<◌, ◌≤◌, Bool, true, false, cond, List, [], ◌∷◌, ◌++◌, ◌&&◌, ◌||◌, Option, Some, None, Result, Ok, Err, length, take, drop, refl, sym, ap, ◌∙◌, arith, length-drop, inl, inr}
+use Rattle.std.proofs.Common.{◌≡◌, ℕ, zero, suc, ◌+◌, ◌-◌, ◌<◌, ◌≤◌, Bool, true, false, cond, List, [], ◌∷◌, ◌++◌, ◌&&◌, ◌||◌, Option, Some, None, length, take, drop, refl, sym, ap, ◌∙◌, arith, length-drop, inl, inr}
 use Rattle.std.specs.Prelude.{◌==◌, ◌⊎◌, min, nat_le, nat_lt, option_and_then}
 use Rattle.std.specs.Char.{is_ascii_digit, is_ascii_whitespace}
-use Rattle.std.specs.List.{flat_map, list_all, prefix_len, suffix_len}
+use Rattle.std.specs.List.{flat_map, list_all, prefix_len}
 use Rattle.std.specs.Option.{unwrap_or}
 use Rattle.std.specs.Str.{IsTrimAscii, str_eq_ignore_ascii_case}
 use Rattle.std.specs.Str.Parse.{AllDigits}
@@ -10,10 +10,9 @@ use Rattle.std.proofs.lemmas.Bool.{and_parts, cases_Bool, cases_lt, cond-false, 
 use Rattle.std.proofs.lemmas.List.{append_assoc, drop_all, length-take, take-append-drop, take_rest}
 use Rattle.std.proofs.lemmas.Str.Ascii.{trim_ascii_is}
 use Rattle.mail_codec.specs.Places.{begins, first_place, is_empty, trimmed_at_end, trimmed_at_start}
-use Rattle.mail_codec.proofs.lemmas.Places.{true_not_false}
-use Rattle.mail_data.specs.CountedMails.{after_counted, block_length, block_place, content_length, counted, counted_at, counted_from, counted_length, counted_place, counted_within, field_start, field_text, is_field, is_known, is_place_known, is_short_separator, may_end, next_counted}
+use Rattle.mail_data.specs.CountedMails.{after_counted, block_length, block_place, content_length, counted_at, counted_from, counted_length, counted_place, counted_within, field_start, field_text, is_field, is_known, is_place_known, is_short_separator, may_end, next_counted}
 use Rattle.mail_data.specs.Lines.{after_empty_line, after_line, empty_line, line_length}
-use Rattle.mail_data.specs.Mailbox.{after_mail, entry_bytes, front_length, mail_length}
+use Rattle.mail_data.specs.Mailbox.{entry_bytes, front_length, mail_length}
 use Rattle.mail_data.specs.Separator.{is_separator}
 use Rattle.mail_data.proofs.lemmas.Lines.{line_length-some_bytes}
 use Rattle.mail_data.proofs.lemmas.Mailbox.{after_opens, front-opens, opens, stands-some}

@@ -45,9 +45,10 @@ forwarded-err known levels node raw (Memory e) h same given = given
 -- ---- mails inside mails
 
 -- the mails inside a part: the one that it forwards, and those inside that one, no more than so many mails deep
-abbrev pub mails_in_part : ℕ → Tree → List (List ℕ)
-mails_in_part most part = bytes_inside (root part) ++ option_map_or (mails_inside most) (mail_inside (root part)) []
+abbrev pub mails_in_part : Charsets → ℕ → Tree → List (List ℕ)
+mails_in_part known most part = bytes_inside (root part) ++ option_map_or (mails_inside known most) (mail_inside known (root part)) []
 
-pub mails_inside-some : (most : ℕ) (t : Tree) → most ≢ 0 → mails_inside most t ≡ flat_map (mails_in_part (most - 1)) (trees_within t)
-mails_inside-some zero t h = absurd (h refl)
-mails_inside-some (suc most) t h = let e : suc most - 1 ≡ most = omega arith in rw e refl
+pub mails_inside-some : (known : Charsets) (most : ℕ) (t : Tree) → most ≢ 0
+    → mails_inside known most t ≡ flat_map (mails_in_part known (most - 1)) (trees_within t)
+mails_inside-some known zero t h = absurd (h refl)
+mails_inside-some known (suc most) t h = let e : suc most - 1 ≡ most = omega arith in rw e refl

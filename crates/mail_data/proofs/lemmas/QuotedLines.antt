@@ -1,12 +1,12 @@
 -- Lemmas on lines that a writer of mailboxes quotes with `>`.
-use Rattle.std.proofs.Common.{◌≡◌, ℕ, zero, suc, ◌+◌, ◌-◌, ◌<◌, ◌≤◌, Bool, true, false, cond, List, [], ◌∷◌, ◌++◌, ◌&&◌, ◌||◌, length, length-drop, take, drop, refl, sym, ap, ◌∙◌, arith, inl, inr, eqb}
+use Rattle.std.proofs.Common.{◌≡◌, ℕ, suc, ◌+◌, ◌-◌, ◌<◌, Bool, true, false, cond, List, [], ◌∷◌, ◌++◌, ◌&&◌, ◌||◌, length, length-drop, take, drop, refl, sym, ap, ◌∙◌, arith, inl, inr}
 use Rattle.std.specs.Prelude.{◌==◌, min, nat_eq}
 use Rattle.std.specs.List.{list_any, prefix_len}
-use Rattle.std.proofs.lemmas.Bool.{cases_Bool, cond-true, cond-false, eqb-true, false≢true, and_left, and_parts, and_right, or_right}
+use Rattle.std.proofs.lemmas.Bool.{cases_Bool, eqb-true, and_left, and_parts, and_right, or_right}
 use Rattle.std.proofs.lemmas.List.{append_assoc, take_rest}
 use Rattle.mail_codec.specs.Places.{begins, first_place, stands}
 use Rattle.mail_data.specs.Lines.{after_line, line_length, starts_line}
-use Rattle.mail_data.specs.QuotedLines.{first_line, is_marked, is_quoted, quote_length, quoted, quoted_from, unquoted, unquoted_from, unquoted_line, without_quote}
+use Rattle.mail_data.specs.QuotedLines.{first_line, is_marked, is_quoted, quote_length, quoted, quoted_from, unquoted, unquoted_from, unquoted_line}
 use Rattle.mail_data.specs.Separator.{mark}
 use Rattle.mail_data.proofs.lemmas.Lines.{line_length-some_bytes}
 

@@ -1,6 +1,6 @@
 -- Comments in structured text (RFC 5322, section 3.2.2): they stand inside comments, and a backslash quotes the byte or character
 -- after it.
-use Rattle.std.specs.Prelude.{ℕ, zero, suc, ◌-◌, Bool, false, not, ◌&&◌, ◌==◌, List, [], ◌∷◌, ◌++◌, chars, encode_utf8_all, if◌then◌else◌}
+use Rattle.std.specs.Prelude.{ℕ, suc, ◌-◌, Bool, false, not, ◌&&◌, ◌==◌, List, [], ◌∷◌, ◌++◌, chars, encode_utf8_all, if◌then◌else◌}
 use Rattle.mail_codec.specs.Ascii.{opening_parenthesis, closing_parenthesis, backslash, quote}
 
 -- how many comments are open after a byte, where so many are open before it; a byte that is quoted opens and closes none

@@ -1,5 +1,5 @@
 -- The text of a body whose label says nothing of its bytes, and of a Base64 body that is damaged; the crate's own rule.
-use Rattle.std.specs.Prelude.{ℕ, Bool, true, false, not, ◌||◌, ◌&&◌, List, Option, option_map, is_some, Result, Ok, Err, codes, if◌then◌else◌}
+use Rattle.std.specs.Prelude.{ℕ, Bool, true, false, not, ◌||◌, ◌&&◌, List, is_some, Ok, Err, codes, if◌then◌else◌}
 use Rattle.std.specs.Option.{option_map_or}
 use Rattle.std.specs.Str.{is_utf8, str_eq_ignore_ascii_case}
 use Rattle.mail_codec.specs.Charset.{Charsets, mark_at_start, marked_text_of}

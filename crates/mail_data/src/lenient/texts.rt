@@ -2,7 +2,6 @@
 ghost use Rattle.std.specs.Prelude.{◌≡◌, false, is_some, option_map, IfErr, IfOk, Ok};
 ghost use Rattle.std.specs.Str.{is_utf8};
 ghost use Rattle.mail_codec.specs.Charset.{mark_at_start};
-ghost use Rattle.mail_codec.specs.Tables.{charsets_with};
 ghost use Rattle.mailparse.specs.Body.{BodyKind, in_base64, text_under_in};
 ghost use Rattle.mailparse.specs.BodyViews.{Content, IsBody};
 ghost use Rattle.mailparse.specs.Mail.{root};
@@ -14,10 +13,10 @@ ghost use Rattle.mail_data.specs.lenient.TextViews.{bytes_view, text_view};
 
 use super::base64::base64_front;
 use super::encoding::lenient_body;
-use mail_codec::charset::{Charset, table_for_label};
+use mail_codec::charset::{Charset, KnownCharsets};
 use mail_codec::transfer::{decode_base64_body, decode_quoted_printable};
 use mailparse::body::Body;
-use mailparse::{MailParseError, ParsedContentType, ParsedMail, SingleByteTable};
+use mailparse::{MailParseError, ParsedContentType, ParsedMail};
 use std::alloc::{AllocError, Global};
 
 /// The text of a body, as `body_text` returns it.
@@ -56,22 +55,22 @@ struct ReadBytes {
 /// use mailparse::parse_mail;
 ///
 /// let mail = parse_mail(alloc, b"Content-Transfer-Encoding: base64\n\nY2Fmw6k*")?;
-/// let read = body_text(alloc, &mail, &[])?;
+/// let read = body_text(alloc, &mail, &())?;
 /// assert_eq!(rt; read.text.as_str(), "caf");
 /// assert!(rt; read.is_damaged);
 /// ```
-pub fn body_text(
+pub fn body_text<K: KnownCharsets>(
     alloc: Global,
     part: &ParsedMail<'_>,
-    tables: &[SingleByteTable<'_>],
+    known: &K,
 ) -> Result<BodyText, MailParseError>
     ensures { AnswersOrMemory text_view result
-        (Ok (body_text (charsets_with tables.now) (root (tree_of part.now)))) }
+        (Ok (body_text (K.known known.now) (root (tree_of part.now)))) }
 {
     let body = lenient_body(alloc, part)?;
     let read = lenient_bytes(alloc, &body)?;
-    let text = lenient_text(alloc, read.bytes.as_slice(), &part.ctype, tables)?;
-    let charset = charset_used(read.bytes.as_slice(), &part.ctype, tables);
+    let text = lenient_text(alloc, read.bytes.as_slice(), &part.ctype, known)?;
+    let charset = charset_used(read.bytes.as_slice(), &part.ctype, known);
     Ok(BodyText {
         text,
         charset: String::from_str(alloc, charset)?,
@@ -121,7 +120,7 @@ fn whole(bytes: Vec<u8>) -> ReadBytes
 
 /// Returns the text of decoded bytes of this type. Where the charset of the type is missing,
 /// `us-ascii` or unknown and the bytes are UTF-8, they are read as UTF-8; otherwise as
-/// `get_as_string_with` reads them (RFC 2045, section 5.2; RFC 2046, section 4.1.2).
+/// `get_as_string_in` reads them (RFC 2045, section 5.2; RFC 2046, section 4.1.2).
 ///
 /// Takes memory for the text.
 ///
@@ -136,24 +135,24 @@ fn whole(bytes: Vec<u8>) -> ReadBytes
 /// use mailparse::parse_content_type;
 ///
 /// let ctype = parse_content_type(alloc, "text/plain; charset=x-unknown")?;
-/// let text = lenient_text(alloc, b"caf\xC3\xA9", &ctype, &[])?;
+/// let text = lenient_text(alloc, b"caf\xC3\xA9", &ctype, &())?;
 /// assert_eq!(rt; text.as_str(), "café");
 /// ```
 #[tactic(auto, unfolding(crate::specs::lenient::Texts::lenient_text))]
-pub fn lenient_text(
+pub fn lenient_text<K: KnownCharsets>(
     alloc: Global,
     bytes: &[u8],
     ctype: &ParsedContentType,
-    tables: &[SingleByteTable<'_>],
+    known: &K,
 ) -> Result<String, MailParseError>
     ensures { GivesText result
-        (lenient_text (charsets_with tables.now) (content_type ctype.now).charset bytes.now) }
+        (lenient_text (K.known known.now) (content_type ctype.now).charset bytes.now) }
 {
-    if is_read_as_utf8(bytes, ctype.charset.as_str(), tables) {
+    if is_read_as_utf8(bytes, ctype.charset.as_str(), known) {
         let text = Charset::Utf8.decode(alloc, bytes)?;
         return Ok(text);
     }
-    let text = text_under(alloc, bytes, ctype, tables)?;
+    let text = text_under(alloc, bytes, ctype, known)?;
     Ok(text)
 }
 
@@ -169,23 +168,23 @@ pub fn lenient_text(
 /// use mailparse::parse_content_type;
 ///
 /// let ctype = parse_content_type(alloc, "text/plain")?;
-/// assert_eq!(rt; charset_used(b"caf\xC3\xA9", &ctype, &[]), "utf-8");
-/// assert_eq!(rt; charset_used(b"caf\xE9", &ctype, &[]), "windows-1252");
+/// assert_eq!(rt; charset_used(b"caf\xC3\xA9", &ctype, &()), "utf-8");
+/// assert_eq!(rt; charset_used(b"caf\xE9", &ctype, &()), "windows-1252");
 /// ```
 #[tactic(auto, unfolding(crate::specs::lenient::Texts::charset_used))]
-pub fn charset_used<'c>(
+pub fn charset_used<'c, K: KnownCharsets>(
     bytes: &[u8],
     ctype: &'c ParsedContentType,
-    tables: &[SingleByteTable<'_>],
+    known: &K,
 ) -> &'c str
     ensures { result.now
-        ≡ charset_used (charsets_with tables.now) (content_type ctype.now).charset bytes.now }
+        ≡ charset_used (K.known known.now) (content_type ctype.now).charset bytes.now }
 {
     let label = ctype.charset.as_str();
-    if is_read_as_utf8(bytes, label, tables) {
+    if is_read_as_utf8(bytes, label, known) {
         return "utf-8";
     }
-    if !is_known(label, tables) {
+    if !is_known(label, known) {
         return "us-ascii";
     }
     if let Some(name) = marked_name(bytes) {
@@ -199,10 +198,10 @@ pub fn charset_used<'c>(
 
 /// Whether bytes are read as UTF-8 in spite of their label.
 #[tactic(auto, unfolding(crate::specs::lenient::Texts::is_read_as_utf8))]
-fn is_read_as_utf8(bytes: &[u8], label: &str, tables: &[SingleByteTable<'_>]) -> bool
-    ensures { result ≡ is_read_as_utf8 (charsets_with tables.now) label.now bytes.now }
+fn is_read_as_utf8<K: KnownCharsets>(bytes: &[u8], label: &str, known: &K) -> bool
+    ensures { result ≡ is_read_as_utf8 (K.known known.now) label.now bytes.now }
 {
-    (is_default(label) || !is_known(label, tables)) && is_utf8(bytes)
+    (is_default(label) || !is_known(label, known)) && is_utf8(bytes)
 }
 
 /// Whether bytes are UTF-8.
@@ -223,16 +222,10 @@ fn is_default(label: &str) -> bool
 }
 
 /// Whether a charset has the label.
-fn is_known(label: &str, tables: &[SingleByteTable<'_>]) -> bool
-    ensures { result ≡ is_some (charsets_with tables.now label.now) }
+fn is_known<K: KnownCharsets>(label: &str, known: &K) -> bool
+    ensures { result ≡ is_some (K.known known.now label.now) }
 {
-    if let Some(_) = Charset::for_label(label.as_bytes()) {
-        return true;
-    }
-    match table_for_label(label.as_bytes(), tables) {
-        Some(_) => true,
-        None => false,
-    }
+    known.for_label(label.as_bytes()).is_some()
 }
 
 /// The name of the charset whose byte order mark stands at the front.
@@ -254,17 +247,17 @@ fn marked_name(bytes: &[u8]) -> Option<&'static str>
 
 /// The text of decoded bytes of this type, under its label.
 #[tactic(auto, unfolding(mailparse::specs::Body::kind_named))]
-fn text_under(
+fn text_under<K: KnownCharsets>(
     alloc: Global,
     bytes: &[u8],
     ctype: &ParsedContentType,
-    tables: &[SingleByteTable<'_>],
+    known: &K,
 ) -> Result<String, MailParseError>
     ensures { GivesText result
-        (text_under_in (charsets_with tables.now) (content_type ctype.now).charset bytes.now) }
+        (text_under_in (K.known known.now) (content_type ctype.now).charset bytes.now) }
 {
     match Body::new(bytes, ctype, &None) {
-        Body::SevenBit(body) => body.get_as_string_with(alloc, tables),
+        Body::SevenBit(body) => body.get_as_string_in(alloc, known),
         _ => unreachable!(),
     }
 }

@@ -5,6 +5,6 @@ use Rattle.mail_data.specs.BounceViews.{delivery}
 use Rattle.mail_data.proofs.bounce.deliveries.Given as goal
 
 abbrev pub invariant-loop-block : goal.invariant-loop-block
-invariant-loop-block l =
-    map delivery l.found.items ++ map (λ block. delivery_in (fields block.now)) (drop l.block-index l.others)
-    ≡ map (λ block. delivery_in (fields block.now)) l.others
+invariant-loop-block g l =
+    map delivery l.found.items ++ map (λ block. delivery_in (g.K.KnownCharsets.known l.known) (fields block.now)) (drop l.block-index l.others)
+    ≡ map (λ block. delivery_in (g.K.KnownCharsets.known l.known) (fields block.now)) l.others

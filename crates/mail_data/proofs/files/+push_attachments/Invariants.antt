@@ -1,6 +1,5 @@
 -- The files so far, and then those of the parts that are left, are what was there and the files of the message.
 use Rattle.std.proofs.Common.{◌≡◌, ◌++◌, suc, map, drop}
-use Rattle.mail_codec.specs.Tables.{charsets_with}
 use Rattle.mailparse.specs.Mail.{forest}
 use Rattle.mailparse.specs.Views.{tree_of}
 use Rattle.mail_data.specs.Files.{attachments_under}
@@ -9,8 +8,8 @@ use Rattle.mail_data.proofs.lemmas.Files.{files_in}
 use Rattle.mail_data.proofs.files.«+push_attachments».Given as goal
 
 abbrev pub invariant-loop-part : goal.invariant-loop-part
-invariant-loop-part l = record {
+invariant-loop-part g l = record {
   count : l.number ≡ l.part-index;
-  all : map attachment_view l.files.items ++ files_in (charsets_with l.tables) l.path (suc l.part-index) (forest (map tree_of (drop l.part-index l.part-items)))
-      ≡ map attachment_view l.fn.files.items ++ attachments_under (charsets_with l.tables) l.path (tree_of l.mail);
+  all : map attachment_view l.files.items ++ files_in (g.K.KnownCharsets.known l.known) l.path (suc l.part-index) (forest (map tree_of (drop l.part-index l.part-items)))
+      ≡ map attachment_view l.fn.files.items ++ attachments_under (g.K.KnownCharsets.known l.known) l.path (tree_of l.mail);
 }

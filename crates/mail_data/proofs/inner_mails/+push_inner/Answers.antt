@@ -1,19 +1,28 @@
-use Rattle.std.proofs.Common.{◌++◌, ◌-◌, ◌+◌, List, [], ◌∷◌, ℕ, None, drop, map, sym, ap, subst, ◌∙◌, arith}
+use Rattle.std.proofs.Common.{◌≢◌, ◌++◌, ◌-◌, ◌+◌, List, [], ◌∷◌, ℕ, None, drop, map, sym, ap, subst, ◌∙◌, arith}
 use Rattle.std.specs.Prelude.{flat_map}
-use Rattle.mail_codec.specs.Tables.{charsets_with}
 use Rattle.mailparse.specs.Mail.{read_mail_in}
 use Rattle.mailparse.specs.Outcome.{IsRefusalOrMemory, refusal_of}
 use Rattle.mailparse.specs.Views.{placements_of, tree_of}
-use Rattle.mail_data.specs.InnerMails.{inner_mails}
+use Rattle.mail_data.specs.InnerMails.{InnerMail, inner_mails}
 use Rattle.mail_data.specs.InnerMailViews.{inner_view}
 use Rattle.mail_data.specs.PlaceViews.{place_view}
-use Rattle.mail_data.proofs.lemmas.InnerMails.{drop_next, inner_with, mail_bytes-is, mails_in_place, next-none, next-read, next-refused}
+use Rattle.mail_data.proofs.lemmas.InnerMails.{drop_next, inner_mails-some, inner_with, mail_bytes-is, mails_in_place, next-none, next-read, next-refused}
 use Rattle.mail_data.proofs.inner_mails.«+push_inner».Goals.{then-holds_mail+in_ok-bytes+in_ok-at, in-Ok+in_ok-push_mail-in-Ok+in_ok-push_inner-in-Ok, in-Err+in_ok-push_refused-in-Err, else-holds_mail}
 use Rattle.mail_data.proofs.inner_mails.«+push_inner».Goals as goal
 
+pub loop-place-init : goal.loop-place-init
+loop-place-init g t c =
+    let known = g.K.KnownCharsets.known c.args.known.now in
+    let mail = c.args.mail.now in
+    let most_some : c.args.most ≢ 0 = grind (arith) in
+    let places = ap (map place_view) c.deref-place-items.ensures.value ∙ c.in_ok-places.ensures in
+    ap (λ (mails : List InnerMail). map inner_view c.args.mails.now.items ++ mails)
+    (ap (flat_map (mails_in_place known (c.args.most - 1) c.args.start)) places
+    ∙ sym (inner_mails-some known c.args.most c.args.path.now c.args.start (tree_of mail) (placements_of mail) most_some))
+
 pub loop-place-preserved : goal.loop-place-preserved
-loop-place-preserved t c =
-    let known = charsets_with c.args.tables.now in
+loop-place-preserved g t c =
+    let known = g.K.KnownCharsets.known c.args.known.now in
     let most = c.args.most - 1 in
     let start = c.args.start in
     let items = c.deref-place-items.result.now in
@@ -29,7 +38,7 @@ loop-place-preserved t c =
           let holds = sym c.holds_mail.ensures ∙ w.if-holds_mail.true in
           let same = mail_bytes-is place bytes w.in_ok-bytes.ensures in
           let there = w.in_ok-at.ensures.read in
-          elim w.match-parse_mail_with.branch [
+          elim w.match-parse_mail_in.branch [
             | in-Ok+in_ok-push_mail-in-Ok+in_ok-push_inner-in-Ok v ↦
                 let inside = v.in-Ok.inside in
                 let read = ap (read_mail_in known 100) (sym w.as_slice.ensures.value) ∙ v.in-Ok.ensures.read in

@@ -1,7 +1,6 @@
 -- The mails so far, and then those of the parts that are left, are what was there and the mails inside the mail.
 use Rattle.std.proofs.Common.{◌≡◌, ◌++◌, ◌-◌, drop, map}
 use Rattle.std.specs.Prelude.{flat_map}
-use Rattle.mail_codec.specs.Tables.{charsets_with}
 use Rattle.mailparse.specs.Views.{placements_of, tree_of}
 use Rattle.mail_data.specs.InnerMails.{inner_mails}
 use Rattle.mail_data.specs.InnerMailViews.{inner_view}
@@ -10,10 +9,10 @@ use Rattle.mail_data.proofs.lemmas.InnerMails.{mails_in_place}
 use Rattle.mail_data.proofs.inner_mails.«+push_inner».Given as goal
 
 abbrev pub decreases-push_inner : goal.decreases-push_inner
-decreases-push_inner l = l.most
+decreases-push_inner g l = l.most
 
 abbrev pub invariant-loop-place : goal.invariant-loop-place
-invariant-loop-place l =
+invariant-loop-place g l =
     map inner_view l.mails.items
-    ++ flat_map (mails_in_place (charsets_with l.tables) (l.most - 1) l.start) (map place_view (drop l.place-index l.place-items))
-    ≡ map inner_view l.fn.mails.items ++ inner_mails (charsets_with l.tables) l.most l.path l.start (tree_of l.mail) (placements_of l.mail)
+    ++ flat_map (mails_in_place (g.K.KnownCharsets.known l.known) (l.most - 1) l.start) (map place_view (drop l.place-index l.place-items))
+    ≡ map inner_view l.fn.mails.items ++ inner_mails (g.K.KnownCharsets.known l.known) l.most l.path l.start (tree_of l.mail) (placements_of l.mail)

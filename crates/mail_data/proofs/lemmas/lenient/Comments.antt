@@ -1,5 +1,5 @@
 -- Lemmas on comments.
-use Rattle.std.proofs.Common.{◌≡◌, ℕ, ◌<◌, length, arith, length-append, Bool, true, false, eqb, cond, ◌&&◌, List, [], ◌∷◌, ◌++◌, refl, sym, ap, ◌∙◌, append_assoc}
+use Rattle.std.proofs.Common.{◌≡◌, ℕ, ◌<◌, length, arith, length-append, Bool, true, false, eqb, cond, ◌&&◌, List, [], ◌∷◌, ◌++◌, sym, ap, ◌∙◌, append_assoc}
 use Rattle.std.proofs.lemmas.List.{append-nil}
 use Rattle.std.proofs.lemmas.Str.{chars-nil, chars_past_char, len_utf8_bounds, length-encode}
 use Rattle.std.specs.Char.{encode_utf8}

@@ -1,19 +1,10 @@
 -- Lemmas on texts that are read leniently.
-use Rattle.std.proofs.Common.{◌≡◌, ℕ, ◌<◌, Bool, true, List, [], ◌∷◌, length, Some, Ok, is_some, sym, ap, ◌∙◌, arith}
+use Rattle.std.proofs.Common.{◌≡◌, ℕ, Bool, List, Ok, sym, ap, ◌∙◌}
 use Rattle.mail_codec.specs.Charset.{Charsets}
-use Rattle.mail_codec.specs.Tables.{charsets_with, table_of_label}
-use Rattle.mail_codec.specs.declared.charset.tables.SingleByteTable.{SingleByteTable}
-use Rattle.mail_codec.proofs.lemmas.Tables.{charsets-table}
 use Rattle.mailparse.specs.Mail.{Node}
 use Rattle.mailparse.specs.Refusal.{Reads}
 use Rattle.mail_data.specs.lenient.Encoding.{lenient_body_kind}
 use Rattle.mail_data.specs.lenient.Texts.{BodyText, Read, body_text, charset_used, lenient_bytes, lenient_text, text_read}
-
--- a charset of a table is known
-pub known-table : (tables : List SingleByteTable) (label : List ℕ) (number : ℕ) → number < length tables → Some number ≡ table_of_label tables label
-    → true ≡ is_some (charsets_with tables label)
-known-table [] label number less some = absurd (omega arith)
-known-table (t ∷ ts) label number less some = ap is_some (sym (charsets-table (t ∷ ts) label number t some).1)
 
 pub ok-same : (a b : List ℕ) → ◌≡◌ {A = Reads (List ℕ)} (Ok a) (Ok b) → a ≡ b
 ok-same a b e = cc

@@ -1,6 +1,5 @@
-use Rattle.std.proofs.Common.{sym, subst, ◌∙◌}
+use Rattle.std.proofs.Common.{◌∙◌}
 use Rattle.std.proofs.lemmas.Result.{IfOk-weaker}
-use Rattle.std.specs.Str.{IsUtf8}
 use Rattle.mail_data.proofs.lemmas.FileTexts.{octets-utf8, octets-other}
 use Rattle.mail_data.proofs.files.left_over.text_of_octets.Goals as goal
 

@@ -1,8 +1,7 @@
-use Rattle.std.proofs.Common.{◌≤◌, length, sym, ap, subst, ◌∙◌, arith, length-append}
+use Rattle.std.proofs.Common.{length, sym, ap, subst, ◌∙◌, arith}
 use Rattle.std.proofs.lemmas.List.{nil_from_length}
 use Rattle.std.proofs.lemmas.Str.{IsUtf8-past_char}
 use Rattle.std.specs.Str.{IsUtf8}
-use Rattle.std.specs.String.{string_bytes}
 use Rattle.mail_data.proofs.lemmas.lenient.Comments.{kept-start, kept-end, kept-next, shorter}
 use Rattle.mail_data.proofs.lenient.comments.without_comments.Goals as goal
 

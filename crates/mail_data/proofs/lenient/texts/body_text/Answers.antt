@@ -1,6 +1,5 @@
-use Rattle.std.proofs.Common.{List, ℕ, Ok, sym, ap, ◌∙◌}
+use Rattle.std.proofs.Common.{Ok, sym, ap, ◌∙◌}
 use Rattle.std.specs.String.{string_bytes}
-use Rattle.mail_codec.specs.Tables.{charsets_with}
 use Rattle.mailparse.specs.BodyViews.{content_of}
 use Rattle.mailparse.specs.ContentType.{ContentType}
 use Rattle.mailparse.specs.Mail.{root}
@@ -13,8 +12,8 @@ use Rattle.mail_data.proofs.lemmas.lenient.Texts.{body_text-is, ok-same}
 use Rattle.mail_data.proofs.lenient.texts.body_text.Goals as goal
 
 pub returns : goal.returns
-returns c =
-    let known = charsets_with c.args.tables.now in
+returns g c =
+    let known = g.K.KnownCharsets.known c.args.known.now in
     let m = c.args.part.now in
     let node = root (tree_of m) in
     let bytes = c.in_ok-read.read.bytes.items in
