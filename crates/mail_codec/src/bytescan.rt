@@ -7,8 +7,7 @@ pub(crate) mod runs;
 mod single;
 pub(crate) mod words;
 
-use crate::vectors::LANES;
-use pairs::pair_len;
+use pairs::{WIDE, pair_len};
 use runs::{RunEnd, push_runs};
 use single::byte_len;
 use std::alloc::{AllocError, Global};
@@ -80,7 +79,7 @@ pub fn find(haystack: &[u8], needle: &[u8]) -> Option<usize>
 pub fn find_pair(haystack: &[u8], first: u8, second: u8) -> Option<usize>
     ensures { result ≡ text_place haystack.now (first ∷ second ∷ []) }
 {
-    if haystack.len() <= LANES {
+    if haystack.len() <= WIDE {
         return find(haystack, &[first, second]);
     }
     let place = pair_len(haystack, first, second);

@@ -9,7 +9,7 @@ use Rattle.mail_codec.proofs.lemmas.Vectors.{first_lane_none}
 use Rattle.mail_codec.proofs.lemmas.PlacesSearches.{PassedTo-chunk, PassedTo-found, both_zero}
 
 -- a mask is 0 where no lane passes
-free_mask : (test : ℕ → Bool) (v : List ℕ) → first_place (begins test) v ≡ length v → lane_mask test v ≡ 0
+pub free_mask : (test : ℕ → Bool) (v : List ℕ) → first_place (begins test) v ≡ length v → lane_mask test v ≡ 0
 free_mask test [] e = refl
 free_mask test (b ∷ v) e = elim (cases_Bool (test b)) [
   | inl t ↦ let here : 0 ≡ suc (length v) = rw t at e in absurd (omega arith)

@@ -1,7 +1,7 @@
 -- A text read mark by mark: what stands before an escape is read by itself, and so is the escape.
-use Rattle.std.proofs.Common.{◌≡◌, ℕ, zero, suc, ◌+◌, ◌*◌, ◌-◌, ◌<◌, ◌≤◌, ◌≢◌, ◌↔◌, ◌⊎◌, ◌==◌, ◌||◌, min, slice_set, Bool, true, false, cond, List, [], ◌∷◌, ◌++◌, length, take, drop, get_or, reverse, Option, Some, None, refl, sym, ap, ◌∙◌, arith, inl, inr}
+use Rattle.std.proofs.Common.{◌≡◌, ℕ, zero, suc, ◌+◌, ◌*◌, ◌-◌, ◌<◌, ◌≤◌, ◌≢◌, ◌↔◌, ◌==◌, ◌||◌, slice_set, Bool, true, false, cond, List, [], ◌∷◌, ◌++◌, length, take, drop, get_or, reverse, Option, Some, None, refl, sym, ap, subst, ◌∙◌, arith, inl, inr}
 use Rattle.std.specs.List.{flat_map, slice_split, prefix_len, suffix_len}
-use Rattle.std.proofs.lemmas.Bool.{cases_Bool, cases_lt, eqb-true, false≢true}
+use Rattle.std.proofs.lemmas.Bool.{cases_Bool, cases_eq, cases_lt, eqb-true, false≢true}
 use Rattle.std.proofs.Math.Seq.{take-add, take-append-add}
 use Rattle.std.specs.List.{position_or_len}
 use Rattle.std.proofs.lemmas.List.Sums.{position_or_len_is, suffix_len-le-length}
@@ -10,7 +10,7 @@ use Rattle.std.proofs.lemmas.List.{append-nil, append_cancel_left, take-append-l
 use Rattle.mail_codec.specs.Ascii.{is_blank}
 use Rattle.mail_codec.specs.Places.{first_place, begins, trimmed_at_end}
 use Rattle.mail_codec.specs.QuotedPrintable.{ends_in, without_last, lf, cr_lf, digit_value, byte_of_values, first_escape, ended_line, lines_of_pieces, lines_of, line_bytes, quoted_printable, unescaped}
-use Rattle.mail_codec.specs.private.QuotedPrintable.{is_mark, HasNoEscape}
+use Rattle.mail_codec.specs.private.QuotedPrintable.{is_mark, HasNoEscape, IsSoftBreak}
 use Rattle.mail_codec.proofs.lemmas.Places.{first_place-≤, first_place-before, first_place-passes, first_place-begins}
 use Rattle.mail_codec.proofs.lemmas.Written.{written_rest}
 use Rattle.mail_codec.proofs.lemmas.QuotedPrintableEscapes.{unescaped_stays, unescaped_escape, unescaped-nil, first_escape-other}
@@ -338,15 +338,57 @@ plain-sign text at sign none = record {
 }
 
 -- where a line ends
-line_end : (text : List ℕ) (from to : ℕ) → from ≤ to → to ≤ length text → IsPlain text from to → (to < length text → get_or text to 0 ≡ 10)
+lf_place : (text : List ℕ) (from to : ℕ) → from ≤ to → to ≤ length text → ((k : ℕ) → from ≤ k → k < to → is_lf (get_or text k 0) ≡ false) → (to < length text → get_or text to 0 ≡ 10)
     → to ≡ from + first_place (begins is_lf) (drop from text)
-line_end text from to low high plain lf_there =
+lf_place text from to low high no_lf lf_there =
     let len = length-drop from text in
     let same = first_place-begins is_lf (drop from text) in
     let at : position_or_len is_lf (drop from text) ≡ to - from = position_or_len_is is_lf (drop from text) (to - from) 0 (omega arith)
-    (λ k l. ap is_lf (get_or-drop from text k 0) ∙ plain.no_lf (from + k) (omega arith) (omega arith))
+    (λ k l. ap is_lf (get_or-drop from text k 0) ∙ no_lf (from + k) (omega arith) (omega arith))
     (λ lt. ap is_lf (get_or-drop from text (to - from) 0 ∙ ap (λ (j : ℕ). get_or text j 0) {x = from + (to - from)} {y = to} (omega arith) ∙ lf_there (omega arith))) in
     omega arith
+
+line_end : (text : List ℕ) (from to : ℕ) → from ≤ to → to ≤ length text → IsPlain text from to → (to < length text → get_or text to 0 ≡ 10)
+    → to ≡ from + first_place (begins is_lf) (drop from text)
+line_end text from to low high plain = lf_place text from to low high plain.no_lf
+
+-- ---- a line that a soft line break ends
+
+ends_in-last : (c : ℕ) → (c == c) ≡ true → (xs : List ℕ) → ends_in c (xs ++ c ∷ []) ≡ true
+ends_in-last c same [] = same
+ends_in-last c same (x ∷ []) = same
+ends_in-last c same (x ∷ y ∷ xs) = ends_in-last c same (y ∷ xs)
+
+without_last-last : (c : ℕ) (xs : List ℕ) → without_last (xs ++ c ∷ []) ≡ xs
+without_last-last c xs =
+    ap (λ (k : ℕ). take k (xs ++ c ∷ [])) {x = length (xs ++ c ∷ []) - 1} {y = length xs + 0} (omega (arith, length-append xs (c ∷ [])))
+    ∙ take-append-add xs (c ∷ []) 0
+    ∙ append-nil xs
+
+soft_line : (piece ending : List ℕ) → HasNoEscape piece → line_bytes (record { content = piece ++ 61 ∷ []; ending = ending }) ≡ piece
+unfolding line_bytes
+soft_line piece ending none =
+    let trimmed : trimmed_at_end is_blank (piece ++ 61 ∷ []) ≡ piece ++ 61 ∷ [] = trimmed-front is_blank 61 piece [] refl in
+    rw (trimmed, ends_in-last 61 refl piece, without_last-last 61 piece) (stays_whole piece none)
+
+soft_lf : (piece : List ℕ) → HasNoEscape piece → line_bytes (ended_line (piece ++ 61 ∷ [])) ≡ piece
+soft_lf piece none =
+    let other : ends_in 13 (piece ++ 61 ∷ []) ≡ false = ends_in-front 13 61 piece [] refl in
+    rw other (soft_line piece lf none)
+
+soft_cr : (piece : List ℕ) → HasNoEscape piece → line_bytes (ended_line ((piece ++ 61 ∷ []) ++ 13 ∷ [])) ≡ piece
+soft_cr piece none =
+    rw (ends_in-last 13 refl (piece ++ 61 ∷ []), without_last-last 13 (piece ++ 61 ∷ [])) (soft_line piece cr_lf none)
+
+-- one byte more of a piece
+piece_more : (text : List ℕ) (from to b : ℕ) → from ≤ to → to < length text → get_or text to 0 ≡ b
+    → take (to + 1 - from) (drop from text) ≡ take (to - from) (drop from text) ++ b ∷ []
+piece_more text from to b low lt is =
+    ap (λ (k : ℕ). take k (drop from text)) {x = to + 1 - from} {y = to - from + 1} (omega arith)
+    ∙ take-add (to - from) 1 (drop from text)
+    ∙ ap (λ (r : List ℕ). take (to - from) (drop from text) ++ r) (
+    ap (take 1) (drop-drop (to - from) from text ∙ ap (λ (k : ℕ). drop k text) {x = from + (to - from)} {y = to} (omega arith) ∙ drop_more text to 0 lt)
+    ∙ ap (λ (x : ℕ). x ∷ []) is)
 
 -- where the bytes up to a place stay and more follow, so do those of a part that ends there
 copied_more : (len n run : ℕ) (xs ys front more : List ℕ) → len + n ≤ length xs → take n (drop len xs) ≡ front
@@ -428,10 +470,10 @@ length-with_part place output part fits same =
       length-drop place output,
     )
 
--- a run was copied, and the text ends with it, or a mark follows
-pub record Ran (text : List ℕ) (from : ℕ) (output : List ℕ) (len plain at most run : ℕ) (part : List ℕ) : Type 0 where
+-- a run was copied, and it goes up to the end, or a mark follows
+pub record Ran (text : List ℕ) (from : ℕ) (output : List ℕ) (len plain at end run : ℕ) (part : List ℕ) : Type 0 where
   pub reading : Reading text from (with_part (len + (at - plain)) output part) len plain (at + run)
-  pub marked : ((at + run ≡ at + most) × (length text ≤ at + most)) ⊎ (at + run ≢ at + most) → at + run ≢ length text
+  pub marked : at + run ≢ end
       → (len + (at + run - plain) < length (with_part (len + (at - plain)) output part)) × (at + run < length text) × (get_or text (at + run) 0 ≢ 10 → get_or text (at + run) 0 ≡ 61)
 
 module _ (text : List ℕ) (from : ℕ) (output : List ℕ) (len plain at : ℕ) (h : Reading text from output len plain at) where
@@ -473,26 +515,22 @@ module _ (text : List ℕ) (from : ℕ) (output : List ℕ) (len plain at : ℕ)
     full = length-with_part place output part h.room same
 
     -- a run is copied
-    pub after_run : (most : ℕ) → most ≡ min (length text - at) (length output - place) → n ≤ length (take (at + most - at) (drop at text))
-        → n ≡ first_place (begins is_mark) (take (at + most - at) (drop at text)) → take n part ≡ take n (take (at + most - at) (drop at text))
-        → Ran text from output len plain at most n part
-    after_run most most_is few first copied =
-        let m = at + most - at in
+    pub after_run : (end : ℕ) → at ≤ end → end ≤ length text → end ≤ from + length output → n ≤ length (take (end - at) (drop at text))
+        → n ≡ first_place (begins is_mark) (take (end - at) (drop at text)) → take n part ≡ take n (take (end - at) (drop at text))
+        → Ran text from output len plain at end n part
+    after_run end ahead inside_text inside_output few first copied =
+        let m = end - at in
         let short = length-take m (drop at text) in
         let rest = length-drop at text in
-        let inside = h.within in
         let start = h.start in
-        let room = h.room in
+        let after = h.after in
         let fits : place + n ≤ length output = omega arith in
         record {
           reading = extended n (with_part place output part) (omega arith) (omega (arith, full))
               (written_rest place n output part fits same (take n (drop at text)) (copied ∙ take-take n m (drop at text) (omega arith)))
               (plain-run text at m n first);
-          marked = λ not_full not_all.
-              let lt : n < length (take m (drop at text)) = elim not_full [
-                | inl full ↦ absurd (omega (arith, full.0, full.1, not_all))
-                | inr other ↦ omega (arith, other)
-              ] in
+          marked = λ other.
+              let lt : n < length (take m (drop at text)) = omega (arith, other) in
               (omega (arith, full), omega arith, mark_there text at m n first lt);
         }
 
@@ -513,6 +551,55 @@ module _ (text : List ℕ) (from : ℕ) (output : List ℕ) (len plain at : ℕ)
         ∙ append_assoc (take len output) copy (quoted_printable (drop at text))
         ∙ ap (λ (r : List ℕ). take len output ++ r) (sym (before text plain at h.start h.within h.marks (λ none. some (first.1 none))))
         ∙ h.so_far)
+
+    -- nothing is read at the place
+    pub after_none : n ≡ 0 → Reading text from (with_part place output part) len plain at
+    after_none none =
+        let ys = with_part place output part in
+        let e : at + 0 ≡ at = omega arith in
+        subst (Reading text from ys len plain) e (extended 0 ys (omega (arith, h.within)) (omega (arith, full, h.room))
+        (written_rest place 0 output part (omega (arith, h.room)) same [] refl) (subst (IsPlain text at) (sym e) (plain-empty text at)))
+
+  -- a soft line break takes the line end with it
+  pub after_soft : (next : ℕ) → next ≤ length text → IsSoftBreak text at next → Reading text from output place next next
+  after_soft next within soft =
+      let start = h.start in
+      let after = h.after in
+      let none = piece-no_escape text plain at h.start h.within h.marks in
+      elim soft.1 [
+        | inl one ↦
+            let no_lf : (k : ℕ) → plain ≤ k → k < at + 1 → is_lf (get_or text k 0) ≡ false =
+            (λ k lo hi. elim (cases_lt k at) [ inl lt ↦ h.marks.no_lf k lo lt | inr ge ↦ ap (λ (j : ℕ). is_lf (get_or text j 0)) {x = k} {y = at} (omega arith) ∙ ap is_lf soft.0 ]) in
+            let end = lf_place text plain (at + 1) (omega arith) (omega (arith, one.0)) no_lf (λ _. one.1) in
+            let piece = piece_more text plain at 61 h.start (omega (arith, one.0)) soft.0 in
+            let line = ap (λ (r : List ℕ). line_bytes (ended_line r)) piece ∙ soft_lf copy none in
+            softened (at + 1) next (omega (arith, one.0)) within end line h.start (omega arith)
+        | inr two ↦
+            let no_lf : (k : ℕ) → plain ≤ k → k < at + 2 → is_lf (get_or text k 0) ≡ false =
+            (λ k lo hi. elim (cases_lt k at) [
+              | inl lt ↦ h.marks.no_lf k lo lt
+              | inr ge ↦ elim (cases_lt k (at + 1)) [
+                | inl lt ↦ ap (λ (j : ℕ). is_lf (get_or text j 0)) {x = k} {y = at} (omega arith) ∙ ap is_lf soft.0
+                | inr ge2 ↦ ap (λ (j : ℕ). is_lf (get_or text j 0)) {x = k} {y = at + 1} (omega arith) ∙ ap is_lf two.1
+              ]
+            ]) in
+            let end = lf_place text plain (at + 2) (omega arith) (omega (arith, two.0)) no_lf (λ _. two.2) in
+            let piece = piece_more text plain at 61 h.start (omega (arith, two.0)) soft.0 in
+            let longer = piece_more text plain (at + 1) 13 (omega arith) (omega (arith, two.0)) two.1 in
+            let both = ap (λ (k : ℕ). take (k - plain) (drop plain text)) {x = at + 2} {y = at + 1 + 1} (omega arith) ∙ longer ∙ ap (λ (r : List ℕ). r ++ 13 ∷ []) piece in
+            let line = ap (λ (r : List ℕ). line_bytes (ended_line r)) both ∙ soft_cr copy none in
+            softened (at + 2) next (omega (arith, two.0)) within end line h.start (omega arith)
+      ]
+    where
+      softened : (end next : ℕ) → next ≡ end + 1 → next ≤ length text → end ≡ plain + first_place (begins is_lf) (drop plain text)
+          → line_bytes (ended_line (take (end - plain) (drop plain text))) ≡ copy → plain ≤ at → at ≤ end → Reading text from output place next next
+      softened end next is within there line low high =
+          let after = h.after in
+          fresh text from output place next within (omega (arith, after, low, high, is)) h.room
+          (ap (λ (k : ℕ). take place output ++ quoted_printable (drop k text)) is
+          ∙ sym (line_read text (take len output) plain end (omega (arith, is, within)) there (take place output) (omega (arith, is, within))
+          (take-add len (at - plain) output ∙ ap (λ (r : List ℕ). take len output ++ r) (h.copied ∙ sym line)))
+          ∙ h.so_far)
 
   -- a `=` that begins no escape stays
   pub after_sign : (part : List ℕ) → length part ≡ length (room_from place output) → place < length output → at < length text
@@ -563,3 +650,29 @@ module _ (text : List ℕ) (from : ℕ) (output : List ℕ) (len plain at : ℕ)
       take-take (length copy) (length output - len) (drop len output) (omega (arith, length-copy, h.room))
       ∙ ap (λ (k : ℕ). take k (drop len output)) length-copy
       ∙ h.copied
+
+-- escapes are read, or a soft line break is, or both, one after the other
+pub after_both : (text : List ℕ) (from : ℕ) (output : List ℕ) (len plain at : ℕ) → Reading text from output len plain at → (n : ℕ) (part : List ℕ)
+    → length part ≡ length (room_from (len + (at - plain)) output) → n ≤ length (room_from (len + (at - plain)) output)
+    → ((n ≡ 0) ↔ (first_escape (drop at text) ≡ None)) → at + 3 * n ≤ length text
+    → take n part ++ quoted_printable (drop (at + 3 * n) text) ≡ quoted_printable (drop at text)
+    → (next : ℕ) → next ≢ at → next ≤ length text → (next ≢ at + 3 * n → IsSoftBreak text (at + 3 * n) next)
+    → Reading text from (with_part (len + (at - plain)) output part) (len + (at - plain) + n) next next
+after_both text from output len plain at h n part same few first within read next moved inside soft = elim (cases_eq n 0) [
+  | inl none ↦
+      let start : at + 3 * n ≡ at = omega (arith, none) in
+      let broken = subst (λ (j : ℕ). IsSoftBreak text j next) start (soft (λ e. moved (e ∙ start))) in
+      let here = after_none text from output len plain at h n part same none in
+      subst (λ (k : ℕ). Reading text from ys k next next) {x = len + (at - plain)} {y = len + (at - plain) + n} (omega (arith, none)) (after_soft text from ys len plain at here next inside broken)
+  | inr some ↦
+      let escapes = after_escapes text from output len plain at h n part same few some first within read in
+      elim (cases_eq next (at + 3 * n)) [
+        | inl e ↦ subst (λ (k : ℕ). Reading text from ys (len + (at - plain) + n) k k) (sym e) escapes
+        | inr other ↦
+            subst (λ (k : ℕ). Reading text from ys k next next) {x = len + (at - plain) + n + (at + 3 * n - (at + 3 * n))} {y = len + (at - plain) + n} (omega arith)
+            (after_soft text from ys (len + (at - plain) + n) (at + 3 * n) (at + 3 * n) escapes next inside (soft other))
+      ]
+]
+  where
+    ys : List ℕ
+    ys = with_part (len + (at - plain)) output part

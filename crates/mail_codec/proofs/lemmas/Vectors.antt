@@ -136,11 +136,19 @@ whitespace_marked v like fits is =
     (zip2_of_maps (λ x y. cond (x == y) 255 0) (λ b. b) whitespace_of_half v (sym (map-id v)) is) (λ b. flag (b == whitespace_of_half b))
     ∙ ap mask_l (map_same (λ b. b == whitespace_of_half b) is_ascii_whitespace whitespace_agree v fits.1)
 
--- the first lane that passes, by a mask
+-- what a mask tells: no lane passes, or the first that does
+pub no_mark : (test : ℕ → Bool) (v : List ℕ) (mask : ℕ) → mask ≡ mask_l (map test v) → mask ≡ 0 → length v ≡ first_place (begins test) v
+no_mark test v mask is none = sym (leading_from_mask_l test v (sym is ∙ none)) ∙ sym (first_place-begins test v)
+
+pub lowest_mark : (test : ℕ → Bool) (v : List ℕ) (mask : ℕ) → length v ≤ 64 → mask ≡ mask_l (map test v) → ((mask ≡ 0) → ⊥)
+    → trailing_zeros w64 mask ≡ first_place (begins test) v
+lowest_mark test v mask few is some =
+    ap (trailing_zeros w64) is ∙ trailing_mask_l test 64 v (omega (arith, few)) (omega (arith, is, some)) ∙ sym (first_place-begins test v)
+
+-- the same of sixteen lanes
 pub first_lane_none : (test : ℕ → Bool) (v : List ℕ) (mask : ℕ) → length v ≡ 16 → mask ≡ mask_l (map test v) → mask ≡ 0 → 16 ≡ first_place (begins test) v
-first_lane_none test v mask long is none = sym long ∙ sym (leading_from_mask_l test v (sym is ∙ none)) ∙ sym (first_place-begins test v)
+first_lane_none test v mask long is none = sym long ∙ no_mark test v mask is none
 
 pub first_lane_some : (test : ℕ → Bool) (v : List ℕ) (mask : ℕ) → length v ≡ 16 → mask ≡ mask_l (map test v) → ((mask ≡ 0) → ⊥)
     → trailing_zeros w64 mask ≡ first_place (begins test) v
-first_lane_some test v mask long is some =
-    ap (trailing_zeros w64) is ∙ trailing_mask_l test 64 v (omega (arith, long)) (omega (arith, is, some)) ∙ sym (first_place-begins test v)
+first_lane_some test v mask long = lowest_mark test v mask (omega (arith, long))

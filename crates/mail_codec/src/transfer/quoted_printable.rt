@@ -1,10 +1,10 @@
 //! Quoted-printable, over bytes (RFC 2045, section 6.7).
-ghost use Rattle.std.specs.Prelude.{◌≡◌, ◌↔◌, ◌+◌, ◌*◌, ◌<◌, ◌≤◌, ◌-◌, ◌++◌, length, take, drop, slice_index, None, IfOk, OnOk, IfSome};
+ghost use Rattle.std.specs.Prelude.{◌≡◌, ◌↔◌, ◌+◌, ◌*◌, ◌<◌, ◌≤◌, ◌≢◌, ◌-◌, ◌++◌, length, take, drop, slice_index, None, IfOk, OnOk, IfSome};
 ghost use Rattle.std.specs.List.{suffix_len};
 ghost use Rattle.mail_codec.specs.Ascii.{equals_sign, is_blank};
 ghost use Rattle.mail_codec.specs.Places.{begins, first_place};
 ghost use Rattle.mail_codec.specs.QuotedPrintable.{digit_value, ended_line, first_escape, line_bytes, quoted_printable};
-ghost use Rattle.mail_codec.specs.private.QuotedPrintable.{is_mark, HasNoEscape};
+ghost use Rattle.mail_codec.specs.private.QuotedPrintable.{is_mark, HasNoEscape, IsSoftBreak};
 
 use crate::bytescan::words::{either_mask, first_marked};
 use crate::vectors::LANES;
@@ -122,18 +122,14 @@ fn put_lines(output: &mut [u8], text: &[u8], from: usize) -> (usize, usize)
     ensures read { take result.0 output.new ++ quoted_printable (drop result.1 text.now)
         ≡ quoted_printable (drop from text.now) }
 {
+    let end = from + (text.len() - from).min(output.len());
     let mut len = 0;
     let mut plain = from;
     let mut at = from;
-    'marks: while at < text.len() {
+    'marks: while at < end {
         let place = len + (at - plain);
-        let end = at + (text.len() - at).min(output.len() - place);
-        let mark = at + put_run(&mut output[place..], &text[at..end]);
-        if mark == end && end < text.len() {
-            return (len, plain);
-        }
-        at = mark;
-        if at == text.len() {
+        at += put_run(&mut output[place..], &text[at..end]);
+        if at == end {
             continue;
         }
         if text[at] == b'\n' {
@@ -144,14 +140,18 @@ fn put_lines(output: &mut [u8], text: &[u8], from: usize) -> (usize, usize)
         }
         let sign = len + (at - plain);
         let count = put_escapes(&mut output[sign..], text, at);
-        if count == 0 {
+        let next = after_soft_break(text, at + 3 * count);
+        if next == at {
             output[sign] = b'=';
             at += 1;
             continue;
         }
         len = sign + count;
-        at += 3 * count;
-        plain = at;
+        at = next;
+        plain = next;
+    }
+    if at < text.len() {
+        return (len, plain);
     }
     len += put_line(&mut output[len..], &text[plain..at], b"");
     (len, at)
@@ -184,6 +184,26 @@ fn put_escapes(output: &mut [u8], text: &[u8], from: usize) -> usize
         count += 1;
     }
     count
+}
+
+/// The place after the soft line break at a place, which is a `=` and the line end after it; or the
+/// place itself where there is none.
+#[inline(always)]
+fn after_soft_break(text: &[u8], at: usize) -> usize
+    requires within { at ≤ length text.now }
+    ensures bounds { (at ≤ result) × (result ≤ length text.now) }
+    ensures soft { result ≢ at → IsSoftBreak text.now at result }
+{
+    if text.len() - at < 2 || text[at] != b'=' {
+        return at;
+    }
+    if text[at + 1] == b'\n' {
+        return at + 2;
+    }
+    if text[at + 1] != b'\r' || text.len() - at < 3 || text[at + 2] != b'\n' {
+        return at;
+    }
+    at + 3
 }
 
 /// Makes of the bytes of a piece, which have been copied, those of its line, whose LF follows the
