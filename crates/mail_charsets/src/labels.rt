@@ -54,3 +54,5 @@ pub(crate) static REPLACEMENT: [&str; 6] = [
 ];
 
 pub(crate) static X_USER_DEFINED: [&str; 1] = ["x-user-defined"];
+
+pub(crate) static UTF_7: [&str; 3] = ["csunicode11utf7", "unicode-1-1-utf-7", "utf-7"];

@@ -38,6 +38,7 @@ pub mod laws;
 mod shift_jis;
 mod single_byte;
 mod tables;
+mod utf_7;
 mod x_user_defined;
 
 pub use self::all::{AllCharsets, AnyCharset};
@@ -49,3 +50,4 @@ pub use self::single_byte::{
     MACINTOSH, TABLES, WINDOWS_874, WINDOWS_1250, WINDOWS_1251, WINDOWS_1253, WINDOWS_1254,
     WINDOWS_1255, WINDOWS_1256, WINDOWS_1257, WINDOWS_1258, X_MAC_CYRILLIC,
 };
+pub use self::utf_7::{OrUtf7, Utf7, WithUtf7};
