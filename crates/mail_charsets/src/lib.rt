@@ -5,6 +5,7 @@
 //!
 //! Pass all of the tables, or a few, to the calls of `mailparse` that take tables; a byte that has no
 //! character in an encoding is U+FFFD. `AllCharsets` is all charsets of the standard as one value.
+//! `WithUtf7` adds UTF-7, which the standard forbids, to the charsets that another value knows.
 //!
 //! # Examples
 //!

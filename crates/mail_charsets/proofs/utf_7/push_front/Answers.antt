@@ -1,4 +1,4 @@
-use Rattle.std.proofs.Common.{◌∙◌, ap, sym, refl, append-nil}
+use Rattle.std.proofs.Common.{ap, refl, append-nil}
 use Rattle.std.proofs.lemmas.List.{take_rest}
 use Rattle.mail_charsets.specs.Front.{Taken}
 use Rattle.mail_charsets.proofs.lemmas.Utf7.{front_other, front_plus}

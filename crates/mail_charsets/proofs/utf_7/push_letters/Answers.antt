@@ -1,4 +1,4 @@
-use Rattle.std.proofs.Common.{◌≡◌, ◌∙◌, [], ◌∷◌, ◌++◌, map, ap, sym, append-nil, append_assoc, encode_utf8_all, string_bytes}
+use Rattle.std.proofs.Common.{◌∙◌, [], ◌∷◌, ◌++◌, map, ap, sym, append-nil, append_assoc, encode_utf8_all, string_bytes}
 use Rattle.std.specs.Prelude.{encode_utf8}
 use Rattle.std.specs.List.{range_with_len}
 use Rattle.std.specs.Char.Utf16.{utf16_lossy_chars}

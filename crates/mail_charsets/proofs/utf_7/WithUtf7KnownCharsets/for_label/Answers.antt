@@ -1,4 +1,4 @@
-use Rattle.std.proofs.Common.{◌∙◌, sym, refl}
+use Rattle.std.proofs.Common.{sym, refl}
 use Rattle.std.proofs.lemmas.Str.Ascii.{trim_ascii_is}
 use Rattle.mail_charsets.proofs.lemmas.Utf7.{label_known, label_unknown}
 use Rattle.mail_charsets.proofs.utf_7.WithUtf7KnownCharsets.for_label.Goals as goal
