@@ -1,5 +1,5 @@
 #!/usr/bin/env python3
-"""Makes the tables of crates/mail_tables from the sources of the Rust crate encoding_rs.
+"""Makes the tables of single bytes of crates/mail_charsets from the sources of the Rust crate encoding_rs.
 
 SOURCES is its folder `src`, as Debian's package librust-encoding-rs-dev has it, which holds the
 indexes and the labels of the WHATWG Encoding Standard; `rt fmt` then sets the lines. With --check it
@@ -7,7 +7,7 @@ writes nothing and says whether the file is what the sources give; then the last
 `N passed, N failed`, and the status is 1 where it is not. What Python's codecs read under each table
 stands in crates/mail_vectors/data/tables.txt.
 
-With --indexes ORACLE it makes the indexes and labels of crates/mail_charsets instead. ORACLE is the
+With --indexes ORACLE it makes the indexes of its encodings of several bytes instead. ORACLE is the
 program of tools/charset_oracle, which decodes each pair and each four bytes by encoding_rs. Then it
 says how many entries Python's codecs read otherwise; docs/DIFFERENCES.md has the reasons.
 """
@@ -19,7 +19,7 @@ import subprocess
 import sys
 
 TOP = os.path.dirname(os.path.dirname(os.path.abspath(__file__)))
-PATH = os.path.join(TOP, "crates", "mail_tables", "src", "tables.rt")
+PATH = os.path.join(TOP, "crates", "mail_charsets", "src", "single_byte.rt")
 INDEX_PATH = os.path.join(TOP, "crates", "mail_charsets", "src", "tables.rt")
 # the name of each encoding in the standard, and that of its characters in encoding_rs
 ENCODINGS = [
@@ -249,7 +249,7 @@ def index_source(oracle):
 def main():
     parser = argparse.ArgumentParser(description=__doc__, formatter_class=argparse.RawDescriptionHelpFormatter)
     parser.add_argument("--check", action="store_true", help="write nothing, and compare")
-    parser.add_argument("--indexes", metavar="ORACLE", help="make those of mail_charsets")
+    parser.add_argument("--indexes", metavar="ORACLE", help="make the indexes")
     parser.add_argument("sources", metavar="SOURCES", help="the folder `src` of encoding_rs")
     arguments = parser.parse_args()
     if not os.path.isfile(os.path.join(arguments.sources, "data.rs")):

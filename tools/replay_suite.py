@@ -245,12 +245,17 @@ def python_addresses(raw):
     return items
 
 
+def python_utf_7(label, texts):
+    return [it.decode(label.decode().strip(), "replace").encode("utf-8", "surrogatepass") for it in texts]
+
+
 # By call: what Python returns for the inputs.
 PYTHON = {
     "addresses": lambda row: python_addresses(row.inputs[0]),
     "get_value": lambda row: python_value(row.inputs[0]),
     "parse_content_type": lambda row: python_type(row.inputs[0]),
     "date_of": lambda row: python_date(row.inputs[0]),
+    "decode_with_utf_7": lambda row: python_utf_7(row.inputs[0], row.inputs[1:]),
     "decode_base64": lambda row: [base64.b64decode(row.inputs[0])],
     "decode_quoted_printable": lambda row: [quopri.decodestring(row.inputs[0])],
 }

@@ -1,3 +1,4 @@
 pub mod Front
 pub mod Few
 pub mod Iso2022Jp
+pub mod Utf7

@@ -3,8 +3,8 @@ ghost use Rattle.mail_charsets.specs.All.{any_text, charsets_of};
 
 use crate::encoding::Encoding;
 use crate::indexes::Indexes;
+use crate::single_byte::TABLES;
 use mail_codec::charset::{BuiltInOrTable, Decode, KnownCharsets, SingleByteTable};
-use mail_tables::TABLES;
 use std::alloc::{AllocError, Global};
 
 /// One of the four charsets of `mail_codec`, that of a table, or an encoding of this crate.

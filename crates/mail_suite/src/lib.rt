@@ -1,4 +1,4 @@
-//! For the suite only: its notation, and its calls of `mail_codec`, `mailparse` and `mail_tables`.
+//! For the suite only: its notation, and its calls of `mail_codec`, `mailparse` and `mail_charsets`.
 #![tactic(auto)]
 
 mod calls;

@@ -4,10 +4,12 @@
 //! encoding_for_label LABEL.. => gbk | gb18030 | big5 | euc-jp | iso-2022-jp | shift_jis | euc-kr
 //!     | replacement | x-user-defined | none ..
 //! decode_encoding LABEL BYTES.. => TEXT..
+//! decode_with_utf_7 LABEL BYTES.. => TEXT..         under all charsets of the standard, and UTF-7
 //! ```
 
 use crate::notation::{Answer, Row};
-use mail_charsets::{Encoding, Indexes};
+use mail_charsets::{AllCharsets, Encoding, Indexes, WithUtf7};
+use mail_codec::charset::{Decode, KnownCharsets};
 use std::alloc::Global;
 
 /// Makes the call of a row, if it is one of these.
@@ -15,6 +17,7 @@ pub fn make(alloc: Global, row: &Row, answer: &mut Answer) -> bool {
     match row.call.as_str() {
         "encoding_for_label" => find_encodings(row, answer),
         "decode_encoding" => decode(alloc, row, answer),
+        "decode_with_utf_7" => decode_with_utf_7(alloc, row, answer),
         _ => return false,
     }
     true
@@ -51,5 +54,15 @@ fn decode(alloc: Global, row: &Row, answer: &mut Answer) {
     let indexes = Indexes::standard();
     for at in 1..row.count() {
         answer.made(encoding.decode_under(alloc, &indexes, row.bytes(at)));
+    }
+}
+
+/// The texts of bytes under a label that may be one of UTF-7.
+fn decode_with_utf_7(alloc: Global, row: &Row, answer: &mut Answer) {
+    let Some(charset) = WithUtf7(AllCharsets::standard()).for_label(row.bytes(0)) else {
+        return answer.word("none");
+    };
+    for at in 1..row.count() {
+        answer.made(charset.decode(alloc, row.bytes(at)));
     }
 }

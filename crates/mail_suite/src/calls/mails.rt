@@ -3,7 +3,7 @@
 //! - `mail BYTES => NODE..`, or the refusal. A NODE is `part`, how many parts it has, its type and
 //!   the label of its charset; `header` with a key and its value for each header; and then its body
 //!   as in the calls on bodies. The parts of a node follow it.
-//! - `tables BYTES => NODE..`: the same under the tables of `mail_tables`, where a NODE has its
+//! - `tables BYTES => NODE..`: the same under the tables of `mail_charsets`, where a NODE has its
 //!   parameters after the label, and after the headers its disposition and the text of its body.
 
 use crate::calls::bodies::push_body;

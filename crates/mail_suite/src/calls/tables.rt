@@ -1,12 +1,12 @@
 //! The calls that take tables of single-byte charsets.
 //!
-//! TABLES is `all`, those of `mail_tables`, or a text of tables that are made up, each as
+//! TABLES is `all`, those of `mail_charsets`, or a text of tables that are made up, each as
 //! `LABEL,LABEL:CHARACTER` with a semicolon between two: the bytes from 80 on are the 128 characters
 //! from this one on. OTHERS are tables too.
 //!
 //! ```text
 //! table_for_label TABLES LABEL.. => NUMBER | none ..
-//! labels_of_table NUMBER => LABEL.. | none          of the tables of `mail_tables`
+//! labels_of_table NUMBER => LABEL.. | none          of the tables of `mail_charsets`
 //! decode_with TABLES LABEL BYTES => TEXT | none     after a look for a byte order mark
 //! decode_without_bom_handling_with TABLES LABEL BYTES => TEXT | none
 //! get_value_with TABLES RAW => TEXT                 RAW stands after `X:`
@@ -26,8 +26,8 @@ use crate::calls::parameters::{
 };
 use crate::calls::values::raw_header;
 use crate::notation::{Answer, Row};
+use mail_charsets::TABLES;
 use mail_codec::charset::{SingleByteTable, table_for_label};
-use mail_tables::TABLES;
 use mailparse::body::Body;
 use mailparse::{
     MailParseError, ParsedMail, parse_content_disposition_with, parse_content_type_with,
@@ -149,7 +149,7 @@ fn own_tables<'t, 'r>(
     Ok(tables)
 }
 
-/// The tables of `mail_tables`, which each use of the constant would make dear to prove.
+/// The tables of `mail_charsets`, which each use of the constant would make dear to prove.
 pub fn all_tables() -> &'static [SingleByteTable<'static>] {
     &TABLES
 }
@@ -161,7 +161,7 @@ fn push_numbers(row: &Row, answer: &mut Answer, tables: &[SingleByteTable<'_>]) 
     }
 }
 
-/// Adds the labels of a table of `mail_tables`.
+/// Adds the labels of a table of `mail_charsets`.
 fn push_labels(row: &Row, answer: &mut Answer) {
     match all_tables().get(row.number(0)) {
         Some(table) => push_all(answer, table.labels),

@@ -1,0 +1,10 @@
+use Rattle.std.proofs.Common.{◌≡◌, ◌++◌, length, string_bytes}
+use Rattle.mail_charsets.specs.Utf7.{utf7_text}
+use Rattle.mail_charsets.proofs.utf_7.decode_utf_7.Given as goal
+
+-- what was made, and then the text of the rest, is all
+abbrev pub invariant-rest : goal.invariant-rest
+invariant-rest l = string_bytes l.text ++ utf7_text l.rest ≡ utf7_text l.bytes
+
+abbrev pub decreases-rest : goal.decreases-rest
+decreases-rest l = length l.rest
