@@ -1,8 +1,10 @@
 -- What the result of a search says of least places.
-use Rattle.std.proofs.Common.{◌≡◌, ℕ, ◌<◌, ◌≤◌, Bool, true, false, List, [], ◌∷◌, length, drop, Option, is_some, Some, None, refl, ◌∙◌, arith, length-drop}
+use Rattle.std.proofs.Common.{◌≡◌, ℕ, suc, ◌<◌, ◌≤◌, Bool, true, false, List, [], ◌∷◌, ◌++◌, length, drop, Option, is_some, Some, None, refl, ap, ◌∙◌, ⊎_elim, arith, length-drop}
+use Rattle.std.proofs.lemmas.Bool.{cases_lt}
+use Rattle.std.proofs.Math.ListN.{drop_of_length-le}
 use Rattle.mail_codec.specs.Places.{is_empty, place, place_from}
 use Rattle.mail_codec.proofs.lemmas.PlacesSearches.{place_none}
-use Rattle.mail_codec.proofs.lemmas.Places.{place_from_bounds, place_from_same, place_from_weaker}
+use Rattle.mail_codec.proofs.lemmas.Places.{first_place-before, place_from_bounds, place_from_same, place_from_weaker}
 
 -- a search that begins at a place and finds nothing
 pub place_from_none : (test : List ℕ → Bool) (bytes : List ℕ) (s : ℕ) → s ≤ length bytes → None ≡ place test (drop s bytes) → place_from test bytes s ≡ length bytes
@@ -29,3 +31,18 @@ not_some (Some x) h = cc
 pub not_empty : (bytes : List ℕ) → 0 < length bytes → is_empty bytes ≡ false
 not_empty [] h = absurd (omega arith)
 not_empty (b ∷ bytes) h = refl
+
+-- ---- a test that passes nowhere
+
+abbrev pub Nowhere : (List ℕ → Bool) → List ℕ → Type 0
+Nowhere test bytes = (k : ℕ) → test (drop k bytes) ≡ false
+
+pub nowhere_found : (test : List ℕ → Bool) (bytes : List ℕ) → test [] ≡ false → None ≡ place test bytes → Nowhere test bytes
+nowhere_found test bytes end none k =
+    let whole = place_none test bytes none in
+    ⊎_elim (λ low. first_place-before test bytes k (omega arith)) (λ past. ap test (drop_of_length-le bytes past) ∙ end) (cases_lt k (length bytes))
+
+-- nor in what stands at the end
+pub nowhere_behind : (test : List ℕ → Bool) (front bytes : List ℕ) → Nowhere test (front ++ bytes) → Nowhere test bytes
+nowhere_behind test [] bytes none = none
+nowhere_behind test (b ∷ front) bytes none = nowhere_behind test front bytes (λ k. none (suc k))

@@ -1,12 +1,15 @@
 -- Lemmas on the text that a quoted text stands for.
-use Rattle.std.proofs.Common.{◌≡◌, ◌≢◌, ℕ, suc, Bool, true, false, not, cond, eqb, ◌&&◌, List, [], ◌∷◌, ◌++◌, refl, sym, ap, ◌∙◌, append_assoc}
-use Rattle.std.proofs.lemmas.Bool.{cond-true, cond-false, and_right, eq-eqb, ne_eqb}
+use lib.Utf8.{encode}
+use Rattle.std.proofs.Common.{◌≡◌, ◌≢◌, ℕ, suc, Bool, true, false, not, cond, eqb, ◌&&◌, None, List, [], ◌∷◌, ◌++◌, refl, sym, ap, subst, ◌∙◌, append_assoc}
+use Rattle.std.proofs.lemmas.Bool.{cond-true, cond-false, and_right, eq-eqb, eqb-true, false≢true, ne_eqb}
 use Rattle.std.proofs.lemmas.List.{append-nil}
-use Rattle.std.proofs.lemmas.Str.{chars-nil, chars_past_char}
+use Rattle.std.proofs.lemmas.Str.{chars-nil, chars_past_char, encodes-chars}
 use Rattle.std.specs.Char.{encode_utf8}
 use Rattle.std.specs.Str.{chars, encode_utf8_all, IsUtf8}
 use Rattle.mail_codec.specs.Ascii.{backslash}
+use Rattle.mail_codec.specs.Places.{begins, place}
 use Rattle.mailparse.specs.Segments.{is_odd, without_escapes}
+use Rattle.mailparse.proofs.lemmas.Places.{Nowhere, nowhere_found, nowhere_behind}
 
 -- the characters that stay, by a flag: whether the first of them is escaped
 abbrev pub stays_after : Bool → List ℕ → List ℕ
@@ -67,3 +70,23 @@ stays_escaped c escaped e = and_right (eqb c backslash) (not escaped) (ap not e)
 
 pub stays_plain : (c : ℕ) (escaped : Bool) → c ≢ backslash → (eqb c backslash && not escaped) ≡ false
 stays_plain c escaped some = ap (λ t. t && not escaped) (ne_eqb c backslash some)
+
+-- a text without a backslash stays
+
+no_backslash_stays : (cs : List ℕ) → Nowhere (begins (λ b. eqb b backslash)) (encode_utf8_all cs) → without_escapes 0 cs ≡ cs
+unfolding encode
+no_backslash_stays [] none = refl
+no_backslash_stays (c ∷ cs) none = by_test (no_backslash_stays cs (nowhere_behind (begins (λ b. eqb b backslash)) (encode_utf8 c) (encode_utf8_all cs) none)) (eqb c backslash) refl
+  where
+    by_test : without_escapes 0 cs ≡ cs → (t : Bool) → eqb c backslash ≡ t → without_escapes 0 (c ∷ cs) ≡ c ∷ cs
+    by_test later true e =
+        let stands = ap (λ d. begins (λ b. eqb b backslash) (encode_utf8 d ++ encode_utf8_all cs)) (eqb-true c backslash e) in
+        absurd (false≢true (sym (none 0) ∙ stands))
+    by_test later false e = rw e (ap (λ x. c ∷ x) later)
+
+pub unescapes_nothing : (text : List ℕ) → IsUtf8 text → None ≡ place (begins (λ b. eqb b backslash)) text
+    → text ≡ encode_utf8_all (without_escapes 0 (chars text))
+unescapes_nothing text utf8 none =
+    let whole = encodes-chars text utf8 in
+    let absent = nowhere_found (begins (λ b. eqb b backslash)) text refl none in
+    sym whole ∙ ap encode_utf8_all (sym (no_backslash_stays (chars text) (subst (Nowhere (begins (λ b. eqb b backslash))) (sym whole) absent)))

@@ -1,5 +1,5 @@
 -- A plain value shows itself; the strict and the lenient reading agree.
-use Rattle.std.proofs.Common.{◌≡◌, ◌≢◌, ◌⊎◌, ℕ, suc, ◌<◌, ◌≤◌, Bool, true, false, cond, eqb, ltb, ◌&&◌, List, [], ◌∷◌, length, map, take, drop, get_or, None, Ok, Err, refl, zero-add, sym, ap, ◌∙◌, inl, inr, ⊎_elim, arith}
+use Rattle.std.proofs.Common.{◌≡◌, ◌≢◌, ◌⊎◌, ℕ, zero, suc, ◌<◌, ◌≤◌, Bool, true, false, cond, eqb, ltb, ◌&&◌, List, [], ◌∷◌, ◌++◌, length, map, take, drop, get_or, None, Some, Ok, Err, refl, zero-add, sym, ap, subst, ◌∙◌, inl, inr, ⊎_elim, arith}
 use Rattle.std.proofs.Math.Nat.{sub-zero}
 use Rattle.std.proofs.lemmas.Bool.{cond-true, cond-false, false≢true, eq-eqb, ne_eqb, cases_lt, or_from, and_left, and_right, le-ltb}
 use Rattle.std.proofs.lemmas.List.{append-nil, take_all, get_or_past, get_or_default}
@@ -7,20 +7,22 @@ use Rattle.std.proofs.lemmas.List.Elements.{All-head}
 use Rattle.std.proofs.lemmas.List.Splits.{slice_split_none}
 use Rattle.std.proofs.lemmas.Str.{chars-nil, chars-IsAscii, encodes-IsAscii, is_utf8-from_IsUtf8}
 use Rattle.std.specs.Char.{is_whitespace}
-use Rattle.std.specs.List.{All}
+use Rattle.std.specs.List.{All, join_with_byte}
 use Rattle.std.specs.Str.{trim_start, skip_leading_whitespace, encode_utf8_all, IsAscii, IsUtf8, is_utf8}
 use Rattle.std.specs.Str.Lines.{lines, lines_of_parts}
+use Rattle.mail_codec.specs.Ascii.{space}
 use Rattle.mail_codec.specs.Charset.{Charsets, four_charsets}
 use Rattle.mail_codec.specs.Latin1.{latin1_text}
 use Rattle.mail_codec.specs.Places.{first_place, begins, place}
-use Rattle.mailparse.specs.Tokens.{whitespace, plain_text, begins_opening, is_all_whitespace, opening, outside_range, last_group, no_opening}
+use Rattle.mailparse.specs.Tokens.{whitespace, plain_text, line_end, begins_opening, is_all_whitespace, opening, outside_range, last_group, no_opening}
 use Rattle.mailparse.specs.Refusal.{value_not_utf8}
 use Rattle.mailparse.proofs.lemmas.Value.{lenient-utf8}
 use Rattle.std.proofs.lemmas.Str.{IsUtf8-from_ascii}
-use Rattle.mailparse.specs.Value.{IsPlain, token_of, outside_token, line_tokens, tokens_of_lines, value_tokens, shown_tokens, shown_after, shown_value, lenient_value, lenient_value_in, strict_value}
+use Rattle.mailparse.specs.Value.{IsPlain, Token, newline, token_of, outside_token, line_tokens, tokens_of_lines, value_tokens, shown_tokens, shown_after, shown_value, lenient_value, lenient_value_in, strict_value}
 use Rattle.mail_codec.proofs.lemmas.Places.{first_place-≤, first_place-passes, first_place-before, begins-at}
 use Rattle.mail_codec.proofs.lemmas.PlacesSearches.{place_none}
-use Rattle.mailparse.proofs.lemmas.Shown.{token_of-outside}
+use Rattle.mailparse.proofs.lemmas.Places.{Nowhere, nowhere_found, nowhere_behind}
+use Rattle.mailparse.proofs.lemmas.Shown.{settled, token_of-outside}
 use Rattle.mailparse.proofs.lemmas.Tokens.{token_ranges_only}
 
 -- ---- printable ASCII
@@ -117,6 +119,45 @@ module _ (known : Charsets) where
       ∙ ap (λ l. shown_tokens (line_tokens known l)) (sym e)
       ∙ ap shown_tokens (line_tokens-first line (zero-add (first_place begins_opening line) ∙ none))
       ∙ shown_alone line)
+
+-- ---- the same of lines that are joined
+
+no_opening_front : (xs ys : List ℕ) → Nowhere begins_opening (xs ++ ys) → Nowhere begins_opening xs
+no_opening_front [] ys none zero = refl
+no_opening_front [] ys none (suc k) = refl
+no_opening_front (x ∷ []) ys none zero = and_right (eqb 61 x) false refl
+no_opening_front (x ∷ y ∷ xs) ys none zero = none 0
+no_opening_front (x ∷ xs) ys none (suc k) = no_opening_front xs ys (λ j. none (suc j)) k
+
+shown_outside : (line : List ℕ) (tokens : List Token) → shown_after None None (outside_token line ∷ tokens) ≡ line ++ shown_tokens tokens
+shown_outside line tokens = by_test (is_all_whitespace line)
+  where
+    by_test : (t : Bool) → shown_after None None (record { kind = cond t whitespace plain_text; shown = line } ∷ tokens) ≡ line ++ shown_tokens tokens
+    by_test true = ap (λ r. line ++ r) (settled None (Some whitespace) tokens refl refl)
+    by_test false = ap (λ r. line ++ r) (settled None (Some plain_text) tokens refl refl)
+
+shown_line_end : (tokens : List Token) → shown_after None None (newline ∷ tokens) ≡ space ∷ shown_tokens tokens
+shown_line_end tokens = ap (λ r. space ∷ r) (settled None (Some line_end) tokens refl refl)
+
+module _ (known : Charsets) where
+  shown_joined : (lines : List (List ℕ)) → Nowhere begins_opening (join_with_byte space lines)
+      → shown_tokens (tokens_of_lines known lines) ≡ join_with_byte space lines
+  shown_joined [] none = refl
+  shown_joined (line ∷ []) none = ap shown_tokens (line_tokens-plain known line none) ∙ shown_alone line
+  shown_joined (line ∷ next ∷ more) none =
+      let rest = space ∷ join_with_byte space (next ∷ more) in
+      let behind = nowhere_behind begins_opening line rest none in
+      ap (λ ts. shown_tokens (ts ++ (newline ∷ tokens_of_lines known (next ∷ more)))) (line_tokens-plain known line (no_opening_front line rest none))
+      ∙ shown_outside line (newline ∷ tokens_of_lines known (next ∷ more))
+      ∙ ap (λ r. line ++ r) (shown_line_end (tokens_of_lines known (next ∷ more))
+      ∙ ap (λ r. space ∷ r) (shown_joined (next ∷ more) (λ k. behind (suc k))))
+
+  -- lines without their leading whitespace that hold no `=?` once they are joined are what the value shows
+  pub shown_value-joined : (text joined : List ℕ) → joined ≡ join_with_byte space (map trim_start (lines text)) → None ≡ place begins_opening joined
+      → joined ≡ shown_value known text
+  unfolding shown_value value_tokens
+  shown_value-joined text joined e no_word =
+      e ∙ sym (shown_joined (map trim_start (lines text)) (subst (Nowhere begins_opening) e (nowhere_found begins_opening joined refl no_word)))
 
 -- ---- the strict reading
 

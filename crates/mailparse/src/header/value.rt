@@ -1,8 +1,12 @@
 //! The text that a header's value shows: its lines are unfolded (RFC 5322, section 2.2.3) and its
 //! encoded words decoded (RFC 2047, sections 2 and 4).
-ghost use Rattle.std.specs.Prelude.{◌≡◌, IfOk, IfSome};
+ghost use Rattle.std.specs.Prelude.{◌≡◌, map, IfOk, IfSome};
 ghost use Rattle.std.specs.Cow.{cow_str_bytes};
+ghost use Rattle.std.specs.List.{join_with_byte};
+ghost use Rattle.std.specs.Str.{trim_start};
+ghost use Rattle.std.specs.Str.Lines.{lines};
 ghost use Rattle.std.specs.String.{string_bytes};
+ghost use Rattle.mail_codec.specs.Ascii.{space};
 ghost use Rattle.mail_codec.specs.Charset.{Charsets};
 ghost use Rattle.mailparse.specs.Value.{shown_value};
 
@@ -40,8 +44,41 @@ pub(crate) fn value_ref<'v, K: KnownCharsets>(
 {
     match plain_line(text) {
         Some(line) => Ok(CowStr::Borrowed(line)),
-        None => Ok(CowStr::Owned(unfolded_value(alloc, text, known)?)),
+        None => Ok(CowStr::Owned(owned_value(alloc, text, known)?)),
     }
+}
+
+/// What a value with this text shows. Lines without `=?` are joined; all else is read token by
+/// token.
+fn owned_value<K: KnownCharsets>(alloc: Global, text: &str, known: &K) -> Result<String, AllocError>
+    ensures { IfOk result (λ value.
+        string_bytes value ≡ shown_value (K.known known.now) text.now) }
+{
+    if find_byte(text.as_bytes(), b'\n').is_some() {
+        let joined = joined_lines(alloc, text)?;
+        if find(joined.as_bytes(), b"=?").is_none() {
+            return Ok(joined);
+        }
+    }
+    unfolded_value(alloc, text, known)
+}
+
+/// The lines of a text without the whitespace at their front, and a space between two of them.
+fn joined_lines(alloc: Global, text: &str) -> Result<String, AllocError>
+    ensures { IfOk result (λ joined.
+        string_bytes joined ≡ join_with_byte space (map trim_start (lines text.now))) }
+{
+    let mut joined = String::with_capacity(alloc, text.len())?;
+    let mut is_first = true;
+    for line in text.lines() {
+        if is_first {
+            is_first = false;
+        } else {
+            joined.push(' ')?;
+        }
+        joined.push_str(line.trim_start())?;
+    }
+    Ok(joined)
 }
 
 /// What a value with this text shows, read token by token.

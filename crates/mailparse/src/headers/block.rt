@@ -1,5 +1,5 @@
 //! The block of headers at the front of a message.
-ghost use Rattle.std.specs.Prelude.{◌≡◌, ◌≤◌, length, vec_len, IfOk};
+ghost use Rattle.std.specs.Prelude.{◌≡◌, ◌≤◌, [], ◌∷◌, ◌++◌, length, vec_len, IfOk, OnOk};
 ghost use Rattle.mailparse.specs.Block.{block_end, header_count, read_headers};
 ghost use Rattle.mailparse.specs.Outcome.{Answers, AnswersOrMemory};
 ghost use Rattle.mailparse.specs.Views.{header_list};
@@ -7,7 +7,15 @@ ghost use Rattle.mailparse.specs.Views.{header_list};
 use crate::error::MailParseError;
 use crate::header::MailHeader;
 use crate::header::parse::parse_header;
-use std::alloc::Global;
+use std::alloc::{AllocError, Global};
+
+/// For how many headers memory is taken at most with the first one. Few blocks have more, so the
+/// list seldom grows.
+const FIRST_HEADERS: usize = 16;
+
+/// For each so many bytes of a message memory is taken for one header. Few headers are shorter, and
+/// many small parts so take little memory.
+const HEADER_BYTES: usize = 32;
 
 /// Reads the headers at the front of `raw` up to the blank line that ends them, or to the end of
 /// input, and returns them with the offset just after the blank line (RFC 5322, section 2.1).
@@ -55,9 +63,25 @@ pub fn parse_headers(
             return Ok((headers, place + length));
         }
         let (header, length) = parse_header(rest)?;
-        headers.push(header)?;
+        push_header(&mut headers, header, raw.len())?;
         place += length;
     }
+}
+
+/// Adds a header to the list of a message of so many bytes. With the first one memory is taken for
+/// some more.
+fn push_header<'a>(
+    headers: &mut Vec<MailHeader<'a>>,
+    header: MailHeader<'a>,
+    bytes: usize,
+) -> Result<(), AllocError>
+    ensures { OnOk result (headers.new.items ≡ headers.old.items ++ header.entry ∷ []) }
+{
+    if headers.is_empty() {
+        headers.reserve(FIRST_HEADERS.min(1 + bytes / HEADER_BYTES))?;
+    }
+    headers.push(header)?;
+    Ok(())
 }
 
 /// How many bytes the line takes that ends the block here, or `None` where a header is wanted.

@@ -1,5 +1,6 @@
 //! Looking headers up by their names.
-ghost use Rattle.std.specs.Prelude.{◌≡◌, map, List, IfOk, IsOk, IsNone, Ok, string_bytes};
+ghost use Rattle.std.specs.Prelude.{◌≡◌, ◌↔◌, map, List, IfOk, IsOk, IsNone, IsTrue, Ok, string_bytes};
+ghost use Rattle.std.specs.Char.{to_ascii_lowercase};
 ghost use Rattle.std.specs.Option.{option_copied};
 ghost use Rattle.std.specs.Str.{str_eq_ignore_ascii_case};
 ghost use Rattle.mail_codec.specs.Latin1.{latin1_text};
@@ -332,9 +333,21 @@ fn is_key(key: &[u8], name: &str) -> bool
     ensures { result ≡ str_eq_ignore_ascii_case (latin1_text key.now) name.now }
 {
     if name.is_ascii() {
-        return key.eq_ignore_ascii_case(name.as_bytes());
+        return is_same(key, name.as_bytes());
     }
     is_spelled_by(key, name)
+}
+
+/// Whether the bytes are the same ignoring ASCII case. They are first compared as they are, which is
+/// quicker: most mails spell a name as the caller does.
+fn is_same(key: &[u8], name: &[u8]) -> bool
+    ensures { IsTrue result ↔
+        (map to_ascii_lowercase key.now ≡ map to_ascii_lowercase name.now) }
+{
+    if key == name {
+        return true;
+    }
+    key.eq_ignore_ascii_case(name)
 }
 
 /// Whether the bytes of a key are the characters of the name, ignoring ASCII case.

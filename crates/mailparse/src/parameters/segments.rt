@@ -128,6 +128,9 @@ fn without_escapes(alloc: Global, text: &str) -> Result<String, AllocError>
     ensures { IfOk result (λ plain.
         string_bytes plain ≡ encode_utf8_all (without_escapes 0 (chars text.now))) }
 {
+    if find_byte(text.as_bytes(), b'\\').is_none() {
+        return String::from_str(alloc, text);
+    }
     let mut plain = String::with_capacity(alloc, text.len())?;
     let mut is_escaped = false;
     for c in text.chars() {

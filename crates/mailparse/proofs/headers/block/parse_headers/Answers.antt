@@ -61,8 +61,8 @@ returns-in_err-header-clause-read c =
     rw (p.1, p.2) (IsRefusalOrMemory-from c.in_err-header.field-0.0 (read_headers raw) (IsRefusal-along c.in_err-header.field-0.0 (read_header rest) (read_headers raw)
     (λ r e. refused_further raw c.loop-headers.headers.items c.loop-headers.place c.loop-headers.invariant.all r (block_end-header rest r (ends ∙ ap (λ o. Ok o) c.in_default.is) e)) refused))
 
-pub returns-in_err-push-clause-no_alloc : goal.returns-in_err-push-clause-no_alloc
-returns-in_err-push-clause-no_alloc c = λ none.
+pub returns-in_err-push_header-clause-no_alloc : goal.returns-in_err-push_header-clause-no_alloc
+returns-in_err-push_header-clause-no_alloc c = λ none.
     let found = rw take_rest at c.in_ok-header.ensures.read in
     let ends = rw take_rest at c.in_ok-length.ensures in
     let more = count_further c.args.raw.now c.loop-headers.place (c.in_ok-header.header, c.in_ok-header.length) (ends ∙ ap (λ o. Ok o) c.in_default.is) found in
@@ -93,12 +93,12 @@ loop-headers-preserved c =
     let ends = rw take_rest at c.in_ok-length.ensures in
     let none = ends ∙ ap (λ o. Ok o) c.in_default.is in
     let moves = place_further raw place (c.in_ok-header.header, c.in_ok-header.length) c.loop-headers.invariant.within none found in
-    let size : length c.push.new.self.items ≡ length c.loop-headers.headers.items + 1 = ap length c.in_ok-push.ensures.items ∙ length-append c.loop-headers.headers.items (c.in_ok-header.header ∷ []) in
+    let size : length c.push_header.new.headers.items ≡ length c.loop-headers.headers.items + 1 = ap length c.in_ok-push_header.ensures ∙ length-append c.loop-headers.headers.items (c.in_ok-header.header ∷ []) in
     let fewer = count_further raw place (c.in_ok-header.header, c.in_ok-header.length) none found in
     let count = c.loop-headers.invariant.count in
     record {
       within = moves.1;
-      all = rw c.in_ok-push.ensures.items (found_further raw c.loop-headers.headers.items place c.loop-headers.invariant.all (c.in_ok-header.header, c.in_ok-header.length) none found);
+      all = rw c.in_ok-push_header.ensures (found_further raw c.loop-headers.headers.items place c.loop-headers.invariant.all (c.in_ok-header.header, c.in_ok-header.length) none found);
       count = omega arith;
     }
 
