@@ -4,11 +4,11 @@ use crate::disk::Disk;
 use crate::lines::{Line, write_line};
 use crate::request::Request;
 use crate::save::{Saved, save_files};
+use mail_charsets::AllCharsets;
 use mail_data::inner_mails::InnerMail;
 use mail_data::mailbox::read_mailbox;
 use mail_program::{Fault, Outcome, read_input};
-use mail_tables::TABLES;
-use mailparse::{MailParseError, parse_mail_with};
+use mailparse::{MailParseError, parse_mail_in};
 use std::fs;
 use std::io::{self, BufWriter, ErrorKind, Read, Write};
 use std::rt::Files;
@@ -36,6 +36,7 @@ pub fn run(
         disk: Disk { rt, path: folder },
         number: FIRST_NUMBER,
         hashes: request.hashes,
+        known: AllCharsets::standard(),
         out: BufWriter::new(rt.alloc(), io::writer(rt))?,
     };
     let mut outcome = Outcome::Clean;
@@ -73,6 +74,8 @@ struct Saver<'r, R, W> {
     number: u64,
     /// Whether lines have the SHA-256 of what was saved.
     hashes: bool,
+    /// The charsets that mails are read in.
+    known: AllCharsets<'static>,
     /// What takes the lines.
     out: W,
 }
@@ -127,7 +130,7 @@ impl<'r, R: Files + Eprint + AllocGlobal, W: Write> Saver<'r, R, W> {
         raw: &[u8],
     ) -> Result<Outcome, Fault> {
         let alloc = self.rt.alloc();
-        match parse_mail_with(alloc, raw, &TABLES) {
+        match parse_mail_in(alloc, raw, &self.known) {
             Ok(parsed) => {
                 let number = &mut self.number;
                 let extracted = save_files(
@@ -136,7 +139,7 @@ impl<'r, R: Files + Eprint + AllocGlobal, W: Write> Saver<'r, R, W> {
                     number,
                     self.hashes,
                     &parsed,
-                    &TABLES,
+                    &self.known,
                 )?;
                 let saved = self.write_lines(file, mail, extracted.saved.as_slice())?;
                 Ok(saved.and(self.write_refused(file, mail, extracted.inside.as_slice())?))

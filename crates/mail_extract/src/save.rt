@@ -1,7 +1,6 @@
 //! Saving the files of a mail into a folder.
 ghost use Rattle.std.specs.Prelude.{◌≡◌, ◌++◌, [], List, Some, is_some, map, option_map, string_bytes, All, IfErr, IfOk, IfSome, OnOk};
 ghost use Rattle.std.specs.Result.{result_ok};
-ghost use Rattle.mail_codec.specs.Tables.{charsets_with};
 ghost use Rattle.mailparse.specs.Mail.{read_mail_in};
 ghost use Rattle.mailparse.specs.Outcome.{IsMemory};
 ghost use Rattle.mailparse.specs.Placement.{placements};
@@ -21,10 +20,10 @@ use crate::endings::ending_of;
 use crate::folder::{Created, Folder};
 use crate::hash::hash_if;
 use crate::names::{numbered, wanted_name};
-use mail_data::files::file_name_with;
+use mail_data::files::file_name;
 use mail_data::inner_mails::{InnerMail, inner_mails, places_under};
 use mail_data::places::{Place, places};
-use mailparse::{MailParseError, ParsedMail, SingleByteTable, parse_mail_with};
+use mailparse::{KnownCharsets, MailParseError, ParsedMail, parse_mail_in};
 use std::alloc::{AllocError, Global};
 use std::io::{self, ErrorKind};
 
@@ -61,35 +60,35 @@ enum Kept {
     Nowhere(io::Error),
 }
 
-/// Saves the files of a mail and of the mails inside it into a folder, where names may also be in
-/// the charsets of some tables. A name that is taken gets a number, the next one to be tried. Where
-/// it is wanted, files are hashed.
+/// Saves the files of a mail and of the mails inside it into a folder, their names read under the
+/// charsets that are known. A name that is taken gets a number, the next one to be tried. Where it
+/// is wanted, files are hashed.
 ///
 /// # Errors
 ///
 /// `MailParseError::Memory` where it runs out of memory.
-pub fn save_files<F: Folder>(
+pub fn save_files<F: Folder, K: KnownCharsets>(
     alloc: Global,
     folder: &mut F,
     number: &mut u64,
     hashes: bool,
     mail: &ParsedMail<'_>,
-    tables: &[SingleByteTable<'_>],
+    known: &K,
 ) -> Result<Extracted, MailParseError>
     ensures saved { IfOk result (λ extracted. (files : List File) → F.held folder.old ≡ Some files →
         (now : List File) × (F.held folder.new ≡ Some now)
         × AreSaved F.can_fail hashes files
-        (wanted_files (charsets_with tables.now) (tree_of mail.now) (placements_of mail.now))
+        (wanted_files (K.known known.now) (tree_of mail.now) (placements_of mail.now))
         number.old (map outcome extracted.saved.items) number.new now) }
     ensures inside { IfOk result (λ extracted. map inner_view extracted.inside.items
-        ≡ inner_mails (charsets_with tables.now) 100 [] (Some 0) (tree_of mail.now)
+        ≡ inner_mails (K.known known.now) 100 [] (Some 0) (tree_of mail.now)
         (placements_of mail.now)) }
     ensures safe { IfOk result (λ extracted.
         All (λ file. IfSome file.name (λ name. IsSafeName (string_bytes name)))
         extracted.saved.items) }
     ensures only_memory { IfErr result IsMemory }
 {
-    let inside = inner_mails(alloc, mail, tables)?;
+    let inside = inner_mails(alloc, mail, known)?;
     let found = places(alloc, mail)?;
     let mut saved = Vec::new(alloc);
     save_places(
@@ -98,23 +97,23 @@ pub fn save_files<F: Folder>(
         number,
         hashes,
         found.as_slice(),
-        tables,
+        known,
         &mut saved,
     )?;
     for inner in &inside {
-        save_inner(alloc, folder, number, hashes, inner, tables, &mut saved)?;
+        save_inner(alloc, folder, number, hashes, inner, known, &mut saved)?;
     }
     Ok(Extracted { saved, inside })
 }
 
 /// Saves the files of a mail inside a mail, unless it is refused, and adds what became of them.
-fn save_inner<F: Folder>(
+fn save_inner<F: Folder, K: KnownCharsets>(
     alloc: Global,
     folder: &mut F,
     number: &mut u64,
     hashes: bool,
     inner: &InnerMail,
-    tables: &[SingleByteTable<'_>],
+    known: &K,
     saved: &mut Vec<Saved>,
 ) -> Result<(), MailParseError>
     ensures saved { OnOk result ((files : List File) → F.held folder.old ≡ Some files →
@@ -122,7 +121,7 @@ fn save_inner<F: Folder>(
         × (outcomes : List Outcome)
         × (map outcome saved.new.items ≡ map outcome saved.old.items ++ outcomes)
         × AreSaved F.can_fail hashes files
-        (wanted_inside (charsets_with tables.now) (inner_view inner.now))
+        (wanted_inside (K.known known.now) (inner_view inner.now))
         number.old outcomes number.new now) }
     ensures safe { All (λ file. IfSome file.name (λ name. IsSafeName (string_bytes name)))
         saved.old.items → OnOk result
@@ -130,7 +129,7 @@ fn save_inner<F: Folder>(
         saved.new.items) }
     ensures only_memory { IfErr result IsMemory }
 {
-    match mail_of(alloc, inner, tables)? {
+    match mail_of(alloc, inner, known)? {
         Some(mail) => {
             let found = places_under(alloc, &mail, inner.path.as_str())?;
             save_places(
@@ -139,7 +138,7 @@ fn save_inner<F: Folder>(
                 number,
                 hashes,
                 found.as_slice(),
-                tables,
+                known,
                 saved,
             )?;
             Ok(())
@@ -149,18 +148,18 @@ fn save_inner<F: Folder>(
 }
 
 /// A mail inside a mail, read, unless it is refused.
-fn mail_of<'i>(
+fn mail_of<'i, K: KnownCharsets>(
     alloc: Global,
     inner: &'i InnerMail,
-    tables: &[SingleByteTable<'_>],
+    known: &K,
 ) -> Result<Option<ParsedMail<'i>>, MailParseError>
     ensures read { IfOk result (λ mail. option_map tree_of mail
-        ≡ result_ok (read_mail_in (charsets_with tables.now) 100 (inner_view inner.now).bytes)) }
+        ≡ result_ok (read_mail_in (K.known known.now) 100 (inner_view inner.now).bytes)) }
     ensures places { IfOk result (λ mail.
         IfSome mail (λ mail. placements_of mail ≡ placements 0 (tree_of mail))) }
     ensures only_memory { IfErr result IsMemory }
 {
-    match parse_mail_with(alloc, inner.bytes.as_slice(), tables) {
+    match parse_mail_in(alloc, inner.bytes.as_slice(), known) {
         Ok(mail) => Ok(Some(mail)),
         Err(MailParseError::Memory(error)) => Err(MailParseError::Memory(error)),
         Err(_) => Ok(None),
@@ -168,13 +167,13 @@ fn mail_of<'i>(
 }
 
 /// Saves the files among some parts, and adds what became of them.
-fn save_places<F: Folder>(
+fn save_places<F: Folder, K: KnownCharsets>(
     alloc: Global,
     folder: &mut F,
     number: &mut u64,
     hashes: bool,
     places: &[Place<'_, '_>],
-    tables: &[SingleByteTable<'_>],
+    known: &K,
     saved: &mut Vec<Saved>,
 ) -> Result<(), MailParseError>
     ensures saved { OnOk result ((files : List File) → F.held folder.old ≡ Some files →
@@ -182,7 +181,7 @@ fn save_places<F: Folder>(
         × (outcomes : List Outcome)
         × (map outcome saved.new.items ≡ map outcome saved.old.items ++ outcomes)
         × AreSaved F.can_fail hashes files
-        (wanted_among (charsets_with tables.now) (map place_view places.now))
+        (wanted_among (K.known known.now) (map place_view places.now))
         number.old outcomes number.new now) }
     ensures safe { All (λ file. IfSome file.name (λ name. IsSafeName (string_bytes name)))
         saved.old.items → OnOk result
@@ -191,32 +190,32 @@ fn save_places<F: Folder>(
     ensures only_memory { IfErr result IsMemory }
 {
     for place in places {
-        if is_saved(alloc, place.part, tables)? {
-            saved.push(save_file(alloc, folder, number, hashes, place, tables)?)?;
+        if is_saved(alloc, place.part, known)? {
+            saved.push(save_file(alloc, folder, number, hashes, place, known)?)?;
         }
     }
     Ok(())
 }
 
 /// Saves a file.
-fn save_file<F: Folder>(
+fn save_file<F: Folder, K: KnownCharsets>(
     alloc: Global,
     folder: &mut F,
     number: &mut u64,
     hashes: bool,
     place: &Place<'_, '_>,
-    tables: &[SingleByteTable<'_>],
+    known: &K,
 ) -> Result<Saved, MailParseError>
     ensures saved { IfOk result (λ saved. (files : List File) → F.held folder.old ≡ Some files →
         (now : List File) × (F.held folder.new ≡ Some now)
-        × IsSaved F.can_fail hashes files (wanted (charsets_with tables.now) (place_view place.now))
+        × IsSaved F.can_fail hashes files (wanted (K.known known.now) (place_view place.now))
         number.old (outcome saved) number.new now) }
     ensures safe { IfOk result (λ saved.
         IfSome saved.name (λ name. IsSafeName (string_bytes name))) }
     ensures only_memory { IfErr result IsMemory }
 {
     let content = content_of(alloc, place.part)?;
-    let name = file_name_with(alloc, place.part, tables)?;
+    let name = file_name(alloc, place.part, known)?;
     let wanted = wanted_name(alloc, name, ending_of(place.part))?;
     let bytes = content.bytes.as_slice();
     let sha256 = hash_if(alloc, hashes, bytes)?;

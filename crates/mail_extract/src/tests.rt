@@ -24,7 +24,7 @@ fn files_of_one_name_get_numbers(rt: HostRuntime) -> Result<(), Fail> {
     };
     let mut number = 2;
     let mail = parse_mail(alloc, MAIL)?;
-    let saved = save_files(alloc, &mut folder, &mut number, true, &mail, &[])?.saved;
+    let saved = save_files(alloc, &mut folder, &mut number, true, &mail, &())?.saved;
     assert_eq!(rt; number, 3);
     assert_eq!(rt; folder.files.len(), 4);
     assert_eq!(rt; folder.files[0].name.as_str(), "_.._a.txt");

@@ -1,5 +1,4 @@
 use Rattle.std.proofs.Common.{Option, Some, None, List, ℕ, length, string_bytes, refl, sym, ap, ◌∙◌}
-use Rattle.mail_codec.specs.Tables.{charsets_with}
 use Rattle.mailparse.specs.Mail.{root}
 use Rattle.mailparse.specs.Outcome.{refusal_of}
 use Rattle.mailparse.specs.Views.{tree_of}
@@ -13,7 +12,7 @@ use Rattle.mail_extract.proofs.save.save_file.Goals as goal
 
 pub returns-in_ok-error-in-As-clause-saved : goal.returns-in_ok-error-in-As-clause-saved
 returns-in_ok-error-in-As-clause-saved g c = λ files e.
-    let known = charsets_with c.args.tables.now in
+    let known = g.K.KnownCharsets.known c.args.known.now in
     let kept = c.in_ok-kept.ensures.kept files e in
     let node = root (tree_of c.args.place.now.part.now) in
     let name = c.in_ok-wanted.ensures.read ∙ ap (λ (n : Option (List ℕ)). wanted_name n c.ending_of.result.now) (sym (read_value _ _ c.in_ok-name.ensures))
@@ -31,7 +30,7 @@ returns-in_ok-error-in-As-clause-saved g c = λ files e.
 
 pub returns-in_ok-error-in-Nowhere-clause-saved : goal.returns-in_ok-error-in-Nowhere-clause-saved
 returns-in_ok-error-in-Nowhere-clause-saved g c = λ files e.
-    let known = charsets_with c.args.tables.now in
+    let known = g.K.KnownCharsets.known c.args.known.now in
     let kept = c.in_ok-kept.ensures.kept files e in
     let node = root (tree_of c.args.place.now.part.now) in
     let name = c.in_ok-wanted.ensures.read ∙ ap (λ (n : Option (List ℕ)). wanted_name n c.ending_of.result.now) (sym (read_value _ _ c.in_ok-name.ensures))

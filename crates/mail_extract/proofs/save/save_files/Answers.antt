@@ -2,7 +2,6 @@ use Rattle.std.proofs.Common.{◌+◌, ◌++◌, List, [], Some, All, IfSome, st
 use Rattle.std.specs.Prelude.{flat_map}
 use Rattle.std.proofs.lemmas.List.{drop_all}
 use Rattle.std.proofs.lemmas.List.Elements.{All-nil}
-use Rattle.mail_codec.specs.Tables.{charsets_with}
 use Rattle.mailparse.specs.Views.{placements_of, tree_of}
 use Rattle.mail_data.proofs.lemmas.InnerMails.{drop_next}
 use Rattle.mail_data.specs.InnerMails.{InnerMail, inner_mails}
@@ -18,7 +17,7 @@ use Rattle.mail_extract.proofs.save.save_files.Goals as goal
 
 pub loop-inner-init : goal.loop-inner-init
 loop-inner-init g c =
-    let known = charsets_with c.args.tables.now in
+    let known = g.K.KnownCharsets.known c.args.known.now in
     let items = c.deref-inner-items.result.now in
     let own = ap (λ ps. wanted_among known (map place_view ps)) c.as_slice.ensures.value ∙ ap (wanted_among known) c.in_ok-found.ensures in
     let inside = ap (map inner_view) c.deref-inner-items.ensures.value ∙ sym (read_value (inner_mails known 100 [] (Some 0) (tree_of c.args.mail.now) (placements_of c.args.mail.now)) (map inner_view c.in_ok-inside.inside.items) c.in_ok-inside.ensures) in
@@ -39,7 +38,7 @@ loop-inner-init g c =
 
 pub loop-inner-preserved : goal.loop-inner-preserved
 loop-inner-preserved g c =
-    let known = charsets_with c.args.tables.now in
+    let known = g.K.KnownCharsets.known c.args.known.now in
     let items = c.deref-inner-items.result.now in
     let i = c.loop-inner.inner-index in
     let left = ap (map inner_view) (drop_next items i c.inner-item.result (omega arith) c.inner-item.is) in
@@ -58,7 +57,7 @@ loop-inner-preserved g c =
 
 pub returns-clause-saved : goal.returns-clause-saved
 returns-clause-saved g c = λ files e.
-    let known = charsets_with c.args.tables.now in
+    let known = g.K.KnownCharsets.known c.args.known.now in
     let none = drop_all c.loop-inner.inner-index c.deref-inner-items.result.now (omega arith) in
     let here = c.loop-inner.invariant.all files e in (
       here.0,

@@ -1,7 +1,6 @@
 -- What came of the files so far, and then of those of the mails that are left, is what the contract says; and each name so far is safe.
 use Rattle.std.proofs.Common.{◌≡◌, List, Some, map, drop, string_bytes, All, IfSome}
 use Rattle.std.specs.Prelude.{flat_map}
-use Rattle.mail_codec.specs.Tables.{charsets_with}
 use Rattle.mailparse.specs.Views.{placements_of, tree_of}
 use Rattle.mail_data.specs.FileNames.{IsSafeName}
 use Rattle.mail_data.specs.InnerMailViews.{inner_view}
@@ -15,7 +14,7 @@ abbrev pub invariant-loop-inner : goal.invariant-loop-inner
 invariant-loop-inner g l = record {
   all : (files : List File) → g.F.Folder.held l.fn.folder ≡ Some files
       → (mid : List File) × (g.F.Folder.held l.folder ≡ Some mid)
-      × Continues g.F.Folder.can_fail l.hashes files (wanted_files (charsets_with l.tables) (tree_of l.mail) (placements_of l.mail)) l.fn.number
-      (map outcome l.saved.items) (flat_map (wanted_inside (charsets_with l.tables)) (map inner_view (drop l.inner-index l.inner-items))) l.number mid;
+      × Continues g.F.Folder.can_fail l.hashes files (wanted_files (g.K.KnownCharsets.known l.known) (tree_of l.mail) (placements_of l.mail)) l.fn.number
+      (map outcome l.saved.items) (flat_map (wanted_inside (g.K.KnownCharsets.known l.known)) (map inner_view (drop l.inner-index l.inner-items))) l.number mid;
   each : All (λ file. IfSome file.name (λ name. IsSafeName (string_bytes name))) l.saved.items;
 }

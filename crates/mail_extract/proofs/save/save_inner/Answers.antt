@@ -1,6 +1,5 @@
 use Rattle.std.proofs.Common.{◌≡◌, List, [], map, option_map, refl, sym, ap, subst, ◌∙◌}
 use Rattle.std.proofs.lemmas.List.{append-nil}
-use Rattle.mail_codec.specs.Tables.{charsets_with}
 use Rattle.mailparse.specs.Placement.{placements}
 use Rattle.mailparse.specs.Views.{placements_of, tree_of}
 use Rattle.mail_data.specs.InnerMailViews.{inner_view}
@@ -11,7 +10,7 @@ use Rattle.mail_extract.proofs.save.save_inner.Goals as goal
 
 pub returns-in_ok-save_places-in-Some-clause-saved : goal.returns-in_ok-save_places-in-Some-clause-saved
 returns-in_ok-save_places-in-Some-clause-saved g c = λ files e.
-    let known = charsets_with c.args.tables.now in
+    let known = g.K.KnownCharsets.known c.args.known.now in
     let inner = inner_view c.args.inner.now in
     let mail = c.in-Some.mail in
     let read = ap (option_map tree_of) (sym c.in-Some.is) ∙ c.in_ok-mail.ensures.read in
@@ -29,7 +28,7 @@ returns-in_ok-save_places-in-Some-clause-saved g c = λ files e.
 
 pub returns-in-None-clause-saved : goal.returns-in-None-clause-saved
 returns-in-None-clause-saved g c = λ files e.
-    let known = charsets_with c.args.tables.now in
+    let known = g.K.KnownCharsets.known c.args.known.now in
     let inner = inner_view c.args.inner.now in
     let read = ap (option_map tree_of) (sym c.in-None.is) ∙ c.in_ok-mail.ensures.read in (
       files,

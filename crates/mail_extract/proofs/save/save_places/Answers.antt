@@ -1,6 +1,5 @@
 use Rattle.std.proofs.Common.{◌+◌, ℕ, [], ◌∷◌, ◌++◌, drop, map, string_bytes, All, IfSome, sym, ap, subst, ◌∙◌, arith}
 use Rattle.std.proofs.lemmas.List.{append-nil, drop_all}
-use Rattle.mail_codec.specs.Tables.{charsets_with}
 use Rattle.mail_data.proofs.lemmas.InnerMails.{drop_next}
 use Rattle.mail_data.specs.FileNames.{IsSafeName}
 use Rattle.mail_data.specs.PlaceViews.{place_view}
@@ -15,7 +14,7 @@ loop-place-init g c = record { all = λ files e. (files, e, [], sym (append-nil 
 
 pub loop-place-preserved : goal.loop-place-preserved
 loop-place-preserved g c =
-    let known = charsets_with c.args.tables.now in
+    let known = g.K.KnownCharsets.known c.args.known.now in
     let items = c.args.places.now in
     let all = wanted_among known (map place_view items) in
     let i = c.loop-place.place-index in
@@ -65,7 +64,7 @@ loop-place-preserved g c =
 
 pub returns-clause-saved : goal.returns-clause-saved
 returns-clause-saved g c = λ files e.
-    let known = charsets_with c.args.tables.now in
+    let known = g.K.KnownCharsets.known c.args.known.now in
     let items = c.args.places.now in
     let none = drop_all c.loop-place.place-index items (omega arith) in
     let here = c.loop-place.invariant.all files e in (
