@@ -81,17 +81,19 @@ def ids_of(lines):
     return [unhex(lines.take("id")) for _ in range(int(rest.removeprefix("ok ")))]
 
 
-def mail_of(lines, raw):
+def mail_of(lines, raw, items_of):
+    """What is written of each node of a mail, or the refusal."""
     rest = lines.take("mail")
     if rest.startswith("err "):
         return ["error", rest[4:].encode()]
     items = []
     while (node := lines.take("node")) is not None:
-        items += node_of(lines, node, raw)
+        items += ["part", node.rpartition(" ")[2], *items_of(*node_of(lines, raw))]
     return items
 
 
-def node_of(lines, node, raw):
+def node_of(lines, raw):
+    """The type of a node, its headers, its disposition, its body, and the text of that."""
     body = b""
     while (place := lines.take("at")) is not None:
         name, start, end = place.split(" ")
@@ -108,11 +110,19 @@ def node_of(lines, node, raw):
         headers += ["header", unhex(fields["name"]), unhex(fields["value"])]
         while lines.take("date", "ids", "id", "idtext") is not None:
             pass
-    ctype = lines.ctype()
-    lines.disposition()
-    items = ["part", node.rpartition(" ")[2], *ctype[:2], *headers, *lines.body(body)]
-    lines.take("getbodyraw"), lines.take("getbody")
-    return items
+    ctype, disposition, body = lines.ctype(), lines.disposition(), lines.body(body)
+    lines.take("getbodyraw")
+    return ctype, headers, disposition, body, lines.outcome("getbody")
+
+
+def plain_items(ctype, headers, _disposition, body, _text):
+    """What `mail` writes of a node."""
+    return [*ctype[:2], *headers, *body]
+
+
+def items_under(ctype, headers, disposition, _body, text):
+    """What `mail_under` writes of a node."""
+    return [*ctype, *headers, *disposition, *text]
 
 
 def header_of(lines):
@@ -194,8 +204,24 @@ ORACLE = {
     "get_first_value": ("find", lambda row: row.inputs[1] + b"\0" + row.inputs[0], values_found),
     "get_all_values": ("find", lambda row: row.inputs[1] + b"\0" + row.inputs[0], values_found),
     "debug_headers": ("debug", lambda row: row.inputs[0], lambda lines, row: [unhex(lines.take("debug"))]),
-    "mail": ("dump", lambda row: row.inputs[0], lambda lines, row: mail_of(lines, row.inputs[0])),
+    "mail": ("dump", lambda row: row.inputs[0], lambda lines, row: mail_of(lines, row.inputs[0], plain_items)),
+    "value_under": ("value", lambda row: row.inputs[1], lambda lines, row: [unhex(lines.take("value"))]),
+    "type_under": ("ctype", lambda row: row.inputs[1], lambda lines, row: lines.ctype()),
+    "disposition_under": ("dispo", lambda row: row.inputs[1], lambda lines, row: lines.disposition()),
+    "body_under": ("body", lambda row: b"\0".join(b"" if it == "none" else it for it in row.inputs[1:]),
+                   lambda lines, row: text_of(lines.body(row.inputs[3]))),
+    "mail_under": ("dump", lambda row: row.inputs[1], lambda lines, row: mail_of(lines, row.inputs[1], items_under)),
 }
+
+
+def text_of(body):
+    """The text of a body, or the refusal."""
+    return body[-2:] if body[-2] == "error" else body[-1:]
+
+
+def has_call(row, calls):
+    """Whether there is the call of a row. Neither the crate nor Python takes tables that are made up."""
+    return row.call in calls and (not row.call.endswith("_under") or row.inputs[0] == "all")
 
 
 def by_oracle(program, rows):
@@ -291,7 +317,7 @@ def main():
     kind, calls = ("crate", ORACLE) if words.oracle else ("python", PYTHON)
     left_out = r"/long_" if words.oracle else r"/(long|generated)_"
     files = words.files or sorted(it for it in glob.glob(f"{DATA}/*.txt") if not re.search(left_out, it))
-    rows = [row for file in files for row in rows_in(file) if row.call in calls]
+    rows = [row for file in files for row in rows_in(file) if has_call(row, calls)]
     answers = by_oracle(words.oracle, rows) if words.oracle else map(by_python, rows)
     failed, names = 0, known_names()
     for row, found in zip(rows, answers):

@@ -1,5 +1,6 @@
 //! The calls of the codecs and of the port, by topic.
 
+mod all_charsets;
 pub mod bodies;
 mod charsets;
 mod decoders;
@@ -40,5 +41,6 @@ pub fn make(alloc: Global, row: &Row, answer: &mut Answer) -> bool {
         || transfer::make(alloc, row, answer)
         || tables::make(alloc, row, answer)
         || decoders::make(alloc, row, answer)
+        || all_charsets::make(alloc, row, answer)
         || sweeps::make(alloc, row, answer)
 }

@@ -92,13 +92,13 @@ fn call_with(
 
 /// A table that a row makes up.
 #[derive(Drop)]
-struct MadeUp<'r> {
+pub struct MadeUp<'r> {
     labels: Vec<&'r str>,
     high: [char; 128],
 }
 
 /// The tables that a text makes up.
-fn made_up(alloc: Global, text: &str) -> Result<Vec<MadeUp<'_>>, MailParseError> {
+pub fn made_up(alloc: Global, text: &str) -> Result<Vec<MadeUp<'_>>, MailParseError> {
     let mut found = Vec::new(alloc);
     for table in text.split(';') {
         if let Some((labels, first)) = table.split_once(':') {
@@ -135,7 +135,7 @@ fn characters_from(first: char) -> [char; 128] {
 }
 
 /// The same tables as the calls take them.
-fn own_tables<'t, 'r>(
+pub fn own_tables<'t, 'r>(
     alloc: Global,
     made_up: &'t [MadeUp<'r>],
 ) -> Result<Vec<SingleByteTable<'t>>, AllocError> {
