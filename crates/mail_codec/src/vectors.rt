@@ -1,4 +1,4 @@
-//! Vectors of sixteen bytes, and for pairs of 32, all of which are tested or mapped at once.
+//! Vectors of sixteen bytes, and for pairs of 64, all of which are tested or mapped at once.
 //!
 //! Each operation is a small function with a contract of its own, and is inlined.
 

@@ -1,5 +1,5 @@
 -- Two bytes, one right after the other, in vectors.
-use Rattle.std.proofs.Common.{◌≡◌, ℕ, zero, suc, ◌+◌, ◌<◌, ◌≤◌, ◌≢◌, ◌^◌, ◌%◌, Bool, true, false, cond, ◌==◌, ◌&&◌, bit_and, bit_or, List, [], ◌∷◌, map, length, take, drop, replicate, inl, inr, refl, sym, ap, subst, ◌∙◌, arith}
+use Rattle.std.proofs.Common.{◌≡◌, ℕ, zero, suc, ◌+◌, ◌<◌, ◌≤◌, ◌≢◌, ◌^◌, ◌%◌, Bool, true, false, cond, ◌==◌, ◌&&◌, bit_and, List, [], ◌∷◌, map, length, take, drop, replicate, inl, inr, refl, sym, ap, ◌∙◌, arith}
 use Rattle.std.proofs.lemmas.Bool.{cases_eq, cases_lt, ne_eqb}
 use Rattle.std.proofs.lemmas.List.{drop-drop, length-drop, length-map, length-take-le}
 use Rattle.std.proofs.lemmas.Simd.{length-zip2, mask_l-mod, zip2_splat}
@@ -7,7 +7,6 @@ use Rattle.mail_codec.specs.Places.{first_place, begins, stands}
 use Rattle.mail_codec.specs.private.Vectors.{is_set, lane_mask, pair_flags}
 use Rattle.std.specs.Int.{w64, trailing_zeros}
 use Rattle.mail_codec.proofs.lemmas.Places.{PassedTo, first_place-≤, first_place-drop}
-use Rattle.mail_codec.proofs.lemmas.PlacesSearches.{both_zero}
 use Rattle.mail_codec.proofs.lemmas.Blocks.{free_mask}
 use Rattle.mail_codec.proofs.lemmas.Vectors.{no_mark, lowest_mark}
 use lib.Lanes.{zip2, mask_l, top}
@@ -26,11 +25,11 @@ flags_marked a c [] w = refl
 flags_marked a c (x ∷ v) [] = refl
 flags_marked a c (x ∷ v) (y ∷ w) = (λ i. both (x == a) (y == c) i ∷ flags_marked a c v w i)
 
-pub pair_marked : (a c : ℕ) (v w : List ℕ) → length v ≡ 32 → length w ≡ 32
-    → mask_l (map (top 7) (zip2 bit_and (zip2 (λ x y. cond (x == y) 255 0) v (replicate 32 a)) (zip2 (λ x y. cond (x == y) 255 0) w (replicate 32 c)))) % 2 ^ 64
+pub pair_marked : (a c : ℕ) (v w : List ℕ) → length v ≡ 64 → length w ≡ 64
+    → mask_l (map (top 7) (zip2 bit_and (zip2 (λ x y. cond (x == y) 255 0) v (replicate 64 a)) (zip2 (λ x y. cond (x == y) 255 0) w (replicate 64 c)))) % 2 ^ 64
     ≡ lane_mask is_set (pair_flags a c v w)
 pair_marked a c v w long wide =
-    (λ i. mask_l (map (top 7) (zip2 bit_and (zip2_splat (λ x y. cond (x == y) 255 0) v 32 a long i) (zip2_splat (λ x y. cond (x == y) 255 0) w 32 c wide i))) % 2 ^ 64)
+    (λ i. mask_l (map (top 7) (zip2 bit_and (zip2_splat (λ x y. cond (x == y) 255 0) v 64 a long i) (zip2_splat (λ x y. cond (x == y) 255 0) w 64 c wide i))) % 2 ^ 64)
     ∙ ap (λ l. mask_l l % 2 ^ 64) (flags_marked a c v w)
     ∙ mask_l-mod (map is_set (pair_flags a c v w)) 64 (omega (arith, length-map (pair_flags a c v w) is_set, length-zip2 {C = ℕ} (λ b d. cond (b == a && d == c) 1 0) v w (long ∙ sym wide), long))
 
@@ -90,21 +89,21 @@ found_flags a c (suc n) (x ∷ y ∷ rest) h e =
     go true t e more = rw t refl
     go false t e more = rw t (ap suc (more (omega arith)))
 
--- ---- steps of the search, whose vectors are 32 bytes from a place on and from the next place on
+-- ---- steps of the search, whose vectors are 64 bytes from a place on and from the next place on
 
 abbrev pub front : List ℕ → ℕ → List ℕ
-front bytes at = take 32 (drop at bytes)
+front bytes at = take 64 (drop at bytes)
 
 abbrev pub flags_at : ℕ → ℕ → List ℕ → ℕ → List ℕ
 flags_at a c bytes at = pair_flags a c (front bytes at) (front bytes (at + 1))
 
-flags_there : (a c : ℕ) (bytes : List ℕ) (at : ℕ) → flags_at a c bytes at ≡ flags a c 32 (drop at bytes)
-flags_there a c bytes at = ap (λ r. pair_flags a c (take 32 (drop at bytes)) (take 32 r)) (sym (drop-drop 1 at bytes))
+flags_there : (a c : ℕ) (bytes : List ℕ) (at : ℕ) → flags_at a c bytes at ≡ flags a c 64 (drop at bytes)
+flags_there a c bytes at = ap (λ r. pair_flags a c (take 64 (drop at bytes)) (take 64 r)) (sym (drop-drop 1 at bytes))
 
-front_long : (bytes : List ℕ) (at : ℕ) → at + 32 ≤ length bytes → length (front bytes at) ≡ 32
-front_long bytes at h = length-take-le 32 (drop at bytes) (omega (arith, length-drop at bytes))
+front_long : (bytes : List ℕ) (at : ℕ) → at + 64 ≤ length bytes → length (front bytes at) ≡ 64
+front_long bytes at h = length-take-le 64 (drop at bytes) (omega (arith, length-drop at bytes))
 
-flags_at_long : (a c : ℕ) (bytes : List ℕ) (at : ℕ) → at + 33 ≤ length bytes → length (flags_at a c bytes at) ≡ 32
+flags_at_long : (a c : ℕ) (bytes : List ℕ) (at : ℕ) → at + 65 ≤ length bytes → length (flags_at a c bytes at) ≡ 64
 flags_at_long a c bytes at h =
     length-zip2 {C = ℕ} (λ b d. cond (b == a && d == c) 1 0) (front bytes at) (front bytes (at + 1)) (front_long bytes at (omega arith) ∙ sym (front_long bytes (at + 1) (omega arith))) ∙ front_long bytes at (omega arith)
 
@@ -118,86 +117,57 @@ alone a c (x ∷ []) h = by_first (a == x)
     by_first false = refl
 alone a c (x ∷ y ∷ rest) h = absurd (omega arith)
 
--- the last 33 bytes, of which some were passed over before
+-- the last 65 bytes, of which some were passed over before
 pub last_pairs : (a c : ℕ) (bytes : List ℕ) (at last : ℕ) → PassedTo (stands (a ∷ c ∷ [])) bytes (first_place (stands (a ∷ c ∷ [])) bytes) at
-    → last + 33 ≡ length bytes → last ≤ at → PassedTo (stands (a ∷ c ∷ [])) bytes (first_place (stands (a ∷ c ∷ [])) bytes) last
+    → last + 65 ≡ length bytes → last ≤ at → PassedTo (stands (a ∷ c ∷ [])) bytes (first_place (stands (a ∷ c ∷ [])) bytes) last
 last_pairs a c bytes at last h ends back =
     let later = h.later in
     let seen = first_place-drop (stands (a ∷ c ∷ [])) bytes last (omega arith) in
     record { within = omega arith; later = omega arith }
 
 -- what the mask of the pairs at a place tells
-module _ (a c : ℕ) (bytes : List ℕ) (at mask : ℕ) (fits : at + 33 ≤ length bytes) (marks : mask ≡ lane_mask is_set (flags_at a c bytes at)) where
-  long : length (flags_at a c bytes at) ≡ 32
+module _ (a c : ℕ) (bytes : List ℕ) (at mask : ℕ) (fits : at + 65 ≤ length bytes) (marks : mask ≡ lane_mask is_set (flags_at a c bytes at)) where
+  long : length (flags_at a c bytes at) ≡ 64
   long = flags_at_long a c bytes at fits
 
-  same : first_place (begins is_set) (flags_at a c bytes at) ≡ first_place (begins is_set) (flags a c 32 (drop at bytes))
+  same : first_place (begins is_set) (flags_at a c bytes at) ≡ first_place (begins is_set) (flags a c 64 (drop at bytes))
   same = ap (first_place (begins is_set)) (flags_there a c bytes at)
 
   -- the lowest bit is that of the first place
-  first : mask ≢ 0 → (trailing_zeros w64 mask ≡ first_place (begins is_set) (flags_at a c bytes at)) × (trailing_zeros w64 mask < 32)
+  first : mask ≢ 0 → (trailing_zeros w64 mask ≡ first_place (begins is_set) (flags_at a c bytes at)) × (trailing_zeros w64 mask < 64)
   first some =
       let is = lowest_mark is_set (flags_at a c bytes at) mask (omega (arith, long)) marks some in (
         is,
-        elim (cases_lt (first_place (begins is_set) (flags_at a c bytes at)) 32) [
+        elim (cases_lt (first_place (begins is_set) (flags_at a c bytes at)) 64) [
           | inl low ↦ omega (arith, is, low)
           | inr high ↦ absurd (some (marks ∙ free_mask is_set (flags_at a c bytes at) (omega (arith, high, long, first_place-≤ (begins is_set) (flags_at a c bytes at)))))
         ],
       )
 
-  pub pair_within : mask ≢ 0 → trailing_zeros w64 mask < 32
+  pub pair_within : mask ≢ 0 → trailing_zeros w64 mask < 64
   pair_within some = (first some).1
 
   pub pair_found : (answer : ℕ) → PassedTo (stands (a ∷ c ∷ [])) bytes answer at → mask ≢ 0 → at + trailing_zeros w64 mask ≡ answer
   pair_found answer h some =
       let is = first some in
-      let here = found_flags a c 32 (drop at bytes) (omega (arith, fits, length-drop at bytes)) (omega (arith, same, is.0, is.1)) in
+      let here = found_flags a c 64 (drop at bytes) (omega (arith, fits, length-drop at bytes)) (omega (arith, same, is.0, is.1)) in
       let later = h.later in
       omega (arith, same, is.0, here, later)
 
-  -- where there is none, the search goes on after 32
-  pub pair_passed : (answer : ℕ) → PassedTo (stands (a ∷ c ∷ [])) bytes answer at → mask ≡ 0 → PassedTo (stands (a ∷ c ∷ [])) bytes answer (at + 32)
+  -- where there is none, the search goes on after 64
+  pub pair_passed : (answer : ℕ) → PassedTo (stands (a ∷ c ∷ [])) bytes answer at → mask ≡ 0 → PassedTo (stands (a ∷ c ∷ [])) bytes answer (at + 64)
   pair_passed answer h none =
       let free = no_mark is_set (flags_at a c bytes at) mask marks none in
-      let on = free_flags a c 32 (drop at bytes) (omega (arith, fits, length-drop at bytes)) (sym same ∙ sym free ∙ long) in
+      let on = free_flags a c 64 (drop at bytes) (omega (arith, fits, length-drop at bytes)) (sym same ∙ sym free ∙ long) in
       let later = h.later in
-      let there = ap (first_place (stands (a ∷ c ∷ []))) (drop-drop 32 at bytes) in
+      let there = ap (first_place (stands (a ∷ c ∷ []))) (drop-drop 64 at bytes) in
       record { within = omega (arith, fits); later = omega (arith, there, later, on) }
 
-  -- no pair is left after the last 33 bytes
-  pub pair_absent : PassedTo (stands (a ∷ c ∷ [])) bytes (first_place (stands (a ∷ c ∷ [])) bytes) at → at + 33 ≡ length bytes → mask ≡ 0
+  -- no pair is left after the last 65 bytes
+  pub pair_absent : PassedTo (stands (a ∷ c ∷ [])) bytes (first_place (stands (a ∷ c ∷ [])) bytes) at → at + 65 ≡ length bytes → mask ≡ 0
       → length bytes ≡ first_place (stands (a ∷ c ∷ [])) bytes
   pair_absent h ends none =
       let on = pair_passed _ h none in
       let later = on.later in
-      let one = alone a c (drop (at + 32) bytes) (omega (arith, ends, length-drop (at + 32) bytes)) in
+      let one = alone a c (drop (at + 64) bytes) (omega (arith, ends, length-drop (at + 64) bytes)) in
       omega (arith, ends, later, one)
-
--- where four masks put together are 0, the search goes on after all four
-moved : {test : List ℕ → Bool} {bytes : List ℕ} {answer i j : ℕ} → PassedTo test bytes answer i → i ≡ j → PassedTo test bytes answer j
-moved {test} {bytes} {answer} p e = subst (PassedTo test bytes answer) e p
-
-pub block_free : (a c : ℕ) (bytes : List ℕ) (at one two three four : ℕ) → at + 129 ≤ length bytes → one ≡ lane_mask is_set (flags_at a c bytes at)
-    → two ≡ lane_mask is_set (flags_at a c bytes (at + 32)) → three ≡ lane_mask is_set (flags_at a c bytes (at + 64))
-    → four ≡ lane_mask is_set (flags_at a c bytes (at + 96)) → bit_or (bit_or (bit_or one two) three) four ≡ 0
-    → first_place (stands (a ∷ c ∷ [])) (drop at bytes) ≡ 128 + first_place (stands (a ∷ c ∷ [])) (drop (at + 128) bytes)
-block_free a c bytes at one two three four fits is_one is_two is_three is_four none =
-    let last = both_zero (bit_or (bit_or one two) three) four none in
-    let third = both_zero (bit_or one two) three last.0 in
-    let both = both_zero one two third.0 in
-    let answer = at + first_place (stands (a ∷ c ∷ [])) (drop at bytes) in
-    let p0 : PassedTo (stands (a ∷ c ∷ [])) bytes answer at = record { within = omega (arith, fits); later = refl } in
-    let p1 = pair_passed a c bytes at one (omega (arith, fits)) is_one answer p0 both.0 in
-    let p2 = pair_passed a c bytes (at + 32) two (omega (arith, fits)) is_two answer p1 both.1 in
-    let p3 = pair_passed a c bytes (at + 64) three (omega (arith, fits)) is_three answer (moved p2 (omega arith)) third.1 in
-    let p4 = moved {j = at + 128} (pair_passed a c bytes (at + 96) four (omega (arith, fits)) is_four answer (moved p3 (omega arith)) last.1) (omega arith) in
-    let later = p4.later in
-    omega (arith, later)
-
--- the search has come as far as a place, and then over as many bytes as are free
-pub block_passed : (a c : ℕ) (bytes : List ℕ) (answer at : ℕ) → PassedTo (stands (a ∷ c ∷ [])) bytes answer at → at + 129 ≤ length bytes
-    → first_place (stands (a ∷ c ∷ [])) (drop at bytes) ≡ 128 + first_place (stands (a ∷ c ∷ [])) (drop (at + 128) bytes)
-    → PassedTo (stands (a ∷ c ∷ [])) bytes answer (at + 128)
-block_passed a c bytes answer at h fits free =
-    let later = h.later in
-    record { within = omega (arith, fits); later = omega (arith, later, free) }

@@ -31,10 +31,10 @@ pub(crate) fn either_lanes(bytes: u8x16, first: u8, second: u8) -> u64
 
 /// Marks the lanes where `first` stands in one vector and `second` in the other.
 #[inline(always)]
-pub(crate) fn pair_lanes(bytes: u8x32, next: u8x32, first: u8, second: u8) -> u64
+pub(crate) fn pair_lanes(bytes: u8x64, next: u8x64, first: u8, second: u8) -> u64
     ensures { result ≡ lane_mask is_set (pair_flags first second bytes next) }
 {
-    let marks = bytes.simd_eq(u8x32::splat(first)) & next.simd_eq(u8x32::splat(second));
+    let marks = bytes.simd_eq(u8x64::splat(first)) & next.simd_eq(u8x64::splat(second));
     marks.to_bitmask()
 }
 
