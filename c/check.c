@@ -102,6 +102,10 @@ static const struct test tests[] = {
     /* the Encoding Standard */
     { TEXT, BYTES(PART "windows-1252\n\n5 \x80"), NOTHING, 0, ROCKTRAY_DONE, BYTES("5 \xe2\x82\xac") },
     { TEXT, BYTES(PART "koi8-r\n\n\xd0\xd2"), NOTHING, 0, ROCKTRAY_DONE, BYTES("\xd0\xbf\xd1\x80") },
+    { TEXT, BYTES(PART "gb18030\n\n\xc4\xe3\xba\xc3\x95\x32\x82\x36"), NOTHING, 0, ROCKTRAY_DONE,
+      BYTES("\xe4\xbd\xa0\xe5\xa5\xbd\xf0\xa0\x80\x80") },
+    { TEXT, BYTES(PART "shift_jis\n\n\x83\x65"), NOTHING, 0, ROCKTRAY_DONE, BYTES("\xe3\x83\x86") },
+    { TEXT, BYTES(PART "euc-kr\n\n\xc7\xd1"), NOTHING, 0, ROCKTRAY_DONE, BYTES("\xed\x95\x9c") },
     { TEXT, BYTES(PART "utf-8\n\n\xff"), NOTHING, 0, ROCKTRAY_DONE, BYTES("\xef\xbf\xbd") },
     { TEXT, BYTES(IN_BASE64 "Zm9v*mFy"), NOTHING, 0, ROCKTRAY_DONE, BYTES("foo") },
     { TEXT, NOTHING, NOTHING, 0, ROCKTRAY_DONE, BYTES("") },
@@ -109,6 +113,8 @@ static const struct test tests[] = {
     /* RFC 2047; RFC 5322, section 2.2.3 */
     { HEADER, BYTES("Subject: =?utf-8?q?caf=C3=A9?=\r\n at noon\r\n\r\n"), BYTES("SUBJECT"), 0, ROCKTRAY_DONE,
       BYTES("caf\xc3\xa9 at noon") },
+    { HEADER, BYTES("Subject: =?iso-2022-jp?b?GyRCJCIbKEI=?=\n"), BYTES("Subject"), 0, ROCKTRAY_DONE,
+      BYTES("\xe3\x81\x82") },
     { HEADER, BYTES("To: a\nCc: c\nTo: b\n"), BYTES("to"), 1, ROCKTRAY_DONE, BYTES("b") },
     { HEADER, BYTES("To: a\nCc: c\nTo: b\n"), BYTES("to"), 2, ROCKTRAY_ABSENT, NOTHING },
     { HEADER, BYTES("To: a\n\nCc: c\n"), BYTES("Cc"), 0, ROCKTRAY_ABSENT, NOTHING },
@@ -133,6 +139,11 @@ static const struct test tests[] = {
       NOTHING, 0, ROCKTRAY_DONE,
       BYTES("[{\"final_recipient\":\"\\\"a\\\"@b\",\"original_recipient\":null,\"action\":\"failed\",\"status\":null,"
             "\"diagnostic_code\":null}]\n") },
+    { RECIPIENTS, BYTES(REPORT "Reporting-MTA: dns; mx\n\nFinal-Recipient: rfc822; a@b\n"
+                        "Diagnostic-Code: smtp; =?gb2312?b?xOO6ww==?=\n\n--b--\n"),
+      NOTHING, 0, ROCKTRAY_DONE,
+      BYTES("[{\"final_recipient\":\"a@b\",\"original_recipient\":null,\"action\":null,\"status\":null,"
+            "\"diagnostic_code\":\"\xe4\xbd\xa0\xe5\xa5\xbd\"}]\n") },
     { RECIPIENTS, BYTES("Subject: no report\n\n"), NOTHING, 0, ROCKTRAY_DONE, BYTES("[]\n") },
     { RECIPIENTS, NOTHING, NOTHING, 0, ROCKTRAY_DONE, BYTES("[]\n") },
     { RECIPIENTS, BYTES(" x"), NOTHING, 0, ROCKTRAY_LEADING_SPACE, NOTHING },

@@ -38,6 +38,11 @@ PART_MEMBERS = [
     "path", "type", "charset", "params", "disposition", "file_name", "attachment", "encoding", "start", "end",
     "size", "decoded_size", "error", "sha256", "headers", "text", "text_charset", "damaged",
 ]
+# texts in the charsets of several bytes
+TEXTS = {
+    "gb18030": "你好 \u20ac \U00020000", "GBK": "发票", "gb2312": "你好", "big5": "發票", "EUC-KR": "안녕하세요",
+    "ks_c_5601-1987": "한글", "euc-jp": "請求書", "Shift_JIS": "請求書 \uff83\uff7d\uff84", "iso-2022-jp": "請求書のテスト",
+}
 OPTIONAL = {"date_zone_unknown", "date_error", "error", "text_charset", "damaged"}
 # what no text escapes: the replacement character, marks that turn the direction of writing, four bytes of UTF-8
 SHOWN = "a\ufffd\u200f\u202e\ufeff\U0001f600\U0010ffff/..z"
@@ -163,6 +168,23 @@ def check_characters():
     same(found[0]["parts"][0]["headers"][0][0], "Sub\x9bject", "a key of high bytes")
     found = objects([], b"Content-Type: text/plain; charset=koi8-r\n\n\xc4\xc1", 0, "KOI8-R")
     same(found[0]["parts"][0]["text"], b"\xc4\xc1".decode("koi8-r"), "KOI8-R")
+
+
+def check_charsets():
+    """Charsets of several bytes: in words, names of addresses and of files, parameters and bodies."""
+    for label, text in TEXTS.items():
+        raw = text.encode(label)
+        word = f"=?{label}?B?{base64.b64encode(raw).decode()}?="
+        escaped = "".join(f"%{byte:02X}" for byte in raw)
+        head = f"Subject: Re: {word}\nFrom: {word} <ana@example.org>\nContent-Type: multipart/mixed; boundary=b\n\n--b\n"
+        head += f"Content-Type: text/plain; charset={label}\nContent-Transfer-Encoding: 8bit\n\n"
+        file = f"\n--b\nContent-Type: application/pdf; name*={label}''{escaped}\n"
+        file += f"Content-Disposition: attachment; filename*={label}'en'{escaped}.pdf\n\n%PDF\n--b--\n"
+        data = head.encode() + raw + file.encode()
+        compare(data, label)
+        found = objects([], data, 0, label)[0]
+        same((found["subject"], found["from"][0]["name"]), (f"Re: {text}", text), label)
+        same((found["parts"][1]["text"], found["parts"][2]["file_name"]), (text, f"{text}.pdf"), label)
 
 
 def check_faults():
@@ -543,6 +565,7 @@ def main():
     for check in (
         check_samples,
         check_characters,
+        check_charsets,
         check_faults,
         check_addresses,
         check_forwarded,

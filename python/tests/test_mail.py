@@ -75,6 +75,31 @@ def test_bounce(samples):
     assert [one.final_recipient for one in rocktray.parse(samples["bounce"]).bounces()] == ["full@example.net"]
 
 
+@pytest.mark.parametrize(
+    "charset, text",
+    [
+        ("gb18030", "你好 𠀀"),
+        ("gbk", "发票"),
+        ("gb2312", "你好"),
+        ("big5", "發票"),
+        ("euc-kr", "안녕하세요"),
+        ("ks_c_5601-1987", "한글"),
+        ("euc-jp", "請求書"),
+        ("shift_jis", "請求書 ﾃｽﾄ"),
+        ("iso-2022-jp", "請求書のテスト"),
+    ],
+)
+def test_charsets_of_several_bytes(charset, text):
+    label, raw = charset.encode(), text.encode(charset)
+    word = b"=?" + label + b"?b?" + base64.b64encode(raw) + b"?="
+    name = b"".join(b"%%%02X" % byte for byte in raw)
+    head = b"Subject: " + word + b"\nFrom: " + word + b" <a@b>\nContent-Disposition: inline; filename*=" + label + b"''" + name
+    mail = rocktray.parse(head + b"\nContent-Type: text/plain; charset=" + label + b"\n\n" + raw)
+    assert (mail.subject, mail.header("Subject"), mail.from_) == (text, text, [(text, "a@b")])
+    part = next(mail.walk())
+    assert (mail.text, part.file_name, part.content, part.text_charset) == (text, text, raw, charset)
+
+
 @pytest.mark.parametrize("kind", [bytes, bytearray, memoryview])
 def test_kinds_of_bytes(kind):
     assert rocktray.parse(kind(b"Subject: Hi\n\n")).subject == "Hi"

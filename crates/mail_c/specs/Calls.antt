@@ -36,12 +36,6 @@ content raw = do
   bytes ← decoded (lenient_body_kind node) node.body
   Ok (Some bytes)
 
--- what a delivery report says of each recipient, as JSON
-unfoldable pub recipients : List ℕ → Found
-recipients raw = do
-  mail ← read_mail raw
-  Ok (Some (deliveries_text (report.recipients mail)))
-
 -- the header with a name that so many others with it stand before
 abbrev pub header_at : List ℕ → ℕ → List Header → Option Header
 header_at name number headers = slice_get (all_with_key name headers) number
@@ -64,6 +58,12 @@ module _ (known : Charsets) where
   IsJson raw (Ok (Some line)) = IsMailLine plain_reading None raw true line
   IsJson raw (Ok None) = ⊥
   IsJson raw (Err refusal) = read_mail_in known 100 raw ≡ Err refusal
+
+  -- what a delivery report says of each recipient, as JSON
+  unfoldable pub recipients : List ℕ → Found
+  recipients raw = do
+    mail ← read_mail_in known 100 raw
+    Ok (Some (deliveries_text (report.recipients known mail)))
 
   -- the text of the body of a message
   unfoldable pub text : List ℕ → Found

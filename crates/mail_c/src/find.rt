@@ -1,6 +1,5 @@
-//! What calls find, over any tables.
+//! What calls find, under any charsets.
 ghost use Rattle.std.specs.Prelude.{◌≡◌, ◌++◌, IfOk, OnOk, flat_map, map, string_bytes};
-ghost use Rattle.mail_codec.specs.Tables.{charsets_with};
 ghost use Rattle.mailparse.specs.Outcome.{Answers, AnswersOrMemory, IsMemory};
 ghost use Rattle.mail_data.specs.lenient.Ids.{found_in};
 ghost use Rattle.mail_c.specs.Calls.{IsJson, bracketed, content, ids, raw_value, recipients};
@@ -11,28 +10,27 @@ use mail_data::lenient::{body_text, ids_in, lenient_body, own_ids_in};
 use mail_lines::{Reading, write_recipients, write_single};
 use mailparse::body::Body;
 use mailparse::{
-    MailHeaderMap, MailParseError, SingleByteTable, parse_headers, parse_mail, parse_mail_with,
+    KnownCharsets, MailHeaderMap, MailParseError, parse_headers, parse_mail, parse_mail_in,
 };
 use std::alloc::{AllocError, Global};
 use std::borrow::CowStr;
 
 /// The line of JSON of a mail.
-pub(crate) fn json(
+pub(crate) fn json<K: KnownCharsets>(
     alloc: Global,
     raw: &[u8],
-    tables: &[SingleByteTable<'_>],
+    known: &K,
 ) -> Result<Option<Vec<u8>>, MailParseError>
-    ensures { Gives (IsJson (charsets_with tables.now) raw.now) result }
+    ensures { Gives (IsJson (K.known known.now) raw.now) result }
 {
     let mut line = Vec::new(alloc);
     let reading = Reading {
-        tables,
         hashes: false,
         joins_flowed: false,
     };
-    match write_single(alloc, raw, None, &mut line, reading) {
+    match write_single(alloc, raw, None, &mut line, known, reading) {
         Ok(true) => Ok(Some(line)),
-        Ok(false) => match parse_mail_with(alloc, raw, tables) {
+        Ok(false) => match parse_mail_in(alloc, raw, known) {
             Ok(_) => unreachable!(),
             Err(error) => Err(error),
         },
@@ -42,12 +40,16 @@ pub(crate) fn json(
 
 /// What a delivery report says of each recipient, as JSON.
 #[tactic(auto, unfolding(crate::specs::Calls::recipients))]
-pub(crate) fn recipients(alloc: Global, raw: &[u8]) -> Result<Option<Vec<u8>>, MailParseError>
-    ensures { AnswersOrMemory bytes_found result (recipients raw.now) }
+pub(crate) fn recipients<K: KnownCharsets>(
+    alloc: Global,
+    raw: &[u8],
+    known: &K,
+) -> Result<Option<Vec<u8>>, MailParseError>
+    ensures { AnswersOrMemory bytes_found result (recipients (K.known known.now) raw.now) }
 {
-    let mail = parse_mail(alloc, raw)?;
+    let mail = parse_mail_in(alloc, raw, known)?;
     let mut line = Vec::new(alloc);
-    match write_recipients(alloc, &mail, &mut line) {
+    match write_recipients(alloc, &mail, &mut line, known) {
         Ok(()) => Ok(Some(line)),
         Err(_) => Err(MailParseError::Memory(AllocError)),
     }
@@ -70,15 +72,15 @@ pub(crate) fn content(alloc: Global, raw: &[u8]) -> Result<Option<Vec<u8>>, Mail
 
 /// The text of the body of a message.
 #[tactic(auto, unfolding(crate::specs::Calls::text))]
-pub(crate) fn text(
+pub(crate) fn text<K: KnownCharsets>(
     alloc: Global,
     raw: &[u8],
-    tables: &[SingleByteTable<'_>],
+    known: &K,
 ) -> Result<Option<Vec<u8>>, MailParseError>
-    ensures { AnswersOrMemory bytes_found result (text (charsets_with tables.now) raw.now) }
+    ensures { AnswersOrMemory bytes_found result (text (K.known known.now) raw.now) }
 {
-    let mail = parse_mail_with(alloc, raw, tables)?;
-    let read = body_text(alloc, &mail, tables)?;
+    let mail = parse_mail_in(alloc, raw, known)?;
+    let read = body_text(alloc, &mail, known)?;
     Ok(Some(read.text.into_bytes()))
 }
 
@@ -104,21 +106,21 @@ pub(crate) fn raw_value(
 
 /// The text of that value.
 #[tactic(auto, unfolding(crate::specs::Calls::value))]
-pub(crate) fn value(
+pub(crate) fn value<K: KnownCharsets>(
     alloc: Global,
     raw: &[u8],
     name: &[u8],
     number: usize,
-    tables: &[SingleByteTable<'_>],
+    known: &K,
 ) -> Result<Option<Vec<u8>>, MailParseError>
     ensures { AnswersOrMemory bytes_found result
-        (value (charsets_with tables.now) raw.now name.now number) }
+        (value (K.known known.now) raw.now name.now number) }
 {
     let name = text_in(name)?;
     let (headers, _) = parse_headers(alloc, raw)?;
     let named = headers.get_all_headers(alloc, name)?;
     match named.as_slice().get(number) {
-        Some(header) => Ok(Some(header.get_value_with(alloc, tables)?.into_bytes())),
+        Some(header) => Ok(Some(header.get_value_in(alloc, known)?.into_bytes())),
         None => Ok(None),
     }
 }

@@ -21,14 +21,13 @@ mod room;
 mod tell;
 
 use codes::reason;
-use mail_tables::TABLES;
-use mailparse::SingleByteTable;
+use mail_charsets::AllCharsets;
 use room::{leave, write};
 use std::alloc::Global;
 
-/// The single-byte charsets of the Encoding Standard.
-fn tables() -> &'static [SingleByteTable<'static>] {
-    &TABLES
+/// The charsets in which mails are read: all those of the Encoding Standard.
+fn charsets() -> AllCharsets<'static> {
+    AllCharsets::standard()
 }
 
 /// Writes the line of JSON of a mail, as the program `mail_json` writes it.
@@ -42,7 +41,7 @@ pub extern "C" fn rocktray_json(
     ensures { (known : Charsets) ×
         Ends (IsJson known mail.now) room.old room.new needed.old needed.new result }
 {
-    leave(find::json(alloc, mail, tables()), room, needed)
+    leave(find::json(alloc, mail, &charsets()), room, needed)
 }
 
 /// Writes the bytes that the body of a mail or a part stands for.
@@ -70,7 +69,7 @@ pub extern "C" fn rocktray_text(
     ensures { (known : Charsets) × Ends (λ found. text known part.now ≡ found) room.old room.new
         needed.old needed.new result }
 {
-    leave(find::text(alloc, part, tables()), room, needed)
+    leave(find::text(alloc, part, &charsets()), room, needed)
 }
 
 /// Writes the value of the header with a name that so many others with it stand before.
@@ -87,7 +86,7 @@ pub extern "C" fn rocktray_header(
         room.old room.new needed.old needed.new result }
 {
     leave(
-        find::value(alloc, part, name, number, tables()),
+        find::value(alloc, part, name, number, &charsets()),
         room,
         needed,
     )
@@ -117,10 +116,10 @@ pub extern "C" fn rocktray_recipients(
     room: &mut [u8],
     needed: &mut usize,
 ) -> u32
-    ensures { Ends (λ found. recipients mail.now ≡ found) room.old room.new
-        needed.old needed.new result }
+    ensures { (known : Charsets) × Ends (λ found. recipients known mail.now ≡ found)
+        room.old room.new needed.old needed.new result }
 {
-    leave(find::recipients(alloc, mail), room, needed)
+    leave(find::recipients(alloc, mail, &charsets()), room, needed)
 }
 
 /// Writes what a code says.

@@ -1,11 +1,10 @@
 //! A run over the inputs.
 
 use crate::request::{How, Request};
+use mail_charsets::AllCharsets;
 use mail_lines::range::{FilePart, shows_mailbox, write_first_part, write_range};
 use mail_lines::{Form, Next, Reading, Watch, format_of, write_input, write_unread};
 use mail_program::Fault;
-use mail_tables::TABLES;
-use mailparse::SingleByteTable;
 use std::alloc::{AllocError, Global};
 use std::fs::{self, OpenFile};
 use std::io::{self, BufWriter, ErrorKind, Read, Seek, SeekFrom, Write};
@@ -230,11 +229,11 @@ fn write_part<R: Read + Seek, W: Write>(
         due: range.from.saturating_add(STEP),
     };
     let alloc = rt.alloc();
-    let tables = &TABLES;
-    let reading = reading_of(how, tables);
+    let known = &charsets();
+    let reading = reading_of(how);
     if part.number == 1 {
         return write_first_part(
-            alloc, reader, how.form, range.to, file, out, reading, &mut meter,
+            alloc, reader, how.form, range.to, file, out, known, reading, &mut meter,
         );
     }
     if !shows_mailbox(alloc, reader, how.form)? {
@@ -244,13 +243,19 @@ fn write_part<R: Read + Seek, W: Write>(
     if let Err(error) = reader.seek(SeekFrom::Start(range.reading_start() as u64)) {
         return Err(Fault::Input(error));
     }
-    write_range(alloc, reader, format, range, file, out, reading, &mut meter)
+    write_range(
+        alloc, reader, format, range, file, out, known, reading, &mut meter,
+    )
+}
+
+/// The charsets in which mails are read: all those of the Encoding Standard.
+fn charsets() -> AllCharsets<'static> {
+    AllCharsets::standard()
 }
 
 /// How mails are read for their lines.
-fn reading_of<'t>(how: How, tables: &'t [SingleByteTable<'t>]) -> Reading<'t> {
+fn reading_of(how: How) -> Reading {
     Reading {
-        tables,
         hashes: how.hashes,
         joins_flowed: how.joins_flowed,
     }
@@ -270,9 +275,18 @@ fn run_input<R: Read, W: Write>(
         is_wanted: how.tells,
         due: STEP,
     };
-    let tables = &TABLES;
-    let reading = reading_of(how, tables);
-    match write_input(rt.alloc(), reader, how.form, file, out, reading, &mut meter) {
+    let known = &charsets();
+    let reading = reading_of(how);
+    match write_input(
+        rt.alloc(),
+        reader,
+        how.form,
+        file,
+        out,
+        known,
+        reading,
+        &mut meter,
+    ) {
         Ok(is_clean) => Ok(Outcome::of(is_clean)),
         Err(Fault::Input(error)) => fail(rt, file, &error, out),
         Err(fault) => Err(fault),

@@ -1,6 +1,5 @@
 //! The members of who wrote a mail and to whom.
 ghost use Rattle.std.specs.Prelude.{◌≡◌, map, string_bytes};
-ghost use Rattle.mail_codec.specs.Tables.{charsets_with};
 ghost use Rattle.mailparse.specs.Mail.{root};
 ghost use Rattle.mailparse.specs.Map.{text_found};
 ghost use Rattle.mailparse.specs.Views.{tree_of};
@@ -15,7 +14,7 @@ use crate::strings::{write_comma, write_optional, write_owned, write_text, write
 use mail_address::{Address, Group, Mailbox, Member, Unknown, addresses_of};
 use mail_codec::charset::decode_latin1;
 use mail_program::Fault;
-use mailparse::{ParsedMail, SingleByteTable};
+use mailparse::{KnownCharsets, ParsedMail};
 use std::alloc::Global;
 use std::io::Write;
 
@@ -25,142 +24,142 @@ use std::io::Write;
 ///
 /// `Fault::Output` where a write fails, and `Fault::Mail` with `MailParseError::Memory` where it runs
 /// out of memory.
-pub fn write_addresses<W: Write>(
+pub fn write_addresses<W: Write, K: KnownCharsets>(
     alloc: Global,
     out: &mut W,
     mail: &ParsedMail<'_>,
-    tables: &[SingleByteTable<'_>],
+    known: &K,
 ) -> Result<(), Fault>
     ensures { Writes (W.contents out.old) (W.contents out.new) result
-        (addresses_text (charsets_with tables.now) (root (tree_of mail.now))) }
+        (addresses_text (K.known known.now) (root (tree_of mail.now))) }
 {
-    write_address_list(alloc, out, ",\"from\":", mail, "From", tables)?;
-    write_address_list(alloc, out, ",\"to\":", mail, "To", tables)?;
-    write_address_list(alloc, out, ",\"cc\":", mail, "Cc", tables)?;
-    write_address_list(alloc, out, ",\"bcc\":", mail, "Bcc", tables)?;
-    write_address_list(alloc, out, ",\"reply_to\":", mail, "Reply-To", tables)?;
-    write_address_list(alloc, out, ",\"sender\":", mail, "Sender", tables)
+    write_address_list(alloc, out, ",\"from\":", mail, "From", known)?;
+    write_address_list(alloc, out, ",\"to\":", mail, "To", known)?;
+    write_address_list(alloc, out, ",\"cc\":", mail, "Cc", known)?;
+    write_address_list(alloc, out, ",\"bcc\":", mail, "Bcc", known)?;
+    write_address_list(alloc, out, ",\"reply_to\":", mail, "Reply-To", known)?;
+    write_address_list(alloc, out, ",\"sender\":", mail, "Sender", known)
 }
 
 /// Writes the addresses in all headers with this name, after these words.
-fn write_address_list<W: Write>(
+fn write_address_list<W: Write, K: KnownCharsets>(
     alloc: Global,
     out: &mut W,
     before: &str,
     mail: &ParsedMail<'_>,
     key: &str,
-    tables: &[SingleByteTable<'_>],
+    known: &K,
 ) -> Result<(), Fault>
     ensures { Writes (W.contents out.old) (W.contents out.new) result (address_list_text
-        (charsets_with tables.now) before.now key.now (root (tree_of mail.now))) }
+        (K.known known.now) before.now key.now (root (tree_of mail.now))) }
 {
     let list = addresses_of(alloc, &mail.headers, key)?;
     write_word(out, before)?;
     write_word(out, "[")?;
-    write_elements(alloc, out, list.as_slice(), tables)?;
+    write_elements(alloc, out, list.as_slice(), known)?;
     write_word(out, "]")
 }
 
 /// Writes the elements of a list, a comma between two.
-fn write_elements<W: Write>(
+fn write_elements<W: Write, K: KnownCharsets>(
     alloc: Global,
     out: &mut W,
     elements: &[Address<'_>],
-    tables: &[SingleByteTable<'_>],
+    known: &K,
 ) -> Result<(), Fault>
     ensures { Writes (W.contents out.old) (W.contents out.new) result
-        (joined (element_text (charsets_with tables.now)) (map element_view elements.now)) }
+        (joined (element_text (K.known known.now)) (map element_view elements.now)) }
 {
     let mut is_first = true;
     for element in elements {
         write_comma(out, is_first)?;
-        write_element(alloc, out, element, tables)?;
+        write_element(alloc, out, element, known)?;
         is_first = false;
     }
     Ok(())
 }
 
 /// Writes an element of a list.
-fn write_element<W: Write>(
+fn write_element<W: Write, K: KnownCharsets>(
     alloc: Global,
     out: &mut W,
     element: &Address<'_>,
-    tables: &[SingleByteTable<'_>],
+    known: &K,
 ) -> Result<(), Fault>
     ensures { Writes (W.contents out.old) (W.contents out.new) result
-        (element_text (charsets_with tables.now) (element_view element.now)) }
+        (element_text (K.known known.now) (element_view element.now)) }
 {
     match element {
-        Address::Mailbox(mailbox) => write_mailbox(alloc, out, mailbox, tables),
-        Address::Group(group) => write_group(alloc, out, group, tables),
+        Address::Mailbox(mailbox) => write_mailbox(alloc, out, mailbox, known),
+        Address::Group(group) => write_group(alloc, out, group, known),
         Address::Unknown(unknown) => write_unknown(alloc, out, unknown),
     }
 }
 
 /// Writes a group: its name and its members.
-fn write_group<W: Write>(
+fn write_group<W: Write, K: KnownCharsets>(
     alloc: Global,
     out: &mut W,
     group: &Group<'_>,
-    tables: &[SingleByteTable<'_>],
+    known: &K,
 ) -> Result<(), Fault>
     ensures { Writes (W.contents out.old) (W.contents out.new) result (group_text
-        (charsets_with tables.now) group.now.display_name.now (group_view group.now).members) }
+        (K.known known.now) group.now.display_name.now (group_view group.now).members) }
 {
-    let name = group.get_display_name_with(alloc, tables)?;
+    let name = group.get_display_name(alloc, known)?;
     write_word(out, "{\"group\":")?;
     write_owned(alloc, out, name)?;
     write_word(out, ",\"members\":[")?;
-    write_members(alloc, out, group.members.as_slice(), tables)?;
+    write_members(alloc, out, group.members.as_slice(), known)?;
     write_word(out, "]}")
 }
 
 /// Writes the members of a group, a comma between two.
-fn write_members<W: Write>(
+fn write_members<W: Write, K: KnownCharsets>(
     alloc: Global,
     out: &mut W,
     members: &[Member<'_>],
-    tables: &[SingleByteTable<'_>],
+    known: &K,
 ) -> Result<(), Fault>
     ensures { Writes (W.contents out.old) (W.contents out.new) result
-        (joined (single_text (charsets_with tables.now)) (map member_view members.now)) }
+        (joined (single_text (K.known known.now)) (map member_view members.now)) }
 {
     let mut is_first = true;
     for member in members {
         write_comma(out, is_first)?;
-        write_member(alloc, out, member, tables)?;
+        write_member(alloc, out, member, known)?;
         is_first = false;
     }
     Ok(())
 }
 
 /// Writes a member of a group.
-fn write_member<W: Write>(
+fn write_member<W: Write, K: KnownCharsets>(
     alloc: Global,
     out: &mut W,
     member: &Member<'_>,
-    tables: &[SingleByteTable<'_>],
+    known: &K,
 ) -> Result<(), Fault>
     ensures { Writes (W.contents out.old) (W.contents out.new) result
-        (single_text (charsets_with tables.now) (member_view member.now)) }
+        (single_text (K.known known.now) (member_view member.now)) }
 {
     match member {
-        Member::Mailbox(mailbox) => write_mailbox(alloc, out, mailbox, tables),
+        Member::Mailbox(mailbox) => write_mailbox(alloc, out, mailbox, known),
         Member::Unknown(unknown) => write_unknown(alloc, out, unknown),
     }
 }
 
 /// Writes a mailbox: its name, or `null` where it has none, and its address.
-fn write_mailbox<W: Write>(
+fn write_mailbox<W: Write, K: KnownCharsets>(
     alloc: Global,
     out: &mut W,
     mailbox: &Mailbox<'_>,
-    tables: &[SingleByteTable<'_>],
+    known: &K,
 ) -> Result<(), Fault>
     ensures { Writes (W.contents out.old) (W.contents out.new) result
-        (single_text (charsets_with tables.now) (mailbox_view mailbox.now)) }
+        (single_text (K.known known.now) (mailbox_view mailbox.now)) }
 {
-    let name = mailbox.get_display_name_with(alloc, tables)?;
+    let name = mailbox.get_display_name(alloc, known)?;
     let address = mailbox.get_address(alloc)?;
     write_word(out, "{\"name\":")?;
     write_optional(alloc, out, unless_empty(name))?;

@@ -1,6 +1,5 @@
-//! What headers say, in the charsets of some tables too.
+//! What headers say, in the charsets that are known, and why something is refused.
 ghost use Rattle.std.specs.Prelude.{◌≡◌, Some, map, option_map, string_bytes, IfOk, Ok};
-ghost use Rattle.mail_codec.specs.Tables.{charsets_with};
 ghost use Rattle.mailparse.specs.Mail.{root};
 ghost use Rattle.mailparse.specs.Map.{text_found};
 ghost use Rattle.mailparse.specs.Outcome.{AnswersOrMemory, GivesTexts, IsMemory, refusal_of};
@@ -13,8 +12,8 @@ ghost use Rattle.mail_lines.specs.Fields.{value_of};
 
 use mail_data::lenient::{ids_in, own_ids_in};
 use mailparse::{
-    DispositionType, MailHeaderMap, MailParseError, ParsedContentDisposition, ParsedMail,
-    SingleByteTable,
+    DispositionType, KnownCharsets, MailHeaderMap, MailParseError, ParsedContentDisposition,
+    ParsedMail,
 };
 use std::alloc::{AllocError, Global};
 
@@ -23,16 +22,16 @@ use std::alloc::{AllocError, Global};
 /// # Errors
 ///
 /// `MailParseError::Memory` where it runs out of memory.
-pub fn value_of(
+pub fn value_of<K: KnownCharsets>(
     alloc: Global,
     mail: &ParsedMail<'_>,
     key: &str,
-    tables: &[SingleByteTable<'_>],
+    known: &K,
 ) -> Result<Option<String>, MailParseError>
     ensures { AnswersOrMemory text_found result
-        (Ok (value_of (charsets_with tables.now) key.now (root (tree_of mail.now)))) }
+        (Ok (value_of (K.known known.now) key.now (root (tree_of mail.now)))) }
 {
-    mail.headers.get_first_value_with(alloc, key, tables)
+    mail.headers.get_first_value_in(alloc, key, known)
 }
 
 /// The message ids in the value of the first header with this name, each with an `@` where one is
@@ -41,17 +40,17 @@ pub fn value_of(
 /// # Errors
 ///
 /// `MailParseError::Memory` where it runs out of memory.
-pub fn ids_of(
+pub fn ids_of<K: KnownCharsets>(
     alloc: Global,
     mail: &ParsedMail<'_>,
     key: &str,
     needs_at: bool,
-    tables: &[SingleByteTable<'_>],
+    known: &K,
 ) -> Result<Vec<String>, MailParseError>
     ensures { GivesTexts result
-        (ids_of (charsets_with tables.now) needs_at key.now (root (tree_of mail.now))) }
+        (ids_of (K.known known.now) needs_at key.now (root (tree_of mail.now))) }
 {
-    match value_of(alloc, mail, key, tables)? {
+    match value_of(alloc, mail, key, known)? {
         Some(value) => Ok(found_in(alloc, value.as_str(), needs_at)?),
         None => Ok(Vec::new(alloc)),
     }

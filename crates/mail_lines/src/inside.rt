@@ -1,7 +1,6 @@
 //! The mails inside a mail, and the objects of their parts.
 ghost use Rattle.std.specs.Prelude.{◌≡◌, map, option_and_then, option_map, IfOk};
 ghost use Rattle.std.specs.Option.{is_some};
-ghost use Rattle.mail_codec.specs.Tables.{charsets_with};
 ghost use Rattle.mailparse.specs.Outcome.{IsMemory, refusal_of};
 ghost use Rattle.mailparse.specs.Views.{placements_of, tree_of};
 ghost use Rattle.mail_data.specs.InnerMails.{places_under};
@@ -21,7 +20,7 @@ use crate::reading::Reading;
 use crate::strings::{write_comma, write_owned, write_text, write_word};
 use mail_data::inner_mails::{InnerMail, places_under};
 use mail_program::Fault;
-use mailparse::{MailParseError, ParsedMail, parse_mail_with};
+use mailparse::{KnownCharsets, MailParseError, ParsedMail, parse_mail_in};
 use std::alloc::{AllocError, Global};
 use std::io::Write;
 
@@ -31,38 +30,49 @@ use std::io::Write;
 ///
 /// `Fault::Output` where a write fails, and `Fault::Mail` with `MailParseError::Memory` where it runs
 /// out of memory.
-pub fn write_inside<W: Write>(
+pub fn write_inside<W: Write, K: KnownCharsets>(
     alloc: Global,
     out: &mut W,
     mails: &[InnerMail],
     start: usize,
-    reading: Reading<'_>,
+    known: &K,
+    reading: Reading,
 ) -> Result<(), Fault>
     ensures { WritesOne (W.contents out.old) (W.contents out.new) result
-        (AreInside (reading_of reading.entry) start (map inner_view mails.now)) }
+        (AreInside (reading_of (K.known known.now) reading) start (map inner_view mails.now)) }
 {
     for mail in mails {
-        write_inner_parts(alloc, out, mail, start, reading)?;
+        write_inner_parts(alloc, out, mail, start, known, reading)?;
     }
     Ok(())
 }
 
 /// Writes the objects of the parts of a mail inside, each after a comma; of one that is refused none.
-fn write_inner_parts<W: Write>(
+fn write_inner_parts<W: Write, K: KnownCharsets>(
     alloc: Global,
     out: &mut W,
     inner: &InnerMail,
     start: usize,
-    reading: Reading<'_>,
+    known: &K,
+    reading: Reading,
 ) -> Result<(), Fault>
     ensures { WritesOne (W.contents out.old) (W.contents out.new) result
-        (AreAfterCommas (IsPartText (reading_of reading.entry) (inside_start start inner.now.start))
-        (parts_inside (charsets_with reading.entry.tables.now) (inner_view inner.now))) }
+        (AreAfterCommas
+        (IsPartText (reading_of (K.known known.now) reading) (inside_start start inner.now.start))
+        (parts_inside (K.known known.now) (inner_view inner.now))) }
 {
-    match parse_mail_with(alloc, inner.bytes.as_slice(), reading.tables) {
+    match parse_mail_in(alloc, inner.bytes.as_slice(), known) {
         Ok(mail) => {
             let start = inside_start(start, inner.start);
-            write_places(alloc, out, &mail, inner.path.as_str(), start, reading)
+            write_places(
+                alloc,
+                out,
+                &mail,
+                inner.path.as_str(),
+                start,
+                known,
+                reading,
+            )
         }
         Err(error) => {
             refused(&error)?;
@@ -92,22 +102,23 @@ fn refused(error: &MailParseError) -> Result<(), AllocError>
 }
 
 /// Writes the objects of the parts of a mail that the part with this path holds, each after a comma.
-fn write_places<W: Write>(
+fn write_places<W: Write, K: KnownCharsets>(
     alloc: Global,
     out: &mut W,
     mail: &ParsedMail<'_>,
     path: &str,
     start: Option<usize>,
-    reading: Reading<'_>,
+    known: &K,
+    reading: Reading,
 ) -> Result<(), Fault>
     ensures { WritesOne (W.contents out.old) (W.contents out.new) result
-        (AreAfterCommas (IsPartText (reading_of reading.entry) start)
+        (AreAfterCommas (IsPartText (reading_of (K.known known.now) reading) start)
         (places_under path.now (tree_of mail.now) (placements_of mail.now))) }
 {
     let found = places_under(alloc, mail, path)?;
     for place in &found {
         write_word(out, ",")?;
-        write_part(alloc, out, place, start, reading)?;
+        write_part(alloc, out, place, start, known, reading)?;
     }
     Ok(())
 }

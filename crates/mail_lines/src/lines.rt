@@ -20,7 +20,7 @@ use mail_data::mailbox::MailboxEntry;
 use mail_data::mailbox::formats::{Format, MailboxIn, read_mailbox_in};
 use mail_data::mailbox::quoted::unquoted;
 use mail_program::Fault;
-use mailparse::parse_mail_with;
+use mailparse::{KnownCharsets, parse_mail_in};
 use std::alloc::Global;
 use std::io::Write;
 
@@ -37,21 +37,23 @@ use std::io::Write;
 /// use mail_lines::{Reading, write_single};
 ///
 /// let mut out = Vec::new(alloc);
-/// let reading = Reading::new(&[]);
-/// assert!(rt; !write_single(alloc, b" refused", None, &mut out, reading)?);
+/// let reading = Reading::new();
+/// assert!(rt; !write_single(alloc, b" refused", None, &mut out, &(), reading)?);
 /// let line = b"{\"schema\":4,\"file\":null,\"number\":null,\"start\":0,\"end\":8,\"error\":";
 /// assert!(rt; out.as_slice().starts_with(line));
-/// assert!(rt; write_single(alloc, b"Subject: Hi\n\nHello\n", None, &mut out, reading)?);
+/// assert!(rt; write_single(alloc, b"Subject: Hi\n\nHello\n", None, &mut out, &(), reading)?);
 /// ```
-pub fn write_single<W: Write>(
+pub fn write_single<W: Write, K: KnownCharsets>(
     alloc: Global,
     input: &[u8],
     file: Option<&str>,
     out: &mut W,
-    reading: Reading<'_>,
+    known: &K,
+    reading: Reading,
 ) -> Result<bool, Fault>
     ensures { WritesLines (W.contents out.old) (W.contents out.new) result (IsMailLine
-        (reading_of reading.entry) (option_map (λ name. name.now) file.entry) input.now) }
+        (reading_of (K.known known.now) reading) (option_map (λ name. name.now) file.entry)
+        input.now) }
 {
     let origin = Origin {
         file,
@@ -59,7 +61,7 @@ pub fn write_single<W: Write>(
         start: 0,
         end: input.len(),
     };
-    write_line(alloc, input, &origin, out, reading)
+    write_line(alloc, input, &origin, out, known, reading)
 }
 
 /// Writes the mails of a mailbox in a format that are to have a line, and an error for what stands
@@ -69,17 +71,18 @@ pub fn write_single<W: Write>(
 ///
 /// `Fault::Output` where a write fails, and `Fault::Mail` with `MailParseError::Memory` where it runs
 /// out of memory.
-pub fn write_mailbox<W: Write>(
+pub fn write_mailbox<W: Write, K: KnownCharsets>(
     alloc: Global,
     input: &[u8],
     format: Format,
     which: Which,
     file: Option<&str>,
     out: &mut W,
-    reading: Reading<'_>,
+    known: &K,
+    reading: Reading,
 ) -> Result<bool, Fault>
     ensures { WritesLines (W.contents out.old) (W.contents out.new) result
-        (AreMailboxChosen (reading_of reading.entry) format
+        (AreMailboxChosen (reading_of (K.known known.now) reading) format
         (option_map (λ name. name.now) file.entry) which input.now) }
 {
     let mails = read_mailbox_in(format, input);
@@ -89,7 +92,7 @@ pub fn write_mailbox<W: Write>(
         which,
         at: front.len(),
     };
-    let are_read = write_mails(alloc, mails, format, first, file, out, reading)?;
+    let are_read = write_mails(alloc, mails, format, first, file, out, known, reading)?;
     Ok(is_all_whitespace & are_read)
 }
 
@@ -141,23 +144,25 @@ fn is_all_whitespace(bytes: &[u8]) -> bool
 ///
 /// `Fault::Output` where a write fails, and `Fault::Mail` with `MailParseError::Memory` where it runs
 /// out of memory.
-pub fn write_mails<W: Write>(
+pub fn write_mails<W: Write, K: KnownCharsets>(
     alloc: Global,
     mails: MailboxIn<'_>,
     format: Format,
     first: Next,
     file: Option<&str>,
     out: &mut W,
-    reading: Reading<'_>,
+    known: &K,
+    reading: Reading,
 ) -> Result<bool, Fault>
     ensures { WritesLines (W.contents out.old) (W.contents out.new) result
-        (AreChosen (reading_of reading.entry) format (option_map (λ name. name.now) file.entry)
-        first.which (placed_from first.at (left_in mails.entry))) }
+        (AreChosen (reading_of (K.known known.now) reading) format
+        (option_map (λ name. name.now) file.entry) first.which
+        (placed_from first.at (left_in mails.entry))) }
 {
     let mut next = first;
     let mut is_clean = true;
     for entry in mails {
-        let is_read = write_entry(alloc, &entry, format, next, file, out, reading)?;
+        let is_read = write_entry(alloc, &entry, format, next, file, out, known, reading)?;
         is_clean &= is_read;
         next = next.after(&entry);
     }
@@ -171,39 +176,42 @@ pub fn write_mails<W: Write>(
 ///
 /// `Fault::Output` where a write fails, and `Fault::Mail` with `MailParseError::Memory` where it runs
 /// out of memory.
-pub fn write_entry<W: Write>(
+pub fn write_entry<W: Write, K: KnownCharsets>(
     alloc: Global,
     entry: &MailboxEntry<'_>,
     format: Format,
     next: Next,
     file: Option<&str>,
     out: &mut W,
-    reading: Reading<'_>,
+    known: &K,
+    reading: Reading,
 ) -> Result<bool, Fault>
     ensures { WritesLines (W.contents out.old) (W.contents out.new) result
-        (IsEntryLine (reading_of reading.entry) format (option_map (λ name. name.now) file.entry)
-        next.which next.at entry.now) }
+        (IsEntryLine (reading_of (K.known known.now) reading) format
+        (option_map (λ name. name.now) file.entry) next.which next.at entry.now) }
 {
     if next.is_wanted() {
-        write_wanted(alloc, entry, format, next, file, out, reading)
+        write_wanted(alloc, entry, format, next, file, out, known, reading)
     } else {
         Ok(true)
     }
 }
 
 /// Writes the line of the next mail of a mailbox in a format. Returns whether it is not refused.
-fn write_wanted<W: Write>(
+fn write_wanted<W: Write, K: KnownCharsets>(
     alloc: Global,
     entry: &MailboxEntry<'_>,
     format: Format,
     next: Next,
     file: Option<&str>,
     out: &mut W,
-    reading: Reading<'_>,
+    known: &K,
+    reading: Reading,
 ) -> Result<bool, Fault>
     ensures { WritesLines (W.contents out.old) (W.contents out.new) result
-        (IsLine (reading_of reading.entry) (origin_at (option_map (λ name. name.now) file.entry)
-        (number_of next.which) next.at entry.now) (mail_in format entry.now.mail)) }
+        (IsLine (reading_of (K.known known.now) reading)
+        (origin_at (option_map (λ name. name.now) file.entry) (number_of next.which) next.at
+        entry.now) (mail_in format entry.now.mail)) }
 {
     let start = next.at.saturating_add(entry.separator().len());
     let origin = Origin {
@@ -213,28 +221,36 @@ fn write_wanted<W: Write>(
         end: start.saturating_add(entry.mail().len()),
     };
     match format {
-        Format::Plain | Format::Counted => write_line(alloc, entry.mail(), &origin, out, reading),
+        Format::Plain | Format::Counted => write_line(
+            alloc,
+            entry.mail(),
+            &origin,
+            out,
+            known,
+            reading,
+        ),
         Format::Quoted => {
             let mail = unquoted(alloc, entry.mail())?;
-            write_line(alloc, mail.as_slice(), &origin, out, reading)
+            write_line(alloc, mail.as_slice(), &origin, out, known, reading)
         }
     }
 }
 
 /// Writes the line of a mail from there. Returns whether it is not refused.
-fn write_line<W: Write>(
+fn write_line<W: Write, K: KnownCharsets>(
     alloc: Global,
     raw: &[u8],
     origin: &Origin<'_>,
     out: &mut W,
-    reading: Reading<'_>,
+    known: &K,
+    reading: Reading,
 ) -> Result<bool, Fault>
     ensures { WritesLines (W.contents out.old) (W.contents out.new) result
-        (IsLine (reading_of reading.entry) (origin_of origin.now) raw.now) }
+        (IsLine (reading_of (K.known known.now) reading) (origin_of origin.now) raw.now) }
 {
-    match parse_mail_with(alloc, raw, reading.tables) {
+    match parse_mail_in(alloc, raw, known) {
         Ok(mail) => {
-            write_mail(alloc, out, &mail, origin, reading)?;
+            write_mail(alloc, out, &mail, origin, known, reading)?;
             write_word(out, "\n")?;
             Ok(true)
         }

@@ -1,6 +1,5 @@
 //! The object of a mail.
 ghost use Rattle.std.specs.Prelude.{◌≡◌, ◌++◌, codes, option_map};
-ghost use Rattle.mail_codec.specs.Tables.{charsets_with};
 ghost use Rattle.mailparse.specs.Mail.{root};
 ghost use Rattle.mailparse.specs.Placement.{placements};
 ghost use Rattle.mailparse.specs.Views.{placements_of, tree_of};
@@ -25,7 +24,7 @@ use mail_codec::charset::decode_latin1;
 use mail_data::inner_mails::inner_mails;
 use mail_data::lenient::{DateError, date_in};
 use mail_program::Fault;
-use mailparse::{MailHeaderMap, ParsedMail, SingleByteTable};
+use mailparse::{KnownCharsets, MailHeaderMap, ParsedMail};
 use std::alloc::Global;
 use std::io::Write;
 
@@ -35,58 +34,60 @@ use std::io::Write;
 ///
 /// `Fault::Output` where a write fails, and `Fault::Mail` with `MailParseError::Memory` where it runs
 /// out of memory.
-pub fn write_mail<W: Write>(
+pub fn write_mail<W: Write, K: KnownCharsets>(
     alloc: Global,
     out: &mut W,
     mail: &ParsedMail<'_>,
     origin: &Origin<'_>,
-    reading: Reading<'_>,
+    known: &K,
+    reading: Reading,
 ) -> Result<(), Fault>
     requires placed { placements_of mail.now ≡ placements 0 (tree_of mail.now) }
     ensures { WritesOne (W.contents out.old) (W.contents out.new) result
-        (IsMailText (reading_of reading.entry) (origin_of origin.now) (tree_of mail.now)) }
+        (IsMailText (reading_of (K.known known.now) reading) (origin_of origin.now)
+        (tree_of mail.now)) }
 {
     write_origin(alloc, out, origin)?;
-    write_values(alloc, out, mail, reading.tables)?;
+    write_values(alloc, out, mail, known)?;
     write_raw(alloc, out, mail)?;
-    write_date(alloc, out, mail, reading.tables)?;
-    write_ids(alloc, out, mail, reading.tables)?;
-    let inside = inner_mails(alloc, mail, reading.tables)?;
+    write_date(alloc, out, mail, known)?;
+    write_ids(alloc, out, mail, known)?;
+    let inside = inner_mails(alloc, mail, known)?;
     write_word(out, ",\"parts\":[")?;
-    write_parts(alloc, out, mail, origin.start, reading)?;
-    write_inside(alloc, out, inside.as_slice(), origin.start, reading)?;
+    write_parts(alloc, out, mail, origin.start, known, reading)?;
+    write_inside(alloc, out, inside.as_slice(), origin.start, known, reading)?;
     write_word(out, "]")?;
     write_forwarded(alloc, out, inside.as_slice(), origin.start)?;
     write_word(out, "}")
 }
 
 /// Writes the members that are values of headers.
-fn write_values<W: Write>(
+fn write_values<W: Write, K: KnownCharsets>(
     alloc: Global,
     out: &mut W,
     mail: &ParsedMail<'_>,
-    tables: &[SingleByteTable<'_>],
+    known: &K,
 ) -> Result<(), Fault>
     ensures { Writes (W.contents out.old) (W.contents out.new) result
-        (values_text (charsets_with tables.now) (root (tree_of mail.now))) }
+        (values_text (K.known known.now) (root (tree_of mail.now))) }
 {
-    write_value(alloc, out, ",\"subject\":", mail, "Subject", tables)?;
-    write_addresses(alloc, out, mail, tables)
+    write_value(alloc, out, ",\"subject\":", mail, "Subject", known)?;
+    write_addresses(alloc, out, mail, known)
 }
 
 /// Writes the value of the first header with this name, after these words.
-fn write_value<W: Write>(
+fn write_value<W: Write, K: KnownCharsets>(
     alloc: Global,
     out: &mut W,
     before: &str,
     mail: &ParsedMail<'_>,
     key: &str,
-    tables: &[SingleByteTable<'_>],
+    known: &K,
 ) -> Result<(), Fault>
     ensures { Writes (W.contents out.old) (W.contents out.new) result
-        (value_text (charsets_with tables.now) before.now key.now (root (tree_of mail.now))) }
+        (value_text (K.known known.now) before.now key.now (root (tree_of mail.now))) }
 {
-    let value = value_of(alloc, mail, key, tables)?;
+    let value = value_of(alloc, mail, key, known)?;
     write_word(out, before)?;
     write_optional(alloc, out, value)
 }
@@ -128,14 +129,14 @@ fn write_raw_value<W: Write>(
 }
 
 /// Writes the members that are ids of headers.
-fn write_ids<W: Write>(
+fn write_ids<W: Write, K: KnownCharsets>(
     alloc: Global,
     out: &mut W,
     mail: &ParsedMail<'_>,
-    tables: &[SingleByteTable<'_>],
+    known: &K,
 ) -> Result<(), Fault>
     ensures { Writes (W.contents out.old) (W.contents out.new) result
-        (ids_text (charsets_with tables.now) (root (tree_of mail.now))) }
+        (ids_text (K.known known.now) (root (tree_of mail.now))) }
 {
     write_id_list(
         alloc,
@@ -144,7 +145,7 @@ fn write_ids<W: Write>(
         mail,
         "Message-ID",
         false,
-        tables,
+        known,
     )?;
     write_id_list(
         alloc,
@@ -153,7 +154,7 @@ fn write_ids<W: Write>(
         mail,
         "In-Reply-To",
         true,
-        tables,
+        known,
     )?;
     write_id_list(
         alloc,
@@ -162,41 +163,41 @@ fn write_ids<W: Write>(
         mail,
         "References",
         true,
-        tables,
+        known,
     )
 }
 
 /// Writes the ids in the first header with this name, after these words, each with an `@` where one
 /// is needed.
-fn write_id_list<W: Write>(
+fn write_id_list<W: Write, K: KnownCharsets>(
     alloc: Global,
     out: &mut W,
     before: &str,
     mail: &ParsedMail<'_>,
     key: &str,
     needs_at: bool,
-    tables: &[SingleByteTable<'_>],
+    known: &K,
 ) -> Result<(), Fault>
     ensures { Writes (W.contents out.old) (W.contents out.new) result (id_list_text
-        (charsets_with tables.now) before.now needs_at key.now (root (tree_of mail.now))) }
+        (K.known known.now) before.now needs_at key.now (root (tree_of mail.now))) }
 {
-    let ids = ids_of(alloc, mail, key, needs_at, tables)?;
+    let ids = ids_of(alloc, mail, key, needs_at, known)?;
     write_word(out, before)?;
     write_texts(alloc, out, ids.as_slice())
 }
 
 /// Writes the date: its seconds and whether its zone is not known, or `null` where there is none or
 /// it is refused, and then why.
-fn write_date<W: Write>(
+fn write_date<W: Write, K: KnownCharsets>(
     alloc: Global,
     out: &mut W,
     mail: &ParsedMail<'_>,
-    tables: &[SingleByteTable<'_>],
+    known: &K,
 ) -> Result<(), Fault>
     ensures { Writes (W.contents out.old) (W.contents out.new) result (date_text (option_map
-        date_in (value_of (charsets_with tables.now) (codes "Date") (root (tree_of mail.now))))) }
+        date_in (value_of (K.known known.now) (codes "Date") (root (tree_of mail.now))))) }
 {
-    let Some(date) = value_of(alloc, mail, "Date", tables)? else {
+    let Some(date) = value_of(alloc, mail, "Date", known)? else {
         return write_word(out, ",\"date\":null");
     };
     match date_in(date.as_str()) {

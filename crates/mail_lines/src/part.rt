@@ -1,7 +1,6 @@
 //! The objects of the parts.
 ghost use Rattle.std.specs.Prelude.{◌&&◌, ◌≡◌, ℕ, List, IfOk, Some, true, false};
 ghost use Rattle.std.specs.Cow.{cow_slice_items};
-ghost use Rattle.mail_codec.specs.Tables.{charsets_with};
 ghost use Rattle.mailparse.specs.Body.{BodyKind, decoded};
 ghost use Rattle.mailparse.specs.BodyViews.{Content, content_of};
 ghost use Rattle.mailparse.specs.Mail.{root};
@@ -35,8 +34,8 @@ use mail_data::places::{Place, places};
 use mail_data::texts::text_type;
 use mail_program::{Fault, sha256_text};
 use mailparse::{
-    MailHeader, MailParseError, ParsedContentDisposition, ParsedContentType, ParsedMail,
-    SingleByteTable,
+    KnownCharsets, MailHeader, MailParseError, ParsedContentDisposition, ParsedContentType,
+    ParsedMail,
 };
 use std::alloc::{AllocError, Global};
 use std::borrow::CowSlice;
@@ -49,22 +48,23 @@ use std::io::Write;
 ///
 /// `Fault::Output` where a write fails, and `Fault::Mail` with `MailParseError::Memory` where it runs
 /// out of memory.
-pub fn write_parts<W: Write>(
+pub fn write_parts<W: Write, K: KnownCharsets>(
     alloc: Global,
     out: &mut W,
     mail: &ParsedMail<'_>,
     start: usize,
-    reading: Reading<'_>,
+    known: &K,
+    reading: Reading,
 ) -> Result<(), Fault>
     ensures { WritesOne (W.contents out.old) (W.contents out.new) result
-        (AreJoined (IsPartText (reading_of reading.entry) (Some start))
+        (AreJoined (IsPartText (reading_of (K.known known.now) reading) (Some start))
         (places (tree_of mail.now) (placements_of mail.now))) }
 {
     let found = places(alloc, mail)?;
     let mut is_first = true;
     for place in &found {
         write_comma(out, is_first)?;
-        write_part(alloc, out, place, Some(start), reading)?;
+        write_part(alloc, out, place, Some(start), known, reading)?;
         is_first = false;
     }
     Ok(())
@@ -76,21 +76,22 @@ pub fn write_parts<W: Write>(
 ///
 /// `Fault::Output` where a write fails, and `Fault::Mail` with `MailParseError::Memory` where it runs
 /// out of memory.
-pub fn write_part<W: Write>(
+pub fn write_part<W: Write, K: KnownCharsets>(
     alloc: Global,
     out: &mut W,
     place: &Place<'_, '_>,
     start: Option<usize>,
-    reading: Reading<'_>,
+    known: &K,
+    reading: Reading,
 ) -> Result<(), Fault>
     ensures { WritesOne (W.contents out.old) (W.contents out.new) result
-        (IsPartText (reading_of reading.entry) start (place_view place.now)) }
+        (IsPartText (reading_of (K.known known.now) reading) start (place_view place.now)) }
 {
     let part = place.part;
     write_word(out, "{\"path\":")?;
     write_text(alloc, out, place.path.as_str())?;
     write_type(alloc, out, &part.ctype)?;
-    let disposition = part.get_content_disposition_with(alloc, reading.tables)?;
+    let disposition = part.get_content_disposition_in(alloc, known)?;
     let is_attachment = is_attachment(alloc, part, &disposition)?;
     write_disposition(alloc, out, part, &disposition, is_attachment)?;
     let body = lenient_body(alloc, part)?;
@@ -101,9 +102,18 @@ pub fn write_part<W: Write>(
     write_decoded_size(alloc, out, &bytes)?;
     let is_hashed = is_hashed(reading.hashes, is_attachment);
     write_hash(alloc, out, &bytes, body.get_raw(), is_hashed)?;
-    write_headers(alloc, out, part.headers.as_slice(), reading.tables)?;
+    write_headers(alloc, out, part.headers.as_slice(), known)?;
     let is_read = is_read(part, &disposition);
-    write_part_text(alloc, out, bytes, body.get_raw(), part, is_read, reading)?;
+    write_part_text(
+        alloc,
+        out,
+        bytes,
+        body.get_raw(),
+        part,
+        is_read,
+        known,
+        reading,
+    )?;
     write_word(out, "}")
 }
 
@@ -292,44 +302,45 @@ fn write_sha256<W: Write>(alloc: Global, out: &mut W, bytes: &[u8]) -> Result<()
 }
 
 /// Writes the members of the text of a part that is to be read, or `null` where it is not to be.
-fn write_part_text<W: Write>(
+fn write_part_text<W: Write, K: KnownCharsets>(
     alloc: Global,
     out: &mut W,
     bytes: Result<CowSlice<'_, u8>, MailParseError>,
     raw: &[u8],
     part: &ParsedMail<'_>,
     is_read: bool,
-    reading: Reading<'_>,
+    known: &K,
+    reading: Reading,
 ) -> Result<(), Fault>
     ensures { AnswersOrMemory cow_slice_items bytes.entry
         (decoded (lenient_body_kind (root (tree_of part.now))) (root (tree_of part.now)).body) →
         (root (tree_of part.now)).body ≡ raw.now →
         Writes (W.contents out.old) (W.contents out.new) result
-        (body_text (charsets_with reading.entry.tables.now) reading.entry.joins_flowed is_read
+        (body_text (K.known known.now) reading.joins_flowed is_read
         (lenient_body_kind (root (tree_of part.now))) (content_of (root (tree_of part.now)))) }
 {
     if reading.joins_flowed {
-        return write_flowed(alloc, out, part, is_read, reading.tables);
+        return write_flowed(alloc, out, part, is_read, known);
     }
-    write_body_text(alloc, out, bytes, raw, &part.ctype, is_read, reading.tables)
+    write_body_text(alloc, out, bytes, raw, &part.ctype, is_read, known)
 }
 
 /// Does what `write_part_text` does, with each paragraph that flows as one line.
-fn write_flowed<W: Write>(
+fn write_flowed<W: Write, K: KnownCharsets>(
     alloc: Global,
     out: &mut W,
     part: &ParsedMail<'_>,
     is_read: bool,
-    tables: &[SingleByteTable<'_>],
+    known: &K,
 ) -> Result<(), Fault>
     ensures { Writes (W.contents out.old) (W.contents out.new) result
-        (body_text (charsets_with tables.now) true is_read
+        (body_text (K.known known.now) true is_read
         (lenient_body_kind (root (tree_of part.now))) (content_of (root (tree_of part.now)))) }
 {
     if !is_read {
         return write_word(out, ",\"text\":null");
     }
-    let read = flowed_text(alloc, part, tables)?;
+    let read = flowed_text(alloc, part, known)?;
     write_word(out, ",\"text\":")?;
     write_text(alloc, out, read.text.as_str())?;
     write_word(out, ",\"text_charset\":")?;
@@ -338,29 +349,29 @@ fn write_flowed<W: Write>(
 }
 
 /// Writes the members of the text of a body that is to be read, or `null` where it is not to be.
-fn write_body_text<W: Write>(
+fn write_body_text<W: Write, K: KnownCharsets>(
     alloc: Global,
     out: &mut W,
     bytes: Result<CowSlice<'_, u8>, MailParseError>,
     raw: &[u8],
     ctype: &ParsedContentType,
     is_read: bool,
-    tables: &[SingleByteTable<'_>],
+    known: &K,
 ) -> Result<(), Fault>
     ensures { (kind : BodyKind) (given : Content) →
         AnswersOrMemory cow_slice_items bytes.entry (decoded kind given.raw) →
         given.raw ≡ raw.now → given.ctype ≡ content_type ctype.now →
         Writes (W.contents out.old) (W.contents out.new) result
-        (body_text (charsets_with tables.now) false is_read kind given) }
+        (body_text (K.known known.now) false is_read kind given) }
 {
     if !is_read {
         return write_word(out, ",\"text\":null");
     }
     match bytes {
-        Ok(decoded) => write_read_text(alloc, out, decoded.as_slice(), ctype, false, tables),
+        Ok(decoded) => write_read_text(alloc, out, decoded.as_slice(), ctype, false, known),
         Err(error) => {
             let front = front_bytes(alloc, &error, raw)?;
-            write_read_text(alloc, out, front.as_slice(), ctype, true, tables)
+            write_read_text(alloc, out, front.as_slice(), ctype, true, known)
         }
     }
 }
@@ -378,22 +389,22 @@ fn front_bytes(alloc: Global, error: &MailParseError, raw: &[u8]) -> Result<Vec<
 
 /// Writes the members of a text: the text, the charset in which it is read, and whether its body is
 /// damaged.
-fn write_read_text<W: Write>(
+fn write_read_text<W: Write, K: KnownCharsets>(
     alloc: Global,
     out: &mut W,
     bytes: &[u8],
     ctype: &ParsedContentType,
     is_damaged: bool,
-    tables: &[SingleByteTable<'_>],
+    known: &K,
 ) -> Result<(), Fault>
     ensures { Writes (W.contents out.old) (W.contents out.new) result (shown_text
-        (charsets_with tables.now) (content_type ctype.now).charset bytes.now is_damaged) }
+        (K.known known.now) (content_type ctype.now).charset bytes.now is_damaged) }
 {
     write_word(out, ",\"text\":")?;
-    let text = lenient_text(alloc, bytes, ctype, tables)?;
+    let text = lenient_text(alloc, bytes, ctype, known)?;
     write_owned(alloc, out, text)?;
     write_word(out, ",\"text_charset\":")?;
-    write_text(alloc, out, charset_used(bytes, ctype, tables))?;
+    write_text(alloc, out, charset_used(bytes, ctype, known))?;
     write_word(out, damaged_text(is_damaged))
 }
 
@@ -405,38 +416,38 @@ fn damaged_text(is_damaged: bool) -> &'static str
 }
 
 /// Writes the list of the headers.
-fn write_headers<W: Write>(
+fn write_headers<W: Write, K: KnownCharsets>(
     alloc: Global,
     out: &mut W,
     headers: &[MailHeader<'_>],
-    tables: &[SingleByteTable<'_>],
+    known: &K,
 ) -> Result<(), Fault>
     ensures { Writes (W.contents out.old) (W.contents out.new) result
-        (headers_text (charsets_with tables.now) headers.now) }
+        (headers_text (K.known known.now) headers.now) }
 {
     write_word(out, ",\"headers\":[")?;
     let mut is_first = true;
     for header in headers {
         write_comma(out, is_first)?;
-        write_header(alloc, out, header, tables)?;
+        write_header(alloc, out, header, known)?;
         is_first = false;
     }
     write_word(out, "]")
 }
 
 /// Writes a header as a pair of its name and its value.
-fn write_header<W: Write>(
+fn write_header<W: Write, K: KnownCharsets>(
     alloc: Global,
     out: &mut W,
     header: &MailHeader<'_>,
-    tables: &[SingleByteTable<'_>],
+    known: &K,
 ) -> Result<(), Fault>
     ensures { Writes (W.contents out.old) (W.contents out.new) result
-        (header_text (charsets_with tables.now) header.now) }
+        (header_text (K.known known.now) header.now) }
 {
     write_word(out, "[")?;
     write_owned(alloc, out, header.get_key(alloc)?)?;
     write_word(out, ",")?;
-    write_owned(alloc, out, header.get_value_with(alloc, tables)?)?;
+    write_owned(alloc, out, header.get_value_in(alloc, known)?)?;
     write_word(out, "]")
 }

@@ -11,6 +11,7 @@ use crate::reading::Reading;
 use crate::stream::{Wanted, Watch, is_mailbox, read_until, write_chosen, write_rest};
 use mail_data::mailbox::formats::{Format, read_mailbox_in};
 use mail_program::Fault;
+use mailparse::KnownCharsets;
 use std::alloc::Global;
 use std::io::{Read, Write};
 
@@ -128,27 +129,31 @@ pub fn shows_mailbox<R: Read>(alloc: Global, reader: &mut R, form: Form) -> Resu
 /// let mut reader = b"From a@b Fri Jul  8 12:08:34 2011\nA: 1\n\nFrom a@b Fri Jul  8 12:08:34 2011\n"
 ///     .as_slice();
 /// let mut out = Vec::new(alloc);
-/// let (reading, watch) = (Reading::new(&[]), &mut Unwatched);
+/// let (known, reading, watch) = (&(), Reading::new(), &mut Unwatched);
 /// let form = Form::Either;
-/// assert!(rt; write_first_part(alloc, &mut reader, form, 40, None, &mut out, reading, watch)?);
+/// assert!(rt; write_first_part(
+///     alloc, &mut reader, form, 40, None, &mut out, known, reading, watch
+/// )?);
 /// assert_eq!(rt; out.as_slice().iter().filter(|byte| **byte == b'\n').count(), 1);
 /// ```
-pub fn write_first_part<R: Read, W: Write, M: Watch>(
+pub fn write_first_part<R: Read, W: Write, M: Watch, K: KnownCharsets>(
     alloc: Global,
     reader: &mut R,
     form: Form,
     to: usize,
     file: Option<&str>,
     out: &mut W,
-    reading: Reading<'_>,
+    known: &K,
+    reading: Reading,
     watch: &mut M,
 ) -> Result<bool, Fault>
     ensures { WritesPart (R.remaining reader.old) (R.remaining reader.new)
         (W.contents out.old) (W.contents out.new) result (AreFirstLines
-        (reading_of reading.entry) form (option_map (λ name. name.now) file.entry) to) }
+        (reading_of (K.known known.now) reading) form (option_map (λ name. name.now) file.entry)
+        to) }
 {
     let which = Which::Within(0, to);
-    write_chosen(alloc, reader, form, which, file, out, reading, watch)
+    write_chosen(alloc, reader, form, which, file, out, known, reading, watch)
 }
 
 /// Writes the lines of the mails of a mailbox in a format that begin in a range, where the reader
@@ -170,26 +175,29 @@ pub fn write_first_part<R: Read, W: Write, M: Watch>(
 /// let range = Range { from: 20, to: 60 };
 /// let mut reader = &mailbox[range.reading_start()..];
 /// let mut out = Vec::new(alloc);
-/// let (reading, watch) = (Reading::new(&[]), &mut Unwatched);
+/// let (known, reading, watch) = (&(), Reading::new(), &mut Unwatched);
 /// let format = Format::Plain;
-/// assert!(rt; write_range(alloc, &mut reader, format, range, None, &mut out, reading, watch)?);
+/// assert!(rt; write_range(
+///     alloc, &mut reader, format, range, None, &mut out, known, reading, watch
+/// )?);
 /// assert!(rt; out.as_slice().starts_with(
 ///     b"{\"schema\":4,\"file\":null,\"number\":null,\"start\":74,"
 /// ));
 /// ```
-pub fn write_range<R: Read, W: Write, M: Watch>(
+pub fn write_range<R: Read, W: Write, M: Watch, K: KnownCharsets>(
     alloc: Global,
     reader: &mut R,
     format: Format,
     range: Range,
     file: Option<&str>,
     out: &mut W,
-    reading: Reading<'_>,
+    known: &K,
+    reading: Reading,
     watch: &mut M,
 ) -> Result<bool, Fault>
     ensures { WritesPart (R.remaining reader.old) (R.remaining reader.new)
         (W.contents out.old) (W.contents out.new) result (AreRangeLinesAt
-        (reading_of reading.entry) format (option_map (λ name. name.now) file.entry)
+        (reading_of (K.known known.now) reading) format (option_map (λ name. name.now) file.entry)
         range.from range.to (reading_start range.from)) }
 {
     let mut read = Vec::new(alloc);
@@ -201,10 +209,10 @@ pub fn write_range<R: Read, W: Write, M: Watch>(
         at: range.reading_start().saturating_add(front.len()),
     };
     if has_ended {
-        return write_mails(alloc, mails, format, first, file, out, reading);
+        return write_mails(alloc, mails, format, first, file, out, known, reading);
     }
     let rest = &read[front.len()..];
     write_rest(
-        alloc, reader, rest, format, first, file, out, reading, watch,
+        alloc, reader, rest, format, first, file, out, known, reading, watch,
     )
 }

@@ -9,7 +9,7 @@ ghost use Rattle.mail_lines.specs.Written.{Writes};
 use crate::strings::{write_comma, write_name, write_word};
 use mail_data::bounce::{Recipient, recipients};
 use mail_program::Fault;
-use mailparse::ParsedMail;
+use mailparse::{KnownCharsets, ParsedMail};
 use std::alloc::Global;
 use std::io::Write;
 
@@ -34,20 +34,21 @@ use std::io::Write;
 ///     Reporting-MTA: dns; mx.example.org\n\n\
 ///     Final-Recipient: rfc822; ann@example.org\nAction: failed\n\n--b--\n";
 /// let mut out = Vec::new(alloc);
-/// write_recipients(alloc, &parse_mail(alloc, raw)?, &mut out)?;
+/// write_recipients(alloc, &parse_mail(alloc, raw)?, &mut out, &())?;
 /// let line = b"[{\"final_recipient\":\"ann@example.org\",\"original_recipient\":null,";
 /// assert!(rt; out.as_slice().starts_with(line));
 /// assert!(rt; out.as_slice().ends_with(b"\"status\":null,\"diagnostic_code\":null}]\n"));
 /// ```
-pub fn write_recipients<W: Write>(
+pub fn write_recipients<W: Write, K: KnownCharsets>(
     alloc: Global,
     mail: &ParsedMail<'_>,
     out: &mut W,
+    known: &K,
 ) -> Result<(), Fault>
     ensures { Writes (W.contents out.old) (W.contents out.new) result
-        (deliveries_text (recipients (tree_of mail.now))) }
+        (deliveries_text (recipients (K.known known.now) (tree_of mail.now))) }
 {
-    let found = recipients(alloc, mail)?;
+    let found = recipients(alloc, mail, known)?;
     write_word(out, "[")?;
     let mut is_first = true;
     for recipient in &found {

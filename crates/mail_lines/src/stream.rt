@@ -17,6 +17,7 @@ use crate::reading::Reading;
 use mail_data::mailbox::formats::{Format, read_mailbox_in, settled_entry_in};
 use mail_data::mailbox::{self, has_front, has_line};
 use mail_program::{Fault, read_more};
+use mailparse::KnownCharsets;
 use std::alloc::{AllocError, Global};
 use std::io::{self, ErrorKind, Read, Write};
 
@@ -81,27 +82,27 @@ struct Settled<'a> {
 ///
 /// let mut reader = b"From a@b Fri Jul  8 12:08:34 2011\nSubject: Hi\n\nHello\n".as_slice();
 /// let mut out = Vec::new(alloc);
-/// let reading = Reading::new(&[]);
-/// let is_clean =
-///     write_input(alloc, &mut reader, Form::Either, None, &mut out, reading, &mut Unwatched)?;
+/// let (form, reading, watch) = (Form::Either, Reading::new(), &mut Unwatched);
+/// let is_clean = write_input(alloc, &mut reader, form, None, &mut out, &(), reading, watch)?;
 /// assert!(rt; is_clean);
 /// assert!(rt; out.as_slice().starts_with(b"{\"schema\":4,\"file\":null,\"number\":1,\"start\":34,"));
 /// ```
-pub fn write_input<R: Read, W: Write, M: Watch>(
+pub fn write_input<R: Read, W: Write, M: Watch, K: KnownCharsets>(
     alloc: Global,
     reader: &mut R,
     form: Form,
     file: Option<&str>,
     out: &mut W,
-    reading: Reading<'_>,
+    known: &K,
+    reading: Reading,
     watch: &mut M,
 ) -> Result<bool, Fault>
     ensures { WritesInput (R.remaining reader.old) (R.remaining reader.new)
         (W.contents out.old) (W.contents out.new) result (AreInputLines
-        (reading_of reading.entry) form (option_map (λ name. name.now) file.entry)) }
+        (reading_of (K.known known.now) reading) form (option_map (λ name. name.now) file.entry)) }
 {
     let which = Which::Numbered(1);
-    write_chosen(alloc, reader, form, which, file, out, reading, watch)
+    write_chosen(alloc, reader, form, which, file, out, known, reading, watch)
 }
 
 /// Writes the lines of an input, of a mailbox those of the mails that are to have one, each as soon as
@@ -111,24 +112,35 @@ pub fn write_input<R: Read, W: Write, M: Watch>(
 ///
 /// `Fault::Input` where a read fails, `Fault::Output` where a write fails, and `Fault::Mail` with
 /// `MailParseError::Memory` where it runs out of memory.
-pub fn write_chosen<R: Read, W: Write, M: Watch>(
+pub fn write_chosen<R: Read, W: Write, M: Watch, K: KnownCharsets>(
     alloc: Global,
     reader: &mut R,
     form: Form,
     which: Which,
     file: Option<&str>,
     out: &mut W,
-    reading: Reading<'_>,
+    known: &K,
+    reading: Reading,
     watch: &mut M,
 ) -> Result<bool, Fault>
     ensures { WritesChosen which (R.remaining reader.old) (R.remaining reader.new)
         (W.contents out.old) (W.contents out.new) result (AreInputChosen
-        (reading_of reading.entry) form (option_map (λ name. name.now) file.entry) which) }
+        (reading_of (K.known known.now) reading) form (option_map (λ name. name.now) file.entry)
+        which) }
 {
     let mut read = Vec::new(alloc);
     let has_ended = read_until(alloc, reader, &mut read, first_wanted(form))?;
     if has_ended {
-        return write_whole(alloc, read.as_slice(), form, which, file, out, reading);
+        return write_whole(
+            alloc,
+            read.as_slice(),
+            form,
+            which,
+            file,
+            out,
+            known,
+            reading,
+        );
     }
     if is_mailbox(form, read.as_slice()) {
         let format = format_of(form);
@@ -140,32 +152,43 @@ pub fn write_chosen<R: Read, W: Write, M: Watch>(
             which,
             file,
             out,
+            known,
             reading,
             watch,
         );
     }
     read_until(alloc, reader, &mut read, Wanted::End)?;
-    write_single(alloc, read.as_slice(), file, out, reading)
+    write_single(alloc, read.as_slice(), file, out, known, reading)
 }
 
 /// Writes the lines of an input that was read to its end. Returns whether there was no error.
-fn write_whole<W: Write>(
+fn write_whole<W: Write, K: KnownCharsets>(
     alloc: Global,
     input: &[u8],
     form: Form,
     which: Which,
     file: Option<&str>,
     out: &mut W,
-    reading: Reading<'_>,
+    known: &K,
+    reading: Reading,
 ) -> Result<bool, Fault>
     ensures { WritesLines (W.contents out.old) (W.contents out.new) result
-        (AreInputChosen (reading_of reading.entry) form
+        (AreInputChosen (reading_of (K.known known.now) reading) form
         (option_map (λ name. name.now) file.entry) which input.now) }
 {
     if is_mailbox(form, input) {
-        write_mailbox(alloc, input, format_of(form), which, file, out, reading)
+        write_mailbox(
+            alloc,
+            input,
+            format_of(form),
+            which,
+            file,
+            out,
+            known,
+            reading,
+        )
     } else {
-        write_single(alloc, input, file, out, reading)
+        write_single(alloc, input, file, out, known, reading)
     }
 }
 
@@ -248,7 +271,7 @@ fn is_there(wanted: Wanted, bytes: &[u8]) -> bool
 
 /// Writes the lines of a mailbox in a format of which these bytes were read, the first separator
 /// among them. Returns whether there was no error.
-fn write_following<R: Read, W: Write, M: Watch>(
+fn write_following<R: Read, W: Write, M: Watch, K: KnownCharsets>(
     alloc: Global,
     reader: &mut R,
     read: &[u8],
@@ -256,13 +279,15 @@ fn write_following<R: Read, W: Write, M: Watch>(
     which: Which,
     file: Option<&str>,
     out: &mut W,
-    reading: Reading<'_>,
+    known: &K,
+    reading: Reading,
     watch: &mut M,
 ) -> Result<bool, Fault>
     requires { has_front read.now ≡ true }
     ensures { WritesChosen which (R.remaining reader.old) (R.remaining reader.new)
         (W.contents out.old) (W.contents out.new) result (λ more. AreMailboxChosen
-        (reading_of reading.entry) format (option_map (λ name. name.now) file.entry) which
+        (reading_of (K.known known.now) reading) format (option_map (λ name. name.now) file.entry)
+        which
         (read.now ++ more)) }
 {
     let front = read_mailbox_in(format, read).front();
@@ -273,7 +298,7 @@ fn write_following<R: Read, W: Write, M: Watch>(
     };
     let rest = &read[front.len()..];
     let are_read = write_rest(
-        alloc, reader, rest, format, first, file, out, reading, watch,
+        alloc, reader, rest, format, first, file, out, known, reading, watch,
     )?;
     Ok(is_all_whitespace & are_read)
 }
@@ -286,7 +311,7 @@ fn write_following<R: Read, W: Write, M: Watch>(
 ///
 /// `Fault::Input` where a read fails, `Fault::Output` where a write fails, and `Fault::Mail` with
 /// `MailParseError::Memory` where it runs out of memory.
-pub fn write_rest<R: Read, W: Write, M: Watch>(
+pub fn write_rest<R: Read, W: Write, M: Watch, K: KnownCharsets>(
     alloc: Global,
     reader: &mut R,
     read: &[u8],
@@ -294,12 +319,13 @@ pub fn write_rest<R: Read, W: Write, M: Watch>(
     first: Next,
     file: Option<&str>,
     out: &mut W,
-    reading: Reading<'_>,
+    known: &K,
+    reading: Reading,
     watch: &mut M,
 ) -> Result<bool, Fault>
     ensures { WritesChosen first.which (R.remaining reader.old) (R.remaining reader.new)
         (W.contents out.old) (W.contents out.new) result (λ more. AreChosen
-        (reading_of reading.entry) format (option_map (λ name. name.now) file.entry)
+        (reading_of (K.known known.now) reading) format (option_map (λ name. name.now) file.entry)
         first.which (placed_from first.at (entries_in format (read.now ++ more)))) }
 {
     let mut is_clean = true;
@@ -312,10 +338,11 @@ pub fn write_rest<R: Read, W: Write, M: Watch>(
         let has_ended = read_until(alloc, reader, &mut pending, Wanted::FirstMail(format))?;
         if has_ended {
             let mails = read_mailbox_in(format, pending.as_slice());
-            let are_read = write_mails(alloc, mails, format, next, file, out, reading)?;
+            let are_read = write_mails(alloc, mails, format, next, file, out, known, reading)?;
             return Ok(is_clean & are_read);
         }
-        let settled = write_settled(alloc, pending.as_slice(), format, next, file, out, reading)?;
+        let bytes = pending.as_slice();
+        let settled = write_settled(alloc, bytes, format, next, file, out, known, reading)?;
         flush(out)?;
         is_clean &= settled.is_clean;
         next = settled.next;
@@ -326,17 +353,19 @@ pub fn write_rest<R: Read, W: Write, M: Watch>(
 }
 
 /// Writes the mails at the front of what was read that nothing which follows changes.
-fn write_settled<'a, W: Write>(
+fn write_settled<'a, W: Write, K: KnownCharsets>(
     alloc: Global,
     bytes: &'a [u8],
     format: Format,
     first: Next,
     file: Option<&str>,
     out: &mut W,
-    reading: Reading<'_>,
+    known: &K,
+    reading: Reading,
 ) -> Result<Settled<'a>, Fault>
-    ensures written { IfOk result (λ s. WritesSettled (reading_of reading.entry) format
-        (option_map (λ name. name.now) file.entry) (W.contents out.old) (W.contents out.new)
+    ensures written { IfOk result (λ s. WritesSettled
+        (reading_of (K.known known.now) reading) format (option_map (λ name. name.now) file.entry)
+        (W.contents out.old) (W.contents out.new)
         first.which first.at bytes.now s.next.which s.next.at s.rest.now s.is_clean) }
     ensures failed { IfErr result IsEnd }
 {
@@ -344,7 +373,7 @@ fn write_settled<'a, W: Write>(
     let mut next = first;
     let mut is_clean = true;
     'mails: while let Some((entry, after)) = settled_entry_in(format, rest) {
-        let is_read = write_entry(alloc, &entry, format, next, file, out, reading)?;
+        let is_read = write_entry(alloc, &entry, format, next, file, out, known, reading)?;
         is_clean &= is_read;
         next = next.after(&entry);
         rest = after;

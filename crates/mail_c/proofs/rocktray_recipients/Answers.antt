@@ -1,4 +1,5 @@
 use Rattle.std.proofs.Common.{◌≡◌, refl}
+use Rattle.mail_charsets.specs.All.{charsets_of}
 use Rattle.mail_c.specs.Calls.{recipients}
 use Rattle.mail_c.specs.Room.{Found}
 use Rattle.mail_c.proofs.lemmas.Room.{ends, gives}
@@ -6,6 +7,7 @@ use Rattle.mail_c.proofs.rocktray_recipients.Goals as goal
 
 pub returns : goal.returns
 returns c =
-    let given = recipients c.args.mail.now in
+    let known = charsets_of c.charsets.result.tables.now c.charsets.result.indexes in
+    let given = recipients known c.args.mail.now in
     let found = gives (λ (found : Found). given ≡ found) given c.recipients.result refl c.recipients.ensures in
-    ends (λ (found : Found). given ≡ found) c.recipients.result _ _ _ _ _ found c.leave.ensures
+    (known, ends (λ (found : Found). given ≡ found) c.recipients.result _ _ _ _ _ found c.leave.ensures)

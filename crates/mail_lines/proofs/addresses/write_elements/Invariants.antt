@@ -1,6 +1,5 @@
 -- What was written is completed by the elements that are left.
 use Rattle.std.proofs.Common.{drop, map}
-use Rattle.mail_codec.specs.Tables.{charsets_with}
 use Rattle.mail_address.specs.AddressViews.{element_view}
 use Rattle.mail_lines.specs.Addresses.{element_text}
 use Rattle.mail_lines.proofs.lemmas.Strings.{Wrote}
@@ -8,5 +7,5 @@ use Rattle.mail_lines.proofs.addresses.write_elements.Given as goal
 
 abbrev pub invariant-loop-element : goal.invariant-loop-element
 invariant-loop-element g l =
-    Wrote (element_text (charsets_with l.tables)) (g.W.Write.contents l.initial.out) (g.W.Write.contents l.out) l.is_first
+    Wrote (element_text (g.K.KnownCharsets.known l.known)) (g.W.Write.contents l.initial.out) (g.W.Write.contents l.out) l.is_first
     (map element_view (drop l.element-index l.elements)) (map element_view l.elements)

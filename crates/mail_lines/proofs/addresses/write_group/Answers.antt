@@ -1,6 +1,5 @@
 use Rattle.std.proofs.Common.{List, map, sym, ap}
 use Rattle.std.proofs.KnownBytes.{Appends-trans}
-use Rattle.mail_codec.specs.Tables.{charsets_with}
 use Rattle.mail_address.specs.AddressViews.{member_view}
 use Rattle.mail_address.specs.declared.list.Member.{Member}
 use Rattle.mail_lines.specs.Addresses.{single_text}
@@ -12,7 +11,7 @@ use Rattle.mail_lines.proofs.addresses.write_group.Goals as goal
 pub returns : goal.returns
 returns g c =
     let name = appends_as _ _ _ _ (ap json_text (sym (ok_same _ _ c.in_ok-name.ensures))) c.in_ok-write_owned.ensures in
-    let members = appends_as _ _ _ _ (ap (λ (ms : List Member). joined (single_text (charsets_with c.args.tables.now)) (map member_view ms)) c.as_slice.ensures.value)
+    let members = appends_as _ _ _ _ (ap (λ (ms : List Member). joined (single_text (g.K.KnownCharsets.known c.args.known.now)) (map member_view ms)) c.as_slice.ensures.value)
     c.in_ok-write_members.ensures in
     let two = Appends-trans _ _ _ _ _ c.in_ok-write_word.ensures name in
     let three = Appends-trans _ _ _ _ _ two c.in_ok-write_word-2.ensures in

@@ -15,7 +15,7 @@ use Rattle.mail_lines.proofs.inside.write_inner_parts.Goals as goal
 
 pub returns-in-Ok : goal.returns-in-Ok
 returns-in-Ok g c =
-    let reading = reading_of c.args.reading in
+    let reading = reading_of (g.K.KnownCharsets.known c.args.known.now) c.args.reading in
     let inner = c.args.inner.now in
     let mail = c.in-Ok.mail in
     let bytes = ap (λ (b : List ℕ). read_mail_in reading.known 100 b) c.as_slice.ensures.value in
@@ -27,7 +27,7 @@ returns-in-Ok g c =
 
 pub returns-in_ok-refused-in-Err : goal.returns-in_ok-refused-in-Err
 returns-in_ok-refused-in-Err g c =
-    let reading = reading_of c.args.reading in
+    let reading = reading_of (g.K.KnownCharsets.known c.args.known.now) c.args.reading in
     let inner = c.args.inner.now in
     let bytes = ap (λ (b : List ℕ). read_mail_in reading.known 100 b) c.as_slice.ensures.value in
     let refusal = refused_or_memory c.in-Err.error (read_mail_in reading.known 100 c.as_slice.result.now) c.in_ok-refused-in-Err.ensures c.in-Err.ensures.read in

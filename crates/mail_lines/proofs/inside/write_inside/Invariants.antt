@@ -9,4 +9,4 @@ use Rattle.mail_lines.proofs.inside.write_inside.Given as goal
 abbrev pub invariant-loop-mail : goal.invariant-loop-mail
 invariant-loop-mail g l =
     (done : List ℕ) × Appends (g.W.Write.contents l.initial.out) (g.W.Write.contents l.out) done
-    × Insides (reading_of l.fn.reading) l.start (map inner_view (drop l.mail-index l.mails)) (map inner_view l.mails) done
+    × Insides (reading_of (g.K.KnownCharsets.known l.known) l.fn.reading) l.start (map inner_view (drop l.mail-index l.mails)) (map inner_view l.mails) done

@@ -11,7 +11,7 @@ use Rattle.mail_lines.proofs.lemmas.Strings.{drop_next}
 use Rattle.mail_lines.proofs.inside.write_places.Goals as goal
 
 pub loop-place-init : goal.loop-place-init
-loop-place-init g c = ([], Appends-nil _, commas_start (IsPartText (reading_of c.args.reading) c.args.start) _ _ refl)
+loop-place-init g c = ([], Appends-nil _, commas_start (IsPartText (reading_of (g.K.KnownCharsets.known c.args.known.now) c.args.reading) c.args.start) _ _ refl)
 
 pub loop-place-preserved : goal.loop-place-preserved
 loop-place-preserved g c =
@@ -21,7 +21,7 @@ loop-place-preserved g c =
     let part = c.in_ok-write_part.ensures in (
       here.0 ++ (codes "," ++ part.0),
       Appends-trans _ _ _ here.0 (codes "," ++ part.0) here.1 (Appends-trans _ _ _ (codes ",") part.0 c.in_ok-write_word.ensures part.2),
-      commas_more (IsPartText (reading_of c.args.reading) c.args.start) (place_view c.place-item.result) _ (map place_view (drop (c.loop-place.place-index + 1) items))
+      commas_more (IsPartText (reading_of (g.K.KnownCharsets.known c.args.known.now) c.args.reading) c.args.start) (place_view c.place-item.result) _ (map place_view (drop (c.loop-place.place-index + 1) items))
           (map place_view items) here.0 part.0 (ap (map place_view) left) here.2 part.1,
     )
 
@@ -30,5 +30,5 @@ returns g c =
     let here = c.loop-place.invariant in
     let items = c.deref-place-items.result.now in
     let none = drop_all c.loop-place.place-index items (omega arith) in
-    let all = commas_end (IsPartText (reading_of c.args.reading) c.args.start) _ (map place_view items) here.0 (ap (map place_view) none) here.2 in
-    (here.0, subst (λ (found : List words.Place). AreAfterCommas (IsPartText (reading_of c.args.reading) c.args.start) found here.0) (ap (map place_view) c.deref-place-items.ensures.value ∙ c.in_ok-found.ensures) all, here.1)
+    let all = commas_end (IsPartText (reading_of (g.K.KnownCharsets.known c.args.known.now) c.args.reading) c.args.start) _ (map place_view items) here.0 (ap (map place_view) none) here.2 in
+    (here.0, subst (λ (found : List words.Place). AreAfterCommas (IsPartText (reading_of (g.K.KnownCharsets.known c.args.known.now) c.args.reading) c.args.start) found here.0) (ap (map place_view) c.deref-place-items.ensures.value ∙ c.in_ok-found.ensures) all, here.1)

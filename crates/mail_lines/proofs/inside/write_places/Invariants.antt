@@ -10,4 +10,4 @@ use Rattle.mail_lines.proofs.inside.write_places.Given as goal
 abbrev pub invariant-loop-place : goal.invariant-loop-place
 invariant-loop-place g l =
     (done : List ℕ) × Appends (g.W.Write.contents l.initial.out) (g.W.Write.contents l.out) done
-    × Commas (IsPartText (reading_of l.fn.reading) l.start) (map place_view (drop l.place-index l.place-items)) (map place_view l.place-items) done
+    × Commas (IsPartText (reading_of (g.K.KnownCharsets.known l.known) l.fn.reading) l.start) (map place_view (drop l.place-index l.place-items)) (map place_view l.place-items) done

@@ -12,7 +12,7 @@ returns-then-is_wanted g c =
     let next = c.args.next in
     let entry = c.args.entry.now in
     wanted_lines _ _ c.write_wanted.result
-    (IsLine (reading_of c.args.reading) (origin_at (option_map (λ name. name.now) c.args.file) (number_of next.which) next.at entry) (mail_in c.args.format entry.mail))
+    (IsLine (reading_of (g.K.KnownCharsets.known c.args.known.now) c.args.reading) (origin_at (option_map (λ name. name.now) c.args.file) (number_of next.which) next.at entry) (mail_in c.args.format entry.mail))
     (is_wanted next.which next.at) (sym c.is_wanted.ensures ∙ c.if-is_wanted.true) c.write_wanted.ensures
 
 pub returns-else-is_wanted : goal.returns-else-is_wanted
@@ -21,7 +21,7 @@ returns-else-is_wanted g c =
     let entry = c.args.entry.now in (
       [],
       unwanted_lines
-          (IsLine (reading_of c.args.reading) (origin_at (option_map (λ name. name.now) c.args.file) (number_of next.which) next.at entry) (mail_in c.args.format entry.mail))
+          (IsLine (reading_of (g.K.KnownCharsets.known c.args.known.now) c.args.reading) (origin_at (option_map (λ name. name.now) c.args.file) (number_of next.which) next.at entry) (mail_in c.args.format entry.mail))
           (is_wanted next.which next.at) (sym c.is_wanted.ensures ∙ c.if-is_wanted.false),
       Appends-nil (g.W.Write.contents c.args.out.now),
     )

@@ -11,7 +11,7 @@ use Rattle.mail_lines.proofs.lines.write_line.Goals as goal
 
 pub returns-in_ok-write_word-in-Ok : goal.returns-in_ok-write_word-in-Ok
 returns-in_ok-write_word-in-Ok g c =
-    let reading = reading_of c.args.reading in
+    let reading = reading_of (g.K.KnownCharsets.known c.args.known.now) c.args.reading in
     let object = c.in_ok-write_mail-in-Ok.ensures in
     let line = object.0 ++ codes "\n" in (
       line,
@@ -21,7 +21,7 @@ returns-in_ok-write_word-in-Ok g c =
 
 pub returns-in_ok-write_error-in-Err : goal.returns-in_ok-write_error-in-Err
 returns-in_ok-write_error-in-Err g c =
-    let reading = reading_of c.args.reading in
+    let reading = reading_of (g.K.KnownCharsets.known c.args.known.now) c.args.reading in
     let refusal = refused_or_memory c.in-Err.error (read_mail_in reading.known 100 c.args.raw.now) c.in_ok-text-in-Err.ensures.passed_on c.in-Err.ensures.read in
     let why = c.as_str.ensures.value ∙ c.in_ok-text-in-Err.ensures.read refusal.0 refusal.1 in
     let line = error_line (origin_of c.args.origin.now) c.as_str.result.now in

@@ -10,7 +10,7 @@ returns g c =
     let front = c.in_ok-is_all_whitespace.ensures in
     let mails = c.in_ok-are_read.ensures in (
       front.0 ++ mails.0,
-      mailbox_lines (reading_of c.args.reading) c.args.format (option_map (λ name. name.now) c.args.file) c.args.which c.args.input.now c.front-front.result.now (left_in c.read_mailbox_in-mails.result)
+      mailbox_lines (reading_of (g.K.KnownCharsets.known c.args.known.now) c.args.reading) c.args.format (option_map (λ name. name.now) c.args.file) c.args.which c.args.input.now c.front-front.result.now (left_in c.read_mailbox_in-mails.result)
           c.in_ok-is_all_whitespace.is_all_whitespace c.in_ok-are_read.are_read front.0 mails.0 (c.front-front.ensures ∙ c.read_mailbox_in-mails.ensures.front)
           c.read_mailbox_in-mails.ensures.read front.1 mails.1,
       Appends-trans _ _ _ front.0 mails.0 front.2 mails.2,

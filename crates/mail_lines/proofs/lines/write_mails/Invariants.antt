@@ -9,5 +9,5 @@ use Rattle.mail_lines.proofs.lines.write_mails.Given as goal
 abbrev pub invariant-loop-entry : goal.invariant-loop-entry
 invariant-loop-entry g l =
     (done : List ℕ) × Appends (g.W.Write.contents l.fn.out) (g.W.Write.contents l.out) done
-    × Continues (reading_of l.fn.reading) l.format (option_map (λ name. name.now) l.fn.file) l.fn.first.which l.fn.first.at (left_in l.fn.mails)
+    × Continues (reading_of (g.K.KnownCharsets.known l.known) l.fn.reading) l.format (option_map (λ name. name.now) l.fn.file) l.fn.first.which l.fn.first.at (left_in l.fn.mails)
     l.next.which l.next.at (left_in l.entry-iterator) l.is_clean done

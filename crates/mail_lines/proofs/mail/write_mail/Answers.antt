@@ -17,7 +17,7 @@ use Rattle.mail_lines.proofs.mail.write_mail.Goals as goal
 
 pub returns : goal.returns
 returns g c =
-    let reading = reading_of c.args.reading in
+    let reading = reading_of (g.K.KnownCharsets.known c.args.known.now) c.args.reading in
     let mail = tree_of c.args.mail.now in
     let origin = origin_of c.args.origin.now in
     let inside = map inner_view c.in_ok-inside.inside.items in

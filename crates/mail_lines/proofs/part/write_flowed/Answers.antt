@@ -1,6 +1,5 @@
 use Rattle.std.proofs.Common.{true, sym, ap}
 use Rattle.std.proofs.KnownBytes.{Appends-trans}
-use Rattle.mail_codec.specs.Tables.{charsets_with}
 use Rattle.mailparse.specs.BodyViews.{content_of}
 use Rattle.mailparse.specs.Mail.{root}
 use Rattle.mailparse.specs.Views.{tree_of}
@@ -16,7 +15,7 @@ pub returns-then-not-is_read : goal.returns-then-not-is_read
 returns-then-not-is_read g c =
     let node = root (tree_of c.args.part.now) in
     writes_as _ _ c.write_word.result _ _
-    (text-hidden (charsets_with c.args.tables.now) true c.args.is_read (lenient_body_kind node) (content_of node) c.if-not-is_read.true) c.write_word.ensures
+    (text-hidden (g.K.KnownCharsets.known c.args.known.now) true c.args.is_read (lenient_body_kind node) (content_of node) c.if-not-is_read.true) c.write_word.ensures
 
 pub returns : goal.returns
 returns g c =
@@ -29,4 +28,4 @@ returns g c =
     let three = Appends-trans _ _ _ _ _ two charset in
     let written = writes_then _ _ _ c.write_word-4.result _ _ three (writes_as _ _ c.write_word-4.result _ _ c.damaged_text.ensures c.write_word-4.ensures) in
     writes_as _ _ c.write_word-4.result _ _
-    (text-flowed (charsets_with c.args.tables.now) c.args.is_read node (text_view read) c.if-not-is_read.false (sym (ok_same _ _ c.in_ok-read.ensures))) written
+    (text-flowed (g.K.KnownCharsets.known c.args.known.now) c.args.is_read node (text_view read) c.if-not-is_read.false (sym (ok_same _ _ c.in_ok-read.ensures))) written

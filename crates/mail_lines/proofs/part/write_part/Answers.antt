@@ -23,7 +23,7 @@ use Rattle.mail_lines.proofs.part.write_part.Goals as goal
 
 pub returns : goal.returns
 returns g c =
-    let reading = reading_of c.args.reading in
+    let reading = reading_of (g.K.KnownCharsets.known c.args.known.now) c.args.reading in
     let known = reading.known in
     let m = c.args.place.now.part.now in
     let node = root (tree_of m) in

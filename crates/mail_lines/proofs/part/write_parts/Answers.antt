@@ -22,7 +22,7 @@ loop-place-preserved g c =
     let first = c.loop-place.is_first in (
       here.0 ++ (comma first ++ part.0),
       Appends-trans _ _ _ here.0 (comma first ++ part.0) here.1 (Appends-trans _ _ _ (comma first) part.0 c.in_ok-write_comma.ensures part.2),
-      joins_more (IsPartText (reading_of c.args.reading) (Some c.args.start)) first (place_view c.place-item.result) _ (map place_view (drop (c.loop-place.place-index + 1) items))
+      joins_more (IsPartText (reading_of (g.K.KnownCharsets.known c.args.known.now) c.args.reading) (Some c.args.start)) first (place_view c.place-item.result) _ (map place_view (drop (c.loop-place.place-index + 1) items))
           (map place_view items) here.0 part.0 (ap (map place_view) left) here.2 part.1,
     )
 
@@ -31,6 +31,6 @@ returns g c =
     let here = c.loop-place.invariant in
     let items = c.deref-place-items.result.now in
     let none = drop_all c.loop-place.place-index items (omega arith) in
-    let all = joins_end (IsPartText (reading_of c.args.reading) (Some c.args.start)) c.loop-place.is_first _ (map place_view items) here.0
+    let all = joins_end (IsPartText (reading_of (g.K.KnownCharsets.known c.args.known.now) c.args.reading) (Some c.args.start)) c.loop-place.is_first _ (map place_view items) here.0
     (ap (map place_view) none) here.2 in
-    (here.0, subst (λ (found : List words.Place). AreJoined (IsPartText (reading_of c.args.reading) (Some c.args.start)) found here.0) (ap (map place_view) c.deref-place-items.ensures.value ∙ c.in_ok-found.ensures) all, here.1)
+    (here.0, subst (λ (found : List words.Place). AreJoined (IsPartText (reading_of (g.K.KnownCharsets.known c.args.known.now) c.args.reading) (Some c.args.start)) found here.0) (ap (map place_view) c.deref-place-items.ensures.value ∙ c.in_ok-found.ensures) all, here.1)

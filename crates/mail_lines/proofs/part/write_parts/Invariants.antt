@@ -10,4 +10,4 @@ use Rattle.mail_lines.proofs.part.write_parts.Given as goal
 abbrev pub invariant-loop-place : goal.invariant-loop-place
 invariant-loop-place g l =
     (done : List ℕ) × Appends (g.W.Write.contents l.initial.out) (g.W.Write.contents l.out) done
-    × Joins (IsPartText (reading_of l.fn.reading) (Some l.start)) l.is_first (map place_view (drop l.place-index l.place-items)) (map place_view l.place-items) done
+    × Joins (IsPartText (reading_of (g.K.KnownCharsets.known l.known) l.fn.reading) (Some l.start)) l.is_first (map place_view (drop l.place-index l.place-items)) (map place_view l.place-items) done

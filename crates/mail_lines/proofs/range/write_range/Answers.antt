@@ -21,7 +21,7 @@ returns-then-has_ended g c =
     let size : length front ≡ front_length bytes = ap length (c.front-front.ensures ∙ mails.ensures.front) ∙ length-take-le (front_length bytes) bytes (front_length-≤ bytes) in
     let place : c.saturating_add.result ≡ saturating_add (reading_start range.from) (front_length bytes) =
     c.saturating_add.ensures ∙ ap (λ (n : ℕ). saturating_add n (length front)) c.reading_start.ensures ∙ ap (saturating_add (reading_start range.from)) size in
-    range_whole (reading_of c.args.reading) c.args.format (option_map (λ name. name.now) c.args.file) c.within.result range.from range.to (reading_start range.from)
+    range_whole (reading_of (g.K.KnownCharsets.known c.args.known.now) c.args.reading) c.args.format (option_map (λ name. name.now) c.args.file) c.within.result range.from range.to (reading_start range.from)
     c.saturating_add.result _ _ _ _ c.write_mails.result taken.0 bytes (left_in mails.result) c.within.ensures.value c.within.ensures.fits place mails.ensures.read (sym whole) taken.1
     (taken.3 c.if-has_ended.true) c.write_mails.ensures
 
@@ -39,7 +39,7 @@ returns g c =
     let place : c.saturating_add.result ≡ saturating_add (reading_start range.from) (front_length read) =
     c.saturating_add.ensures ∙ ap (λ (n : ℕ). saturating_add n (length front)) c.reading_start.ensures ∙ ap (saturating_add (reading_start range.from)) size in
     let slice = c.deref.result.now in
-    range_rest (reading_of c.args.reading) c.args.format (option_map (λ name. name.now) c.args.file) c.within.result range.from range.to (reading_start range.from)
+    range_rest (reading_of (g.K.KnownCharsets.known c.args.known.now) c.args.reading) c.args.format (option_map (λ name. name.now) c.args.file) c.within.result range.from range.to (reading_start range.from)
     c.saturating_add.result _ _ _ _ _ c.write_rest.result read (take (length slice - length front) (drop (length front) slice)) c.within.ensures.value c.within.ensures.fits
     (taken.4 c.if-has_ended.false) place
     (take_rest slice (length front) ∙ ap (drop (length front)) c.deref.ensures.value ∙ ap (λ (n : ℕ). drop n read) size)

@@ -23,5 +23,5 @@ returns g c =
     let none = drop_all c.loop-recipient.recipient-index items (omega arith) in
     let all = wrote_all delivery_text _ _ c.loop-recipient.is_first _ _ (ap (map delivery) none) c.loop-recipient.invariant in
     let written = writes_then _ _ _ _ _ _ (Appends-trans _ _ _ _ _ c.in_ok-write_word.ensures all) c.write_word-2.ensures in
-    let same : map delivery items ≡ recipients (tree_of c.args.mail.now) = search rules in
+    let same : map delivery items ≡ recipients (g.K.KnownCharsets.known c.args.known.now) (tree_of c.args.mail.now) = search rules in
     writes_as _ _ _ _ _ (ap deliveries_text same) written

@@ -22,7 +22,7 @@ write_following-requires g c =
 
 pub returns-then-has_ended : goal.returns-then-has_ended
 returns-then-has_ended g c =
-    let reading = reading_of c.args.reading in
+    let reading = reading_of (g.K.KnownCharsets.known c.args.known.now) c.args.reading in
     let file = option_map (λ name. name.now) c.args.file in
     let taken = c.in_ok-has_ended.ensures in
     let bytes = c.as_slice.result.now in
@@ -34,7 +34,7 @@ returns-then-has_ended g c =
 
 pub returns-then-is_mailbox : goal.returns-then-is_mailbox
 returns-then-is_mailbox g c =
-    let reading = reading_of c.args.reading in
+    let reading = reading_of (g.K.KnownCharsets.known c.args.known.now) c.args.reading in
     let file = option_map (λ name. name.now) c.args.file in
     let form = c.args.form in
     let wanted = c.args.which in
@@ -54,7 +54,7 @@ returns-then-is_mailbox g c =
 
 pub returns : goal.returns
 returns g c =
-    let reading = reading_of c.args.reading in
+    let reading = reading_of (g.K.KnownCharsets.known c.args.known.now) c.args.reading in
     let file = option_map (λ name. name.now) c.args.file in
     let form = c.args.form in
     let wanted = c.args.which in

@@ -5,4 +5,4 @@ use Rattle.mail_lines.proofs.stream.write_input.Goals as goal
 
 pub returns : goal.returns
 returns g c =
-    input_numbered (reading_of c.args.reading) c.args.form (option_map (λ name. name.now) c.args.file) _ _ _ _ c.write_chosen.result c.write_chosen.ensures
+    input_numbered (reading_of (g.K.KnownCharsets.known c.args.known.now) c.args.reading) c.args.form (option_map (λ name. name.now) c.args.file) _ _ _ _ c.write_chosen.result c.write_chosen.ensures

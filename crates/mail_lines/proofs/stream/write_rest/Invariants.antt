@@ -10,5 +10,5 @@ abbrev pub invariant-loop-turn : goal.invariant-loop-turn
 invariant-loop-turn g l =
     (more : List ℕ) × (done : List ℕ) × Consumes (g.R.Read.remaining l.fn.reader) (g.R.Read.remaining l.reader) more
     × Appends (g.W.Write.contents l.fn.out) (g.W.Write.contents l.out) done
-    × Follows (reading_of l.fn.reading) l.format (option_map (λ name. name.now) l.fn.file) l.fn.first.which l.fn.first.at l.read more l.next.which l.next.at l.pending.items l.is_clean done
+    × Follows (reading_of (g.K.KnownCharsets.known l.known) l.fn.reading) l.format (option_map (λ name. name.now) l.fn.file) l.fn.first.which l.fn.first.at l.read more l.next.which l.next.at l.pending.items l.is_clean done
     × (is_range l.next.which ≡ is_range l.fn.first.which)
