@@ -3,9 +3,10 @@
 
 The mails are those of samples/, but for parts.eml, whose line `--bX` is no delimiter for Python, and made ones: one
 with files of many lengths, each under the name of its length; one with a part of each of many types, without names;
-and forwarded mails inside one another, plain and encoded. All are read twice into one folder, where the second time
-each name is taken. Of the made ones each part that Python's `walk` or `iter_attachments` gives has to be there too, but
-for texts that readers show, and the endings have to be those that Python's `mimetypes` has for the type.
+forwarded mails inside one another, plain and encoded; and a multipart whose delimiter never comes. All are read twice
+into one folder, where the second time each name is taken. Of the made ones each part that Python's `walk` or
+`iter_attachments` gives has to be there too, but for texts that readers show, and the endings have to be those that
+Python's `mimetypes` has for the type.
 
 The last line is `N passed, N failed`; the status is 1 where a comparison failed.
 """
@@ -73,7 +74,12 @@ def forwarding():
     return mail
 
 
-MADE = {"sized": sized, "typed": typed, "forwarding": forwarding}
+def undelimited():
+    """A multipart whose delimiter never comes."""
+    return b"Content-Type: multipart/mixed; boundary=never\n\nNo delimiter\n--other\nstands here.\n"
+
+
+MADE = {"sized": sized, "typed": typed, "forwarding": forwarding, "undelimited": undelimited}
 
 
 def said_there(path):

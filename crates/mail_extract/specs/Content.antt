@@ -1,5 +1,5 @@
 -- The bytes of a file that are saved: those that can be read.
-use Rattle.std.specs.Prelude.{ℕ, List, Option, Some, None, Ok, Err}
+use Rattle.std.specs.Prelude.{ℕ, ◌==◌, List, length, drop, Option, Some, None, Ok, Err, if◌then◌else◌}
 use Rattle.mailparse.specs.Body.{decoded}
 use Rattle.mailparse.specs.Mail.{Node}
 use Rattle.mailparse.specs.Refusal.{Reads, Refusal}
@@ -20,6 +20,13 @@ abbrev pub readable : Reads (List ℕ) → List ℕ → Content
 readable (Ok bytes) body = whole bytes
 readable (Err refusal) body = record { bytes = (base64_front body).bytes; refusal = Some refusal }
 
--- what can be read of a part
+-- the bytes of a part that follow its headers
+abbrev pub after_headers : Node → List ℕ
+after_headers node = drop (length node.block) node.bytes
+
+-- what can be read of a part; where its body is empty, as that of a multipart whose delimiter never comes, all that follows its headers
 abbrev pub content : Node → Content
-content node = readable (decoded (lenient_body_kind node) node.body) node.body
+content node =
+    if length node.body == 0
+    then whole (after_headers node)
+    else readable (decoded (lenient_body_kind node) node.body) node.body

@@ -1,6 +1,5 @@
 //! The files of a mail, each with a name that is safe and the bytes that can be read.
 ghost use Rattle.std.specs.Prelude.{◌≡◌, map, string_bytes, All, IfOk, Ok};
-ghost use Rattle.mail_codec.specs.Tables.{charsets_with};
 ghost use Rattle.mailparse.specs.Mail.{root};
 ghost use Rattle.mailparse.specs.Outcome.{AnswersOrMemory, GivesText};
 ghost use Rattle.mailparse.specs.Views.{tree_of};
@@ -10,10 +9,10 @@ ghost use Rattle.mail_data.specs.FileViews.{attachment_view};
 ghost use Rattle.mail_jobs.specs.Attachments.{stored, stored_content, stored_files, stored_name, whole};
 ghost use Rattle.mail_jobs.specs.AttachmentViews.{stored_view};
 
-use mail_data::files::{Attachment, attachments_with, file_name_with, safe_file_name};
+use mail_data::files::{Attachment, attachments, file_name, safe_file_name};
 use mail_data::lenient::{Base64Front, base64_front, lenient_body};
 use mailparse::body::Body;
-use mailparse::{MailParseError, ParsedMail, SingleByteTable};
+use mailparse::{KnownCharsets, MailParseError, ParsedMail};
 use std::alloc::Global;
 
 /// A file of a mail, ready to be stored.
@@ -27,54 +26,54 @@ pub struct StoredFile {
     pub content: Base64Front,
 }
 
-/// The files of a mail, in the order in which they stand, where names may also be in the charsets
-/// of some tables.
-pub fn stored_files(
+/// The files of a mail, in the order in which they stand, their names read under the charsets that
+/// are known.
+pub fn stored_files<K: KnownCharsets>(
     alloc: Global,
     mail: &ParsedMail<'_>,
-    tables: &[SingleByteTable<'_>],
+    known: &K,
 ) -> Result<Vec<StoredFile>, MailParseError>
     ensures read { AnswersOrMemory (λ files. map stored_view files.items) result
-        (Ok (stored_files (charsets_with tables.now) (tree_of mail.now))) }
+        (Ok (stored_files (K.known known.now) (tree_of mail.now))) }
     ensures safe { IfOk result (λ files.
         All (λ file. IsSafeName (string_bytes file.name)) files.items) }
 {
     let mut files = Vec::new(alloc);
-    for file in attachments_with(alloc, mail, tables)? {
-        files.push(stored(alloc, file, tables)?)?;
+    for file in attachments(alloc, mail, known)? {
+        files.push(stored(alloc, file, known)?)?;
     }
     Ok(files)
 }
 
 /// A file of a mail, as it is stored.
-fn stored(
+fn stored<K: KnownCharsets>(
     alloc: Global,
     file: Attachment<'_, '_>,
-    tables: &[SingleByteTable<'_>],
+    known: &K,
 ) -> Result<StoredFile, MailParseError>
     ensures read { AnswersOrMemory stored_view result
-        (Ok (stored (charsets_with tables.now) (attachment_view file.entry))) }
+        (Ok (stored (K.known known.now) (attachment_view file.entry))) }
     ensures safe { IfOk result (λ kept. IsSafeName (string_bytes kept.name)) }
 {
     Ok(StoredFile {
         path: file.path,
-        name: stored_name(alloc, file.part, tables)?,
+        name: stored_name(alloc, file.part, known)?,
         content: stored_content(alloc, file.part)?,
     })
 }
 
 /// The name of a file, made safe.
 #[tactic(auto, unfolding(crate::specs::Attachments::stored_name))]
-fn stored_name(
+fn stored_name<K: KnownCharsets>(
     alloc: Global,
     part: &ParsedMail<'_>,
-    tables: &[SingleByteTable<'_>],
+    known: &K,
 ) -> Result<String, MailParseError>
     ensures read { GivesText result
-        (stored_name (charsets_with tables.now) (root (tree_of part.now))) }
+        (stored_name (K.known known.now) (root (tree_of part.now))) }
     ensures safe { IfOk result (λ name. IsSafeName (string_bytes name)) }
 {
-    let name = match file_name_with(alloc, part, tables)? {
+    let name = match file_name(alloc, part, known)? {
         Some(name) => safe_file_name(alloc, name.as_str())?,
         None => safe_file_name(alloc, "unnamed")?,
     };

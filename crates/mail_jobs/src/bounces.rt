@@ -7,20 +7,21 @@ ghost use Rattle.mail_data.specs.BounceViews.{delivery};
 ghost use Rattle.mail_jobs.specs.Bounces.{has_failed};
 
 use mail_data::bounce::{Recipient, recipients};
-use mailparse::{MailParseError, ParsedMail};
+use mailparse::{KnownCharsets, MailParseError, ParsedMail};
 use std::alloc::Global;
 
 /// The recipients whose action is `failed`, in any case and with nothing after it, in order; none
 /// where the mail is no report.
-pub fn failed_recipients(
+pub fn failed_recipients<K: KnownCharsets>(
     alloc: Global,
     mail: &ParsedMail<'_>,
+    known: &K,
 ) -> Result<Vec<Recipient>, MailParseError>
     ensures { AnswersOrMemory (λ failed. map delivery failed.items) result
-        (Ok (filter has_failed (recipients (tree_of mail.now)))) }
+        (Ok (filter has_failed (recipients (K.known known.now) (tree_of mail.now)))) }
 {
     let mut failed = Vec::new(alloc);
-    for recipient in recipients(alloc, mail)? {
+    for recipient in recipients(alloc, mail, known)? {
         if has_failed(&recipient) {
             failed.push(recipient)?;
         }

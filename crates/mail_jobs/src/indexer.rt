@@ -1,6 +1,5 @@
 //! The index of a mail: what a list of mails shows, and the text that a search reads.
 ghost use Rattle.std.specs.Prelude.{◌≡◌, codes, option_map, IfErr, IfOk, Ok};
-ghost use Rattle.mail_codec.specs.Tables.{charsets_with};
 ghost use Rattle.mailparse.specs.Mail.{root};
 ghost use Rattle.mailparse.specs.Map.{first_value_in, text_found};
 ghost use Rattle.mailparse.specs.Outcome.{AnswersOrMemory, IsMemory};
@@ -12,8 +11,8 @@ ghost use Rattle.mail_jobs.specs.IndexerViews.{IsEntry};
 use mail_address::sender_of;
 use mail_data::archive::message_id;
 use mail_data::lenient::{self, BodyText, DateError, body_text};
-use mail_data::texts::text_part_with;
-use mailparse::{MailHeaderMap, MailParseError, ParsedMail, SingleByteTable};
+use mail_data::texts::text_part;
+use mailparse::{KnownCharsets, MailHeaderMap, MailParseError, ParsedMail};
 use std::alloc::Global;
 
 /// What an index keeps of a mail. What the mail does not have is `None`; a date that is refused
@@ -30,35 +29,35 @@ pub struct IndexEntry {
     pub text: Option<BodyText>,
 }
 
-/// What an index keeps of a mail, where texts may also be in the charsets of some tables.
-pub fn index_entry(
+/// What an index keeps of a mail, read under the charsets that are known.
+pub fn index_entry<K: KnownCharsets>(
     alloc: Global,
     mail: &ParsedMail<'_>,
-    tables: &[SingleByteTable<'_>],
+    known: &K,
 ) -> Result<IndexEntry, MailParseError>
-    ensures read { IfOk result (IsEntry (charsets_with tables.now) (tree_of mail.now)) }
+    ensures read { IfOk result (IsEntry (K.known known.now) (tree_of mail.now)) }
     ensures only_memory { IfErr result IsMemory }
 {
     Ok(IndexEntry {
-        subject: value_of(alloc, mail, "Subject", tables)?,
+        subject: value_of(alloc, mail, "Subject", known)?,
         sender: sender_address(alloc, mail)?,
-        date: date_of(alloc, mail, tables)?,
-        message_id: message_id(alloc, mail)?,
-        text: text_of(alloc, mail, tables)?,
+        date: date_of(alloc, mail, known)?,
+        message_id: message_id(alloc, mail, known)?,
+        text: text_of(alloc, mail, known)?,
     })
 }
 
 /// The value of the first header with this name.
-fn value_of(
+fn value_of<K: KnownCharsets>(
     alloc: Global,
     mail: &ParsedMail<'_>,
     key: &str,
-    tables: &[SingleByteTable<'_>],
+    known: &K,
 ) -> Result<Option<String>, MailParseError>
     ensures { AnswersOrMemory text_found result
-        (Ok (first_value_in (charsets_with tables.now) key.now (root (tree_of mail.now)).headers)) }
+        (Ok (first_value_in (K.known known.now) key.now (root (tree_of mail.now)).headers)) }
 {
-    mail.headers.get_first_value_with(alloc, key, tables)
+    mail.headers.get_first_value_in(alloc, key, known)
 }
 
 /// The address of who sent a mail, in canonical form.
@@ -72,32 +71,32 @@ fn sender_address(alloc: Global, mail: &ParsedMail<'_>) -> Result<Option<String>
 }
 
 /// The date, or its error.
-fn date_of(
+fn date_of<K: KnownCharsets>(
     alloc: Global,
     mail: &ParsedMail<'_>,
-    tables: &[SingleByteTable<'_>],
+    known: &K,
 ) -> Result<Option<Result<i64, DateError>>, MailParseError>
     ensures { AnswersOrMemory (λ found. found) result
-        (Ok (date (charsets_with tables.now) (root (tree_of mail.now)))) }
+        (Ok (date (K.known known.now) (root (tree_of mail.now)))) }
 {
-    match value_of(alloc, mail, "Date", tables)? {
+    match value_of(alloc, mail, "Date", known)? {
         Some(date) => Ok(Some(lenient::date_of(date.as_str()))),
         None => Ok(None),
     }
 }
 
 /// The text that is to be read.
-fn text_of(
+fn text_of<K: KnownCharsets>(
     alloc: Global,
     mail: &ParsedMail<'_>,
-    tables: &[SingleByteTable<'_>],
+    known: &K,
 ) -> Result<Option<BodyText>, MailParseError>
     ensures { AnswersOrMemory (λ found. option_map text_view found) result
-        (Ok (text (charsets_with tables.now) (tree_of mail.now))) }
+        (Ok (text (K.known known.now) (tree_of mail.now))) }
 {
-    let Some(part) = text_part_with(alloc, mail, tables)? else {
+    let Some(part) = text_part(alloc, mail, known)? else {
         return Ok(None);
     };
-    let text = body_text(alloc, part, tables)?;
+    let text = body_text(alloc, part, known)?;
     Ok(Some(text))
 }

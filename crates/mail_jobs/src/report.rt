@@ -5,9 +5,9 @@ use crate::attachments::{StoredFile, stored_files};
 use crate::bounces::failed_recipients;
 use crate::indexer::{IndexEntry, index_entry};
 use crate::threads::{ThreadPlace, thread_place};
+use mail_charsets::AllCharsets;
 use mail_data::bounce::Recipient;
-use mail_tables::TABLES;
-use mailparse::{MailParseError, ParsedMail, SingleByteTable, parse_mail_with};
+use mailparse::{KnownCharsets, MailParseError, ParsedMail, parse_mail_in};
 use std::alloc::{AllocError, Global};
 
 /// The lines of a mail, or one that says why it is refused.
@@ -21,25 +21,25 @@ pub fn report(alloc: Global, mail: &[u8]) -> Result<String, AllocError> {
 
 /// The lines of a mail.
 fn lines_of(alloc: Global, mail: &[u8]) -> Result<String, MailParseError> {
-    let tables = &TABLES;
-    let mail = parse_mail_with(alloc, mail, tables)?;
+    let known = AllCharsets::standard();
+    let mail = parse_mail_in(alloc, mail, &known)?;
     let mut lines = String::new(alloc);
-    push_lines(alloc, &mut lines, &mail, tables)?;
+    push_lines(alloc, &mut lines, &mail, &known)?;
     Ok(lines)
 }
 
 /// Writes the lines of a mail: its index, its files, who was not reached, its parents, and an empty
 /// one.
-fn push_lines(
+fn push_lines<K: KnownCharsets>(
     alloc: Global,
     lines: &mut String,
     mail: &ParsedMail<'_>,
-    tables: &[SingleByteTable<'_>],
+    known: &K,
 ) -> Result<(), MailParseError> {
-    push_entry(lines, &index_entry(alloc, mail, tables)?)?;
-    push_files(lines, &stored_files(alloc, mail, tables)?)?;
-    push_failed(lines, &failed_recipients(alloc, mail)?)?;
-    push_parents(lines, &thread_place(alloc, mail)?)?;
+    push_entry(lines, &index_entry(alloc, mail, known)?)?;
+    push_files(lines, &stored_files(alloc, mail, known)?)?;
+    push_failed(lines, &failed_recipients(alloc, mail, known)?)?;
+    push_parents(lines, &thread_place(alloc, mail, known)?)?;
     Ok(lines.push('\n')?)
 }
 

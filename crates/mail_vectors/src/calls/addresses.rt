@@ -96,9 +96,9 @@ fn group_name(
     has_tables: bool,
 ) -> Result<String, MailParseError> {
     if has_tables {
-        return group.get_display_name_with(alloc, all_tables());
+        return group.get_display_name(alloc, &all_tables());
     }
-    group.get_display_name(alloc)
+    group.get_display_name(alloc, &())
 }
 
 /// Writes a mailbox.
@@ -115,9 +115,9 @@ fn mailbox_name(
     has_tables: bool,
 ) -> Result<String, MailParseError> {
     if has_tables {
-        return mailbox.get_display_name_with(alloc, all_tables());
+        return mailbox.get_display_name(alloc, &all_tables());
     }
-    mailbox.get_display_name(alloc)
+    mailbox.get_display_name(alloc, &())
 }
 
 /// Writes what is no address.

@@ -3,8 +3,8 @@
 //! `safe_file_name NAME => NAME`
 
 use mail_data::files::{
-    Attachment, attachments, attachments_with, describes_attachment, file_name, file_name_with,
-    filled_parameter, is_attachment, is_attachment_with, is_leaf, named_file, safe_file_name,
+    Attachment, attachments, describes_attachment, file_name, filled_parameter, is_attachment,
+    is_leaf, named_file, safe_file_name,
 };
 use mail_data::places::places;
 use mail_suite::{Answer, FORM, Row, all_tables};
@@ -47,8 +47,8 @@ pub fn part_at<'m, 'a>(
 /// `attachments MAIL => PATH NAME BYTES` for each file, NAME as `file_name` returns it.
 fn list_files(alloc: Global, row: &Row, answer: &mut Answer) -> Result<(), MailParseError> {
     let mail = parse_mail(alloc, row.bytes(0))?;
-    for file in &attachments(alloc, &mail)? {
-        write_file(alloc, file, file_name(alloc, file.part)?, answer);
+    for file in &attachments(alloc, &mail, &())? {
+        write_file(alloc, file, file_name(alloc, file.part, &())?, answer);
     }
     Ok(())
 }
@@ -56,8 +56,8 @@ fn list_files(alloc: Global, row: &Row, answer: &mut Answer) -> Result<(), MailP
 /// `attachments_with MAIL => PATH NAME BYTES` likewise, under all tables.
 fn list_named_files(alloc: Global, row: &Row, answer: &mut Answer) -> Result<(), MailParseError> {
     let mail = parse_mail_with(alloc, row.bytes(0), all_tables())?;
-    for file in &attachments_with(alloc, &mail, all_tables())? {
-        let name = file_name_with(alloc, file.part, all_tables())?;
+    for file in &attachments(alloc, &mail, &all_tables())? {
+        let name = file_name(alloc, file.part, &all_tables())?;
         write_file(alloc, file, name, answer);
     }
     Ok(())
@@ -75,8 +75,8 @@ fn look_at(alloc: Global, row: &Row, answer: &mut Answer) -> Result<(), MailPars
     let mail = parse_mail(alloc, row.bytes(0))?;
     let part = part_at(alloc, &mail, row.number(1))?;
     match row.call.as_str() {
-        "file_name" => answer.optional_or_refusal(file_name(alloc, part)),
-        "is_attachment" => answer.truth(is_attachment(alloc, part)?),
+        "file_name" => answer.optional_or_refusal(file_name(alloc, part, &())),
+        "is_attachment" => answer.truth(is_attachment(alloc, part, &())?),
         _ => answer.truth(is_leaf(part)),
     }
     Ok(())
@@ -87,8 +87,8 @@ fn look_at_with(alloc: Global, row: &Row, answer: &mut Answer) -> Result<(), Mai
     let mail = parse_mail_with(alloc, row.bytes(0), all_tables())?;
     let part = part_at(alloc, &mail, row.number(1))?;
     match row.call.as_str() {
-        "file_name_with" => answer.optional_or_refusal(file_name_with(alloc, part, all_tables())),
-        _ => answer.truth(is_attachment_with(alloc, part, all_tables())?),
+        "file_name_with" => answer.optional_or_refusal(file_name(alloc, part, &all_tables())),
+        _ => answer.truth(is_attachment(alloc, part, &all_tables())?),
     }
     Ok(())
 }

@@ -48,7 +48,7 @@ fn read_body(alloc: Global, row: &Row, answer: &mut Answer) -> Result<(), MailPa
 /// `body_text MAIL => TEXT CHARSET DAMAGED` of the whole mail, under all tables.
 fn read_text(alloc: Global, row: &Row, answer: &mut Answer) -> Result<(), MailParseError> {
     let mail = parse_mail(alloc, row.bytes(0))?;
-    let read = body_text(alloc, &mail, all_tables())?;
+    let read = body_text(alloc, &mail, &all_tables())?;
     answer.text(read.text.as_str());
     answer.text(read.charset.as_str());
     answer.truth(read.is_damaged);

@@ -27,10 +27,10 @@ pub fn make(alloc: Global, row: &Row, answer: &mut Answer) -> bool {
 fn read_mail(alloc: Global, row: &Row, answer: &mut Answer) -> Result<(), MailParseError> {
     let mail = parse_mail(alloc, row.bytes(0))?;
     match row.call.as_str() {
-        "recipients" => write_recipients(answer, recipients(alloc, &mail)?.as_slice()),
-        "original_message_id" => answer.optional_or_refusal(original_message_id(alloc, &mail)),
-        "message_id" => answer.optional_or_refusal(message_id(alloc, &mail)),
-        _ => answer.texts_or_refusal(parents(alloc, &mail)),
+        "recipients" => write_recipients(answer, recipients(alloc, &mail, &())?.as_slice()),
+        "original_message_id" => answer.optional_or_refusal(original_message_id(alloc, &mail, &())),
+        "message_id" => answer.optional_or_refusal(message_id(alloc, &mail, &())),
+        _ => answer.texts_or_refusal(parents(alloc, &mail, &())),
     }
     Ok(())
 }

@@ -3,9 +3,9 @@
 
 use crate::calls::files::part_at;
 use mail_data::flowed::{flowed_text, unflowed};
-use mail_data::forwarding::{forwarded, forwarded_bytes, forwarded_with, mails_inside};
+use mail_data::forwarding::{forwarded, forwarded_bytes, mails_inside};
 use mail_data::inner_mails::{InnerMail, inner_mails, places_under};
-use mail_data::texts::{text_part, text_part_with, text_type};
+use mail_data::texts::{text_part, text_type};
 use mail_suite::{Answer, Row, all_tables};
 use mailparse::{MAX_LEVELS, MailParseError, ParsedMail, parse_mail, parse_mail_with};
 use std::alloc::Global;
@@ -36,7 +36,7 @@ pub fn make(alloc: Global, row: &Row, answer: &mut Answer) -> bool {
 /// `text_part MAIL => TEXT`, the text that `get_body` returns of the part.
 fn find_text(alloc: Global, row: &Row, answer: &mut Answer) -> Result<(), MailParseError> {
     let mail = parse_mail(alloc, row.bytes(0))?;
-    match text_part(alloc, &mail)? {
+    match text_part(alloc, &mail, &())? {
         Some(part) => answer.text_or_refusal(part.get_body(alloc)),
         None => answer.word("none"),
     }
@@ -46,7 +46,7 @@ fn find_text(alloc: Global, row: &Row, answer: &mut Answer) -> Result<(), MailPa
 /// `text_part_with MAIL => TEXT` likewise, under all tables.
 fn find_text_with(alloc: Global, row: &Row, answer: &mut Answer) -> Result<(), MailParseError> {
     let mail = parse_mail_with(alloc, row.bytes(0), all_tables())?;
-    match text_part_with(alloc, &mail, all_tables())? {
+    match text_part(alloc, &mail, &all_tables())? {
         Some(part) => answer.text_or_refusal(part.get_body_with(alloc, all_tables())),
         None => answer.word("none"),
     }
@@ -58,7 +58,7 @@ fn find_text_with(alloc: Global, row: &Row, answer: &mut Answer) -> Result<(), M
 fn read_forwarded(alloc: Global, row: &Row, answer: &mut Answer) -> Result<(), MailParseError> {
     let mail = parse_mail(alloc, row.bytes(0))?;
     let part = part_at(alloc, &mail, row.number(1))?;
-    match forwarded(alloc, part, row.levels(2).min(MAX_LEVELS))? {
+    match forwarded(alloc, part, row.levels(2).min(MAX_LEVELS), &())? {
         Some(inside) => answer.bytes_or_refusal(inside.get_body_raw(alloc)),
         None => answer.word("none"),
     }
@@ -73,7 +73,7 @@ fn read_forwarded_with(
     answer: &mut Answer,
 ) -> Result<(), MailParseError> {
     let mail = parse_mail_with(alloc, row.bytes(0), all_tables())?;
-    match forwarded_with(alloc, &mail, all_tables())? {
+    match forwarded(alloc, &mail, MAX_LEVELS, &all_tables())? {
         Some(inside) => {
             match inside.ctype.params.get("name") {
                 Some(name) => answer.text(name.as_str()),
@@ -105,14 +105,14 @@ fn join_lines(alloc: Global, row: &Row, answer: &mut Answer) -> Result<(), MailP
 /// `flowed_text MAIL => TEXT` of the whole mail, under all tables.
 fn read_flowed(alloc: Global, row: &Row, answer: &mut Answer) -> Result<(), MailParseError> {
     let mail = parse_mail(alloc, row.bytes(0))?;
-    answer.text(flowed_text(alloc, &mail, all_tables())?.text.as_str());
+    answer.text(flowed_text(alloc, &mail, &all_tables())?.text.as_str());
     Ok(())
 }
 
 /// `mails_inside MAIL MOST => BYTES` for each mail.
 fn list_mails(alloc: Global, row: &Row, answer: &mut Answer) -> Result<(), MailParseError> {
     let mail = parse_mail(alloc, row.bytes(0))?;
-    for inside in &mails_inside(alloc, &mail, row.levels(1))? {
+    for inside in &mails_inside(alloc, &mail, row.levels(1), &())? {
         answer.bytes(inside.as_slice());
     }
     Ok(())
@@ -122,7 +122,7 @@ fn list_mails(alloc: Global, row: &Row, answer: &mut Answer) -> Result<(), MailP
 /// nowhere, and then `COUNT PATH..` of its parts, or its refusal.
 fn list_inner(alloc: Global, row: &Row, answer: &mut Answer) -> Result<(), MailParseError> {
     let mail = parse_mail_with(alloc, row.bytes(0), all_tables())?;
-    for inside in &inner_mails(alloc, &mail, all_tables())? {
+    for inside in &inner_mails(alloc, &mail, &all_tables())? {
         answer.text(inside.path.as_str());
         answer.optional_number(inside.start);
         list_places(alloc, inside, answer)?;
@@ -152,7 +152,7 @@ fn list_places(
 /// `last_inner_mail MAIL => COUNT PATH`: how many mails are inside, and the path of the last one.
 fn find_last_inner(alloc: Global, row: &Row, answer: &mut Answer) -> Result<(), MailParseError> {
     let mail = parse_mail(alloc, row.bytes(0))?;
-    let found = inner_mails(alloc, &mail, &[])?;
+    let found = inner_mails(alloc, &mail, &())?;
     answer.number(found.len());
     if let Some(inside) = found.as_slice().last() {
         answer.text(inside.path.as_str());

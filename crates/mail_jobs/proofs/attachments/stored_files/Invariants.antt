@@ -1,5 +1,4 @@
 use Rattle.std.proofs.Common.{◌≡◌, ◌++◌, map, string_bytes, All}
-use Rattle.mail_codec.specs.Tables.{charsets_with}
 use Rattle.mailparse.specs.Views.{tree_of}
 use Rattle.mail_data.specs.FileNames.{IsSafeName}
 use Rattle.mail_data.specs.FileViews.{attachment_view}
@@ -9,7 +8,7 @@ use Rattle.mail_jobs.proofs.attachments.stored_files.Given as goal
 
 -- what was made, and then what the files that are left are stored as, is all; and each name so far is safe
 abbrev pub invariant-loop-file : goal.invariant-loop-file
-invariant-loop-file l = record {
-  all : map stored_view l.files.items ++ map (stored (charsets_with l.tables)) (map attachment_view l.file-iterator.rest.items) ≡ stored_files (charsets_with l.tables) (tree_of l.mail);
+invariant-loop-file g l = record {
+  all : map stored_view l.files.items ++ map (stored (g.K.KnownCharsets.known l.known)) (map attachment_view l.file-iterator.rest.items) ≡ stored_files (g.K.KnownCharsets.known l.known) (tree_of l.mail);
   each : All (λ file. IsSafeName (string_bytes file.name)) l.files.items;
 }
