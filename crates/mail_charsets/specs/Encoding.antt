@@ -1,5 +1,5 @@
 -- The encodings with their labels (the WHATWG Encoding Standard, section 4.2), and the text of bytes in each.
-use Rattle.std.specs.Prelude.{ℕ, ◌+◌, ◌-◌, List, [], ◌∷◌, map, nat_lt, Option, option_map, find, codes, encode_utf8_all, if◌then◌else◌}
+use Rattle.std.specs.Prelude.{ℕ, ◌+◌, ◌-◌, List, [], ◌∷◌, map, nat_lt, Option, None, option_map, find, codes, encode_utf8_all, if◌then◌else◌}
 use Rattle.mail_codec.specs.Charset.{is_among_labels, replacement, trimmed_label}
 use Rattle.mail_charsets.specs.EucKr.{euc_kr_text}
 use Rattle.mail_charsets.specs.ShiftJis.{shift_jis_text}
@@ -64,6 +64,11 @@ labels_by_encoding =
 unfoldable pub encoding_of_label : List ℕ → Option Encoding
 encoding_of_label label =
     option_map (λ row. row.0) (find (λ row. is_among_labels row.1 (trimmed_label label)) labels_by_encoding)
+
+-- the same, but none where the label is one of replacement, in which nothing can be read
+unfoldable pub readable_encoding : List ℕ → Option Encoding
+readable_encoding label =
+    if is_among_labels replacement_labels (trimmed_label label) then None else encoding_of_label label
 
 -- the text of bytes in the replacement encoding: U+FFFD for all of them (section 14.1)
 abbrev pub replacement_text : List ℕ → List ℕ

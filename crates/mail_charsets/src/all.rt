@@ -44,7 +44,9 @@ pub struct AllCharsets<'t> {
 }
 
 impl AllCharsets<'static> {
-    /// Returns the charsets of the standard: all its labels are known.
+    /// Returns the charsets of the standard: all its labels are known but those of the replacement
+    /// encoding, such as `iso-2022-kr`, whose texts the standard does not read. They are unknown, so
+    /// that a value in one of them stays as it is written.
     ///
     /// Takes no memory.
     ///
@@ -77,7 +79,7 @@ impl<'t> KnownCharsets for AllCharsets<'t> {
         let tables: &'t [SingleByteTable<'t>] = self.tables;
         match tables.for_label(label) {
             Some(charset) => Some(AnyCharset::Known(charset)),
-            None => match Encoding::for_label(label) {
+            None => match Encoding::for_label_no_replacement(label) {
                 Some(encoding) => Some(AnyCharset::Encoded(encoding, self.indexes)),
                 None => None,
             },

@@ -1,7 +1,7 @@
 //! The encodings with their labels, and the text of bytes in each.
 ghost use Rattle.std.specs.Prelude.{◌≡◌, find, option_map, IfOk, string_bytes};
 ghost use Rattle.mail_codec.specs.Charset.{is_among_labels};
-ghost use Rattle.mail_charsets.specs.Encoding.{encoding_of_label, labels_by_encoding, replacement_text, text_in};
+ghost use Rattle.mail_charsets.specs.Encoding.{encoding_of_label, labels_by_encoding, readable_encoding, replacement_text, text_in};
 
 use crate::big5::decode_big5;
 use crate::euc_jp::decode_euc_jp;
@@ -59,6 +59,30 @@ impl Encoding {
         ensures { result ≡ encoding_of_label label.now }
     {
         encoding_of(label.trim_ascii())
+    }
+
+    /// Returns the encoding that has the label, as `for_label` does, or `None` where the label is one
+    /// of the replacement encoding too: the encodings that these labels name are read by nobody here.
+    ///
+    /// Takes no memory.
+    ///
+    /// # Examples
+    ///
+    /// ```rust
+    /// use mail_charsets::Encoding;
+    ///
+    /// assert_eq!(rt; Encoding::for_label_no_replacement(b"big5"), Some(Encoding::Big5));
+    /// assert_eq!(rt; Encoding::for_label(b"iso-2022-kr"), Some(Encoding::Replacement));
+    /// assert_eq!(rt; Encoding::for_label_no_replacement(b"iso-2022-kr"), None);
+    /// ```
+    pub fn for_label_no_replacement(label: &[u8]) -> Option<Encoding>
+        ensures { result ≡ readable_encoding label.now }
+    {
+        let trimmed = label.trim_ascii();
+        if is_among(&labels::REPLACEMENT, trimmed) {
+            return None;
+        }
+        encoding_of(trimmed)
     }
 
     /// Returns the text of the bytes in this encoding under indexes, reading a byte order mark like

@@ -6,10 +6,10 @@ pub returns-in-Some : goal.returns-in-Some
 unfolding charsets_of
 returns-in-Some c = rw (← c.in-Some.ensures) refl
 
-pub returns-in-Some-for_label : goal.returns-in-Some-for_label
+pub returns-in-Some-for_label_no_replacement : goal.returns-in-Some-for_label_no_replacement
 unfolding charsets_of
-returns-in-Some-for_label c = rw (← c.in-None.ensures, ← c.in-Some-for_label.ensures) refl
+returns-in-Some-for_label_no_replacement c = rw (← c.in-None.ensures, ← c.in-Some-for_label_no_replacement.ensures) refl
 
-pub returns-in-None-for_label : goal.returns-in-None-for_label
+pub returns-in-None-for_label_no_replacement : goal.returns-in-None-for_label_no_replacement
 unfolding charsets_of
-returns-in-None-for_label c = rw (← c.in-None.ensures, ← c.in-None-for_label.ensures) refl
+returns-in-None-for_label_no_replacement c = rw (← c.in-None.ensures, ← c.in-None-for_label_no_replacement.ensures) refl
