@@ -5,12 +5,13 @@ The edits of a module stand in crates/CRATE/edits/MODULE.txt, with an empty line
 holds until the next one. An edit has lines `name:`, `function:` (what it changes, as `rt check` prints it; several
 where it is a constant that they use) and pairs of lines `old:`, whose text stands once in the file, and `new:`.
 
-Crates on which others stand are proved in a copy of the repository, and then checked with many edits at once, of
-which no two change one function: a body is proved against the contracts of what it calls, so such edits do not touch
-one another. Of the other crates only what edits change is checked, with what it calls. An edit passes if each of its
-functions is refused for a goal, and not only because its proof names what is gone; all others have to be proved or to
-wait. An edit for which a batch does not show this is tried alone. First, edits that change nothing have to be reported
-as not refused. With --archive the static library is built over the same proofs. The last line is `N passed, N failed`.
+The edits of a crate are tried together, as far as no two change one function: a body is proved against the contracts
+of what it calls, so such edits do not touch one another. A check proves what they change and what that calls, over
+libraries that are proved here, from what `rt check` kept, or with --ci over those that a run of `rt ci` leaves. An
+edit passes if each of its functions is refused for a goal, and not only because its proof names what is gone; all
+others have to be proved or to wait. An edit for which a batch does not show this is tried alone. First, edits that
+change nothing have to be reported as not refused. With --archive the static library is built over the same
+libraries. The last line is `N passed, N failed`.
 """
 
 import argparse
@@ -22,6 +23,7 @@ import subprocess
 import sys
 import tempfile
 import threading
+import time
 from collections import namedtuple
 from concurrent.futures import ThreadPoolExecutor
 from pathlib import Path
@@ -67,10 +69,10 @@ def replaced(file, before, pairs):
 
 
 def batches_of(edits):
-    """The edits in batches, each of one crate, in which no function is changed twice."""
+    """The edits of a crate in batches, in which no function is changed twice."""
     batches = []
     for edit in edits:
-        meets = lambda it: it.crate != edit.crate or set(it.functions) & set(edit.functions)
+        meets = lambda it: set(it.functions) & set(edit.functions)
         if all(any(map(meets, batch)) for batch in batches):
             batches.append([])
         next(batch for batch in batches if not any(map(meets, batch))).append(edit)
@@ -111,110 +113,142 @@ def why(goals):
     return "NOT REFUSED" if None in goals else f"refused: {goals[0][0]}" if all(goals) else "its proof only names what is gone"
 
 
-class Run:
-    """A copy of the repository with the proofs of its crates; of each edit whether it passed, and what each check took."""
+def stamps_in(top):
+    """By which text rt knows each library of a repository again; none where the kit does not tell it in this way."""
+    kit = Path(subprocess.run(["rt", "doc"], stdout=subprocess.PIPE, text=True, check=True).stdout.strip()).parent
+    sys.path.insert(0, f"{kit}/bin")
+    try:
+        import rtlib
 
-    def __init__(self, room, jobs, is_kept):
-        text = (TOP / "crates.txt").read_text("utf-8")
-        listed = dict(re.findall(r"^(\w+)[^:#\n]*:(.*)", text, re.M))
+        return {it.name: it.stamp() for it in rtlib.crates_below(top)}
+    except (ImportError, AttributeError, TypeError, SystemExit):
+        return {}
+
+
+class Run:
+    """A copy of the repository with its libraries; of each edit whether it passed, and what each check took."""
+
+    def __init__(self, room, jobs, ci):
+        listed = dict(re.findall(r"^(\w+)[^:#\n]*:(.*)", (TOP / "crates.txt").read_text("utf-8"), re.M))
         self.deps = {name: [it for it in below.split() if it in listed] for name, below in listed.items()}
-        self.libraries = [it for it in re.findall(r"^(\w+):", text, re.M) if (TOP / f"crates/{it}/src/lib.rt").exists()]
-        self.room, self.lanes, self.proofs = room, threading.Semaphore(jobs), {}
+        self.room, self.lanes, self.libraries = room, threading.Semaphore(jobs), {}
         self.passed, self.seconds, self.is_over = [], [], False
-        self.copy(TOP, f"{room}/base", self.deps if is_kept else [], shutil.copy2)
+        self.copy(TOP, f"{room}/base", [] if ci else self.deps, shutil.copy2)
+        self.ci, self.stamps = ci, stamps_in(f"{room}/base") if ci else {}
 
     def below(self, crate):
-        """The crate and all that it stands on."""
-        return {crate}.union(*map(self.below, self.deps[crate]))
+        """All that the crate stands on."""
+        return set(self.deps[crate]).union(*map(self.below, self.deps[crate]))
 
     def copy(self, top, to, proved, how):
-        """Makes a copy of the repository, with the proofs of these crates."""
+        """Makes a copy of the repository, with what was made of these crates."""
         for crate in self.deps:
             skip = shutil.ignore_patterns("edits", "stdin", "stdout", *["out"] * (crate not in proved))
             shutil.copytree(f"{top}/crates/{crate}", f"{to}/crates/{crate}", copy_function=how, ignore=skip)
         shutil.copy2(f"{top}/crates.txt", to)
         shutil.copy2(f"{top}/HANDLES", to)
 
-    def rt(self, what, folder, *words, jobs=1):
+    def rt(self, what, crate, top, *words, jobs=1):
         """Runs rt on one processor (on four a check takes half as much again of them), and returns what it printed."""
         with self.lanes, tempfile.TemporaryFile("w+", encoding="utf-8", errors="replace") as output:
             words = ["timeout", "--foreground", "3600", "rt", *words, "--jobs", str(jobs)]
-            process = subprocess.Popen(words, cwd=folder, stdin=subprocess.DEVNULL, stdout=output, stderr=subprocess.STDOUT)
+            how = {"cwd": f"{top}/crates/{crate}", "stdin": subprocess.DEVNULL, "stdout": output, "stderr": subprocess.STDOUT}
+            process = subprocess.Popen(words, **how)
             _, process.returncode, usage = os.wait4(process.pid, 0)
             self.seconds.append(usage.ru_utime + usage.ru_stime)
-            print(f"{os.path.basename(folder)}: {what}: {self.seconds[-1]:.0f} processor seconds", flush=True)
+            print(f"{crate}: {what}: {self.seconds[-1]:.0f} processor seconds", flush=True)
             output.seek(0)
             return output.read()
 
-    def prove(self, crate):
-        """Proves a crate as it is, on two processors, once those below are proved. The checks above look at what was kept."""
-        for it in self.deps[crate]:
-            self.proofs[it].result()
-        folder = Path(f"{self.room}/base/crates/{crate}")
-        said = "" if (folder / "out/rlib/stamp").exists() else self.rt("proved as it is", folder, "lib", jobs=2)
-        if not (folder / "out/rlib/stamp").exists():
+    def wait_for(self, crates):
+        """Waits for these libraries, or fails as they did."""
+        for it in crates:
+            self.libraries[it].result()
+
+    def make_library(self, crate):
+        """Has a library in the base, once those below it are there: that of `rt ci`, or one that is proved here."""
+        self.wait_for(self.deps[crate])
+        made, said, has_ended = Path(f"{self.room}/base/crates/{crate}/out/rlib"), "", crate not in self.stamps
+        while not has_ended and not self.is_over:
+            has_ended = os.path.exists(f"{self.ci}.status")
+            if re.search(rf"^rt: {crate} (proved$|is kept)", Path(f"{self.ci}.log").read_text("utf-8", "replace"), re.M):
+                shutil.copytree(TOP / f"crates/{crate}/out/rlib", made)
+                (made / "stamp").write_text(self.stamps[crate], "utf-8")
+                return
+            time.sleep(2)
+        if not (made / "stamp").exists():
+            said = self.rt("proved as it is", crate, f"{self.room}/base", "lib", jobs=2)
+        if not (made / "stamp").exists():
             raise Stopped(f"{crate} is not proved as it is: {said[-300:]}")
 
-    def check(self, edits, what):
-        """Checks a crate with these edits, over its proofs where others stand on it, and otherwise only what they change."""
+    def check(self, crate, edits, what):
+        """Checks in the crate's copy what these edits change."""
+        top, before, pairs = f"{self.room}/{crate}", {}, {}
+        for file, *pair in {change for edit in edits for change in edit.changes}:
+            pairs.setdefault(Path(f"{top}/crates/{crate}/{file}"), []).append(pair)
+        only = [word for edit in edits for it in edit.functions for word in ("--only", it)]
+        try:
+            for path in pairs:
+                before[path] = path.read_text("utf-8")
+                text = replaced(path.name, before[path], pairs[path])
+                path.unlink()  # the base may have the same file
+                path.write_text(text, "utf-8")
+            return judge(edits, self.rt(what, crate, top, "check", *only))
+        finally:
+            for path, text in before.items():
+                path.write_text(text, "utf-8")
+
+    def try_batch(self, edits):
+        """Tries edits of a crate together, and alone each that this does not show to be refused."""
         if self.is_over:
             raise Stopped("the run is over")
-        crate = edits[0].crate
-        only = [word for edit in edits for it in edit.functions for word in ("--only", it) if crate not in self.proofs]
-        for it in self.below(crate) & set(self.proofs):
-            self.proofs[it].result()
-        with tempfile.TemporaryDirectory(dir=self.room) as copy:
-            self.copy(f"{self.room}/base", copy, self.below(crate), os.link)
-            changes = {change for edit in edits for change in edit.changes}
-            for file in {it[0] for it in changes}:
-                path = Path(f"{copy}/crates/{crate}/{file}")
-                text = replaced(file, path.read_text("utf-8"), [it[1:] for it in changes if it[0] == file])
-                path.unlink()
-                path.write_text(text, "utf-8")
-            return judge(edits, self.rt(what, f"{copy}/crates/{crate}", "check", *only))
-
-    def try_batch(self, edits, first):
-        """Tries a batch, and alone each edit that it does not show to be refused."""
-        first.result()
         try:
-            told = {edit: why(goals) for edit, goals in self.check(edits, f"{len(edits)} edits").items()}
+            told = {edit: why(goals) for edit, goals in self.check(edits[0].crate, edits, f"{len(edits)} edits").items()}
         except Stopped as stopped:
             told = dict.fromkeys(edits, str(stopped))
         for edit, text in told.items():
             is_refused = text.startswith("refused")
             print(f"{'passed' if is_refused else 'FAILED' if len(edits) == 1 else 'again:'} {edit.name}: {text}", flush=True)
             if not is_refused and len(edits) > 1:
-                self.try_batch([edit], first)
+                self.try_batch([edit])
             else:
                 self.passed.append(is_refused)
 
-    def build_archive(self, to):
-        """Builds the static library of this file name, once the crates below it are proved."""
-        crate = Path(to).stem.removeprefix("lib")
-        for it in self.deps[crate]:
-            self.proofs[it].result()
-        self.rt("built", f"{self.room}/base/crates/{crate}", "lib", jobs=2)
+    def try_crate(self, crate, edits, is_first):
+        """Tries the edits of a crate, each batch over what was proved before it; or first some that change nothing."""
+        own = set() if self.ci else {crate} & set(self.libraries)
+        self.wait_for(self.below(crate) | own)
+        self.copy(f"{self.room}/base", f"{self.room}/{crate}", self.below(crate) | own, os.link)
+        if is_first:
+            same = [it._replace(changes=tuple((file, old, old) for file, old, _ in it.changes)) for it in edits]
+            told = self.check(crate, batches_of(same)[0], "edits that change nothing")
+            if any(goals is not None for it in told.values() for goals in it):
+                raise Stopped("edits that change nothing are said to be refused")
+        for batch in batches_of(edits):
+            self.try_batch(batch)
+        shutil.rmtree(f"{self.room}/{crate}")
+
+    def build_archive(self, crate, to):
+        """Builds a static library, once the crates below it are there."""
+        self.wait_for(self.deps[crate])
+        self.rt("built", crate, f"{self.room}/base", "lib", jobs=2)
         shutil.copyfile(f"{self.room}/base/crates/{crate}/out/lib{crate}.a", f"{to}.part")
         os.replace(f"{to}.part", to)  # whoever waits for it sees it whole
 
-    def show_that_it_can_fail(self, edits):
-        """Tries edits that change nothing."""
-        same = [it._replace(changes=tuple((file, old, old) for file, old, _ in it.changes)) for it in edits]
-        if any(goals is not None for it in self.check(same, f"{len(same)} edits that change nothing").values() for goals in it):
-            raise Stopped("edits that change nothing are said to be refused")
-
     def try_all(self, edits, archive):
-        """Proves the crates on which others stand, and the lowest with edits, and tries all batches over these."""
-        batches = batches_of(sorted(edits, key=lambda it: list(self.deps).index(it.crate)))
-        below = {batches[0][0].crate}.union(*(self.below(it.crate) - {it.crate} for it in edits))
-        with ThreadPoolExecutor(len(self.deps) + len(batches) + 2) as pool:
-            for it in [it for it in self.libraries if it in below]:
-                self.proofs[it] = pool.submit(self.prove, it)
-            first = pool.submit(self.show_that_it_can_fail, batches[0])
+        """Tries the edits, those of each crate beside those of others, over the libraries that they need."""
+        of = {crate: [it for it in edits if it.crate == crate] for crate in self.deps}
+        of = {crate: its for crate, its in of.items() if its}
+        statics = [Path(archive).stem.removeprefix("lib")] if archive else []
+        needed, fewest = set().union(*map(self.below, [*of, *statics])), min(map(len, of.values()))
+        first = next(crate for crate, its in of.items() if len(its) == fewest)
+        with ThreadPoolExecutor(len(self.deps) + len(of) + 1) as pool:
+            for it in [it for it in self.deps if it in needed]:
+                self.libraries[it] = pool.submit(self.make_library, it)
+            runs = [pool.submit(self.try_crate, crate, its, crate == first) for crate, its in of.items()]
             try:
-                built = [pool.submit(self.build_archive, archive)] if archive else []
-                for ended in [pool.submit(self.try_batch, it, first) for it in batches] + built:
-                    ended.result()
+                for it in runs + [pool.submit(self.build_archive, it, archive) for it in statics]:
+                    it.result()
             finally:
                 self.is_over = True
 
@@ -237,8 +271,8 @@ def self_test():
 def main():
     self_test()
     reader = argparse.ArgumentParser(description=__doc__, formatter_class=argparse.RawDescriptionHelpFormatter)
-    reader.add_argument("--kept", action="store_true", help="start from what `rt check` has kept in crates/*/out")
     reader.add_argument("--archive", metavar="FILE", help="where the static library is to be written")
+    reader.add_argument("--ci", metavar="PATH", help="`rt ci` writes to PATH.log, and PATH.status is there when it has ended")
     memory = int(re.search(r"MemAvailable: *(\d+)", Path("/proc/meminfo").read_text("utf-8"))[1])
     lanes = min(len(os.sched_getaffinity(0)), memory // 4_000_000)
     reader.add_argument("--jobs", type=int, default=max(1, lanes), help="how many checks at once; one a processor and 4 GB")
@@ -249,7 +283,7 @@ def main():
         reader.error(f"there is no crate with edits, and no edit, of the name {it}")
     signal.signal(signal.SIGTERM, lambda *_: sys.exit(1))
     with tempfile.TemporaryDirectory(prefix="try-edits-") as room:
-        run = Run(room, words.jobs, words.kept)
+        run = Run(room, words.jobs, words.ci)
         try:
             run.try_all([it for it in edits if not words.names or {it.crate, it.name} & set(words.names)], words.archive)
         except Stopped as stopped:

@@ -1,6 +1,6 @@
 //! The date of a header as seconds (RFC 5322, sections 3.3 and 4.3).
-ghost use Rattle.std.specs.Prelude.{◌≡◌, [], IfOk, MatchOption};
-ghost use Rattle.mailparse.specs.Date.{date_seconds, date_words, from_hour, words};
+ghost use Rattle.std.specs.Prelude.{◌≡◌, ◌<◌, ◌≤◌, [], IfOk, MatchOption};
+ghost use Rattle.mailparse.specs.Date.{date_seconds, date_words, from_hour, from_year, words};
 ghost use Rattle.mailparse.specs.Outcome.{Answers};
 ghost use Rattle.mailparse.specs.private.Date.{IsFirstNumber, HasSizeAtMost};
 
@@ -57,11 +57,7 @@ pub fn dateparse(date: &str) -> Result<i64, MailParseError>
         return Ok(0);
     };
     let month = month_number(word)?;
-    let Some((word, rest)) = next_word(rest) else {
-        return Ok(0);
-    };
-    let year = year_number(word)?;
-    Ok(86_400 * day_number(year, month, day) + time_of_day(rest)?)
+    from_year(month, day, rest)
 }
 
 /// The first word that is a number below 256, and the text after it.
@@ -77,6 +73,20 @@ fn first_number(date: &str) -> Option<(u8, &str)>
         }
     }
     None
+}
+
+/// The seconds to a day of a month, by the year and the time of day that a text begins with.
+fn from_year(month: usize, day: u8, text: &str) -> Result<i64, MailParseError>
+    requires month { month < 12 }
+    requires some { 1 ≤ day }
+    requires day { day ≤ 31 }
+    ensures { Answers (λ seconds. seconds) result (from_year month day (words text.now)) }
+{
+    let Some((word, rest)) = next_word(text) else {
+        return Ok(0);
+    };
+    let year = year_number(word)?;
+    Ok(86_400 * day_number(year, month, day) + time_of_day(rest)?)
 }
 
 /// The seconds of the hour, the minute, the second and the zone that a text begins with, as far as
