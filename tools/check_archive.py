@@ -24,7 +24,7 @@ import tempfile
 import time
 
 from make_benchmark_mail import mailbox
-from shared.checks import TOP, finish, text_of
+from shared.checks import TOP, finish, judge, judged, same, text_of
 from shared.fences import fences_of
 from shared.needs import need
 from shared.programs import built_program
@@ -63,18 +63,6 @@ CHANGED = b"Subject: Changed\nMessage-ID: <4@small>\n\nAn okapi.\n"
 
 # after so many more deaths a part is given up; dask's own number is 3
 DASK = {"DASK_DISTRIBUTED__SCHEDULER__ALLOWED_FAILURES": "1"}
-
-judged = []
-
-
-def judge(is_well, what):
-    """Counts a comparison."""
-    judged.append((what, bool(is_well)))
-
-
-def same(found, wanted, what):
-    """Compares two values."""
-    judge(found == wanted, f"{what}: {found!r:.300} and not {wanted!r:.300}")
 
 
 def write(path, data=b""):

@@ -36,18 +36,6 @@ counted() {
     esac
 }
 
-# expect NAME COMMAND..: a test that passes where the command does
-expect() {
-    name=$1
-    shift
-    if "$@" > "$work/out" 2>&1; then
-        pass
-    else
-        fail "$name"
-        head -n 10 "$work/out"
-    fi
-}
-
 # same NAME WANTED GIVEN: two files have to be the same
 same() {
     if cmp -s "$2" "$3"; then

@@ -5,15 +5,13 @@ They run in the folder of the repository, by bash, with the built mail_json. Whe
 says so, which counts as failed. The last line is `N passed, N failed`; the status is 1 where a comparison failed.
 """
 import argparse
-import os
 import re
 import shutil
 import subprocess
 import sys
 
+from shared.checks import TOP, finish, judge, judged, text_of
 from shared.fences import fences_of
-
-TOP = os.path.dirname(os.path.dirname(os.path.abspath(__file__)))
 
 
 def commands(page):
@@ -28,19 +26,11 @@ def main():
     """Compares all of them."""
     argparse.ArgumentParser(description=__doc__, formatter_class=argparse.RawDescriptionHelpFormatter).parse_args()
     if not shutil.which("jq"):
-        print("FAILED jq is not installed; its package is `jq`")
-        print("0 passed, 1 failed")
-        return 1
-    with open(os.path.join(TOP, "docs", "SCRIPTS.md"), encoding="utf-8") as file:
-        found = list(commands(file.read()))
-    failed = 0
-    for command, wanted in found:
+        return finish([("jq is not installed; its package is `jq`", False)])
+    for command, wanted in commands(text_of("docs/SCRIPTS.md")):
         ended = subprocess.run(["bash", "-c", command], cwd=TOP, capture_output=True, encoding="utf-8")
-        if ended.stdout != wanted:
-            failed += 1
-            print(f"FAILED {command}\n{ended.stdout}{ended.stderr}")
-    print(f"{len(found) - failed} passed, {failed} failed")
-    return 1 if failed or not found else 0
+        judge(ended.stdout == wanted, f"{command}\n{ended.stdout}{ended.stderr}")
+    return finish(judged or [("the page has no commands", False)])
 
 
 if __name__ == "__main__":

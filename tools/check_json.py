@@ -23,12 +23,12 @@ import sys
 import tempfile
 
 from read_by_email import all_parts, mail_object, part_object
+from shared.checks import TOP, finish, judge, judged, same
 from shared.needs import need
 from shared.programs import built_program
 
 jsonschema = need("jsonschema", "python3-jsonschema")
 
-TOP = os.path.dirname(os.path.dirname(os.path.abspath(__file__)))
 ORIGIN = ["schema", "file", "number", "start", "end"]
 MEMBERS = ORIGIN + [
     "subject", "from", "to", "cc", "bcc", "reply_to", "sender", "raw", "date", "date_zone_unknown", "date_error",
@@ -52,24 +52,6 @@ HIDDEN = re.compile("[\x00-\x1f\x7f-\x9f\u2028\u2029]")
 
 with open(os.path.join(TOP, "docs", "mail_json.schema.json"), encoding="utf-8") as file_:
     SCHEMA = jsonschema.Draft202012Validator(json.load(file_))
-
-passed = 0
-failed = 0
-
-
-def judge(is_well, what):
-    """Counts a comparison, and says which failed."""
-    global passed, failed
-    if is_well:
-        passed += 1
-    else:
-        failed += 1
-        print(f"FAILED {what}")
-
-
-def same(found, wanted, what):
-    """Compares two values."""
-    judge(found == wanted, f"{what}: {found!r:.300} and not {wanted!r:.300}")
 
 
 def run(words, data=b"", **streams):
@@ -580,8 +562,7 @@ def main():
         check_calls,
     ):
         check()
-    print(f"{passed} passed, {failed} failed")
-    return 1 if failed else 0
+    return finish(judged)
 
 
 if __name__ == "__main__":

@@ -12,18 +12,6 @@ make_work
 export ROCKTRAY_LIBRARY="$work/prefix/lib/librocktray.so" PYTHONPATH="$top/python" PYTHONDONTWRITEBYTECODE=1
 python=$(python_with pytest) || { echo "$script: this needs pytest (Debian: python3-pytest)" >&2; exit 1; }
 
-# expect NAME COMMAND..: a test that passes where the command does
-expect() {
-    name=$1
-    shift
-    if "$@" > "$work/out" 2>&1; then
-        pass
-    else
-        fail "$name"
-        tail -n 30 "$work/out"
-    fi
-}
-
 # wheel: the wheel is installed and reads a mail, and twice made it has the same bytes
 wheel() {
     "$here/make_wheel.py" "$work/dist" && "$here/make_wheel.py" "$work/again" &&

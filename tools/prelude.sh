@@ -96,6 +96,19 @@ fail() {
     echo "FAILED $1"
 }
 
+# expect NAME COMMAND..: a run that passes where the command does, and otherwise shows what it wrote; the
+# file `out` has that
+expect() {
+    name=$1
+    shift
+    if "$@" > "$work/out" 2>&1; then
+        pass
+    else
+        fail "$name"
+        tail -n 30 "$work/out"
+    fi
+}
+
 # finish: prints the counts, the last line of a test; the status is 1 where a run failed
 finish() {
     echo "$passed passed, $failed failed"

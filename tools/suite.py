@@ -4,7 +4,8 @@ import os
 import re
 from dataclasses import dataclass, field
 
-TOP = os.path.dirname(os.path.dirname(os.path.abspath(__file__)))
+from shared.checks import TOP
+
 DATA = f"{TOP}/crates/mail_vectors/data"
 TOKEN = re.compile(r""" *(?:"([^"]*)"|'([^']*)'|([^ ]+))""")
 ESCAPE = re.compile(r"\\(?:u\{([0-9A-Fa-f]+)\}|x([0-9A-Fa-f]{2})|(.))", re.S)

@@ -19,7 +19,7 @@ import sys
 import tempfile
 import time
 
-TOP = os.path.dirname(os.path.dirname(os.path.abspath(__file__)))
+from shared.checks import TOP
 
 
 def read_by_rocktray(raw):

@@ -64,9 +64,16 @@ static inline void bench_work(const struct work *work, const char *bytes, size_t
     free(times);
 }
 
-/* Runs the command over these works, the last of which has no name. Returns the status of the program. */
-static inline int bench(int count, char **words, const struct work *works)
+/* Runs the command over the works of a reader. Returns the status of the program. */
+static inline int bench(int count, char **words, reading parse, reading all, reading mailbox_parse, reading mailbox_all)
 {
+    const struct work works[] = {
+        { "parse", parse },
+        { "all", all },
+        { "mailbox-parse", mailbox_parse },
+        { "mailbox-all", mailbox_all },
+        { NULL, NULL },
+    };
     size_t rounds = count > 2 && !strcmp(words[1], "bench") ? strtoul(words[2], NULL, 10) : 0;
     size_t length;
     char *bytes;
@@ -101,7 +108,7 @@ static inline const char *bench_separator(const char *at, const char *end)
     return end - at >= 5 ? at : end;
 }
 
-/* Reads each mail of a mailbox on its own: what stands behind each line that begins with `From `. */
+/* Reads each mail of a mailbox on its own: what follows each line that begins with `From `. */
 static inline size_t bench_mailbox(const char *bytes, size_t length, reading read)
 {
     const char *end = bytes + length, *at = bench_separator(bytes, end);

@@ -85,13 +85,6 @@ static size_t mailbox_all(const char *bytes, size_t length)
 
 int main(int count, char **words)
 {
-    static const struct work works[] = {
-        { "parse", parse },
-        { "all", all },
-        { "mailbox-parse", mailbox_parse },
-        { "mailbox-all", mailbox_all },
-        { NULL, NULL },
-    };
     g_mime_init();
-    return bench(count, words, works);
+    return bench(count, words, parse, all, mailbox_parse, mailbox_all);
 }

@@ -67,12 +67,5 @@ size_t mailbox_all(const char *bytes, size_t length)
 
 int main(int count, char **words)
 {
-    static const struct work works[] = {
-        { "parse", parse },
-        { "all", all },
-        { "mailbox-parse", mailbox_parse },
-        { "mailbox-all", mailbox_all },
-        { nullptr, nullptr },
-    };
-    return bench(count, words, works);
+    return bench(count, words, parse, all, mailbox_parse, mailbox_all);
 }

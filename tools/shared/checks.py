@@ -1,4 +1,4 @@
-"""What the scripts that compare pages share."""
+"""What the scripts that compare share."""
 
 import os
 
@@ -9,6 +9,19 @@ def text_of(path):
     """The text of a file of the repository."""
     with open(os.path.join(TOP, path), encoding="utf-8") as file:
         return file.read()
+
+
+judged = []
+
+
+def judge(is_well, what):
+    """Counts a comparison."""
+    judged.append((what, bool(is_well)))
+
+
+def same(found, wanted, what):
+    """Compares two values."""
+    judge(found == wanted, f"{what}: {found!r:.300} and not {wanted!r:.300}")
 
 
 def finish(judged):
