@@ -211,10 +211,9 @@ def ranges_of(oracle):
     return ranges
 
 
-def array_source(name, words, text):
-    """A constant array with a line of documentation."""
+def array_source(name, words, width, text):
+    """A constant array with a line of documentation, in lines of width words."""
     kind = "(u16, u16)" if words[0].startswith("(") else "u16"
-    width = 12 if kind == "u16" else 6
     lines = ["/// %s" % text, "#[rattlefmt::skip]", "pub static %s: [%s; %d] = [" % (name, kind, len(words))]
     for start in range(0, len(words), width):
         lines.append("    %s," % ", ".join(words[start:start + width]))
@@ -228,20 +227,21 @@ def index_source(oracle):
     assert all(0x20000 <= entry < 0x30000 for entry in plane) and len(plane) <= 0x800
     place = {entry: 0xD800 + number for number, entry in enumerate(plane)}
     indexes["BIG5"] = [place.get(entry, entry) for entry in indexes["BIG5"]]
+    # each index has a line for each row: what one lead byte begins, or a row of the standards of JIS
     texts = {
-        "EUC_KR": "The index of EUC-KR.",
-        "GB18030": "The index of GBK and gb18030.",
-        "BIG5": "The index of Big5; from 0xD800 on stand the places in `BIG5_PLANE`.",
-        "JIS_0208": "The index of JIS X 0208.",
-        "JIS_0212": "The index of JIS X 0212.",
+        "EUC_KR": (190, "The index of EUC-KR."),
+        "GB18030": (190, "The index of GBK and gb18030."),
+        "BIG5": (157, "The index of Big5; from 0xD800 on stand the places in `BIG5_PLANE`."),
+        "JIS_0208": (94, "The index of JIS X 0208."),
+        "JIS_0212": (94, "The index of JIS X 0212."),
     }
     made = ["//! The indexes, made by `tools/make_tables.py`; do not edit them."]
     for name, entries in indexes.items():
         assert all(entry <= 0xFFFF for entry in entries)
-        made.append(array_source(name, ["0x%04X" % entry for entry in entries], texts[name]))
-    made.append(array_source("BIG5_PLANE", ["0x%04X" % (entry - 0x20000) for entry in plane],
+        made.append(array_source(name, ["0x%04X" % entry for entry in entries], *texts[name]))
+    made.append(array_source("BIG5_PLANE", ["0x%04X" % (entry - 0x20000) for entry in plane], 32,
                              "The characters of Big5 from U+20000 on, less that number."))
-    made.append(array_source("GB18030_RANGES", ["(%d, 0x%04X)" % pair for pair in ranges_of(oracle)],
+    made.append(array_source("GB18030_RANGES", ["(%d, 0x%04X)" % pair for pair in ranges_of(oracle)], 8,
                              "The ranges of gb18030: a pointer of four bytes, and the character at it."))
     return "\n\n".join(made) + "\n"
 

@@ -2,3 +2,4 @@ pub mod Front
 pub mod Few
 pub mod Iso2022Jp
 pub mod Utf7
+pub mod XUserDefined

@@ -1,7 +1,8 @@
 -- The characters at the front, and then those of the bytes after them.
-use Rattle.std.proofs.Common.{◌≡◌, ℕ, zero, suc, ◌+◌, ◌-◌, ◌<◌, ◌≤◌, true, false, List, [], ◌∷◌, ◌++◌, take, drop, IsAscii, length, get_or, refl, sym, ap, ◌∙◌, arith, Option, None, Some, append-nil, append_assoc, drop-drop, encode_utf8_all}
-use Rattle.std.specs.Prelude.{nat_lt}
+use Rattle.std.proofs.Common.{◌≡◌, ℕ, zero, suc, ◌+◌, ◌-◌, ◌<◌, ◌≤◌, true, false, List, [], ◌∷◌, ◌++◌, take, drop, IsAscii, length, get_or, refl, sym, ap, ◌∙◌, arith, Option, None, Some, append-nil, append_assoc, drop-drop, length-drop, encode_utf8_all}
+use Rattle.std.specs.Prelude.{◌==◌, nat_lt}
 use Rattle.std.proofs.lemmas.Bool.Decides.{nat_tests}
+use Rattle.std.proofs.lemmas.List.{take_rest}
 use Rattle.std.proofs.lemmas.Str.{encodes-append, encodes-IsAscii}
 use Rattle.mail_charsets.specs.Front.{Taken, chars_after, chars_by, fault, front_by, long_or, pair, text_by}
 
@@ -69,22 +70,35 @@ text_ascii long single pairs (suc n) (b ∷ bs) low =
     ∙ ap (λ xs. xs ++ text_by (front_by long single pairs) bs) (encodes-IsAscii (b ∷ []) (elim [ zero ↦ low 0 | suc k ↦ omega arith ]))
     ∙ ap (λ xs. b ∷ xs) (text_ascii long single pairs n bs (λ k. low (suc k)))
 
-pub ascii_pushed : (long : List ℕ → Option Taken) (single : ℕ → Option ℕ) (pairs : ℕ → ℕ → List ℕ) (n : ℕ) (bs made total : List ℕ) → IsAscii (take n bs)
-    → made ++ text_by (front_by long single pairs) bs ≡ total → (made ++ take n bs) ++ text_by (front_by long single pairs) (drop n bs) ≡ total
-ascii_pushed long single pairs n bs made total low all =
-    append_assoc made (take n bs) (text_by (front_by long single pairs) (drop n bs)) ∙ ap (λ xs. made ++ xs) (sym (text_ascii long single pairs n bs low)) ∙ all
+-- what was pushed of the bytes is their text up to there
+pub ascii_pushed : (long : List ℕ → Option Taken) (single : ℕ → Option ℕ) (pairs : ℕ → ℕ → List ℕ) (n : ℕ) (bs made pushed : List ℕ) → IsAscii (take n bs)
+    → pushed ≡ made ++ take n bs → pushed ++ text_by (front_by long single pairs) (drop n bs) ≡ made ++ text_by (front_by long single pairs) bs
+ascii_pushed long single pairs n bs made pushed low is =
+    ap (λ xs. xs ++ text_by (front_by long single pairs) (drop n bs)) is ∙ append_assoc made (take n bs) (text_by (front_by long single pairs) (drop n bs))
+    ∙ ap (λ xs. made ++ xs) (sym (text_ascii long single pairs n bs low))
 
--- what was written of the rest is appended
-pub fronts_pushed : (front : List ℕ → Taken) (bs made written total : List ℕ) (n : ℕ) → text_by front bs ≡ written ++ text_by front (drop n bs)
-    → made ++ text_by front bs ≡ total → (made ++ written) ++ text_by front (drop n bs) ≡ total
-fronts_pushed front bs made written total n is all =
-    append_assoc made written (text_by front (drop n bs)) ∙ ap (λ xs. made ++ xs) (sym is) ∙ all
+pub fronts_pushed : (front : List ℕ → Taken) (bs made pushed written : List ℕ) (n : ℕ) → text_by front bs ≡ written ++ text_by front (drop n bs)
+    → pushed ≡ made ++ written → pushed ++ text_by front (drop n bs) ≡ made ++ text_by front bs
+fronts_pushed front bs made pushed written n all is =
+    ap (λ xs. xs ++ text_by front (drop n bs)) is ∙ append_assoc made written (text_by front (drop n bs)) ∙ ap (λ xs. made ++ xs) (sym all)
 
 -- no bytes are left
 pub text_done : (front : List ℕ → Taken) (made rest total : List ℕ) → length rest ≡ 0 → made ++ text_by front rest ≡ total → made ≡ total
 unfolding text_by
 text_done front made [] total none h = sym (append-nil made) ∙ h
 text_done front made (b ∷ rest) total none h = absurd (omega (arith, none))
+
+-- some bytes are left
+pub some_left : (n : ℕ) → (n == 0) ≡ false → 0 < n
+some_left n is = grind (arith, nat_tests)
+
+-- fewer bytes are left after some
+pub fewer_left : (bs : List ℕ) (n : ℕ) → 0 < n → 0 < length bs → length (take (length bs - n) (drop n bs)) < length bs
+fewer_left bs n takes some = rw (take_rest, length-drop) (omega (arith, takes, some))
+
+-- some bytes are left after some
+pub some_after : (bs : List ℕ) (n : ℕ) → n < length bs → 0 < length (take (length bs - n) (drop n bs))
+some_after bs n within = rw (take_rest, length-drop) (omega (arith, within))
 
 -- one front more is written
 pub text_written : (front : List ℕ → Taken) (bs made pushed total cs : List ℕ) (taken n : ℕ) → total ≡ made ++ text_by front (drop taken bs)

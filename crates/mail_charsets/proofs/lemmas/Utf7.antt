@@ -74,9 +74,6 @@ unfolding utf7_front
 front_other bs other = let h : (get_or bs 0 0 == 43) ≡ false = grind (arith, nat_tests) in rw h refl
 
 -- one front more is written
-pub some_left : (n : ℕ) → (n == 0) ≡ false → 0 < n
-some_left n is = grind (arith, nat_tests)
-
 pub front_pushed : (bs made total : List ℕ) (n : ℕ) → 0 < length bs → 0 < n → n ≡ (utf7_front bs).1 → made ++ utf7_text bs ≡ total
     → (made ++ encode_utf8_all (utf7_front bs).0) ++ utf7_text (drop n bs) ≡ total
 front_pushed bs made total n some takes is all =

@@ -1,8 +1,8 @@
-use Rattle.std.proofs.Common.{sym, eqb-true}
+use Rattle.std.proofs.Common.{◌∙◌, ◌++◌, ap, arith, sym, eqb-true, string_bytes}
 use Rattle.std.proofs.lemmas.List.{take_rest}
 use Rattle.std.proofs.lemmas.Str.{IsUtf8-from_ascii}
-use Rattle.mail_charsets.specs.Front.{front_by}
-use Rattle.mail_charsets.proofs.lemmas.Front.{ascii_pushed, fronts_pushed, text_done}
+use Rattle.mail_charsets.specs.Front.{front_by, text_by}
+use Rattle.mail_charsets.proofs.lemmas.Front.{ascii_pushed, fewer_left, fronts_pushed, some_left, text_done}
 use Rattle.mail_charsets.proofs.encoded.decode.Goals as goal
 
 pub from_utf8_unchecked-requires : goal.from_utf8_unchecked-requires
@@ -10,19 +10,39 @@ from_utf8_unchecked-requires g c = IsUtf8-from_ascii _ c.ascii_blocks_length-run
 
 pub rest-preserved-then-run-gt0 : goal.rest-preserved-then-run-gt0
 rest-preserved-then-run-gt0 g c =
-    rw (c.in_ok-push_str.ensures.bytes, c.from_utf8_unchecked.ensures, take_rest)
-    (ascii_pushed (g.E.Encoded.long c.args.encoding.now) (g.E.Encoded.single c.args.encoding.now) (g.E.Encoded.pairs c.args.encoding.now) c.ascii_blocks_length-run.result c.rest.rest.now _ _
-    c.ascii_blocks_length-run.ensures.ascii c.rest.invariant)
+    ap (λ xs. string_bytes c.push_str.new.self ++ text_by (front_by (g.E.Encoded.long c.args.encoding.now) (g.E.Encoded.single c.args.encoding.now) (g.E.Encoded.pairs c.args.encoding.now)) xs)
+    (take_rest c.rest.rest.now c.ascii_blocks_length-run.result)
+    ∙ ascii_pushed (g.E.Encoded.long c.args.encoding.now) (g.E.Encoded.single c.args.encoding.now) (g.E.Encoded.pairs c.args.encoding.now) c.ascii_blocks_length-run.result c.rest.rest.now _ _
+    c.ascii_blocks_length-run.ensures.ascii (c.in_ok-push_str.ensures.bytes ∙ ap (λ xs. string_bytes c.rest.text ++ xs) c.from_utf8_unchecked.ensures)
+    ∙ c.rest.invariant
 
 pub from_utf8_unchecked-requires-else-run-gt0 : goal.from_utf8_unchecked-requires-else-run-gt0
 from_utf8_unchecked-requires-else-run-gt0 g c = c.encode_fronts-taken.ensures.utf8
 
 pub rest-preserved : goal.rest-preserved
 rest-preserved g c =
-    rw (c.in_ok-push_str-2.ensures.bytes, c.from_utf8_unchecked-else-run-gt0.ensures, take_rest)
-    (fronts_pushed (front_by (g.E.Encoded.long c.args.encoding.now) (g.E.Encoded.single c.args.encoding.now) (g.E.Encoded.pairs c.args.encoding.now)) c.rest.rest.now _ _ _ c.encode_fronts-taken.result.0
-    c.encode_fronts-taken.ensures.written c.rest.invariant)
+    ap (λ xs. string_bytes c.push_str-else-run-gt0.new.self ++ text_by (front_by (g.E.Encoded.long c.args.encoding.now) (g.E.Encoded.single c.args.encoding.now) (g.E.Encoded.pairs c.args.encoding.now)) xs)
+    (take_rest c.rest.rest.now c.encode_fronts-taken.result.0)
+    ∙ fronts_pushed (front_by (g.E.Encoded.long c.args.encoding.now) (g.E.Encoded.single c.args.encoding.now) (g.E.Encoded.pairs c.args.encoding.now)) c.rest.rest.now _ _ _ c.encode_fronts-taken.result.0
+    c.encode_fronts-taken.ensures.written (c.in_ok-push_str-2.ensures.bytes ∙ ap (λ xs. string_bytes c.rest.text ++ xs) c.from_utf8_unchecked-else-run-gt0.ensures)
+    ∙ c.rest.invariant
 
 pub returns : goal.returns
 returns g c =
     text_done (front_by (g.E.Encoded.long c.args.encoding.now) (g.E.Encoded.single c.args.encoding.now) (g.E.Encoded.pairs c.args.encoding.now)) _ c.rest.rest.now _ (eqb-true _ _ (sym c.rest-test.ensures)) c.rest.invariant
+
+pub rest-init : goal.rest-init
+rest-init g c =
+    ap (λ made. made ++ text_by (front_by (g.E.Encoded.long c.args.encoding.now) (g.E.Encoded.single c.args.encoding.now) (g.E.Encoded.pairs c.args.encoding.now)) c.args.bytes.now) c.in_ok-text.ensures.bytes
+
+pub rest-smaller-then-run-gt0 : goal.rest-smaller-then-run-gt0
+rest-smaller-then-run-gt0 g c = fewer_left c.rest.rest.now c.ascii_blocks_length-run.result c.if-run-gt0.true (some_left _ (sym c.rest-test.ensures))
+
+pub rest-smaller : goal.rest-smaller
+rest-smaller g c = fewer_left c.rest.rest.now c.encode_fronts-taken.result.0 c.encode_fronts-taken.ensures.takes_some (some_left _ (sym c.rest-test.ensures))
+
+pub encode_fronts-taken-requires-clause-room : goal.encode_fronts-taken-requires-clause-room
+encode_fronts-taken-requires-clause-room g c = omega (arith, c.if-run-gt0.array_long)
+
+pub encode_fronts-taken-requires-clause-some : goal.encode_fronts-taken-requires-clause-some
+encode_fronts-taken-requires-clause-some g c = some_left _ (sym c.rest-test.ensures)

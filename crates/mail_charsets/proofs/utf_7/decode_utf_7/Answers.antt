@@ -1,8 +1,8 @@
 use Rattle.std.proofs.Common.{sym, eqb-true}
 use Rattle.std.proofs.lemmas.List.{take_rest}
 use Rattle.mail_charsets.specs.Utf7.{utf7_front}
-use Rattle.mail_charsets.proofs.lemmas.Front.{text_done}
-use Rattle.mail_charsets.proofs.lemmas.Utf7.{front_pushed, some_left}
+use Rattle.mail_charsets.proofs.lemmas.Front.{some_left, text_done}
+use Rattle.mail_charsets.proofs.lemmas.Utf7.{front_pushed}
 use Rattle.mail_charsets.proofs.utf_7.decode_utf_7.Goals as goal
 
 pub rest-preserved : goal.rest-preserved
