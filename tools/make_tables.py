@@ -119,6 +119,12 @@ def table_source(name, codes, all_labels):
     return "\n".join(lines)
 
 
+def list_source(text, reach, name, names):
+    """A constant list of tables with a line of documentation."""
+    head = "%s const %s: [SingleByteTable<'static>; %d] = [" % (reach, name, len(names))
+    return ["/// %s" % text, head, *("    %s," % it for it in names), "];", ""]
+
+
 def source_of(sources):
     """The file of the tables."""
     characters, known = indexes(sources), labels(sources)
@@ -127,12 +133,15 @@ def source_of(sources):
         assert len(characters[index]) == 0x80, name
         constants.append(table_source(name, characters[index], known[name]))
     names = [constant(name) for name, _ in ENCODINGS]
+    iso_8859, windows = ([name for name in names if name.startswith(it)] for it in ("ISO_8859", "WINDOWS"))
+    others = [name for name in names if name not in iso_8859 + windows]
     made = ["//! The tables, made by `tools/make_tables.py`; do not edit them.", ""]
     made += ["use mail_codec::charset::SingleByteTable;", ""]
-    made += ["/// All the tables, in the order in which the standard lists their encodings."]
-    made += ["pub const TABLES: [SingleByteTable<'static>; %d] = [" % len(names)]
-    made += ["    %s," % name for name in names]
-    made += ["];", "", "\n\n".join(constants), ""]
+    made += list_source("All the tables, in the order in which the standard lists their encodings.", "pub", "TABLES", names)
+    made += list_source("Those of ISO 8859.", "pub(crate)", "ISO_8859_TABLES", iso_8859)
+    made += list_source("Those of Windows.", "pub(crate)", "WINDOWS_TABLES", windows)
+    made += list_source("All others.", "pub(crate)", "OTHER_TABLES", others)
+    made += ["\n\n".join(constants), ""]
     return "\n".join(made)
 
 

@@ -1,9 +1,12 @@
 //! All charsets of the standard, as one value that a reader of mail takes.
+ghost use Rattle.std.specs.Prelude.{◌≡◌, ◌++◌, option_map};
+ghost use Rattle.mail_codec.specs.Known.{built_in_or_table_text};
+ghost use Rattle.mail_codec.specs.Tables.{charsets_with};
 ghost use Rattle.mail_charsets.specs.All.{any_text, charsets_of};
 
 use crate::encoding::Encoding;
 use crate::indexes::Indexes;
-use crate::single_byte::TABLES;
+use crate::single_byte::{ISO_8859_TABLES, OTHER_TABLES, WINDOWS_TABLES};
 use mail_codec::charset::{BuiltInOrTable, Decode, KnownCharsets, SingleByteTable};
 use std::alloc::{AllocError, Global};
 
@@ -34,11 +37,15 @@ impl<'t> Decode for AnyCharset<'t> {
 }
 
 /// The charsets of a reader that knows the encodings of this crate too: the four, then those of the
-/// tables, in their order, and then the encodings.
+/// tables, in their order, and then the encodings. The tables stand in three lists.
 #[derive(Clone, Copy)]
 pub struct AllCharsets<'t> {
-    /// The tables.
-    pub tables: &'t [SingleByteTable<'t>],
+    /// The first tables, in `standard` those of ISO 8859.
+    pub iso_8859: &'t [SingleByteTable<'t>],
+    /// The next ones, in `standard` those of Windows.
+    pub windows: &'t [SingleByteTable<'t>],
+    /// The last ones, in `standard` all others.
+    pub others: &'t [SingleByteTable<'t>],
     /// The indexes of the encodings.
     pub indexes: Indexes<'t>,
 }
@@ -64,20 +71,58 @@ impl AllCharsets<'static> {
     /// ```
     pub fn standard() -> AllCharsets<'static> {
         AllCharsets {
-            tables: &TABLES,
+            iso_8859: iso_8859_tables(),
+            windows: windows_tables(),
+            others: other_tables(),
             indexes: Indexes::standard(),
         }
+    }
+}
+
+// One list of all tables would take three times as long to prove.
+
+/// The tables of ISO 8859.
+fn iso_8859_tables() -> &'static [SingleByteTable<'static>] {
+    &ISO_8859_TABLES
+}
+
+/// The tables of Windows.
+fn windows_tables() -> &'static [SingleByteTable<'static>] {
+    &WINDOWS_TABLES
+}
+
+/// The other tables.
+fn other_tables() -> &'static [SingleByteTable<'static>] {
+    &OTHER_TABLES
+}
+
+impl<'t> AllCharsets<'t> {
+    /// The charset that has the label among the four and the tables.
+    fn built_in_or_table(&self, label: &[u8]) -> Option<BuiltInOrTable<'t>>
+        ensures { option_map built_in_or_table_text result ≡ charsets_with
+            (self.now.iso_8859.now ++ (self.now.windows.now ++ self.now.others.now)) label.now }
+    {
+        let iso_8859: &'t [SingleByteTable<'t>] = self.iso_8859;
+        if let Some(charset) = iso_8859.for_label(label) {
+            return Some(charset);
+        }
+        let windows: &'t [SingleByteTable<'t>] = self.windows;
+        if let Some(charset) = windows.for_label(label) {
+            return Some(charset);
+        }
+        let others: &'t [SingleByteTable<'t>] = self.others;
+        others.for_label(label)
     }
 }
 
 impl<'t> KnownCharsets for AllCharsets<'t> {
     type Decoder = AnyCharset<'t>;
 
-    ghost known = { λ all. charsets_of all.tables.now all.indexes };
+    ghost known = { λ all. charsets_of
+        (all.iso_8859.now ++ (all.windows.now ++ all.others.now)) all.indexes };
 
     fn for_label(&self, label: &[u8]) -> Option<AnyCharset<'t>> {
-        let tables: &'t [SingleByteTable<'t>] = self.tables;
-        match tables.for_label(label) {
+        match self.built_in_or_table(label) {
             Some(charset) => Some(AnyCharset::Known(charset)),
             None => match Encoding::for_label_no_replacement(label) {
                 Some(encoding) => Some(AnyCharset::Encoded(encoding, self.indexes)),

@@ -45,7 +45,9 @@ fn choose_tables(alloc: Global, row: &Row, answer: &mut Answer) -> Result<(), Ma
     let made_up = made_up(alloc, row.text(0))?;
     let tables = own_tables(alloc, made_up.as_slice())?;
     let known = AllCharsets {
-        tables: tables.as_slice(),
+        iso_8859: tables.as_slice(),
+        windows: &[],
+        others: &[],
         indexes: Indexes::standard(),
     };
     call_under(alloc, row, answer, &known)

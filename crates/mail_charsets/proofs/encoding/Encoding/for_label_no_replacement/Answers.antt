@@ -1,6 +1,6 @@
 use Rattle.std.proofs.Common.{◌≡◌, true, false, sym, refl, ◌∙◌}
 use Rattle.std.proofs.lemmas.Str.Ascii.{trim_ascii_is}
-use Rattle.mail_codec.specs.Charset.{is_among_labels, trimmed_label}
+use Rattle.mail_codec.specs.Charset.{is_among_labels}
 use Rattle.mail_charsets.specs.Encoding.{encoding_of_label, readable_encoding, replacement_labels}
 use Rattle.mail_charsets.proofs.encoding.Encoding.for_label_no_replacement.Goals as goal
 
