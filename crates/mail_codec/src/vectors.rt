@@ -1,9 +1,11 @@
-//! Vectors of sixteen bytes, and for pairs of 64, all of which are tested or mapped at once.
+//! Vectors of sixteen bytes, and of 64 for pairs, long searches and lines of letters, all of which
+//! are tested or mapped at once.
 //!
 //! Each operation is a small function with a contract of its own, and is inlined.
 
 pub(crate) mod letters;
 pub(crate) mod marks;
+pub(crate) mod wide_letters;
 
 /// How many bytes a vector has.
 pub(crate) const LANES: usize = 16;

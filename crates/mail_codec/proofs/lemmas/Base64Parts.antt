@@ -9,7 +9,8 @@ use Rattle.mail_codec.specs.private.Base64.{KeepsLetters}
 use Rattle.mail_codec.specs.private.Runs.{ends_run, without_ends}
 use Rattle.mail_codec.specs.private.Vectors.{is_letter}
 use Rattle.mail_codec.specs.declared.bytescan.runs.RunEnd.{RunEnd}
-use Rattle.mail_codec.proofs.lemmas.Base64Groups.{groups_from-append, prepend-prepend, without_ends-append}
+use Rattle.mail_codec.specs.declared.bytescan.runs.RunEnd.TheVariants.{LineEnd, Whitespace}
+use Rattle.mail_codec.proofs.lemmas.Base64Groups.{groups_from-append, groups_from-nil, prepend-prepend, without_ends-append}
 use Rattle.mail_codec.proofs.lemmas.Base64Steps.{groups_end}
 
 -- ---- bytes that are kept
@@ -33,6 +34,22 @@ prefix_take p (suc n) [] = omega arith
 prefix_take p (suc n) (x ∷ xs) =
     let rest = prefix_take p n xs in
     elim (p x) as (λ v. cond v (1 + prefix_len p (take n xs)) 0 ≤ cond v (1 + prefix_len p xs) 0) [ true ↦ omega arith | false ↦ omega arith ]
+
+-- a line end is absent
+line_end : (absent : RunEnd) (rest : List ℕ) → without_ends absent (13 ∷ 10 ∷ rest) ≡ without_ends absent rest
+line_end LineEnd rest = refl
+line_end Whitespace rest = refl
+
+pub line_end_passed : (absent : RunEnd) (text : List ℕ) (at : ℕ) → at + 2 ≤ length text → get_or text at 0 ≡ 13 → get_or text (at + 1) 0 ≡ 10
+    → without_ends absent (drop at text) ≡ without_ends absent (drop (at + 2) text)
+line_end_passed absent text at h cr lf =
+    let two : drop at text ≡ 13 ∷ 10 ∷ drop (at + 1 + 1) text = drop_more text at 0 (omega arith) ∙ (λ i. cr i ∷ drop_more text (at + 1) 0 (omega arith) i) ∙ (λ i. 13 ∷ lf i ∷ drop (at + 1 + 1) text) in
+    ap (without_ends absent) two ∙ line_end absent (drop (at + 1 + 1) text) ∙ ap (λ k. without_ends absent (drop k text)) {x = at + 1 + 1} {y = at + 2} (omega arith)
+
+-- no letters make no groups
+pub no_groups : (xs bytes : List ℕ) (k n : ℕ) → 4 * k ≤ 0 → groups_from n (take (4 * k) xs) ≡ Ok (take (3 * k) bytes)
+no_groups xs bytes zero n h = groups_from-nil n
+no_groups xs bytes (suc k) n h = absurd (omega arith)
 
 -- zeros are no letters, and after a text they change nothing
 no_letter : is_letter 0 ≡ false
@@ -137,6 +154,17 @@ module _ (absent : RunEnd) (text whole : List ℕ) where
       read_more xs (take (3 * count) old) (take (3 * k) (drop (3 * count) new)) count at k at' so_far split long (λ m. read k m few) n
       ∙ ap (λ bs. prepend bs (groups_from (n + (count + k)) (without_ends absent (drop at' text)))) (written_more old new count k kept)
       ∙ ap (λ c. prepend (take (3 * c) new) (groups_from (n + c) (without_ends absent (drop at' text)))) (sym count_is)
+
+  -- the groups of a wide block, which stops within it or is whole, and then k groups of a block
+  pub blocks_read : KeepsLetters absent → (old mid new : List ℕ) (count at wide len : ℕ) → ReadTo (take (3 * count) old) count at
+      → at + wide ≤ length text → wide ≤ prefix_len is_letter (drop at text) → take (3 * count) mid ≡ take (3 * count) old
+      → ((k n : ℕ) → 4 * k ≤ wide → groups_from n (take (4 * k) (drop at text)) ≡ Ok (take (3 * k) (drop (3 * count) mid)))
+      → at + wide / 4 * 4 + len ≤ length text → len ≤ prefix_len is_letter (drop (at + wide / 4 * 4) text) → take (3 * (count + wide / 4)) new ≡ take (3 * (count + wide / 4)) mid
+      → ((k n : ℕ) → 4 * k ≤ len → groups_from n (take (4 * k) (drop (at + wide / 4 * 4) text)) ≡ Ok (take (3 * k) (drop (3 * (count + wide / 4)) new)))
+      → (k : ℕ) → 4 * k ≤ len → (count' at' : ℕ) → count' ≡ count + wide / 4 + k → at' ≡ at + wide / 4 * 4 + 4 * k → ReadTo (take (3 * count') new) count' at'
+  blocks_read keeps old mid new count at wide len so_far within letters kept read within' letters' kept' read' k few count' at' count_is at_is =
+      let first = block_read keeps old mid count at wide so_far within letters kept read (wide / 4) (omega arith) (count + wide / 4) (at + wide / 4 * 4) refl (omega arith) in
+      block_read keeps mid new (count + wide / 4) (at + wide / 4 * 4) len first within' letters' kept' read' k few count' at' count_is at_is
 
   -- one more group, perhaps over a line end
   pub group_more : (old new : List ℕ) (count at next : ℕ) → ReadTo (take (3 * count) old) count at → take (3 * count) new ≡ take (3 * count) old

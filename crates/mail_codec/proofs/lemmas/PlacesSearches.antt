@@ -23,7 +23,7 @@ chunk_at n (suc k) xs (suc i) h = chunk_at n k (drop n xs) i (omega arith) ∙ a
 -- ---- a part at the front
 
 -- where no byte of it passes, the search goes on after it
-free_front : (test : ℕ → Bool) (n : ℕ) (xs : List ℕ) → n ≤ length xs → first_place (begins test) (take n xs) ≡ n
+pub free_front : (test : ℕ → Bool) (n : ℕ) (xs : List ℕ) → n ≤ length xs → first_place (begins test) (take n xs) ≡ n
     → first_place (begins test) xs ≡ n + first_place (begins test) (drop n xs)
 free_front test zero xs h e = omega arith
 free_front test (suc n) [] h e = absurd (omega arith)

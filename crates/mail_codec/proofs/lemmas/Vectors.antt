@@ -96,29 +96,29 @@ flag_or false true = refl
 flag_or false false = refl
 
 -- the mask of computed lanes
-lanes_marked : (f : ℕ → ℕ) (p : ℕ → Bool) (v z : List ℕ) → length v ≡ 16 → z ≡ map f v → ((x : ℕ) → top 7 (f x) ≡ p x)
+lanes_marked : (f : ℕ → ℕ) (p : ℕ → Bool) (v z : List ℕ) → length v ≤ 64 → z ≡ map f v → ((x : ℕ) → top 7 (f x) ≡ p x)
     → mask_l (map (top 7) z) % 2 ^ 64 ≡ mask_l (map p v)
-lanes_marked f p v z long is same =
+lanes_marked f p v z few is same =
     ap (λ l. mask_l (map (top 7) l) % 2 ^ 64) is
     ∙ ap (λ l. mask_l l % 2 ^ 64) (map-map (top 7) f v)
-    ∙ mask_l-mod (map (λ x. top 7 (f x)) v) 64 (omega (arith, length-map v (λ x. top 7 (f x)), long))
+    ∙ mask_l-mod (map (λ x. top 7 (f x)) v) 64 (omega (arith, length-map v (λ x. top 7 (f x)), few))
     ∙ (λ i. mask_l (map (λ x. same x i) v))
 
-pub equal_marked : (a : ℕ) (v : List ℕ) → length v ≡ 16
-    → mask_l (map (top 7) (zip2 (λ x y. cond (x == y) 255 0) v (replicate 16 a))) % 2 ^ 64 ≡ mask_l (map (λ b. b == a) v)
-equal_marked a v long = lanes_marked (λ x. cond (x == a) 255 0) (λ b. b == a) v _ long (zip2_splat (λ x y. cond (x == y) 255 0) v 16 a long) (λ x. flag (x == a))
+pub equal_marked : (n a : ℕ) (v : List ℕ) → n ≤ 64 → length v ≡ n
+    → mask_l (map (top 7) (zip2 (λ x y. cond (x == y) 255 0) v (replicate n a))) % 2 ^ 64 ≡ mask_l (map (λ b. b == a) v)
+equal_marked n a v few long = lanes_marked (λ x. cond (x == a) 255 0) (λ b. b == a) v _ (omega (arith, few, long)) (zip2_splat (λ x y. cond (x == y) 255 0) v n a long) (λ x. flag (x == a))
 
 pub either_marked : (a c : ℕ) (v : List ℕ) → length v ≡ 16
     → mask_l (map (top 7) (zip2 bit_or (zip2 (λ x y. cond (x == y) 255 0) v (replicate 16 a)) (zip2 (λ x y. cond (x == y) 255 0) v (replicate 16 c)))) % 2 ^ 64
     ≡ mask_l (map (λ b. b == a || b == c) v)
 either_marked a c v long =
-    lanes_marked (λ x. bit_or (cond (x == a) 255 0) (cond (x == c) 255 0)) (λ b. b == a || b == c) v _ long
+    lanes_marked (λ x. bit_or (cond (x == a) 255 0) (cond (x == c) 255 0)) (λ b. b == a || b == c) v _ (omega (arith, long))
     (zip2_of_maps bit_or _ _ v (zip2_splat (λ x y. cond (x == y) 255 0) v 16 a long) (zip2_splat (λ x y. cond (x == y) 255 0) v 16 c long))
     (λ x. flag_or (x == a) (x == c))
 
 pub from_marked : (a : ℕ) (v : List ℕ) → length v ≡ 16
     → mask_l (map (top 7) (zip2 (λ x y. cond (nat_le x y) 255 0) (replicate 16 a) v)) % 2 ^ 64 ≡ mask_l (map (λ b. nat_le a b) v)
-from_marked a v long = lanes_marked (λ x. cond (nat_le a x) 255 0) (λ b. nat_le a b) v _ long (zip2_splat_left (λ x y. cond (nat_le x y) 255 0) a 16 v long) (λ x. flag (nat_le a x))
+from_marked a v long = lanes_marked (λ x. cond (nat_le a x) 255 0) (λ b. nat_le a b) v _ (omega (arith, long)) (zip2_splat_left (λ x y. cond (nat_le x y) 255 0) a 16 v long) (λ x. flag (nat_le a x))
 
 -- two tests that agree on all bytes
 map_same : (p q : ℕ → Bool) → agree_below p q 256 ≡ true → (v : List ℕ) → Each1 (Fits w8) v → map p v ≡ map q v
@@ -132,7 +132,7 @@ whitespace_agree = refl
 pub whitespace_marked : (v like : List ℕ) → IsLanes v → like ≡ map whitespace_of_half v
     → mask_l (map (top 7) (zip2 (λ x y. cond (x == y) 255 0) v like)) % 2 ^ 64 ≡ mask_l (map is_ascii_whitespace v)
 whitespace_marked v like fits is =
-    lanes_marked (λ b. cond (b == whitespace_of_half b) 255 0) (λ b. b == whitespace_of_half b) v _ fits.0
+    lanes_marked (λ b. cond (b == whitespace_of_half b) 255 0) (λ b. b == whitespace_of_half b) v _ (omega (arith, fits.0))
     (zip2_of_maps (λ x y. cond (x == y) 255 0) (λ b. b) whitespace_of_half v (sym (map-id v)) is) (λ b. flag (b == whitespace_of_half b))
     ∙ ap mask_l (map_same (λ b. b == whitespace_of_half b) is_ascii_whitespace whitespace_agree v fits.1)
 

@@ -1,10 +1,10 @@
 -- Letters of Base64 in a vector, and the bytes of their groups.
-use Rattle.std.proofs.Common.{◌≡◌, ℕ, zero, suc, ◌+◌, ◌*◌, ◌/◌, ◌%◌, ◌^◌, ◌<◌, ◌≤◌, Bool, true, false, not, ◌&&◌, ◌||◌, ◌==◌, nat_lt, bit_or, List, [], ◌∷◌, ◌++◌, map, length, take, drop, get_or, replicate, Option, Some, None, Ok, refl, sym, ap, subst, ◌∙◌, arith}
+use Rattle.std.proofs.Common.{◌≡◌, ℕ, zero, suc, ◌+◌, ◌*◌, ◌/◌, ◌%◌, ◌^◌, ◌<◌, ◌≤◌, Bool, true, false, not, ◌&&◌, ◌||◌, ◌==◌, nat_lt, bit_or, List, [], ◌∷◌, ◌++◌, map, length, take, drop, get_or, replicate, Option, Some, None, Ok, Fits, w8, refl, sym, ap, subst, ◌∙◌, arith}
 use Rattle.std.proofs.lemmas.Bool.{agree_below, agree_below_at, and_parts, not-true, ltb-true}
 use Rattle.std.proofs.lemmas.List.{get_or-map, length-take-le}
 use Rattle.std.proofs.lemmas.List.Sums.{prefix_len_passes, prefix_len-le-length}
 use Rattle.std.proofs.lemmas.Nat.{or_shifted, or_lt}
-use Rattle.std.proofs.lemmas.Simd.{Each1-from_get_or, get_or_narrower, get_or-zip2, get_or-replicate, length-zip2, sum_dots}
+use Rattle.std.proofs.lemmas.Simd.{Each1-from_get_or, get_or_narrower, get_or-zip2, get_or-replicate, length-replicate, length-zip2, sum_dots}
 use Rattle.std.proofs.Math.Seq.{take-add}
 use Rattle.std.specs.List.{prefix_len}
 use Rattle.std.specs.Option.{is_some}
@@ -73,62 +73,69 @@ pairs_joined w x y z a b hw hx hy hz ea eb =
     let low : a * 2 ^ 12 % 2 ^ 32 ≡ a * 2 ^ 12 = omega arith in
     ap (λ (m : ℕ). bit_or m b) low ∙ or_shifted a 12 b (omega arith) ∙ omega arith
 
--- the numbers of the groups of a vector of values
-module _ (v : List ℕ) (fits : IsLanes v) where
+length-fours : (n a b c d : ℕ) → length (fours n a b c d) ≡ 4 * n
+length-fours zero a b c d = refl
+length-fours (suc n) a b c d = omega (arith, length-fours n a b c d)
+
+twelves : (n : ℕ) → length {A = ℕ} (replicate n 12) ≡ n
+twelves n = length-replicate n 12
+
+-- the numbers of the n groups of a vector of values
+module _ (n : ℕ) (v : List ℕ) (long : length v ≡ 4 * n) (fits : Each1 (Fits w8) v) where
   abbrev first_pairs : List ℕ
-  first_pairs = dots v (fours 4 64 1 0 0)
+  first_pairs = dots v (fours n 64 1 0 0)
 
   abbrev last_pairs : List ℕ
-  last_pairs = dots v (fours 4 0 0 64 1)
+  last_pairs = dots v (fours n 0 0 64 1)
 
   abbrev raised : List ℕ
-  raised = zip2 (λ a b. a * 2 ^ b % 2 ^ 32) first_pairs (replicate 4 12)
+  raised = zip2 (λ a b. a * 2 ^ b % 2 ^ 32) first_pairs (replicate n 12)
 
-  first_len : length first_pairs ≡ 4
-  first_len = (sum_dots 4 v (fours 4 64 1 0 0) fits.0 refl).1
+  first_len : length first_pairs ≡ n
+  first_len = (sum_dots n v (fours n 64 1 0 0) long (length-fours n 64 1 0 0)).1
 
-  last_len : length last_pairs ≡ 4
-  last_len = (sum_dots 4 v (fours 4 0 0 64 1) fits.0 refl).1
+  last_len : length last_pairs ≡ n
+  last_len = (sum_dots n v (fours n 0 0 64 1) long (length-fours n 0 0 64 1)).1
 
-  raised_len : length raised ≡ 4
-  raised_len = length-zip2 (λ a b. a * 2 ^ b % 2 ^ 32) first_pairs (replicate 4 12) first_len ∙ first_len
+  raised_len : length raised ≡ n
+  raised_len = length-zip2 (λ a b. a * 2 ^ b % 2 ^ 32) first_pairs (replicate n 12) (first_len ∙ sym (twelves n)) ∙ first_len
 
-  pub numbers_len : length (zip2 bit_or raised last_pairs) ≡ 4
+  pub numbers_len : length (zip2 bit_or raised last_pairs) ≡ n
   numbers_len = length-zip2 bit_or raised last_pairs (raised_len ∙ sym last_len) ∙ raised_len
 
-  pub numbers_at : (k : ℕ) → k < 4 → get_or v (4 * k + 2) 0 < 64 → get_or v (4 * k + 3) 0 < 64
+  pub numbers_at : (k : ℕ) → k < n → get_or v (4 * k + 2) 0 < 64 → get_or v (4 * k + 3) 0 < 64
       → get_or (zip2 bit_or raised last_pairs) k 0 ≡ group_number (get_or v (4 * k) 0) (get_or v (4 * k + 1) 0) (get_or v (4 * k + 2) 0) (get_or v (4 * k + 3) 0)
   numbers_at k h hy hz =
       get_or-zip2 bit_or raised last_pairs k 0 0 0 (omega (arith, raised_len)) (omega (arith, last_len))
       ∙ ap (λ m. bit_or m (get_or last_pairs k 0))
-      (get_or-zip2 (λ a b. a * 2 ^ b % 2 ^ 32) first_pairs (replicate 4 12) k 0 0 0 (omega (arith, first_len)) (omega arith)
-      ∙ ap (λ s. get_or first_pairs k 0 * 2 ^ s % 2 ^ 32) (get_or-replicate 4 k 12 0 h))
+      (get_or-zip2 (λ a b. a * 2 ^ b % 2 ^ 32) first_pairs (replicate n 12) k 0 0 0 (omega (arith, first_len)) (omega (arith, twelves n))
+      ∙ ap (λ s. get_or first_pairs k 0 * 2 ^ s % 2 ^ 32) (get_or-replicate n k 12 0 h))
       ∙ pairs_joined (get_or v (4 * k) 0) (get_or v (4 * k + 1) 0) (get_or v (4 * k + 2) 0) (get_or v (4 * k + 3) 0) (get_or first_pairs k 0) (get_or last_pairs k 0)
-      (lane_fits v (4 * k) fits.1) (lane_fits v (4 * k + 1) fits.1) hy hz (dots_at 64 1 0 0 4 k v h fits.0) (dots_at 0 0 64 1 4 k v h fits.0)
+      (lane_fits v (4 * k) fits) (lane_fits v (4 * k + 1) fits) hy hz (dots_at 64 1 0 0 n k v h long) (dots_at 0 0 64 1 n k v h long)
 
-  pub numbers_fit : (k : ℕ) → k < 4 → get_or (zip2 bit_or raised last_pairs) k 0 < 2 ^ 32
+  pub numbers_fit : (k : ℕ) → k < n → get_or (zip2 bit_or raised last_pairs) k 0 < 2 ^ 32
   numbers_fit k h =
       let at = get_or-zip2 bit_or raised last_pairs k 0 0 0 (omega (arith, raised_len)) (omega (arith, last_len)) in
-      let high : get_or raised k 0 < 2 ^ 32 = omega (arith, get_or-zip2 (λ a b. a * 2 ^ b % 2 ^ 32) first_pairs (replicate 4 12) k 0 0 0 (omega (arith, first_len)) (omega arith)) in
-      let low : get_or last_pairs k 0 < 2 ^ 32 = omega (arith, dots_at 0 0 64 1 4 k v h fits.0, lane_fits v (4 * k + 2) fits.1, lane_fits v (4 * k + 3) fits.1) in
+      let high : get_or raised k 0 < 2 ^ 32 = omega (arith, get_or-zip2 (λ a b. a * 2 ^ b % 2 ^ 32) first_pairs (replicate n 12) k 0 0 0 (omega (arith, first_len)) (omega (arith, twelves n))) in
+      let low : get_or last_pairs k 0 < 2 ^ 32 = omega (arith, dots_at 0 0 64 1 n k v h long, lane_fits v (4 * k + 2) fits, lane_fits v (4 * k + 3) fits) in
       subst (λ m. m < 2 ^ 32) (sym at) (or_lt 32 (get_or raised k 0) (get_or last_pairs k 0) high low)
 
 -- ---- bytes of numbers
 
--- the bytes of number k, its highest first
-module _ (ns : List ℕ) (small : Each1 (λ x. x < 2 ^ 32) ns) (k : ℕ) (within : k < 4) (below : get_or ns k 0 < 2 ^ 24) where
-  byte : (i : ℕ) → i < 4 → get_or (digits_l (2 ^ 8) 16 (number_l (2 ^ 32) ns)) (4 * k + i) 0 ≡ get_or ns k 0 / (2 ^ 8) ^ i % 2 ^ 8
-  byte i h = get_or_narrower (2 ^ 32) 4 (2 ^ 8) 16 ns k i refl small h (omega arith)
+-- the bytes of number k of n, its highest first
+module _ (n : ℕ) (ns : List ℕ) (small : Each1 (λ x. x < 2 ^ 32) ns) (k : ℕ) (within : k < n) (below : get_or ns k 0 < 2 ^ 24) where
+  byte : (i : ℕ) → i < 4 → get_or (digits_l (2 ^ 8) (4 * n) (number_l (2 ^ 32) ns)) (4 * k + i) 0 ≡ get_or ns k 0 / (2 ^ 8) ^ i % 2 ^ 8
+  byte i h = get_or_narrower (2 ^ 32) 4 (2 ^ 8) (4 * n) ns k i refl small h (omega arith)
 
-  pub three_of : (x y z : ℕ) → x ≡ get_or (digits_l (2 ^ 8) 16 (number_l (2 ^ 32) ns)) (4 * k + 2) 0
-      → y ≡ get_or (digits_l (2 ^ 8) 16 (number_l (2 ^ 32) ns)) (4 * k + 1) 0
-      → z ≡ get_or (digits_l (2 ^ 8) 16 (number_l (2 ^ 32) ns)) (4 * k + 0) 0
+  pub three_of : (x y z : ℕ) → x ≡ get_or (digits_l (2 ^ 8) (4 * n) (number_l (2 ^ 32) ns)) (4 * k + 2) 0
+      → y ≡ get_or (digits_l (2 ^ 8) (4 * n) (number_l (2 ^ 32) ns)) (4 * k + 1) 0
+      → z ≡ get_or (digits_l (2 ^ 8) (4 * n) (number_l (2 ^ 32) ns)) (4 * k + 0) 0
       → three_bytes (get_or ns k 0) ≡ x ∷ y ∷ z ∷ []
   three_of x y z ex ey ez =
-      let n = get_or ns k 0 in
-      let hx : n / 2 ^ 16 ≡ x = sym (ex ∙ byte 2 (omega arith) ∙ (let e : n / (2 ^ 8) ^ 2 % 2 ^ 8 ≡ n / 2 ^ 16 = omega arith in e)) in
-      let hy : n / 2 ^ 8 % 2 ^ 8 ≡ y = sym (ey ∙ byte 1 (omega arith)) in
-      let hz : n % 2 ^ 8 ≡ z = sym (ez ∙ byte 0 (omega arith) ∙ (let e : n / (2 ^ 8) ^ 0 % 2 ^ 8 ≡ n % 2 ^ 8 = omega arith in e)) in
+      let m = get_or ns k 0 in
+      let hx : m / 2 ^ 16 ≡ x = sym (ex ∙ byte 2 (omega arith) ∙ (let e : m / (2 ^ 8) ^ 2 % 2 ^ 8 ≡ m / 2 ^ 16 = omega arith in e)) in
+      let hy : m / 2 ^ 8 % 2 ^ 8 ≡ y = sym (ey ∙ byte 1 (omega arith)) in
+      let hz : m % 2 ^ 8 ≡ z = sym (ez ∙ byte 0 (omega arith) ∙ (let e : m / (2 ^ 8) ^ 0 % 2 ^ 8 ≡ m % 2 ^ 8 = omega arith in e)) in
       λ i. hx i ∷ hy i ∷ hz i ∷ []
 
 -- ---- groups
@@ -162,44 +169,56 @@ groups_read v bytes (suc m) long room each n =
 pub addition_place_small : (b : ℕ) → b < 256 → addition_place b < 16
 addition_place_small b h = ltb-true _ _ (agree_below_at (λ x. nat_lt (addition_place x) 16) (λ _. true) 256 b refl h)
 
--- the groups of a vector of letters, with their values, numbers and bytes
-module _ (v vs ns : List ℕ) (fits : IsLanes v) (vs_is : vs ≡ map value_of v) (ns_len : length ns ≡ 4) (ns_small : (k : ℕ) → k < 4 → get_or ns k 0 < 2 ^ 32)
-    (ns_is : (k : ℕ) → k < 4 → get_or vs (4 * k + 2) 0 < 64 → get_or vs (4 * k + 3) 0 < 64
+-- the n groups of a vector of letters, with their values, numbers and bytes
+module _ (n : ℕ) (v vs ns : List ℕ) (long : length v ≡ 4 * n) (fits : Each1 (Fits w8) v) (vs_is : vs ≡ map value_of v) (ns_len : length ns ≡ n) (ns_small : (k : ℕ) → k < n → get_or ns k 0 < 2 ^ 32)
+    (ns_is : (k : ℕ) → k < n → get_or vs (4 * k + 2) 0 < 64 → get_or vs (4 * k + 3) 0 < 64
     → get_or ns k 0 ≡ group_number (get_or vs (4 * k) 0) (get_or vs (4 * k + 1) 0) (get_or vs (4 * k + 2) 0) (get_or vs (4 * k + 3) 0)) where
   ns_fit : Each1 (λ x. x < 2 ^ 32) ns
   ns_fit = Each1-from_get_or (λ x. x < 2 ^ 32) ns 0 (λ i h. ns_small i (omega (arith, ns_len)))
 
-  letter_at : (i : ℕ) → i < 16 → i < prefix_len is_letter v
+  letter_at : (i : ℕ) → i < 4 * n → i < prefix_len is_letter v
       → (letter_value (get_or v i 0) ≡ Some (get_or vs i 0)) × (get_or vs i 0 < 64) × ((get_or v i 0 == padding) ≡ false)
   letter_at i h letter =
-      let read = letter_read (get_or v i 0) (lane_fits v i fits.1) (prefix_len_passes is_letter v i 0 letter) in
-      let is : get_or vs i 0 ≡ value_of (get_or v i 0) = ap (λ l. get_or l i 0) vs_is ∙ get_or-map value_of v i 0 0 (omega (arith, fits.0)) in
+      let read = letter_read (get_or v i 0) (lane_fits v i fits) (prefix_len_passes is_letter v i 0 letter) in
+      let is : get_or vs i 0 ≡ value_of (get_or v i 0) = ap (λ l. get_or l i 0) vs_is ∙ get_or-map value_of v i 0 0 (omega (arith, long)) in
       (read.0 ∙ ap Some (sym is), omega (arith, is, read.1), read.2)
 
-  abbrev bytes : List ℕ
-  bytes = digits_l (2 ^ 8) 16 (number_l (2 ^ 32) ns)
+  abbrev pub number_bytes : List ℕ
+  number_bytes = digits_l (2 ^ 8) (4 * n) (number_l (2 ^ 32) ns)
 
-  group_read : (k : ℕ) → k < 4 → 4 * k + 4 ≤ prefix_len is_letter v → (x y z : ℕ) → x ≡ get_or bytes (4 * k + 2) 0 → y ≡ get_or bytes (4 * k + 1) 0 → z ≡ get_or bytes (4 * k + 0) 0
+  pub group_read : (k : ℕ) → k < n → 4 * k + 4 ≤ prefix_len is_letter v → (x y z : ℕ) → x ≡ get_or number_bytes (4 * k + 2) 0 → y ≡ get_or number_bytes (4 * k + 1) 0 → z ≡ get_or number_bytes (4 * k + 0) 0
       → group_of v k ≡ Some (x ∷ y ∷ z ∷ [])
   group_read k h letters x y z ex ey ez =
       let a = letter_at (4 * k) (omega arith) (omega arith) in
       let b = letter_at (4 * k + 1) (omega arith) (omega arith) in
       let c = letter_at (4 * k + 2) (omega arith) (omega arith) in
       let d = letter_at (4 * k + 3) (omega arith) (omega arith) in
-      let n = ns_is k h c.1 d.1 in
+      let is = ns_is k h c.1 d.1 in
       four_letters_read _ _ _ _ _ _ _ _ a.0 b.0 c.0 d.0 d.2
-      ∙ ap (λ m. Some (three_bytes m)) (sym n)
-      ∙ ap Some (three_of ns ns_fit k h (omega (arith, n, a.1, b.1, c.1, d.1)) x y z ex ey ez)
+      ∙ ap (λ m. Some (three_bytes m)) (sym is)
+      ∙ ap Some (three_of n ns ns_fit k h (omega (arith, is, a.1, b.1, c.1, d.1)) x y z ex ey ez)
 
+  pub past_groups : (k : ℕ) → n ≤ k → 4 * k + 4 ≤ prefix_len is_letter v → ⊥
+  past_groups k h letters = omega (arith, h, letters, prefix_len-le-length is_letter v, long)
+
+-- four groups, their bytes in order
+module _ (v vs ns : List ℕ) (fits : IsLanes v) (vs_is : vs ≡ map value_of v) (ns_len : length ns ≡ 4) (ns_small : (k : ℕ) → k < 4 → get_or ns k 0 < 2 ^ 32)
+    (ns_is : (k : ℕ) → k < 4 → get_or vs (4 * k + 2) 0 < 64 → get_or vs (4 * k + 3) 0 < 64
+    → get_or ns k 0 ≡ group_number (get_or vs (4 * k) 0) (get_or vs (4 * k + 1) 0) (get_or vs (4 * k + 2) 0) (get_or vs (4 * k + 3) 0)) where
   abbrev pub ordered : List ℕ
-  ordered = pick_l 0 (bytes ++ bytes) (2 ∷ 1 ∷ 0 ∷ 6 ∷ 5 ∷ 4 ∷ 10 ∷ 9 ∷ 8 ∷ 14 ∷ 13 ∷ 12 ∷ 3 ∷ 7 ∷ 11 ∷ 15 ∷ [])
+  ordered = pick_l 0 (digits_l (2 ^ 8) 16 (number_l (2 ^ 32) ns) ++ digits_l (2 ^ 8) 16 (number_l (2 ^ 32) ns)) (2 ∷ 1 ∷ 0 ∷ 6 ∷ 5 ∷ 4 ∷ 10 ∷ 9 ∷ 8 ∷ 14 ∷ 13 ∷ 12 ∷ 3 ∷ 7 ∷ 11 ∷ 15 ∷ [])
+
+  at : (k : ℕ) → k < 4 → 4 * k + 4 ≤ prefix_len is_letter v → (x y z : ℕ) → x ≡ get_or (digits_l (2 ^ 8) 16 (number_l (2 ^ 32) ns)) (4 * k + 2) 0
+      → y ≡ get_or (digits_l (2 ^ 8) 16 (number_l (2 ^ 32) ns)) (4 * k + 1) 0 → z ≡ get_or (digits_l (2 ^ 8) 16 (number_l (2 ^ 32) ns)) (4 * k + 0) 0
+      → group_of v k ≡ Some (x ∷ y ∷ z ∷ [])
+  at = group_read 4 v vs ns fits.0 fits.1 vs_is ns_len ns_small ns_is
 
   pub ordered_groups : (k : ℕ) → 4 * k + 4 ≤ prefix_len is_letter v → group_of v k ≡ Some (three_at ordered k)
-  ordered_groups zero h = group_read 0 (omega arith) h _ _ _ refl refl refl
-  ordered_groups (suc zero) h = group_read 1 (omega arith) h _ _ _ refl refl refl
-  ordered_groups (suc (suc zero)) h = group_read 2 (omega arith) h _ _ _ refl refl refl
-  ordered_groups (suc (suc (suc zero))) h = group_read 3 (omega arith) h _ _ _ refl refl refl
-  ordered_groups (suc (suc (suc (suc k)))) h = absurd (omega (arith, h, prefix_len-le-length is_letter v, fits.0))
+  ordered_groups zero h = at 0 (omega arith) h _ _ _ refl refl refl
+  ordered_groups (suc zero) h = at 1 (omega arith) h _ _ _ refl refl refl
+  ordered_groups (suc (suc zero)) h = at 2 (omega arith) h _ _ _ refl refl refl
+  ordered_groups (suc (suc (suc zero))) h = at 3 (omega arith) h _ _ _ refl refl refl
+  ordered_groups (suc (suc (suc (suc k)))) h = absurd (past_groups 4 v vs ns fits.0 fits.1 vs_is ns_len ns_small ns_is (suc (suc (suc (suc k)))) (omega arith) h)
 
 -- ---- letters in a text
 

@@ -4,32 +4,49 @@ ghost use Rattle.mail_codec.specs.Places.{begins, first_place};
 
 use super::words::{equal_mask, first_marked};
 use crate::vectors::LANES;
-use crate::vectors::marks::{equal_lanes, first_lane};
+use crate::vectors::marks::{equal_lanes, first_lane, wide_equal_lanes};
 use std::simd::prelude::*;
 
-/// How many bytes a search looks at vector by vector before it takes blocks of four.
+/// How many bytes a search looks at vector by vector before it takes blocks of them.
 const NEAR: usize = 512;
 
-/// How many bytes four vectors have.
-const BLOCK: usize = 64;
+/// How many bytes two vectors of 64 have.
+const BLOCK: usize = 128;
 
-/// The first place of `wanted`, or the length where it is absent: by vectors, and where there are
-/// fewer bytes than one has, by words.
+/// The first place of `wanted`, or the length where it is absent: what is near vector by vector,
+/// and what is far by blocks, as far as `wanted` is in none of them, and then vector by vector.
 #[inline(always)]
 pub(super) fn byte_len(bytes: &[u8], wanted: u8) -> usize
     ensures least { result ≡ first_place (begins (λ b. b == wanted)) bytes.now }
     ensures bounds { result ≤ length bytes.now }
 {
+    if bytes.len() <= NEAR {
+        return near_len(bytes, wanted);
+    }
+    let place = near_len(&bytes[..NEAR], wanted);
+    if place != NEAR {
+        return place;
+    }
+    let next = NEAR + free_len(&bytes[NEAR..], wanted);
+    let rest = near_len(&bytes[next..], wanted);
+    next + rest
+}
+
+/// The same by vectors, and where there are fewer bytes than one has, by words.
+#[inline(always)]
+fn near_len(bytes: &[u8], wanted: u8) -> usize
+    ensures least { result ≡ first_place (begins (λ b. b == wanted)) bytes.now }
+    ensures bounds { result ≤ length bytes.now }
+{
     if bytes.len() < LANES {
-        near_len(bytes, wanted)
+        words_len(bytes, wanted)
     } else {
         vectors_len(bytes, wanted)
     }
 }
 
-/// The same where there are as many bytes as a vector has: what is near vector by vector, and what
-/// is far by blocks of four. The last vector is that of the last sixteen bytes, of which some may
-/// have been looked at before.
+/// The same where there are as many bytes as a vector has. The last vector is that of the last
+/// sixteen bytes, of which some may have been looked at before.
 #[inline(always)]
 fn vectors_len(bytes: &[u8], wanted: u8) -> usize
     requires { 16 ≤ length bytes.now }
@@ -37,25 +54,22 @@ fn vectors_len(bytes: &[u8], wanted: u8) -> usize
     ensures bounds { result ≤ length bytes.now }
 {
     let last = bytes.len() - LANES;
-    let far = last.min(NEAR);
     let mut at = 0;
-    'vectors: while at < far {
+    'vectors: while at < last {
         let place = first_lane(equal_lanes(u8x16::from_slice(&bytes[at..]), wanted));
         if place != LANES {
             return at + place;
         }
         at += LANES;
     }
-    if at < last {
-        return at + blocks_len(&bytes[at..], wanted);
-    }
     last + first_lane(equal_lanes(u8x16::from_slice(&bytes[last..]), wanted))
 }
 
-/// The same by blocks of four vectors, as far as `wanted` is in none of them, and then by words.
+/// How many bytes whole blocks have, from the first on, as far as `wanted` is in none of them.
 #[inline(always)]
-fn blocks_len(bytes: &[u8], wanted: u8) -> usize
-    ensures least { result ≡ first_place (begins (λ b. b == wanted)) bytes.now }
+fn free_len(bytes: &[u8], wanted: u8) -> usize
+    ensures passed { first_place (begins (λ b. b == wanted)) bytes.now
+        ≡ result + first_place (begins (λ b. b == wanted)) (drop result bytes.now) }
     ensures bounds { result ≤ length bytes.now }
 {
     let mut at = 0;
@@ -65,26 +79,24 @@ fn blocks_len(bytes: &[u8], wanted: u8) -> usize
         }
         at += BLOCK;
     }
-    at + near_len(&bytes[at..], wanted)
+    at
 }
 
-/// Whether `wanted` is none of the 64 bytes from a place on: the masks of four vectors are put
+/// Whether `wanted` is none of the 128 bytes from a place on: the masks of two vectors are put
 /// together and tested once.
 #[inline(always)]
 fn is_free(bytes: &[u8], at: usize, wanted: u8) -> bool
-    requires within { at + 64 ≤ length bytes.now }
-    ensures { result ≡ (first_place (begins (λ b. b == wanted)) (take 64 (drop at bytes.now)) == 64) }
+    requires within { at + 128 ≤ length bytes.now }
+    ensures { result ≡ (first_place (begins (λ b. b == wanted)) (take 128 (drop at bytes.now)) == 128) }
 {
-    let first = equal_lanes(u8x16::from_slice(&bytes[at..]), wanted);
-    let second = equal_lanes(u8x16::from_slice(&bytes[at + 16..]), wanted);
-    let third = equal_lanes(u8x16::from_slice(&bytes[at + 32..]), wanted);
-    let fourth = equal_lanes(u8x16::from_slice(&bytes[at + 48..]), wanted);
-    first | second | third | fourth == 0
+    let first = wide_equal_lanes(u8x64::from_slice(&bytes[at..]), wanted);
+    let second = wide_equal_lanes(u8x64::from_slice(&bytes[at + 64..]), wanted);
+    first | second == 0
 }
 
 /// The same by words of eight bytes.
 #[inline(always)]
-fn near_len(bytes: &[u8], wanted: u8) -> usize
+fn words_len(bytes: &[u8], wanted: u8) -> usize
     ensures least { result ≡ first_place (begins (λ b. b == wanted)) bytes.now }
     ensures bounds { result ≤ length bytes.now }
 {

@@ -20,6 +20,14 @@ pub(crate) fn equal_lanes(bytes: u8x16, wanted: u8) -> u64
     bytes.simd_eq(u8x16::splat(wanted)).to_bitmask()
 }
 
+/// The same of 64 bytes.
+#[inline(always)]
+pub(crate) fn wide_equal_lanes(bytes: u8x64, wanted: u8) -> u64
+    ensures { result ≡ lane_mask (λ b. b == wanted) bytes }
+{
+    bytes.simd_eq(u8x64::splat(wanted)).to_bitmask()
+}
+
 /// Marks the bytes that are `first` or `second`.
 #[inline(always)]
 pub(crate) fn either_lanes(bytes: u8x16, first: u8, second: u8) -> u64

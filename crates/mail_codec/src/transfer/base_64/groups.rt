@@ -1,5 +1,5 @@
-//! Base64 groups read where they lie: sixteen letters at a time, and four at a time where a line
-//! ends within a group.
+//! Base64 groups read where they lie: 64 letters at a time and then sixteen, as lines of mail have
+//! 64 to 76, and four at a time where a line ends within a group.
 ghost use Rattle.std.specs.Prelude.{◌≡◌, ℕ, ◌+◌, ◌*◌, ◌/◌, ◌<◌, ◌≤◌, ◌++◌, Ok, length, take, drop, OnSome, IfSome};
 ghost use Rattle.std.specs.List.{prefix_len};
 ghost use Rattle.mail_codec.specs.Base64.{groups_from, prepend};
@@ -10,7 +10,12 @@ ghost use Rattle.mail_codec.specs.private.Vectors.{is_letter};
 use crate::bytescan::runs::RunEnd;
 use crate::vectors::LANES;
 use crate::vectors::letters::{letters_len, packed};
+use crate::vectors::wide_letters::{self, WIDE, are_letters};
 use std::simd::prelude::*;
+
+/// How many bytes of a buffer there have to be for what is written before the next look at them:
+/// those of 64 letters, and a vector for the rest of the line and for the group over its end.
+const ROOM: usize = 96;
 
 /// Writes the bytes of the groups from a place of the text on to the front of `output`, up to the
 /// first that is not four letters, or as far as there is room. Returns how many groups these are,
@@ -33,7 +38,10 @@ pub(crate) fn put_groups(
 {
     let mut count = 0;
     let mut at = from;
-    'parts: while at < text.len() && output.len() - 3 * count >= 2 * LANES {
+    'parts: while at < text.len() && output.len() - 3 * count >= ROOM {
+        let wide = put_wide(output, 3 * count, text, at);
+        count += wide / 4;
+        at += wide / 4 * 4;
         let len = put_block(output, 3 * count, text, at);
         if len == LANES {
             count += LANES / 4;
@@ -42,7 +50,7 @@ pub(crate) fn put_groups(
         }
         count += len / 4;
         at += len / 4 * 4;
-        let next = after_absent(text, at, absent);
+        let next = after_line_end(text, at, absent);
         if next > at {
             at = next;
             continue;
@@ -57,6 +65,30 @@ pub(crate) fn put_groups(
         at = next;
     }
     (count, at)
+}
+
+/// Writes the bytes of the groups of the next 64 bytes to a place, and returns 64; or returns 0
+/// where not all of them are letters, or they are not that many.
+#[inline(always)]
+fn put_wide(output: &mut [u8], place: usize, text: &[u8], at: usize) -> usize
+    requires room { place + 64 ≤ length output.old }
+    requires within { at ≤ length text.now }
+    ensures fits { result ≤ 64 }
+    ensures bounds { at + result ≤ length text.now }
+    ensures letters { result ≤ prefix_len is_letter (drop at text.now) }
+    ensures kept { take place output.new ≡ take place output.old }
+    ensures read { (k n : ℕ) → 4 * k ≤ result → groups_from n (take (4 * k) (drop at text.now))
+        ≡ Ok (take (3 * k) (drop place output.new)) }
+{
+    if text.len() - at < WIDE {
+        return 0;
+    }
+    let letters = u8x64::from_slice(&text[at..]);
+    if !are_letters(letters) {
+        return 0;
+    }
+    wide_letters::packed(letters).copy_to_slice(&mut output[place..]);
+    WIDE
 }
 
 /// Writes the bytes of the groups of letters at the front of the next sixteen bytes to a place.
@@ -162,6 +194,22 @@ fn next_four(text: &[u8], at: usize, absent: RunEnd) -> Option<([u8; 4], usize)>
         }
     }
     None
+}
+
+/// A place up to which all bytes from `at` on are absent: after a CR LF at once, or else before the
+/// first byte that is not absent.
+#[inline(always)]
+fn after_line_end(text: &[u8], at: usize, absent: RunEnd) -> usize
+    requires within { at ≤ length text.now }
+    ensures after { at ≤ result }
+    ensures bounds { result ≤ length text.now }
+    ensures passed { without_ends absent (drop at text.now)
+        ≡ without_ends absent (drop result text.now) }
+{
+    if text.len() - at < 2 || text[at] != b'\r' || text[at + 1] != b'\n' {
+        return after_absent(text, at, absent);
+    }
+    at + 2
 }
 
 /// The first place from `at` on whose byte is not absent, or the length where there is none.

@@ -4,23 +4,19 @@ use Rattle.mail_codec.proofs.bytescan.single.vectors_len.Goals as goal
 
 pub returns-then-place-ne-LANES-clause-least : goal.returns-then-place-ne-LANES-clause-least
 returns-then-place-ne-LANES-clause-least c =
-    let small = c.min-far.ensures in
     lane_found (λ b. b == c.args.wanted) c.args.bytes.now c.vectors.at _ _ (omega arith) c.equal_lanes.ensures c.first_lane-place.ensures _ c.vectors.invariant c.if-place-ne-LANES.true
 
 pub returns-then-place-ne-LANES-clause-bounds : goal.returns-then-place-ne-LANES-clause-bounds
 returns-then-place-ne-LANES-clause-bounds c =
-    let small = c.min-far.ensures in
     let lane = lane_is (λ b. b == c.args.wanted) c.args.bytes.now c.vectors.at _ _ (omega arith) c.equal_lanes.ensures c.first_lane-place.ensures in
     omega (arith, lane.1)
 
 pub vectors-preserved : goal.vectors-preserved
 vectors-preserved c =
-    let small = c.min-far.ensures in
     lane_passed (λ b. b == c.args.wanted) c.args.bytes.now c.vectors.at _ _ (omega arith) c.equal_lanes.ensures c.first_lane-place.ensures _ c.vectors.invariant c.if-place-ne-LANES.false
 
 pub returns-clause-least : goal.returns-clause-least
 returns-clause-least c =
-    let small = c.min-far.ensures in
     let last = length c.args.bytes.now - 16 in
     let lane = lane_is (λ b. b == c.args.wanted) c.args.bytes.now last _ _ (omega (arith, c.requires)) c.equal_lanes-2.ensures c.first_lane.ensures in
     sym (last_chunk (λ b. b == c.args.wanted) c.args.bytes.now 16 c.vectors.at last c.first_lane.result c.vectors.invariant (omega (arith, c.requires)) (omega arith) lane.0)

@@ -10,10 +10,10 @@ pub dot4-last : goal.dot4-last
 dot4-last c = (dot4_Fits c.args.values LAST_PAIR c.fits-values.1 tt, tt)
 
 pub returns-clause-len : goal.returns-clause-len
-returns-clause-len c = numbers_len c.args.values c.fits-values
+returns-clause-len c = numbers_len 4 c.args.values c.fits-values.0 c.fits-values.1
 
 pub returns-clause-fits : goal.returns-clause-fits
-returns-clause-fits c = numbers_fit c.args.values c.fits-values
+returns-clause-fits c = numbers_fit 4 c.args.values c.fits-values.0 c.fits-values.1
 
 pub returns-clause-lanes : goal.returns-clause-lanes
-returns-clause-lanes c = numbers_at c.args.values c.fits-values
+returns-clause-lanes c = numbers_at 4 c.args.values c.fits-values.0 c.fits-values.1

@@ -1,6 +1,6 @@
 use Rattle.std.proofs.Common.{◌==◌, arith}
 use Rattle.mail_codec.proofs.lemmas.PlacesSearches.{word_found, word_passed}
-use Rattle.mail_codec.proofs.bytescan.single.near_len.Goals as goal
+use Rattle.mail_codec.proofs.bytescan.single.words_len.Goals as goal
 
 pub returns-then-mask-ne0-clause-least : goal.returns-then-mask-ne0-clause-least
 returns-then-mask-ne0-clause-least c =

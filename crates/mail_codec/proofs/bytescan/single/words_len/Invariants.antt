@@ -1,7 +1,7 @@
 use Rattle.std.proofs.Common.{◌==◌, ◌≡◌, ◌*◌}
 use Rattle.mail_codec.specs.Places.{begins, first_place}
 use Rattle.mail_codec.proofs.lemmas.Places.{PassedTo}
-use Rattle.mail_codec.proofs.bytescan.single.near_len.Given as goal
+use Rattle.mail_codec.proofs.bytescan.single.words_len.Given as goal
 
 abbrev pub invariant-loop-word : goal.invariant-loop-word
 invariant-loop-word l = record {
