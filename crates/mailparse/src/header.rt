@@ -8,6 +8,7 @@ ghost use Rattle.mailparse.specs.Value.{lenient_value, lenient_value_in, strict_
 
 mod encoded_word;
 pub(crate) mod parse;
+mod plain;
 mod shown;
 mod tokens;
 mod value;

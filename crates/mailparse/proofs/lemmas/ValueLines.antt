@@ -27,23 +27,6 @@ trimmed_all items all e = fuse items ∙ ap (map trim_start) e
     fuse [] = refl
     fuse (line ∷ items) = ap (λ ls. trim_start line.now ∷ ls) (fuse items)
 
--- joined, and one more of them
-pub joined_first : (items : List (Bor (List ℕ))) (line : Bor (List ℕ)) (text joined new : List ℕ) → eqb (length items) 0 ≡ true
-    → joined ≡ join_with_byte space (trimmed items) → text ≡ trim_start line.now → new ≡ joined ++ text
-    → new ≡ join_with_byte space (trimmed (items ++ line ∷ []))
-joined_first [] line text joined new none b t e = e ∙ ap (λ j. j ++ text) b ∙ t
-joined_first (i ∷ items) line text joined new none b t e = absurd (omega (arith, eqb-true (suc (length items)) 0 none))
-
-pub joined_next : (items : List (Bor (List ℕ))) (line : Bor (List ℕ)) (text joined spaced new : List ℕ) → eqb (length items) 0 ≡ false
-    → joined ≡ join_with_byte space (trimmed items) → text ≡ trim_start line.now → spaced ≡ joined ++ space ∷ [] → new ≡ spaced ++ text
-    → new ≡ join_with_byte space (trimmed (items ++ line ∷ []))
-joined_next items line text joined spaced new some b t s e =
-    let len = length-map items (λ (line : Bor (List ℕ)). trim_start line.now) in
-    let more = eqb-false (length items) 0 some in
-    e ∙ ap (λ j. j ++ text) (s ∙ ap (λ j. j ++ space ∷ []) b) ∙ ap (λ x. (join_with_byte space (trimmed items) ++ space ∷ []) ++ x) t
-    ∙ sym (ap (join_with_byte space) (map_push (λ (line : Bor (List ℕ)). trim_start line.now) items line)
-    ∙ join_next space (trimmed items) (trim_start line.now) (λ h. more (omega arith)))
-
 module _ (known : Charsets) where
   -- the first line
   tokens_of_first : (lines : List (List ℕ)) (line : List ℕ) → length lines ≡ 0
