@@ -64,8 +64,24 @@ fn cut_header(raw: &[u8]) -> (MailHeader<'_>, usize)
     (MailHeader { key, value }, length_to(raw, end))
 }
 
-/// Where the key ends: at the first colon or LF, or at the end of the bytes.
+/// Where the key ends: at the first colon or LF, or at the end of the bytes. Most keys have fewer
+/// bytes than a vector.
 fn key_end(raw: &[u8]) -> usize
+    ensures least { result ≡ key_end raw.now }
+    ensures bounds { result ≤ length raw.now }
+{
+    if raw.len() >= LANES {
+        let place = lane_of_key_end(u8x16::from_slice(raw));
+        if place != LANES {
+            return place;
+        }
+    }
+    far_key_end(raw)
+}
+
+/// The same, vector by vector.
+#[inline(never)]
+fn far_key_end(raw: &[u8]) -> usize
     ensures least { result ≡ key_end raw.now }
     ensures bounds { result ≤ length raw.now }
 {

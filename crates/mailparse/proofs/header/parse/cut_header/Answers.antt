@@ -1,5 +1,5 @@
-use Rattle.std.proofs.Common.{◌≡◌, ℕ, true, false, refl, sym, ap, ◌∙◌, ◌<◌, length, subst, arith}
-use Rattle.mailparse.specs.Header.{Header, has_colon, header_end}
+use Rattle.std.proofs.Common.{◌≡◌, ℕ, true, false, refl, sym, ap, ◌∙◌, ◌<◌, length, subst}
+use Rattle.mailparse.specs.Header.{Header, header_end}
 use Rattle.mailparse.proofs.lemmas.Header.{has_colon-at, feed_after, key_end-<, header_end-key, header_end-from_feed, header_length-at, header_of-key, header_of-value}
 use Rattle.mailparse.proofs.header.parse.cut_header.Goals as goal
 

@@ -1,4 +1,4 @@
-use Rattle.std.proofs.Common.{◌≡◌, ◌-◌, take, drop, length, refl, arith}
+use Rattle.std.proofs.Common.{◌-◌, take, drop, length, refl, arith}
 use Rattle.mail_codec.specs.Places.{begins, first_place}
 use Rattle.mail_codec.proofs.lemmas.PlacesSearches.{PassedTo-chunk, last_chunk}
 use Rattle.mailparse.specs.private.Plain.{cuts_value}

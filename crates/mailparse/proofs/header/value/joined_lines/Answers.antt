@@ -1,8 +1,7 @@
-use Rattle.std.proofs.Common.{◌≡◌, ◌++◌, None, string_bytes, sym, ap, ◌∙◌, arith}
+use Rattle.std.proofs.Common.{◌++◌, string_bytes, sym, ap, ◌∙◌, arith}
 use lib.Utf8.{encode}
 use Rattle.std.proofs.lemmas.Bool.{eqb-true, eqb-false}
-use Rattle.std.specs.Str.{trim_start}
-use Rattle.mailparse.proofs.lemmas.ValueJoined.{joined_text, joined_alone, joined_last, joined_more}
+use Rattle.mailparse.proofs.lemmas.ValueJoined.{joined_alone, joined_last, joined_more}
 use Rattle.mailparse.proofs.header.value.joined_lines.Goals as goal
 
 pub returns-then-is_empty : goal.returns-then-is_empty
