@@ -1,5 +1,5 @@
 -- A bare value shows itself.
-use Rattle.std.proofs.Common.{◌≡◌, ℕ, Bool, true, false, eqb, ltb, leb, ◌&&◌, ◌||◌, List, [], ◌∷◌, ◌++◌, ◌≤◌, length, None, refl, zero-add, sym, ap, ◌∙◌, arith}
+use Rattle.std.proofs.Common.{◌≡◌, ℕ, Bool, true, false, eqb, leb, ◌&&◌, ◌||◌, List, [], ◌∷◌, ◌++◌, ◌≤◌, length, None, refl, sym, ap, ◌∙◌, arith}
 use Rattle.std.proofs.lemmas.Bool.{cond-false, eqb-true, false≢true, le-ltb, leb-true}
 use Rattle.std.proofs.lemmas.Str.{chars_past_char, encodes-chars, encode_ascii}
 use Rattle.std.specs.Char.{is_ascii_graphic}

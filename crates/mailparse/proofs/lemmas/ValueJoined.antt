@@ -23,9 +23,11 @@ parts_more part (next ∷ more) h = refl
 pub feed_at : (text : List ℕ) (place : ℕ) → Some place ≡ byte_place text 10 → (place < length text) × (get_or text place 0 ≡ 10)
 feed_at text place e =
     let found = place_some (begins (λ b. eqb b 10)) text place e in
-    let low : place < length text = omega (arith, found.0, found.1) in
-    (low, eqb-true _ 10 (sym (begins-at (λ b. eqb b 10) text place low) ∙ ap (λ n. begins (λ b. eqb b 10) (drop n text)) found.0
-    ∙ first_place-passes (begins (λ b. eqb b 10)) text found.1))
+    let low : place < length text = omega (arith, found.0, found.1) in (
+      low,
+      eqb-true _ 10 (sym (begins-at (λ b. eqb b 10) text place low) ∙ ap (λ n. begins (λ b. eqb b 10) (drop n text)) found.0
+          ∙ first_place-passes (begins (λ b. eqb b 10)) text found.1),
+    )
 
 -- a line that a LF ends, and those of what follows
 pub lines_cut : (text : List ℕ) (place : ℕ) → Some place ≡ byte_place text 10 → lines text ≡ strip_carriage_return (take place text) ∷ lines (drop (place + 1) text)

@@ -1,16 +1,13 @@
 -- The tokens of lines, line by line.
-use Rattle.std.proofs.Common.{◌≡◌, ◌≢◌, ℕ, suc, true, false, eqb, List, [], ◌∷◌, ◌++◌, length, map, refl, sym, ap, ◌∙◌, arith, append_assoc, length-append}
+use Rattle.std.proofs.Common.{◌≡◌, ◌≢◌, ℕ, true, false, eqb, List, [], ◌∷◌, ◌++◌, length, map, refl, sym, ap, ◌∙◌, arith, append_assoc, length-append}
 use Rattle.std.proofs.lemmas.Bool.{ne_eqb, eqb-true, eqb-false}
 use Rattle.std.proofs.lemmas.List.{map_push, length-map}
 use Rattle.std.specs.Borrow.{Bor}
-use Rattle.std.specs.List.{join_with_byte}
 use Rattle.std.specs.Str.{trim_start}
-use Rattle.mail_codec.specs.Ascii.{space}
 use Rattle.mail_codec.specs.Charset.{Charsets}
 use Rattle.mailparse.specs.Value.{newline, line_tokens, tokens_of_lines}
 use Rattle.mailparse.specs.declared.header.shown.ShownValue.{ShownValue}
 use Rattle.mailparse.specs.private.Shown.{Shows}
-use Rattle.mailparse.proofs.lemmas.EncodedWord.{join_next}
 use Rattle.mailparse.proofs.lemmas.Shown.{Shows-append, Shows-at}
 
 pub more_is_some : {A : Type 0} (xs : List A) (x : A) → false ≡ eqb (length (xs ++ x ∷ [])) 0
