@@ -8,7 +8,7 @@ use super::LANES;
 use std::simd::prelude::*;
 
 /// Whether some bytes, as many as a vector has or more, begin with a visible character and hold
-/// neither a LF nor a `=`: as a value they show themselves.
+/// neither a LF nor a `?`: as a value they show themselves.
 pub(super) fn is_bare(bytes: &[u8]) -> bool
     ensures { IsTrue result → IsBare bytes.now }
 {
@@ -31,7 +31,7 @@ fn begins_visibly(bytes: &[u8]) -> bool
     }
 }
 
-/// Whether no byte is LF or `=`. The last vector ends with the bytes, and some of these may have
+/// Whether no byte is LF or `?`. The last vector ends with the bytes, and some of these may have
 /// been looked at before.
 fn is_uncut(bytes: &[u8]) -> bool
     requires { 16 ≤ length bytes.now }
@@ -48,11 +48,11 @@ fn is_uncut(bytes: &[u8]) -> bool
     is_uncut_vector(u8x16::from_slice(&bytes[last..]))
 }
 
-/// Whether none of sixteen bytes is LF or `=`.
+/// Whether none of sixteen bytes is LF or `?`.
 #[inline(always)]
 fn is_uncut_vector(bytes: u8x16) -> bool
     ensures { IsTrue result → first_place (begins cuts_value) bytes ≡ 16 }
 {
-    let marks = bytes.simd_eq(u8x16::splat(b'\n')) | bytes.simd_eq(u8x16::splat(b'='));
+    let marks = bytes.simd_eq(u8x16::splat(b'\n')) | bytes.simd_eq(u8x16::splat(b'?'));
     marks.to_bitmask() == 0
 }

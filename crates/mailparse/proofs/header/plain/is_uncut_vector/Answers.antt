@@ -5,4 +5,4 @@ use Rattle.mailparse.specs.private.Plain.{cuts_value}
 use Rattle.mailparse.proofs.header.plain.is_uncut_vector.Goals as goal
 
 pub returns : goal.returns
-returns c = λ yes. sym (first_lane_none cuts_value c.args.bytes _ c.fits-bytes.0 (either_marked 10 61 c.args.bytes c.fits-bytes.0) (eqb-true _ 0 yes))
+returns c = λ yes. sym (first_lane_none cuts_value c.args.bytes _ c.fits-bytes.0 (either_marked 10 63 c.args.bytes c.fits-bytes.0) (eqb-true _ 0 yes))
