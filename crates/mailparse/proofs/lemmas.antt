@@ -10,6 +10,8 @@ pub mod EncodedWord
 pub mod Shown
 pub mod Value
 pub mod ValuePlain
+pub mod ValueBare
+pub mod ValueJoined
 pub mod ValueLines
 pub mod Delimiters
 pub mod Mail

@@ -12,3 +12,4 @@ pub mod ExtendedValues
 pub mod CharsetSources
 pub mod Continuations
 pub mod Filled
+pub mod Plain

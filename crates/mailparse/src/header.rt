@@ -8,6 +8,7 @@ ghost use Rattle.mailparse.specs.Value.{lenient_value, lenient_value_in, strict_
 
 mod encoded_word;
 pub(crate) mod parse;
+mod plain;
 mod shown;
 mod tokens;
 mod value;
@@ -20,6 +21,9 @@ use std::borrow::CowStr;
 use std::marker::Model;
 use std::{fmt, str};
 use value::value_ref;
+
+/// How many bytes a vector has.
+const LANES: usize = 16;
 
 /// A header of a message (RFC 5322, section 2.2): the bytes of its key and of its value, as they
 /// appear in the message.

@@ -1,5 +1,5 @@
 -- Lemmas on the places of one header, for the searches that find them.
-use Rattle.std.proofs.Common.{◌≡◌, ℕ, suc, ◌+◌, ◌-◌, ◌<◌, ◌≤◌, Bool, true, false, ◌&&◌, ◌||◌, not, cond, eqb, min, Some, None, List, [], ◌∷◌, ◌++◌, length, take, drop, get_or, Ok, Err, refl, sym, ap, subst, ◌∙◌, inl, inr, ⊎_elim, arith, ne_eqb, add-one, zero-add, slice_range, append_assoc, length-append, length-drop, length-take}
+use Rattle.std.proofs.Common.{◌≡◌, ℕ, suc, ◌+◌, ◌-◌, ◌<◌, ◌≤◌, Bool, true, false, ◌&&◌, ◌||◌, not, cond, eqb, min, Some, None, List, [], ◌∷◌, ◌++◌, length, take, drop, get_or, Ok, Err, refl, sym, ap, subst, ◌∙◌, inl, inr, ⊎_elim, arith, ne_eqb, add-one, slice_range, append_assoc, length-append, length-drop, length-take}
 use Rattle.std.specs.List.{list_all}
 use Rattle.std.proofs.lemmas.Bool.{cases_lt, eqb-true}
 use Rattle.std.proofs.lemmas.List.{drop_more, drop-take, drop-drop, take-take, get_or-take}
@@ -7,7 +7,7 @@ use Rattle.std.proofs.Math.ListN.{drop_of_length-le}
 use Rattle.std.proofs.Math.Seq.{take-append_seam}
 use Rattle.mail_codec.specs.Ascii.{colon, is_blank}
 use Rattle.mail_codec.specs.Places.{first_place, place, place_from, begins, IsFirstPlace}
-use Rattle.mail_codec.proofs.lemmas.Places.{first_place-≤, first_place-here, first_place-past, first_place-passes, first_place-before, first_place-is_first, IsFirstPlace-unique, begins-at, place_from_same, place_from_here, place_from_next, place_from_passes}
+use Rattle.mail_codec.proofs.lemmas.Places.{first_place-≤, first_place-here, first_place-past, first_place-passes, first_place-before, first_place-is_first, IsFirstPlace-unique, begins-at, place_from_here, place_from_next, place_from_passes}
 use Rattle.mailparse.specs.Header.{ends_key, Header, is_line_end, is_line_feed, ends_header, key_end, has_colon, header_end, value_start, value_end, header_of, header_length, read_header}
 use Rattle.mailparse.specs.Refusal.{empty_string, leading_space}
 use Rattle.mailparse.proofs.lemmas.Places.{place_from_via}
@@ -123,15 +123,23 @@ ends_header_is_feed (b ∷ rest) h = go (eqb b 10) h
     go true h = refl
     go false h = h
 
--- it is sought from the first LF after the colon on
-pub header_end-from_feed : (raw : List ℕ) → has_colon raw ≡ true → key_end raw < first_feed raw → header_end raw ≡ place_from ends_header raw (first_feed raw)
+-- whether a colon ends the key
+pub has_colon-at : (raw : List ℕ) (place : ℕ) (found t : Bool) → place ≡ key_end raw → found ≡ begins is_colon (drop place raw) → found ≡ t → has_colon raw ≡ t
+unfolding has_colon
+has_colon-at raw place found t at is e = ap (λ n. begins is_colon (drop n raw)) (sym at) ∙ sym is ∙ e
+
+-- the first LF after the colon
+pub feed_after : (raw : List ℕ) (place feed : ℕ) → place < length raw → feed ≡ place_from (begins is_line_feed) raw (place + 1)
+    → (place_from (begins is_line_feed) raw feed ≡ feed) × (place_from ends_header raw feed ≡ place_from ends_header raw (place + 1))
+feed_after raw place feed low at =
+    let via = place_from_via (begins is_line_feed) ends_header ends_header_is_feed raw (place + 1) feed (omega arith) (sym at) in (via.1, via.2)
+
+-- the header's end is sought from there on
+pub header_end-from_feed : (raw : List ℕ) (place feed : ℕ) → has_colon raw ≡ true → place ≡ key_end raw → place < length raw
+    → feed ≡ place_from (begins is_line_feed) raw (place + 1) → place_from ends_header raw feed ≡ header_end raw
 unfolding header_end
-header_end-from_feed raw has low =
-    let fits = first_place-≤ (begins is_line_feed) raw in
-    let at : place_from (begins is_line_feed) raw (suc (key_end raw)) ≡ first_feed raw =
-    place_from_same (begins is_line_feed) raw 0 (suc (key_end raw)) (omega arith) (omega arith) ∙ zero-add (first_feed raw) in
-    let via = place_from_via (begins is_line_feed) ends_header ends_header_is_feed raw (suc (key_end raw)) (first_feed raw) (omega arith) at in
-    (rw has (sym via.2))
+header_end-from_feed raw place feed has at low is =
+    (feed_after raw place feed low is).1 ∙ ap (place_from ends_header raw) {x = place + 1} {y = suc (key_end raw)} (omega (arith, at)) ∙ sym (rw has refl)
 
 -- a LF that a blank follows is passed over
 pub header_end-continued : (raw : List ℕ) (end : ℕ) → end < length raw → begins is_blank (drop (end + 1) raw) ≡ true

@@ -1,16 +1,13 @@
 -- The tokens of lines, line by line.
-use Rattle.std.proofs.Common.{◌≡◌, ◌≢◌, ℕ, suc, true, false, eqb, List, [], ◌∷◌, ◌++◌, length, map, refl, sym, ap, ◌∙◌, arith, append_assoc, length-append}
+use Rattle.std.proofs.Common.{◌≡◌, ◌≢◌, ℕ, true, false, eqb, List, [], ◌∷◌, ◌++◌, length, map, refl, sym, ap, ◌∙◌, arith, append_assoc, length-append}
 use Rattle.std.proofs.lemmas.Bool.{ne_eqb, eqb-true, eqb-false}
 use Rattle.std.proofs.lemmas.List.{map_push, length-map}
 use Rattle.std.specs.Borrow.{Bor}
-use Rattle.std.specs.List.{join_with_byte}
 use Rattle.std.specs.Str.{trim_start}
-use Rattle.mail_codec.specs.Ascii.{space}
 use Rattle.mail_codec.specs.Charset.{Charsets}
 use Rattle.mailparse.specs.Value.{newline, line_tokens, tokens_of_lines}
 use Rattle.mailparse.specs.declared.header.shown.ShownValue.{ShownValue}
 use Rattle.mailparse.specs.private.Shown.{Shows}
-use Rattle.mailparse.proofs.lemmas.EncodedWord.{join_next}
 use Rattle.mailparse.proofs.lemmas.Shown.{Shows-append, Shows-at}
 
 pub more_is_some : {A : Type 0} (xs : List A) (x : A) → false ≡ eqb (length (xs ++ x ∷ [])) 0
@@ -26,23 +23,6 @@ trimmed_all items all e = fuse items ∙ ap (map trim_start) e
     fuse : (items : List (Bor (List ℕ))) → map (λ line. trim_start line.now) items ≡ map trim_start (map (λ line. line.now) items)
     fuse [] = refl
     fuse (line ∷ items) = ap (λ ls. trim_start line.now ∷ ls) (fuse items)
-
--- joined, and one more of them
-pub joined_first : (items : List (Bor (List ℕ))) (line : Bor (List ℕ)) (text joined new : List ℕ) → eqb (length items) 0 ≡ true
-    → joined ≡ join_with_byte space (trimmed items) → text ≡ trim_start line.now → new ≡ joined ++ text
-    → new ≡ join_with_byte space (trimmed (items ++ line ∷ []))
-joined_first [] line text joined new none b t e = e ∙ ap (λ j. j ++ text) b ∙ t
-joined_first (i ∷ items) line text joined new none b t e = absurd (omega (arith, eqb-true (suc (length items)) 0 none))
-
-pub joined_next : (items : List (Bor (List ℕ))) (line : Bor (List ℕ)) (text joined spaced new : List ℕ) → eqb (length items) 0 ≡ false
-    → joined ≡ join_with_byte space (trimmed items) → text ≡ trim_start line.now → spaced ≡ joined ++ space ∷ [] → new ≡ spaced ++ text
-    → new ≡ join_with_byte space (trimmed (items ++ line ∷ []))
-joined_next items line text joined spaced new some b t s e =
-    let len = length-map items (λ (line : Bor (List ℕ)). trim_start line.now) in
-    let more = eqb-false (length items) 0 some in
-    e ∙ ap (λ j. j ++ text) (s ∙ ap (λ j. j ++ space ∷ []) b) ∙ ap (λ x. (join_with_byte space (trimmed items) ++ space ∷ []) ++ x) t
-    ∙ sym (ap (join_with_byte space) (map_push (λ (line : Bor (List ℕ)). trim_start line.now) items line)
-    ∙ join_next space (trimmed items) (trim_start line.now) (λ h. more (omega arith)))
 
 module _ (known : Charsets) where
   -- the first line

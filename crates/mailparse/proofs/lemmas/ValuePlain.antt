@@ -60,13 +60,13 @@ trim_start-plain b value h some =
     ∙ ap encode_utf8_all (cond-false _ _ _ (graphic_no_whitespace b (omega arith) first.1))
     ∙ encodes-IsAscii (b ∷ value) ascii
 
-trim_start-nil : trim_start [] ≡ []
+pub trim_start-nil : trim_start [] ≡ []
 unfolding trim_start
 trim_start-nil = ap (λ cs. encode_utf8_all (skip_leading_whitespace cs)) chars-nil
 
 -- ---- its one token
 
-no_line_feed : (text : List ℕ) → first_place (begins (λ b. eqb b 10)) text ≡ length text → (k : ℕ) (d : ℕ) → k < length text → eqb (get_or text k d) 10 ≡ false
+pub no_line_feed : (text : List ℕ) → first_place (begins (λ b. eqb b 10)) text ≡ length text → (k : ℕ) (d : ℕ) → k < length text → eqb (get_or text k d) 10 ≡ false
 no_line_feed text whole k d lt =
     ap (λ v. eqb v 10) (get_or_default text k d 0 lt) ∙ sym (begins-at (λ b. eqb b 10) text k lt)
     ∙ first_place-before (begins (λ b. eqb b 10)) text k (omega arith)

@@ -1,15 +1,16 @@
 //! Cutting the header at the front of the bytes: where its key, its value and its end stand.
 ghost use Rattle.std.specs.Prelude.{◌≡◌, ◌==◌, ◌<◌, ◌≤◌, suc, min, not, length, take, drop, IfOk};
 ghost use Rattle.std.specs.List.{list_all};
-ghost use Rattle.mail_codec.specs.Ascii.{is_blank, space};
+ghost use Rattle.mail_codec.specs.Ascii.{colon, is_blank, space};
 ghost use Rattle.mail_codec.specs.Places.{first_place, place_from, begins};
-ghost use Rattle.mailparse.specs.Header.{is_line_end, is_line_feed, ends_header};
+ghost use Rattle.mailparse.specs.Header.{ends_key, is_line_end, is_line_feed, key_end, ends_header};
 ghost use Rattle.mailparse.specs.Header.{header_of, header_length, read_header};
 ghost use Rattle.mailparse.specs.Outcome.{Answers};
 
-use super::MailHeader;
+use super::{LANES, MailHeader};
 use crate::error::MailParseError;
 use mail_codec::bytescan::find_byte;
+use std::simd::prelude::*;
 
 /// Reads the header at the front of `raw`, and returns it with the number of bytes that it takes
 /// up, including its line end (RFC 5322, sections 2.2 and 2.2.3).
@@ -52,16 +53,81 @@ pub fn parse_header(raw: &[u8]) -> Result<(MailHeader<'_>, usize), MailParseErro
 fn cut_header(raw: &[u8]) -> (MailHeader<'_>, usize)
     ensures { result ≡ (header_of raw.now, header_length raw.now) }
 {
-    let line_end = line_feed_from(raw, 0);
-    let Some(colon) = find_byte(&raw[..line_end], b':') else {
-        let key = &raw[..line_end];
-        let value = &raw[line_end..line_end];
-        return (MailHeader { key, value }, length_to(raw, line_end));
-    };
-    let end = header_end(raw, line_end);
-    let key = &raw[..colon];
-    let value = trim_line_ends(trim_spaces(&raw[colon + 1..end]));
+    let place = key_end(raw);
+    let key = &raw[..place];
+    if !is_colon_at(raw, place) {
+        let value = &raw[place..place];
+        return (MailHeader { key, value }, length_to(raw, place));
+    }
+    let end = header_end(raw, line_feed_from(raw, place + 1));
+    let value = trim_line_ends(trim_spaces(&raw[place + 1..end]));
     (MailHeader { key, value }, length_to(raw, end))
+}
+
+/// Where the key ends: at the first colon or LF, or at the end of the bytes. Most keys have fewer
+/// bytes than a vector.
+fn key_end(raw: &[u8]) -> usize
+    ensures least { result ≡ key_end raw.now }
+    ensures bounds { result ≤ length raw.now }
+{
+    if raw.len() >= LANES {
+        let place = lane_of_key_end(u8x16::from_slice(raw));
+        if place != LANES {
+            return place;
+        }
+    }
+    far_key_end(raw)
+}
+
+/// The same, vector by vector.
+#[inline(never)]
+fn far_key_end(raw: &[u8]) -> usize
+    ensures least { result ≡ key_end raw.now }
+    ensures bounds { result ≤ length raw.now }
+{
+    let mut at = 0;
+    'vectors: while raw.len() - at >= LANES {
+        let place = lane_of_key_end(u8x16::from_slice(&raw[at..]));
+        if place != LANES {
+            return at + place;
+        }
+        at += LANES;
+    }
+    at + short_key_end(&raw[at..])
+}
+
+/// The first place of a colon or a LF in sixteen bytes, or 16 where there is neither.
+#[inline(always)]
+fn lane_of_key_end(bytes: u8x16) -> usize
+    ensures { result ≡ first_place (begins ends_key) bytes }
+{
+    let marks = bytes.simd_eq(u8x16::splat(b':')) | bytes.simd_eq(u8x16::splat(b'\n'));
+    let mask = marks.to_bitmask();
+    if mask == 0 {
+        LANES
+    } else {
+        mask.trailing_zeros() as usize
+    }
+}
+
+/// Where the key ends in fewer bytes than a vector has, by a search for the LF and then for the
+/// colon.
+fn short_key_end(raw: &[u8]) -> usize
+    ensures least { result ≡ key_end raw.now }
+    ensures bounds { result ≤ length raw.now }
+{
+    let line_end = line_feed_from(raw, 0);
+    match find_byte(&raw[..line_end], b':') {
+        Some(place) => place,
+        None => line_end,
+    }
+}
+
+/// Whether a colon stands at `place`.
+fn is_colon_at(raw: &[u8], place: usize) -> bool
+    ensures { result ≡ begins (λ b. b == colon) (drop place raw.now) }
+{
+    matches!(raw.get(place), Some(b':'))
 }
 
 /// The least place of an LF at or after `from`, or the length if there is none.

@@ -1,15 +1,17 @@
 //! The text that a header's value shows: its lines are unfolded (RFC 5322, section 2.2.3) and its
 //! encoded words decoded (RFC 2047, sections 2 and 4).
-ghost use Rattle.std.specs.Prelude.{◌≡◌, map, IfOk, IfSome};
+ghost use Rattle.std.specs.Prelude.{◌≡◌, ◌==◌, ◌-◌, ◌<◌, ◌∷◌, None, length, map, slice_index, IfOk, IfSome, IsTrue, MatchOption};
 ghost use Rattle.std.specs.Cow.{cow_str_bytes};
 ghost use Rattle.std.specs.List.{join_with_byte};
-ghost use Rattle.std.specs.Str.{trim_start};
-ghost use Rattle.std.specs.Str.Lines.{lines};
+ghost use Rattle.std.specs.Str.{IsUtf8, trim_start};
+ghost use Rattle.std.specs.Str.Lines.{lines, strip_carriage_return};
 ghost use Rattle.std.specs.String.{string_bytes};
-ghost use Rattle.mail_codec.specs.Ascii.{space};
+ghost use Rattle.mail_codec.specs.Ascii.{carriage_return, line_feed, space};
 ghost use Rattle.mail_codec.specs.Charset.{Charsets};
+ghost use Rattle.mail_codec.specs.Places.{byte_place};
 ghost use Rattle.mailparse.specs.Value.{shown_value};
 
+use super::plain::is_bare;
 use super::shown::{HeaderToken, ShownValue};
 use super::tokens::push_line;
 use mail_codec::bytescan::{find, find_byte};
@@ -18,11 +20,14 @@ use std::alloc::{AllocError, Global};
 use std::borrow::CowStr;
 
 /// What a value shows that is one line without `=?`, whatever charsets are known: the line without
-/// its leading whitespace.
+/// its leading whitespace. One search is enough where it is bare.
 fn plain_line(text: &str) -> Option<&str>
     ensures { IfSome result (λ line. (known : Charsets) →
         line.now ≡ shown_value known text.now) }
 {
+    if is_bare(text.as_bytes()) {
+        return Some(text);
+    }
     if find_byte(text.as_bytes(), b'\n').is_some() {
         return None;
     }
@@ -69,16 +74,47 @@ fn joined_lines(alloc: Global, text: &str) -> Result<String, AllocError>
         string_bytes joined ≡ join_with_byte space (map trim_start (lines text.now))) }
 {
     let mut joined = String::with_capacity(alloc, text.len())?;
-    let mut is_first = true;
-    for line in text.lines() {
-        if is_first {
-            is_first = false;
-        } else {
-            joined.push(' ')?;
-        }
+    let mut left = text;
+    'lines: while let Some((line, rest)) = cut_line(left) {
         joined.push_str(line.trim_start())?;
+        if rest.is_empty() {
+            return Ok(joined);
+        }
+        joined.push(' ')?;
+        left = rest;
     }
+    joined.push_str(left.trim_start())?;
     Ok(joined)
+}
+
+/// The first line of a text without its line end, and what stands after it, if a LF ends it.
+fn cut_line(text: &str) -> Option<(&str, &str)>
+    ensures cut { MatchOption result (None ≡ byte_place text.now line_feed)
+        (λ cut. lines text.now ≡ cut.0.now ∷ lines cut.1.now) }
+    ensures shorter { IfSome result (λ cut. length cut.1.now < length text.now) }
+    ensures utf8 { IfSome result (λ cut. IsUtf8 cut.1.now) }
+{
+    let place = find_byte(text.as_bytes(), b'\n')?;
+    let rest = &text[place + 1..];
+    Some((without_return(&text[..place]), rest))
+}
+
+/// A line without the CR at its end, if one stands there.
+fn without_return(line: &str) -> &str
+    ensures { result.now ≡ strip_carriage_return line.now }
+{
+    if ends_in_return(line.as_bytes()) {
+        return &line[..line.len() - 1];
+    }
+    line
+}
+
+/// Whether the last byte is a CR.
+fn ends_in_return(line: &[u8]) -> bool
+    ensures value { result ≡ (slice_index line.now (length line.now - 1) == carriage_return) }
+    ensures some { IsTrue result → 0 < length line.now }
+{
+    matches!(line.last(), Some(b'\r'))
 }
 
 /// What a value with this text shows, read token by token.

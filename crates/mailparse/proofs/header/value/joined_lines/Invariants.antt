@@ -1,13 +1,15 @@
--- The lines so far are joined.
-use Rattle.std.proofs.Common.{◌≡◌, eqb, length}
-use Rattle.std.specs.List.{join_with_byte}
+-- What was joined, and then what is left, is the whole.
+use Rattle.std.proofs.Common.{◌≡◌, ◌++◌, length}
+use Rattle.std.specs.Str.{IsUtf8}
 use Rattle.std.specs.String.{string_bytes}
-use Rattle.mail_codec.specs.Ascii.{space}
-use Rattle.mailparse.proofs.lemmas.ValueLines.{trimmed}
+use Rattle.mailparse.proofs.lemmas.ValueJoined.{joined_text}
 use Rattle.mailparse.proofs.header.value.joined_lines.Given as goal
 
-abbrev pub invariant-loop-line : goal.invariant-loop-line
-invariant-loop-line l = record {
-  first : l.is_first ≡ eqb (length l.yielded) 0;
-  joined : string_bytes l.joined ≡ join_with_byte space (trimmed l.yielded);
+abbrev pub invariant-lines : goal.invariant-lines
+invariant-lines l = record {
+  utf8 : IsUtf8 l.left;
+  joined : string_bytes l.joined ++ joined_text l.left ≡ joined_text l.text;
 }
+
+abbrev pub decreases-lines : goal.decreases-lines
+decreases-lines l = length l.left
