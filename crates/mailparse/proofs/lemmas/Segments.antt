@@ -1,12 +1,11 @@
 -- Lemmas on the segments of a text.
 use Rattle.std.proofs.Common.{◌≡◌, ◌≢◌, ℕ, suc, ◌+◌, ◌<◌, Bool, true, false, cond, ◌||◌, eqb, List, [], ◌∷◌, ◌++◌, length, take, drop, get_or, refl, sym, ap, subst, ◌∙◌, append_assoc}
 use Rattle.std.proofs.lemmas.Bool.{cond-true, cond-false, eqb-true, eqb-false, ne_eqb, false≢true}
-use Rattle.std.proofs.lemmas.List.{append-nil, drop_more, drop-drop}
-use Rattle.std.proofs.Math.Seq.{take-add}
+use Rattle.std.proofs.lemmas.List.{append-nil, drop_more}
 use Rattle.mail_codec.specs.Ascii.{quote, semicolon, backslash}
 use Rattle.mail_codec.specs.Places.{begins, first_place}
 use Rattle.mailparse.specs.Segments.{IsRunAfter, closing_quote, text_ends, lone_backslash, escaped_byte, plain_byte, IsSegment, segment_ends, other_byte, closed_run, open_run, AreSegments, last_segment, more_segments, QuoteState, outside, quoted, escaped, after, ends, with_front, segments_from, segments}
-use Rattle.mailparse.specs.private.Segments.{plain_len, quoted_len, passed_len}
+use Rattle.mailparse.specs.private.Segments.{plain_len}
 
 pub with_front-append : (a b : List ℕ) (ps : List (List ℕ)) → with_front a (with_front b ps) ≡ with_front (a ++ b) ps
 with_front-append a b [] = refl
@@ -226,66 +225,5 @@ plain_len-searched (b ∷ bytes) = by_test (eqb b semicolon) (eqb b quote) refl 
     by_test : (s q : Bool) → eqb b quote ≡ q → first_place (begins (λ x. eqb x quote)) (take m bytes) ≡ plain_len bytes
         → first_place (begins (λ x. eqb x quote)) (take (cond s 0 (suc m)) (b ∷ bytes)) ≡ cond (s || q) 0 (suc (plain_len bytes))
     by_test true q f rest = refl
-    by_test false true f rest = cond-true _ _ _ f
-    by_test false false f rest = cond-false _ _ _ f ∙ ap suc rest
-
--- ---- what stands after a byte
-
-pub reaches_byte : (text : List ℕ) (at : ℕ) (w : QuoteState) → at < length text → ends w (get_or text at 0) ≡ false → Reaches text at w
-    → Reaches text (at + 1) (after w (get_or text at 0))
-reaches_byte text at w lt e here =
-    let b = get_or text at 0 in
-    let rest = drop (at + 1) text in
-    let more : drop at text ≡ b ∷ rest = drop_more text at 0 lt in
-    here
-    ∙ ap (λ x. with_front (take at text) (segments_from w x)) more
-    ∙ ap (with_front (take at text)) (at_byte w b rest e)
-    ∙ with_front-append (take at text) (b ∷ []) (segments_from (after w b) rest)
-    ∙ ap (λ f. with_front f (segments_from (after w b) rest)) (sym (take-add at 1 text ∙ ap (λ x. take at text ++ take 1 x) more))
-
-quoted_passed : (bytes : List ℕ) → segments_from quoted bytes ≡ with_front (take (quoted_len bytes) bytes) (segments_from quoted (drop (quoted_len bytes) bytes))
-quoted_passed [] = refl
-quoted_passed (b ∷ bytes) = by_test (eqb b quote) (eqb b backslash) refl refl (quoted_passed bytes)
-  where
-    n : Bool → Bool → ℕ
-    n q s = cond (q || s) 0 (suc (quoted_len bytes))
-
-    by_test : (q s : Bool) → eqb b quote ≡ q → eqb b backslash ≡ s
-        → segments_from quoted bytes ≡ with_front (take (quoted_len bytes) bytes) (segments_from quoted (drop (quoted_len bytes) bytes))
-        → segments_from quoted (b ∷ bytes) ≡ with_front (take (n q s) (b ∷ bytes)) (segments_from quoted (drop (n q s) (b ∷ bytes)))
-    by_test true s e f rest = sym (with_front-nil quoted (b ∷ bytes))
-    by_test false true e f rest = sym (with_front-nil quoted (b ∷ bytes))
-    by_test false false e f rest =
-        at_plain b bytes (eqb-false b quote e) (eqb-false b backslash f) ∙ ap (with_front (b ∷ [])) rest
-        ∙ with_front-append (b ∷ []) (take (quoted_len bytes) bytes) (segments_from quoted (drop (quoted_len bytes) bytes))
-
-passed : (w : QuoteState) (bytes : List ℕ) → segments_from w bytes ≡ with_front (take (passed_len w bytes) bytes) (segments_from w (drop (passed_len w bytes) bytes))
-passed outside bytes = sym (with_front-nil outside bytes)
-passed quoted bytes = quoted_passed bytes
-passed escaped bytes = sym (with_front-nil escaped bytes)
-
--- the bytes that are passed over stand in front too
-pub reaches_passed : (text : List ℕ) (at : ℕ) (w : QuoteState) → Reaches text at w → Reaches text (at + passed_len w (drop at text)) w
-reaches_passed text at w here =
-    let rest = drop at text in
-    let n = passed_len w rest in
-    here
-    ∙ ap (with_front (take at text)) (passed w rest)
-    ∙ with_front-append (take at text) (take n rest) (segments_from w (drop n rest))
-    ∙ ap (λ f. with_front f (segments_from w (drop n rest))) (sym (take-add at n text))
-    ∙ ap (λ x. with_front (take (at + n) text) (segments_from w x)) (drop-drop n at text)
-
--- two searches find where they end
-pub quoted_len-searched : (bytes : List ℕ)
-    → first_place (begins (λ b. eqb b backslash)) (take (first_place (begins (λ b. eqb b quote)) bytes) bytes) ≡ quoted_len bytes
-quoted_len-searched [] = refl
-quoted_len-searched (b ∷ bytes) = by_test (eqb b quote) (eqb b backslash) refl (quoted_len-searched bytes)
-  where
-    m : ℕ
-    m = first_place (begins (λ x. eqb x quote)) bytes
-
-    by_test : (q s : Bool) → eqb b backslash ≡ s → first_place (begins (λ x. eqb x backslash)) (take m bytes) ≡ quoted_len bytes
-        → first_place (begins (λ x. eqb x backslash)) (take (cond q 0 (suc m)) (b ∷ bytes)) ≡ cond (q || s) 0 (suc (quoted_len bytes))
-    by_test true s f rest = refl
     by_test false true f rest = cond-true _ _ _ f
     by_test false false f rest = cond-false _ _ _ f ∙ ap suc rest

@@ -1,7 +1,7 @@
--- The state of a byte in the code, the segments of what is left of a text, and its bytes before those that change a state.
+-- The state of a byte in the code, the segments of what is left of a text, and its bytes before all quotes and semicolons.
 use Rattle.std.specs.Prelude.{ℕ, suc, ◌||◌, ◌==◌, List, [], ◌∷◌, Option, Some, None, if◌then◌else◌}
 use Rattle.std.specs.Borrow.{Bor}
-use Rattle.mail_codec.specs.Ascii.{quote, semicolon, backslash}
+use Rattle.mail_codec.specs.Ascii.{quote, semicolon}
 use Rattle.mailparse.specs.Segments.{QuoteState, outside, quoted, escaped, segments}
 use Rattle.mailparse.specs.declared.parameters.segments.QuoteState.{QuoteState as CodeQuoteState}
 use Rattle.mailparse.specs.declared.parameters.segments.QuoteState.TheVariants as code
@@ -21,14 +21,3 @@ segments_of_rest (Some rest) = segments rest.now
 abbrev pub plain_len : List ℕ → ℕ
 plain_len [] = 0
 plain_len (b ∷ bytes) = if b == semicolon || b == quote then 0 else suc (plain_len bytes)
-
--- how many bytes at the front are neither a quote nor a backslash
-abbrev pub quoted_len : List ℕ → ℕ
-quoted_len [] = 0
-quoted_len (b ∷ bytes) = if b == quote || b == backslash then 0 else suc (quoted_len bytes)
-
--- how many bytes at the front are passed over where the first of them stands so: within a quoted run those that keep it open
-abbrev pub passed_len : QuoteState → List ℕ → ℕ
-passed_len quoted bytes = quoted_len bytes
-passed_len outside bytes = 0
-passed_len escaped bytes = 0

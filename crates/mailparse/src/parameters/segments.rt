@@ -4,7 +4,7 @@ ghost use Rattle.std.specs.Str.{chars, encode_utf8_all};
 ghost use Rattle.std.specs.String.{string_bytes};
 ghost use Rattle.mail_codec.specs.Places.{begins, first_place};
 ghost use Rattle.mailparse.specs.Segments.{after, ends, inside_quotes, is_quoted, segments, unescape, without_escapes};
-ghost use Rattle.mailparse.specs.private.Segments.{passed_len, plain_len, quote_state, quoted_len, segments_of_rest};
+ghost use Rattle.mailparse.specs.private.Segments.{plain_len, quote_state, segments_of_rest};
 
 use mail_codec::bytescan::find_byte;
 use std::alloc::{AllocError, Global};
@@ -55,18 +55,6 @@ impl QuoteState {
             QuoteState::Quoted | QuoteState::Escaped => false,
         }
     }
-
-    /// How many bytes are passed over where the first of them has this state: within a quoted run
-    /// those that keep it open.
-    fn passed_len(self, bytes: &[u8]) -> usize
-        ensures passed { result ≡ passed_len (quote_state self) bytes.now }
-        ensures bounds { result ≤ length bytes.now }
-    {
-        match self {
-            QuoteState::Quoted => quoted_len(bytes),
-            QuoteState::Outside | QuoteState::Escaped => 0,
-        }
-    }
 }
 
 /// How many bytes stand before the first `byte`, or the length if it is absent.
@@ -89,15 +77,6 @@ fn plain_len(bytes: &[u8]) -> usize
     length_before(&bytes[..end], b'"')
 }
 
-/// How many bytes at the front are neither a quote nor a backslash.
-fn quoted_len(bytes: &[u8]) -> usize
-    ensures quoted { result ≡ quoted_len bytes.now }
-    ensures bounds { result ≤ length bytes.now }
-{
-    let end = length_before(bytes, b'"');
-    length_before(&bytes[..end], b'\\')
-}
-
 /// The first segment of a text, and what stands after its semicolon, if it has one. Takes no
 /// memory.
 pub(super) fn cut_segment(text: &str) -> (&str, Option<&str>)
@@ -106,13 +85,11 @@ pub(super) fn cut_segment(text: &str) -> (&str, Option<&str>)
 {
     let bytes = text.as_bytes();
     let mut state = QuoteState::Outside;
-    let mut at = plain_len(bytes);
-    'bytes: while at < bytes.len() {
+    for at in plain_len(bytes)..bytes.len() {
         if state.ends(bytes[at]) {
             return (&text[..at], Some(&text[at + 1..]));
         }
         state = state.after(bytes[at]);
-        at += 1 + state.passed_len(&bytes[at + 1..]);
     }
     (text, None)
 }
