@@ -7,7 +7,7 @@ bytes, EUC-JP every three that begin with 8F, and ISO-2022-JP escapes in any ord
 text, with a line feed between two. What the end of the text cuts off is compared one by one. The last
 line is `N passed, N failed`, N being sequences, and the status is 1 where one failed.
 
-PROGRAM is mail_vectors, which is proved and built where it is not given. ORACLE is the program of
+PROGRAM is mail_speed, which is proved and built where it is not given. ORACLE is the program of
 tools/charset_oracle; where it is not given, it is built with the crates that Debian has: it wants the
 packages cargo and librust-encoding-rs-dev.
 """
@@ -141,7 +141,7 @@ def main():
     arguments = parser.parse_args()
     if unknown := [label for label in arguments.labels if label not in BORDERS]:
         parser.error(f"there is no encoding {unknown[0]} to compare")
-    program = arguments.program or built_program("mail_vectors")
+    program = arguments.program or built_program("mail_speed")
     total = failed = 0
     with tempfile.TemporaryDirectory() as folder:
         oracle = arguments.oracle or build_oracle(folder)

@@ -3,7 +3,7 @@
 
 Each PLACE is a mail, a mailbox (a file that begins with `From `) or a folder of such files, as the one that
 tools/fetch_real.sh makes. The mails are taken in an order that is mixed, the same in each run, each that still fits
-into SIZE. A mail that mail_vectors refuses to read is left out: as a part it would have all refused.
+into SIZE. A mail that mail_speed refuses to read is left out: as a part it would have all refused.
 
 Standard error gets one line: the size, the number of mails, the median of their sizes, and how many parts and levels
 Python's email package finds, the one around them among these.
@@ -27,15 +27,14 @@ BOUNDARY = b"=_a_part_for_each_mail"
 
 
 def is_read(reader, mail):
-    """Whether mail_vectors reads a mail."""
+    """Whether mail_speed reads a mail."""
     silent = subprocess.DEVNULL
-    command = [reader, "speed", "1", "parse"]
-    return subprocess.run(command, input=mail, stdout=silent, stderr=silent, check=False).returncode == 0
+    return subprocess.run([reader, "1", "parse"], input=mail, stdout=silent, stderr=silent, check=False).returncode == 0
 
 
 def chosen(places, size):
     """The mails that are taken."""
-    reader = built_program("mail_vectors")
+    reader = built_program("mail_speed")
     mails = sorted((os.path.basename(path), mail) for path, mail in mails_at(places))
     random.Random(SEED).shuffle(mails)
     left = size

@@ -48,8 +48,6 @@ build() {
     set --
     if [ -f args ]; then
         while read -r word; do
-            # the gate runs a program where the files of `data` lie
-            [ ! -f "data/$word" ] || word=data/$word
             set -- "$@" "$word"
         done < args
     fi

@@ -18,8 +18,7 @@
 # refused: first the first call of the row is refused, then the second one, and so on; with `following` the
 # calls that follow are refused too. Each row has to return the right answer in the end, and memory has to
 # have run out in it exactly as often as a call was refused. In a row that is marked so no call may ask for
-# memory. `one` also replays all rows, the long ones too, with ample memory, and looks at what the other words
-# of mail_vectors print.
+# memory. `one` also replays all rows, the long ones too, with ample memory.
 #
 # It prints for each input how many calls for memory there were, how many runs met a refusal, and
 # how these ended; and each run that failed. The last line is `N passed, N failed`; the status is
@@ -145,39 +144,6 @@ run_suite() {
     fi
 }
 
-# prints STATUS TEXT WORD..: whether mail_vectors prints this text on the file `input`, and ends with this status
-prints() {
-    wanted=$1
-    text=$2
-    shift 2
-    status=0
-    "$vectors" "$@" < "$work/input" > "$work/out" 2> "$work/err" || status=$?
-    if [ "$status" = "$wanted" ] && [ "$(cat "$work/out")" = "$text" ]; then
-        pass
-    else
-        fail "mail_vectors $*: status $status"
-        head -n 5 "$work/out" "$work/err"
-    fi
-}
-
-# words: what works make, their times, and a text in an encoding
-words() {
-    printf 'Subject: \304\343\n\none\n' > "$work/input"
-    prints 0 'whitespace: 17 bytes make 13
-parse: 17 bytes make 1
-full: 17 bytes make 4' speed 2 whitespace parse full
-    number='[0-9][0-9]*\.[0-9][0-9][0-9]'
-    if [ "$(grep -c "^[a-z]*: least $number, median $number ns a byte$" "$work/err")" = 3 ]; then
-        pass
-    else
-        fail "mail_vectors speed: the times are $(cat "$work/err")"
-    fi
-    prints 0 "$(printf 'Subject: \344\275\240\n\none')" recode gbk
-    prints 1 '' recode no-such-label
-    prints 1 '' speed 1 no-such-work
-    prints 1 '' speed
-}
-
 if ! ${CC:-cc} -O1 -Wall -shared -fPIC -o "$work/refuse.so" "$here/refuse.c"; then
     echo "$script: refuse.c was not built" >&2
     exit 1
@@ -223,7 +189,6 @@ case $part in
         cd "$top/crates/mail_vectors/data"
         # shellcheck disable=SC2046
         run_suite 'with ample memory' $(cat ../args)
-        words
         suite at
         ;;
 esac

@@ -49,15 +49,15 @@ def text_of(codec, first, last):
 def main():
     parser = argparse.ArgumentParser(description=__doc__, formatter_class=argparse.RawDescriptionHelpFormatter)
     parser.add_argument("--oracle", metavar="ORACLE")
-    parser.add_argument("--program", metavar="PROGRAM", help="mail_vectors, else it is built")
+    parser.add_argument("--program", metavar="PROGRAM", help="mail_speed, else it is built")
     parser.add_argument("--rounds", metavar="N", default="5")
     arguments = parser.parse_args()
-    program = arguments.program or built_program("mail_vectors")
+    program = arguments.program or built_program("mail_speed")
     with tempfile.TemporaryDirectory() as folder:
         oracle = arguments.oracle or build_oracle(folder)
         for label, codec, first, last in TEXTS:
             text = text_of(codec, first, last)
-            run = subprocess.run([program, "speed", arguments.rounds, label], input=text, stdout=subprocess.DEVNULL,
+            run = subprocess.run([program, arguments.rounds, label], input=text, stdout=subprocess.DEVNULL,
                                  stderr=subprocess.PIPE, check=True)
             ours = float(re.search(rb"least ([0-9.]+)", run.stderr).group(1))
             run = subprocess.run([oracle, "time", arguments.rounds, label], input=text, stdout=subprocess.PIPE,

@@ -12,7 +12,7 @@ arguments='[ORACLE]'
 . "$(dirname "$0")/prelude.sh"
 take_oracle "$@"
 rounds=${ROUNDS:-15}
-vectors=$("$here/program.sh" mail_vectors)
+speed=$("$here/program.sh" mail_speed)
 make_work
 
 # row BODY ENCODING WORK..: the times of each work on a body, and the oracle's on a mail with it
@@ -23,7 +23,7 @@ row() {
     make_mail "$body-body"
     for name; do
         printf '%-8s ' "$body"
-        "$vectors" speed "$rounds" "$name" < "$work/input" 2>&1 > /dev/null
+        "$speed" "$rounds" "$name" < "$work/input" 2>&1 > /dev/null
     done
     if [ -n "$oracle" ]; then
         { printf 'Content-Transfer-Encoding: %s\r\n\r\n' "$encoding"; cat "$work/input"; } > "$work/mail"
@@ -37,7 +37,7 @@ searches() {
     yes "$(printf "%$(($1 - 1))s" '' | tr ' ' x)" | head -c 1000000 > "$work/input"
     for name in absent lines; do
         printf 'in %-5s ' "$1"
-        "$vectors" speed "$rounds" "$name" < "$work/input" 2>&1 > /dev/null
+        "$speed" "$rounds" "$name" < "$work/input" 2>&1 > /dev/null
     done
     if [ -n "$oracle" ]; then
         "$oracle" search "$rounds" < "$work/input" 2> /dev/null | sed "s/^/in $1    oracle: /"

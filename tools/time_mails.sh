@@ -9,7 +9,7 @@
 # folder that fetch_real.sh made: a mail of 6 MB, whose parts they are, one of 300 kB, and a mailbox of 6 MB. The
 # mails of a mailbox are read one at a time, as an index reads them.
 #
-# The columns: `Here` is mail_vectors; `Beside` is another build of it, where BESIDE=PROGRAM names one; `The crate` is
+# The columns: `Here` is mail_speed; `Beside` is another build of it, where BESIDE=PROGRAM names one; `The crate` is
 # ORACLE, and `Ratio` is ours to its; GMime, mimetic and Python's email package are those of readers/README.md. The
 # last is what one copy of the bytes takes, which no reader can beat. What is missing is named, and left out.
 #
@@ -31,7 +31,7 @@ number "$turns" 1
 if [ "$unit" = instructions ] && ! command -v valgrind > /dev/null; then
     usage 'counting instructions needs valgrind'
 fi
-vectors=$("$here/program.sh" mail_vectors)
+speed=$("$here/program.sh" mail_speed)
 make_work
 
 # leave_out WHAT WHY: says that something is left out
@@ -76,8 +76,8 @@ find_readers() {
 command_of() {
     case $1 in
         # what others call `all` is `full` here
-        here) command="$vectors speed $2 $(echo "$3" | sed 's/all$/full/')" ;;
-        beside) command="$BESIDE speed $2 $(echo "$3" | sed 's/all$/full/')" ;;
+        here) command="$speed $2 $(echo "$3" | sed 's/all$/full/')" ;;
+        beside) command="$BESIDE $2 $(echo "$3" | sed 's/all$/full/')" ;;
         crate) command="$oracle bench $2 $3" ;;
         email) command="python3 $here/readers/email_reader.py bench $2 $3" ;;
         *) command="$work/$1 bench $2 $3" ;;

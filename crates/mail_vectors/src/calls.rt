@@ -8,7 +8,6 @@ mod mailboxes;
 mod outlines;
 mod reports;
 mod texts;
-mod works;
 
 use mail_suite::{Answer, Row};
 use std::alloc::Global;
@@ -25,5 +24,4 @@ pub fn make(alloc: Global, row: &Row, answer: &mut Answer) -> bool {
         || lenient::make(alloc, row, answer)
         || texts::make(alloc, row, answer)
         || addresses::make(alloc, row, answer)
-        || works::make(alloc, row, answer)
 }

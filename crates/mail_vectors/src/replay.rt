@@ -1,54 +1,21 @@
-//! A replay of the rows of files.
+//! A replay of the rows of a file.
 
 use crate::calls;
 use mail_suite::{Answer, FORM, Row};
 use mailparse::MailParseError;
 use std::alloc::{AllocError, Global};
-use std::fs;
-use std::process::ExitCode;
-use std::rt::Files;
-
-/// How often a row is tried again with `again`.
-const TIMES: u32 = 100_000;
-
-/// Replays the suite of these files. With the word `again` among them, the rows of the files behind it
-/// are tried again where memory ran out.
-pub fn replay_files(
-    rt: &(impl Files + Print + Eprint + AllocGlobal),
-    names: &[String],
-) -> anyhow::Result<ExitCode> {
-    let mut tally = Tally::new(rt.alloc());
-    let mut times = 0;
-    for name in names {
-        if name.as_str() == "again" {
-            times = TIMES;
-        } else {
-            let suite = fs::read_to_string(rt, name.as_str())?;
-            tally.replay(rt.alloc(), suite.as_str(), times)?;
-        }
-    }
-    print!(rt; "{}", tally.differences)?;
-    let (passed, failed, refused) = (tally.passed, tally.failed, tally.refused);
-    eprintln!(rt; "memory ran out {refused} times")?;
-    eprintln!(rt; "{passed} passed, {failed} failed")?;
-    if failed == 0 && passed > 0 {
-        Ok(ExitCode::SUCCESS)
-    } else {
-        Ok(ExitCode::FAILURE)
-    }
-}
 
 /// What came of a replay.
 #[derive(Drop)]
-struct Tally {
+pub struct Tally {
     /// How many rows returned what they want.
-    passed: u64,
+    pub passed: u64,
     /// How many did not.
-    failed: u64,
+    pub failed: u64,
     /// How often memory ran out in a row.
-    refused: u64,
+    pub refused: u64,
     /// The rows that failed, with what was returned.
-    differences: String,
+    pub differences: String,
     /// The group that the rows belong to, and how many of its rows came so far.
     group: String,
     number: u64,
@@ -56,7 +23,7 @@ struct Tally {
 
 impl Tally {
     /// A replay without rows.
-    fn new(alloc: Global) -> Tally {
+    pub fn new(alloc: Global) -> Tally {
         Tally {
             passed: 0,
             failed: 0,
@@ -69,7 +36,7 @@ impl Tally {
 
     /// Replays the rows of a file. A row begins where a line does not begin with a space, and goes on
     /// over the lines that do. A row for which memory ran out is tried again, so often at most.
-    fn replay(&mut self, alloc: Global, suite: &str, times: u32) -> Result<(), AllocError> {
+    pub fn replay(&mut self, alloc: Global, suite: &str, times: u32) -> Result<(), AllocError> {
         let mut row = String::new(alloc);
         for line in suite.lines() {
             if line.starts_with(' ') {

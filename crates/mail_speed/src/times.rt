@@ -1,6 +1,6 @@
 //! Times of a work.
 
-use super::work;
+use crate::work;
 use std::alloc::{AllocError, Global};
 use std::io;
 use std::rt::Clock;
