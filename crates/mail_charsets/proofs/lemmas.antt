@@ -1,6 +1,5 @@
 pub mod Front
 pub mod Few
 pub mod Iso2022Jp
-pub mod Utf7
 pub mod XUserDefined
 pub mod All

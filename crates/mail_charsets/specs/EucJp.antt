@@ -2,7 +2,8 @@
 use Rattle.std.specs.Prelude.{ℕ, ◌+◌, ◌-◌, ◌*◌, Bool, ◌||◌, ◌&&◌, ◌==◌, nat_lt, List, [], ◌∷◌, length, slice_index, Option, None, Some, if◌then◌else◌}
 use Rattle.std.specs.Int.{is_in_range}
 use Rattle.mail_codec.specs.Charset.{replacement}
-use Rattle.mail_charsets.specs.Front.{Taken, chars_at, fault, faulty, front_by, text_by, whole_or}
+use Rattle.mail_codec.specs.Front.{Taken, text_by}
+use Rattle.mail_charsets.specs.Front.{chars_at, fault, faulty, front_by, whole_or}
 
 -- a lead byte is 8E, 8F or A1 to FE
 abbrev pub euc_jp_is_lead : ℕ → Bool

@@ -2,7 +2,8 @@
 use Rattle.std.specs.Prelude.{ℕ, ◌+◌, ◌-◌, ◌*◌, List, [], Option, None, Some, if◌then◌else◌}
 use Rattle.std.specs.Int.{is_in_range}
 use Rattle.mail_codec.specs.Charset.{replacement}
-use Rattle.mail_charsets.specs.Front.{Taken, chars_at, front_by, no_long, text_by}
+use Rattle.mail_codec.specs.Front.{Taken, text_by}
+use Rattle.mail_charsets.specs.Front.{chars_at, front_by, no_long}
 
 -- the bytes 81 to FE are lead bytes, and the others from 80 on are no character
 abbrev pub euc_kr_single : ℕ → Option ℕ

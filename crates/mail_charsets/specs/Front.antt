@@ -1,33 +1,15 @@
--- How bytes are read in an encoding: the characters at the front, and how many bytes they take; then the same of the bytes after those
--- (the WHATWG Encoding Standard, sections 4.1 and 5).
-use Rattle.std.specs.Prelude.{ℕ, zero, suc, ◌-◌, ◌<◌, ◌≤◌, ◌||◌, ◌==◌, List, [], ◌∷◌, ◌++◌, length, slice_index, nat_lt, Option, None, Some, encode_utf8_all, if◌then◌else◌}
+-- The characters at the front of bytes in an encoding, and how many bytes they take (the WHATWG Encoding Standard, sections 4.1 and 5).
+use Rattle.std.specs.Prelude.{ℕ, ◌-◌, ◌<◌, ◌≤◌, ◌||◌, ◌==◌, List, [], ◌∷◌, length, slice_index, nat_lt, Option, None, Some, if◌then◌else◌}
 use Rattle.std.specs.Int.{is_in_range}
 use Rattle.mail_codec.specs.Charset.{replacement}
+use Rattle.mail_codec.specs.Front.{Taken}
 use Rattle.mail_charsets.specs.declared.front.Characters.{Characters}
 use Rattle.mail_charsets.specs.declared.front.Characters.TheVariants.{Nothing, One, Two}
 use Rattle.mail_charsets.specs.declared.front.Front.{Front}
 
--- characters, and how many bytes they take
-abbrev pub Taken : Type 0
-Taken = List ℕ × ℕ
-
--- the characters of the bytes after some that have been read already, where the first of them are read so
-abbrev pub chars_after : ℕ → (List ℕ → Taken) → List ℕ → List ℕ
-chars_after skipped front [] = []
-chars_after zero front (byte ∷ bytes) = (front (byte ∷ bytes)).0 ++ chars_after ((front (byte ∷ bytes)).1 - 1) front bytes
-chars_after (suc skipped) front (byte ∷ bytes) = chars_after skipped front bytes
-
 -- of so many bytes at least one is taken, at most four, and no more than there are
 abbrev pub TakesFew : ℕ → Taken → Type 0
 TakesFew count taken = (0 < taken.1) × (taken.1 ≤ count) × (taken.1 ≤ 4)
-
--- the characters of bytes of which those at the front are read so
-abbrev pub chars_by : (List ℕ → Taken) → List ℕ → List ℕ
-chars_by front bytes = chars_after 0 front bytes
-
--- the text of bytes of which those at the front are read so
-unfoldable pub text_by : (List ℕ → Taken) → List ℕ → List ℕ
-text_by front bytes = encode_utf8_all (chars_by front bytes)
 
 -- so many bytes are no character
 abbrev pub fault : ℕ → Taken

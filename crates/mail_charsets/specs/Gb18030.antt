@@ -2,7 +2,8 @@
 use Rattle.std.specs.Prelude.{ℕ, ◌+◌, ◌-◌, ◌*◌, Bool, ◌||◌, ◌==◌, nat_lt, nat_le, List, [], ◌∷◌, length, slice_index, Option, None, Some, if◌then◌else◌}
 use Rattle.std.specs.Int.{is_in_range}
 use Rattle.mail_codec.specs.Charset.{replacement}
-use Rattle.mail_charsets.specs.Front.{Taken, chars_at, code_chars, fault, front_by, text_by, whole_or}
+use Rattle.mail_codec.specs.Front.{Taken, text_by}
+use Rattle.mail_charsets.specs.Front.{chars_at, code_chars, fault, front_by, whole_or}
 
 -- the bytes 81 to FE are lead bytes, 80 is the euro sign, and FF is no character
 abbrev pub gb18030_single : ℕ → Option ℕ

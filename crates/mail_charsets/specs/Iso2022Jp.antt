@@ -2,7 +2,8 @@
 use Rattle.std.specs.Prelude.{ℕ, zero, suc, ◌+◌, ◌-◌, ◌*◌, true, false, ◌||◌, ◌==◌, nat_lt, List, [], ◌∷◌, ◌++◌, length, slice_index, Option, None, Some, encode_utf8_all, if◌then◌else◌}
 use Rattle.std.specs.Int.{is_in_range}
 use Rattle.mail_codec.specs.Charset.{replacement}
-use Rattle.mail_charsets.specs.Front.{Taken, chars_at, fault, whole_or}
+use Rattle.mail_codec.specs.Front.{Taken}
+use Rattle.mail_charsets.specs.Front.{chars_at, fault, whole_or}
 use Rattle.mail_charsets.specs.declared.iso_2022_jp.Mode.{Mode}
 use Rattle.mail_charsets.specs.declared.iso_2022_jp.Mode.TheVariants.{Ascii, Roman, Katakana, Pairs}
 use Rattle.mail_charsets.specs.declared.iso_2022_jp.State.{State}

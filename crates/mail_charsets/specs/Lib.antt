@@ -7,4 +7,3 @@ pub mod EucJp
 pub mod Iso2022Jp
 pub mod Encoding
 pub mod All
-pub mod Utf7

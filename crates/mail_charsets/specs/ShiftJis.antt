@@ -2,7 +2,8 @@
 use Rattle.std.specs.Prelude.{ℕ, ◌+◌, ◌-◌, ◌*◌, Bool, ◌||◌, ◌==◌, nat_lt, List, [], ◌∷◌, Option, None, Some, if◌then◌else◌}
 use Rattle.std.specs.Int.{is_in_range}
 use Rattle.mail_codec.specs.Charset.{replacement}
-use Rattle.mail_charsets.specs.Front.{Taken, chars_at, front_by, no_long, text_by}
+use Rattle.mail_codec.specs.Front.{Taken, text_by}
+use Rattle.mail_charsets.specs.Front.{chars_at, front_by, no_long}
 
 -- a lead byte is 81 to 9F or E0 to FC
 abbrev pub shift_jis_is_lead : ℕ → Bool

@@ -1,6 +1,7 @@
 //! The text of bytes in the encodings in which ASCII bytes are themselves, a front at a time.
 ghost use Rattle.std.specs.Prelude.{◌≡◌, ℕ, ◌<◌, ◌≤◌, ◌++◌, List, Option, length, take, drop, option_map, IsUtf8, IfOk, IfSome, string_bytes};
-ghost use Rattle.mail_charsets.specs.Front.{Taken, characters_of, front_by, taken_of, text_by};
+ghost use Rattle.mail_codec.specs.Front.{Taken, text_by};
+ghost use Rattle.mail_charsets.specs.Front.{characters_of, front_by, taken_of};
 
 use crate::front::{BUFFER, Characters, Front, MOST, fault, faulty, front_or, put_characters};
 use mail_codec::charset::ascii_blocks_length;

@@ -54,6 +54,3 @@ pub(crate) static REPLACEMENT: [&str; 6] = [
 ];
 
 pub(crate) static X_USER_DEFINED: [&str; 1] = ["x-user-defined"];
-
-/// Those of UTF-7, which the standard leaves out (the IANA registry of character sets).
-pub(crate) static UTF_7: [&str; 3] = ["csunicode11utf7", "unicode-1-1-utf-7", "utf-7"];

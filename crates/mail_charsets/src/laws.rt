@@ -2,13 +2,13 @@
 //!
 //! Each function does nothing; its contract is the law.
 ghost use Rattle.std.specs.Prelude.{◌≡◌, true, ◌∷◌, [], ◌++◌, ℕ, ◌<◌, List, Option, drop, length, slice_index, encode_utf8_all};
-ghost use Rattle.mail_charsets.specs.Front.{Taken, TakesFew, front_by, text_by};
+ghost use Rattle.mail_codec.specs.Front.{Taken, text_by};
+ghost use Rattle.mail_charsets.specs.Front.{TakesFew, front_by};
 ghost use Rattle.mail_charsets.specs.EucKr.{euc_kr_front};
 ghost use Rattle.mail_charsets.specs.ShiftJis.{shift_jis_front};
 ghost use Rattle.mail_charsets.specs.Gb18030.{gb18030_front};
 ghost use Rattle.mail_charsets.specs.Big5.{big5_front};
 ghost use Rattle.mail_charsets.specs.EucJp.{euc_jp_front};
-ghost use Rattle.mail_charsets.specs.Utf7.{is_direct, utf7_text};
 
 /// The text of bytes is that of the characters at their front, and then that of the bytes right
 /// after those that the characters take. So every byte is read once, and none twice.
@@ -38,10 +38,4 @@ pub fn at_most_four_bytes_are_taken()
         → TakesFew (length bytes) (big5_front index plane bytes) }
     ensures euc_jp { (index second bytes : List ℕ) → 0 < length bytes
         → TakesFew (length bytes) (euc_jp_front index second bytes) }
-{}
-
-/// In UTF-7, bytes that are direct, which are the ASCII bytes but the plus, are their own text.
-pub fn direct_bytes_stay_in_utf_7()
-    ensures { (bytes : List ℕ) → ((at : ℕ) → at < length bytes → is_direct (slice_index bytes at) ≡ true)
-        → utf7_text bytes ≡ bytes }
 {}

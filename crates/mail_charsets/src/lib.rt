@@ -5,7 +5,6 @@
 //!
 //! Pass all of the tables, or a few, to the calls of `mailparse` that take tables; a byte that has no
 //! character in an encoding is U+FFFD. `AllCharsets` is all charsets of the standard as one value.
-//! `WithUtf7` adds UTF-7, which the standard forbids, to the charsets that another value knows.
 //!
 //! # Examples
 //!
@@ -39,7 +38,6 @@ pub mod laws;
 mod shift_jis;
 mod single_byte;
 mod tables;
-mod utf_7;
 mod x_user_defined;
 
 pub use self::all::{AllCharsets, AnyCharset};
@@ -51,4 +49,3 @@ pub use self::single_byte::{
     MACINTOSH, TABLES, WINDOWS_874, WINDOWS_1250, WINDOWS_1251, WINDOWS_1253, WINDOWS_1254,
     WINDOWS_1255, WINDOWS_1256, WINDOWS_1257, WINDOWS_1258, X_MAC_CYRILLIC,
 };
-pub use self::utf_7::{OrUtf7, Utf7, WithUtf7};

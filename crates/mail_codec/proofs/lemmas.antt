@@ -15,6 +15,8 @@ pub mod CharsetMarks
 pub mod CharsetSingleByte
 pub mod Tables
 pub mod CharsetUtf16
+pub mod Front
+pub mod Utf7
 pub mod Base64Letters
 pub mod Base64Engine
 pub mod Base64Groups

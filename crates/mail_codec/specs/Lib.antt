@@ -4,6 +4,8 @@ pub mod Latin1
 pub mod Charset
 pub mod Tables
 pub mod Known
+pub mod Front
+pub mod Utf7
 pub mod Base64
 pub mod QuotedPrintable
 pub mod private

@@ -1,7 +1,8 @@
 //! The charsets of mail text: their labels, and the text of bytes in each.
 //!
 //! Four are known: UTF-8, windows-1252 and UTF-16 in both byte orders. A caller may hand in tables
-//! of others in which each byte is one character.
+//! of others in which each byte is one character. `WithUtf7` adds UTF-7, which the Encoding Standard
+//! forbids, to the charsets that another value knows.
 ghost use Rattle.std.specs.Prelude.{◌≡◌, ◌↔◌, IfOk, IsOk, IsAscii};
 ghost use Rattle.std.specs.Cow.{cow_str_bytes, IsBorrowedStr};
 ghost use Rattle.mail_codec.specs.Charset.{ascii_text};
@@ -14,6 +15,7 @@ mod labels;
 mod single_byte;
 mod tables;
 mod utf16;
+mod utf_7;
 
 pub use self::built_in::Charset;
 pub use self::encode::put_char;
@@ -21,6 +23,7 @@ pub use self::known::{BuiltInOrTable, Decode, KnownCharsets};
 pub use self::labels::is_among;
 pub use self::single_byte::ascii_blocks_length;
 pub use self::tables::{SingleByteTable, table_for_label};
+pub use self::utf_7::{OrUtf7, Utf7, WithUtf7};
 use std::alloc::{AllocError, Global};
 use std::borrow::CowStr;
 

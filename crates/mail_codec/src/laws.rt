@@ -1,9 +1,10 @@
 //! What the definitions mean, as laws over all bytes.
 //!
 //! Each function does nothing; its contract is the law.
-ghost use Rattle.std.specs.Prelude.{◌≡◌, ◌↔◌, ◌≤◌, ℕ, Bool, List, Option, Ok, Err, length};
+ghost use Rattle.std.specs.Prelude.{◌≡◌, ◌↔◌, ◌<◌, ◌≤◌, ℕ, Bool, true, List, Option, Ok, Err, length, slice_index};
 ghost use Rattle.mail_codec.specs.Base64.{base64, IsBase64, IsBase64Fault};
 ghost use Rattle.mail_codec.specs.Places.{byte_place, first_place, place_from, text_place, HasByteAt, HasTextAt, IsFirstOf, IsFirstPlace, IsFirstPlaceFrom};
+ghost use Rattle.mail_codec.specs.Utf7.{is_direct, utf7_text};
 ghost use Rattle.mail_codec.specs.QuotedPrintable.{AreLines, IsQuotedPrintable, Line, lines_of, quoted_printable};
 
 /// `first_place` gives the least place with a property, and no other place is the least.
@@ -47,4 +48,10 @@ pub fn quoted_printable_is_lines()
         AreLines text lines ↔ (lines ≡ lines_of text) }
     ensures read { (text : List ℕ) → (bytes : List ℕ) →
         IsQuotedPrintable text bytes ↔ (bytes ≡ quoted_printable text) }
+{}
+
+/// In UTF-7, bytes that are direct, which are the ASCII bytes but the plus, are their own text.
+pub fn direct_bytes_stay_in_utf_7()
+    ensures { (bytes : List ℕ) → ((at : ℕ) → at < length bytes → is_direct (slice_index bytes at) ≡ true)
+        → utf7_text bytes ≡ bytes }
 {}

@@ -3,7 +3,8 @@ use Rattle.std.proofs.Common.{◌≡◌, ℕ, ◌-◌, ◌<◌, ◌≤◌, Bool,
 use Rattle.std.specs.Prelude.{nat_lt}
 use Rattle.std.specs.Int.{is_in_range}
 use Rattle.std.proofs.lemmas.Bool.Decides.{nat_tests}
-use Rattle.mail_charsets.specs.Front.{Taken, TakesFew, fault, faulty, front_by, long_or, no_long, one_or, pair, whole_or}
+use Rattle.mail_codec.specs.Front.{Taken}
+use Rattle.mail_charsets.specs.Front.{TakesFew, fault, faulty, front_by, long_or, no_long, one_or, pair, whole_or}
 use Rattle.mail_charsets.specs.Gb18030.{four_chars, four_pointer, gb18030_four, gb18030_long}
 use Rattle.mail_charsets.specs.EucJp.{begins_three, euc_jp_chars, euc_jp_long}
 

@@ -1,36 +1,18 @@
 -- The characters at the front, and then those of the bytes after them.
-use Rattle.std.proofs.Common.{◌≡◌, ℕ, zero, suc, ◌+◌, ◌-◌, ◌<◌, ◌≤◌, true, false, List, [], ◌∷◌, ◌++◌, take, drop, IsAscii, length, get_or, refl, sym, ap, ◌∙◌, arith, Option, None, Some, append-nil, append_assoc, drop-drop, length-drop, encode_utf8_all}
-use Rattle.std.specs.Prelude.{◌==◌, nat_lt}
+use Rattle.std.proofs.Common.{◌≡◌, ℕ, zero, suc, ◌+◌, ◌-◌, ◌<◌, ◌≤◌, true, false, List, [], ◌∷◌, ◌++◌, take, drop, IsAscii, length, get_or, refl, sym, ap, ◌∙◌, arith, Option, None, Some, append_assoc, drop-drop, length-drop, encode_utf8_all}
+use Rattle.std.specs.Prelude.{nat_lt}
 use Rattle.std.proofs.lemmas.Bool.Decides.{nat_tests}
 use Rattle.std.proofs.lemmas.List.{take_rest}
-use Rattle.std.proofs.lemmas.Str.{encodes-append, encodes-IsAscii}
-use Rattle.mail_charsets.specs.Front.{Taken, chars_after, chars_by, fault, front_by, long_or, pair, text_by}
+use Rattle.std.proofs.lemmas.Str.{encodes-IsAscii}
+use Rattle.mail_codec.specs.Front.{Taken, text_by}
+use Rattle.mail_codec.proofs.lemmas.Front.{text_front}
+use Rattle.mail_charsets.specs.Front.{fault, front_by, long_or, pair}
 
 below : (b n : ℕ) → b < n → nat_lt b n ≡ true
 below b n h = grind (arith, nat_tests)
 
 above : (b n : ℕ) → n ≤ b → nat_lt b n ≡ false
 above b n h = grind (arith, nat_tests)
-
--- bytes that have been read already are passed over
-skips : (n : ℕ) (front : List ℕ → Taken) (bs : List ℕ) → chars_after n front bs ≡ chars_after 0 front (drop n bs)
-skips zero front bs = refl
-skips (suc n) front [] = refl
-skips (suc n) front (b ∷ bs) = skips n front bs
-
--- the front, and the rest
-pub chars_front : (front : List ℕ → Taken) (bs cs : List ℕ) (n : ℕ) → 0 < length bs → 0 < n → (cs, n) ≡ front bs
-    → chars_by front bs ≡ cs ++ chars_by front (drop n bs)
-chars_front front [] cs n some takes is = absurd (omega (arith, some))
-chars_front front (b ∷ bs) cs zero some takes is = absurd (omega (arith, takes))
-chars_front front (b ∷ bs) cs (suc n) some takes is =
-    let e : suc n - 1 ≡ n = omega arith in
-    ap (λ (t : Taken). t.0 ++ chars_after (t.1 - 1) front bs) (sym is) ∙ ap (λ (m : ℕ). cs ++ chars_after m front bs) e ∙ ap (λ xs. cs ++ xs) (skips n front bs)
-
-pub text_front : (front : List ℕ → Taken) (bs cs : List ℕ) (n : ℕ) → 0 < length bs → 0 < n → (cs, n) ≡ front bs
-    → text_by front bs ≡ encode_utf8_all cs ++ text_by front (drop n bs)
-unfolding text_by
-text_front front bs cs n some takes is = ap encode_utf8_all (chars_front front bs cs n some takes is) ∙ encodes-append cs (chars_by front (drop n bs))
 
 -- the front by its parts
 module _ (long : List ℕ → Option Taken) (single : ℕ → Option ℕ) (pairs : ℕ → ℕ → List ℕ) (bs : List ℕ) where
@@ -81,16 +63,6 @@ pub fronts_pushed : (front : List ℕ → Taken) (bs made pushed written : List 
     → pushed ≡ made ++ written → pushed ++ text_by front (drop n bs) ≡ made ++ text_by front bs
 fronts_pushed front bs made pushed written n all is =
     ap (λ xs. xs ++ text_by front (drop n bs)) is ∙ append_assoc made written (text_by front (drop n bs)) ∙ ap (λ xs. made ++ xs) (sym all)
-
--- no bytes are left
-pub text_done : (front : List ℕ → Taken) (made rest total : List ℕ) → length rest ≡ 0 → made ++ text_by front rest ≡ total → made ≡ total
-unfolding text_by
-text_done front made [] total none h = sym (append-nil made) ∙ h
-text_done front made (b ∷ rest) total none h = absurd (omega (arith, none))
-
--- some bytes are left
-pub some_left : (n : ℕ) → (n == 0) ≡ false → 0 < n
-some_left n is = grind (arith, nat_tests)
 
 -- fewer bytes are left after some
 pub fewer_left : (bs : List ℕ) (n : ℕ) → 0 < n → 0 < length bs → length (take (length bs - n) (drop n bs)) < length bs

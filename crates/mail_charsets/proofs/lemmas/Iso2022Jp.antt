@@ -1,7 +1,7 @@
 -- ISO-2022-JP, a step at a time.
 use Rattle.std.proofs.Common.{◌≡◌, ℕ, zero, suc, ◌+◌, ◌-◌, ◌<◌, List, [], ◌∷◌, ◌++◌, drop, length, refl, sym, ap, ◌∙◌, arith, append-nil, append_assoc, drop-drop, encode_utf8_all}
 use Rattle.std.proofs.lemmas.Str.{encodes-append}
-use Rattle.mail_charsets.specs.Front.{Taken}
+use Rattle.mail_codec.specs.Front.{Taken}
 use Rattle.mail_charsets.specs.Iso2022Jp.{jp_after, jp_step, jp_text_from}
 use Rattle.mail_charsets.specs.declared.iso_2022_jp.State.{State}
 

@@ -44,6 +44,9 @@ pub(super) static UTF_16_LE: [&str; 7] = [
     "utf-16le",
 ];
 
+/// Those of UTF-7, which the standard leaves out (the IANA registry of character sets).
+pub(super) static UTF_7: [&str; 3] = ["csunicode11utf7", "unicode-1-1-utf-7", "utf-7"];
+
 /// Returns whether one of the labels is this one, ignoring ASCII case (the WHATWG Encoding Standard,
 /// section 4.2).
 ///

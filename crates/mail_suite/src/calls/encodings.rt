@@ -8,8 +8,8 @@
 //! ```
 
 use crate::notation::{Answer, Row};
-use mail_charsets::{AllCharsets, Encoding, Indexes, WithUtf7};
-use mail_codec::charset::{Decode, KnownCharsets};
+use mail_charsets::{AllCharsets, Encoding, Indexes};
+use mail_codec::charset::{Decode, KnownCharsets, WithUtf7};
 use std::alloc::Global;
 
 /// Makes the call of a row, if it is one of these.

@@ -1,8 +1,10 @@
 use Rattle.std.proofs.Common.{◌∙◌, ◌++◌, ap, arith, sym, eqb-true, string_bytes}
 use Rattle.std.proofs.lemmas.List.{take_rest}
 use Rattle.std.proofs.lemmas.Str.{IsUtf8-from_ascii}
-use Rattle.mail_charsets.specs.Front.{front_by, text_by}
-use Rattle.mail_charsets.proofs.lemmas.Front.{ascii_pushed, fewer_left, fronts_pushed, some_left, text_done}
+use Rattle.mail_codec.specs.Front.{text_by}
+use Rattle.mail_charsets.specs.Front.{front_by}
+use Rattle.mail_codec.proofs.lemmas.Front.{some_left, text_done}
+use Rattle.mail_charsets.proofs.lemmas.Front.{ascii_pushed, fewer_left, fronts_pushed}
 use Rattle.mail_charsets.proofs.encoded.decode.Goals as goal
 
 pub from_utf8_unchecked-requires : goal.from_utf8_unchecked-requires

@@ -1,5 +1,6 @@
 use Rattle.std.proofs.Common.{◌≡◌, ◌++◌, length, string_bytes}
-use Rattle.mail_charsets.specs.Front.{front_by, text_by}
+use Rattle.mail_codec.specs.Front.{text_by}
+use Rattle.mail_charsets.specs.Front.{front_by}
 use Rattle.mail_charsets.proofs.encoded.decode.Given as goal
 
 -- what was made, and then the text of the rest, is all

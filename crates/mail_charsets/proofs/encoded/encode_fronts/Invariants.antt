@@ -1,5 +1,6 @@
 use Rattle.std.proofs.Common.{◌≡◌, ◌-◌, ◌*◌, ◌≤◌, ◌++◌, length, take, drop, IsUtf8}
-use Rattle.mail_charsets.specs.Front.{front_by, text_by}
+use Rattle.mail_codec.specs.Front.{text_by}
+use Rattle.mail_charsets.specs.Front.{front_by}
 use Rattle.mail_charsets.proofs.encoded.encode_fronts.Given as goal
 
 -- what stands in the buffer, and then the text of the other bytes, is all

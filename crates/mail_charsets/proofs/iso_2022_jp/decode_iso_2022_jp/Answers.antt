@@ -2,7 +2,8 @@ use Rattle.std.proofs.Common.{◌∙◌, ◌++◌, ap, arith, drop, false, sym, 
 use Rattle.std.proofs.lemmas.List.{take_rest}
 use Rattle.mail_charsets.specs.Iso2022Jp.{jp_text_from}
 use Rattle.mail_charsets.specs.declared.iso_2022_jp.Mode.TheVariants.{Ascii}
-use Rattle.mail_charsets.proofs.lemmas.Front.{fewer_left, some_left}
+use Rattle.mail_codec.proofs.lemmas.Front.{some_left}
+use Rattle.mail_charsets.proofs.lemmas.Front.{fewer_left}
 use Rattle.mail_charsets.proofs.lemmas.Iso2022Jp.{steps_pushed, text_done}
 use Rattle.mail_charsets.proofs.iso_2022_jp.decode_iso_2022_jp.Goals as goal
 

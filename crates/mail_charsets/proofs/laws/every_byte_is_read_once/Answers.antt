@@ -1,5 +1,5 @@
 use Rattle.std.proofs.Common.{refl}
-use Rattle.mail_charsets.proofs.lemmas.Front.{text_front}
+use Rattle.mail_codec.proofs.lemmas.Front.{text_front}
 use Rattle.mail_charsets.proofs.laws.every_byte_is_read_once.Goals as goal
 
 pub returns : goal.returns

@@ -2,23 +2,21 @@
 ghost use Rattle.std.specs.Prelude.{◌≡◌, true, ◌+◌, ◌<◌, ◌≤◌, ◌*◌, ◌==◌, ◌++◌, length, slice_index, map, encode_utf8_all, IfOk, string_bytes};
 ghost use Rattle.std.specs.List.{range_with_len};
 ghost use Rattle.mail_codec.specs.Charset.{ascii_char};
-ghost use Rattle.mail_charsets.specs.Utf7.{and_utf_7, ends_whole, four_letters, is_letter, letter_number, letters_chars, letters_length, number_at, or_utf_7_text, shifted, shifted_chars, unit_at, units_count, utf7_front, utf7_text};
+ghost use Rattle.mail_codec.specs.Utf7.{and_utf_7, ends_whole, four_letters, is_letter, letter_number, letters_chars, letters_length, number_at, or_utf_7_text, shifted, shifted_chars, unit_at, units_count, utf7_front, utf7_text};
 
-use crate::front::is_within;
-use crate::labels;
-use mail_codec::charset::{Decode, KnownCharsets, is_among};
+use super::known::{Decode, KnownCharsets};
+use super::labels::{self, is_among};
 use std::alloc::{AllocError, Global};
 
 /// UTF-7 (RFC 2152).
 ///
 /// The Encoding Standard forbids it: in a browser, text that looks harmless may read as markup. So
-/// no value of this crate knows it but `WithUtf7`.
+/// no other value knows it but `WithUtf7`.
 ///
 /// # Examples
 ///
 /// ```rust
-/// use mail_charsets::Utf7;
-/// use mail_codec::charset::Decode;
+/// use mail_codec::charset::{Decode, Utf7};
 ///
 /// assert_eq!(rt; Utf7.decode(alloc, b"Hi Mom -+Jjo--!")?.as_str(), "Hi Mom -☺-!");
 /// ```
@@ -67,11 +65,9 @@ impl<D: Decode> Decode for OrUtf7<D> {
 /// # Examples
 ///
 /// ```rust
-/// use mail_charsets::{AllCharsets, WithUtf7};
-/// use mail_codec::charset::{Decode, KnownCharsets};
+/// use mail_codec::charset::{Decode, KnownCharsets, WithUtf7};
 ///
-/// let all = WithUtf7(AllCharsets::standard());
-/// let charset = all.for_label(b"UTF-7").ok_or("an unknown label")?;
+/// let charset = WithUtf7(()).for_label(b"UTF-7").ok_or("an unknown label")?;
 /// assert_eq!(rt; charset.decode(alloc, b"caf+AOk-")?.as_str(), "café");
 /// ```
 #[derive(Clone, Copy)]
@@ -197,11 +193,7 @@ fn letters_length(bytes: &[u8]) -> usize
 fn is_letter(byte: u8) -> bool
     ensures { result ≡ is_letter byte }
 {
-    is_within(byte, b'A', b'Z')
-        || is_within(byte, b'a', b'z')
-        || is_within(byte, b'0', b'9')
-        || byte == b'+'
-        || byte == b'/'
+    byte.is_ascii_alphanumeric() || byte == b'+' || byte == b'/'
 }
 
 /// Adds the characters of letters.
@@ -294,13 +286,13 @@ fn letter_number(byte: u8) -> u8
     ensures value { result ≡ letter_number byte }
     ensures bounds { result < 64 }
 {
-    if is_within(byte, b'A', b'Z') {
+    if byte.is_ascii_uppercase() {
         return byte - b'A';
     }
-    if is_within(byte, b'a', b'z') {
+    if byte.is_ascii_lowercase() {
         return byte - b'a' + 26;
     }
-    if is_within(byte, b'0', b'9') {
+    if byte.is_ascii_digit() {
         return byte - b'0' + 52;
     }
     match byte {

@@ -6,9 +6,9 @@ use Rattle.std.specs.Option.{option_or}
 use Rattle.std.specs.Char.Utf16.{utf16_lossy_chars}
 use Rattle.mail_codec.specs.Base64.{group_number}
 use Rattle.mail_codec.specs.Charset.{Charsets, ascii_char, is_among_labels, replacement, trimmed_label}
-use Rattle.mail_charsets.specs.Front.{Taken, text_by}
-use Rattle.mail_charsets.specs.declared.utf_7.OrUtf7.{OrUtf7}
-use Rattle.mail_charsets.specs.declared.utf_7.OrUtf7.TheVariants as code
+use Rattle.mail_codec.specs.Front.{Taken, text_by}
+use Rattle.mail_codec.specs.declared.charset.utf_7.OrUtf7.{OrUtf7}
+use Rattle.mail_codec.specs.declared.charset.utf_7.OrUtf7.TheVariants as code
 
 -- a letter of Base64: A to Z, a to z, 0 to 9, + and /
 abbrev pub is_letter : ℕ → Bool

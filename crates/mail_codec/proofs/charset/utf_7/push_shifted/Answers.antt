@@ -1,8 +1,8 @@
 use Rattle.std.proofs.Common.{◌≡◌, ◌∙◌, ◌+◌, ◌++◌, ap, arith, encode_utf8_all, string_bytes, true, false}
-use Rattle.mail_charsets.specs.Front.{Taken}
-use Rattle.mail_charsets.specs.Utf7.{shifted}
-use Rattle.mail_charsets.proofs.lemmas.Utf7.{shifted_is}
-use Rattle.mail_charsets.proofs.utf_7.push_shifted.Goals as goal
+use Rattle.mail_codec.specs.Front.{Taken}
+use Rattle.mail_codec.specs.Utf7.{shifted}
+use Rattle.mail_codec.proofs.lemmas.Utf7.{shifted_is}
+use Rattle.mail_codec.proofs.charset.utf_7.push_shifted.Goals as goal
 
 pub returns-then-is_closed-clause-pushed : goal.returns-then-is_closed-clause-pushed
 returns-then-is_closed-clause-pushed c =

@@ -1,7 +1,7 @@
 use Rattle.std.proofs.Common.{sym, refl}
 use Rattle.std.proofs.lemmas.Str.Ascii.{trim_ascii_is}
-use Rattle.mail_charsets.proofs.lemmas.Utf7.{label_known, label_unknown}
-use Rattle.mail_charsets.proofs.utf_7.WithUtf7KnownCharsets.for_label.Goals as goal
+use Rattle.mail_codec.proofs.lemmas.Utf7.{label_known, label_unknown}
+use Rattle.mail_codec.proofs.charset.utf_7.WithUtf7KnownCharsets.for_label.Goals as goal
 
 pub returns-then-is_among : goal.returns-then-is_among
 returns-then-is_among g c =

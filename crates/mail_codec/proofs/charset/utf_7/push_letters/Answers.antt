@@ -3,9 +3,9 @@ use Rattle.std.specs.Prelude.{encode_utf8}
 use Rattle.std.specs.List.{range_with_len}
 use Rattle.std.specs.Char.Utf16.{utf16_lossy_chars}
 use Rattle.mail_codec.specs.Charset.{replacement}
-use Rattle.mail_charsets.specs.Utf7.{unit_at, units_count}
-use Rattle.mail_charsets.proofs.lemmas.Utf7.{letters_cut, letters_whole}
-use Rattle.mail_charsets.proofs.utf_7.push_letters.Goals as goal
+use Rattle.mail_codec.specs.Utf7.{unit_at, units_count}
+use Rattle.mail_codec.proofs.lemmas.Utf7.{letters_cut, letters_whole}
+use Rattle.mail_codec.proofs.charset.utf_7.push_letters.Goals as goal
 
 pub returns-then-ends_whole : goal.returns-then-ends_whole
 returns-then-ends_whole c =

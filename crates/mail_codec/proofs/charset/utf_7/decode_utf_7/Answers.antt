@@ -1,9 +1,9 @@
 use Rattle.std.proofs.Common.{sym, eqb-true}
 use Rattle.std.proofs.lemmas.List.{take_rest}
-use Rattle.mail_charsets.specs.Utf7.{utf7_front}
-use Rattle.mail_charsets.proofs.lemmas.Front.{some_left, text_done}
-use Rattle.mail_charsets.proofs.lemmas.Utf7.{front_pushed}
-use Rattle.mail_charsets.proofs.utf_7.decode_utf_7.Goals as goal
+use Rattle.mail_codec.specs.Utf7.{utf7_front}
+use Rattle.mail_codec.proofs.lemmas.Front.{some_left, text_done}
+use Rattle.mail_codec.proofs.lemmas.Utf7.{front_pushed}
+use Rattle.mail_codec.proofs.charset.utf_7.decode_utf_7.Goals as goal
 
 pub rest-preserved : goal.rest-preserved
 rest-preserved c = rw (c.in_ok-taken.ensures.pushed, take_rest)

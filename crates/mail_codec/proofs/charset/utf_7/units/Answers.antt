@@ -1,7 +1,7 @@
 use Rattle.std.proofs.Common.{sym, arith}
 use Rattle.std.proofs.lemmas.List.FromFn.{map-range_with_len_more}
-use Rattle.mail_charsets.specs.Utf7.{unit_at}
-use Rattle.mail_charsets.proofs.utf_7.units.Goals as goal
+use Rattle.mail_codec.specs.Utf7.{unit_at}
+use Rattle.mail_codec.proofs.charset.utf_7.units.Goals as goal
 
 pub units-preserved : goal.units-preserved
 units-preserved c = record {

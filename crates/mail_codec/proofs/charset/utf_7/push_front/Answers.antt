@@ -1,8 +1,8 @@
 use Rattle.std.proofs.Common.{ap, refl, append-nil}
 use Rattle.std.proofs.lemmas.List.{take_rest}
-use Rattle.mail_charsets.specs.Front.{Taken}
-use Rattle.mail_charsets.proofs.lemmas.Utf7.{front_other, front_plus}
-use Rattle.mail_charsets.proofs.utf_7.push_front.Goals as goal
+use Rattle.mail_codec.specs.Front.{Taken}
+use Rattle.mail_codec.proofs.lemmas.Utf7.{front_other, front_plus}
+use Rattle.mail_codec.proofs.charset.utf_7.push_front.Goals as goal
 
 pub returns-then-bytes-eq43-clause-pushed : goal.returns-then-bytes-eq43-clause-pushed
 returns-then-bytes-eq43-clause-pushed c = rw (← front_plus c.args.bytes.now c.if-bytes-eq43.true) (rw take_rest at c.push_shifted.ensures.pushed)

@@ -1,7 +1,7 @@
 use Rattle.std.proofs.Common.{◌≡◌, ◌-◌, ◌≤◌, map}
 use Rattle.std.specs.List.{range_with_len}
-use Rattle.mail_charsets.specs.Utf7.{unit_at}
-use Rattle.mail_charsets.proofs.utf_7.units.Given as goal
+use Rattle.mail_codec.specs.Utf7.{unit_at}
+use Rattle.mail_codec.proofs.charset.utf_7.units.Given as goal
 
 -- the units so far are those of the first numbers
 abbrev pub invariant-units : goal.invariant-units

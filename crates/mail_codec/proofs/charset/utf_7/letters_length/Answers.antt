@@ -2,9 +2,9 @@ use Rattle.std.proofs.Common.{◌∙◌, ap, length, not, rules, tests}
 use Rattle.std.specs.Option.{unwrap_or}
 use Rattle.std.proofs.lemmas.Iterator.{YieldsList-from_slice}
 use Rattle.std.proofs.lemmas.Iterator.Search.{position_from_yields_List}
-use Rattle.mail_charsets.specs.Utf7.{is_letter}
-use Rattle.mail_charsets.proofs.lemmas.Utf7.{place_unwrapped}
-use Rattle.mail_charsets.proofs.utf_7.letters_length.Goals as goal
+use Rattle.mail_codec.specs.Utf7.{is_letter}
+use Rattle.mail_codec.proofs.lemmas.Utf7.{place_unwrapped}
+use Rattle.mail_codec.proofs.charset.utf_7.letters_length.Goals as goal
 
 pub returns-clause-value : goal.returns-clause-value
 returns-clause-value c =

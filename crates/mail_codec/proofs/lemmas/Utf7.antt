@@ -8,9 +8,9 @@ use Rattle.std.proofs.lemmas.Bool.Decides.{nat_tests}
 use Rattle.std.proofs.lemmas.List.Sums.{prefix_len-le-length}
 use Rattle.std.proofs.lemmas.Str.{encodes-append, encodes-IsAscii}
 use Rattle.mail_codec.specs.Charset.{Charsets, ascii_char, is_among_labels, replacement, trimmed_label}
-use Rattle.mail_charsets.specs.Front.{text_by}
-use Rattle.mail_charsets.specs.Utf7.{and_utf_7, ends_whole, four_letters, is_direct, letters_chars, letters_length, shifted, shifted_by, shifted_chars, unit_at, units_count, utf7_front, utf7_text, utf_7_labels}
-use Rattle.mail_charsets.proofs.lemmas.Front.{text_front}
+use Rattle.mail_codec.specs.Front.{text_by}
+use Rattle.mail_codec.specs.Utf7.{and_utf_7, ends_whole, four_letters, is_direct, letters_chars, letters_length, shifted, shifted_by, shifted_chars, unit_at, units_count, utf7_front, utf7_text, utf_7_labels}
+use Rattle.mail_codec.proofs.lemmas.Front.{text_front}
 
 -- the unit of a number stands in the letters of its group of eight
 unit_in : (letters : List ℕ) (number place shift : ℕ) → 16 * number / 6 ≡ place → 16 * number % 6 ≡ shift

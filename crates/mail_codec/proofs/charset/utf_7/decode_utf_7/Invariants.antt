@@ -1,6 +1,6 @@
 use Rattle.std.proofs.Common.{◌≡◌, ◌++◌, length, string_bytes}
-use Rattle.mail_charsets.specs.Utf7.{utf7_text}
-use Rattle.mail_charsets.proofs.utf_7.decode_utf_7.Given as goal
+use Rattle.mail_codec.specs.Utf7.{utf7_text}
+use Rattle.mail_codec.proofs.charset.utf_7.decode_utf_7.Given as goal
 
 -- what was made, and then the text of the rest, is all
 abbrev pub invariant-rest : goal.invariant-rest

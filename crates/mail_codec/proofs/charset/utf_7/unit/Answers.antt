@@ -1,6 +1,6 @@
-use Rattle.mail_charsets.proofs.lemmas.Utf7.{unit_first, unit_second, unit_third}
+use Rattle.mail_codec.proofs.lemmas.Utf7.{unit_first, unit_second, unit_third}
 use Rattle.std.proofs.Common.{◌%◌, ◌≡◌, arith}
-use Rattle.mail_charsets.proofs.utf_7.unit.Goals as goal
+use Rattle.mail_codec.proofs.charset.utf_7.unit.Goals as goal
 
 pub returns-then-number-eq0 : goal.returns-then-number-eq0
 returns-then-number-eq0 c = rw c.four_letters.ensures.value (unit_first c.args.letters.now c.args.number c.if-number-eq0.true)
