@@ -3,3 +3,4 @@ pub mod Few
 pub mod Iso2022Jp
 pub mod XUserDefined
 pub mod All
+pub mod Labels

@@ -3,10 +3,11 @@ ghost use Rattle.std.specs.Prelude.{◌≡◌, ℕ, ◌<◌, ◌≤◌, ◌++◌
 ghost use Rattle.mail_codec.specs.Front.{Taken, text_by};
 ghost use Rattle.mail_charsets.specs.Front.{characters_of, front_by, taken_of};
 
-use crate::front::{BUFFER, Characters, Front, MOST, fault, faulty, front_or, put_characters};
+use crate::front::{
+    BUFFER, Characters, Front, MOST, fault, faulty, front_or, push_made, put_characters,
+};
 use mail_codec::charset::ascii_blocks_length;
 use std::alloc::{AllocError, Global};
-use std::str;
 
 /// An encoding in which ASCII bytes are themselves.
 pub(crate) trait Encoded {
@@ -48,13 +49,11 @@ pub(crate) fn decode<E: Encoded>(
     'rest: while !rest.is_empty() {
         let run = ascii_blocks_length(rest);
         if run > 0 {
-            // SAFETY: the run is ASCII, and ASCII is UTF-8.
-            text.push_str(unsafe { str::from_utf8_unchecked(&rest[..run]) })?;
+            push_made(&mut text, &rest[..run])?;
             rest = &rest[run..];
         } else {
             let (taken, length) = encode_fronts(&mut buffer, encoding, rest);
-            // SAFETY: `encode_fronts` writes whole characters.
-            text.push_str(unsafe { str::from_utf8_unchecked(&buffer[..length]) })?;
+            push_made(&mut text, &buffer[..length])?;
             rest = &rest[taken..];
         }
     }

@@ -112,8 +112,7 @@ impl Encoding {
         ensures { IfOk result (λ t. string_bytes t ≡ text_in indexes.now self bytes.now) }
     {
         match self {
-            Encoding::Gbk => decode_gb18030(alloc, indexes.gb18030, indexes.gb18030_ranges, bytes),
-            Encoding::Gb18030 => {
+            Encoding::Gbk | Encoding::Gb18030 => {
                 decode_gb18030(alloc, indexes.gb18030, indexes.gb18030_ranges, bytes)
             }
             Encoding::Big5 => decode_big5(alloc, indexes.big5, indexes.big5_plane, bytes),
@@ -144,25 +143,8 @@ fn encoding_of(label: &[u8]) -> Option<Encoding>
     ensures { result ≡ option_map (λ row. row.0)
         (find (λ row. is_among_labels row.1 label.now) labels_by_encoding) }
 {
-    if is_among(&labels::GBK, label) {
-        Some(Encoding::Gbk)
-    } else if is_among(&labels::GB18030, label) {
-        Some(Encoding::Gb18030)
-    } else if is_among(&labels::BIG5, label) {
-        Some(Encoding::Big5)
-    } else if is_among(&labels::EUC_JP, label) {
-        Some(Encoding::EucJp)
-    } else if is_among(&labels::ISO_2022_JP, label) {
-        Some(Encoding::Iso2022Jp)
-    } else if is_among(&labels::SHIFT_JIS, label) {
-        Some(Encoding::ShiftJis)
-    } else if is_among(&labels::EUC_KR, label) {
-        Some(Encoding::EucKr)
-    } else if is_among(&labels::REPLACEMENT, label) {
-        Some(Encoding::Replacement)
-    } else if is_among(&labels::X_USER_DEFINED, label) {
-        Some(Encoding::XUserDefined)
-    } else {
-        None
+    match labels::ENCODINGS.iter().find(|row| is_among(row.1, label)) {
+        Some(row) => Some(row.0),
+        None => None,
     }
 }

@@ -1,9 +1,11 @@
 //! The characters at the front of bytes, and how many bytes they take.
-ghost use Rattle.std.specs.Prelude.{◌≡◌, ◌+◌, ◌<◌, ◌≤◌, ◌++◌, length, take, slice_index, IsUtf8, encode_utf8_all};
+ghost use Rattle.std.specs.Prelude.{◌≡◌, ◌+◌, ◌<◌, ◌≤◌, ◌++◌, length, take, slice_index, IsUtf8, OnOk, encode_utf8_all, string_bytes};
 ghost use Rattle.std.specs.Int.{is_in_range};
 ghost use Rattle.mail_charsets.specs.Front.{chars_at, characters_of, code_chars, fault, faulty, taken_of, whole_or};
 
 use mail_codec::charset::put_char;
+use std::alloc::AllocError;
+use std::str;
 
 /// How many bytes of text are made together.
 pub(crate) const BUFFER: usize = 512;
@@ -29,6 +31,16 @@ pub(crate) struct Front {
     pub(crate) characters: Characters,
     /// How many bytes it takes.
     pub(crate) taken: usize,
+}
+
+/// Adds bytes that are UTF-8.
+#[inline(always)]
+pub(crate) fn push_made(text: &mut String, bytes: &[u8]) -> Result<(), AllocError>
+    requires { IsUtf8 bytes.now }
+    ensures { OnOk result (string_bytes text.new ≡ string_bytes text.old ++ bytes.now) }
+{
+    // SAFETY: the bytes are UTF-8.
+    text.push_str(unsafe { str::from_utf8_unchecked(bytes) })
 }
 
 /// Writes the characters at `at`, and returns where they end.

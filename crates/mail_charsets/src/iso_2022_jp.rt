@@ -5,10 +5,9 @@ ghost use Rattle.mail_charsets.specs.Iso2022Jp.{ascii_or, escape, iso_2022_jp_te
 
 use crate::front::{
     BUFFER, Characters, Front, MOST, characters_at, fault, front_or, is_within, offset_char,
-    put_characters,
+    push_made, put_characters,
 };
 use std::alloc::{AllocError, Global};
-use std::str;
 
 /// What the bytes after an escape are.
 #[derive(Clone, Copy)]
@@ -49,8 +48,7 @@ pub(crate) fn decode_iso_2022_jp(
     let mut rest = bytes;
     'rest: while !rest.is_empty() {
         let written = encode_steps(&mut buffer, index, state, rest);
-        // SAFETY: `encode_steps` writes whole characters.
-        text.push_str(unsafe { str::from_utf8_unchecked(&buffer[..written.made]) })?;
+        push_made(&mut text, &buffer[..written.made])?;
         rest = &rest[written.taken..];
         state = written.state;
     }

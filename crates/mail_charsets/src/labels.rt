@@ -1,6 +1,8 @@
 //! The labels of the encodings (the WHATWG Encoding Standard, section 4.2).
 
-pub(crate) static GBK: [&str; 9] = [
+use crate::encoding::Encoding;
+
+pub(crate) const GBK: [&str; 9] = [
     "chinese",
     "csgb2312",
     "csiso58gb231280",
@@ -12,15 +14,15 @@ pub(crate) static GBK: [&str; 9] = [
     "x-gbk",
 ];
 
-pub(crate) static GB18030: [&str; 1] = ["gb18030"];
+pub(crate) const GB18030: [&str; 1] = ["gb18030"];
 
-pub(crate) static BIG5: [&str; 5] = ["big5", "big5-hkscs", "cn-big5", "csbig5", "x-x-big5"];
+pub(crate) const BIG5: [&str; 5] = ["big5", "big5-hkscs", "cn-big5", "csbig5", "x-x-big5"];
 
-pub(crate) static EUC_JP: [&str; 3] = ["cseucpkdfmtjapanese", "euc-jp", "x-euc-jp"];
+pub(crate) const EUC_JP: [&str; 3] = ["cseucpkdfmtjapanese", "euc-jp", "x-euc-jp"];
 
-pub(crate) static ISO_2022_JP: [&str; 2] = ["csiso2022jp", "iso-2022-jp"];
+pub(crate) const ISO_2022_JP: [&str; 2] = ["csiso2022jp", "iso-2022-jp"];
 
-pub(crate) static SHIFT_JIS: [&str; 8] = [
+pub(crate) const SHIFT_JIS: [&str; 8] = [
     "csshiftjis",
     "ms932",
     "ms_kanji",
@@ -31,7 +33,7 @@ pub(crate) static SHIFT_JIS: [&str; 8] = [
     "x-sjis",
 ];
 
-pub(crate) static EUC_KR: [&str; 10] = [
+pub(crate) const EUC_KR: [&str; 10] = [
     "cseuckr",
     "csksc56011987",
     "euc-kr",
@@ -44,7 +46,7 @@ pub(crate) static EUC_KR: [&str; 10] = [
     "windows-949",
 ];
 
-pub(crate) static REPLACEMENT: [&str; 6] = [
+pub(crate) const REPLACEMENT: [&str; 6] = [
     "csiso2022kr",
     "hz-gb-2312",
     "iso-2022-cn",
@@ -53,4 +55,17 @@ pub(crate) static REPLACEMENT: [&str; 6] = [
     "replacement",
 ];
 
-pub(crate) static X_USER_DEFINED: [&str; 1] = ["x-user-defined"];
+pub(crate) const X_USER_DEFINED: [&str; 1] = ["x-user-defined"];
+
+/// The encodings, each with its labels.
+pub(crate) static ENCODINGS: [(Encoding, &[&str]); 9] = [
+    (Encoding::Gbk, &GBK),
+    (Encoding::Gb18030, &GB18030),
+    (Encoding::Big5, &BIG5),
+    (Encoding::EucJp, &EUC_JP),
+    (Encoding::Iso2022Jp, &ISO_2022_JP),
+    (Encoding::ShiftJis, &SHIFT_JIS),
+    (Encoding::EucKr, &EUC_KR),
+    (Encoding::Replacement, &REPLACEMENT),
+    (Encoding::XUserDefined, &X_USER_DEFINED),
+];

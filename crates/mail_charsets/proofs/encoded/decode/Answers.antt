@@ -7,26 +7,26 @@ use Rattle.mail_codec.proofs.lemmas.Front.{some_left, text_done}
 use Rattle.mail_charsets.proofs.lemmas.Front.{ascii_pushed, fewer_left, fronts_pushed}
 use Rattle.mail_charsets.proofs.encoded.decode.Goals as goal
 
-pub from_utf8_unchecked-requires : goal.from_utf8_unchecked-requires
-from_utf8_unchecked-requires g c = IsUtf8-from_ascii _ c.ascii_blocks_length-run.ensures.ascii
+pub push_made-requires : goal.push_made-requires
+push_made-requires g c = IsUtf8-from_ascii _ c.ascii_blocks_length-run.ensures.ascii
 
 pub rest-preserved-then-run-gt0 : goal.rest-preserved-then-run-gt0
 rest-preserved-then-run-gt0 g c =
-    ap (λ xs. string_bytes c.push_str.new.self ++ text_by (front_by (g.E.Encoded.long c.args.encoding.now) (g.E.Encoded.single c.args.encoding.now) (g.E.Encoded.pairs c.args.encoding.now)) xs)
+    ap (λ xs. string_bytes c.push_made.new.text ++ text_by (front_by (g.E.Encoded.long c.args.encoding.now) (g.E.Encoded.single c.args.encoding.now) (g.E.Encoded.pairs c.args.encoding.now)) xs)
     (take_rest c.rest.rest.now c.ascii_blocks_length-run.result)
     ∙ ascii_pushed (g.E.Encoded.long c.args.encoding.now) (g.E.Encoded.single c.args.encoding.now) (g.E.Encoded.pairs c.args.encoding.now) c.ascii_blocks_length-run.result c.rest.rest.now _ _
-    c.ascii_blocks_length-run.ensures.ascii (c.in_ok-push_str.ensures.bytes ∙ ap (λ xs. string_bytes c.rest.text ++ xs) c.from_utf8_unchecked.ensures)
+    c.ascii_blocks_length-run.ensures.ascii c.in_ok-push_made.ensures
     ∙ c.rest.invariant
 
-pub from_utf8_unchecked-requires-else-run-gt0 : goal.from_utf8_unchecked-requires-else-run-gt0
-from_utf8_unchecked-requires-else-run-gt0 g c = c.encode_fronts-taken.ensures.utf8
+pub push_made-requires-else-run-gt0 : goal.push_made-requires-else-run-gt0
+push_made-requires-else-run-gt0 g c = c.encode_fronts-taken.ensures.utf8
 
 pub rest-preserved : goal.rest-preserved
 rest-preserved g c =
-    ap (λ xs. string_bytes c.push_str-else-run-gt0.new.self ++ text_by (front_by (g.E.Encoded.long c.args.encoding.now) (g.E.Encoded.single c.args.encoding.now) (g.E.Encoded.pairs c.args.encoding.now)) xs)
+    ap (λ xs. string_bytes c.push_made-else-run-gt0.new.text ++ text_by (front_by (g.E.Encoded.long c.args.encoding.now) (g.E.Encoded.single c.args.encoding.now) (g.E.Encoded.pairs c.args.encoding.now)) xs)
     (take_rest c.rest.rest.now c.encode_fronts-taken.result.0)
     ∙ fronts_pushed (front_by (g.E.Encoded.long c.args.encoding.now) (g.E.Encoded.single c.args.encoding.now) (g.E.Encoded.pairs c.args.encoding.now)) c.rest.rest.now _ _ _ c.encode_fronts-taken.result.0
-    c.encode_fronts-taken.ensures.written (c.in_ok-push_str-2.ensures.bytes ∙ ap (λ xs. string_bytes c.rest.text ++ xs) c.from_utf8_unchecked-else-run-gt0.ensures)
+    c.encode_fronts-taken.ensures.written c.in_ok-push_made-2.ensures
     ∙ c.rest.invariant
 
 pub returns : goal.returns

@@ -1,13 +1,13 @@
+use Rattle.std.proofs.Common.{inl, inr}
 use Rattle.mail_charsets.specs.Encoding.{text_in}
 use Rattle.mail_charsets.proofs.encoding.Encoding.decode_under.Goals as goal
 
 pub returns-in-Gbk : goal.returns-in-Gbk
 unfolding text_in
-returns-in-Gbk c = rw c.in-Gbk.is c.decode_gb18030.ensures
-
-pub returns-in-Gb18030 : goal.returns-in-Gb18030
-unfolding text_in
-returns-in-Gb18030 c = rw c.in-Gb18030.is c.decode_gb18030-in-Gb18030.ensures
+returns-in-Gbk c = elim c.in-Gbk.is [
+  | inl gbk ↦ rw gbk c.decode_gb18030.ensures
+  | inr gb18030 ↦ rw gb18030 c.decode_gb18030.ensures
+]
 
 pub returns-in-Big5 : goal.returns-in-Big5
 unfolding text_in
