@@ -4,7 +4,8 @@
 The mails are those of samples/, but for parts.eml, whose line `--bX` is no delimiter for Python, and made ones: one
 with files of many lengths, each under the name of its length; one with a part of each of many types, without names;
 forwarded mails inside one another, plain and encoded; and a multipart whose delimiter never comes. All are read twice
-into one folder, where the second time each name is taken. Of the made ones each part that Python's `walk` or
+into one folder, where the second time each name is taken. A mail with files of one name, one of them damaged, is read
+into a folder of its own, where the names and errors have to be those that are written here. Of the made ones each part that Python's `walk` or
 `iter_attachments` gives has to be there too, but for texts that readers show, and the endings have to be those that
 Python's `mimetypes` has for the type.
 
@@ -79,6 +80,21 @@ def undelimited():
     return b"Content-Type: multipart/mixed; boundary=never\n\nNo delimiter\n--other\nstands here.\n"
 
 
+def twins():
+    """A mail with three files, two of one name, one of them damaged, and the last a mail with an image."""
+    return multipart(
+        b"b", b'Content-Disposition: attachment; filename="../a.txt"\n\none',
+        b'Content-Disposition: attachment; filename="../a.txt"\nContent-Transfer-Encoding: base64\n\ndHdv!!!!',
+        b'Content-Type: message/rfc822\nContent-Disposition: attachment; filename=".b"\n\n'
+        b"Content-Type: image/png\n\nthree",
+    )
+
+
+# the path, the name and the bytes of each of its files, and whether it has an error
+TWINS = [
+    ("1", "_.._a.txt", b"one", False), ("2", "_.._a-2.txt", b"two", True),
+    ("3", "_.b", b"Content-Type: image/png\n\nthree", False), ("3.1", "unnamed.png", b"three", False),
+]
 MADE = {"sized": sized, "typed": typed, "forwarding": forwarding, "undelimited": undelimited}
 
 
@@ -116,6 +132,22 @@ def compare(program, words, into, mails):
         yield f"{words}: {path}", found == wanted
 
 
+def compare_twins(program, work):
+    """Whether the files of one name get numbers, and the damaged one an error."""
+    mail, into = os.path.join(work, "twins.eml"), os.path.join(work, "of_twins")
+    os.mkdir(into)
+    with open(mail, "wb") as file:
+        file.write(twins())
+    ended = subprocess.run([program, "--into", into, "--hash", mail], capture_output=True, timeout=60)
+    found, hashes = [], []
+    for line in map(json.loads, ended.stdout.splitlines()):
+        with open(os.path.join(into, line["saved"]), "rb") as file:
+            found.append((line["path"], line["saved"], file.read(), line["error"] is not None))
+        hashes.append(line["sha256"] == hashlib.sha256(found[-1][2]).hexdigest())
+    yield "files of one name", found == TWINS
+    yield "their hashes", all(hashes)
+
+
 def compare_made(into):
     """Whether what `walk` and `iter_attachments` give of the made mails is saved, and under which endings."""
     saved = {}
@@ -147,6 +179,7 @@ def main():
         os.mkdir(into)
         judged = [case for words in (["--hash"], []) for case in compare(program, words, into, mails)]
         judged.extend(compare_made(into))
+        judged.extend(compare_twins(program, work))
         count = sum(len(list(said_there(path))) for path in mails)
         judged.append(("every file is there", len(os.listdir(into)) == 2 * count > 20))
     return finish(judged)

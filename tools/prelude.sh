@@ -54,6 +54,7 @@ check_arguments() {
     done
     least=0
     most=0
+    set -f # what stands in brackets is no pattern for files
     for word in $arguments; do
         case $word in
             '[-'*) ;;
@@ -63,6 +64,7 @@ check_arguments() {
             *) least=$((least + 1)); most=$((most + 1)) ;;
         esac
     done
+    set +f
     if [ "$given" -lt "$least" ] || [ "$given" -gt "$most" ]; then
         usage
     fi

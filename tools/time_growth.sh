@@ -13,11 +13,44 @@
 # gets at most a minute.
 #
 # It needs GNU time (/usr/bin/time).
-arguments='[ORACLE]'
+#
+# With --check it prints none of this: a kind fails where eight times the size takes over 24 times as
+# long, the least of a few runs each, and the last line is `N passed, N failed`.
+arguments='[--check] [ORACLE]'
 . "$(dirname "$0")/prelude.sh"
+is_check=
+if [ "${1-}" = --check ]; then
+    is_check=1
+    shift
+fi
 take_oracle "$@"
 show=$("$here/program.sh" mail_show)
 make_work
+kinds='openings broken-words semicolons quotes escaped-quotes keys starred-keys continuations
+    starred-continuations growing-stars long-indexes percent-escapes delimiters line-feeds dashes
+    close-delimiters levels empty-parts prefixes empty-boundary boundary-of-lines'
+
+# check_growth KIND: counts whether the time grows as the size does
+check_growth() {
+    make_mail "$1"
+    before=$(seconds 5 60 "$show")
+    make_mail "$1" 8
+    now=$(seconds 3 60 "$show")
+    if awk -v now="$now" -v before="$before" 'BEGIN {
+        exit !(now ~ / s$/ && before ~ / s$/ && now + 0 <= 24 * before) }'; then
+        pass
+    else
+        fail "$1: $before, and $now for eight times the size"
+    fi
+}
+
+if [ -n "$is_check" ]; then
+    for kind in $kinds; do
+        check_growth "$kind"
+    done
+    finish
+    exit
+fi
 
 # work_of_run: how many instructions mail_show runs on the file `input`, or its least time in
 # tenths of a millisecond
@@ -29,9 +62,7 @@ work_of_run() {
     fi
 }
 
-for kind in openings broken-words semicolons quotes escaped-quotes keys starred-keys continuations \
-    starred-continuations growing-stars long-indexes percent-escapes delimiters line-feeds dashes \
-    close-delimiters levels empty-parts prefixes empty-boundary boundary-of-lines; do
+for kind in $kinds; do
     make_mail "$kind"
     line=$(printf '%-22s %s' "$kind" "$(seconds 5 60 "$show")")
     crate=

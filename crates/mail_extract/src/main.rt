@@ -8,14 +8,10 @@ mod endings;
 mod folder;
 mod hash;
 mod lines;
-#[cfg(test)]
-mod memory;
 mod names;
 mod request;
 mod run;
 mod save;
-#[cfg(test)]
-mod tests;
 
 use mail_program::{Fault, VERSION, arguments, status_of};
 use request::{HELP, Task, USAGE, request_of};
