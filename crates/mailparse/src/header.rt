@@ -20,7 +20,7 @@ use std::alloc::{AllocError, Global};
 use std::borrow::CowStr;
 use std::marker::Model;
 use std::{fmt, str};
-use value::value_ref;
+use value::{value_of, value_ref};
 
 /// How many bytes a vector has.
 const LANES: usize = 16;
@@ -209,9 +209,8 @@ impl<'a> MailHeader<'a> {
         match str::from_utf8(self.get_value_raw()) {
             Ok(text) => value_ref(alloc, text, known),
             Err(_) => {
-                let text = decode_latin1(alloc, self.get_value_raw())?;
-                let value = value_ref(alloc, text.as_str(), known)?.into_owned(alloc)?;
-                Ok(CowStr::Owned(value))
+                let text = decode_latin1(alloc, self.get_value_raw())?.into_owned(alloc)?;
+                Ok(CowStr::Owned(value_of(alloc, text, known)?))
             }
         }
     }

@@ -19,6 +19,10 @@ use std::alloc::{AllocError, Global};
 /// How many bytes are decoded before they are appended, where all groups are letters.
 const BUFFER: usize = 1024;
 
+/// The same of a text of no more bytes than this, as an encoded word has (RFC 2047, section 2): the
+/// buffer is filled with zeros for each.
+const SHORT: usize = 192;
+
 /// How many bytes of a Base64 text are read at a time, from the first other group on.
 const WINDOW: usize = 4096;
 
@@ -46,7 +50,10 @@ const WINDOW: usize = 4096;
 pub fn decode_base64(alloc: Global, text: &[u8]) -> Result<Result<Vec<u8>, usize>, AllocError>
     ensures { IfOk result (λ decoded. items_or_fault decoded ≡ base64 text.now) }
 {
-    decode_base64_without(alloc, text, RunEnd::LineEnd)
+    if text.len() <= SHORT {
+        return decode_base64_without(alloc, text, RunEnd::LineEnd, &mut [0u8; SHORT]);
+    }
+    decode_base64_without(alloc, text, RunEnd::LineEnd, &mut [0u8; BUFFER])
 }
 
 /// Returns the bytes that a Base64 body stands for (RFC 2045, section 6.8).
@@ -72,17 +79,18 @@ pub fn decode_base64_body(alloc: Global, body: &[u8]) -> Result<Result<Vec<u8>, 
     ensures { IfOk result
         (λ decoded. items_or_fault decoded ≡ base64 (without_ascii_whitespace body.now)) }
 {
-    decode_base64_without(alloc, body, RunEnd::Whitespace)
+    decode_base64_without(alloc, body, RunEnd::Whitespace, &mut [0u8; BUFFER])
 }
 
 /// The bytes of the groups of a text without what counts as absent: letters are read where they
 /// lie, and from the first other group on a window of the text at a time, but for a group that ends
-/// it.
+/// it. `buffer` is lent to be written over.
 #[inline(always)]
 fn decode_base64_without(
     alloc: Global,
     text: &[u8],
     absent: RunEnd,
+    buffer: &mut [u8],
 ) -> Result<Result<Vec<u8>, usize>, AllocError>
     requires letters { KeepsLetters absent }
     requires padding { KeepsPadding absent }
@@ -90,11 +98,10 @@ fn decode_base64_without(
         (λ decoded. items_or_fault decoded ≡ groups_from 0 (without_ends absent text.now)) }
 {
     let mut bytes = Vec::with_capacity(alloc, text.len() / 4 * 3)?;
-    let mut buffer = [0u8; BUFFER];
     let mut groups = 0;
     let mut at = 0;
     'buffers: while at < text.len() {
-        let (count, next) = put_groups(&mut buffer, text, at, absent);
+        let (count, next) = put_groups(buffer, text, at, absent);
         bytes.extend_from_slice(&buffer[..3 * count])?;
         groups += count;
         if push_one_group(&mut bytes, &text[next..])? {

@@ -2,13 +2,13 @@
 use Rattle.std.proofs.Common.{◌≡◌, ◌≢◌, ◌⊎◌, ℕ, zero, suc, ◌<◌, ◌≤◌, Bool, true, false, cond, eqb, ltb, ◌&&◌, List, [], ◌∷◌, ◌++◌, length, map, take, drop, get_or, None, Some, Ok, Err, refl, zero-add, sym, ap, subst, ◌∙◌, inl, inr, ⊎_elim, arith}
 use Rattle.std.proofs.Math.Nat.{sub-zero}
 use Rattle.std.proofs.lemmas.Bool.{cond-true, cond-false, false≢true, eq-eqb, ne_eqb, cases_lt, or_from, and_left, and_right, le-ltb}
-use Rattle.std.proofs.lemmas.List.{append-nil, take_all, get_or_past, get_or_default}
+use Rattle.std.proofs.lemmas.List.{append-nil, length-drop, take_all, get_or_past, get_or_default}
 use Rattle.std.proofs.lemmas.List.Elements.{All-head}
 use Rattle.std.proofs.lemmas.List.Splits.{slice_split_none}
 use Rattle.std.proofs.lemmas.Str.{chars-nil, chars-IsAscii, encodes-IsAscii, is_utf8-from_IsUtf8}
 use Rattle.std.specs.Char.{is_whitespace}
 use Rattle.std.specs.List.{All, join_with_byte}
-use Rattle.std.specs.Str.{trim_start, skip_leading_whitespace, encode_utf8_all, IsAscii, IsUtf8, is_utf8}
+use Rattle.std.specs.Str.{IsTrimStart, trim_start, skip_leading_whitespace, encode_utf8_all, IsAscii, IsUtf8, is_utf8}
 use Rattle.std.specs.Str.Lines.{lines, lines_of_parts}
 use Rattle.mail_codec.specs.Ascii.{space}
 use Rattle.mail_codec.specs.Charset.{Charsets, four_charsets}
@@ -63,6 +63,15 @@ trim_start-plain b value h some =
 pub trim_start-nil : trim_start [] ≡ []
 unfolding trim_start
 trim_start-nil = ap (λ cs. encode_utf8_all (skip_leading_whitespace cs)) chars-nil
+
+drop_whole : (n : ℕ) (text : List ℕ) → length (drop n text) ≡ length text → drop n text ≡ text
+drop_whole zero text whole = refl
+drop_whole (suc n) [] whole = refl
+drop_whole (suc n) (b ∷ text) whole = absurd (omega (arith, whole, length-drop n text))
+
+-- a line is the text where it is as long as that
+pub trim_start-whole : (text line : List ℕ) → IsTrimStart text line → length line ≡ length text → line ≡ text
+trim_start-whole text line trimmed whole = trimmed.1 ∙ drop_whole trimmed.0 text (sym (ap length trimmed.1) ∙ whole)
 
 -- ---- its one token
 

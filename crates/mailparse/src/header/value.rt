@@ -21,9 +21,12 @@ use std::borrow::CowStr;
 
 /// What a value shows that is one line without `=?`, whatever charsets are known: the line without
 /// its leading whitespace. One search is enough where it is bare.
+#[inline(always)]
 fn plain_line(text: &str) -> Option<&str>
-    ensures { IfSome result (λ line. (known : Charsets) →
+    ensures value { IfSome result (λ line. (known : Charsets) →
         line.now ≡ shown_value known text.now) }
+    ensures same { IfSome result (λ line.
+        length line.now ≡ length text.now → line.now ≡ text.now) }
 {
     if is_bare(text.as_bytes()) {
         return Some(text);
@@ -51,6 +54,24 @@ pub(crate) fn value_ref<'v, K: KnownCharsets>(
         Some(line) => Ok(CowStr::Borrowed(line)),
         None => Ok(CowStr::Owned(owned_value(alloc, text, known)?)),
     }
+}
+
+/// What a value with this text shows: the text itself where all of it shows as it stands.
+pub(crate) fn value_of<K: KnownCharsets>(
+    alloc: Global,
+    text: String,
+    known: &K,
+) -> Result<String, AllocError>
+    ensures { IfOk result (λ value.
+        string_bytes value ≡ shown_value (K.known known.now) (string_bytes text)) }
+{
+    let Some(line) = plain_line(text.as_str()) else {
+        return owned_value(alloc, text.as_str(), known);
+    };
+    if line.len() == text.len() {
+        return Ok(text);
+    }
+    String::from_str(alloc, line)
 }
 
 /// What a value with this text shows. Lines without `=?` are joined; all else is read token by
