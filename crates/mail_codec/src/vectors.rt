@@ -1,5 +1,5 @@
-//! Vectors of sixteen bytes, and of 64 for pairs, long searches and lines of letters, all of which
-//! are tested or mapped at once.
+//! Vectors of sixteen bytes, and of 64 for pairs, long searches, lines of letters and blocks of
+//! quoted-printable, all of which are tested or mapped at once.
 //!
 //! Each operation is a small function with a contract of its own, and is inlined.
 

@@ -6,13 +6,16 @@ use Rattle.std.proofs.Math.Seq.{take-add, take-append-add}
 use Rattle.std.specs.List.{position_or_len}
 use Rattle.std.proofs.lemmas.List.Sums.{position_or_len_is, suffix_len-le-length}
 use borrow.Rule.Slice.PartMut.{put_mid}
+use lib.Lanes.{put_chunk}
+use Rattle.std.proofs.lemmas.Simd.{length-put_chunk}
 use Rattle.std.proofs.lemmas.List.{append-nil, append_cancel_left, take-append-le, length-take, length-set, append_assoc, length-append, reverse-append, drop_all, drop_more, drop-drop, take-append-drop, take_min, take_rest, take_more_set, length-drop, get_or-drop, get_or-take, length-take-le, take-take, drop-take}
 use Rattle.mail_codec.specs.Ascii.{is_blank}
 use Rattle.mail_codec.specs.Places.{first_place, begins, trimmed_at_end}
 use Rattle.mail_codec.specs.QuotedPrintable.{ends_in, without_last, lf, cr_lf, digit_value, byte_of_values, first_escape, ended_line, lines_of_pieces, lines_of, line_bytes, quoted_printable, unescaped}
-use Rattle.mail_codec.specs.private.QuotedPrintable.{is_mark, HasNoEscape, IsSoftBreak}
+use Rattle.mail_codec.specs.private.QuotedPrintable.{is_mark, HasNoEscape, IsPlain, IsReading, IsSoftBreak}
+use Rattle.mail_codec.specs.private.Vectors.{lane_mask}
 use Rattle.mail_codec.proofs.lemmas.Places.{first_place-≤, first_place-before, first_place-passes, first_place-begins}
-use Rattle.mail_codec.proofs.lemmas.Written.{written_rest}
+use Rattle.mail_codec.proofs.lemmas.Written.{written_rest, stored_after}
 use Rattle.mail_codec.proofs.lemmas.QuotedPrintableEscapes.{unescaped_stays, unescaped_escape, unescaped-nil, first_escape-other}
 use Rattle.mail_codec.proofs.lemmas.QuotedPrintableLines.{is_lf, split_some, line_read, line_last, nothing_left}
 
@@ -229,15 +232,10 @@ front_copied output content part copied n m is =
 
 -- ---- what a loop has copied since the last line end or escape
 
--- from one place up to another there is no LF, and no escape begins
-pub record IsPlain (text : List ℕ) (from to : ℕ) : Type 0 where
-  pub no_lf : (k : ℕ) → from ≤ k → k < to → is_lf (get_or text k 0) ≡ false
-  pub no_escape : (k : ℕ) → from ≤ k → k < to → first_escape (drop k text) ≡ None
-
 pub plain-empty : (text : List ℕ) (at : ℕ) → IsPlain text at at
 plain-empty text at = record { no_lf = λ k lo hi. absurd (omega arith); no_escape = λ k lo hi. absurd (omega arith) }
 
-plain-joined : (text : List ℕ) (from to end : ℕ) → IsPlain text from to → IsPlain text to end → IsPlain text from end
+pub plain-joined : (text : List ℕ) (from to end : ℕ) → IsPlain text from to → IsPlain text to end → IsPlain text from end
 plain-joined text from to end front back = record {
   no_lf = λ k lo hi. elim (cases_lt k to) [ inl lt ↦ front.no_lf k lo lt | inr ge ↦ back.no_lf k (omega arith) hi ];
   no_escape = λ k lo hi. elim (cases_lt k to) [ inl lt ↦ front.no_escape k lo lt | inr ge ↦ back.no_escape k (omega arith) hi ];
@@ -284,7 +282,7 @@ byte_there : (text : List ℕ) (at m k : ℕ) → k < length (take m (drop at te
 byte_there text at m k lt = get_or-take m (drop at text) k 0 (omega (arith, length-take m (drop at text))) ∙ get_or-drop at text k 0
 
 -- no mark stands before the first
-plain-run : (text : List ℕ) (at m run : ℕ) → run ≡ first_place (begins is_mark) (take m (drop at text)) → IsPlain text at (at + run)
+pub plain-run : (text : List ℕ) (at m run : ℕ) → run ≡ first_place (begins is_mark) (take m (drop at text)) → IsPlain text at (at + run)
 plain-run text at m run is = record {
   no_lf = λ k lo hi. (unmarked (get_or text k 0) (free k lo hi)).1;
   no_escape = λ k lo hi.
@@ -316,6 +314,32 @@ plain-run text at m run is = record {
         ∙ sym (ap (begins is_mark) (drop_more bytes (k - at) 0 s))
         ∙ first_place-before (begins is_mark) bytes (k - at) (omega arith)
 
+-- what is plain up to a place, and has no mark from there up to an end
+pub plain-to_end : (text : List ℕ) (from to end : ℕ) → end ≤ length text → IsPlain text from to
+    → length (take (end - to) (drop to text)) ≡ first_place (begins is_mark) (take (end - to) (drop to text)) → IsPlain text from end
+plain-to_end text from to end within front none = elim (cases_lt end to) [
+  | inl lt ↦ record { no_lf = λ k lo hi. front.no_lf k lo (omega arith); no_escape = λ k lo hi. front.no_escape k lo (omega arith) }
+  | inr ge ↦
+      let run : end - to ≡ first_place (begins is_mark) (take (end - to) (drop to text)) = omega (arith, none, length-take-le (end - to) (drop to text) (omega (arith, length-drop to text))) in
+      let back = plain-run text to (end - to) (end - to) run in
+      plain-joined text from to end front (subst (IsPlain text to) {x = to + (end - to)} {y = end} (omega arith) back)
+]
+
+-- what is plain up to a place, up to the first mark after it
+pub plain-to_mark : (text : List ℕ) (from to end count : ℕ) → IsPlain text from to → count ≡ first_place (begins is_mark) (take (end - to) (drop to text))
+    → IsPlain text from (to + count)
+plain-to_mark text from to end count front first = plain-joined text from to (to + count) front (plain-run text to (end - to) count first)
+
+-- the marks from a place up to an end, and those from a later place on
+pub marks_later : (text : List ℕ) (at end k next mask after : ℕ) → next ≡ at + k
+    → ((test : ℕ → Bool) (bytes : List ℕ) → mask ≡ lane_mask test bytes → after ≡ lane_mask test (drop k bytes))
+    → mask ≡ lane_mask is_mark (take (end - at) (drop at text)) → after ≡ lane_mask is_mark (take (end - next) (drop next text))
+marks_later text at end k next mask after later shift is =
+    shift is_mark (take (end - at) (drop at text)) is
+    ∙ ap (lane_mask is_mark) (drop-of-take k (end - at) (drop at text) ∙ ap (take (end - at - k)) (drop-drop k at text))
+    ∙ ap (λ (m : ℕ). lane_mask is_mark (take m (drop (at + k) text))) {x = end - at - k} {y = end - next} (omega arith)
+    ∙ ap (λ (j : ℕ). lane_mask is_mark (take (end - next) (drop j text))) (sym later)
+
 -- the first mark is one
 pub mark_there : (text : List ℕ) (at m run : ℕ) → run ≡ first_place (begins is_mark) (take m (drop at text)) → run < length (take m (drop at text))
     → (get_or text (at + run) 0 ≡ 10 → ⊥) → get_or text (at + run) 0 ≡ 61
@@ -331,7 +355,7 @@ mark_there text at m run is lt other =
       | inr no_sign ↦ absurd (other (eqb-true (get_or text (at + run) 0) 10 (sym (ap (λ (t : Bool). t || (get_or text (at + run) 0 == 10)) no_sign) ∙ marked)))
     ]
 
-plain-sign : (text : List ℕ) (at : ℕ) → get_or text at 0 ≡ 61 → first_escape (drop at text) ≡ None → IsPlain text at (at + 1)
+pub plain-sign : (text : List ℕ) (at : ℕ) → get_or text at 0 ≡ 61 → first_escape (drop at text) ≡ None → IsPlain text at (at + 1)
 plain-sign text at sign none = record {
   no_lf = λ k lo hi. ap (λ (j : ℕ). is_lf (get_or text j 0)) {x = k} {y = at} (omega arith) ∙ ap is_lf sign;
   no_escape = λ k lo hi. ap (λ (j : ℕ). first_escape (drop j text)) {x = k} {y = at} (omega arith) ∙ none;
@@ -420,20 +444,9 @@ before text from to low high plain some = go (first_escape (drop to text)) refl
 
 -- ---- the loop over marks
 
--- the bytes up to the last line end or escape, then those of the rest, are all; and what has been
--- copied after them is plain
-pub record Reading (text : List ℕ) (from : ℕ) (output : List ℕ) (len plain at : ℕ) : Type 0 where
-  pub within : at ≤ length text
-  pub start : plain ≤ at
-  pub after : from + len ≤ plain
-  pub room : len + (at - plain) ≤ length output
-  pub so_far : take len output ++ quoted_printable (drop plain text) ≡ quoted_printable (drop from text)
-  pub copied : take (at - plain) (drop len output) ≡ take (at - plain) (drop plain text)
-  pub marks : IsPlain text plain at
-
 -- a line end or an escape was the last that was read
 fresh : (text : List ℕ) (from : ℕ) (output : List ℕ) (len at : ℕ) → at ≤ length text → from + len ≤ at → len ≤ length output
-    → take len output ++ quoted_printable (drop at text) ≡ quoted_printable (drop from text) → Reading text from output len at at
+    → take len output ++ quoted_printable (drop at text) ≡ quoted_printable (drop from text) → IsReading text from output len at at
 fresh text from output len at within after room so_far = record {
   within = within;
   start = omega arith;
@@ -443,6 +456,10 @@ fresh text from output len at within after room so_far = record {
   copied = ap (λ (k : ℕ). take k (drop len output)) {x = at - at} {y = 0} (omega arith) ∙ sym (ap (λ (k : ℕ). take k (drop at text)) {x = at - at} {y = 0} (omega arith));
   marks = plain-empty text at;
 }
+
+-- nothing has been read
+pub nothing_read : (text : List ℕ) (from : ℕ) (output : List ℕ) → from ≤ length text → IsReading text from output 0 from from
+nothing_read text from output within = fresh text from output 0 from within (omega arith) (omega arith) refl
 
 -- a part that is written at a place and goes to the end
 abbrev pub with_part : ℕ → List ℕ → List ℕ → List ℕ
@@ -472,11 +489,11 @@ length-with_part place output part fits same =
 
 -- a run was copied, and it goes up to the end, or a mark follows
 pub record Ran (text : List ℕ) (from : ℕ) (output : List ℕ) (len plain at end run : ℕ) (part : List ℕ) : Type 0 where
-  pub reading : Reading text from (with_part (len + (at - plain)) output part) len plain (at + run)
+  pub reading : IsReading text from (with_part (len + (at - plain)) output part) len plain (at + run)
   pub marked : at + run ≢ end
       → (len + (at + run - plain) < length (with_part (len + (at - plain)) output part)) × (at + run < length text) × (get_or text (at + run) 0 ≢ 10 → get_or text (at + run) 0 ≡ 61)
 
-module _ (text : List ℕ) (from : ℕ) (output : List ℕ) (len plain at : ℕ) (h : Reading text from output len plain at) where
+module _ (text : List ℕ) (from : ℕ) (output : List ℕ) (len plain at : ℕ) (h : IsReading text from output len plain at) where
   abbrev place : ℕ
   place = len + (at - plain)
 
@@ -489,7 +506,7 @@ module _ (text : List ℕ) (from : ℕ) (output : List ℕ) (len plain at : ℕ)
 
   -- more bytes without a mark, or with one that stays
   extended : (run : ℕ) (ys : List ℕ) → at + run ≤ length text → len + (at + run - plain) ≤ length ys
-      → take (place + run) ys ≡ take place output ++ take run (drop at text) → IsPlain text at (at + run) → Reading text from ys len plain (at + run)
+      → take (place + run) ys ≡ take place output ++ take run (drop at text) → IsPlain text at (at + run) → IsReading text from ys len plain (at + run)
   extended run ys within room is more =
       let n = at - plain in
       let start = h.start in
@@ -534,10 +551,19 @@ module _ (text : List ℕ) (from : ℕ) (output : List ℕ) (len plain at : ℕ)
               (omega (arith, full), omega arith, mark_there text at m n first lt);
         }
 
+    -- bytes are copied that are plain
+    pub after_copy : (to : ℕ) → n ≡ to - at → at ≤ to → to ≤ length text → place + n ≤ length output → IsPlain text at to → take n part ≡ take n (drop at text)
+        → IsReading text from (with_part place output part) len plain to
+    after_copy to few ahead inside fits free copied =
+        let start = h.start in
+        let e : at + n ≡ to = omega arith in
+        subst (IsReading text from (with_part place output part) len plain) e (extended n (with_part place output part) (omega arith) (omega (arith, full))
+        (written_rest place n output part fits same (take n (drop at text)) copied) (subst (IsPlain text at) (sym e) free))
+
     -- escapes are read
     pub after_escapes : n ≤ length (room_from place output) → n ≢ 0 → ((n ≡ 0) ↔ (first_escape (drop at text) ≡ None)) → at + 3 * n ≤ length text
         → take n part ++ quoted_printable (drop (at + 3 * n) text) ≡ quoted_printable (drop at text)
-        → Reading text from (with_part place output part) (place + n) (at + 3 * n) (at + 3 * n)
+        → IsReading text from (with_part place output part) (place + n) (at + 3 * n) (at + 3 * n)
     after_escapes few some first within read =
         let next : List ℕ = quoted_printable (drop (at + 3 * n) text) in
         let after = h.after in
@@ -553,15 +579,48 @@ module _ (text : List ℕ) (from : ℕ) (output : List ℕ) (len plain at : ℕ)
         ∙ h.so_far)
 
     -- nothing is read at the place
-    pub after_none : n ≡ 0 → Reading text from (with_part place output part) len plain at
+    pub after_none : n ≡ 0 → IsReading text from (with_part place output part) len plain at
     after_none none =
         let ys = with_part place output part in
         let e : at + 0 ≡ at = omega arith in
-        subst (Reading text from ys len plain) e (extended 0 ys (omega (arith, h.within)) (omega (arith, full, h.room))
+        subst (IsReading text from ys len plain) e (extended 0 ys (omega (arith, h.within)) (omega (arith, full, h.room))
         (written_rest place 0 output part (omega (arith, h.room)) same [] refl) (subst (IsPlain text at) (sym e) (plain-empty text at)))
 
+  -- a vector is copied, of which as much counts as is plain
+  pub after_vector : (m to : ℕ) (v : List ℕ) → v ≡ take m (drop at text) → at ≤ to → to ≤ at + m → at + m ≤ length text → place + m ≤ length output → IsPlain text at to
+      → IsReading text from (put_chunk place output v) len plain to
+  after_vector m to v is low high inside fits free =
+      let start = h.start in
+      let n : ℕ = to - at in
+      let e : at + n ≡ to = omega arith in
+      let long : length v ≡ m = ap length is ∙ length-take-le m (drop at text) (omega (arith, length-drop at text)) in
+      subst (IsReading text from (put_chunk place output v) len plain) e (
+      extended n (put_chunk place output v) (omega arith) (omega (arith, length-put_chunk place output v))
+      (stored_after place n output v (omega (arith, long)) (omega (arith, long))
+      ∙ ap (λ (r : List ℕ). take place output ++ r) (ap (take n) is ∙ take-take n m (drop at text) (omega arith)))
+      (subst (IsPlain text at) (sym e) free))
+
+  -- an escape is read
+  pub after_escape : (byte : ℕ) → place < length output → at + 3 ≤ length text → first_escape (drop at text) ≡ Some byte
+      → IsReading text from (slice_set output place byte) (place + 1) (at + 3) (at + 3)
+  after_escape byte fits inside is =
+      let next : List ℕ = quoted_printable (drop (at + 3) text) in
+      let after = h.after in
+      let start = h.start in
+      let read : quoted_printable (drop at text) ≡ byte ∷ next =
+      escape_after [] (drop at text) byte (λ k l. absurd (omega arith)) (λ k l. absurd (omega arith)) is
+      ∙ ap (λ (r : List ℕ). byte ∷ quoted_printable r) (drop-drop 3 at text) in
+      fresh text from (slice_set output place byte) (place + 1) (at + 3) inside (omega arith) (omega (arith, fits, length-set output place byte))
+      (ap (λ (r : List ℕ). r ++ next) (take_more_set output place byte fits)
+      ∙ append_assoc (take place output) (byte ∷ []) next
+      ∙ ap (λ (r : List ℕ). take place output ++ r) (sym read)
+      ∙ ap (λ (r : List ℕ). r ++ quoted_printable (drop at text)) (take-add len (at - plain) output ∙ ap (λ (r : List ℕ). take len output ++ r) h.copied)
+      ∙ append_assoc (take len output) copy (quoted_printable (drop at text))
+      ∙ ap (λ (r : List ℕ). take len output ++ r) (sym (before_escape text plain at h.start h.within h.marks byte is))
+      ∙ h.so_far)
+
   -- a soft line break takes the line end with it
-  pub after_soft : (next : ℕ) → next ≤ length text → IsSoftBreak text at next → Reading text from output place next next
+  pub after_soft : (next : ℕ) → next ≤ length text → IsSoftBreak text at next → IsReading text from output place next next
   after_soft next within soft =
       let start = h.start in
       let after = h.after in
@@ -592,7 +651,7 @@ module _ (text : List ℕ) (from : ℕ) (output : List ℕ) (len plain at : ℕ)
       ]
     where
       softened : (end next : ℕ) → next ≡ end + 1 → next ≤ length text → end ≡ plain + first_place (begins is_lf) (drop plain text)
-          → line_bytes (ended_line (take (end - plain) (drop plain text))) ≡ copy → plain ≤ at → at ≤ end → Reading text from output place next next
+          → line_bytes (ended_line (take (end - plain) (drop plain text))) ≡ copy → plain ≤ at → at ≤ end → IsReading text from output place next next
       softened end next is within there line low high =
           let after = h.after in
           fresh text from output place next within (omega (arith, after, low, high, is)) h.room
@@ -603,7 +662,7 @@ module _ (text : List ℕ) (from : ℕ) (output : List ℕ) (len plain at : ℕ)
 
   -- a `=` that begins no escape stays
   pub after_sign : (part : List ℕ) → length part ≡ length (room_from place output) → place < length output → at < length text
-      → get_or text at 0 ≡ 61 → first_escape (drop at text) ≡ None → Reading text from (slice_set (with_part place output part) place 61) len plain (at + 1)
+      → get_or text at 0 ≡ 61 → first_escape (drop at text) ≡ None → IsReading text from (slice_set (with_part place output part) place 61) len plain (at + 1)
   after_sign part same fits lt sign none =
       let ys = with_part place output part in
       let start = h.start in
@@ -619,7 +678,7 @@ module _ (text : List ℕ) (from : ℕ) (output : List ℕ) (len plain at : ℕ)
   module _ (n : ℕ) (part : List ℕ) (same : length part ≡ length (room_from len output)) where
     -- a line ends
     pub after_line : place < length output → at < length text → get_or text at 0 ≡ 10 → n ≤ length copy + 1 → take n part ≡ line_bytes (ended_line copy)
-        → Reading text from (with_part len output part) (len + n) (at + 1) (at + 1)
+        → IsReading text from (with_part len output part) (len + n) (at + 1) (at + 1)
     after_line room lt lf_there few is =
         let after = h.after in
         let start = h.start in
@@ -652,24 +711,24 @@ module _ (text : List ℕ) (from : ℕ) (output : List ℕ) (len plain at : ℕ)
       ∙ h.copied
 
 -- escapes are read, or a soft line break is, or both, one after the other
-pub after_both : (text : List ℕ) (from : ℕ) (output : List ℕ) (len plain at : ℕ) → Reading text from output len plain at → (n : ℕ) (part : List ℕ)
+pub after_both : (text : List ℕ) (from : ℕ) (output : List ℕ) (len plain at : ℕ) → IsReading text from output len plain at → (n : ℕ) (part : List ℕ)
     → length part ≡ length (room_from (len + (at - plain)) output) → n ≤ length (room_from (len + (at - plain)) output)
     → ((n ≡ 0) ↔ (first_escape (drop at text) ≡ None)) → at + 3 * n ≤ length text
     → take n part ++ quoted_printable (drop (at + 3 * n) text) ≡ quoted_printable (drop at text)
     → (next : ℕ) → next ≢ at → next ≤ length text → (next ≢ at + 3 * n → IsSoftBreak text (at + 3 * n) next)
-    → Reading text from (with_part (len + (at - plain)) output part) (len + (at - plain) + n) next next
+    → IsReading text from (with_part (len + (at - plain)) output part) (len + (at - plain) + n) next next
 after_both text from output len plain at h n part same few first within read next moved inside soft = elim (cases_eq n 0) [
   | inl none ↦
       let start : at + 3 * n ≡ at = omega (arith, none) in
       let broken = subst (λ (j : ℕ). IsSoftBreak text j next) start (soft (λ e. moved (e ∙ start))) in
       let here = after_none text from output len plain at h n part same none in
-      subst (λ (k : ℕ). Reading text from ys k next next) {x = len + (at - plain)} {y = len + (at - plain) + n} (omega (arith, none)) (after_soft text from ys len plain at here next inside broken)
+      subst (λ (k : ℕ). IsReading text from ys k next next) {x = len + (at - plain)} {y = len + (at - plain) + n} (omega (arith, none)) (after_soft text from ys len plain at here next inside broken)
   | inr some ↦
       let escapes = after_escapes text from output len plain at h n part same few some first within read in
       elim (cases_eq next (at + 3 * n)) [
-        | inl e ↦ subst (λ (k : ℕ). Reading text from ys (len + (at - plain) + n) k k) (sym e) escapes
+        | inl e ↦ subst (λ (k : ℕ). IsReading text from ys (len + (at - plain) + n) k k) (sym e) escapes
         | inr other ↦
-            subst (λ (k : ℕ). Reading text from ys k next next) {x = len + (at - plain) + n + (at + 3 * n - (at + 3 * n))} {y = len + (at - plain) + n} (omega arith)
+            subst (λ (k : ℕ). IsReading text from ys k next next) {x = len + (at - plain) + n + (at + 3 * n - (at + 3 * n))} {y = len + (at - plain) + n} (omega arith)
             (after_soft text from ys (len + (at - plain) + n) (at + 3 * n) (at + 3 * n) escapes next inside (soft other))
       ]
 ]

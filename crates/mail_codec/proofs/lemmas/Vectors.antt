@@ -1,16 +1,17 @@
 -- Vectors of sixteen bytes, lane by lane.
-use Rattle.std.proofs.Common.{◌≡◌, ℕ, zero, suc, ◌+◌, ◌*◌, ◌/◌, ◌^◌, ◌%◌, ◌<◌, ◌≤◌, ◌-◌, Bool, true, false, cond, ◌==◌, ◌||◌, bit_or, List, [], ◌∷◌, map, length, take, drop, get_or, replicate, Fits, w8, refl, sym, ap, ◌∙◌, arith}
-use Rattle.std.proofs.lemmas.List.{get_or-map, length-map, map-id, ext_get_or}
-use Rattle.std.proofs.lemmas.Bool.{agree_below, agree_below_at}
+use Rattle.std.proofs.Common.{◌≡◌, ℕ, zero, suc, ◌+◌, ◌*◌, ◌/◌, ◌^◌, ◌%◌, ◌<◌, ◌≤◌, ◌-◌, Bool, true, false, cond, ◌==◌, ◌||◌, bit_or, List, [], ◌∷◌, map, length, take, drop, get_or, replicate, Fits, w8, refl, sym, ap, inl, inr, ◌∙◌, arith}
+use Rattle.std.proofs.lemmas.List.{get_or-map, length-map, map-id, drop-map, ext_get_or}
+use Rattle.std.proofs.lemmas.Bool.{cases_lt, agree_below, agree_below_at}
 use Rattle.std.proofs.lemmas.Simd.{Each1-from_get_or, swz_l, SwzOk, SwzOk-from_below, length-swz_l, get_or-swz_l_below, map-map, bitmask_splat, mask_l-mod, zip2_splat, zip2_splat_left, zip2_of_maps, leading_from_mask_l, trailing_mask_l}
 use Rattle.std.specs.List.{prefix_len}
 use Rattle.std.specs.Prelude.{nat_le}
 use Rattle.std.specs.Char.{is_ascii_whitespace}
 use Rattle.mail_codec.specs.private.Vectors.{whitespace_of_half}
 use Rattle.mail_codec.specs.Places.{begins, first_place}
-use Rattle.mail_codec.proofs.lemmas.Places.{first_place-begins}
+use Rattle.mail_codec.proofs.lemmas.Places.{first_place-≤, first_place-begins}
 use Rattle.std.specs.Int.{w64, trailing_zeros}
 use mir.Val.{bits, hbits}
+use native.Mathlib.Nat.{pow-suc, mul_comm, zero-div, div-one, div-div-eq-div-mul}
 use lib.Lanes.{Each1, zip2, mask_l, top, sel_l, put_chunk}
 
 -- what a vector's lanes are
@@ -108,12 +109,12 @@ pub equal_marked : (n a : ℕ) (v : List ℕ) → n ≤ 64 → length v ≡ n
     → mask_l (map (top 7) (zip2 (λ x y. cond (x == y) 255 0) v (replicate n a))) % 2 ^ 64 ≡ mask_l (map (λ b. b == a) v)
 equal_marked n a v few long = lanes_marked (λ x. cond (x == a) 255 0) (λ b. b == a) v _ (omega (arith, few, long)) (zip2_splat (λ x y. cond (x == y) 255 0) v n a long) (λ x. flag (x == a))
 
-pub either_marked : (a c : ℕ) (v : List ℕ) → length v ≡ 16
-    → mask_l (map (top 7) (zip2 bit_or (zip2 (λ x y. cond (x == y) 255 0) v (replicate 16 a)) (zip2 (λ x y. cond (x == y) 255 0) v (replicate 16 c)))) % 2 ^ 64
+pub either_marked : (n a c : ℕ) (v : List ℕ) → n ≤ 64 → length v ≡ n
+    → mask_l (map (top 7) (zip2 bit_or (zip2 (λ x y. cond (x == y) 255 0) v (replicate n a)) (zip2 (λ x y. cond (x == y) 255 0) v (replicate n c)))) % 2 ^ 64
     ≡ mask_l (map (λ b. b == a || b == c) v)
-either_marked a c v long =
-    lanes_marked (λ x. bit_or (cond (x == a) 255 0) (cond (x == c) 255 0)) (λ b. b == a || b == c) v _ (omega (arith, long))
-    (zip2_of_maps bit_or _ _ v (zip2_splat (λ x y. cond (x == y) 255 0) v 16 a long) (zip2_splat (λ x y. cond (x == y) 255 0) v 16 c long))
+either_marked n a c v few long =
+    lanes_marked (λ x. bit_or (cond (x == a) 255 0) (cond (x == c) 255 0)) (λ b. b == a || b == c) v _ (omega (arith, few, long))
+    (zip2_of_maps bit_or _ _ v (zip2_splat (λ x y. cond (x == y) 255 0) v n a long) (zip2_splat (λ x y. cond (x == y) 255 0) v n c long))
     (λ x. flag_or (x == a) (x == c))
 
 pub from_marked : (a : ℕ) (v : List ℕ) → length v ≡ 16
@@ -145,10 +146,41 @@ pub lowest_mark : (test : ℕ → Bool) (v : List ℕ) (mask : ℕ) → length v
 lowest_mark test v mask few is some =
     ap (trailing_zeros w64) is ∙ trailing_mask_l test 64 v (omega (arith, few)) (omega (arith, is, some)) ∙ sym (first_place-begins test v)
 
--- the same of sixteen lanes
+-- the same of sixteen lanes, of which none passes
 pub first_lane_none : (test : ℕ → Bool) (v : List ℕ) (mask : ℕ) → length v ≡ 16 → mask ≡ mask_l (map test v) → mask ≡ 0 → 16 ≡ first_place (begins test) v
 first_lane_none test v mask long is none = sym long ∙ no_mark test v mask is none
 
-pub first_lane_some : (test : ℕ → Bool) (v : List ℕ) (mask : ℕ) → length v ≡ 16 → mask ≡ mask_l (map test v) → ((mask ≡ 0) → ⊥)
-    → trailing_zeros w64 mask ≡ first_place (begins test) v
-first_lane_some test v mask long = lowest_mark test v mask (omega (arith, long))
+-- ---- what is left of a mask
+
+halved : (b : Bool) (n : ℕ) → (cond b 1 0 + 2 * n) / 2 ≡ n
+halved true n = omega arith
+halved false n = omega arith
+
+shifted : (ms : List Bool) (k : ℕ) → mask_l ms / 2 ^ k ≡ mask_l (drop k ms)
+shifted [] zero = zero-div (2 ^ 0)
+shifted [] (suc k) = zero-div (2 ^ suc k)
+shifted (m ∷ ms) zero = div-one (mask_l (m ∷ ms))
+shifted (m ∷ ms) (suc k) =
+    ap (λ n. mask_l (m ∷ ms) / n) (pow-suc 2 k ∙ mul_comm (2 ^ k) 2)
+    ∙ sym (div-div-eq-div-mul (mask_l (m ∷ ms)) 2 (2 ^ k))
+    ∙ ap (λ n. n / 2 ^ k) (halved m (mask_l ms))
+    ∙ shifted ms k
+
+-- a shift takes the marks of the first lanes away
+pub marks_shifted : (test : ℕ → Bool) (v : List ℕ) (mask k : ℕ) → mask ≡ mask_l (map test v) → mask / 2 ^ k ≡ mask_l (map test (drop k v))
+marks_shifted test v mask k is = ap (λ m. m / 2 ^ k) is ∙ shifted (map test v) k ∙ ap mask_l (drop-map test k v)
+
+unmarked : (b : Bool) (n m l : ℕ) → cond b 0 (suc m) ≡ suc l → (m ≡ l → n ≡ 0) → cond b 1 0 + 2 * n ≡ 0
+unmarked true n m l e f = absurd (omega arith)
+unmarked false n m l e f = let z = f (omega arith) in omega arith
+
+all_unmarked : (test : ℕ → Bool) (v : List ℕ) → first_place (begins test) v ≡ length v → mask_l (map test v) ≡ 0
+all_unmarked test [] e = refl
+all_unmarked test (x ∷ v) e = unmarked (test x) (mask_l (map test v)) (first_place (begins test) v) (length v) e (all_unmarked test v)
+
+-- where there is a mark, it is that of a lane
+pub mark_within : (test : ℕ → Bool) (v : List ℕ) (mask : ℕ) → mask ≡ mask_l (map test v) → ((mask ≡ 0) → ⊥) → first_place (begins test) v < length v
+mark_within test v mask is some = elim (cases_lt (first_place (begins test) v) (length v)) [
+  | inl lt ↦ lt
+  | inr ge ↦ absurd (some (is ∙ all_unmarked test v (omega (arith, ge, first_place-≤ (begins test) v))))
+]

@@ -52,12 +52,17 @@ stored_after at m xs v room few =
     ∙ ap (λ ys. take at xs ++ ys) (stored_at at m xs v room few)
 
 -- a vector copied from a place to the same place
-pub stored_copy : (at m : ℕ) (xs bytes : List ℕ) → take at xs ≡ take at bytes → at + 16 ≤ length xs → at + 16 ≤ length bytes → m ≤ 16
-    → take (at + m) (put_chunk at xs (take 16 (drop at bytes))) ≡ take (at + m) bytes
-stored_copy at m xs bytes front room within few =
-    let v = take 16 (drop at bytes) in
-    let long : length v ≡ 16 = length-take-le 16 (drop at bytes) (omega (arith, length-drop at bytes)) in
+pub stored_lanes : (w at m : ℕ) (xs bytes : List ℕ) → take at xs ≡ take at bytes → at + w ≤ length xs → at + w ≤ length bytes → m ≤ w
+    → take (at + m) (put_chunk at xs (take w (drop at bytes))) ≡ take (at + m) bytes
+stored_lanes w at m xs bytes front room within few =
+    let v = take w (drop at bytes) in
+    let long : length v ≡ w = length-take-le w (drop at bytes) (omega (arith, length-drop at bytes)) in
     take-add at m (put_chunk at xs v)
     ∙ ap (λ ys. ys ++ take m (drop at (put_chunk at xs v))) (stored_before at xs v ∙ front)
-    ∙ ap (λ ys. take at bytes ++ ys) (stored_at at m xs v (omega (arith, long)) (omega (arith, long)) ∙ take-take m 16 (drop at bytes) few)
+    ∙ ap (λ ys. take at bytes ++ ys) (stored_at at m xs v (omega (arith, long)) (omega (arith, long)) ∙ take-take m w (drop at bytes) few)
     ∙ sym (take-add at m bytes)
+
+-- the same of sixteen bytes
+pub stored_copy : (at m : ℕ) (xs bytes : List ℕ) → take at xs ≡ take at bytes → at + 16 ≤ length xs → at + 16 ≤ length bytes → m ≤ 16
+    → take (at + m) (put_chunk at xs (take 16 (drop at bytes))) ≡ take (at + m) bytes
+stored_copy = stored_lanes 16

@@ -1,41 +1,44 @@
 //! Quoted-printable, over bytes (RFC 2045, section 6.7).
-ghost use Rattle.std.specs.Prelude.{◌≡◌, ◌↔◌, ◌+◌, ◌*◌, ◌<◌, ◌≤◌, ◌≢◌, ◌-◌, ◌++◌, length, take, drop, slice_index, None, IfOk, OnOk, IfSome};
+ghost use Rattle.std.specs.Prelude.{◌≡◌, ◌↔◌, ◌+◌, ◌*◌, ◌<◌, ◌≤◌, ◌≢◌, ◌-◌, ◌++◌, length, take, drop, slice_index, None, IfOk, OnOk, unwrap_or};
 ghost use Rattle.std.specs.List.{suffix_len};
 ghost use Rattle.mail_codec.specs.Ascii.{equals_sign, is_blank};
 ghost use Rattle.mail_codec.specs.Places.{begins, first_place};
 ghost use Rattle.mail_codec.specs.QuotedPrintable.{digit_value, ended_line, first_escape, line_bytes, quoted_printable};
 ghost use Rattle.mail_codec.specs.private.QuotedPrintable.{is_mark, HasNoEscape, IsSoftBreak};
 
+mod blocks;
+
 use crate::bytescan::words::{either_mask, first_marked};
 use crate::vectors::LANES;
 use crate::vectors::marks::{either_lanes, first_lane};
+use blocks::put_blocks;
 use std::alloc::{AllocError, Global};
 use std::simd::prelude::*;
 
 /// How many bytes are read before they are appended; more than a line has by the rules of mail.
 const BUFFER: usize = 4096;
 
-/// What stands in the table for a byte that is not a digit.
-const NO_DIGIT: u8 = 0xFF;
+/// What stands in the table for a byte that is not a digit: with it, two digits are no byte.
+const NO_DIGIT: u32 = 1000;
 
 /// The value of each byte that is a hexadecimal digit, of either case.
-static DIGIT_VALUES: [u8; 256] = [
-    0xFF, 0xFF, 0xFF, 0xFF, 0xFF, 0xFF, 0xFF, 0xFF, 0xFF, 0xFF, 0xFF, 0xFF, 0xFF, 0xFF, 0xFF, 0xFF,
-    0xFF, 0xFF, 0xFF, 0xFF, 0xFF, 0xFF, 0xFF, 0xFF, 0xFF, 0xFF, 0xFF, 0xFF, 0xFF, 0xFF, 0xFF, 0xFF,
-    0xFF, 0xFF, 0xFF, 0xFF, 0xFF, 0xFF, 0xFF, 0xFF, 0xFF, 0xFF, 0xFF, 0xFF, 0xFF, 0xFF, 0xFF, 0xFF,
-    0x00, 0x01, 0x02, 0x03, 0x04, 0x05, 0x06, 0x07, 0x08, 0x09, 0xFF, 0xFF, 0xFF, 0xFF, 0xFF, 0xFF,
-    0xFF, 0x0A, 0x0B, 0x0C, 0x0D, 0x0E, 0x0F, 0xFF, 0xFF, 0xFF, 0xFF, 0xFF, 0xFF, 0xFF, 0xFF, 0xFF,
-    0xFF, 0xFF, 0xFF, 0xFF, 0xFF, 0xFF, 0xFF, 0xFF, 0xFF, 0xFF, 0xFF, 0xFF, 0xFF, 0xFF, 0xFF, 0xFF,
-    0xFF, 0x0A, 0x0B, 0x0C, 0x0D, 0x0E, 0x0F, 0xFF, 0xFF, 0xFF, 0xFF, 0xFF, 0xFF, 0xFF, 0xFF, 0xFF,
-    0xFF, 0xFF, 0xFF, 0xFF, 0xFF, 0xFF, 0xFF, 0xFF, 0xFF, 0xFF, 0xFF, 0xFF, 0xFF, 0xFF, 0xFF, 0xFF,
-    0xFF, 0xFF, 0xFF, 0xFF, 0xFF, 0xFF, 0xFF, 0xFF, 0xFF, 0xFF, 0xFF, 0xFF, 0xFF, 0xFF, 0xFF, 0xFF,
-    0xFF, 0xFF, 0xFF, 0xFF, 0xFF, 0xFF, 0xFF, 0xFF, 0xFF, 0xFF, 0xFF, 0xFF, 0xFF, 0xFF, 0xFF, 0xFF,
-    0xFF, 0xFF, 0xFF, 0xFF, 0xFF, 0xFF, 0xFF, 0xFF, 0xFF, 0xFF, 0xFF, 0xFF, 0xFF, 0xFF, 0xFF, 0xFF,
-    0xFF, 0xFF, 0xFF, 0xFF, 0xFF, 0xFF, 0xFF, 0xFF, 0xFF, 0xFF, 0xFF, 0xFF, 0xFF, 0xFF, 0xFF, 0xFF,
-    0xFF, 0xFF, 0xFF, 0xFF, 0xFF, 0xFF, 0xFF, 0xFF, 0xFF, 0xFF, 0xFF, 0xFF, 0xFF, 0xFF, 0xFF, 0xFF,
-    0xFF, 0xFF, 0xFF, 0xFF, 0xFF, 0xFF, 0xFF, 0xFF, 0xFF, 0xFF, 0xFF, 0xFF, 0xFF, 0xFF, 0xFF, 0xFF,
-    0xFF, 0xFF, 0xFF, 0xFF, 0xFF, 0xFF, 0xFF, 0xFF, 0xFF, 0xFF, 0xFF, 0xFF, 0xFF, 0xFF, 0xFF, 0xFF,
-    0xFF, 0xFF, 0xFF, 0xFF, 0xFF, 0xFF, 0xFF, 0xFF, 0xFF, 0xFF, 0xFF, 0xFF, 0xFF, 0xFF, 0xFF, 0xFF,
+static DIGIT_VALUES: [u32; 256] = [
+    1000, 1000, 1000, 1000, 1000, 1000, 1000, 1000, 1000, 1000, 1000, 1000, 1000, 1000, 1000, 1000,
+    1000, 1000, 1000, 1000, 1000, 1000, 1000, 1000, 1000, 1000, 1000, 1000, 1000, 1000, 1000, 1000,
+    1000, 1000, 1000, 1000, 1000, 1000, 1000, 1000, 1000, 1000, 1000, 1000, 1000, 1000, 1000, 1000,
+    0x00, 0x01, 0x02, 0x03, 0x04, 0x05, 0x06, 0x07, 0x08, 0x09, 1000, 1000, 1000, 1000, 1000, 1000,
+    1000, 0x0A, 0x0B, 0x0C, 0x0D, 0x0E, 0x0F, 1000, 1000, 1000, 1000, 1000, 1000, 1000, 1000, 1000,
+    1000, 1000, 1000, 1000, 1000, 1000, 1000, 1000, 1000, 1000, 1000, 1000, 1000, 1000, 1000, 1000,
+    1000, 0x0A, 0x0B, 0x0C, 0x0D, 0x0E, 0x0F, 1000, 1000, 1000, 1000, 1000, 1000, 1000, 1000, 1000,
+    1000, 1000, 1000, 1000, 1000, 1000, 1000, 1000, 1000, 1000, 1000, 1000, 1000, 1000, 1000, 1000,
+    1000, 1000, 1000, 1000, 1000, 1000, 1000, 1000, 1000, 1000, 1000, 1000, 1000, 1000, 1000, 1000,
+    1000, 1000, 1000, 1000, 1000, 1000, 1000, 1000, 1000, 1000, 1000, 1000, 1000, 1000, 1000, 1000,
+    1000, 1000, 1000, 1000, 1000, 1000, 1000, 1000, 1000, 1000, 1000, 1000, 1000, 1000, 1000, 1000,
+    1000, 1000, 1000, 1000, 1000, 1000, 1000, 1000, 1000, 1000, 1000, 1000, 1000, 1000, 1000, 1000,
+    1000, 1000, 1000, 1000, 1000, 1000, 1000, 1000, 1000, 1000, 1000, 1000, 1000, 1000, 1000, 1000,
+    1000, 1000, 1000, 1000, 1000, 1000, 1000, 1000, 1000, 1000, 1000, 1000, 1000, 1000, 1000, 1000,
+    1000, 1000, 1000, 1000, 1000, 1000, 1000, 1000, 1000, 1000, 1000, 1000, 1000, 1000, 1000, 1000,
+    1000, 1000, 1000, 1000, 1000, 1000, 1000, 1000, 1000, 1000, 1000, 1000, 1000, 1000, 1000, 1000,
 ];
 
 /// Returns the bytes that a quoted-printable text stands for (RFC 2045, section 6.7).
@@ -109,7 +112,7 @@ fn push_at_once(alloc: Global, bytes: &mut Vec<u8>, text: &[u8]) -> Result<(), A
 
 /// Writes the bytes that a text from a place on stands for at the front of `output`, as far as
 /// there is room. Returns how many bytes they are, and where the text goes on. Here and below, the
-/// bytes after them may be overwritten.
+/// bytes after them may be overwritten. What is left after whole blocks is read mark by mark.
 ///
 /// What has been copied since the last line end or escape, from `plain` on, is taken back where a
 /// line end shows that it does not stay, or where there is no room to find out.
@@ -123,9 +126,10 @@ fn put_lines(output: &mut [u8], text: &[u8], from: usize) -> (usize, usize)
         ≡ quoted_printable (drop from text.now) }
 {
     let end = from + (text.len() - from).min(output.len());
-    let mut len = 0;
-    let mut plain = from;
-    let mut at = from;
+    let read = put_blocks(output, text, from, end);
+    let mut len = read.len;
+    let mut plain = read.plain;
+    let mut at = read.at;
     'marks: while at < end {
         let place = len + (at - plain);
         at += put_run(&mut output[place..], &text[at..end]);
@@ -192,6 +196,7 @@ fn put_escapes(output: &mut [u8], text: &[u8], from: usize) -> usize
 fn after_soft_break(text: &[u8], at: usize) -> usize
     requires within { at ≤ length text.now }
     ensures bounds { (at ≤ result) × (result ≤ length text.now) }
+    ensures near { result ≤ at + 3 }
     ensures soft { result ≢ at → IsSoftBreak text.now at result }
 {
     if text.len() - at < 2 || text[at] != b'=' {
@@ -328,20 +333,18 @@ fn escape_at(text: &[u8], at: usize) -> Option<u8>
     requires sign { slice_index text.now at ≡ equals_sign }
     ensures read { result ≡ first_escape (drop at text.now) }
 {
-    let high = digit_value(text[at + 1])?;
-    let low = digit_value(text[at + 2])?;
-    Some(high * 16 + low)
-}
-
-/// The value of a hexadecimal digit, of either case.
-#[inline(always)]
-fn digit_value(digit: u8) -> Option<u8>
-    ensures read { result ≡ digit_value digit }
-    ensures bounds { IfSome result (λ value. value < 16) }
-{
-    let value = DIGIT_VALUES[digit as usize];
-    if value == NO_DIGIT {
+    let value = digit_value(text[at + 1]) * 16 + digit_value(text[at + 2]);
+    if value >= NO_DIGIT {
         return None;
     }
-    Some(value)
+    Some(value as u8)
+}
+
+/// The value of a hexadecimal digit, of either case; 1000 for another byte.
+#[inline(always)]
+fn digit_value(digit: u8) -> u32
+    ensures read { result ≡ unwrap_or (digit_value digit) 1000 }
+    ensures bounds { result ≤ 1000 }
+{
+    DIGIT_VALUES[digit as usize]
 }

@@ -1,5 +1,5 @@
 //! Which bytes of a vector pass a test: a mask has a bit for each byte, the lowest for the first.
-ghost use Rattle.std.specs.Prelude.{◌≡◌, ℕ, Bool, List, length, map, ◌==◌, ◌||◌, nat_le};
+ghost use Rattle.std.specs.Prelude.{◌≡◌, ◌≢◌, ◌<◌, ◌≤◌, ℕ, Bool, List, length, map, drop, ◌==◌, ◌||◌, nat_le};
 ghost use Rattle.std.specs.Char.{is_ascii_whitespace};
 ghost use Rattle.mail_codec.specs.Places.{begins, first_place};
 ghost use Rattle.mail_codec.specs.private.Vectors.{is_set, lane_mask, pair_flags, whitespace_of_half};
@@ -34,6 +34,15 @@ pub(crate) fn either_lanes(bytes: u8x16, first: u8, second: u8) -> u64
     ensures { result ≡ lane_mask (λ b. b == first || b == second) bytes }
 {
     let marks = bytes.simd_eq(u8x16::splat(first)) | bytes.simd_eq(u8x16::splat(second));
+    marks.to_bitmask()
+}
+
+/// The same of 64 bytes.
+#[inline(always)]
+pub(crate) fn wide_either_lanes(bytes: u8x64, first: u8, second: u8) -> u64
+    ensures { result ≡ lane_mask (λ b. b == first || b == second) bytes }
+{
+    let marks = bytes.simd_eq(u8x64::splat(first)) | bytes.simd_eq(u8x64::splat(second));
     marks.to_bitmask()
 }
 
@@ -76,9 +85,27 @@ pub(crate) fn first_lane(mask: u64) -> usize
     ensures { (test : ℕ → Bool) (bytes : List ℕ) → length bytes ≡ 16
         → mask ≡ lane_mask test bytes → result ≡ first_place (begins test) bytes }
 {
-    if mask == 0 {
-        LANES
-    } else {
-        mask.trailing_zeros() as usize
-    }
+    if mask == 0 { LANES } else { first_mark(mask) }
+}
+
+/// The place of the first byte that a mask marks, of 64 bytes at most.
+#[inline(always)]
+pub(crate) fn first_mark(mask: u64) -> usize
+    requires { mask ≢ 0 }
+    ensures least { (test : ℕ → Bool) (bytes : List ℕ) → length bytes ≤ 64
+        → mask ≡ lane_mask test bytes
+        → (result ≡ first_place (begins test) bytes) × (result < length bytes) }
+    ensures bounds { result < 64 }
+{
+    mask.trailing_zeros() as usize
+}
+
+/// The marks of the bytes after so many.
+#[inline(always)]
+pub(crate) fn marks_after(mask: u64, count: usize) -> u64
+    requires { count < 64 }
+    ensures { (test : ℕ → Bool) (bytes : List ℕ)
+        → mask ≡ lane_mask test bytes → result ≡ lane_mask test (drop count bytes) }
+{
+    mask >> count
 }
