@@ -9,9 +9,9 @@ The edits of a crate are tried together, as far as no two change one function: a
 of what it calls, so such edits do not touch one another. A check proves what they change and what that calls, over
 libraries that are proved here, from what `rt check` kept, or with --ci over those that a run of `rt ci` leaves. An
 edit passes if each of its functions is refused for a goal, and not only because its proof names what is gone; all
-others have to be proved or to wait. An edit for which a batch does not show this is tried alone. First, edits that
-change nothing have to be reported as not refused. With --archive the static library is built over the same
-libraries. The last line is `N passed, N failed`.
+others have to be proved or to wait, so that not every function is taken for a refused one. Try an edit alone where it
+fails beside others. With --archive the static library is built over the same libraries. The last line is
+`N passed, N failed`.
 """
 
 import argparse
@@ -98,19 +98,19 @@ def goals_in(text):
 
 
 def judge(edits, text):
-    """Of each edit, what is said of each of its functions: None, or the goals that are not proved."""
+    """What to say of each edit: only one whose functions are all refused for a goal is `refused`."""
     found, others = goals_in(text)
-    if not re.search(r"^(logic=(proved|not-proved)\b|only=\d+ proved=)", text, re.M):
+    if not re.search(r"^only=\d+ proved=", text, re.M):
         raise Stopped("the check gives no verdict: " + next((it for it in text.split("\n") if "error" in it), text[-300:]))
     others += [it for it, goals in found.items() if goals is not None and not any(it in edit.functions for edit in edits)]
     if others:
         raise Stopped(f"what no edit changes is not proved: {others[0]}")
-    return {edit: [found.get(it) for it in edit.functions] for edit in edits}
-
-
-def why(goals):
-    """What to say of an edit whose functions have these goals."""
-    return "NOT REFUSED" if None in goals else f"refused: {goals[0][0]}" if all(goals) else "its proof only names what is gone"
+    told = {}
+    for edit in edits:
+        goals = [found.get(it) for it in edit.functions]
+        is_gone = "NOT REFUSED" if None in goals else "its proof only names what is gone"
+        told[edit] = f"refused: {goals[0][0]}" if all(goals) else is_gone
+    return told
 
 
 def stamps_in(top):
@@ -126,15 +126,14 @@ def stamps_in(top):
 
 
 class Run:
-    """A copy of the repository with its libraries; of each edit whether it passed, and what each check took."""
+    """A copy of the repository with its libraries; and of each edit whether it passed."""
 
     def __init__(self, room, jobs, ci):
         listed = dict(re.findall(r"^(\w+)[^:#\n]*:(.*)", (TOP / "crates.txt").read_text("utf-8"), re.M))
         self.deps = {name: [it for it in below.split() if it in listed] for name, below in listed.items()}
         self.room, self.lanes, self.libraries = room, threading.Semaphore(jobs), {}
-        self.passed, self.seconds, self.is_over = [], [], False
         self.copy(TOP, f"{room}/base", [] if ci else self.deps, shutil.copy2)
-        self.ci, self.stamps = ci, stamps_in(f"{room}/base") if ci else {}
+        self.ci, self.stamps, self.passed = ci, stamps_in(f"{room}/base") if ci else {}, []
 
     def below(self, crate):
         """All that the crate stands on."""
@@ -150,15 +149,13 @@ class Run:
 
     def rt(self, what, crate, top, *words, jobs=1):
         """Runs rt on one processor (on four a check takes half as much again of them), and returns what it printed."""
-        with self.lanes, tempfile.TemporaryFile("w+", encoding="utf-8", errors="replace") as output:
-            words = ["timeout", "--foreground", "3600", "rt", *words, "--jobs", str(jobs)]
-            how = {"cwd": f"{top}/crates/{crate}", "stdin": subprocess.DEVNULL, "stdout": output, "stderr": subprocess.STDOUT}
-            process = subprocess.Popen(words, **how)
-            _, process.returncode, usage = os.wait4(process.pid, 0)
-            self.seconds.append(usage.ru_utime + usage.ru_stime)
-            print(f"{crate}: {what}: {self.seconds[-1]:.0f} processor seconds", flush=True)
-            output.seek(0)
-            return output.read()
+        words = ["timeout", "--foreground", "3600", "rt", *words, "--jobs", str(jobs)]
+        how = {"cwd": f"{top}/crates/{crate}", "stdin": subprocess.DEVNULL, "stdout": subprocess.PIPE, "errors": "replace"}
+        with self.lanes:
+            start = time.monotonic()
+            said = subprocess.run(words, stderr=subprocess.STDOUT, **how).stdout
+            print(f"{crate}: {what}: {time.monotonic() - start:.0f} s", flush=True)
+        return said
 
     def wait_for(self, crates):
         """Waits for these libraries, or fails as they did."""
@@ -168,21 +165,20 @@ class Run:
     def make_library(self, crate):
         """Has a library in the base, once those below it are there: that of `rt ci`, or one that is proved here."""
         self.wait_for(self.deps[crate])
-        made, said, has_ended = Path(f"{self.room}/base/crates/{crate}/out/rlib"), "", crate not in self.stamps
-        while not has_ended and not self.is_over:
+        made, has_ended = Path(f"{self.room}/base/crates/{crate}/out/rlib"), crate not in self.stamps
+        while not has_ended:
             has_ended = os.path.exists(f"{self.ci}.status")
             if re.search(rf"^rt: {crate} (proved$|is kept)", Path(f"{self.ci}.log").read_text("utf-8", "replace"), re.M):
                 shutil.copytree(TOP / f"crates/{crate}/out/rlib", made)
                 (made / "stamp").write_text(self.stamps[crate], "utf-8")
                 return
             time.sleep(2)
-        if not (made / "stamp").exists():
-            said = self.rt("proved as it is", crate, f"{self.room}/base", "lib", jobs=2)
+        said = self.rt("proved as it is", crate, f"{self.room}/base", "lib", jobs=2)
         if not (made / "stamp").exists():
             raise Stopped(f"{crate} is not proved as it is: {said[-300:]}")
 
-    def check(self, crate, edits, what):
-        """Checks in the crate's copy what these edits change."""
+    def check(self, crate, edits):
+        """Checks in the crate's copy what these edits change, and says what comes of each."""
         top, before, pairs = f"{self.room}/{crate}", {}, {}
         for file, *pair in {change for edit in edits for change in edit.changes}:
             pairs.setdefault(Path(f"{top}/crates/{crate}/{file}"), []).append(pair)
@@ -193,64 +189,43 @@ class Run:
                 text = replaced(path.name, before[path], pairs[path])
                 path.unlink()  # the base may have the same file
                 path.write_text(text, "utf-8")
-            return judge(edits, self.rt(what, crate, top, "check", *only))
+            return judge(edits, self.rt(f"{len(edits)} edits", crate, top, "check", *only))
         finally:
             for path, text in before.items():
                 path.write_text(text, "utf-8")
 
     def try_batch(self, edits):
-        """Tries edits of a crate together, and alone each that this does not show to be refused."""
-        if self.is_over:
-            raise Stopped("the run is over")
+        """Tries edits of a crate together."""
         try:
-            told = {edit: why(goals) for edit, goals in self.check(edits[0].crate, edits, f"{len(edits)} edits").items()}
+            told = self.check(edits[0].crate, edits)
         except Stopped as stopped:
             told = dict.fromkeys(edits, str(stopped))
         for edit, text in told.items():
-            is_refused = text.startswith("refused")
-            print(f"{'passed' if is_refused else 'FAILED' if len(edits) == 1 else 'again:'} {edit.name}: {text}", flush=True)
-            if not is_refused and len(edits) > 1:
-                self.try_batch([edit])
-            else:
-                self.passed.append(is_refused)
+            self.passed.append(text.startswith("refused"))
+            print(f"{'passed' if self.passed[-1] else 'FAILED'} {edit.name}: {text}", flush=True)
 
-    def try_crate(self, crate, edits, is_first):
-        """Tries the edits of a crate, each batch over what was proved before it; or first some that change nothing."""
-        own = set() if self.ci else {crate} & set(self.libraries)
+    def try_crate(self, crate, edits, archive):
+        """Tries the edits of a crate, each batch over what was proved before it; builds the crate first for an archive."""
+        own, top = set() if self.ci else {crate} & set(self.libraries), f"{self.room}/{crate}"
         self.wait_for(self.below(crate) | own)
-        self.copy(f"{self.room}/base", f"{self.room}/{crate}", self.below(crate) | own, os.link)
-        if is_first:
-            same = [it._replace(changes=tuple((file, old, old) for file, old, _ in it.changes)) for it in edits]
-            told = self.check(crate, batches_of(same)[0], "edits that change nothing")
-            if any(goals is not None for it in told.values() for goals in it):
-                raise Stopped("edits that change nothing are said to be refused")
+        self.copy(f"{self.room}/base", top, self.below(crate) | own, os.link)
+        if archive and Path(archive).name == f"lib{crate}.a":
+            self.rt("built", crate, top, "lib", jobs=2)
+            shutil.copyfile(f"{top}/crates/{crate}/out/lib{crate}.a", f"{archive}.part")
+            os.replace(f"{archive}.part", archive)  # whoever waits for it sees it whole
         for batch in batches_of(edits):
             self.try_batch(batch)
-        shutil.rmtree(f"{self.room}/{crate}")
-
-    def build_archive(self, crate, to):
-        """Builds a static library, once the crates below it are there."""
-        self.wait_for(self.deps[crate])
-        self.rt("built", crate, f"{self.room}/base", "lib", jobs=2)
-        shutil.copyfile(f"{self.room}/base/crates/{crate}/out/lib{crate}.a", f"{to}.part")
-        os.replace(f"{to}.part", to)  # whoever waits for it sees it whole
+        shutil.rmtree(top)
 
     def try_all(self, edits, archive):
         """Tries the edits, those of each crate beside those of others, over the libraries that they need."""
-        of = {crate: [it for it in edits if it.crate == crate] for crate in self.deps}
-        of = {crate: its for crate, its in of.items() if its}
-        statics = [Path(archive).stem.removeprefix("lib")] if archive else []
-        needed, fewest = set().union(*map(self.below, [*of, *statics])), min(map(len, of.values()))
-        first = next(crate for crate, its in of.items() if len(its) == fewest)
-        with ThreadPoolExecutor(len(self.deps) + len(of) + 1) as pool:
+        of = {crate: its for crate in self.deps if (its := [it for it in edits if it.crate == crate])}
+        needed = set().union(*map(self.below, of))
+        with ThreadPoolExecutor(len(needed) + len(of)) as pool:
             for it in [it for it in self.deps if it in needed]:
                 self.libraries[it] = pool.submit(self.make_library, it)
-            runs = [pool.submit(self.try_crate, crate, its, crate == first) for crate, its in of.items()]
-            try:
-                for it in runs + [pool.submit(self.build_archive, it, archive) for it in statics]:
-                    it.result()
-            finally:
-                self.is_over = True
+            for it in [pool.submit(self.try_crate, crate, its, archive) for crate, its in of.items()]:
+                it.result()
 
 
 def self_test():
@@ -265,17 +240,17 @@ def self_test():
     said += "fn low::e: no proof: it calls `low::a` and `low::b`, which are not proved\n"
     goals, others = goals_in(said)
     assert (goals["low::a"], goals["low::c"], goals["low::e"], others) == (["goal"], [], None, ["src/lib.rt:1:2: no"])
-    assert [why([goals[f"low::{it}"]])[:7] for it in "abcd"] == ["refused", "refused", "its pro", "NOT REF"]
+    edits = [one._replace(name=it, functions=(f"low::{it}",)) for it in "abcd"]
+    told = judge(edits, said.replace("src/lib.rt:1:2: error: no\n", "only=4 proved=1\n"))
+    assert [it[:7] for it in told.values()] == ["refused", "refused", "its pro", "NOT REF"]
 
 
 def main():
     self_test()
     reader = argparse.ArgumentParser(description=__doc__, formatter_class=argparse.RawDescriptionHelpFormatter)
-    reader.add_argument("--archive", metavar="FILE", help="where the static library is to be written")
+    reader.add_argument("--archive", metavar="FILE", help="where the static library libCRATE.a of a crate with edits goes")
     reader.add_argument("--ci", metavar="PATH", help="`rt ci` writes to PATH.log, and PATH.status is there when it has ended")
-    memory = int(re.search(r"MemAvailable: *(\d+)", Path("/proc/meminfo").read_text("utf-8"))[1])
-    lanes = min(len(os.sched_getaffinity(0)), memory // 4_000_000)
-    reader.add_argument("--jobs", type=int, default=max(1, lanes), help="how many checks at once; one a processor and 4 GB")
+    reader.add_argument("--jobs", type=int, default=2, help="how many checks at once, 2 if left out; each takes up to 4 GB")
     reader.add_argument("names", nargs="*", metavar="NAME", help="a crate, or an edit as CRATE/NAME; without any, all")
     words, paths = reader.parse_args(), sorted(TOP.glob("crates/*/edits/*.txt"))
     edits = [edit for path in paths for edit in edits_in(path.parts[-3], path.read_text("utf-8"))]
@@ -289,7 +264,7 @@ def main():
         except Stopped as stopped:
             print(f"stopped: {stopped}")
             run.passed.append(False)
-    print(f"{sum(run.seconds):.0f} processor seconds\n{run.passed.count(True)} passed, {run.passed.count(False)} failed")
+    print(f"{run.passed.count(True)} passed, {run.passed.count(False)} failed")
     return 1 if False in run.passed else 0
 
 

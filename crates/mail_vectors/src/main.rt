@@ -8,6 +8,7 @@
 #![tactic(auto)]
 
 mod calls;
+mod notation;
 mod replay;
 
 use replay::Tally;

@@ -1,7 +1,7 @@
 //! A replay of the rows of a file.
 
 use crate::calls;
-use mail_suite::{Answer, FORM, Row};
+use crate::notation::{Answer, FORM, Row};
 use mailparse::MailParseError;
 use std::alloc::{AllocError, Global};
 

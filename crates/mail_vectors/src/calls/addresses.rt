@@ -11,11 +11,12 @@
 //! read_written [NAME LOCAL DOMAIN].. => ITEM..     what `write_mailboxes` writes, read
 //! ```
 
+use crate::calls::tables::all_tables;
+use crate::notation::{Answer, Row};
 use mail_address::{
     Address, Group, Mailbox, Member, NewAddress, NewGroup, NewMailbox, WriteError, addresses_of,
     read_addresses, sender_of, write_addresses,
 };
-use mail_suite::{Answer, Row, all_tables};
 use mailparse::{MailParseError, parse_mail};
 use std::alloc::{AllocError, Global};
 

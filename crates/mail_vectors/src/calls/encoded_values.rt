@@ -1,7 +1,7 @@
 //! The calls on encoded values.
 
+use crate::notation::{Answer, Row};
 use mail_laws::render::encode_value;
-use mail_suite::{Answer, Row};
 use mailparse::{MailParseError, parse_header};
 use std::alloc::Global;
 

@@ -2,12 +2,13 @@
 //!
 //! `safe_file_name NAME => NAME`
 
+use crate::calls::tables::all_tables;
+use crate::notation::{Answer, FORM, Row};
 use mail_data::files::{
     Attachment, attachments, describes_attachment, file_name, filled_parameter, is_attachment,
     is_leaf, named_file, safe_file_name,
 };
 use mail_data::places::places;
-use mail_suite::{Answer, FORM, Row, all_tables};
 use mailparse::{
     MailParseError, ParsedContentDisposition, ParsedContentType, ParsedMail,
     parse_content_disposition, parse_content_type, parse_mail, parse_mail_with,

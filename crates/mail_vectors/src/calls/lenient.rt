@@ -1,10 +1,12 @@
 //! The calls that read leniently.
 
+use crate::calls::bodies::push_raw;
 use crate::calls::files::part_at;
+use crate::calls::tables::all_tables;
+use crate::notation::{Answer, Row};
 use mail_data::lenient::{
     DateError, base64_front, body_text, date_in, date_of, ids_in, lenient_body, own_ids_in,
 };
-use mail_suite::{Answer, Row, all_tables, push_raw};
 use mailparse::body::Body;
 use mailparse::{MailParseError, parse_mail};
 use std::alloc::Global;

@@ -1,11 +1,11 @@
 //! The calls on mailboxes, and on those of other forms: mboxrd, mboxcl and mboxcl2.
 
+use crate::notation::{Answer, Row};
 use mail_data::mailbox::formats::{Format, read_mailbox_in, settled_entry_in};
 use mail_data::mailbox::quoted::unquoted;
 use mail_data::mailbox::{
     MailboxEntry, has_front, has_line, is_mailbox, read_mailbox, settled_entry,
 };
-use mail_suite::{Answer, Row};
 use std::alloc::Global;
 
 /// Makes the call of a row, if it is one of these.

@@ -9,9 +9,10 @@
 mod compare;
 mod steps;
 
+use crate::calls::levels::least_levels;
+use crate::notation::{Answer, Row};
 use compare::is_message_of;
 use mail_laws::render::{Outline, is_well_formed, render};
-use mail_suite::{Answer, Row, least_levels};
 use mailparse::{MAX_LEVELS, MailParseError, parse_mail, parse_mail_limited};
 use std::alloc::Global;
 use steps::outline_of;

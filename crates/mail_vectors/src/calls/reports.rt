@@ -1,8 +1,8 @@
 //! The calls on delivery reports and on threads.
 
+use crate::notation::{Answer, Row};
 use mail_data::archive::{message_id, parents};
 use mail_data::bounce::{Recipient, original_message_id, recipients};
-use mail_suite::{Answer, Row};
 use mailparse::{MailParseError, parse_mail};
 use std::alloc::Global;
 

@@ -2,11 +2,12 @@
 //! `text_type TYPE => TYPE`.
 
 use crate::calls::files::part_at;
+use crate::calls::tables::all_tables;
+use crate::notation::{Answer, Row};
 use mail_data::flowed::{flowed_text, unflowed};
 use mail_data::forwarding::{forwarded, forwarded_bytes, mails_inside};
 use mail_data::inner_mails::{InnerMail, inner_mails, places_under};
 use mail_data::texts::{text_part, text_type};
-use mail_suite::{Answer, Row, all_tables};
 use mailparse::{MAX_LEVELS, MailParseError, ParsedMail, parse_mail, parse_mail_with};
 use std::alloc::Global;
 

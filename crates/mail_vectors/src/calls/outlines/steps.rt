@@ -1,7 +1,7 @@
 //! An outline, step by step.
 
+use crate::notation::{FORM, Row};
 use mail_laws::render::{Outline, OutlineKind};
-use mail_suite::{FORM, Row};
 use mailparse::MailParseError;
 use std::alloc::Global;
 
