@@ -103,12 +103,18 @@ fn read_buffer(alloc: Global) -> Result<Vec<u8>, AllocError>
 /// # Examples
 ///
 /// ```rust
-/// use mail_program::write_output;
+/// use mail_program::{Fault, write_output};
+/// use std::io::BufWriter;
 ///
 /// let mut written = Vec::new(alloc);
 /// write_output(&mut written, b"part 0")?;
 /// write_output(&mut written, b": text/plain")?;
 /// assert_eq!(rt; written.as_slice(), b"part 0: text/plain".as_slice());
+///
+/// // the flush fails, since the room behind the buffer is short
+/// let mut room = [0u8; 4];
+/// let mut writer = BufWriter::new(alloc, room.as_mut_slice())?;
+/// assert!(rt; matches!(write_output(&mut writer, b"part 0"), Err(Fault::Output(_))));
 /// ```
 pub fn write_output<W: Write>(writer: &mut W, bytes: &[u8]) -> Result<(), Fault>
     ensures written { OnOk result

@@ -3,8 +3,6 @@
 
 mod request;
 mod run;
-#[cfg(test)]
-mod tests;
 mod text;
 
 use mail_program::{Fault, VERSION, arguments};
