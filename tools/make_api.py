@@ -1,11 +1,10 @@
 #!/usr/bin/env python3
 """Makes docs/API.md, the page of all public types and calls with their contracts, from the sources.
 
-A library is a crate of crates.txt that has src/lib.rt. Static ones are left out, and one whose first line says that
-it is for the suite only, and on which no crate but mail_vectors stands. Of each public item the page has the
-signature, the first sentence of its doc comment and the clauses of its contract; of a law, its name and what it says.
-With --check it writes nothing and compares the page with the sources: the last line is then `N passed, N failed`, and
-the status is 1 where they differ.
+A library is a crate of crates.txt that has src/lib.rt; static ones are left out. Of each public item the page has
+the signature, the first sentence of its doc comment and the clauses of its contract; of a law, its name and what it
+says. With --check it writes nothing and compares the page with the sources: the last line is then
+`N passed, N failed`, and the status is 1 where they differ.
 """
 import argparse
 import difflib
@@ -34,8 +33,6 @@ kind of result alone. The definitions stand in the `specs` folder of each crate.
 ITEM = r"^((?:{0}///[^\n]*\n)*)((?:{0}#\[[^\n]*\n)*){0}({1})(.*?)(?:;| ?\{{\}}?|\n{0}\{{\}}?)$"
 FIELD = r"^((?:    ///[^\n]*\n)*)(?:    #\[[^\n]*\n)*    {}(?:,| (\{{\n.*?\n    \}}),)$"
 CLAUSE = re.compile(r"\b(ensures|requires)\*? ?(\w*) ?\{ ?(.*?) ?\}(?= (?:ensures|requires)\b|$)")
-# how the first line of a library begins that only the suite uses: it has no page and needs no examples
-FOR_SUITE = "//! For the suite only: "
 # what only contracts see
 GHOST_TRAITS = {"Model"}
 
@@ -52,20 +49,14 @@ def root_of(crate):
     return text_of(path) if os.path.isfile(os.path.join(TOP, path)) else ""
 
 
-def is_for_suite(crate):
-    """Whether a library says so that it is for the suite, and whether that is true."""
-    users = [name for name, below in crates().items() if crate in below]
-    return root_of(crate).startswith(FOR_SUITE) and users == ["mail_vectors"]
-
-
 def is_static(crate):
     """Whether a crate is a static library, whose calls are described in a header."""
     return re.search(rf"^{crate} staticlib:", text_of("crates.txt"), re.MULTILINE) is not None
 
 
 def libraries():
-    """The crates that are libraries, lowest first, without static ones and those that only the suite uses."""
-    return [name for name in crates() if root_of(name) and not is_static(name) and not is_for_suite(name)]
+    """The crates that are libraries, lowest first, without static ones."""
+    return [name for name in crates() if root_of(name) and not is_static(name)]
 
 
 def found(pattern, text):
