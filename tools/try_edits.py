@@ -40,16 +40,12 @@ IS_GONE = re.compile(r"has no field|is not in scope|has no `|was not admitted")
 Edit = namedtuple("Edit", "crate name functions changes")  # each change is a file, an old text and a new one
 
 
-class Stopped(Exception):
-    """Why edits cannot be tried, or a check says nothing clear of them."""
-
-
 def edits_in(crate, text):
     """The edits that a file lists."""
     file, found = "", []
     for entry in text.strip("\n").split("\n\n"):
         if not (read := ENTRY.fullmatch(entry)):
-            raise Stopped(f"{crate}: this is no edit: {entry}")
+            sys.exit(f"{crate}: this is no edit: {entry}")
         file = read[1] or file
         changes = tuple((file, *pair) for pair in re.findall("\nold: (.+)\nnew: ?(.*)", read[4]))
         found.append(Edit(crate, f"{crate}/{read[2]}", tuple(read[3].split()), changes))
@@ -63,7 +59,7 @@ def replaced(file, before, pairs):
         at = before.find(old)
         is_clause = re.search(r"\b(requires|ensures|ghost)\b|≡", old + new)
         if before.count(old) != 1 or not text.startswith(old, at) or is_clause:
-            raise Stopped(f"{file} has this text not once, or it is of a clause, or two edits change it: {old}")
+            sys.exit(f"{file} has this text not once, or it is of a clause, or two edits change it: {old}")
         text = text[:at] + new + text[at + len(old) :]
     return text
 
@@ -79,9 +75,13 @@ def batches_of(edits):
     return batches
 
 
-def goals_in(text):
-    """Of each function its goals that are not proved, or None where it is fine; and errors that belong to no function."""
-    found, others = {}, []
+def judge(edits, text):
+    """What to say of each edit after a check that printed this text. An edit is `refused` where each of its functions
+    has a goal that is not proved; all other functions have to be fine."""
+    if not re.search(r"^only=\d+ proved=", text, re.M):
+        first = next((it for it in text.split("\n") if "error" in it), text[-300:])
+        return dict.fromkeys(edits, f"the check gives no verdict: {first}")
+    found, others, told = {}, [], {}
     for kind, name, status, rest in TOLD.findall(text):
         own = WAITS.sub("", rest).strip(" :;")
         waits = rest and not own and (status == "no proof" or kind != "fn")
@@ -94,22 +94,14 @@ def goals_in(text):
             found[name] = (found[name] or []) + [f"{place}: {what[:150]}"] * (not IS_GONE.search(what))
         elif not FOLLOWS.search(what):
             others.append(f"{folder}/{place}: {what[:150]}")
-    return found, others
-
-
-def judge(edits, text):
-    """What to say of each edit: only one whose functions are all refused for a goal is `refused`."""
-    found, others = goals_in(text)
-    if not re.search(r"^only=\d+ proved=", text, re.M):
-        raise Stopped("the check gives no verdict: " + next((it for it in text.split("\n") if "error" in it), text[-300:]))
-    others += [it for it, goals in found.items() if goals is not None and not any(it in edit.functions for edit in edits)]
+    changed = {it for edit in edits for it in edit.functions}
+    others += [name for name, goals in found.items() if goals is not None and name not in changed]
     if others:
-        raise Stopped(f"what no edit changes is not proved: {others[0]}")
-    told = {}
+        return dict.fromkeys(edits, f"what no edit changes is not proved: {others[0]}")
     for edit in edits:
         goals = [found.get(it) for it in edit.functions]
-        is_gone = "NOT REFUSED" if None in goals else "its proof only names what is gone"
-        told[edit] = f"refused: {goals[0][0]}" if all(goals) else is_gone
+        why = "NOT REFUSED" if None in goals else "its proof only names what is gone"
+        told[edit] = f"refused: {goals[0][0]}" if all(goals) else why
     return told
 
 
@@ -157,14 +149,10 @@ class Run:
             print(f"{crate}: {what}: {time.monotonic() - start:.0f} s", flush=True)
         return said
 
-    def wait_for(self, crates):
-        """Waits for these libraries, or fails as they did."""
-        for it in crates:
-            self.libraries[it].result()
-
     def make_library(self, crate):
         """Has a library in the base, once those below it are there: that of `rt ci`, or one that is proved here."""
-        self.wait_for(self.deps[crate])
+        for it in self.deps[crate]:
+            self.libraries[it].result()
         made, has_ended = Path(f"{self.room}/base/crates/{crate}/out/rlib"), crate not in self.stamps
         while not has_ended:
             has_ended = os.path.exists(f"{self.ci}.status")
@@ -175,9 +163,9 @@ class Run:
             time.sleep(2)
         said = self.rt("proved as it is", crate, f"{self.room}/base", "lib", jobs=2)
         if not (made / "stamp").exists():
-            raise Stopped(f"{crate} is not proved as it is: {said[-300:]}")
+            sys.exit(f"{crate} is not proved as it is: {said[-300:]}")
 
-    def check(self, crate, edits):
+    def try_batch(self, crate, edits):
         """Checks in the crate's copy what these edits change, and says what comes of each."""
         top, before, pairs = f"{self.room}/{crate}", {}, {}
         for file, *pair in {change for edit in edits for change in edit.changes}:
@@ -189,32 +177,27 @@ class Run:
                 text = replaced(path.name, before[path], pairs[path])
                 path.unlink()  # the base may have the same file
                 path.write_text(text, "utf-8")
-            return judge(edits, self.rt(f"{len(edits)} edits", crate, top, "check", *only))
-        finally:
-            for path, text in before.items():
-                path.write_text(text, "utf-8")
-
-    def try_batch(self, edits):
-        """Tries edits of a crate together."""
-        try:
-            told = self.check(edits[0].crate, edits)
-        except Stopped as stopped:
+            told = judge(edits, self.rt(f"{len(edits)} edits", crate, top, "check", *only))
+        except SystemExit as stopped:
             told = dict.fromkeys(edits, str(stopped))
+        for path, text in before.items():
+            path.write_text(text, "utf-8")
         for edit, text in told.items():
             self.passed.append(text.startswith("refused"))
             print(f"{'passed' if self.passed[-1] else 'FAILED'} {edit.name}: {text}", flush=True)
 
     def try_crate(self, crate, edits, archive):
         """Tries the edits of a crate, each batch over what was proved before it; builds the crate first for an archive."""
-        own, top = set() if self.ci else {crate} & set(self.libraries), f"{self.room}/{crate}"
-        self.wait_for(self.below(crate) | own)
-        self.copy(f"{self.room}/base", top, self.below(crate) | own, os.link)
+        proved, top = self.below(crate) | (set() if self.ci else {crate} & set(self.libraries)), f"{self.room}/{crate}"
+        for it in proved:
+            self.libraries[it].result()
+        self.copy(f"{self.room}/base", top, proved, os.link)
         if archive and Path(archive).name == f"lib{crate}.a":
             self.rt("built", crate, top, "lib", jobs=2)
             shutil.copyfile(f"{top}/crates/{crate}/out/lib{crate}.a", f"{archive}.part")
             os.replace(f"{archive}.part", archive)  # whoever waits for it sees it whole
         for batch in batches_of(edits):
-            self.try_batch(batch)
+            self.try_batch(crate, batch)
         shutil.rmtree(top)
 
     def try_all(self, edits, archive):
@@ -234,15 +217,14 @@ def self_test():
     assert (one.changes, two.functions, two.changes) == ((("a", " x", ""),), ("a", "b"), (("a", "y", "z"),))
     assert batches_of([one, two, one._replace(functions=("b",))]) == [[one, one._replace(functions=("b",))], [two]]
     assert replaced("a", "f(x) g(y)", [("f(x)", "f(yy)"), ("(y)", "(x)")]) == "f(yy) g(x)"
-    said = "./proofs/b/A.antt:6:1: error: `returns`: differs\n./proofs/+c/A.antt:2:3: error: it has no field `x`\nfn low::d: proved\n"
-    said += "fn low::a: no proof: `search` did not prove `goal`; it calls `low::b`, which is not proved\n"
-    said += "fn low::b: not proved; it calls `low::a`, which is not proved\nfn low::c: not proved\nsrc/lib.rt:1:2: error: no\n"
+    said = "./proofs/b/A.antt:6:1: error: `returns`: differs\n./proofs/+c/A.antt:2:3: error: it has no field `x`\n"
+    said += "fn low::d: proved\nfn low::a: no proof: `search` did not prove `goal`; it calls `low::b`, which is not proved\n"
+    said += "fn low::b: not proved; it calls `low::a`, which is not proved\nfn low::c: not proved\nonly=4 proved=1\n"
     said += "fn low::e: no proof: it calls `low::a` and `low::b`, which are not proved\n"
-    goals, others = goals_in(said)
-    assert (goals["low::a"], goals["low::c"], goals["low::e"], others) == (["goal"], [], None, ["src/lib.rt:1:2: no"])
     edits = [one._replace(name=it, functions=(f"low::{it}",)) for it in "abcd"]
-    told = judge(edits, said.replace("src/lib.rt:1:2: error: no\n", "only=4 proved=1\n"))
-    assert [it[:7] for it in told.values()] == ["refused", "refused", "its pro", "NOT REF"]
+    assert [it[:7] for it in judge(edits, said).values()] == ["refused", "refused", "its pro", "NOT REF"]
+    for told in (judge(edits[1:], said), judge(edits, said + "src/lib.rt:1:2: error: no\n")):
+        assert all(it.startswith("what no edit changes is not proved") for it in told.values())
 
 
 def main():
@@ -256,14 +238,10 @@ def main():
     edits = [edit for path in paths for edit in edits_in(path.parts[-3], path.read_text("utf-8"))]
     for it in set(words.names) - {it.crate for it in edits} - {it.name for it in edits}:
         reader.error(f"there is no crate with edits, and no edit, of the name {it}")
-    signal.signal(signal.SIGTERM, lambda *_: sys.exit(1))
     with tempfile.TemporaryDirectory(prefix="try-edits-") as room:
+        signal.signal(signal.SIGTERM, lambda *_: (shutil.rmtree(room, ignore_errors=True), os._exit(1)))
         run = Run(room, words.jobs, words.ci)
-        try:
-            run.try_all([it for it in edits if not words.names or {it.crate, it.name} & set(words.names)], words.archive)
-        except Stopped as stopped:
-            print(f"stopped: {stopped}")
-            run.passed.append(False)
+        run.try_all([it for it in edits if not words.names or {it.crate, it.name} & set(words.names)], words.archive)
     print(f"{run.passed.count(True)} passed, {run.passed.count(False)} failed")
     return 1 if False in run.passed else 0
 
