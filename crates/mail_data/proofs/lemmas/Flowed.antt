@@ -1,9 +1,9 @@
 -- Lemmas on texts whose paragraphs flow over lines.
-use Rattle.std.proofs.Common.{◌≡◌, ◌≢◌, ℕ, zero, suc, ◌+◌, ◌-◌, ◌<◌, Bool, true, false, cond, eqb, List, [], ◌∷◌, ◌++◌, length, length-drop, take, drop, map, refl, sym, ap, ◌∙◌, arith, append_assoc, inl, inr}
-use Rattle.std.specs.Prelude.{flat_map, replicate, nat_eq, not, codes, ◌==◌, Ok}
+use Rattle.std.proofs.Common.{◌≡◌, ◌≢◌, ℕ, zero, suc, ◌+◌, ◌-◌, ◌<◌, Bool, true, false, cond, eqb, List, [], ◌∷◌, ◌++◌, length, take, drop, map, refl, sym, ap, ◌∙◌, arith, append_assoc, inl, inr}
+use Rattle.std.specs.Prelude.{flat_map, replicate, not, codes, ◌==◌, Ok}
 use Rattle.std.specs.List.{after_first, before_first, position_or_len}
-use Rattle.std.proofs.lemmas.Bool.{cases_Bool, cond-true, cond-false, eqb-true, eq-eqb, ne_eqb, false≢true}
-use Rattle.std.proofs.lemmas.List.{append-nil, drop-drop}
+use Rattle.std.proofs.lemmas.Bool.{cases_Bool, cond-true, cond-false, eqb-true, eq-eqb, false≢true}
+use Rattle.std.proofs.lemmas.List.{append-nil}
 use Rattle.mail_codec.specs.Charset.{Charsets}
 use Rattle.mailparse.specs.ContentType.{ContentType}
 use Rattle.mailparse.specs.Mail.{Node}
@@ -53,18 +53,12 @@ without_space-none text h = sym (cond-false (ends_in 32 text) (without_last text
 
 -- ---- quote marks
 
-pub depth-some : (text rest : List ℕ) → text ≡ 62 ∷ rest → quote_depth text ≡ suc (quote_depth rest)
-depth-some text rest e = let one : 1 + quote_depth rest ≡ suc (quote_depth rest) = omega arith in ap quote_depth e ∙ one
-
 pub depth-none : (text : List ℕ) → ((rest : List ℕ) → text ≢ 62 ∷ rest) → quote_depth text ≡ 0
 depth-none [] h = refl
 depth-none (b ∷ rest) h = elim (cases_Bool (b == 62)) [
   | inl e ↦ absurd (h rest (ap (λ (x : ℕ). x ∷ rest) (eqb-true b 62 e)))
   | inr n ↦ cond-false (b == 62) (1 + quote_depth rest) 0 n
 ]
-
-pub left-next : (whole rest after : List ℕ) (depth : ℕ) → rest ≡ drop depth whole → rest ≡ 62 ∷ after → after ≡ drop (depth + 1) whole
-left-next whole rest after depth left e = ap (drop 1) (sym e ∙ left) ∙ drop-drop 1 depth whole
 
 pub marks-more : (old new whole : List ℕ) (left : ℕ) → 0 < left → new ≡ old ++ 62 ∷ [] → old ++ replicate left 62 ≡ whole → new ++ replicate (left - 1) 62 ≡ whole
 marks-more old new whole zero low made all = absurd (omega arith)
@@ -86,23 +80,18 @@ feed-later b rest n =
     let one : 1 + position_or_len is_feed rest ≡ suc (position_or_len is_feed rest) = omega arith in
     ap (λ (t : Bool). cond (not t) (1 + position_or_len is_feed rest) 0) n ∙ one
 
-front-none : (b : ℕ) (rest : List ℕ) → position_or_len is_feed rest ≡ length rest → with_front b (pieces rest) ≡ (b ∷ rest, []) ∷ []
-front-none b [] none = refl
-front-none b (c ∷ rest) none = elim (cases_Bool (eqb c 10)) [
-  | inl e ↦ let at = feed-first c rest e in absurd (omega (arith, at, none))
-  | inr n ↦
-      let at = feed-later c rest n in
-      ap (with_front b) (cond-false (eqb c 10) (([], c ∷ []) ∷ pieces rest) (with_front c (pieces rest)) n ∙ front-none c rest (omega (arith, at, none)))
-]
-
 pieces-none : (text : List ℕ) → 0 < length text → position_or_len is_feed text ≡ length text → pieces text ≡ (text, []) ∷ []
 pieces-none [] some none = absurd (omega arith)
 pieces-none (b ∷ rest) some none = elim (cases_Bool (eqb b 10)) [
   | inl e ↦ let at = feed-first b rest e in absurd (omega (arith, at, none))
   | inr n ↦
       let at = feed-later b rest n in
-      cond-false (eqb b 10) (([], b ∷ []) ∷ pieces rest) (with_front b (pieces rest)) n ∙ front-none b rest (omega (arith, at, none))
+      cond-false (eqb b 10) (([], b ∷ []) ∷ pieces rest) (with_front b (pieces rest)) n ∙ front b rest (λ more. pieces-none rest more (omega (arith, at, none)))
 ]
+  where
+    front : (b : ℕ) (rest : List ℕ) → (0 < length rest → pieces rest ≡ (rest, []) ∷ []) → with_front b (pieces rest) ≡ (b ∷ rest, []) ∷ []
+    front b [] later = refl
+    front b (c ∷ rest) later = ap (with_front b) (later (omega arith))
 
 pieces-some : (text : List ℕ) → position_or_len is_feed text < length text
     → pieces text ≡ (before_first is_feed text, 10 ∷ []) ∷ pieces (after_first is_feed text)
@@ -142,12 +131,6 @@ line-return line front ends =
 
 pub line-feed : (line : List ℕ) → ((front : List ℕ) → line ≢ front ++ 13 ∷ []) → line_with line (10 ∷ []) ≡ line_of (line, 10 ∷ [])
 line-feed line ends = sym (cond-false (ends_in 13 line) (line_with (without_last line) (13 ∷ 10 ∷ [])) (line_with line (10 ∷ [])) (ends-none 13 line ends))
-
-pub cut-shorter : (text rest : List ℕ) → position_or_len is_feed text < length text → rest ≡ after_first is_feed text → length rest < length text
-cut-shorter text rest low after =
-    let size = length-drop (position_or_len is_feed text + 1) text in
-    let same = ap length after in
-    omega arith
 
 -- ---- paragraphs
 
@@ -234,13 +217,6 @@ unflowed-end deletes before rest joined new all none made here =
 
 -- ---- steps
 
-pub some-bytes : (rest : List ℕ) (r : Bool) → r ≡ nat_eq (length rest) 0 → r ≡ false → 0 < length rest
-some-bytes rest r is fails = let some : (length rest == 0) ≡ false = sym is ∙ fails in grind (arith, some)
-
-pub no-bytes : (rest : List ℕ) (r : Bool) → r ≡ nat_eq (length rest) 0 → r ≡ true → rest ≡ []
-no-bytes [] r is holds = refl
-no-bytes (b ∷ rest) r is holds = absurd (false≢true (sym (ne_eqb (length (b ∷ rest)) 0 (λ n. absurd (omega arith))) ∙ sym is ∙ holds))
-
 pub marks-depth : (whole rest : List ℕ) (depth : ℕ) → depth + quote_depth rest ≡ quote_depth whole → quote_depth rest ≡ 0 → depth ≡ quote_depth whole
 marks-depth whole rest depth count none = omega (arith, count, none)
 
@@ -288,13 +264,11 @@ flowed-is ctype text slice joined is deletes e holds same d made =
 abbrev with_text : List ℕ → BodyText → BodyText
 with_text text read = record { text = text; charset = read.charset; is_damaged = read.is_damaged }
 
-same-read : (x y : BodyText) → ◌≡◌ {A = Reads BodyText} (Ok x) (Ok y) → x ≡ y
-same-read x y e = cc
-
 pub flowed_text-is : (known : Charsets) (node : Node) (read : BodyText) (ctype : ContentType) (text : List ℕ)
     → ◌≡◌ {A = Reads BodyText} (Ok (body_text known node)) (Ok read) → ctype ≡ node.ctype → text ≡ unflowed_of ctype read.text
     → flowed_text known node ≡ with_text text read
 unfolding flowed_text
 flowed_text-is known node read ctype text is same made =
-    ap (λ (r : BodyText). with_text (unflowed_of node.ctype r.text) r) (same-read (body_text known node) read is)
+    let whole : body_text known node ≡ read = cc in
+    ap (λ (r : BodyText). with_text (unflowed_of node.ctype r.text) r) whole
     ∙ ap (λ (c : ContentType). with_text (unflowed_of c read.text) read) (sym same) ∙ ap (λ (t : List ℕ). with_text t read) (sym made)

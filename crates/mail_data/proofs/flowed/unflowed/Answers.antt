@@ -1,7 +1,8 @@
 use Rattle.std.proofs.Common.{rules}
 use Rattle.std.specs.String.{string_bytes}
 use Rattle.mail_data.specs.FlowedViews.{line_view}
-use Rattle.mail_data.proofs.lemmas.Flowed.{no-bytes, some-bytes, unflowed-end, unflowed-next, unflowed-start}
+use Rattle.mail_data.proofs.lemmas.Flowed.{unflowed-end, unflowed-next, unflowed-start}
+use Rattle.mail_data.proofs.lemmas.Lines.{no-bytes, some-bytes}
 use Rattle.mail_data.proofs.flowed.unflowed.Goals as goal
 
 pub lines-init : goal.lines-init
