@@ -8,9 +8,9 @@ use Rattle.mail_data.specs.declared.mailbox.formats.Format.TheVariants.{Plain, Q
 
 -- the bytes of the mail at the front
 abbrev pub length_in : Format → List ℕ → ℕ
-length_in Plain mail = mail_length mail
-length_in Quoted mail = mail_length mail
-length_in Counted mail = counted_length mail
+length_in Plain = mail_length
+length_in Quoted = mail_length
+length_in Counted = counted_length
 
 -- the mails of bytes that begin with a separator, or of none
 abbrev pub entries_from_in : Format → List ℕ → List Entry

@@ -1,9 +1,9 @@
 -- Lemmas on message ids in any text.
-use Rattle.std.proofs.Common.{◌≡◌, ℕ, ◌+◌, ◌<◌, Bool, false, eqb, List, [], ◌∷◌, ◌++◌, length, drop, Option, Some, None, sym, ap, ◌∙◌, arith, length-drop}
+use Rattle.std.proofs.Common.{◌≡◌, ℕ, ◌<◌, Bool, false, eqb, List, [], ◌∷◌, ◌++◌, length, drop, Option, Some, None, sym, ap, ◌∙◌, arith}
 use Rattle.std.specs.Prelude.{flat_map}
 use Rattle.std.specs.List.{list_any, slice_split, position_or_len, before_first, after_first}
 use Rattle.std.specs.Borrow.{Bor}
-use Rattle.std.specs.Option.{MatchOption, IfSome}
+use Rattle.std.specs.Option.{MatchOption}
 use Rattle.std.proofs.lemmas.Bool.{le-ltb}
 use Rattle.std.proofs.lemmas.List.Elements.{All-from_get_or}
 use Rattle.std.proofs.lemmas.List.Splits.{slice_split_first, slice_split_none}
@@ -29,14 +29,8 @@ opening-pieces bytes (Some x) h =
     ∙ ap (λ (piece : List ℕ). piece ∷ slice_split is_opening (after_first is_opening bytes)) (sym h.1)
     ∙ ap (λ (rest : List ℕ). x.0.now ∷ slice_split is_opening rest) (sym h.2)
 
-pub opening-shorter : (bytes : List ℕ) (r : Option (Bor (List ℕ) × Bor (List ℕ))) → SplitsAt 60 bytes r → IfSome r (λ p. length p.1.now < length bytes)
-opening-shorter bytes None h = tt
-opening-shorter bytes (Some x) h = omega (arith, h.0, ap length h.2, length-drop (position_or_len is_opening bytes + 1) bytes)
-
 pub closing-none : (bytes : List ℕ) → position_or_len is_closing bytes ≡ length bytes → list_any is_closing bytes ≡ false
 closing-none bytes h = any_from_place is_closing bytes ∙ le-ltb _ _ (omega arith)
-
--- ---- one id
 
 -- ---- the ids of a text
 
