@@ -216,17 +216,14 @@ none-stays bytes more marked =
     ap (λ (r : List ℕ). is_separator (r ++ more)) body ∙ ap is_separator (append_assoc (closed (drop 1 before)) next more)
     ∙ is_separator-joined (drop 1 before) (next ++ more) ∙ sym (is_separator-joined (drop 1 before) next) ∙ ap is_separator (sym body)
 
--- where the first mail begins behind the front
-front_later : (bytes more : List ℕ) → is_separator bytes ≡ false → is_separator (drop (front_length bytes) bytes) ≡ true
-    → line_length (drop (front_length bytes) bytes) < length (drop (front_length bytes) bytes) → front_length (bytes ++ more) ≡ front_length bytes
-front_later bytes more fails marked past =
+-- where no mail begins at the front, what follows the front is what follows that mail
+pub front-next : (bytes more : List ℕ) → is_separator bytes ≡ false → is_separator (bytes ++ more) ≡ false → Joined mail_length (10 ∷ bytes) more
+    → (front_length (bytes ++ more) ≡ front_length bytes) × (drop (front_length (bytes ++ more)) (bytes ++ more) ≡ drop (front_length bytes) bytes ++ more)
+front-next bytes more fails all_fails joined =
     let n = front_length bytes in
     let all = bytes ++ more in
-    let here = after-front bytes fails in
-    let there : is_separator (next_entry (10 ∷ bytes)) ≡ true = ap is_separator here ∙ marked in
-    let joined = found (10 ∷ bytes) more there (subst (λ (r : List ℕ). line_length r < length r) (sym here) past) in
     let rest : drop (front_length all) all ≡ drop n bytes ++ more =
-    sym (after-front all (none-stays bytes more there ∙ fails)) ∙ joined.next ∙ ap (λ (r : List ℕ). r ++ more) here in
+    sym (after-front all all_fails) ∙ joined.next ∙ ap (λ (r : List ℕ). r ++ more) (after-front bytes fails) in
     let within = front_length-≤ bytes in
     let within_all = front_length-≤ all in
     let left = length-drop (front_length all) all in
@@ -234,7 +231,15 @@ front_later bytes more fails marked past =
     let next_size = length-drop n bytes in
     let next_sum = length-append (drop n bytes) more in
     let same = ap length rest in
-    omega arith
+    (omega arith, rest)
+
+front_later : (bytes more : List ℕ) → is_separator bytes ≡ false → is_separator (drop (front_length bytes) bytes) ≡ true
+    → line_length (drop (front_length bytes) bytes) < length (drop (front_length bytes) bytes) → front_length (bytes ++ more) ≡ front_length bytes
+front_later bytes more fails marked past =
+    let here = after-front bytes fails in
+    let there : is_separator (next_entry (10 ∷ bytes)) ≡ true = ap is_separator here ∙ marked in
+    let joined = found (10 ∷ bytes) more there (subst (λ (r : List ℕ). line_length r < length r) (sym here) past) in
+    (front-next bytes more fails (none-stays bytes more there ∙ fails) joined).0
 
 front-same : (bytes more : List ℕ) → has_front bytes ≡ true → front_length (bytes ++ more) ≡ front_length bytes
 unfolding has_front

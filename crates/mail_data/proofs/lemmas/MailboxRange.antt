@@ -11,7 +11,7 @@ use Rattle.mail_data.specs.Mailbox.{EndsEmpty, Entry, IsEmptyLine, entries, entr
 use Rattle.mail_data.specs.MailboxParts.{Placed, begins_in, in_range, placed, placed_at, placed_from}
 use Rattle.mail_data.specs.Separator.{is_separator}
 use Rattle.mail_data.proofs.lemmas.Mailbox.{after_opens, entries-here, entries-none, entries-some, entry-spans, front-opens, front_length-none, mailbox-spans, next-shorter, nothing, opens, stands-some}
-use Rattle.mail_data.proofs.lemmas.MailboxFound.{after-front, cut-found}
+use Rattle.mail_data.proofs.lemmas.MailboxFound.{after-front, cut-found, front-next}
 use Rattle.mail_data.proofs.lemmas.MailboxJoined.{all-joined, ends-later, entries-joined, front-joined, unmarked-nil}
 use Rattle.mail_data.proofs.lemmas.MailboxParts.{front_length-≤}
 
@@ -81,23 +81,12 @@ rest-joined rest second opened ends marked = elim (cases_Bool (is_separator rest
 
 cut-unmarked : (first second : List ℕ) → EndsEmpty first → is_separator second ≡ true → is_separator first ≡ false → CutAt first second
 cut-unmarked first second ends marked fails =
-    let all = first ++ second in
     let n = front_length first in
-    let rest = drop n first in
-    let joined = front-joined (10 ∷ first) second (ends-after (10 ∷ []) first ends) marked in
-    let whole : is_separator all ≡ false = (front-joined first second ends marked).separator ∙ fails in
-    let behind : drop (front_length all) all ≡ rest ++ second =
-    sym (after-front all whole) ∙ joined.next ∙ ap (λ (r : List ℕ). r ++ second) (after-front first fails) in
-    let within = front_length-≤ first in
-    let within_all = front_length-≤ all in
-    let left = length-drop (front_length all) all in
-    let sum = length-append first second in
-    let rest_size = length-drop n first in
-    let rest_sum = length-append rest second in
-    let same = ap length behind in
+    let whole = (front-joined first second ends marked).separator ∙ fails in
+    let next = front-next first second fails whole (front-joined (10 ∷ first) second (ends-after (10 ∷ []) first ends) marked) in
     record {
-      front = omega arith;
-      mails = ap entries_from behind ∙ rest-joined rest second (front-opens first) (λ is. ends-later first n ends is) marked;
+      front = next.0;
+      mails = ap entries_from next.1 ∙ rest-joined (drop n first) second (front-opens first) (λ is. ends-later first n ends is) marked;
     }
 
 cut-at : (first second : List ℕ) → EndsEmpty first → is_separator second ≡ true → CutAt first second
