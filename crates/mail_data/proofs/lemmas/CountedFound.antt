@@ -10,7 +10,7 @@ use Rattle.mail_data.specs.CountedMails.{block_length, block_place, content_leng
 use Rattle.mail_data.specs.Lines.{after_empty_line, after_line, empty_line, is_empty_line, line_length, line_place, starts_line}
 use Rattle.mail_data.specs.Mailbox.{Entry, after_by, is_before_text, mail_length, next_by, next_entry}
 use Rattle.mail_data.specs.Separator.{is_separator}
-use Rattle.mail_data.proofs.lemmas.Lines.{first_place-more, is_line, line_length-some_bytes, line_length-stays, starts-stays}
+use Rattle.mail_data.proofs.lemmas.Lines.{first_place-more, has_feed, is_line, line_length-more, line_length-some_bytes, starts-stays}
 use Rattle.mail_data.proofs.lemmas.Mailbox.{mail_length-≤, mails, stands-some}
 use Rattle.mail_data.proofs.lemmas.MailboxFound.{before-text, found, separator-stays, settled-by}
 use Rattle.mail_data.proofs.lemmas.MailboxJoined.{Joined, Stays, drop-joined, joined-by}
@@ -86,7 +86,7 @@ short-stays : (after more : List ℕ) → (nat_lt 1000 (length after) || nat_lt 
 unfolding is_short_separator
 short-stays after more h = elim (cases_lt (line_length after) (length after)) [
   | inl low ↦
-      ap (λ (n : ℕ). nat_le n 1000 && is_separator (after ++ more)) (line_length-stays after more low)
+      ap (λ (n : ℕ). nat_le n 1000 && is_separator (after ++ more)) (line_length-more after more (has_feed after low))
       ∙ ap (λ (t : Bool). nat_le (line_length after) 1000 && t) (separator-stays after more low)
   | inr all ↦
       let many : 1000 < length after =
@@ -180,7 +180,7 @@ kept bytes more known marked past =
     let rest_size = length-drop (counted_length body) body in
     let body_size = length-drop (line_length bytes) bytes in
     let low : line_length bytes < length bytes = omega arith in
-    let line : Stays line_length bytes more = record { same = line_length-stays bytes more low; within = omega arith } in
+    let line : Stays line_length bytes more = record { same = line_length-more bytes more (has_feed bytes low); within = omega arith } in
     let count =
     count-stays body more known
     (λ same.

@@ -148,14 +148,16 @@ first_place-more (b ∷ bytes) more =
       | false ↦ (omega arith, λ low. ap suc (later.1 (omega arith)))
     ]
 
-pub line_length-stays : (bytes more : List ℕ) → line_length bytes < length bytes → line_length (bytes ++ more) ≡ line_length bytes
+pub line_length-more : (bytes more : List ℕ) → first_place (begins (λ b. b == 10)) bytes < length bytes → line_length (bytes ++ more) ≡ line_length bytes
 unfolding line_length
-line_length-stays bytes more low =
-    let f = first_place (begins (λ b. b == 10)) bytes in
-    let within : f < length bytes = omega arith in
-    let same = (first_place-more bytes more).1 within in
+line_length-more bytes more low =
+    let same = (first_place-more bytes more).1 low in
     let all = length-append bytes more in
     omega arith
+
+pub has_feed : (bytes : List ℕ) → line_length bytes < length bytes → first_place (begins (λ b. b == 10)) bytes < length bytes
+unfolding line_length
+has_feed bytes low = omega arith
 
 pub starts-stays : (mail more : List ℕ) (k : ℕ) → k < length mail → starts_line (mail ++ more) k ≡ starts_line mail k
 starts-stays mail more k low =

@@ -9,9 +9,9 @@ use Rattle.mail_codec.proofs.lemmas.Places.{first_place-passes, least-passes, tr
 use Rattle.mail_data.specs.Lines.{after_empty_line, after_line, empty_line, line_length, line_place, starts_line}
 use Rattle.mail_data.specs.Mailbox.{EndsEmpty, Entry, IsEmptyLine, after_mail, ends_mail, entries, entries_by, entry_at, entry_by, front_length, has_front, is_before_text, mail_length, next_by, next_entry, settled_entry}
 use Rattle.mail_data.specs.Separator.{is_separator}
-use Rattle.mail_data.proofs.lemmas.Lines.{is_line}
+use Rattle.mail_data.proofs.lemmas.Lines.{has_feed, is_line}
 use Rattle.mail_data.proofs.lemmas.Mailbox.{after_empty_line-nil, entries-here, entries-some, front_length-none, mails, opens}
-use Rattle.mail_data.proofs.lemmas.MailboxJoined.{Joined, after_place, before_last, closed, closed-bytes, closed-line, front-joined, is_separator-joined, length-closed, unmarked-nil}
+use Rattle.mail_data.proofs.lemmas.MailboxJoined.{Joined, after_place, before_last, closed, closed-bytes, closed-line, front-joined, is_separator-joined, is_separator-more, length-closed, unmarked-nil}
 use Rattle.mail_data.proofs.lemmas.MailboxParts.{front_length-≤}
 
 -- ---- what stands at the end of a line and of a mail
@@ -112,19 +112,7 @@ cut-found bytes marked =
 -- ---- a separator whose line was read
 
 pub separator-stays : (bytes more : List ℕ) → line_length bytes < length bytes → is_separator (bytes ++ more) ≡ is_separator bytes
-separator-stays bytes more low =
-    let l = line_length bytes in
-    let end = line-end bytes low in
-    let some = end.1 in
-    let place : l - 1 + 1 ≡ l = omega arith in
-    let rest = drop l bytes in
-    let behind : drop 1 (drop (l - 1) bytes) ≡ rest = drop-drop 1 (l - 1) bytes ∙ ap (λ (k : ℕ). drop k bytes) place in
-    let front = take (l - 1) bytes in
-    let whole : closed front ++ rest ≡ bytes =
-    append_assoc front (10 ∷ []) rest ∙ ap (λ (r : List ℕ). front ++ (10 ∷ r)) (sym behind)
-    ∙ ap (λ (r : List ℕ). front ++ r) (sym (line_feed_first (drop (l - 1) bytes) end.0)) ∙ take-append-drop (l - 1) bytes in
-    ap (λ (r : List ℕ). is_separator (r ++ more)) (sym whole) ∙ ap is_separator (append_assoc (closed front) rest more)
-    ∙ is_separator-joined front (rest ++ more) ∙ sym (is_separator-joined front rest) ∙ ap is_separator whole
+separator-stays bytes more low = is_separator-more bytes more (has_feed bytes low)
 
 -- ---- the mail
 

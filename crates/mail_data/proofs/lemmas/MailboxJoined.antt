@@ -1,15 +1,16 @@
 -- Lemmas on a mailbox that is cut before a separator behind an empty line: the mails of the two halves are those of the whole.
 use Rattle.std.proofs.Common.{◌≡◌, ℕ, zero, suc, ◌+◌, ◌-◌, ◌<◌, ◌≤◌, Bool, true, false, cond, List, [], ◌∷◌, ◌++◌, ◌&&◌, length, take, drop, refl, sym, ap, subst, ◌∙◌, arith, length-append, inl, inr}
-use Rattle.std.specs.Prelude.{nat_lt, ◌==◌}
-use Rattle.std.proofs.lemmas.Bool.{cases_Bool, cases_lt, or_right}
+use Rattle.std.specs.Prelude.{nat_eq, nat_lt, ◌==◌}
+use Rattle.std.specs.List.{list_any}
+use Rattle.std.proofs.lemmas.Bool.{and_left, cases_Bool, cases_lt, eqb-true, or_parts, or_right}
 use Rattle.std.proofs.lemmas.List.{append_assoc, drop-append-le, drop-drop, drop_all, take-append-le}
 use Rattle.std.proofs.Math.Seq.{drop-append_seam, drop-append-add}
 use Rattle.mail_codec.specs.Places.{begins, first_place, is_empty, stands}
-use Rattle.mail_codec.proofs.lemmas.Places.{least-before, least-is, least-passes, true_not_false}
+use Rattle.mail_codec.proofs.lemmas.Places.{first_place-past, least-before, least-is, least-passes, true_not_false}
 use Rattle.mail_data.specs.Lines.{after_empty_line, after_line, empty_line, line_length, line_place, starts_line}
 use Rattle.mail_data.specs.Mailbox.{EndsEmpty, Entry, IsEmptyLine, after_by, after_mail, ends_mail, entries, entries_from, entry_at, entry_by, mail_length, next_by, next_entry}
 use Rattle.mail_data.specs.Separator.{has_time, is_separator, mark}
-use Rattle.mail_data.proofs.lemmas.Lines.{empty_line-≤, first_place-more, is_line, line_length-≤, starts-stays}
+use Rattle.mail_data.proofs.lemmas.Lines.{empty_line-≤, is_line, line_length-more, line_length-≤, starts-stays}
 use Rattle.mail_data.proofs.lemmas.Mailbox.{after_opens, entries-here, entries-none, entries-some, next-shorter, nothing, opens}
 
 -- ---- bytes that end in LF, with more bytes behind them
@@ -30,14 +31,6 @@ empty_line-joined [] more = refl
 empty_line-joined (b ∷ []) more = refl
 empty_line-joined (b ∷ c ∷ front) more = refl
 
-stands-joined : (front more : List ℕ) → stands mark (closed front ++ more) ≡ stands mark (closed front)
-stands-joined [] more = refl
-stands-joined (a ∷ []) more = refl
-stands-joined (a ∷ b ∷ []) more = refl
-stands-joined (a ∷ b ∷ c ∷ []) more = refl
-stands-joined (a ∷ b ∷ c ∷ d ∷ []) more = refl
-stands-joined (a ∷ b ∷ c ∷ d ∷ e ∷ front) more = refl
-
 -- the first LF stands no later than any other
 first_place-low : (front rest : List ℕ) → first_place (begins (λ b. b == 10)) (front ++ (10 ∷ rest)) ≤ length front
 first_place-low [] rest = omega arith
@@ -52,14 +45,8 @@ line_length-low : (front rest : List ℕ) → line_length (front ++ (10 ∷ rest
 unfolding line_length
 line_length-low front rest = let low = first_place-low front rest in omega arith
 
-line_length-joined : (front more : List ℕ) → line_length (closed front ++ more) ≡ line_length (closed front)
-unfolding line_length
-line_length-joined front more =
-    let low = first_place-low front [] in
-    let size = length-closed front in
-    let same = (first_place-more (closed front) more).1 (omega arith) in
-    let all = length-append (closed front) more in
-    omega arith
+feed-low : (front : List ℕ) → first_place (begins (λ b. b == 10)) (closed front) < length (closed front)
+feed-low front = let low = first_place-low front [] in let size = length-closed front in omega arith
 
 -- ---- what a length says of the bytes, with more bytes behind them
 
@@ -96,14 +83,31 @@ joined-by length_of bytes more separator line mail end =
     let same : entry_by length_of whole ≡ entry_by length_of bytes = λ i. record { separator = s i; mail = t i; ending = u i } in
     record { separator = separator; entry = same; next = ap after_empty_line rest_more ∙ drop-joined empty_line rest more end }
 
+-- a text without a LF stands in bytes with a LF, or does not, whatever follows them
+stands-more : (text bytes more : List ℕ) → list_any (λ t. t == 10) text ≡ false → first_place (begins (λ b. b == 10)) bytes < length bytes
+    → stands text (bytes ++ more) ≡ stands text bytes
+stands-more [] bytes more none low = refl
+stands-more (t ∷ text) [] more none low = absurd (omega arith)
+stands-more (t ∷ text) (b ∷ bytes) more none low = elim (cases_Bool (nat_eq t b)) [
+  | inl e ↦
+      let parts = or_parts (t == 10) (list_any (λ t. t == 10) text) none in
+      let past = first_place-past (begins (λ b. b == 10)) b bytes (ap (λ (x : ℕ). x == 10) (sym (eqb-true t b e)) ∙ parts.0) in
+      ap (λ (f : Bool). nat_eq t b && f) (stands-more text bytes more parts.1 (omega arith))
+  | inr n ↦ and_left (nat_eq t b) (stands text (bytes ++ more)) n ∙ sym (and_left (nat_eq t b) (stands text bytes) n)
+]
+
+pub is_separator-more : (bytes more : List ℕ) → first_place (begins (λ b. b == 10)) bytes < length bytes → is_separator (bytes ++ more) ≡ is_separator bytes
+unfolding is_separator
+is_separator-more bytes more low =
+    ap (λ (t : Bool). t && has_time (take (line_length (bytes ++ more)) (bytes ++ more))) (stands-more mark bytes more refl low)
+    ∙ ap (λ (line : List ℕ). stands mark bytes && has_time line)
+    (take-joined line_length bytes more (record { same = line_length-more bytes more low; within = line_length-≤ bytes }))
+
 line-stays : (front more : List ℕ) → Stays line_length (closed front) more
-line-stays front more = record { same = line_length-joined front more; within = line_length-≤ (closed front) }
+line-stays front more = record { same = line_length-more (closed front) more (feed-low front); within = line_length-≤ (closed front) }
 
 pub is_separator-joined : (front more : List ℕ) → is_separator (closed front ++ more) ≡ is_separator (closed front)
-unfolding is_separator
-is_separator-joined front more =
-    ap (λ (t : Bool). t && has_time (take (line_length (closed front ++ more)) (closed front ++ more))) (stands-joined front more)
-    ∙ ap (λ (line : List ℕ). stands mark (closed front) && has_time line) (take-joined line_length (closed front) more (line-stays front more))
+is_separator-joined front more = is_separator-more (closed front) more (feed-low front)
 
 opens-closed : (front more : List ℕ) → opens (closed front ++ more) ≡ opens (closed front)
 opens-closed [] more = is_separator-joined [] more
