@@ -1,5 +1,5 @@
 -- Mailboxes whose mails say in a field Content-Length how many bytes their bodies have: the mboxcl and mboxcl2 formats.
-use Rattle.std.specs.Prelude.{ℕ, zero, suc, ◌+◌, Bool, true, ◌&&◌, ◌||◌, nat_le, nat_lt, Option, Some, None, option_and_then, List, [], ◌∷◌, length, take, drop, codes, if◌then◌else◌}
+use Rattle.std.specs.Prelude.{ℕ, ◌+◌, Bool, true, ◌&&◌, ◌||◌, nat_le, nat_lt, Option, Some, None, option_and_then, List, length, take, drop, codes, if◌then◌else◌}
 use Rattle.std.specs.Char.{is_ascii_digit, is_ascii_whitespace}
 use Rattle.std.specs.Int.{is_in_range}
 use Rattle.std.specs.List.{list_all}
@@ -8,7 +8,7 @@ use Rattle.std.specs.Str.{str_eq_ignore_ascii_case}
 use Rattle.std.specs.Str.Parse.{digits_value}
 use Rattle.mail_codec.specs.Places.{is_empty, trimmed_at_end, trimmed_at_start}
 use Rattle.mail_data.specs.Lines.{after_empty_line, after_line, empty_line, is_empty_line, line_length, line_place}
-use Rattle.mail_data.specs.Mailbox.{Entry, front_length, is_before_text, mail_length}
+use Rattle.mail_data.specs.Mailbox.{Entry, entry_by, is_before_text, mail_length, next_by}
 use Rattle.mail_data.specs.Separator.{is_separator}
 
 -- ---- the field
@@ -66,38 +66,6 @@ unfoldable pub counted_length : List ℕ → ℕ
 counted_length mail =
     unwrap_or (option_and_then (counted_place mail) (content_length (take (block_place mail) mail))) (mail_length mail)
 
--- ---- the mails
-
--- what follows the mail at the front
-abbrev pub after_counted : List ℕ → List ℕ
-after_counted mail = drop (counted_length mail) mail
-
--- the mail whose separator stands at the front
-abbrev pub counted_at : List ℕ → Entry
-counted_at bytes = record {
-  separator = take (line_length bytes) bytes;
-  mail = take (counted_length (after_line bytes)) (after_line bytes);
-  ending = take (empty_line (after_counted (after_line bytes))) (after_counted (after_line bytes));
-}
-
--- what follows that mail
-abbrev pub next_counted : List ℕ → List ℕ
-next_counted bytes = after_empty_line (after_counted (after_line bytes))
-
--- the mails of bytes that begin with a separator, or of none: no more than so many
-abbrev pub counted_within : ℕ → List ℕ → List Entry
-counted_within zero bytes = []
-counted_within (suc most) bytes =
-    if is_separator bytes then counted_at bytes ∷ counted_within most (next_counted bytes) else []
-
--- all of them: there are no more than bytes
-unfoldable pub counted_from : List ℕ → List Entry
-counted_from bytes = counted_within (length bytes) bytes
-
--- the mails of a mailbox
-abbrev pub counted : List ℕ → List Entry
-counted bytes = counted_from (drop (front_length bytes) bytes)
-
 -- ---- what was read so far
 
 -- whether a counted mail may end here is known: behind an empty line, if one stands here, stand more bytes than a separator has,
@@ -120,5 +88,6 @@ is_count_known mail =
 -- the mail at the front and what follows it, if that is known and the next separator was read to its end
 unfoldable pub settled_counted : List ℕ → Option (Entry × List ℕ)
 settled_counted bytes =
-    if is_separator bytes && (is_count_known (after_line bytes) && is_before_text (next_counted bytes))
-    then Some (counted_at bytes, next_counted bytes) else None
+    let next = next_by counted_length bytes in
+    if is_separator bytes && (is_count_known (after_line bytes) && is_before_text next)
+    then Some (entry_by counted_length bytes, next) else None

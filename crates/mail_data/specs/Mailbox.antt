@@ -26,30 +26,51 @@ pub record Entry : Type 0 where
 abbrev pub entry_bytes : Entry → List ℕ
 entry_bytes entry = entry.separator ++ (entry.mail ++ entry.ending)
 
--- what follows the mail at the front
-abbrev pub after_mail : List ℕ → List ℕ
-after_mail bytes = drop (mail_length bytes) bytes
+-- what follows the mail at the front, where a function says how long a mail is
+abbrev pub after_by : (List ℕ → ℕ) → List ℕ → List ℕ
+after_by length_of bytes = drop (length_of bytes) bytes
 
 -- the mail whose separator stands at the front
+abbrev pub entry_by : (List ℕ → ℕ) → List ℕ → Entry
+entry_by length_of bytes =
+    let body = after_line bytes in
+    let after = after_by length_of body in
+    record {
+      separator = take (line_length bytes) bytes;
+      mail = take (length_of body) body;
+      ending = take (empty_line after) after;
+    }
+
+-- what follows that mail
+abbrev pub next_by : (List ℕ → ℕ) → List ℕ → List ℕ
+next_by length_of bytes = after_empty_line (after_by length_of (after_line bytes))
+
+-- the mails of bytes that begin with a separator, or of none: no more than so many
+abbrev pub entries_within : (List ℕ → ℕ) → ℕ → List ℕ → List Entry
+entries_within length_of zero bytes = []
+entries_within length_of (suc most) bytes =
+    if is_separator bytes
+    then entry_by length_of bytes ∷ entries_within length_of most (next_by length_of bytes) else []
+
+-- all of them: there are no more than bytes
+unfoldable pub entries_by : (List ℕ → ℕ) → List ℕ → List Entry
+entries_by length_of bytes = entries_within length_of (length bytes) bytes
+
+-- what follows the mail at the front, in a mailbox of the mbox format
+abbrev pub after_mail : List ℕ → List ℕ
+after_mail bytes = after_by mail_length bytes
+
+-- in this format, the mail whose separator stands at the front
 abbrev pub entry_at : List ℕ → Entry
-entry_at bytes = record {
-  separator = take (line_length bytes) bytes;
-  mail = take (mail_length (after_line bytes)) (after_line bytes);
-  ending = take (empty_line (after_mail (after_line bytes))) (after_mail (after_line bytes));
-}
+entry_at bytes = entry_by mail_length bytes
 
 -- what follows that mail
 abbrev pub next_entry : List ℕ → List ℕ
-next_entry bytes = after_empty_line (after_mail (after_line bytes))
+next_entry bytes = next_by mail_length bytes
 
--- the mails of bytes that begin with a separator, or of none: no more than so many
-abbrev pub entries_within : ℕ → List ℕ → List Entry
-entries_within zero bytes = []
-entries_within (suc most) bytes = if is_separator bytes then entry_at bytes ∷ entries_within most (next_entry bytes) else []
-
--- all of them: there are no more than bytes
-unfoldable pub entries_from : List ℕ → List Entry
-entries_from bytes = entries_within (length bytes) bytes
+-- the mails of bytes that begin with a separator, or of none
+abbrev pub entries_from : List ℕ → List Entry
+entries_from bytes = entries_by mail_length bytes
 
 -- the bytes before the first separator, the empty line before it among them
 unfoldable pub front_length : List ℕ → ℕ

@@ -278,13 +278,11 @@ fn text_of<K: KnownCharsets>(
         text_found found ≡ text_of (K.known known.now) name.now headers.now.items) }
     ensures only_memory { IfErr result IsMemory }
 {
-    match headers.get_first_value_in(alloc, name, known)? {
-        Some(text) => {
-            let text = without_comments(alloc, text.as_str())?;
-            Ok(Some(String::from_str(alloc, text.as_str().trim())?))
-        }
-        None => Ok(None),
-    }
+    let Some(text) = headers.get_first_value_in(alloc, name, known)? else {
+        return Ok(None);
+    };
+    let text = without_comments(alloc, text.as_str())?;
+    Ok(Some(String::from_str(alloc, text.as_str().trim())?))
 }
 
 /// The text of such a field after the type that a `;` ends, without whitespace around it.
@@ -299,13 +297,11 @@ fn typed_text_of<K: KnownCharsets>(
         text_found found ≡ typed_text_of (K.known known.now) name.now headers.now.items) }
     ensures only_memory { IfErr result IsMemory }
 {
-    match headers.get_first_value_in(alloc, name, known)? {
-        Some(text) => {
-            let text = after_type(text.as_str()).trim();
-            Ok(Some(String::from_str(alloc, text)?))
-        }
-        None => Ok(None),
-    }
+    let Some(text) = headers.get_first_value_in(alloc, name, known)? else {
+        return Ok(None);
+    };
+    let text = after_type(text.as_str()).trim();
+    Ok(Some(String::from_str(alloc, text)?))
 }
 
 /// The address in such a field: what follows the type, without comments.
@@ -320,14 +316,12 @@ fn address_of<K: KnownCharsets>(
         text_found found ≡ address_of (K.known known.now) name.now headers.now.items) }
     ensures only_memory { IfErr result IsMemory }
 {
-    match headers.get_first_value_in(alloc, name, known)? {
-        Some(text) => {
-            let text = without_comments(alloc, text.as_str())?;
-            let address = after_type(text.as_str()).trim();
-            Ok(Some(String::from_str(alloc, address)?))
-        }
-        None => Ok(None),
-    }
+    let Some(text) = headers.get_first_value_in(alloc, name, known)? else {
+        return Ok(None);
+    };
+    let text = without_comments(alloc, text.as_str())?;
+    let address = after_type(text.as_str()).trim();
+    Ok(Some(String::from_str(alloc, address)?))
 }
 
 /// What follows the first `;` of a text, or the whole text where there is none.

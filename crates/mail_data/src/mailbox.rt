@@ -1,9 +1,8 @@
 //! Mailboxes: the mails of an mbox file (RFC 4155, appendix A).
 ghost use Rattle.std.specs.Prelude.{◌<◌, ◌≡◌, ◌++◌, ◌≤◌, IfSome, length, drop, option_map, take};
 ghost use Rattle.std.specs.List.{flat_map};
-ghost use Rattle.mail_data.specs.Mailbox.{Entry, ends_mail, entries, entry_at};
-ghost use Rattle.mail_data.specs.Mailbox.{entry_bytes, front_length, mail_length};
-ghost use Rattle.mail_data.specs.Mailbox.{has_front, has_line, is_before_text, next_entry};
+ghost use Rattle.mail_data.specs.Mailbox.{Entry, ends_mail, entries, entry_bytes, front_length};
+ghost use Rattle.mail_data.specs.Mailbox.{has_front, has_line, is_before_text, mail_length};
 ghost use Rattle.mail_data.specs.Mailbox.{settled_entry};
 ghost use Rattle.mail_data.specs.MailboxViews.{entries_left};
 ghost use Rattle.mail_data.specs.Separator.{is_separator};
@@ -15,6 +14,7 @@ pub mod quoted;
 mod separator;
 
 use crate::lines::{empty_line, line_length, line_place};
+use formats::{Format, cut_in};
 use separator::is_separator;
 use std::marker::Model;
 
@@ -139,7 +139,7 @@ impl<'a> Iterator for Mailbox<'a> {
         if !is_separator(rest) {
             return None;
         }
-        let (entry, after) = cut_entry(rest);
+        let (entry, after) = cut_in(Format::Plain, rest);
         self.rest = after;
         Some(entry)
     }
@@ -204,7 +204,7 @@ pub fn settled_entry(bytes: &[u8]) -> Option<(MailboxEntry<'_>, &[u8])>
     ensures value { option_map (λ found. (found.0, found.1.now)) result ≡ settled_entry bytes.now }
     ensures shorter { IfSome result (λ found. length found.1.now < length bytes.now) }
 {
-    let (entry, rest) = cut_entry(bytes);
+    let (entry, rest) = cut_in(Format::Plain, bytes);
     if is_separator(bytes) && is_before_text(rest) {
         Some((entry, rest))
     } else {
@@ -287,22 +287,6 @@ fn front_length(bytes: &[u8]) -> usize
     }
     let length = mail_length(bytes);
     length + empty_line(&bytes[length..])
-}
-
-/// The mail at the front of bytes that begin with its separator, and the bytes after it.
-fn cut_entry(bytes: &[u8]) -> (MailboxEntry<'_>, &[u8])
-    ensures entry { result.0 ≡ entry_at bytes.now }
-    ensures after { result.1.now ≡ next_entry bytes.now }
-{
-    let (separator, body) = bytes.split_at(line_length(bytes));
-    let (mail, after) = body.split_at(mail_length(body));
-    let (ending, next) = after.split_at(empty_line(after));
-    let entry = MailboxEntry {
-        separator,
-        mail,
-        ending,
-    };
-    (entry, next)
 }
 
 /// How many bytes stand before the first line at which a mail ends.

@@ -3,6 +3,7 @@ use Rattle.std.proofs.Common.{◌≡◌, ℕ, Bool, true, false, cond, not, ◌|
 use Rattle.std.specs.Prelude.{codes}
 use Rattle.std.specs.List.{filter, list_any, AllByRecursion, IsDistinct}
 use Rattle.std.specs.Str.{bytes_eq}
+use Rattle.std.proofs.lemmas.Bool.{not-false, not-true}
 use Rattle.std.proofs.lemmas.List.Elements.{filter-append}
 use Rattle.std.proofs.lemmas.List.Folds.{list_any-append}
 use Rattle.std.proofs.lemmas.List.{append-nil}
@@ -82,22 +83,14 @@ without_repeats-distinct (id ∷ ids) = (apart id (without_repeats ids), distinc
 pub kept-new : (ids kept new : List (List ℕ)) (id : List ℕ) (added : Bool) → kept ≡ without_repeats ids → added ≡ not (stands_among id ids) → added ≡ true → new ≡ kept ++ id ∷ []
     → new ≡ without_repeats (ids ++ id ∷ [])
 kept-new ids kept new id added before is holds push =
-    push ∙ ap (λ (l : List (List ℕ)). l ++ id ∷ []) before ∙ ap (λ b. without_repeats ids ++ cond b [] (id ∷ [])) (sym (absent (stands_among id ids) (sym is ∙ holds)))
+    push ∙ ap (λ (l : List (List ℕ)). l ++ id ∷ []) before ∙ ap (λ b. without_repeats ids ++ cond b [] (id ∷ [])) (sym (not-true (stands_among id ids) (sym is ∙ holds)))
     ∙ sym (without_repeats-push ids id)
-  where
-    absent : (b : Bool) → not b ≡ true → b ≡ false
-    absent true h = sym h
-    absent false h = refl
 
 pub kept-old : (ids kept : List (List ℕ)) (id : List ℕ) (added : Bool) → kept ≡ without_repeats ids → added ≡ not (stands_among id ids) → added ≡ false
     → kept ≡ without_repeats (ids ++ id ∷ [])
 kept-old ids kept id added before is fails =
-    before ∙ sym (append-nil (without_repeats ids)) ∙ ap (λ b. without_repeats ids ++ cond b [] (id ∷ [])) (sym (present (stands_among id ids) (sym is ∙ fails)))
+    before ∙ sym (append-nil (without_repeats ids)) ∙ ap (λ b. without_repeats ids ++ cond b [] (id ∷ [])) (sym (not-false (stands_among id ids) (sym is ∙ fails)))
     ∙ sym (without_repeats-push ids id)
-  where
-    present : (b : Bool) → not b ≡ false → b ≡ true
-    present true h = refl
-    present false h = sym h
 
 -- what was seen, after one id more
 pub seen-next : (ids : List (List ℕ)) (id key q : List ℕ) (old new : Bool) → key ≡ id → new ≡ cond (bytes_eq key q) true old → old ≡ stands_among q ids

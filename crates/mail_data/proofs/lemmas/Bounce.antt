@@ -1,16 +1,16 @@
 -- Lemmas on delivery status notifications.
 use Rattle.std.proofs.Common.{◌≡◌, ℕ, zero, suc, ◌<◌, ◌≤◌, Bool, true, false, not, List, [], ◌∷◌, ◌++◌, length, map, drop, Bor, Option, refl, sym, ap, ◌∙◌, arith, append_assoc, length-drop, inl, inr}
 use Rattle.std.specs.Prelude.{codes, nat_lt, nat_eq, filter}
-use Rattle.std.proofs.lemmas.Bool.{cond-true, cond-false, cases_Bool, lt-ltb, le-ltb, ltb-true, ne_eqb, false≢true}
+use Rattle.std.proofs.lemmas.Bool.{cond-false, cases_Bool, le-ltb, ltb-true}
 use Rattle.std.proofs.lemmas.List.{append-nil, drop_all}
-use Rattle.std.specs.List.{after_first, position_or_len}
+use Rattle.std.specs.List.{position_or_len}
 use Rattle.mailparse.proofs.lemmas.EncodedWord.{any_from_place}
 use Rattle.mailparse.specs.Header.{Header}
 use Rattle.mail_codec.specs.Charset.{Charsets}
 use Rattle.mail_codec.specs.Places.{is_empty}
 use Rattle.mail_data.specs.Bounce.{Delivery, after_block, after_type, block_at, block_length, blocks, deliveries, delivery_in, fields, pieces_within, address_of, text_of, typed_text_of}
 use Rattle.mail_data.specs.Lines.{empty_line, is_empty_line}
-use Rattle.mail_data.proofs.lemmas.Lines.{line_place-passes}
+use Rattle.mail_data.proofs.lemmas.Lines.{line_place-passes, no-bytes, some-bytes}
 
 -- ---- the type of a value
 
@@ -18,19 +18,7 @@ pub after_type-none : (text : List ℕ) → position_or_len (λ b. nat_eq b 59) 
 unfolding after_type
 after_type-none text h = sym (cond-false _ _ _ (any_from_place (λ b. nat_eq b 59) text ∙ le-ltb _ _ (omega arith)))
 
-pub after_type-some : (text rest : List ℕ) → position_or_len (λ b. nat_eq b 59) text < length text → rest ≡ after_first (λ b. nat_eq b 59) text → rest ≡ after_type text
-unfolding after_type
-after_type-some text rest h e = e ∙ sym (cond-true _ _ _ (any_from_place (λ b. nat_eq b 59) text ∙ lt-ltb _ _ h))
-
 -- ---- the blocks
-
-some_bytes : (bytes : List ℕ) (r : Bool) → r ≡ nat_eq (length bytes) 0 → r ≡ false → 0 < length bytes
-some_bytes [] r is e = absurd (false≢true (sym e ∙ is))
-some_bytes (b ∷ bytes) r is e = omega arith
-
-no_bytes : (bytes : List ℕ) (r : Bool) → r ≡ nat_eq (length bytes) 0 → r ≡ true → length bytes ≡ 0
-no_bytes [] r is e = refl
-no_bytes (b ∷ bytes) r is e = absurd (false≢true (sym (ne_eqb (length (b ∷ bytes)) 0 (λ n. absurd (omega arith))) ∙ sym is ∙ e))
 
 -- each piece takes some bytes
 some_taken : (bytes : List ℕ) → 0 < length bytes → block_length bytes ≡ 0 → 0 < empty_line (drop (block_length bytes) bytes)
@@ -62,11 +50,6 @@ pieces-enough (suc n) (suc m) (c ∷ bytes) a b =
 abbrev pub if_some : List ℕ → List (List ℕ)
 if_some block = filter (λ b. not (is_empty b)) (block ∷ [])
 
-pub blocks-none : (bytes : List ℕ) → length bytes ≡ 0 → blocks bytes ≡ []
-unfolding blocks
-blocks-none [] e = refl
-blocks-none (b ∷ bytes) e = absurd (omega arith)
-
 one_more : (block : List ℕ) (ps : List (List ℕ)) → filter (λ b. not (is_empty b)) (block ∷ ps) ≡ if_some block ++ filter (λ b. not (is_empty b)) ps
 one_more [] ps = refl
 one_more (b ∷ block) ps = refl
@@ -83,15 +66,15 @@ blocks-next (b ∷ bytes) some =
 -- ---- the blocks so far, and those of the rest
 
 pub blocks-shorter : (rest after : List ℕ) (r : Bool) → r ≡ nat_eq (length rest) 0 → r ≡ false → after ≡ after_block rest → length after < length rest
-blocks-shorter rest after r is some e = let less = after_block-shorter rest (some_bytes rest r is some) in omega (arith, ap length e, less)
+blocks-shorter rest after r is some e = let less = after_block-shorter rest (some-bytes rest r is some) in omega (arith, ap length e, less)
 
 pub blocks-pushed : (rest block after : List ℕ) (found new all : List (List ℕ)) (r s : Bool) → r ≡ nat_eq (length rest) 0 → r ≡ false → block ≡ block_at rest
     → after ≡ after_block rest → s ≡ nat_eq (length block) 0 → s ≡ false → new ≡ found ++ block ∷ [] → found ++ blocks rest ≡ all → new ++ blocks after ≡ all
 blocks-pushed rest block after found new all r s is some here next is_block some_block push before =
     ap (λ (l : List (List ℕ)). l ++ blocks after) push ∙ append_assoc found (block ∷ []) (blocks after)
-    ∙ ap (λ (l : List (List ℕ)). found ++ (l ++ blocks after)) (sym (kept block (some_bytes block s is_block some_block)))
+    ∙ ap (λ (l : List (List ℕ)). found ++ (l ++ blocks after)) (sym (kept block (some-bytes block s is_block some_block)))
     ∙ ap (λ (b : List ℕ). found ++ (if_some b ++ blocks after)) here ∙ ap (λ (b : List ℕ). found ++ (if_some (block_at rest) ++ blocks b)) next
-    ∙ ap (λ (l : List (List ℕ)). found ++ l) (sym (blocks-next rest (some_bytes rest r is some))) ∙ before
+    ∙ ap (λ (l : List (List ℕ)). found ++ l) (sym (blocks-next rest (some-bytes rest r is some))) ∙ before
   where
     kept : (block : List ℕ) → 0 < length block → if_some block ≡ block ∷ []
     kept [] low = absurd (omega arith)
@@ -100,17 +83,13 @@ blocks-pushed rest block after found new all r s is some here next is_block some
 pub blocks-passed : (rest block after : List ℕ) (found all : List (List ℕ)) (r s : Bool) → r ≡ nat_eq (length rest) 0 → r ≡ false → block ≡ block_at rest
     → after ≡ after_block rest → s ≡ nat_eq (length block) 0 → s ≡ true → found ++ blocks rest ≡ all → found ++ blocks after ≡ all
 blocks-passed rest block after found all r s is some here next is_block no_block before =
-    ap (λ (l : List (List ℕ)). found ++ (l ++ blocks after)) (sym (left block (no_bytes block s is_block no_block)))
+    ap (λ (l : List (List ℕ)). found ++ (l ++ blocks after)) (sym (ap if_some (no-bytes block s is_block no_block)))
     ∙ ap (λ (b : List ℕ). found ++ (if_some b ++ blocks after)) here ∙ ap (λ (b : List ℕ). found ++ (if_some (block_at rest) ++ blocks b)) next
-    ∙ ap (λ (l : List (List ℕ)). found ++ l) (sym (blocks-next rest (some_bytes rest r is some))) ∙ before
-  where
-    left : (block : List ℕ) → length block ≡ 0 → if_some block ≡ []
-    left [] e = refl
-    left (b ∷ block) e = absurd (omega arith)
+    ∙ ap (λ (l : List (List ℕ)). found ++ l) (sym (blocks-next rest (some-bytes rest r is some))) ∙ before
 
 pub blocks-end : (rest : List ℕ) (found all : List (List ℕ)) (r : Bool) → r ≡ nat_eq (length rest) 0 → r ≡ true → found ++ blocks rest ≡ all → found ≡ all
-blocks-end rest found all r is none before =
-    sym (append-nil found) ∙ ap (λ (l : List (List ℕ)). found ++ l) (sym (blocks-none rest (no_bytes rest r is none))) ∙ before
+unfolding blocks
+blocks-end rest found all r is none before = sym (append-nil found) ∙ ap (λ (b : List ℕ). found ++ blocks b) (sym (no-bytes rest r is none)) ∙ before
 
 -- ---- what the fields say
 
@@ -121,11 +100,6 @@ pub delivery-is : (known : Charsets) (headers : List Header) (final original act
 delivery-is known headers final original action status code a b c d e = rw (a, b, c, d, e) refl
 
 -- ---- the recipients
-
-pub deliveries-none : (known : Charsets) (status : List ℕ) (items : List (Bor (List ℕ))) → map (λ (b : Bor (List ℕ)). b.now) items ≡ blocks status → length items ≡ 0 → [] ≡ deliveries known status
-unfolding deliveries
-deliveries-none known status [] is none = ap (λ (l : List (List ℕ)). map (λ block. delivery_in known (fields block)) (drop 1 l)) is
-deliveries-none known status (b ∷ items) is none = absurd (omega arith)
 
 pub deliveries-some : (known : Charsets) (status : List ℕ) (items : List (Bor (List ℕ))) (first : Bor (List ℕ)) (others : List (Bor (List ℕ))) (found : List Delivery)
     → map (λ (b : Bor (List ℕ)). b.now) items ≡ blocks status → items ≡ first ∷ others → found ≡ map (λ (b : Bor (List ℕ)). delivery_in known (fields b.now)) others → found ≡ deliveries known status

@@ -1,19 +1,19 @@
 -- Lemmas on a counted mail that was read with what decides where it ends: it stays the same whatever follows.
-use Rattle.std.proofs.Common.{◌≡◌, ℕ, suc, ◌+◌, ◌-◌, ◌<◌, ◌≤◌, Bool, true, false, cond, List, [], ◌∷◌, ◌++◌, ◌&&◌, ◌||◌, Option, Some, None, length, take, drop, refl, sym, ap, subst, ◌∙◌, arith, length-append, length-drop, inl, inr}
-use Rattle.std.specs.Prelude.{◌==◌, nat_eq, nat_le, nat_lt, option_and_then}
+use Rattle.std.proofs.Common.{◌≡◌, ℕ, ◌+◌, ◌<◌, ◌≤◌, Bool, true, false, cond, List, [], ◌∷◌, ◌++◌, ◌&&◌, ◌||◌, Option, Some, None, length, take, drop, refl, sym, ap, subst, ◌∙◌, arith, length-append, length-drop, inl, inr}
+use Rattle.std.specs.Prelude.{nat_eq, nat_le, nat_lt, option_and_then}
 use Rattle.std.specs.Option.{unwrap_or}
-use Rattle.std.proofs.lemmas.Bool.{and_left, and_parts, cases_Bool, cases_lt, cond-false, cond-true, false≢true, le-leb, le-ltb, ltb-true}
+use Rattle.std.proofs.lemmas.Bool.{and_left, and_parts, cases_lt, false≢true, le-leb, lt-leb, ltb-true, or_cases}
 use Rattle.std.proofs.lemmas.List.{drop-append-le, length-take, take-append-le}
-use Rattle.mail_codec.specs.Places.{begins, first_place, is_empty}
+use Rattle.mail_codec.specs.Places.{is_empty}
 use Rattle.mail_codec.proofs.lemmas.Places.{least-before, least-is, least-passes}
-use Rattle.mail_data.specs.CountedMails.{after_counted, block_length, block_place, content_length, counted, counted_at, counted_from, counted_length, counted_place, is_count_known, is_known, is_place_known, is_short_separator, may_end, next_counted, settled_counted}
+use Rattle.mail_data.specs.CountedMails.{block_length, block_place, content_length, counted_length, counted_place, is_count_known, is_known, is_place_known, is_short_separator, may_end, settled_counted}
 use Rattle.mail_data.specs.Lines.{after_empty_line, after_line, empty_line, is_empty_line, line_length, line_place, starts_line}
-use Rattle.mail_data.specs.Mailbox.{Entry, is_before_text, mail_length, next_entry}
+use Rattle.mail_data.specs.Mailbox.{Entry, after_by, is_before_text, mail_length, next_by, next_entry}
 use Rattle.mail_data.specs.Separator.{is_separator}
-use Rattle.mail_data.proofs.lemmas.CountedMails.{counted_from-some, leb-false_from}
-use Rattle.mail_data.proofs.lemmas.Lines.{is_line, line_length-some_bytes}
-use Rattle.mail_data.proofs.lemmas.Mailbox.{front_length-none, mail_length-≤, stands-some}
-use Rattle.mail_data.proofs.lemmas.MailboxFound.{found, separator-stays}
+use Rattle.mail_data.proofs.lemmas.Lines.{first_place-more, has_feed, is_line, line_length-more, line_length-some_bytes, starts-stays}
+use Rattle.mail_data.proofs.lemmas.Mailbox.{mail_length-≤, mails, stands-some}
+use Rattle.mail_data.proofs.lemmas.MailboxFound.{before-text, found, separator-stays, settled-by}
+use Rattle.mail_data.proofs.lemmas.MailboxJoined.{Joined, Stays, drop-joined, joined-by}
 
 -- ---- lines, whatever follows
 
@@ -34,33 +34,6 @@ empty_line-here (a ∷ []) more h = go (nat_eq 10 a) (nat_eq 13 a) _ h
     go false false m h = absurd (false≢true h)
 empty_line-here (a ∷ b ∷ rest) more h = refl
 
-begins-stays : (rest more : List ℕ) → 0 < length rest → begins (λ b. b == 10) (rest ++ more) ≡ begins (λ b. b == 10) rest
-begins-stays [] more some = absurd (omega arith)
-begins-stays (b ∷ rest) more some = refl
-
-first_place-more : (bytes more : List ℕ)
-    → (first_place (begins (λ b. b == 10)) bytes ≤ first_place (begins (λ b. b == 10)) (bytes ++ more))
-    × (first_place (begins (λ b. b == 10)) bytes < length bytes → first_place (begins (λ b. b == 10)) (bytes ++ more) ≡ first_place (begins (λ b. b == 10)) bytes)
-first_place-more [] more = (omega arith, λ low. absurd (omega arith))
-first_place-more (b ∷ bytes) more =
-    let later = first_place-more bytes more in
-    let f = first_place (begins (λ b. b == 10)) bytes in
-    let g = first_place (begins (λ b. b == 10)) (bytes ++ more) in
-    let grows = later.0 in
-    elim (b == 10) as (λ t. (cond t 0 (suc f) ≤ cond t 0 (suc g)) × (cond t 0 (suc f) < length (b ∷ bytes) → cond t 0 (suc g) ≡ cond t 0 (suc f))) [
-      | true ↦ (omega arith, λ low. refl)
-      | false ↦ (omega arith, λ low. ap suc (later.1 (omega arith)))
-    ]
-
-line_length-stays : (bytes more : List ℕ) → line_length bytes < length bytes → line_length (bytes ++ more) ≡ line_length bytes
-unfolding line_length
-line_length-stays bytes more low =
-    let f = first_place (begins (λ b. b == 10)) bytes in
-    let within : f < length bytes = omega arith in
-    let same = (first_place-more bytes more).1 within in
-    let all = length-append bytes more in
-    omega arith
-
 line_length-grows : (bytes more : List ℕ) → line_length bytes ≤ line_length (bytes ++ more)
 unfolding line_length
 line_length-grows bytes more =
@@ -68,17 +41,7 @@ line_length-grows bytes more =
     let all = length-append bytes more in
     omega arith
 
-line_length-≤ : (bytes : List ℕ) → line_length bytes ≤ length bytes
-unfolding line_length
-line_length-≤ bytes = omega arith
-
 -- ---- the header block
-
-starts-stays : (mail more : List ℕ) (k : ℕ) → k < length mail → starts_line (mail ++ more) k ≡ starts_line mail k
-starts-stays mail more k low =
-    let size = length-drop (k - 1) mail in
-    ap (λ (r : List ℕ). (k == 0) || begins (λ b. b == 10) r) (drop-append-le (k - 1) mail more (omega arith))
-    ∙ ap (λ (t : Bool). (k == 0) || t) (begins-stays (drop (k - 1) mail) more (omega arith))
 
 block-stays : (mail more : List ℕ) → block_place mail < length mail
     → (block_place (mail ++ more) ≡ block_place mail) × (block_length (mail ++ more) ≡ block_length mail)
@@ -110,35 +73,31 @@ unfolding is_known
 known-some bytes h =
     let after = after_empty_line bytes in
     let size = length-drop (empty_line bytes) bytes in
-    elim (cases_lt 1000 (length after)) [
-      | inl many ↦ (omega arith, omega arith)
-      | inr few ↦
-          let line = ltb-true (line_length after) (length after) (second (nat_lt 1000 (length after)) (nat_lt (line_length after) (length after)) (le-ltb 1000 (length after) few) h) in
+    elim (or_cases (nat_lt 1000 (length after)) (nat_lt (line_length after) (length after)) h) [
+      | inl many ↦ let low = ltb-true 1000 (length after) many in (omega arith, omega arith)
+      | inr line ↦
+          let low = ltb-true (line_length after) (length after) line in
           let some = line_length-some_bytes after (omega arith) in
           (omega arith, omega arith)
     ]
-  where
-    second : (x y : Bool) → x ≡ false → (x || y) ≡ true → y ≡ true
-    second true y e h = absurd (cc)
-    second false y e h = h
 
 short-stays : (after more : List ℕ) → (nat_lt 1000 (length after) || nat_lt (line_length after) (length after)) ≡ true
     → is_short_separator (after ++ more) ≡ is_short_separator after
 unfolding is_short_separator
 short-stays after more h = elim (cases_lt (line_length after) (length after)) [
   | inl low ↦
-      ap (λ (n : ℕ). nat_le n 1000 && is_separator (after ++ more)) (line_length-stays after more low)
+      ap (λ (n : ℕ). nat_le n 1000 && is_separator (after ++ more)) (line_length-more after more (has_feed after low))
       ∙ ap (λ (t : Bool). nat_le (line_length after) 1000 && t) (separator-stays after more low)
   | inr all ↦
-      let many = ltb-true 1000 (length after) (first (nat_lt 1000 (length after)) (nat_lt (line_length after) (length after)) (le-ltb (line_length after) (length after) all) h) in
+      let many : 1000 < length after =
+      elim (or_cases (nat_lt 1000 (length after)) (nat_lt (line_length after) (length after)) h) [
+        | inl past ↦ ltb-true 1000 (length after) past
+        | inr low ↦ absurd (let less = ltb-true (line_length after) (length after) low in omega arith)
+      ] in
       let grows = line_length-grows after more in
-      and_left (nat_le (line_length (after ++ more)) 1000) (is_separator (after ++ more)) (leb-false_from (line_length (after ++ more)) 1000 (omega arith))
-      ∙ sym (and_left (nat_le (line_length after) 1000) (is_separator after) (leb-false_from (line_length after) 1000 (omega arith)))
+      and_left (nat_le (line_length (after ++ more)) 1000) (is_separator (after ++ more)) (lt-leb (line_length (after ++ more)) 1000 (omega arith))
+      ∙ sym (and_left (nat_le (line_length after) 1000) (is_separator after) (lt-leb (line_length after) 1000 (omega arith)))
 ]
-  where
-    first : (x y : Bool) → y ≡ false → (x || y) ≡ true → x ≡ true
-    first true y e h = refl
-    first false y e h = absurd (cc)
 
 known-stays : (bytes more : List ℕ) → is_known bytes ≡ true → may_end (bytes ++ more) ≡ may_end bytes
 unfolding may_end is_known
@@ -196,11 +155,6 @@ count-stays mail more h as_any =
 
 -- ---- the mail
 
-record Kept (bytes more : List ℕ) : Type 0 where
-  separator : is_separator (bytes ++ more) ≡ is_separator bytes
-  entry : counted_at (bytes ++ more) ≡ counted_at bytes
-  next : next_counted (bytes ++ more) ≡ next_counted bytes ++ more
-
 mail_length-kept : (bytes more : List ℕ) → after_line (bytes ++ more) ≡ after_line bytes ++ more
     → is_separator (next_entry bytes) ≡ true → line_length (next_entry bytes) < length (next_entry bytes)
     → mail_length (after_line bytes ++ more) ≡ mail_length (after_line bytes)
@@ -215,73 +169,35 @@ mail_length-kept bytes more body marked past =
     let within_all = mail_length-≤ (b ++ more) in
     omega arith
 
-kept : (bytes more : List ℕ) → is_count_known (after_line bytes) ≡ true → is_separator (next_counted bytes) ≡ true
-    → line_length (next_counted bytes) < length (next_counted bytes) → Kept bytes more
+kept : (bytes more : List ℕ) → is_count_known (after_line bytes) ≡ true → is_separator (next_by counted_length bytes) ≡ true
+    → line_length (next_by counted_length bytes) < length (next_by counted_length bytes) → Joined counted_length bytes more
 kept bytes more known marked past =
-    let l = line_length bytes in
     let body = after_line bytes in
-    let n = counted_length body in
-    let rest = after_counted body in
-    let e = empty_line rest in
-    let next = next_counted bytes in
+    let rest = after_by counted_length body in
+    let next = next_by counted_length bytes in
     let some = line_length-some_bytes next (stands-some next marked) in
-    let next_size = length-drop e rest in
-    let rest_size = length-drop n body in
-    let body_size = length-drop l bytes in
-    let low : l < length bytes = omega arith in
-    let line = line_length-stays bytes more low in
-    let body_more : after_line (bytes ++ more) ≡ body ++ more = ap (λ (k : ℕ). drop k (bytes ++ more)) line ∙ drop-append-le l bytes more (omega arith) in
-    let count : counted_length (body ++ more) ≡ n =
+    let next_size = length-drop (empty_line rest) rest in
+    let rest_size = length-drop (counted_length body) body in
+    let body_size = length-drop (line_length bytes) bytes in
+    let low : line_length bytes < length bytes = omega arith in
+    let line : Stays line_length bytes more = record { same = line_length-more bytes more (has_feed bytes low); within = omega arith } in
+    let count =
     count-stays body more known
     (λ same.
     let next_is : next ≡ next_entry bytes = ap (λ (k : ℕ). after_empty_line (drop k body)) same in
-    mail_length-kept bytes more body_more (ap is_separator (sym next_is) ∙ marked) (subst (λ (r : List ℕ). line_length r < length r) next_is past)) in
-    let rest_more : after_counted (body ++ more) ≡ rest ++ more = ap (λ (k : ℕ). drop k (body ++ more)) count ∙ drop-append-le n body more (omega arith) in
-    let end : empty_line (rest ++ more) ≡ e = empty_line-stays rest more (omega arith) in
-    let s : take (line_length (bytes ++ more)) (bytes ++ more) ≡ take l bytes = ap (λ (k : ℕ). take k (bytes ++ more)) line ∙ take-append-le l bytes more (omega arith) in
-    let t : take (counted_length (after_line (bytes ++ more))) (after_line (bytes ++ more)) ≡ take n body =
-    ap (λ (r : List ℕ). take (counted_length r) r) body_more ∙ ap (λ (k : ℕ). take k (body ++ more)) count ∙ take-append-le n body more (omega arith) in
-    let after_more : after_counted (after_line (bytes ++ more)) ≡ rest ++ more = ap after_counted body_more ∙ rest_more in
-    let u : take (empty_line (after_counted (after_line (bytes ++ more)))) (after_counted (after_line (bytes ++ more))) ≡ take e rest =
-    ap (λ (r : List ℕ). take (empty_line r) r) after_more ∙ ap (λ (k : ℕ). take k (rest ++ more)) end ∙ take-append-le e rest more (omega arith) in
-    let same : counted_at (bytes ++ more) ≡ counted_at bytes = λ i. record { separator = s i; mail = t i; ending = u i } in
-    record {
-      separator = separator-stays bytes more low;
-      entry = same;
-      next = ap after_empty_line after_more ∙ ap (λ (k : ℕ). drop k (rest ++ more)) end ∙ drop-append-le e rest more (omega arith);
-    }
+    mail_length-kept bytes more (drop-joined line_length bytes more line) (ap is_separator (sym next_is) ∙ marked) (subst (λ (r : List ℕ). line_length r < length r) next_is past)) in
+    joined-by counted_length bytes more (separator-stays bytes more low) line (record { same = count; within = omega arith })
+    (record { same = empty_line-stays rest more (omega arith); within = omega arith })
 
-counted-here : (bytes : List ℕ) → is_separator bytes ≡ true → counted bytes ≡ counted_from bytes
-counted-here bytes first = ap (λ (n : ℕ). counted_from (drop n bytes)) (sym (front_length-none bytes (sym first)))
-
-settled-first : (bytes more : List ℕ) → is_separator bytes ≡ true → is_count_known (after_line bytes) ≡ true → is_before_text (next_counted bytes) ≡ true
-    → counted (bytes ++ more) ≡ counted_at bytes ∷ counted (next_counted bytes ++ more)
-unfolding is_before_text
-settled-first bytes more first known before =
-    let next = next_counted bytes in
-    let parts = and_parts (is_separator next) (nat_lt (line_length next) (length next)) before in
-    let past = ltb-true (line_length next) (length next) parts.1 in
-    let keeps = kept bytes more known parts.0 past in
-    let whole : is_separator (bytes ++ more) ≡ true = keeps.separator ∙ first in
-    counted-here (bytes ++ more) whole ∙ counted_from-some (bytes ++ more) whole
-    ∙ ap (λ (e : Entry). e ∷ counted_from (next_counted (bytes ++ more))) keeps.entry
-    ∙ ap (λ (r : List ℕ). counted_at bytes ∷ counted_from r) keeps.next
-    ∙ ap (λ (r : List Entry). counted_at bytes ∷ r) (sym (counted-here (next ++ more) (separator-stays next more past ∙ parts.0)))
-
-pub settled-stays : (bytes more rest : List ℕ) (entry : Entry) → settled_counted bytes ≡ Some (entry, rest) → counted (bytes ++ more) ≡ entry ∷ counted (rest ++ more)
+pub settled-stays : (bytes more rest : List ℕ) (entry : Entry) → settled_counted bytes ≡ Some (entry, rest)
+    → mails counted_length (bytes ++ more) ≡ entry ∷ mails counted_length (rest ++ more)
 unfolding settled_counted
 settled-stays bytes more rest entry is =
+    let next = next_by counted_length bytes in
     let known = is_count_known (after_line bytes) in
-    let before = is_before_text (next_counted bytes) in
-    elim (cases_Bool (is_separator bytes && (known && before))) [
-      | inl yes_it_is ↦
-          let parts = and_parts (is_separator bytes) (known && before) yes_it_is in
-          let both = and_parts known before parts.1 in
-          let same : Some (counted_at bytes, next_counted bytes) ≡ Some (entry, rest) = sym (cond-true _ (Some (counted_at bytes, next_counted bytes)) None yes_it_is) ∙ is in
-          let pair : (counted_at bytes, next_counted bytes) ≡ (entry, rest) = cc in
-          settled-first bytes more parts.0 both.0 both.1
-          ∙ ap (λ (p : Entry × List ℕ). p.0 ∷ counted (p.1 ++ more)) pair
-      | inr not_so ↦
-          let none : None ≡ Some (entry, rest) = sym (cond-false _ (Some (counted_at bytes, next_counted bytes)) None not_so) ∙ is in
-          absurd (cc)
-    ]
+    settled-by counted_length bytes more rest entry (is_separator bytes && (known && is_before_text next)) is
+    (λ yes_it_is.
+    let parts = and_parts (is_separator bytes) (known && is_before_text next) yes_it_is in
+    let both = and_parts known (is_before_text next) parts.1 in
+    let before = before-text next both.1 in
+    record { first = parts.0; before = both.1; joined = kept bytes more both.0 before.0 before.1 })

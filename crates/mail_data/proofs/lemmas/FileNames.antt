@@ -1,10 +1,10 @@
 -- Lemmas on safe names of files.
-use Rattle.std.proofs.Common.{◌≡◌, ◌≢◌, ℕ, zero, suc, ◌+◌, ◌-◌, ◌<◌, ◌≤◌, Bool, true, false, not, List, [], ◌∷◌, ◌++◌, ◌||◌, length, take, get_or, map, if◌then◌else◌, refl, sym, ap, ◌∙◌, subst, arith, append_assoc, length-append, inl, inr}
+use Rattle.std.proofs.Common.{◌≡◌, ◌≢◌, ℕ, zero, suc, ◌+◌, ◌-◌, ◌<◌, ◌≤◌, Bool, true, false, not, List, [], ◌∷◌, ◌++◌, ◌||◌, length, take, get_or, map, if◌then◌else◌, refl, sym, ap, ◌∙◌, arith, append_assoc, length-append, inl, inr}
 use Rattle.std.specs.Prelude.{nat_le, nat_lt, codes}
 use Rattle.std.specs.Char.{encode_utf8, len_utf8}
 use Rattle.std.specs.List.{list_all}
 use Rattle.std.specs.Str.{chars, encode_utf8_all, IsUtf8, bytes_eq}
-use Rattle.std.proofs.lemmas.Bool.{cond-true, cond-false, cases_Bool, le-leb, lt-leb, leb-true, leb-false, le-ltb, lt-ltb, ltb-true, ltb-false, and_parts, and_from, or_parts, or_cases, false≢true}
+use Rattle.std.proofs.lemmas.Bool.{cond-true, cond-false, cond_both, cases_Bool, le-leb, lt-leb, leb-true, leb-false, le-ltb, lt-ltb, ltb-true, ltb-false, and_parts, and_from, or_parts, or_cases, not-true, false≢true}
 use Rattle.std.proofs.lemmas.List.{append-nil}
 use Rattle.std.proofs.lemmas.Slice.Eq.{bytes_eq-Decides}
 use Rattle.std.proofs.lemmas.Str.{chars-nil, chars-encodes, chars_past_char, encodes-chars, scalars-chars, length-encode}
@@ -106,25 +106,18 @@ all_safe : List ℕ → Bool
 all_safe cs = list_all (λ c. not (is_unsafe c)) cs
 
 made_safe-safe : (c : ℕ) → not (is_unsafe (made_safe c)) ≡ true
-made_safe-safe c = elim (cases_Bool (is_unsafe c)) [
-  | inl u ↦ ap (λ d. not (is_unsafe d)) (cond-true (is_unsafe c) 95 c u)
-  | inr s ↦ ap (λ d. not (is_unsafe d)) (cond-false (is_unsafe c) 95 c s) ∙ ap not s
-]
+made_safe-safe c = cond_both (is_unsafe c) 95 c (λ d. not (is_unsafe d) ≡ true) (λ unsafe. refl) (λ safe. ap not safe)
 
 front_within-safe : (room : ℕ) (cs : List ℕ) → all_safe (front_within room (map made_safe cs)) ≡ true
 unfolding all_safe
 front_within-safe room [] = refl
-front_within-safe room (c ∷ cs) = elim (cases_Bool (nat_le (len_utf8 (made_safe c)) room)) [
-  | inl f ↦ ap all_safe (cond-true (nat_le (len_utf8 (made_safe c)) room) (made_safe c ∷ front_within (room - len_utf8 (made_safe c)) (map made_safe cs)) [] f)
-      ∙ and_from _ _ (made_safe-safe c) (front_within-safe (room - len_utf8 (made_safe c)) cs)
-  | inr n ↦ ap all_safe (cond-false (nat_le (len_utf8 (made_safe c)) room) (made_safe c ∷ front_within (room - len_utf8 (made_safe c)) (map made_safe cs)) [] n)
-]
+front_within-safe room (c ∷ cs) =
+    let width = len_utf8 (made_safe c) in
+    cond_both (nat_le width room) (made_safe c ∷ front_within (room - width) (map made_safe cs)) [] (λ (ds : List ℕ). all_safe ds ≡ true)
+    (λ fits. and_from _ _ (made_safe-safe c) (front_within-safe (room - width) cs)) (λ full. refl)
 
 made_safe-scalar : (c : ℕ) → scalar c ≡ true → scalar (made_safe c) ≡ true
-made_safe-scalar c h = elim (cases_Bool (is_unsafe c)) [
-  | inl u ↦ ap scalar (cond-true (is_unsafe c) 95 c u)
-  | inr s ↦ ap scalar (cond-false (is_unsafe c) 95 c s) ∙ h
-]
+made_safe-scalar c h = cond_both (is_unsafe c) 95 c (λ d. scalar d ≡ true) (λ unsafe. refl) (λ safe. h)
 
 front_within-scalars : (room : ℕ) (cs : List ℕ) → scalars cs ≡ true → scalars (front_within room (map made_safe cs)) ≡ true
 front_within-scalars room [] h = refl
@@ -132,37 +125,27 @@ front_within-scalars room (c ∷ cs) h =
     let parts = and_parts (scalar c) (scalars cs) h in
     let d = made_safe c in
     let more = front_within (room - len_utf8 d) (map made_safe cs) in
-    elim (cases_Bool (nat_le (len_utf8 d) room)) [
-      | inl f ↦ ap scalars (cond-true (nat_le (len_utf8 d) room) (d ∷ more) [] f)
-          ∙ and_from (scalar d) (scalars more) (made_safe-scalar c parts.0) (front_within-scalars (room - len_utf8 d) cs parts.1)
-      | inr n ↦ ap scalars (cond-false (nat_le (len_utf8 d) room) (d ∷ more) [] n)
-    ]
+    cond_both (nat_le (len_utf8 d) room) (d ∷ more) [] (λ (ds : List ℕ). scalars ds ≡ true)
+    (λ fits. and_from (scalar d) (scalars more) (made_safe-scalar c parts.0) (front_within-scalars (room - len_utf8 d) cs parts.1)) (λ full. refl)
 
 front_within-short : (room : ℕ) (cs : List ℕ) → length (encode_utf8_all (front_within room cs)) ≤ room
 front_within-short room [] = omega arith
 front_within-short room (c ∷ cs) =
     let more = front_within (room - len_utf8 c) cs in
-    elim (cases_Bool (nat_le (len_utf8 c) room)) [
-      | inl f ↦
-          let e = ap (λ (ds : List ℕ). length (encode_utf8_all ds)) (cond-true (nat_le (len_utf8 c) room) (c ∷ more) [] f) in
-          let ih = front_within-short (room - len_utf8 c) cs in
-          let le = leb-true (len_utf8 c) room f in
-          omega (arith, e, ih, le, length-append (encode_utf8 c) (encode_utf8_all more), length-encode c)
-      | inr n ↦ let e = ap (λ (ds : List ℕ). length (encode_utf8_all ds)) (cond-false (nat_le (len_utf8 c) room) (c ∷ more) [] n) in omega (arith, e)
-    ]
+    let later = front_within-short (room - len_utf8 c) cs in
+    let all = length-append (encode_utf8 c) (encode_utf8_all more) in
+    let one = length-encode c in
+    cond_both (nat_le (len_utf8 c) room) (c ∷ more) [] (λ (ds : List ℕ). length (encode_utf8_all ds) ≤ room)
+    (λ fits. let low = leb-true (len_utf8 c) room fits in omega arith) (λ full. omega arith)
 
 -- ---- a name that is safe stays
-
-not_true : (b : Bool) → not b ≡ true → b ≡ false
-not_true true h = absurd (false≢true h)
-not_true false h = refl
 
 made_safe-same : (cs : List ℕ) → all_safe cs ≡ true → map made_safe cs ≡ cs
 unfolding all_safe
 made_safe-same [] h = refl
 made_safe-same (c ∷ cs) h =
     let parts = and_parts (not (is_unsafe c)) (all_safe cs) h in
-    ap (λ (d : ℕ). d ∷ map made_safe cs) (cond-false (is_unsafe c) 95 c (not_true (is_unsafe c) parts.0)) ∙ ap (λ (ds : List ℕ). c ∷ ds) (made_safe-same cs parts.1)
+    ap (λ (d : ℕ). d ∷ map made_safe cs) (cond-false (is_unsafe c) 95 c (not-true (is_unsafe c) parts.0)) ∙ ap (λ (ds : List ℕ). c ∷ ds) (made_safe-same cs parts.1)
 
 front_within-all : (room : ℕ) (cs : List ℕ) → length (encode_utf8_all cs) ≤ room → front_within room cs ≡ cs
 front_within-all room [] h = refl
@@ -208,16 +191,15 @@ not_reserved name h =
 
 pub safe_name-safe : (name : List ℕ) → IsUtf8 name → IsSafeName (safe_name name)
 unfolding safe_name
-safe_name-safe name utf8 = elim (cases_Bool (is_reserved (front_name name))) [
-  | inl r ↦ subst IsSafeName (sym (cond-true (is_reserved (front_name name)) (codes "_") (front_name name) r)) single
-  | inr n ↦ subst IsSafeName (sym (cond-false (is_reserved (front_name name)) (codes "_") (front_name name) n)) (record {
-    some = (not_reserved (front_name name) n).0;
-    not_here = (not_reserved (front_name name) n).1;
-    not_above = (not_reserved (front_name name) n).2;
-    short = front_name-short name;
-    characters = front_name-safe name utf8;
-  })
-]
+safe_name-safe name utf8 =
+    cond_both (is_reserved (front_name name)) (codes "_") (front_name name) IsSafeName (λ reserved. single)
+    (λ free. record {
+      some = (not_reserved (front_name name) free).0;
+      not_here = (not_reserved (front_name name) free).1;
+      not_above = (not_reserved (front_name name) free).2;
+      short = front_name-short name;
+      characters = front_name-safe name utf8;
+    })
 
 front_name-same : (name : List ℕ) → IsUtf8 name → IsSafeName name → front_name name ≡ name
 unfolding all_safe

@@ -1,9 +1,9 @@
 -- Lemmas on the texts of names of files.
-use Rattle.std.proofs.Common.{◌≡◌, ℕ, Bool, true, false, List, length, refl, sym, ap, ◌∙◌, arith}
+use Rattle.std.proofs.Common.{◌≡◌, ℕ, false, List, length, refl, sym, ap, ◌∙◌, arith}
 use Rattle.std.specs.Prelude.{nat_eq}
 use Rattle.std.specs.List.{after_first, list_any, position_or_len}
 use Rattle.std.specs.Str.{IsUtf8, is_utf8}
-use Rattle.std.proofs.lemmas.Bool.{cond-false, le-ltb}
+use Rattle.std.proofs.lemmas.Bool.{cond-false, false_from_ne_true, le-ltb}
 use Rattle.std.proofs.lemmas.Str.{IsUtf8-from_is_utf8, is_utf8-from_IsUtf8}
 use Rattle.mail_codec.specs.Charset.{text_of}
 use Rattle.mail_codec.specs.declared.charset.built_in.Charset.TheVariants.{Windows1252}
@@ -22,11 +22,7 @@ unfolding text_of_octets
 octets-utf8 bytes some = rw (is_utf8-from_IsUtf8 bytes some) refl
 
 pub is_utf8-false : (bytes : List ℕ) → (IsUtf8 bytes → ⊥) → is_utf8 bytes ≡ false
-is_utf8-false bytes none = by_test (is_utf8 bytes) refl
-  where
-    by_test : (v : Bool) → is_utf8 bytes ≡ v → is_utf8 bytes ≡ false
-    by_test true e = absurd (none (IsUtf8-from_is_utf8 bytes e))
-    by_test false e = e
+is_utf8-false bytes none = false_from_ne_true (is_utf8 bytes) (λ e. none (IsUtf8-from_is_utf8 bytes e))
 
 pub octets-other : (bytes : List ℕ) → (IsUtf8 bytes → ⊥) → text_of Windows1252 bytes ≡ text_of_octets bytes
 unfolding text_of_octets

@@ -1,10 +1,9 @@
 -- Lemmas on the files of a mail.
-use Rattle.std.proofs.Common.{◌≡◌, ℕ, suc, Bool, true, false, eqb, List, [], ◌∷◌, ◌++◌, ◌&&◌, length, map, Ok, refl, sym, ap, ◌∙◌, arith}
-use Rattle.std.proofs.lemmas.Bool.{cond-true, cond-false, ne_eqb, and_left}
+use Rattle.std.proofs.Common.{◌≡◌, ℕ, Bool, true, false, eqb, List, [], ◌∷◌, ◌&&◌, length, map, Ok, refl, sym, ap, ◌∙◌, arith}
+use Rattle.std.proofs.lemmas.Bool.{ne_eqb, and_left}
 use Rattle.std.proofs.lemmas.List.{length-map}
-use Rattle.std.proofs.lemmas.List.Elements.{filter-append}
 use Rattle.mail_codec.specs.Charset.{Charsets}
-use Rattle.mailparse.specs.Mail.{Node, Tree, Forest, tree, part_and, root, forest, shown_as_in}
+use Rattle.mailparse.specs.Mail.{Node, Tree, Forest, tree, root, forest, shown_as_in}
 use Rattle.mailparse.specs.Views.{content_type, tree_of, tree_step}
 use Rattle.mailparse.specs.declared.mail.message.ParsedMail.{ParsedMail}
 use Rattle.mailparse.specs.declared.mail.message.ParsedMail.TheViews.{out-ParsedMail}
@@ -12,7 +11,7 @@ use Rattle.mailparse.specs.declared.mail.message.ParsedMail.TheFolds.{fold_out-P
 use Rattle.mailparse.specs.ContentType.{ContentType}
 use Rattle.mailparse.specs.Disposition.{Disposition}
 use Rattle.mailparse.specs.Refusal.{Reads}
-use Rattle.mail_data.specs.Files.{describes_attachment, files_among, is_leaf, is_attachment_in, path_under, with_paths, parts_with_paths, attachments_under}
+use Rattle.mail_data.specs.Files.{describes_attachment, files_among, is_leaf, is_attachment_in, parts_with_paths}
 
 leaf-forest : (node : Node) (ts : List Tree) → is_leaf (tree node (forest ts)) ≡ eqb (length ts) 0
 leaf-forest node [] = refl
@@ -35,44 +34,17 @@ pub is_attachment-parts : (known : Charsets) (t : Tree) → false ≡ is_leaf t 
 unfolding is_attachment_in
 is_attachment-parts known t e = and_left (is_leaf t) (describes_attachment (shown_as_in known (root t)) (root t).ctype) (sym e)
 
-shown-is : (d e : Disposition) → ◌≡◌ {A = Reads Disposition} (Ok d) (Ok e) → d ≡ e
-shown-is d e h = cc
-
 -- where there are no parts, the disposition and the type tell
 pub is_attachment-leaf : (known : Charsets) (t : Tree) (d : Disposition) (ctype : ContentType) (r : Bool) → true ≡ is_leaf t
     → ◌≡◌ {A = Reads Disposition} (Ok (shown_as_in known (root t))) (Ok d) → ctype ≡ (root t).ctype → r ≡ describes_attachment d ctype → is_attachment_in known t ≡ r
 unfolding is_attachment_in
 is_attachment-leaf known t d ctype r leaf shown same e =
+    let disposition : shown_as_in known (root t) ≡ d = cc in
     ap (λ b. b && describes_attachment (shown_as_in known (root t)) (root t).ctype) (sym leaf)
-    ∙ ap (λ (x : Disposition). describes_attachment x (root t).ctype) (shown-is (shown_as_in known (root t)) d shown) ∙ ap (describes_attachment d) (sym same) ∙ sym e
+    ∙ ap (λ (x : Disposition). describes_attachment x (root t).ctype) disposition ∙ ap (describes_attachment d) (sym same) ∙ sym e
 
 -- ---- the files of a message and its parts
 
 -- the files of parts that are numbered from there on
 abbrev pub files_in : Charsets → List ℕ → ℕ → Forest → List (List ℕ × Tree)
 files_in known path number parts = files_among known (parts_with_paths path number parts)
-
--- the message itself, if it is a file
-abbrev pub own_file : Charsets → List ℕ → Tree → List (List ℕ × Tree)
-own_file known path t = files_among known ((path, t) ∷ [])
-
-attachments-tree : (known : Charsets) (path : List ℕ) (node : Node) (parts : Forest) → attachments_under known path (tree node parts) ≡ own_file known path (tree node parts) ++ files_in known path 1 parts
-attachments-tree known path node parts = filter-append (λ (p : List ℕ × Tree). is_attachment_in known p.1) ((path, tree node parts) ∷ []) (parts_with_paths path 1 parts)
-
-pub attachments-out : (known : Charsets) (path : List ℕ) (m : ParsedMail)
-    → attachments_under known path (tree_of m) ≡ own_file known path (tree_of m) ++ files_in known path 1 (forest (map tree_of (out-ParsedMail m).subparts.items))
-attachments-out known path m =
-    let e = fold_out-ParsedMail Tree tree_step m in
-    ap (attachments_under known path) e ∙ attachments-tree known path _ (forest (map tree_of (out-ParsedMail m).subparts.items))
-    ∙ ap (λ (t : Tree). own_file known path t ++ files_in known path 1 (forest (map tree_of (out-ParsedMail m).subparts.items))) (sym e)
-
-pub own_file-true : (known : Charsets) (path : List ℕ) (t : Tree) → true ≡ is_attachment_in known t → own_file known path t ≡ (path, t) ∷ []
-own_file-true known path t e = cond-true (is_attachment_in known t) _ _ (sym e)
-
-pub own_file-false : (known : Charsets) (path : List ℕ) (t : Tree) → false ≡ is_attachment_in known t → own_file known path t ≡ []
-own_file-false known path t e = cond-false (is_attachment_in known t) _ _ (sym e)
-
--- the files of the first part, and then those of the others
-pub files_in-cons : (known : Charsets) (path : List ℕ) (number : ℕ) (t : Tree) (ts : Forest)
-    → files_in known path number (part_and t ts) ≡ attachments_under known (path_under path number) t ++ files_in known path (suc number) ts
-files_in-cons known path number t ts = filter-append (λ (p : List ℕ × Tree). is_attachment_in known p.1) (with_paths (path_under path number) t) (parts_with_paths path (suc number) ts)

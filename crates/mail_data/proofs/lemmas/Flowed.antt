@@ -1,15 +1,10 @@
 -- Lemmas on texts whose paragraphs flow over lines.
-use Rattle.std.proofs.Common.{◌≡◌, ◌≢◌, ℕ, zero, suc, ◌+◌, ◌-◌, ◌<◌, Bool, true, false, cond, eqb, List, [], ◌∷◌, ◌++◌, length, length-drop, take, drop, map, refl, sym, ap, ◌∙◌, arith, append_assoc, inl, inr}
-use Rattle.std.specs.Prelude.{flat_map, replicate, nat_eq, not, codes, ◌==◌, Ok}
+use Rattle.std.proofs.Common.{◌≡◌, ◌≢◌, ℕ, suc, ◌+◌, ◌<◌, Bool, true, false, cond, eqb, List, [], ◌∷◌, ◌++◌, length, take, drop, map, refl, sym, ap, ◌∙◌, arith, append_assoc, inl, inr}
+use Rattle.std.specs.Prelude.{flat_map, not, ◌==◌}
 use Rattle.std.specs.List.{after_first, before_first, position_or_len}
-use Rattle.std.proofs.lemmas.Bool.{cases_Bool, cond-true, cond-false, eqb-true, eq-eqb, ne_eqb, false≢true}
-use Rattle.std.proofs.lemmas.List.{append-nil, drop-drop}
-use Rattle.mail_codec.specs.Charset.{Charsets}
-use Rattle.mailparse.specs.ContentType.{ContentType}
-use Rattle.mailparse.specs.Mail.{Node}
-use Rattle.mailparse.specs.Refusal.{Reads}
-use Rattle.mail_data.specs.lenient.Texts.{BodyText, body_text}
-use Rattle.mail_data.specs.Flowed.{Line, Paragraph, between, ends_in, flowed_text, gap, goes_on, has_flowed_text, is_flowed, last_ending, line_of, line_with, marks, paragraph_text, paragraphs, pieces, quote_depth, says, shown, unflowed, unflowed_of, unstuffed, with_front, with_line, without_last, without_space}
+use Rattle.std.proofs.lemmas.Bool.{cases_Bool, cond-true, cond-false, eqb-true, eq-eqb}
+use Rattle.std.proofs.lemmas.List.{append-nil}
+use Rattle.mail_data.specs.Flowed.{Line, Paragraph, between, ends_in, goes_on, last_ending, line_of, line_with, marks, paragraph_text, paragraphs, pieces, quote_depth, shown, unflowed, unstuffed, with_front, with_line, without_last, without_space}
 
 -- ---- the ends of a text
 
@@ -53,9 +48,6 @@ without_space-none text h = sym (cond-false (ends_in 32 text) (without_last text
 
 -- ---- quote marks
 
-pub depth-some : (text rest : List ℕ) → text ≡ 62 ∷ rest → quote_depth text ≡ suc (quote_depth rest)
-depth-some text rest e = let one : 1 + quote_depth rest ≡ suc (quote_depth rest) = omega arith in ap quote_depth e ∙ one
-
 pub depth-none : (text : List ℕ) → ((rest : List ℕ) → text ≢ 62 ∷ rest) → quote_depth text ≡ 0
 depth-none [] h = refl
 depth-none (b ∷ rest) h = elim (cases_Bool (b == 62)) [
@@ -63,14 +55,8 @@ depth-none (b ∷ rest) h = elim (cases_Bool (b == 62)) [
   | inr n ↦ cond-false (b == 62) (1 + quote_depth rest) 0 n
 ]
 
-pub left-next : (whole rest after : List ℕ) (depth : ℕ) → rest ≡ drop depth whole → rest ≡ 62 ∷ after → after ≡ drop (depth + 1) whole
-left-next whole rest after depth left e = ap (drop 1) (sym e ∙ left) ∙ drop-drop 1 depth whole
-
-pub marks-more : (old new whole : List ℕ) (left : ℕ) → 0 < left → new ≡ old ++ 62 ∷ [] → old ++ replicate left 62 ≡ whole → new ++ replicate (left - 1) 62 ≡ whole
-marks-more old new whole zero low made all = absurd (omega arith)
-marks-more old new whole (suc left) low made all =
-    let one : suc left - 1 ≡ left = omega arith in
-    ap (λ n. new ++ replicate n 62) one ∙ ap (λ (l : List ℕ). l ++ replicate left 62) made ∙ append_assoc old (62 ∷ []) (replicate left 62) ∙ all
+pub marks-depth : (whole rest : List ℕ) (depth : ℕ) → depth + quote_depth rest ≡ quote_depth whole → quote_depth rest ≡ 0 → depth ≡ quote_depth whole
+marks-depth whole rest depth count none = omega (arith, count, none)
 
 -- ---- the lines of a text
 
@@ -86,23 +72,18 @@ feed-later b rest n =
     let one : 1 + position_or_len is_feed rest ≡ suc (position_or_len is_feed rest) = omega arith in
     ap (λ (t : Bool). cond (not t) (1 + position_or_len is_feed rest) 0) n ∙ one
 
-front-none : (b : ℕ) (rest : List ℕ) → position_or_len is_feed rest ≡ length rest → with_front b (pieces rest) ≡ (b ∷ rest, []) ∷ []
-front-none b [] none = refl
-front-none b (c ∷ rest) none = elim (cases_Bool (eqb c 10)) [
-  | inl e ↦ let at = feed-first c rest e in absurd (omega (arith, at, none))
-  | inr n ↦
-      let at = feed-later c rest n in
-      ap (with_front b) (cond-false (eqb c 10) (([], c ∷ []) ∷ pieces rest) (with_front c (pieces rest)) n ∙ front-none c rest (omega (arith, at, none)))
-]
-
 pieces-none : (text : List ℕ) → 0 < length text → position_or_len is_feed text ≡ length text → pieces text ≡ (text, []) ∷ []
 pieces-none [] some none = absurd (omega arith)
 pieces-none (b ∷ rest) some none = elim (cases_Bool (eqb b 10)) [
   | inl e ↦ let at = feed-first b rest e in absurd (omega (arith, at, none))
   | inr n ↦
       let at = feed-later b rest n in
-      cond-false (eqb b 10) (([], b ∷ []) ∷ pieces rest) (with_front b (pieces rest)) n ∙ front-none b rest (omega (arith, at, none))
+      cond-false (eqb b 10) (([], b ∷ []) ∷ pieces rest) (with_front b (pieces rest)) n ∙ front b rest (λ more. pieces-none rest more (omega (arith, at, none)))
 ]
+  where
+    front : (b : ℕ) (rest : List ℕ) → (0 < length rest → pieces rest ≡ (rest, []) ∷ []) → with_front b (pieces rest) ≡ (b ∷ rest, []) ∷ []
+    front b [] later = refl
+    front b (c ∷ rest) later = ap (with_front b) (later (omega arith))
 
 pieces-some : (text : List ℕ) → position_or_len is_feed text < length text
     → pieces text ≡ (before_first is_feed text, 10 ∷ []) ∷ pieces (after_first is_feed text)
@@ -142,12 +123,6 @@ line-return line front ends =
 
 pub line-feed : (line : List ℕ) → ((front : List ℕ) → line ≢ front ++ 13 ∷ []) → line_with line (10 ∷ []) ≡ line_of (line, 10 ∷ [])
 line-feed line ends = sym (cond-false (ends_in 13 line) (line_with (without_last line) (13 ∷ 10 ∷ [])) (line_with line (10 ∷ [])) (ends-none 13 line ends))
-
-pub cut-shorter : (text rest : List ℕ) → position_or_len is_feed text < length text → rest ≡ after_first is_feed text → length rest < length text
-cut-shorter text rest low after =
-    let size = length-drop (position_or_len is_feed text + 1) text in
-    let same = ap length after in
-    omega arith
 
 -- ---- paragraphs
 
@@ -217,84 +192,3 @@ pub unflowed-start : (deletes : Bool) (text joined : List ℕ) → joined ≡ []
 unfolding unflowed
 unflowed-start deletes text joined none =
     ap (λ (t : List ℕ). t ++ text_after deletes nothing (map line_of (pieces text))) none ∙ all-text deletes (map line_of (pieces text))
-
-pub unflowed-next : (deletes : Bool) (before line : Line) (rest after joined mid new all : List ℕ) → map line_of (pieces rest) ≡ line ∷ map line_of (pieces after)
-    → mid ≡ joined ++ between before line → new ≡ mid ++ shown deletes line
-    → joined ++ text_after deletes before (map line_of (pieces rest)) ≡ all → new ++ text_after deletes line (map line_of (pieces after)) ≡ all
-unflowed-next deletes before line rest after joined mid new all cut one two here =
-    let left = text_after deletes line (map line_of (pieces after)) in
-    ap (λ (t : List ℕ). t ++ left) (two ∙ ap (λ (t : List ℕ). t ++ shown deletes line) one)
-    ∙ append_assoc (joined ++ between before line) (shown deletes line) left ∙ append_assoc joined (between before line) (shown deletes line ++ left)
-    ∙ ap (λ (ls : List Line). joined ++ text_after deletes before ls) (sym cut) ∙ here
-
-pub unflowed-end : (deletes : Bool) (before : Line) (rest joined new all : List ℕ) → rest ≡ [] → new ≡ joined ++ before.ending
-    → joined ++ text_after deletes before (map line_of (pieces rest)) ≡ all → new ≡ all
-unflowed-end deletes before rest joined new all none made here =
-    made ∙ ap (λ (r : List ℕ). joined ++ text_after deletes before (map line_of (pieces r))) (sym none) ∙ here
-
--- ---- steps
-
-pub some-bytes : (rest : List ℕ) (r : Bool) → r ≡ nat_eq (length rest) 0 → r ≡ false → 0 < length rest
-some-bytes rest r is fails = let some : (length rest == 0) ≡ false = sym is ∙ fails in grind (arith, some)
-
-pub no-bytes : (rest : List ℕ) (r : Bool) → r ≡ nat_eq (length rest) 0 → r ≡ true → rest ≡ []
-no-bytes [] r is holds = refl
-no-bytes (b ∷ rest) r is holds = absurd (false≢true (sym (ne_eqb (length (b ∷ rest)) 0 (λ n. absurd (omega arith))) ∙ sym is ∙ holds))
-
-pub marks-depth : (whole rest : List ℕ) (depth : ℕ) → depth + quote_depth rest ≡ quote_depth whole → quote_depth rest ≡ 0 → depth ≡ quote_depth whole
-marks-depth whole rest depth count none = omega (arith, count, none)
-
-pub marks-end : (old whole : List ℕ) (left : ℕ) → left ≡ 0 → old ++ replicate left 62 ≡ whole → old ≡ whole
-marks-end old whole left none all = sym (append-nil old) ∙ ap (λ (n : ℕ). old ++ replicate n 62) (sym none) ∙ all
-
-pub between-same : (line next : Line) (old : List ℕ) (is : Bool) → is ≡ goes_on line next → is ≡ true → old ≡ old ++ between line next
-between-same line next old is e holds =
-    sym (ap (λ (t : List ℕ). old ++ t) (cond-true (goes_on line next) [] (line.ending ++ marks next) (sym e ∙ holds)) ∙ append-nil old)
-
-pub between-new : (line next : Line) (old one two three space : List ℕ) (is : Bool) → is ≡ goes_on line next → is ≡ false → one ≡ old ++ line.ending
-    → two ≡ one ++ replicate next.depth 62 → three ≡ two ++ space → space ≡ gap next → three ≡ old ++ between line next
-between-new line next old one two three space is e fails first second third same =
-    third ∙ ap (λ (t : List ℕ). t ++ space) (second ∙ ap (λ (t : List ℕ). t ++ replicate next.depth 62) first)
-    ∙ ap (λ (t : List ℕ). old ++ line.ending ++ replicate next.depth 62 ++ t) same
-    ∙ append_assoc (old ++ line.ending) (replicate next.depth 62) (gap next) ∙ append_assoc old line.ending (marks next)
-    ∙ ap (λ (t : List ℕ). old ++ t) (sym (cond-false (goes_on line next) [] (line.ending ++ marks next) (sym e ∙ fails)))
-
-pub shown-kept : (deletes : Bool) (line : Line) → deletes ≡ false → line.content ≡ shown deletes line
-shown-kept deletes line e = ap (λ (d : Bool). shown d line) (sym e)
-
-pub shown-fixed : (deletes : Bool) (line : Line) (is : Bool) → is ≡ is_flowed line → is ≡ false → line.content ≡ shown deletes line
-shown-fixed true line is e fails = sym (cond-false (is_flowed line) (without_space line.content) line.content (sym e ∙ fails))
-shown-fixed false line is e fails = refl
-
-pub shown-flowed : (deletes : Bool) (line : Line) (text : List ℕ) (is : Bool) → deletes ≡ true → is ≡ is_flowed line → is ≡ true
-    → text ≡ without_space line.content → text ≡ shown deletes line
-shown-flowed true line text is d e holds made =
-    made ∙ sym (cond-true (is_flowed line) (without_space line.content) line.content (sym e ∙ holds))
-shown-flowed false line text is d e holds made = absurd (false≢true d)
-
--- ---- the text of a part
-
-pub flowed-not : (ctype : ContentType) (text : List ℕ) (is : Bool) → is ≡ has_flowed_text ctype → is ≡ false → text ≡ unflowed_of ctype text
-flowed-not ctype text is e fails =
-    sym (cond-false (has_flowed_text ctype) (unflowed (says (codes "delsp") (codes "yes") ctype) text) text (sym e ∙ fails))
-
-pub flowed-is : (ctype : ContentType) (text slice joined : List ℕ) (is deletes : Bool) → is ≡ has_flowed_text ctype → is ≡ true → slice ≡ text
-    → deletes ≡ says (codes "delsp") (codes "yes") ctype → joined ≡ unflowed deletes slice → joined ≡ unflowed_of ctype text
-flowed-is ctype text slice joined is deletes e holds same d made =
-    made ∙ ap (λ (t : List ℕ). unflowed deletes t) same ∙ ap (λ (b : Bool). unflowed b text) d
-    ∙ sym (cond-true (has_flowed_text ctype) (unflowed (says (codes "delsp") (codes "yes") ctype) text) text (sym e ∙ holds))
-
--- the same reading with another text
-abbrev with_text : List ℕ → BodyText → BodyText
-with_text text read = record { text = text; charset = read.charset; is_damaged = read.is_damaged }
-
-same-read : (x y : BodyText) → ◌≡◌ {A = Reads BodyText} (Ok x) (Ok y) → x ≡ y
-same-read x y e = cc
-
-pub flowed_text-is : (known : Charsets) (node : Node) (read : BodyText) (ctype : ContentType) (text : List ℕ)
-    → ◌≡◌ {A = Reads BodyText} (Ok (body_text known node)) (Ok read) → ctype ≡ node.ctype → text ≡ unflowed_of ctype read.text
-    → flowed_text known node ≡ with_text text read
-unfolding flowed_text
-flowed_text-is known node read ctype text is same made =
-    ap (λ (r : BodyText). with_text (unflowed_of node.ctype r.text) r) (same-read (body_text known node) read is)
-    ∙ ap (λ (c : ContentType). with_text (unflowed_of c read.text) read) (sym same) ∙ ap (λ (t : List ℕ). with_text t read) (sym made)

@@ -1,11 +1,10 @@
 -- Lemmas on forwarded mails.
-use Rattle.std.proofs.Common.{◌≡◌, ◌≢◌, ℕ, zero, suc, ◌-◌, true, false, List, [], ◌++◌, Option, Some, None, Ok, Err, refl, sym, ap, ◌∙◌, arith}
-use Rattle.std.specs.Prelude.{flat_map}
+use Rattle.std.proofs.Common.{◌≡◌, ℕ, true, false, List, [], ◌++◌, Option, Some, None, Ok, Err, sym, ap, ◌∙◌}
 use Rattle.std.specs.Option.{option_map_or}
 use Rattle.std.proofs.lemmas.Bool.{cond-true, cond-false}
 use Rattle.std.specs.Cow.{cow_str_bytes}
 use Rattle.mail_codec.specs.Charset.{Charsets}
-use Rattle.mailparse.specs.Mail.{Node, Tree, read_mail_in, root, trees_within}
+use Rattle.mailparse.specs.Mail.{Node, Tree, read_mail_in, root}
 use Rattle.mailparse.specs.Outcome.{IsRefusalOrMemory}
 use Rattle.mailparse.specs.Refusal.{◌>>=◌, Reads, Refusal, generic, encoding, base64_fault}
 use Rattle.mailparse.specs.declared.error.MailParseError.{MailParseError}
@@ -47,8 +46,3 @@ forwarded-err known levels node raw (Memory e) h same given = given
 -- the mails inside a part: the one that it forwards, and those inside that one, no more than so many mails deep
 abbrev pub mails_in_part : Charsets → ℕ → Tree → List (List ℕ)
 mails_in_part known most part = bytes_inside (root part) ++ option_map_or (mails_inside known most) (mail_inside known (root part)) []
-
-pub mails_inside-some : (known : Charsets) (most : ℕ) (t : Tree) → most ≢ 0
-    → mails_inside known most t ≡ flat_map (mails_in_part known (most - 1)) (trees_within t)
-mails_inside-some known zero t h = absurd (h refl)
-mails_inside-some known (suc most) t h = let e : suc most - 1 ≡ most = omega arith in rw e refl

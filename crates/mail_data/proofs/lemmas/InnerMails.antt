@@ -99,13 +99,10 @@ next-refused known most start at place left rest bytes e done new all is h same 
 
 -- ---- the bytes of a mail, and where it begins
 
-same-bytes : (x y : List ℕ) → ◌≡◌ {A = Reads (List ℕ)} (Ok x) (Ok y) → x ≡ y
-same-bytes x y e = cc
-
 pub mail_bytes-is : (place : Place) (bytes : List ℕ)
     → ◌≡◌ {A = Reads (List ℕ)} (Ok (readable (lenient_body_kind (root place.part)) (root place.part).body)) (Ok bytes) → bytes ≡ mail_bytes place
 unfolding mail_bytes
-mail_bytes-is place bytes e = sym (same-bytes (readable (lenient_body_kind (root place.part)) (root place.part).body) bytes e)
+mail_bytes-is place bytes e = let same : readable (lenient_body_kind (root place.part)) (root place.part).body ≡ bytes = cc in sym same
 
 -- the first of the items that are left
 pub drop_next : {A : Type 0} (xs : List A) (i : ℕ) (x : A) → i < length xs → x ≡ get_or xs i x → drop i xs ≡ x ∷ drop (i + 1) xs

@@ -1,12 +1,12 @@
 -- Lemmas on lines: where the first one starts that passes a test.
-use Rattle.std.proofs.Common.{◌≡◌, ℕ, zero, suc, ◌+◌, ◌-◌, ◌<◌, ◌≤◌, Bool, true, false, cond, eqb, List, ◌&&◌, ◌||◌, length, drop, Some, None, sym, ap, ◌∙◌, arith, length-drop, ◌⊎◌, inl, inr}
-use Rattle.std.specs.Prelude.{nat_lt, ◌==◌}
-use Rattle.std.proofs.lemmas.Bool.{cases_Bool, ltb-true, ne_eqb, and_parts, and_from, and_left, and_right, or_right}
-use Rattle.std.proofs.lemmas.List.{drop-drop}
+use Rattle.std.proofs.Common.{◌≡◌, ℕ, zero, suc, ◌+◌, ◌-◌, ◌<◌, ◌≤◌, Bool, true, false, cond, eqb, List, ◌++◌, ◌&&◌, ◌||◌, [], ◌∷◌, length, drop, Some, None, refl, sym, ap, ◌∙◌, arith, length-append, length-drop, inl, inr}
+use Rattle.std.specs.Prelude.{nat_eq, ◌==◌}
+use Rattle.std.proofs.lemmas.Bool.{cases_lt, ne_eqb, and_parts, and_from, and_left, and_right, or_right, false≢true}
+use Rattle.std.proofs.lemmas.List.{drop-append-le, drop-drop}
 use Rattle.mail_codec.specs.Places.{begins, first_place, least, byte_place}
 use Rattle.mail_codec.proofs.lemmas.Places.{least-is, least-passes, first_place-before, first_place-passes}
 use Rattle.mail_codec.proofs.lemmas.PlacesSearches.{place_none, place_some}
-use Rattle.mail_data.specs.Lines.{line_length, line_place, starts_line}
+use Rattle.mail_data.specs.Lines.{empty_line, line_length, line_place, starts_line}
 
 -- a line starts at p from which on the bytes pass the test
 abbrev pub is_line : (List ℕ → Bool) → List ℕ → ℕ → Bool
@@ -29,24 +29,13 @@ no_start bytes at k low high =
 -- none up to the next line
 no_line_to : (test : List ℕ → Bool) (bytes : List ℕ) (at to : ℕ) → NoLine test bytes at → test (drop at bytes) ≡ false
     → to ≤ suc (at + first_place (begins (λ b. b == 10)) (drop at bytes)) → NoLine test bytes to
-no_line_to test bytes at to none not_here within k low = pick (compare_to k at)
-  where
-    compare_to : (k at : ℕ) → (k < at) ⊎ ((k ≡ at) ⊎ (at < k))
-    compare_to k at = elim (cases_Bool (nat_lt k at)) [
-      | inl l ↦ inl (ltb-true k at l)
-      | inr g ↦ elim (cases_Bool (nat_lt at k)) [
-        | inl m ↦ inr (inr (ltb-true at k m))
-        | inr h ↦ inr (inl (let a = ltb_false k at g in let b = ltb_false at k h in omega arith))
-      ]
-    ]
-      where
-        ltb_false : (a b : ℕ) → nat_lt a b ≡ false → b ≤ a
-        ltb_false a b e = grind (arith, e)
-
-    pick : (k < at) ⊎ ((k ≡ at) ⊎ (at < k)) → is_line test bytes k ≡ false
-    pick (inl l) = none k l
-    pick (inr (inl e)) = ap (is_line test bytes) e ∙ and_right (starts_line bytes at) (test (drop at bytes)) not_here
-    pick (inr (inr g)) = and_left (starts_line bytes k) (test (drop k bytes)) (no_start bytes at k g (omega arith))
+no_line_to test bytes at to none not_here within k low = elim (cases_lt k at) [
+  | inl before ↦ none k before
+  | inr past ↦ elim (cases_lt at k) [
+    | inl behind ↦ and_left (starts_line bytes k) (test (drop k bytes)) (no_start bytes at k behind (omega arith))
+    | inr not_behind ↦ let same : k ≡ at = omega arith in ap (is_line test bytes) same ∙ and_right (starts_line bytes at) (test (drop at bytes)) not_here
+  ]
+]
 
 pub no_line_next : (test : List ℕ → Bool) (bytes : List ℕ) (at p : ℕ) → NoLine test bytes at → test (drop at bytes) ≡ false → Some p ≡ byte_place (drop at bytes) 10
     → NoLine test bytes (at + (p + 1))
@@ -116,3 +105,71 @@ line_length-none bytes none = let all = place_none (begins (λ b. b == 10)) byte
 pub line_length-some_bytes : (bytes : List ℕ) → 0 < length bytes → 0 < line_length bytes
 unfolding line_length
 line_length-some_bytes bytes some = omega arith
+
+-- ---- lines within the bytes
+
+pub line_length-≤ : (bytes : List ℕ) → line_length bytes ≤ length bytes
+unfolding line_length
+line_length-≤ bytes = omega arith
+
+at_most_two : (t u : Bool) (k : ℕ) → 2 ≤ k → cond t 1 (cond u 2 0) ≤ k
+at_most_two true u k h = omega arith
+at_most_two false true k h = omega arith
+at_most_two false false k h = omega arith
+
+at_most_one : (t u : Bool) → cond t 1 (cond (u && false) 2 0) ≤ 1
+at_most_one true u = omega arith
+at_most_one false true = omega arith
+at_most_one false false = omega arith
+
+pub empty_line-≤ : (bytes : List ℕ) → empty_line bytes ≤ length bytes
+unfolding empty_line
+empty_line-≤ [] = omega arith
+empty_line-≤ (b ∷ []) = at_most_one _ _
+empty_line-≤ (b ∷ c ∷ bytes) = at_most_two _ _ (length (b ∷ c ∷ bytes)) (omega arith)
+
+-- ---- lines, whatever follows
+
+begins-stays : (rest more : List ℕ) → 0 < length rest → begins (λ b. b == 10) (rest ++ more) ≡ begins (λ b. b == 10) rest
+begins-stays [] more some = absurd (omega arith)
+begins-stays (b ∷ rest) more some = refl
+
+pub first_place-more : (bytes more : List ℕ)
+    → (first_place (begins (λ b. b == 10)) bytes ≤ first_place (begins (λ b. b == 10)) (bytes ++ more))
+    × (first_place (begins (λ b. b == 10)) bytes < length bytes → first_place (begins (λ b. b == 10)) (bytes ++ more) ≡ first_place (begins (λ b. b == 10)) bytes)
+first_place-more [] more = (omega arith, λ low. absurd (omega arith))
+first_place-more (b ∷ bytes) more =
+    let later = first_place-more bytes more in
+    let f = first_place (begins (λ b. b == 10)) bytes in
+    let g = first_place (begins (λ b. b == 10)) (bytes ++ more) in
+    let grows = later.0 in
+    elim (b == 10) as (λ t. (cond t 0 (suc f) ≤ cond t 0 (suc g)) × (cond t 0 (suc f) < length (b ∷ bytes) → cond t 0 (suc g) ≡ cond t 0 (suc f))) [
+      | true ↦ (omega arith, λ low. refl)
+      | false ↦ (omega arith, λ low. ap suc (later.1 (omega arith)))
+    ]
+
+pub line_length-more : (bytes more : List ℕ) → first_place (begins (λ b. b == 10)) bytes < length bytes → line_length (bytes ++ more) ≡ line_length bytes
+unfolding line_length
+line_length-more bytes more low =
+    let same = (first_place-more bytes more).1 low in
+    let all = length-append bytes more in
+    omega arith
+
+pub has_feed : (bytes : List ℕ) → line_length bytes < length bytes → first_place (begins (λ b. b == 10)) bytes < length bytes
+unfolding line_length
+has_feed bytes low = omega arith
+
+pub starts-stays : (mail more : List ℕ) (k : ℕ) → k < length mail → starts_line (mail ++ more) k ≡ starts_line mail k
+starts-stays mail more k low =
+    let size = length-drop (k - 1) mail in
+    ap (λ (r : List ℕ). (k == 0) || begins (λ b. b == 10) r) (drop-append-le (k - 1) mail more (omega arith))
+    ∙ ap (λ (t : Bool). (k == 0) || t) (begins-stays (drop (k - 1) mail) more (omega arith))
+
+-- ---- whether there are bytes, as the code tells
+
+pub some-bytes : (rest : List ℕ) (r : Bool) → r ≡ nat_eq (length rest) 0 → r ≡ false → 0 < length rest
+some-bytes rest r is fails = let some : (length rest == 0) ≡ false = sym is ∙ fails in grind (arith, some)
+
+pub no-bytes : (rest : List ℕ) (r : Bool) → r ≡ nat_eq (length rest) 0 → r ≡ true → rest ≡ []
+no-bytes [] r is holds = refl
+no-bytes (b ∷ rest) r is holds = absurd (false≢true (sym (ne_eqb (length (b ∷ rest)) 0 (λ n. absurd (omega arith))) ∙ sym is ∙ holds))

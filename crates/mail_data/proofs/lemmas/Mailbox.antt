@@ -6,7 +6,7 @@ use Rattle.std.proofs.lemmas.Bool.{cond-true, cond-false, cases_Bool, lt-ltb, lt
 use Rattle.std.proofs.lemmas.List.{append_assoc, drop-drop, drop_all, take_rest, take-append-drop}
 use Rattle.mail_codec.specs.Places.{is_empty}
 use Rattle.mail_data.specs.Lines.{after_empty_line, after_line, empty_line, line_length}
-use Rattle.mail_data.specs.Mailbox.{ends_mail, mail_length, entry_bytes, after_mail, entry_at, next_entry, entries_within, entries_from, front_length, entries}
+use Rattle.mail_data.specs.Mailbox.{Entry, ends_mail, mail_length, entry_bytes, after_by, after_mail, entry_by, next_by, entries_within, entries_by, front_length}
 use Rattle.mail_data.specs.Separator.{is_separator}
 use Rattle.mail_data.proofs.lemmas.Lines.{line_place-≤, line_place-passes, line_length-some_bytes}
 
@@ -78,72 +78,83 @@ stands-some [] h = absurd (false≢true h)
 stands-some (b ∷ bytes) h = omega arith
 
 -- each mail takes some bytes
-pub next_entry-shorter : (bytes : List ℕ) → is_separator bytes ≡ true → length (next_entry bytes) < length bytes
-next_entry-shorter bytes h =
-    let some = line_length-some_bytes bytes (stands-some bytes h) in
+pub next-shorter : (length_of : List ℕ → ℕ) (bytes : List ℕ) → is_separator bytes ≡ true → length (next_by length_of bytes) < length bytes
+next-shorter length_of bytes h =
     let low = stands-some bytes h in
+    let some = line_length-some_bytes bytes low in
     let body = after_line bytes in
+    let after = after_by length_of body in
     let a = length-drop (line_length bytes) bytes in
-    let b = length-drop (mail_length body) body in
-    let c = length-drop (empty_line (after_mail body)) (after_mail body) in
+    let b = length-drop (length_of body) body in
+    let c = length-drop (empty_line after) after in
     omega arith
 
-entries_within-enough : (n m : ℕ) (bytes : List ℕ) → length bytes ≤ n → length bytes ≤ m → entries_within n bytes ≡ entries_within m bytes
-entries_within-enough zero zero bytes a b = refl
-entries_within-enough zero (suc m) bytes a b = elim (cases_Bool (is_separator bytes)) [
-  | inl h ↦ absurd (let low = stands-some bytes h in omega arith)
-  | inr h ↦ sym (cond-false _ _ _ h)
-]
-entries_within-enough (suc n) zero bytes a b = elim (cases_Bool (is_separator bytes)) [
-  | inl h ↦ absurd (let low = stands-some bytes h in omega arith)
-  | inr h ↦ cond-false _ _ _ h
-]
-entries_within-enough (suc n) (suc m) bytes a b = elim (cases_Bool (is_separator bytes)) [
-  | inl h ↦ let less = next_entry-shorter bytes h in
-      cond-true _ _ _ h ∙ ap (λ es. entry_at bytes ∷ es) (entries_within-enough n m (next_entry bytes) (omega arith) (omega arith)) ∙ sym (cond-true _ _ _ h)
+within-nil : (length_of : List ℕ → ℕ) (n : ℕ) → entries_within length_of n [] ≡ []
+unfolding is_separator
+within-nil length_of zero = refl
+within-nil length_of (suc n) = refl
+
+within-enough : (length_of : List ℕ → ℕ) (n m : ℕ) (bytes : List ℕ) → length bytes ≤ n → length bytes ≤ m
+    → entries_within length_of n bytes ≡ entries_within length_of m bytes
+within-enough length_of zero m [] a b = sym (within-nil length_of m)
+within-enough length_of (suc n) zero [] a b = within-nil length_of (suc n)
+within-enough length_of zero m (x ∷ bytes) a b = absurd (omega arith)
+within-enough length_of (suc n) zero (x ∷ bytes) a b = absurd (omega arith)
+within-enough length_of (suc n) (suc m) bytes a b = elim (cases_Bool (is_separator bytes)) [
+  | inl h ↦ let less = next-shorter length_of bytes h in
+      cond-true _ _ _ h ∙ ap (λ es. entry_by length_of bytes ∷ es) (within-enough length_of n m (next_by length_of bytes) (omega arith) (omega arith)) ∙ sym (cond-true _ _ _ h)
   | inr h ↦ cond-false _ _ _ h ∙ sym (cond-false _ _ _ h)
 ]
 
-pub entries_from-none : (bytes : List ℕ) → is_separator bytes ≡ false → entries_from bytes ≡ []
-unfolding entries_from
-entries_from-none bytes h = entries_within-enough (length bytes) (suc (length bytes)) bytes (omega arith) (omega arith) ∙ cond-false _ _ _ h
+pub entries-none : (length_of : List ℕ → ℕ) (bytes : List ℕ) → is_separator bytes ≡ false → entries_by length_of bytes ≡ []
+unfolding entries_by
+entries-none length_of bytes h = within-enough length_of (length bytes) (suc (length bytes)) bytes (omega arith) (omega arith) ∙ cond-false _ _ _ h
 
-pub entries_from-some : (bytes : List ℕ) → is_separator bytes ≡ true → entries_from bytes ≡ entry_at bytes ∷ entries_from (next_entry bytes)
-unfolding entries_from
-entries_from-some bytes h =
-    let less = next_entry-shorter bytes h in
-    entries_within-enough (length bytes) (suc (length bytes)) bytes (omega arith) (omega arith) ∙ cond-true _ _ _ h
-    ∙ ap (λ es. entry_at bytes ∷ es) (entries_within-enough (length bytes) (length (next_entry bytes)) (next_entry bytes) (omega arith) (omega arith))
+pub entries-some : (length_of : List ℕ → ℕ) (bytes : List ℕ) → is_separator bytes ≡ true
+    → entries_by length_of bytes ≡ entry_by length_of bytes ∷ entries_by length_of (next_by length_of bytes)
+unfolding entries_by
+entries-some length_of bytes h =
+    let less = next-shorter length_of bytes h in
+    let next = next_by length_of bytes in
+    within-enough length_of (length bytes) (suc (length bytes)) bytes (omega arith) (omega arith) ∙ cond-true _ _ _ h
+    ∙ ap (λ es. entry_by length_of bytes ∷ es) (within-enough length_of (length bytes) (length next) next (omega arith) (omega arith))
 
 -- ---- the mails make up the mailbox
 
-cut_twice : (n m : ℕ) (bytes : List ℕ) → take n bytes ++ (take m (drop n bytes) ++ drop m (drop n bytes)) ≡ bytes
-cut_twice n m bytes = ap (λ (r : List ℕ). take n bytes ++ r) (take-append-drop m (drop n bytes)) ∙ take-append-drop n bytes
-
-pub entry-spans : (bytes : List ℕ) → entry_bytes (entry_at bytes) ++ next_entry bytes ≡ bytes
-entry-spans bytes =
+pub entry-spans : (length_of : List ℕ → ℕ) (bytes : List ℕ) → entry_bytes (entry_by length_of bytes) ++ next_by length_of bytes ≡ bytes
+entry-spans length_of bytes =
     let body = after_line bytes in
+    let after = after_by length_of body in
     let line = take (line_length bytes) bytes in
-    let mail = take (mail_length body) body in
-    let ending = take (empty_line (after_mail body)) (after_mail body) in
-    append_assoc line (mail ++ ending) (next_entry bytes)
-    ∙ ap (λ (r : List ℕ). line ++ r) (append_assoc mail ending (next_entry bytes) ∙ cut_twice (mail_length body) (empty_line (after_mail body)) body)
+    let mail = take (length_of body) body in
+    let ending = take (empty_line after) after in
+    append_assoc line (mail ++ ending) (next_by length_of bytes)
+    ∙ ap (λ (r : List ℕ). line ++ r)
+    (append_assoc mail ending (next_by length_of bytes) ∙ ap (λ (r : List ℕ). mail ++ r) (take-append-drop (empty_line after) after) ∙ take-append-drop (length_of body) body)
     ∙ take-append-drop (line_length bytes) bytes
 
-entries-span : (n : ℕ) (bytes : List ℕ) → length bytes ≤ n → opens bytes ≡ true → flat_map entry_bytes (entries_within n bytes) ≡ bytes
-entries-span zero [] fits h = refl
-entries-span zero (b ∷ bytes) fits h = absurd (omega arith)
-entries-span (suc n) bytes fits h = elim (cases_Bool (is_separator bytes)) [
-  | inl is ↦ let less = next_entry-shorter bytes is in
+-- after a mail of this length and its empty line stands a separator or nothing
+abbrev pub Opens : (List ℕ → ℕ) → Type 0
+Opens length_of = (mail : List ℕ) → opens (after_empty_line (after_by length_of mail)) ≡ true
+
+pub nothing : (bytes : List ℕ) → is_separator bytes ≡ false → opens bytes ≡ true → bytes ≡ []
+nothing [] fails h = refl
+nothing (b ∷ bytes) fails h = absurd (false≢true (sym fails ∙ h))
+
+entries-span : (length_of : List ℕ → ℕ) (n : ℕ) (bytes : List ℕ) → Opens length_of → length bytes ≤ n → opens bytes ≡ true
+    → flat_map entry_bytes (entries_within length_of n bytes) ≡ bytes
+entries-span length_of zero [] behind fits h = refl
+entries-span length_of zero (b ∷ bytes) behind fits h = absurd (omega arith)
+entries-span length_of (suc n) bytes behind fits h = elim (cases_Bool (is_separator bytes)) [
+  | inl is ↦ let less = next-shorter length_of bytes is in
+      let next = next_by length_of bytes in
       ap (flat_map entry_bytes) (cond-true _ _ _ is)
-      ∙ ap (λ (r : List ℕ). entry_bytes (entry_at bytes) ++ r) (entries-span n (next_entry bytes) (omega arith) (after_opens (after_line bytes)))
-      ∙ entry-spans bytes
-  | inr fails ↦ ap (flat_map entry_bytes) (cond-false (is_separator bytes) (entry_at bytes ∷ entries_within n (next_entry bytes)) [] fails) ∙ sym (none bytes fails h)
+      ∙ ap (λ (r : List ℕ). entry_bytes (entry_by length_of bytes) ++ r) (entries-span length_of n next behind (omega arith) (behind (after_line bytes)))
+      ∙ entry-spans length_of bytes
+  | inr fails ↦
+      ap (flat_map entry_bytes) (cond-false (is_separator bytes) (entry_by length_of bytes ∷ entries_within length_of n (next_by length_of bytes)) [] fails)
+      ∙ sym (nothing bytes fails h)
 ]
-  where
-    none : (bytes : List ℕ) → is_separator bytes ≡ false → opens bytes ≡ true → bytes ≡ []
-    none [] fails h = refl
-    none (b ∷ bytes) fails h = absurd (false≢true (sym fails ∙ h))
 
 pub front-opens : (bytes : List ℕ) → opens (drop (front_length bytes) bytes) ≡ true
 unfolding front_length
@@ -153,19 +164,23 @@ front-opens bytes = elim (cases_Bool (is_separator bytes)) [
       ∙ ap opens (sym (drop-drop (empty_line (after_mail bytes)) (mail_length bytes) bytes)) ∙ after_opens bytes
 ]
 
-pub mailbox-spans : (bytes : List ℕ) → take (front_length bytes) bytes ++ flat_map entry_bytes (entries bytes) ≡ bytes
-unfolding entries_from
-mailbox-spans bytes =
+-- the mails of a mailbox
+abbrev pub mails : (List ℕ → ℕ) → List ℕ → List Entry
+mails length_of bytes = entries_by length_of (drop (front_length bytes) bytes)
+
+pub mailbox-spans : (length_of : List ℕ → ℕ) (bytes : List ℕ) → Opens length_of → take (front_length bytes) bytes ++ flat_map entry_bytes (mails length_of bytes) ≡ bytes
+unfolding entries_by
+mailbox-spans length_of bytes behind =
     let rest = drop (front_length bytes) bytes in
-    ap (λ (r : List ℕ). take (front_length bytes) bytes ++ r) (entries-span (length rest) rest (omega arith) (front-opens bytes))
+    ap (λ (r : List ℕ). take (front_length bytes) bytes ++ r) (entries-span length_of (length rest) rest behind (omega arith) (front-opens bytes))
     ∙ take-append-drop (front_length bytes) bytes
 
-pub mailbox-whole : (bytes front rest : List ℕ) (n : ℕ) → n ≡ front_length bytes → front ≡ take n bytes → rest ≡ drop n bytes
-    → front ++ flat_map entry_bytes (entries_from rest) ≡ bytes
-mailbox-whole bytes front rest n is before after =
-    ap (λ (f : List ℕ). f ++ flat_map entry_bytes (entries_from rest)) (before ∙ ap (λ k. take k bytes) is)
-    ∙ ap (λ (r : List ℕ). take (front_length bytes) bytes ++ flat_map entry_bytes (entries_from r)) (after ∙ ap (λ k. drop k bytes) is)
-    ∙ mailbox-spans bytes
+pub mailbox-whole : (length_of : List ℕ → ℕ) (bytes front rest : List ℕ) (n : ℕ) → Opens length_of → n ≡ front_length bytes → front ≡ take n bytes → rest ≡ drop n bytes
+    → front ++ flat_map entry_bytes (entries_by length_of rest) ≡ bytes
+mailbox-whole length_of bytes front rest n behind is before after =
+    ap (λ (f : List ℕ). f ++ flat_map entry_bytes (entries_by length_of rest)) (before ∙ ap (λ k. take k bytes) is)
+    ∙ ap (λ (r : List ℕ). take (front_length bytes) bytes ++ flat_map entry_bytes (entries_by length_of r)) (after ∙ ap (λ k. drop k bytes) is)
+    ∙ mailbox-spans length_of bytes behind
 
 -- ---- what stands before the first separator
 
@@ -180,3 +195,7 @@ front_length-some bytes after n e fails is same ending =
     let rest : after_mail bytes ≡ after = ap (λ k. drop k bytes) (sym is) ∙ sym (take_rest bytes n) ∙ same in
     let which : e ≡ empty_line (after_mail bytes) = ending ∙ ap empty_line (sym rest) in
     sym (cond-false (is_separator bytes) 0 (mail_length bytes + empty_line (after_mail bytes)) (sym fails) ∙ omega arith)
+
+-- a mailbox that begins with a separator has nothing before it
+pub entries-here : (length_of : List ℕ → ℕ) (bytes : List ℕ) → is_separator bytes ≡ true → mails length_of bytes ≡ entries_by length_of bytes
+entries-here length_of bytes first = ap (λ (n : ℕ). entries_by length_of (drop n bytes)) (sym (front_length-none bytes (sym first)))

@@ -1,17 +1,17 @@
 -- Lemmas on a mail whose next separator was read: it stays the same whatever follows.
-use Rattle.std.proofs.Common.{◌≡◌, ℕ, ◌+◌, ◌-◌, ◌<◌, Bool, true, false, cond, List, [], ◌∷◌, ◌++◌, ◌&&◌, ◌||◌, Some, None, length, take, drop, refl, sym, ap, subst, ◌∙◌, arith, length-append, length-drop, inl, inr}
+use Rattle.std.proofs.Common.{◌≡◌, ℕ, ◌+◌, ◌-◌, ◌<◌, Bool, true, false, cond, List, [], ◌∷◌, ◌++◌, ◌&&◌, ◌||◌, Option, Some, None, length, take, drop, refl, sym, ap, subst, ◌∙◌, arith, length-append, length-drop, inl, inr}
 use Rattle.std.specs.Prelude.{nat_lt, ◌==◌}
 use Rattle.std.specs.Cmp.Lexicographic.{same_text}
-use Rattle.std.proofs.lemmas.Bool.{and_parts, cases_Bool, cases_lt, cond-false, cond-true, eqb-true, false≢true, ltb-true, ne_eqb}
-use Rattle.std.proofs.lemmas.List.{append_assoc, drop-drop, drop_all, take-append-drop}
+use Rattle.std.proofs.lemmas.Bool.{and_parts, cases_Bool, cases_lt, cond-false, cond_both, eqb-true, false≢true, ltb-true, ne_eqb}
+use Rattle.std.proofs.lemmas.List.{append_assoc, drop-append-le, drop-drop, drop_all, take-append-drop}
 use Rattle.mail_codec.specs.Places.{begins, first_place, stands}
 use Rattle.mail_codec.proofs.lemmas.Places.{first_place-passes, least-passes, true_not_false}
 use Rattle.mail_data.specs.Lines.{after_empty_line, after_line, empty_line, line_length, line_place, starts_line}
-use Rattle.mail_data.specs.Mailbox.{EndsEmpty, Entry, IsEmptyLine, after_mail, ends_mail, entries, entries_from, entry_at, front_length, has_front, has_line, is_before_text, mail_length, next_entry, settled_entry}
+use Rattle.mail_data.specs.Mailbox.{EndsEmpty, Entry, IsEmptyLine, after_mail, ends_mail, entries, entries_by, entry_at, entry_by, front_length, has_front, is_before_text, mail_length, next_by, next_entry, settled_entry}
 use Rattle.mail_data.specs.Separator.{is_separator}
-use Rattle.mail_data.proofs.lemmas.Lines.{is_line}
-use Rattle.mail_data.proofs.lemmas.Mailbox.{after_empty_line-nil, entries_from-some, front_length-none, opens}
-use Rattle.mail_data.proofs.lemmas.MailboxJoined.{Joined, after_place, before_last, closed, closed-bytes, closed-line, entries-here, front-joined, is_separator-joined, length-closed, unmarked-nil}
+use Rattle.mail_data.proofs.lemmas.Lines.{has_feed, is_line}
+use Rattle.mail_data.proofs.lemmas.Mailbox.{after_empty_line-nil, entries-here, entries-some, front_length-none, mails, opens}
+use Rattle.mail_data.proofs.lemmas.MailboxJoined.{Joined, after_place, before_last, closed, closed-bytes, closed-line, front-joined, is_separator-joined, is_separator-more, length-closed, unmarked-nil}
 use Rattle.mail_data.proofs.lemmas.MailboxParts.{front_length-≤}
 
 -- ---- what stands at the end of a line and of a mail
@@ -35,18 +35,17 @@ mail-end body low =
     let rest = drop (line_place ends_mail body) body in
     (found.0, (and_parts (nat_lt 0 (empty_line rest)) (opens (after_empty_line rest)) found.1).0)
 
-empty_line-shape : (rest : List ℕ) → nat_lt 0 (empty_line rest) ≡ true → IsEmptyLine (take (empty_line rest) rest)
+-- so many bytes at the front, if not none, are an empty line
+abbrev Shape : List ℕ → ℕ → Type 0
+Shape rest n = nat_lt 0 n ≡ true → IsEmptyLine (take n rest)
+
+empty_line-shape : (rest : List ℕ) → Shape rest (empty_line rest)
 unfolding empty_line
-empty_line-shape rest some = elim (cases_Bool (stands (10 ∷ []) rest)) [
-  | inl lf ↦
-      inl (ap (λ (k : ℕ). take k rest) (cond-true (stands (10 ∷ []) rest) 1 (cond (stands (13 ∷ 10 ∷ []) rest) 2 0) lf) ∙ sym (same_text (10 ∷ []) (take 1 rest) (sym lf)))
-  | inr other ↦
-      let second = cond-false (stands (10 ∷ []) rest) 1 (cond (stands (13 ∷ 10 ∷ []) rest) 2 0) other in
-      elim (cases_Bool (stands (13 ∷ 10 ∷ []) rest)) [
-        | inl cr ↦ inr (ap (λ (k : ℕ). take k rest) (second ∙ cond-true (stands (13 ∷ 10 ∷ []) rest) 2 0 cr) ∙ sym (same_text (13 ∷ 10 ∷ []) (take 2 rest) (sym cr)))
-        | inr none ↦ absurd (true_not_false some (ap (nat_lt 0) (second ∙ cond-false (stands (13 ∷ 10 ∷ []) rest) 2 0 none)))
-      ]
-]
+empty_line-shape rest =
+    cond_both (stands (10 ∷ []) rest) 1 (cond (stands (13 ∷ 10 ∷ []) rest) 2 0) (Shape rest)
+    (λ lf some. inl (sym (same_text (10 ∷ []) (take 1 rest) (sym lf))))
+    (λ other. cond_both (stands (13 ∷ 10 ∷ []) rest) 2 0 (Shape rest)
+    (λ cr some. inr (sym (same_text (13 ∷ 10 ∷ []) (take 2 rest) (sym cr)))) (λ none some. absurd (false≢true some)))
 
 -- ---- the bytes of the mail at the front, where a separator follows it
 
@@ -113,24 +112,12 @@ cut-found bytes marked =
 -- ---- a separator whose line was read
 
 pub separator-stays : (bytes more : List ℕ) → line_length bytes < length bytes → is_separator (bytes ++ more) ≡ is_separator bytes
-separator-stays bytes more low =
-    let l = line_length bytes in
-    let end = line-end bytes low in
-    let some = end.1 in
-    let place : l - 1 + 1 ≡ l = omega arith in
-    let rest = drop l bytes in
-    let behind : drop 1 (drop (l - 1) bytes) ≡ rest = drop-drop 1 (l - 1) bytes ∙ ap (λ (k : ℕ). drop k bytes) place in
-    let front = take (l - 1) bytes in
-    let whole : closed front ++ rest ≡ bytes =
-    append_assoc front (10 ∷ []) rest ∙ ap (λ (r : List ℕ). front ++ (10 ∷ r)) (sym behind)
-    ∙ ap (λ (r : List ℕ). front ++ r) (sym (line_feed_first (drop (l - 1) bytes) end.0)) ∙ take-append-drop (l - 1) bytes in
-    ap (λ (r : List ℕ). is_separator (r ++ more)) (sym whole) ∙ ap is_separator (append_assoc (closed front) rest more)
-    ∙ is_separator-joined front (rest ++ more) ∙ sym (is_separator-joined front rest) ∙ ap is_separator whole
+separator-stays bytes more low = is_separator-more bytes more (has_feed bytes low)
 
 -- ---- the mail
 
 -- what the cut of the mail at the front says, whatever follows
-pub found : (bytes more : List ℕ) → is_separator (next_entry bytes) ≡ true → line_length (next_entry bytes) < length (next_entry bytes) → Joined bytes more
+pub found : (bytes more : List ℕ) → is_separator (next_entry bytes) ≡ true → line_length (next_entry bytes) < length (next_entry bytes) → Joined mail_length bytes more
 found bytes more marked past =
     let cut = cut-found bytes marked in
     let next = next_entry bytes in
@@ -146,33 +133,45 @@ found bytes more marked past =
           ∙ sym (append_assoc (next_entry cut.first) next more) ∙ ap (λ (r : List ℕ). r ++ more) (sym here.next ∙ ap next_entry cut.whole);
     }
 
-settled-first : (bytes more : List ℕ) → is_separator bytes ≡ true → is_before_text (next_entry bytes) ≡ true
-    → entries (bytes ++ more) ≡ entry_at bytes ∷ entries (next_entry bytes ++ more)
+pub before-text : (bytes : List ℕ) → is_before_text bytes ≡ true → (is_separator bytes ≡ true) × (line_length bytes < length bytes)
 unfolding is_before_text
-settled-first bytes more first before =
-    let next = next_entry bytes in
-    let parts = and_parts (is_separator next) (nat_lt (line_length next) (length next)) before in
-    let past = ltb-true (line_length next) (length next) parts.1 in
-    let joined = found bytes more parts.0 past in
-    let whole : is_separator (bytes ++ more) ≡ true = joined.separator ∙ first in
-    entries-here (bytes ++ more) whole ∙ entries_from-some (bytes ++ more) whole
-    ∙ ap (λ (e : Entry). e ∷ entries_from (next_entry (bytes ++ more))) joined.entry
-    ∙ ap (λ (r : List ℕ). entry_at bytes ∷ entries_from r) joined.next
-    ∙ ap (λ (r : List Entry). entry_at bytes ∷ r) (sym (entries-here (next ++ more) (separator-stays next more past ∙ parts.0)))
+before-text bytes h =
+    let parts = and_parts (is_separator bytes) (nat_lt (line_length bytes) (length bytes)) h in
+    (parts.0, ltb-true (line_length bytes) (length bytes) parts.1)
+
+-- a separator stands at the front, the mail there stays as it is, and the next separator was read
+pub record Settled (length_of : List ℕ → ℕ) (bytes more : List ℕ) : Type 0 where
+  pub first : is_separator bytes ≡ true
+  pub before : is_before_text (next_by length_of bytes) ≡ true
+  pub joined : Joined length_of bytes more
+
+settled-first : (length_of : List ℕ → ℕ) (bytes more : List ℕ) → Settled length_of bytes more
+    → mails length_of (bytes ++ more) ≡ entry_by length_of bytes ∷ mails length_of (next_by length_of bytes ++ more)
+settled-first length_of bytes more settled =
+    let next = next_by length_of bytes in
+    let before = before-text next settled.before in
+    let whole : is_separator (bytes ++ more) ≡ true = settled.joined.separator ∙ settled.first in
+    entries-here length_of (bytes ++ more) whole ∙ entries-some length_of (bytes ++ more) whole
+    ∙ ap (λ (e : Entry). e ∷ entries_by length_of (next_by length_of (bytes ++ more))) settled.joined.entry
+    ∙ ap (λ (r : List ℕ). entry_by length_of bytes ∷ entries_by length_of r) settled.joined.next
+    ∙ ap (λ (r : List Entry). entry_by length_of bytes ∷ r) (sym (entries-here length_of (next ++ more) (separator-stays next more before.1 ∙ before.0)))
+
+pub settled-by : (length_of : List ℕ → ℕ) (bytes more rest : List ℕ) (entry : Entry) (test : Bool)
+    → cond {A = Option (Entry × List ℕ)} test (Some (entry_by length_of bytes, next_by length_of bytes)) None ≡ Some (entry, rest) → (test ≡ true → Settled length_of bytes more)
+    → mails length_of (bytes ++ more) ≡ entry ∷ mails length_of (rest ++ more)
+settled-by length_of bytes more rest entry true is settled =
+    let pair : (entry_by length_of bytes, next_by length_of bytes) ≡ (entry, rest) = cc in
+    settled-first length_of bytes more (settled refl) ∙ ap (λ (p : Entry × List ℕ). p.0 ∷ mails length_of (p.1 ++ more)) pair
+settled-by length_of bytes more rest entry false is settled = absurd (cc)
 
 pub settled-stays : (bytes more rest : List ℕ) (entry : Entry) → settled_entry bytes ≡ Some (entry, rest) → entries (bytes ++ more) ≡ entry ∷ entries (rest ++ more)
 unfolding settled_entry
-settled-stays bytes more rest entry is = elim (cases_Bool (is_separator bytes && is_before_text (next_entry bytes))) [
-  | inl yes_it_is ↦
-      let parts = and_parts (is_separator bytes) (is_before_text (next_entry bytes)) yes_it_is in
-      let same : Some (entry_at bytes, next_entry bytes) ≡ Some (entry, rest) = sym (cond-true _ (Some (entry_at bytes, next_entry bytes)) None yes_it_is) ∙ is in
-      let pair : (entry_at bytes, next_entry bytes) ≡ (entry, rest) = cc in
-      settled-first bytes more parts.0 parts.1
-      ∙ ap (λ (p : Entry × List ℕ). p.0 ∷ entries (p.1 ++ more)) pair
-  | inr not_so ↦
-      let none : None ≡ Some (entry, rest) = sym (cond-false _ (Some (entry_at bytes, next_entry bytes)) None not_so) ∙ is in
-      absurd (cc)
-]
+settled-stays bytes more rest entry is =
+    settled-by mail_length bytes more rest entry (is_separator bytes && is_before_text (next_entry bytes)) is
+    (λ yes_it_is.
+    let parts = and_parts (is_separator bytes) (is_before_text (next_entry bytes)) yes_it_is in
+    let before = before-text (next_entry bytes) parts.1 in
+    record { first = parts.0; before = parts.1; joined = found bytes more before.0 before.1 })
 
 -- ---- what stands before the first separator
 
@@ -205,42 +204,53 @@ none-stays bytes more marked =
     ap (λ (r : List ℕ). is_separator (r ++ more)) body ∙ ap is_separator (append_assoc (closed (drop 1 before)) next more)
     ∙ is_separator-joined (drop 1 before) (next ++ more) ∙ sym (is_separator-joined (drop 1 before) next) ∙ ap is_separator (sym body)
 
-abbrev FrontStays : List ℕ → List ℕ → Type 0
-FrontStays bytes more =
-    (front_length (bytes ++ more) ≡ front_length bytes) × (entries (bytes ++ more) ≡ entries (drop (front_length bytes) bytes ++ more))
-
--- where the first mail begins behind the front
-front_later : (bytes more : List ℕ) → is_separator bytes ≡ false → is_separator (drop (front_length bytes) bytes) ≡ true
-    → line_length (drop (front_length bytes) bytes) < length (drop (front_length bytes) bytes) → FrontStays bytes more
-front_later bytes more fails marked past =
+-- where no mail begins at the front, what follows the front is what follows that mail
+pub front-next : (bytes more : List ℕ) → is_separator bytes ≡ false → is_separator (bytes ++ more) ≡ false → Joined mail_length (10 ∷ bytes) more
+    → (front_length (bytes ++ more) ≡ front_length bytes) × (drop (front_length (bytes ++ more)) (bytes ++ more) ≡ drop (front_length bytes) bytes ++ more)
+front-next bytes more fails all_fails joined =
     let n = front_length bytes in
-    let next = drop n bytes in
     let all = bytes ++ more in
-    let here = after-front bytes fails in
-    let there : is_separator (next_entry (10 ∷ bytes)) ≡ true = ap is_separator here ∙ marked in
-    let joined = found (10 ∷ bytes) more there (subst (λ (r : List ℕ). line_length r < length r) (sym here) past) in
-    let rest : drop (front_length all) all ≡ next ++ more =
-    sym (after-front all (none-stays bytes more there ∙ fails)) ∙ joined.next ∙ ap (λ (r : List ℕ). r ++ more) here in
+    let rest : drop (front_length all) all ≡ drop n bytes ++ more =
+    sym (after-front all all_fails) ∙ joined.next ∙ ap (λ (r : List ℕ). r ++ more) (after-front bytes fails) in
     let within = front_length-≤ bytes in
     let within_all = front_length-≤ all in
     let left = length-drop (front_length all) all in
     let sum = length-append bytes more in
     let next_size = length-drop n bytes in
-    let next_sum = length-append next more in
+    let next_sum = length-append (drop n bytes) more in
     let same = ap length rest in
-    (omega arith, ap entries_from rest ∙ sym (entries-here (next ++ more) (separator-stays next more past ∙ marked)))
+    (omega arith, rest)
 
-pub front-stays : (bytes more : List ℕ) → has_front bytes ≡ true → FrontStays bytes more
-unfolding has_front is_before_text
-front-stays bytes more h =
-    let next = drop (front_length bytes) bytes in
-    let parts = and_parts (is_separator next) (has_line next) h in
-    let past = ltb-true (line_length next) (length next) parts.1 in
+front_later : (bytes more : List ℕ) → is_separator bytes ≡ false → is_separator (drop (front_length bytes) bytes) ≡ true
+    → line_length (drop (front_length bytes) bytes) < length (drop (front_length bytes) bytes) → front_length (bytes ++ more) ≡ front_length bytes
+front_later bytes more fails marked past =
+    let here = after-front bytes fails in
+    let there : is_separator (next_entry (10 ∷ bytes)) ≡ true = ap is_separator here ∙ marked in
+    let joined = found (10 ∷ bytes) more there (subst (λ (r : List ℕ). line_length r < length r) (sym here) past) in
+    (front-next bytes more fails (none-stays bytes more there ∙ fails) joined).0
+
+front-same : (bytes more : List ℕ) → has_front bytes ≡ true → front_length (bytes ++ more) ≡ front_length bytes
+unfolding has_front
+front-same bytes more h =
+    let before = before-text (drop (front_length bytes) bytes) h in
     elim (cases_Bool (is_separator bytes)) [
       | inl is ↦
           let none : front_length bytes ≡ 0 = sym (front_length-none bytes (sym is)) in
-          let low : line_length bytes < length bytes = subst (λ (k : ℕ). line_length (drop k bytes) < length (drop k bytes)) none past in
-          let whole = separator-stays bytes more low ∙ is in
-          (sym (front_length-none (bytes ++ more) (sym whole)) ∙ sym none, ap (λ (k : ℕ). entries (drop k bytes ++ more)) (sym none))
-      | inr fails ↦ front_later bytes more fails parts.0 past
+          let low : line_length bytes < length bytes = subst (λ (k : ℕ). line_length (drop k bytes) < length (drop k bytes)) none before.1 in
+          sym (front_length-none (bytes ++ more) (sym (separator-stays bytes more low ∙ is))) ∙ sym none
+      | inr fails ↦ front_later bytes more fails before.0 before.1
     ]
+
+-- the mails behind a front that was read are the same whatever follows
+pub front-behind : (length_of : List ℕ → ℕ) (bytes more : List ℕ) → has_front bytes ≡ true → mails length_of (bytes ++ more) ≡ mails length_of (drop (front_length bytes) bytes ++ more)
+unfolding has_front
+front-behind length_of bytes more h =
+    let n = front_length bytes in
+    let before = before-text (drop n bytes) h in
+    ap (λ (k : ℕ). entries_by length_of (drop k (bytes ++ more))) (front-same bytes more h)
+    ∙ ap (entries_by length_of) (drop-append-le n bytes more (front_length-≤ bytes))
+    ∙ sym (entries-here length_of (drop n bytes ++ more) (separator-stays (drop n bytes) more before.1 ∙ before.0))
+
+pub front-stays : (bytes more : List ℕ) → has_front bytes ≡ true
+    → (front_length (bytes ++ more) ≡ front_length bytes) × (entries (bytes ++ more) ≡ entries (drop (front_length bytes) bytes ++ more))
+front-stays bytes more h = (front-same bytes more h, front-behind mail_length bytes more h)

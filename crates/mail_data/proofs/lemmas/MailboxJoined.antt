@@ -1,16 +1,17 @@
 -- Lemmas on a mailbox that is cut before a separator behind an empty line: the mails of the two halves are those of the whole.
-use Rattle.std.proofs.Common.{◌≡◌, ℕ, zero, suc, ◌+◌, ◌-◌, ◌<◌, ◌≤◌, Bool, true, false, cond, List, [], ◌∷◌, ◌++◌, ◌&&◌, ◌||◌, length, take, drop, refl, sym, ap, subst, ◌∙◌, arith, length-append, inl, inr}
-use Rattle.std.specs.Prelude.{nat_lt, ◌==◌}
-use Rattle.std.proofs.lemmas.Bool.{cases_Bool, cases_lt, or_right, false≢true}
+use Rattle.std.proofs.Common.{◌≡◌, ℕ, zero, suc, ◌+◌, ◌-◌, ◌<◌, ◌≤◌, Bool, true, false, cond, List, [], ◌∷◌, ◌++◌, ◌&&◌, length, take, drop, refl, sym, ap, subst, ◌∙◌, arith, length-append, inl, inr}
+use Rattle.std.specs.Prelude.{nat_eq, nat_lt, ◌==◌}
+use Rattle.std.specs.List.{list_any}
+use Rattle.std.proofs.lemmas.Bool.{and_left, cases_Bool, cases_lt, eqb-true, or_parts, or_right}
 use Rattle.std.proofs.lemmas.List.{append_assoc, drop-append-le, drop-drop, drop_all, take-append-le}
 use Rattle.std.proofs.Math.Seq.{drop-append_seam, drop-append-add}
 use Rattle.mail_codec.specs.Places.{begins, first_place, is_empty, stands}
-use Rattle.mail_codec.proofs.lemmas.Places.{least-before, least-is, least-passes, true_not_false}
-use Rattle.mail_data.specs.Lines.{after_line, empty_line, line_length, line_place, starts_line}
-use Rattle.mail_data.specs.Mailbox.{EndsEmpty, Entry, IsEmptyLine, after_mail, ends_mail, entries, entries_from, entry_at, mail_length, next_entry}
+use Rattle.mail_codec.proofs.lemmas.Places.{first_place-past, least-before, least-is, least-passes, true_not_false}
+use Rattle.mail_data.specs.Lines.{after_empty_line, after_line, empty_line, line_length, line_place, starts_line}
+use Rattle.mail_data.specs.Mailbox.{EndsEmpty, Entry, IsEmptyLine, after_by, after_mail, ends_mail, entries, entries_from, entry_at, entry_by, mail_length, next_by, next_entry}
 use Rattle.mail_data.specs.Separator.{has_time, is_separator, mark}
-use Rattle.mail_data.proofs.lemmas.Lines.{is_line}
-use Rattle.mail_data.proofs.lemmas.Mailbox.{after_opens, entries_from-none, entries_from-some, front_length-none, next_entry-shorter, opens}
+use Rattle.mail_data.proofs.lemmas.Lines.{empty_line-≤, is_line, line_length-more, line_length-≤, starts-stays}
+use Rattle.mail_data.proofs.lemmas.Mailbox.{after_opens, entries-here, entries-none, entries-some, next-shorter, nothing, opens}
 
 -- ---- bytes that end in LF, with more bytes behind them
 
@@ -30,18 +31,6 @@ empty_line-joined [] more = refl
 empty_line-joined (b ∷ []) more = refl
 empty_line-joined (b ∷ c ∷ front) more = refl
 
-stands-joined : (front more : List ℕ) → stands mark (closed front ++ more) ≡ stands mark (closed front)
-stands-joined [] more = refl
-stands-joined (a ∷ []) more = refl
-stands-joined (a ∷ b ∷ []) more = refl
-stands-joined (a ∷ b ∷ c ∷ []) more = refl
-stands-joined (a ∷ b ∷ c ∷ d ∷ []) more = refl
-stands-joined (a ∷ b ∷ c ∷ d ∷ e ∷ front) more = refl
-
-first_place-joined : (front more : List ℕ) → first_place (begins (λ b. b == 10)) (closed front ++ more) ≡ first_place (begins (λ b. b == 10)) (closed front)
-first_place-joined [] more = refl
-first_place-joined (b ∷ front) more = ap (λ (n : ℕ). cond (b == 10) 0 (suc n)) (first_place-joined front more)
-
 -- the first LF stands no later than any other
 first_place-low : (front rest : List ℕ) → first_place (begins (λ b. b == 10)) (front ++ (10 ∷ rest)) ≤ length front
 first_place-low [] rest = omega arith
@@ -52,36 +41,73 @@ first_place-low (b ∷ front) rest =
       | false ↦ omega arith
     ]
 
-line_length-≤ : (bytes : List ℕ) → line_length bytes ≤ length bytes
-unfolding line_length
-line_length-≤ bytes = omega arith
-
 line_length-low : (front rest : List ℕ) → line_length (front ++ (10 ∷ rest)) ≤ length front + 1
 unfolding line_length
 line_length-low front rest = let low = first_place-low front rest in omega arith
 
-line_length-joined : (front more : List ℕ) → line_length (closed front ++ more) ≡ line_length (closed front)
-unfolding line_length
-line_length-joined front more =
-    let same = first_place-joined front more in
-    let low = first_place-low front [] in
-    let size = length-closed front in
-    let all = length-append (closed front) more in
-    omega arith
+feed-low : (front : List ℕ) → first_place (begins (λ b. b == 10)) (closed front) < length (closed front)
+feed-low front = let low = first_place-low front [] in let size = length-closed front in omega arith
 
 -- ---- what a length says of the bytes, with more bytes behind them
 
-take-joined : (f : List ℕ → ℕ) (bytes more : List ℕ) → f (bytes ++ more) ≡ f bytes → f bytes ≤ length bytes → take (f (bytes ++ more)) (bytes ++ more) ≡ take (f bytes) bytes
-take-joined f bytes more same within = ap (λ (n : ℕ). take n (bytes ++ more)) same ∙ take-append-le (f bytes) bytes more within
+-- the length stays as it is, within the bytes
+pub record Stays (length_of : List ℕ → ℕ) (bytes more : List ℕ) : Type 0 where
+  pub same : length_of (bytes ++ more) ≡ length_of bytes
+  pub within : length_of bytes ≤ length bytes
 
-drop-joined : (f : List ℕ → ℕ) (bytes more : List ℕ) → f (bytes ++ more) ≡ f bytes → f bytes ≤ length bytes → drop (f (bytes ++ more)) (bytes ++ more) ≡ drop (f bytes) bytes ++ more
-drop-joined f bytes more same within = ap (λ (n : ℕ). drop n (bytes ++ more)) same ∙ drop-append-le (f bytes) bytes more within
+take-joined : (f : List ℕ → ℕ) (bytes more : List ℕ) → Stays f bytes more → take (f (bytes ++ more)) (bytes ++ more) ≡ take (f bytes) bytes
+take-joined f bytes more stays = ap (λ (n : ℕ). take n (bytes ++ more)) stays.same ∙ take-append-le (f bytes) bytes more stays.within
+
+pub drop-joined : (f : List ℕ → ℕ) (bytes more : List ℕ) → Stays f bytes more → drop (f (bytes ++ more)) (bytes ++ more) ≡ drop (f bytes) bytes ++ more
+drop-joined f bytes more stays = ap (λ (n : ℕ). drop n (bytes ++ more)) stays.same ∙ drop-append-le (f bytes) bytes more stays.within
+
+-- the mail at the front stays as it is
+pub record Joined (length_of : List ℕ → ℕ) (bytes more : List ℕ) : Type 0 where
+  pub separator : is_separator (bytes ++ more) ≡ is_separator bytes
+  pub entry : entry_by length_of (bytes ++ more) ≡ entry_by length_of bytes
+  pub next : next_by length_of (bytes ++ more) ≡ next_by length_of bytes ++ more
+
+pub joined-by : (length_of : List ℕ → ℕ) (bytes more : List ℕ) → is_separator (bytes ++ more) ≡ is_separator bytes → Stays line_length bytes more
+    → Stays length_of (after_line bytes) more → Stays empty_line (after_by length_of (after_line bytes)) more → Joined length_of bytes more
+joined-by length_of bytes more separator line mail end =
+    let body = after_line bytes in
+    let rest = after_by length_of body in
+    let whole = bytes ++ more in
+    let body_more : after_line whole ≡ body ++ more = drop-joined line_length bytes more line in
+    let rest_more : after_by length_of (after_line whole) ≡ rest ++ more = ap (after_by length_of) body_more ∙ drop-joined length_of body more mail in
+    let s : take (line_length whole) whole ≡ take (line_length bytes) bytes = take-joined line_length bytes more line in
+    let t : take (length_of (after_line whole)) (after_line whole) ≡ take (length_of body) body =
+    ap (λ (r : List ℕ). take (length_of r) r) body_more ∙ take-joined length_of body more mail in
+    let u : take (empty_line (after_by length_of (after_line whole))) (after_by length_of (after_line whole)) ≡ take (empty_line rest) rest =
+    ap (λ (r : List ℕ). take (empty_line r) r) rest_more ∙ take-joined empty_line rest more end in
+    let same : entry_by length_of whole ≡ entry_by length_of bytes = λ i. record { separator = s i; mail = t i; ending = u i } in
+    record { separator = separator; entry = same; next = ap after_empty_line rest_more ∙ drop-joined empty_line rest more end }
+
+-- a text without a LF stands in bytes with a LF, or does not, whatever follows them
+stands-more : (text bytes more : List ℕ) → list_any (λ t. t == 10) text ≡ false → first_place (begins (λ b. b == 10)) bytes < length bytes
+    → stands text (bytes ++ more) ≡ stands text bytes
+stands-more [] bytes more none low = refl
+stands-more (t ∷ text) [] more none low = absurd (omega arith)
+stands-more (t ∷ text) (b ∷ bytes) more none low = elim (cases_Bool (nat_eq t b)) [
+  | inl e ↦
+      let parts = or_parts (t == 10) (list_any (λ t. t == 10) text) none in
+      let past = first_place-past (begins (λ b. b == 10)) b bytes (ap (λ (x : ℕ). x == 10) (sym (eqb-true t b e)) ∙ parts.0) in
+      ap (λ (f : Bool). nat_eq t b && f) (stands-more text bytes more parts.1 (omega arith))
+  | inr n ↦ and_left (nat_eq t b) (stands text (bytes ++ more)) n ∙ sym (and_left (nat_eq t b) (stands text bytes) n)
+]
+
+pub is_separator-more : (bytes more : List ℕ) → first_place (begins (λ b. b == 10)) bytes < length bytes → is_separator (bytes ++ more) ≡ is_separator bytes
+unfolding is_separator
+is_separator-more bytes more low =
+    ap (λ (t : Bool). t && has_time (take (line_length (bytes ++ more)) (bytes ++ more))) (stands-more mark bytes more refl low)
+    ∙ ap (λ (line : List ℕ). stands mark bytes && has_time line)
+    (take-joined line_length bytes more (record { same = line_length-more bytes more low; within = line_length-≤ bytes }))
+
+line-stays : (front more : List ℕ) → Stays line_length (closed front) more
+line-stays front more = record { same = line_length-more (closed front) more (feed-low front); within = line_length-≤ (closed front) }
 
 pub is_separator-joined : (front more : List ℕ) → is_separator (closed front ++ more) ≡ is_separator (closed front)
-unfolding is_separator
-is_separator-joined front more =
-    ap (λ (t : Bool). t && has_time (take (line_length (closed front ++ more)) (closed front ++ more))) (stands-joined front more)
-    ∙ ap (λ (line : List ℕ). stands mark (closed front) && has_time line) (take-joined line_length (closed front) more (line_length-joined front more) (line_length-≤ (closed front)))
+is_separator-joined front more = is_separator-more (closed front) more (feed-low front)
 
 opens-closed : (front more : List ℕ) → opens (closed front ++ more) ≡ opens (closed front)
 opens-closed [] more = is_separator-joined [] more
@@ -99,25 +125,11 @@ opens-joined front more n within marked = elim (cases_lt (length front) n) [
       ∙ sym (ap opens (drop-closed front n low))
 ]
 
-at_most_two : (t u : Bool) (k : ℕ) → 2 ≤ k → cond t 1 (cond u 2 0) ≤ k
-at_most_two true u k h = omega arith
-at_most_two false true k h = omega arith
-at_most_two false false k h = omega arith
-
-empty_line-≤ : (front : List ℕ) → empty_line (closed front) ≤ length (closed front)
-unfolding empty_line
-empty_line-≤ [] = omega arith
-empty_line-≤ (b ∷ front) = let size = length-closed front in at_most_two _ _ (length (closed (b ∷ front))) (omega arith)
-
 ends_mail-joined : (front more : List ℕ) → is_separator more ≡ true → ends_mail (closed front ++ more) ≡ ends_mail (closed front)
 unfolding ends_mail
 ends_mail-joined front more marked =
     ap (λ (k : ℕ). nat_lt 0 k && opens (drop k (closed front ++ more))) (empty_line-joined front more)
-    ∙ ap (λ (t : Bool). nat_lt 0 (empty_line (closed front)) && t) (opens-joined front more (empty_line (closed front)) (empty_line-≤ front) marked)
-
-begins-closed : (front more : List ℕ) → begins (λ b. b == 10) (closed front ++ more) ≡ begins (λ b. b == 10) (closed front)
-begins-closed [] more = refl
-begins-closed (b ∷ front) more = refl
+    ∙ ap (λ (t : Bool). nat_lt 0 (empty_line (closed front)) && t) (opens-joined front more (empty_line (closed front)) (empty_line-≤ (closed front)) marked)
 
 -- what follows a place within the bytes
 pub after_place : (front more : List ℕ) (n : ℕ) → n ≤ length front → drop n (closed front ++ more) ≡ closed (drop n front) ++ more
@@ -127,10 +139,8 @@ after_place front more n within =
 
 is_line-joined : (front more : List ℕ) (n : ℕ) → n ≤ length front → is_separator more ≡ true → is_line ends_mail (closed front ++ more) n ≡ is_line ends_mail (closed front) n
 is_line-joined front more n within marked =
-    let before : n - 1 ≤ length front = omega arith in
-    ap (λ (r : List ℕ). ((n == 0) || begins (λ b. b == 10) r) && ends_mail (drop n (closed front ++ more))) (after_place front more (n - 1) before)
-    ∙ ap (λ (t : Bool). ((n == 0) || t) && ends_mail (drop n (closed front ++ more))) (begins-closed (drop (n - 1) front) more)
-    ∙ ap (λ (r : List ℕ). ((n == 0) || begins (λ b. b == 10) r) && ends_mail (drop n (closed front ++ more))) (sym (drop-closed front (n - 1) before))
+    let size = length-closed front in
+    ap (λ (t : Bool). t && ends_mail (drop n (closed front ++ more))) (starts-stays (closed front) more n (omega arith))
     ∙ ap (λ (r : List ℕ). starts_line (closed front) n && ends_mail r) (after_place front more n within)
     ∙ ap (λ (t : Bool). starts_line (closed front) n && t) (ends_mail-joined (drop n front) more marked)
     ∙ ap (λ (r : List ℕ). starts_line (closed front) n && ends_mail r) (sym (drop-closed front n within))
@@ -205,13 +215,8 @@ body-low front line n is within = elim (cases_lt (length front) n) [
 
 -- ---- the mail at the front
 
-pub record Joined (bytes more : List ℕ) : Type 0 where
-  pub separator : is_separator (bytes ++ more) ≡ is_separator bytes
-  pub entry : entry_at (bytes ++ more) ≡ entry_at bytes
-  pub next : next_entry (bytes ++ more) ≡ next_entry bytes ++ more
-
 entry-joined : (front more : List ℕ) → is_separator more ≡ true → line_length (closed front) ≤ length front
-    → mail_length (after_line (closed front)) < length (after_line (closed front)) → Joined (closed front) more
+    → mail_length (after_line (closed front)) < length (after_line (closed front)) → Joined mail_length (closed front) more
 entry-joined front more marked short low =
     let bytes = closed front in
     let n = line_length bytes in
@@ -221,29 +226,13 @@ entry-joined front more marked short low =
     let m = mail_length (closed body) in
     let size = length-closed body in
     let rest = drop m body in
-    let rest_is : after_mail (closed body) ≡ closed rest = drop-closed body m (omega arith) in
-    let line_same = line_length-joined front more in
-    let mail_same = mail_length-joined body more marked low_body in
-    let end_same = empty_line-joined rest more in
-    let body_more : after_line (bytes ++ more) ≡ closed body ++ more = drop-joined line_length bytes more line_same (line_length-≤ bytes) ∙ ap (λ (r : List ℕ). r ++ more) body_is in
-    let rest_more : after_mail (after_line (bytes ++ more)) ≡ closed rest ++ more =
-    ap after_mail body_more ∙ drop-joined mail_length (closed body) more mail_same (omega arith) ∙ ap (λ (r : List ℕ). r ++ more) rest_is in
-    let rest_here : after_mail (after_line bytes) ≡ closed rest = ap after_mail body_is ∙ rest_is in
-    let s : take (line_length (bytes ++ more)) (bytes ++ more) ≡ take n bytes = take-joined line_length bytes more line_same (line_length-≤ bytes) in
-    let t : take (mail_length (after_line (bytes ++ more))) (after_line (bytes ++ more)) ≡ take (mail_length (after_line bytes)) (after_line bytes) =
-    ap (λ (r : List ℕ). take (mail_length r) r) body_more ∙ take-joined mail_length (closed body) more mail_same (omega arith) ∙ sym (ap (λ (r : List ℕ). take (mail_length r) r) body_is) in
-    let u : take (empty_line (after_mail (after_line (bytes ++ more)))) (after_mail (after_line (bytes ++ more))) ≡ take (empty_line (after_mail (after_line bytes))) (after_mail (after_line bytes)) =
-    ap (λ (r : List ℕ). take (empty_line r) r) rest_more ∙ take-joined empty_line (closed rest) more end_same (empty_line-≤ rest) ∙ sym (ap (λ (r : List ℕ). take (empty_line r) r) rest_here) in
-    let same : entry_at (bytes ++ more) ≡ entry_at bytes = λ i. record { separator = s i; mail = t i; ending = u i } in
-    record {
-      separator = is_separator-joined front more;
-      entry = same;
-      next =
-          ap (λ (r : List ℕ). drop (empty_line r) r) rest_more ∙ drop-joined empty_line (closed rest) more end_same (empty_line-≤ rest)
-          ∙ ap (λ (r : List ℕ). drop (empty_line r) r ++ more) (sym rest_here);
-    }
+    let rest_is : after_mail (after_line bytes) ≡ closed rest = ap after_mail body_is ∙ drop-closed body m (omega arith) in
+    let mail : Stays mail_length (closed body) more = record { same = mail_length-joined body more marked low_body; within = omega arith } in
+    let end : Stays empty_line (closed rest) more = record { same = empty_line-joined rest more; within = empty_line-≤ (closed rest) } in
+    joined-by mail_length bytes more (is_separator-joined front more) (line-stays front more)
+    (subst (λ (r : List ℕ). Stays mail_length r more) (sym body_is) mail) (subst (λ (r : List ℕ). Stays empty_line r more) (sym rest_is) end)
 
-pub front-joined : (bytes more : List ℕ) → EndsEmpty bytes → is_separator more ≡ true → Joined bytes more
+pub front-joined : (bytes more : List ℕ) → EndsEmpty bytes → is_separator more ≡ true → Joined mail_length bytes more
 front-joined bytes more ends marked =
     let whole : bytes ≡ closed (before_last ends.front ends.line) = ends.whole ∙ closed-bytes ends.front ends.line ends.is_empty in
     let some = (closed-line ends.line ends.is_empty).1 in
@@ -252,7 +241,7 @@ front-joined bytes more ends marked =
     let all = length-append ends.front (10 ∷ ends.line) in
     let one = length-closed (before_last ends.front ends.line) in
     let same : line_length (closed (before_last ends.front ends.line)) ≡ line_length (ends.front ++ (10 ∷ ends.line)) = ap line_length (sym (closed-bytes ends.front ends.line ends.is_empty)) in
-    subst (λ (r : List ℕ). Joined r more) (sym whole)
+    subst (λ (r : List ℕ). Joined mail_length r more) (sym whole)
     (entry-joined (before_last ends.front ends.line) more marked (omega arith)
     (subst (λ (r : List ℕ). mail_length (after_line r) < length (after_line r)) (closed-bytes ends.front ends.line ends.is_empty)
     (body-low ends.front ends.line (line_length (ends.front ++ (10 ∷ ends.line))) ends.is_empty low)))
@@ -279,24 +268,20 @@ next-place bytes =
       drop-drop (empty_line rest) (mail_length body) body ∙ drop-drop (mail_length body + empty_line rest) (line_length bytes) bytes,
     )
 
-pub nothing : (bytes : List ℕ) → is_separator bytes ≡ false → opens bytes ≡ true → bytes ≡ []
-nothing [] fails h = refl
-nothing (b ∷ bytes) fails h = absurd (false≢true (sym fails ∙ h))
-
 pub unmarked-nil : is_separator [] ≡ false
 unfolding is_separator
 unmarked-nil = refl
 
 pub all-joined : (n : ℕ) (bytes more : List ℕ) → length bytes ≤ n → is_separator bytes ≡ true → EndsEmpty bytes → is_separator more ≡ true
     → entries_from (bytes ++ more) ≡ entries_from bytes ++ entries_from more
-all-joined zero bytes more fits first ends marked = let less = next_entry-shorter bytes first in absurd (omega arith)
+all-joined zero bytes more fits first ends marked = let less = next-shorter mail_length bytes first in absurd (omega arith)
 all-joined (suc n) bytes more fits first ends marked =
     let joined = front-joined bytes more ends marked in
-    let less = next_entry-shorter bytes first in
+    let less = next-shorter mail_length bytes first in
     let whole : entries_from (bytes ++ more) ≡ entry_at bytes ∷ entries_from (next_entry bytes ++ more) =
-    entries_from-some (bytes ++ more) (joined.separator ∙ first) ∙ ap (λ (e : Entry). e ∷ entries_from (next_entry (bytes ++ more))) joined.entry
+    entries-some mail_length (bytes ++ more) (joined.separator ∙ first) ∙ ap (λ (e : Entry). e ∷ entries_from (next_entry (bytes ++ more))) joined.entry
     ∙ ap (λ (r : List ℕ). entry_at bytes ∷ entries_from r) joined.next in
-    let here : entries_from bytes ≡ entry_at bytes ∷ entries_from (next_entry bytes) = entries_from-some bytes first in
+    let here : entries_from bytes ≡ entry_at bytes ∷ entries_from (next_entry bytes) = entries-some mail_length bytes first in
     let rest : entries_from (next_entry bytes ++ more) ≡ entries_from (next_entry bytes) ++ entries_from more =
     elim (cases_Bool (is_separator (next_entry bytes))) [
       | inl again ↦
@@ -305,16 +290,12 @@ all-joined (suc n) bytes more fits first ends marked =
           all-joined n (next_entry bytes) more (omega arith) again later marked
       | inr over ↦
           let none : next_entry bytes ≡ [] = nothing (next_entry bytes) over (after_opens (after_line bytes)) in
-          ap (λ (r : List ℕ). entries_from (r ++ more)) none ∙ sym (ap (λ (r : List ℕ). entries_from r ++ entries_from more) none ∙ ap (λ (r : List Entry). r ++ entries_from more) (entries_from-none [] unmarked-nil))
+          ap (λ (r : List ℕ). entries_from (r ++ more)) none ∙ sym (ap (λ (r : List ℕ). entries_from r ++ entries_from more) none ∙ ap (λ (r : List Entry). r ++ entries_from more) (entries-none mail_length [] unmarked-nil))
     ] in
     whole ∙ ap (λ (r : List Entry). entry_at bytes ∷ r) rest ∙ sym (ap (λ (r : List Entry). r ++ entries_from more) here)
-
--- a mailbox that begins with a separator has nothing before it
-pub entries-here : (bytes : List ℕ) → is_separator bytes ≡ true → entries bytes ≡ entries_from bytes
-entries-here bytes first = ap (λ (n : ℕ). entries_from (drop n bytes)) (sym (front_length-none bytes (sym first)))
 
 pub entries-joined : (bytes more : List ℕ) → is_separator bytes ≡ true → EndsEmpty bytes → is_separator more ≡ true → entries (bytes ++ more) ≡ entries bytes ++ entries more
 entries-joined bytes more first ends marked =
     let joined = front-joined bytes more ends marked in
-    entries-here (bytes ++ more) (joined.separator ∙ first) ∙ all-joined (length bytes) bytes more (omega arith) first ends marked
-    ∙ ap (λ (r : List Entry). r ++ entries_from more) (sym (entries-here bytes first)) ∙ ap (λ (r : List Entry). entries bytes ++ r) (sym (entries-here more marked))
+    entries-here mail_length (bytes ++ more) (joined.separator ∙ first) ∙ all-joined (length bytes) bytes more (omega arith) first ends marked
+    ∙ ap (λ (r : List Entry). r ++ entries_from more) (sym (entries-here mail_length bytes first)) ∙ ap (λ (r : List Entry). entries bytes ++ r) (sym (entries-here mail_length more marked))

@@ -3,13 +3,14 @@ use Rattle.std.proofs.Common.{◌≡◌, ℕ, zero, suc, ◌+◌, ◌*◌, ◌/�
 use Rattle.std.specs.Prelude.{nat_lt, not}
 use Rattle.std.specs.List.{flat_map}
 use Rattle.std.proofs.Math.Nat.{lt-mul-div-succ, mul-div-le, mul-div_cancel, mul-le-mul_left, zero-div}
-use Rattle.std.proofs.lemmas.Bool.{cases_Bool, cases_lt, cond-true, cond-false, le-ltb, lt-ltb, false≢true}
+use Rattle.std.proofs.lemmas.Bool.{and_from, and_right, cases_Bool, cases_lt, cond-true, cond-false, le-ltb, lt-ltb, false≢true}
 use Rattle.mail_codec.specs.Places.{values_below}
 use Rattle.mail_data.specs.Lines.{empty_line}
-use Rattle.mail_data.specs.Mailbox.{Entry, after_mail, entries, entries_from, entries_within, entry_at, entry_bytes, front_length, mail_length, next_entry}
+use Rattle.mail_data.specs.Mailbox.{Entry, after_mail, entries, entries_by, entries_within, entry_at, entry_bytes, front_length, mail_length, next_entry}
 use Rattle.mail_data.specs.MailboxParts.{Placed, in_range, part_mails, part_start, placed, placed_from}
 use Rattle.mail_data.specs.Separator.{is_separator}
-use Rattle.mail_data.proofs.lemmas.Mailbox.{entry-spans, mail_length-≤, next_entry-shorter}
+use Rattle.mail_data.proofs.lemmas.Lines.{empty_line-≤}
+use Rattle.mail_data.proofs.lemmas.Mailbox.{entry-spans, mail_length-≤, next-shorter}
 
 -- ---- one mail of a filter: whether it begins before the first place, before the middle and before the last
 
@@ -20,20 +21,10 @@ before_step t true false m f g h p q e = absurd (false≢true q)
 before_step true true true m f g h p q e = e
 before_step false true true m f g h p q e = ap (λ (r : List Placed). m ∷ r) e
 
-none_step : (t u : Bool) (m : Placed) (f : List Placed) → u ≡ false → cond (not t && u) (m ∷ f) f ≡ f
-none_step true u m f p = refl
-none_step false false m f p = refl
-none_step false true m f p = absurd (false≢true (sym p))
-
 later_step : (t u v : Bool) (m : Placed) (f g : List Placed) → t ≡ false → u ≡ false → f ≡ g → cond (not t && v) (m ∷ f) f ≡ cond (not u && v) (m ∷ g) g
 later_step true u v m f g p q e = absurd (false≢true (sym p))
 later_step false true v m f g p q e = absurd (false≢true (sym q))
 later_step false false v m f g p q e = ap (λ (r : List Placed). cond v (m ∷ r) r) e
-
-kept_step : (t u : Bool) (m : Placed) (f g : List Placed) → t ≡ false → u ≡ true → f ≡ g → cond (not t && u) (m ∷ f) f ≡ m ∷ g
-kept_step true u m f g p q e = absurd (false≢true (sym p))
-kept_step false false m f g p q e = absurd (false≢true q)
-kept_step false true m f g p q e = ap (λ (r : List Placed). m ∷ r) e
 
 empty_step : (t : Bool) (m : Placed) (f : List Placed) → cond (not t && t) (m ∷ f) f ≡ f
 empty_step true m f = refl
@@ -45,7 +36,7 @@ empty_step false m f = refl
 none_before : (from to start : ℕ) (mails : List Entry) → to ≤ start → in_range from to (placed_from start mails) ≡ []
 none_before from to start [] past = refl
 none_before from to start (e ∷ mails) past =
-    none_step (nat_lt start from) (nat_lt start to) (record { start = start; entry = e }) _ (le-ltb start to past)
+    cond-false _ _ _ (and_right (not (nat_lt start from)) (nat_lt start to) (le-ltb start to past))
     ∙ none_before from to (start + length (entry_bytes e)) mails (omega arith)
 
 -- it does not matter how far before the first mail a range begins
@@ -86,39 +77,23 @@ ranges-joined bound (suc n) start mails grows =
 
 -- ---- all mails begin within the mailbox
 
-all_within : (n : ℕ) (bytes : List ℕ) (start to : ℕ) → start + length bytes ≤ to → in_range 0 to (placed_from start (entries_within n bytes)) ≡ placed_from start (entries_within n bytes)
+all_within : (n : ℕ) (bytes : List ℕ) (start to : ℕ) → start + length bytes ≤ to → in_range 0 to (placed_from start (entries_within mail_length n bytes)) ≡ placed_from start (entries_within mail_length n bytes)
 all_within zero bytes start to fits = refl
 all_within (suc n) bytes start to fits = elim (cases_Bool (is_separator bytes)) [
   | inl is ↦
-      let less = next_entry-shorter bytes is in
+      let less = next-shorter mail_length bytes is in
       let e = entry_at bytes in
-      let sum = ap length (entry-spans bytes) in
+      let sum = ap length (entry-spans mail_length bytes) in
       let parts = length-append (entry_bytes e) (next_entry bytes) in
-      let here = cond-true (is_separator bytes) (e ∷ entries_within n (next_entry bytes)) [] is in
+      let here = cond-true (is_separator bytes) (e ∷ entries_within mail_length n (next_entry bytes)) [] is in
       ap (λ (r : List Entry). in_range 0 to (placed_from start r)) here
-      ∙ kept_step (nat_lt start 0) (nat_lt start to) (record { start = start; entry = e }) _ _ (le-ltb start 0 (omega arith)) (lt-ltb start to (omega arith))
-      (all_within n (next_entry bytes) (start + length (entry_bytes e)) to (omega arith))
+      ∙ cond-true _ _ _ (and_from (not (nat_lt start 0)) (nat_lt start to) (ap not (le-ltb start 0 (omega arith))) (lt-ltb start to (omega arith)))
+      ∙ ap (λ (r : List Placed). record { start = start; entry = e } ∷ r) (all_within n (next_entry bytes) (start + length (entry_bytes e)) to (omega arith))
       ∙ sym (ap (placed_from start) here)
   | inr fails ↦
-      let here = cond-false (is_separator bytes) (entry_at bytes ∷ entries_within n (next_entry bytes)) [] fails in
+      let here = cond-false (is_separator bytes) (entry_at bytes ∷ entries_within mail_length n (next_entry bytes)) [] fails in
       ap (λ (r : List Entry). in_range 0 to (placed_from start r)) here ∙ sym (ap (placed_from start) here)
 ]
-
-at_most_two : (t u : Bool) (k : ℕ) → 2 ≤ k → cond t 1 (cond u 2 0) ≤ k
-at_most_two true u k h = omega arith
-at_most_two false true k h = omega arith
-at_most_two false false k h = omega arith
-
-at_most_one : (t u : Bool) → cond t 1 (cond (u && false) 2 0) ≤ 1
-at_most_one true u = omega arith
-at_most_one false true = omega arith
-at_most_one false false = omega arith
-
-empty_line-≤ : (bytes : List ℕ) → empty_line bytes ≤ length bytes
-unfolding empty_line
-empty_line-≤ [] = omega arith
-empty_line-≤ (b ∷ []) = at_most_one _ _
-empty_line-≤ (b ∷ c ∷ bytes) = at_most_two _ _ (length (b ∷ c ∷ bytes)) (omega arith)
 
 pub front_length-≤ : (bytes : List ℕ) → front_length bytes ≤ length bytes
 unfolding front_length
@@ -132,7 +107,7 @@ front_length-≤ bytes =
     ]
 
 placed-within : (bytes : List ℕ) → in_range 0 (length bytes) (placed bytes) ≡ placed bytes
-unfolding entries_from
+unfolding entries_by
 placed-within bytes =
     let front = front_length-≤ bytes in
     let size = length-drop (front_length bytes) bytes in

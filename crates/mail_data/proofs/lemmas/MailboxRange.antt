@@ -1,18 +1,18 @@
 -- Lemmas on the mails that begin in a range of places: what stands more than three bytes before it does not change them.
-use Rattle.std.proofs.Common.{◌≡◌, ℕ, zero, suc, ◌+◌, ◌-◌, ◌<◌, ◌≤◌, ◌⊎◌, Bool, true, false, cond, List, [], ◌∷◌, ◌++◌, ◌&&◌, length, take, drop, refl, sym, ap, subst, ◌∙◌, arith, length-drop, length-append, inl, inr}
+use Rattle.std.proofs.Common.{◌≡◌, ℕ, zero, suc, ◌+◌, ◌-◌, ◌<◌, ◌≤◌, ◌⊎◌, true, false, List, [], ◌∷◌, ◌++◌, length, take, drop, sym, ap, subst, ◌∙◌, arith, length-drop, length-append, inl, inr}
 use Rattle.std.specs.Prelude.{nat_lt, not}
 use Rattle.std.specs.List.{flat_map}
 use Rattle.std.proofs.Math.Seq.{drop-append-add, drop-append_seam, take-append-add}
-use Rattle.std.proofs.lemmas.Bool.{cases_Bool, cases_lt, lt-ltb}
+use Rattle.std.proofs.lemmas.Bool.{and_left, cases_Bool, cases_lt, cond-false, lt-ltb}
 use Rattle.std.proofs.lemmas.List.{append_assoc, drop-append-le, drop-drop, length-take-le, take-append-drop, take_at}
 use Rattle.std.proofs.lemmas.List.Elements.{filter-append}
 use Rattle.mail_data.specs.Lines.{after_line}
-use Rattle.mail_data.specs.Mailbox.{EndsEmpty, Entry, IsEmptyLine, entries, entries_from, entry_at, entry_bytes, front_length, next_entry}
+use Rattle.mail_data.specs.Mailbox.{EndsEmpty, Entry, IsEmptyLine, entries, entries_from, entry_at, entry_bytes, front_length, mail_length, next_entry}
 use Rattle.mail_data.specs.MailboxParts.{Placed, begins_in, in_range, placed, placed_at, placed_from}
 use Rattle.mail_data.specs.Separator.{is_separator}
-use Rattle.mail_data.proofs.lemmas.Mailbox.{after_opens, entries_from-none, entries_from-some, entry-spans, front-opens, front_length-none, mailbox-spans, next_entry-shorter, opens, stands-some}
-use Rattle.mail_data.proofs.lemmas.MailboxFound.{after-front, cut-found}
-use Rattle.mail_data.proofs.lemmas.MailboxJoined.{all-joined, ends-later, entries-here, entries-joined, front-joined, nothing, unmarked-nil}
+use Rattle.mail_data.proofs.lemmas.Mailbox.{after_opens, entries-here, entries-none, entries-some, entry-spans, front-opens, front_length-none, mailbox-spans, next-shorter, nothing, opens, stands-some}
+use Rattle.mail_data.proofs.lemmas.MailboxFound.{after-front, cut-found, front-next}
+use Rattle.mail_data.proofs.lemmas.MailboxJoined.{all-joined, ends-later, entries-joined, front-joined, unmarked-nil}
 use Rattle.mail_data.proofs.lemmas.MailboxParts.{front_length-≤}
 
 -- ---- bytes that end in an empty line
@@ -65,7 +65,7 @@ cut-marked first second ends marked is =
     let whole = (front-joined first second ends marked).separator ∙ is in
     record {
       front = sym (front_length-none (first ++ second) (sym whole)) ∙ front_length-none first (sym is);
-      mails = entries-joined first second is ends marked ∙ ap (λ (r : List Entry). entries first ++ r) (entries-here second marked);
+      mails = entries-joined first second is ends marked ∙ ap (λ (r : List Entry). entries first ++ r) (entries-here mail_length second marked);
     }
 
 -- the mails behind the front
@@ -76,28 +76,17 @@ rest-joined rest second opened ends marked = elim (cases_Bool (is_separator rest
   | inr fails ↦
       let none = nothing rest fails opened in
       ap (λ (r : List ℕ). entries_from (r ++ second)) none
-      ∙ sym (ap (λ (r : List ℕ). entries_from r ++ entries_from second) none ∙ ap (λ (r : List Entry). r ++ entries_from second) (entries_from-none [] unmarked-nil))
+      ∙ sym (ap (λ (r : List ℕ). entries_from r ++ entries_from second) none ∙ ap (λ (r : List Entry). r ++ entries_from second) (entries-none mail_length [] unmarked-nil))
 ]
 
 cut-unmarked : (first second : List ℕ) → EndsEmpty first → is_separator second ≡ true → is_separator first ≡ false → CutAt first second
 cut-unmarked first second ends marked fails =
-    let all = first ++ second in
     let n = front_length first in
-    let rest = drop n first in
-    let joined = front-joined (10 ∷ first) second (ends-after (10 ∷ []) first ends) marked in
-    let whole : is_separator all ≡ false = (front-joined first second ends marked).separator ∙ fails in
-    let behind : drop (front_length all) all ≡ rest ++ second =
-    sym (after-front all whole) ∙ joined.next ∙ ap (λ (r : List ℕ). r ++ second) (after-front first fails) in
-    let within = front_length-≤ first in
-    let within_all = front_length-≤ all in
-    let left = length-drop (front_length all) all in
-    let sum = length-append first second in
-    let rest_size = length-drop n first in
-    let rest_sum = length-append rest second in
-    let same = ap length behind in
+    let whole = (front-joined first second ends marked).separator ∙ fails in
+    let next = front-next first second fails whole (front-joined (10 ∷ first) second (ends-after (10 ∷ []) first ends) marked) in
     record {
-      front = omega arith;
-      mails = ap entries_from behind ∙ rest-joined rest second (front-opens first) (λ is. ends-later first n ends is) marked;
+      front = next.0;
+      mails = ap entries_from next.1 ∙ rest-joined (drop n first) second (front-opens first) (λ is. ends-later first n ends is) marked;
     }
 
 cut-at : (first second : List ℕ) → EndsEmpty first → is_separator second ≡ true → CutAt first second
@@ -113,7 +102,7 @@ placed-cut start first second ends marked =
     let n = front_length first in
     let size = length-take-le n first (front_length-≤ first) in
     let sum = length-append (take n first) (flat_map entry_bytes (entries first)) in
-    let all = ap length (mailbox-spans first) in
+    let all = ap length (mailbox-spans mail_length first after_opens) in
     let place : start + n + length (flat_map entry_bytes (entries first)) ≡ start + length first = omega arith in
     ap (λ (k : ℕ). placed_from (start + k) (entries (first ++ second))) cut.front ∙ ap (placed_from (start + n)) cut.mails
     ∙ placed-append (start + n) (entries first) (entries_from second)
@@ -131,10 +120,6 @@ record Marked (bytes : List ℕ) (p : ℕ) : Type 0 where
 abbrev NoneOr : List Placed → ℕ → ℕ → List ℕ → ℕ → Type 0
 NoneOr mails from to bytes low = (in_range from to mails ≡ []) ⊎ ((p : ℕ) × (low ≤ p) × Marked bytes p)
 
-passed_step : (t u : Bool) (m : Placed) (f : List Placed) → t ≡ true → cond (not t && u) (m ∷ f) f ≡ f
-passed_step true u m f p = refl
-passed_step false u m f p = absurd (cc)
-
 -- where a mail begins that does so near the front of the bytes, or behind an empty line
 abbrev Begins : List ℕ → ℕ → Type 0
 Begins bytes p = (p < 3) ⊎ EndsEmpty (take p bytes)
@@ -147,7 +132,7 @@ next-ends bytes p within marked =
     let cut = cut-found rest marked in
     let next = next_entry rest in
     let e = entry_bytes (entry_at rest) in
-    let spans = ap length (entry-spans rest) in
+    let spans = ap length (entry-spans mail_length rest) in
     let spans_sum = length-append e next in
     let whole = ap length cut.whole in
     let whole_sum = length-append cut.first next in
@@ -165,7 +150,7 @@ next-drop : (bytes : List ℕ) (p : ℕ) → drop (p + length (entry_bytes (entr
 next-drop bytes p =
     let rest = drop p bytes in
     let e = entry_bytes (entry_at rest) in
-    sym (drop-drop (length e) p bytes) ∙ ap (drop (length e)) (sym (entry-spans rest)) ∙ drop-append_seam e (next_entry rest)
+    sym (drop-drop (length e) p bytes) ∙ ap (drop (length e)) (sym (entry-spans mail_length rest)) ∙ drop-append_seam e (next_entry rest)
 
 search : (n : ℕ) (bytes : List ℕ) (start p low to : ℕ) → length (drop p bytes) ≤ n → 3 ≤ low → is_separator (drop p bytes) ≡ true → p ≤ length bytes → Begins bytes p
     → NoneOr (placed_from (start + p) (entries_from (drop p bytes))) (start + low) to bytes low
@@ -177,17 +162,17 @@ search (suc n) bytes start p low to fits some is within before = elim (cases_lt 
         | inl again ↦
             let there = next-drop bytes p in
             let here : is_separator (drop (p + size) bytes) ≡ true = ap is_separator there ∙ again in
-            let less = next_entry-shorter rest is in
+            let less = next-shorter mail_length rest is in
             let left = ap length there in
             let next_size = length-drop (p + size) bytes in
-            let spans = ap length (entry-spans rest) in
+            let spans = ap length (entry-spans mail_length rest) in
             let spans_sum = length-append (entry_bytes (entry_at rest)) next in
             let rest_size = length-drop p bytes in
             let found = search n bytes start (p + size) low to (omega arith) some here (omega arith) (inr (next-ends bytes p within again)) in
             onward lower (subst (λ (r : List ℕ). NoneOr (placed_from (start + (p + size)) (entries_from r)) (start + low) to bytes low) there found)
         | inr over ↦
             let none : next ≡ [] = nothing next over (after_opens (after_line rest)) in
-            let mails : entries_from next ≡ [] = ap entries_from none ∙ entries_from-none [] unmarked-nil in
+            let mails : entries_from next ≡ [] = ap entries_from none ∙ entries-none mail_length [] unmarked-nil in
             onward lower (inl (ap (λ (r : List Entry). in_range (start + low) to (placed_from (start + (p + size)) r)) mails))
       ]
 ]
@@ -208,12 +193,10 @@ search (suc n) bytes start p low to fits some is within before = elim (cases_lt 
     -- the mail here begins before the range
     passed : p < low → in_range (start + low) to (placed_from (start + p) (entries_from rest)) ≡ in_range (start + low) to (placed_from (start + (p + size)) (entries_from next))
     passed lower =
-        let here = entries_from-some rest is in
+        let here = entries-some mail_length rest is in
         let same : start + p + size ≡ start + (p + size) = omega arith in
-        let head : Placed = record { start = start + p; entry = entry_at rest } in
         ap (λ (r : List Entry). in_range (start + low) to (placed_from (start + p) r)) here
-        ∙ passed_step (nat_lt (start + p) (start + low)) (nat_lt (start + p) to) head (in_range (start + low) to (placed_from (start + p + size) (entries_from next)))
-        (lt-ltb (start + p) (start + low) (omega arith))
+        ∙ cond-false _ _ _ (and_left (not (nat_lt (start + p) (start + low))) (nat_lt (start + p) to) (ap not (lt-ltb (start + p) (start + low) (omega arith))))
         ∙ ap (λ (n : ℕ). in_range (start + low) to (placed_from n (entries_from next))) same
 
     onward : p < low → NoneOr (placed_from (start + (p + size)) (entries_from next)) (start + low) to bytes low → NoneOr (placed_from (start + p) (entries_from rest)) (start + low) to bytes low
@@ -253,7 +236,7 @@ search-all bytes start low to some =
     let n = front_length bytes in
     elim (cases_Bool (is_separator (drop n bytes))) [
       | inl is ↦ search (length (drop n bytes)) bytes start n low to (omega arith) some is (front_length-≤ bytes) (first-begins bytes is)
-      | inr fails ↦ inl (ap (λ (r : List Entry). in_range (start + low) to (placed_from (start + n) r)) (entries_from-none (drop n bytes) fails))
+      | inr fails ↦ inl (ap (λ (r : List Entry). in_range (start + low) to (placed_from (start + n) r)) (entries-none mail_length (drop n bytes) fails))
     ]
 
 -- ---- the mails of a range

@@ -1,14 +1,14 @@
 -- Lemmas on lines that a writer of mailboxes quotes with `>`.
-use Rattle.std.proofs.Common.{◌≡◌, ℕ, suc, ◌+◌, ◌-◌, ◌<◌, Bool, true, false, cond, List, [], ◌∷◌, ◌++◌, ◌&&◌, ◌||◌, length, length-drop, take, drop, refl, sym, ap, ◌∙◌, arith, inl, inr}
+use Rattle.std.proofs.Common.{◌≡◌, ℕ, suc, ◌+◌, ◌-◌, ◌<◌, Bool, true, false, cond, List, [], ◌∷◌, ◌++◌, ◌&&◌, length, length-drop, take, drop, refl, sym, ap, ◌∙◌, arith, inl, inr}
 use Rattle.std.specs.Prelude.{◌==◌, min, nat_eq}
 use Rattle.std.specs.List.{list_any, prefix_len}
-use Rattle.std.proofs.lemmas.Bool.{cases_Bool, eqb-true, and_left, and_parts, and_right, or_right}
+use Rattle.std.proofs.lemmas.Bool.{cases_Bool, eqb-true, and_left, and_parts, and_right, or_parts, or_right}
 use Rattle.std.proofs.lemmas.List.{append_assoc, take_rest}
 use Rattle.mail_codec.specs.Places.{begins, first_place, stands}
 use Rattle.mail_data.specs.Lines.{after_line, line_length, starts_line}
 use Rattle.mail_data.specs.QuotedLines.{first_line, is_marked, is_quoted, quote_length, quoted, quoted_from, unquoted, unquoted_from, unquoted_line}
 use Rattle.mail_data.specs.Separator.{mark}
-use Rattle.mail_data.proofs.lemmas.Lines.{line_length-some_bytes}
+use Rattle.mail_data.proofs.lemmas.Lines.{line_length-some_bytes, some-bytes}
 
 -- ---- a line at a time
 
@@ -74,8 +74,7 @@ line-passed rest line text new whole n is line_is made all =
 pub line-shorter : (rest : List ℕ) (n : ℕ) (none : Bool) → none ≡ nat_eq (length rest) 0 → none ≡ false → n ≡ line_length rest
     → length (take (length rest - n) (drop n rest)) < length rest
 line-shorter rest n none is fails same =
-    let some : (length rest == 0) ≡ false = sym is ∙ fails in
-    let low : 0 < length rest = grind (arith, some) in
+    let low = some-bytes rest none is fails in
     let line = line_length-some_bytes rest low in
     let after = ap length (take_rest rest n) in
     let size = length-drop n rest in
@@ -90,19 +89,12 @@ stands-quoted (t ∷ text) [] h = refl
 stands-quoted (t ∷ text) (b ∷ rest) h = elim (cases_Bool (nat_eq t b)) [
   | inl e ↦
       let same : t ≡ b = eqb-true t b e in
-      let no_feed : (b == 10) ≡ false = ap (λ (x : ℕ). x == 10) (sym same) ∙ or_left_false (t == 10) (list_any (λ t. t == 10) text) h in
+      let none = or_parts (t == 10) (list_any (λ t. t == 10) text) h in
+      let no_feed : (b == 10) ≡ false = ap (λ (x : ℕ). x == 10) (sym same) ∙ none.0 in
       ap (λ (f : Bool). nat_eq t b && stands text (quoted_from f rest)) no_feed
-      ∙ ap (λ (f : Bool). nat_eq t b && f) (stands-quoted text rest (or_right_false (t == 10) (list_any (λ t. t == 10) text) h))
+      ∙ ap (λ (f : Bool). nat_eq t b && f) (stands-quoted text rest none.1)
   | inr n ↦ and_left (nat_eq t b) (stands text (quoted_from (b == 10) rest)) n ∙ sym (and_left (nat_eq t b) (stands text rest) n)
 ]
-  where
-    or_left_false : (p q : Bool) → (p || q) ≡ false → p ≡ false
-    or_left_false true q h = absurd (cc)
-    or_left_false false q h = refl
-
-    or_right_false : (p q : Bool) → (p || q) ≡ false → q ≡ false
-    or_right_false true q h = absurd (cc)
-    or_right_false false q h = h
 
 marked-past : (b : ℕ) (rest : List ℕ) → (b == 62) ≡ true → is_marked (b ∷ rest) ≡ is_marked rest
 unfolding is_marked quote_length

@@ -5,12 +5,12 @@ ghost use Rattle.std.specs.Char.{is_ascii_digit};
 ghost use Rattle.std.specs.List.{list_all};
 ghost use Rattle.std.specs.Str.{str_eq_ignore_ascii_case};
 ghost use Rattle.mail_data.specs.CountedMails.{block_length, block_place, content_length};
-ghost use Rattle.mail_data.specs.CountedMails.{counted_at, counted_length, counted_place};
-ghost use Rattle.mail_data.specs.CountedMails.{field_text, is_count_known, is_field, is_known};
-ghost use Rattle.mail_data.specs.CountedMails.{is_place_known, is_short_separator, may_end};
-ghost use Rattle.mail_data.specs.CountedMails.{next_counted, number, settled_counted};
+ghost use Rattle.mail_data.specs.CountedMails.{counted_length, counted_place, field_text};
+ghost use Rattle.mail_data.specs.CountedMails.{is_count_known, is_field, is_known, is_place_known};
+ghost use Rattle.mail_data.specs.CountedMails.{is_short_separator, may_end, number, settled_counted};
 ghost use Rattle.mail_data.specs.Lines.{line_length, line_place};
 
+use super::formats::{Format, cut_in};
 use super::separator::is_separator;
 use super::{MailboxEntry, is_before_text, mail_length};
 use crate::lenient::date::numbers::number_of;
@@ -26,7 +26,7 @@ pub fn settled_counted_entry(bytes: &[u8]) -> Option<(MailboxEntry<'_>, &[u8])>
     if !is_separator(bytes) || !is_count_known(&bytes[line_length(bytes)..]) {
         return None;
     }
-    let (entry, rest) = cut_counted(bytes);
+    let (entry, rest) = cut_in(Format::Counted, bytes);
     if is_before_text(rest) {
         Some((entry, rest))
     } else {
@@ -34,25 +34,9 @@ pub fn settled_counted_entry(bytes: &[u8]) -> Option<(MailboxEntry<'_>, &[u8])>
     }
 }
 
-/// The mail at the front of bytes that begin with its separator, and the bytes after it.
-pub fn cut_counted(bytes: &[u8]) -> (MailboxEntry<'_>, &[u8])
-    ensures entry { result.0 ≡ counted_at bytes.now }
-    ensures after { result.1.now ≡ next_counted bytes.now }
-{
-    let (separator, body) = bytes.split_at(line_length(bytes));
-    let (mail, after) = body.split_at(counted_length(body));
-    let (ending, next) = after.split_at(empty_line(after));
-    let entry = MailboxEntry {
-        separator,
-        mail,
-        ending,
-    };
-    (entry, next)
-}
-
 /// The length that the mail's Content-Length gives, or else that of a mail of any mailbox.
 #[tactic(auto, unfolding(crate::specs::CountedMails::counted_length))]
-fn counted_length(mail: &[u8]) -> usize
+pub fn counted_length(mail: &[u8]) -> usize
     ensures value { result ≡ counted_length mail.now }
     ensures bounds { result ≤ length mail.now }
 {

@@ -1,13 +1,14 @@
 //! Mailboxes in each of the mbox formats.
-ghost use Rattle.std.specs.Prelude.{◌<◌, ◌≡◌, ◌++◌, IfSome, length, option_map, take};
+ghost use Rattle.std.specs.Prelude.{◌<◌, ◌≡◌, ◌≤◌, ◌++◌, IfSome, length, option_map, take};
 ghost use Rattle.std.specs.List.{flat_map};
 ghost use Rattle.mail_data.specs.FormatViews.{left_in};
-ghost use Rattle.mail_data.specs.Mailbox.{entry_bytes, front_length};
-ghost use Rattle.mail_data.specs.MailboxFormats.{entries_in, entry_in, next_in, settled_in};
+ghost use Rattle.mail_data.specs.Mailbox.{entry_by, entry_bytes, front_length, next_by};
+ghost use Rattle.mail_data.specs.MailboxFormats.{entries_in, length_in, settled_in};
 
-use super::counted::{cut_counted, settled_counted_entry};
+use super::counted::{counted_length, settled_counted_entry};
 use super::separator::is_separator;
-use super::{MailboxEntry, cut_entry, front_length, settled_entry};
+use super::{MailboxEntry, front_length, mail_length, settled_entry};
+use crate::lines::{empty_line, line_length};
 
 /// A format of mailboxes.
 #[derive(Clone, Copy, PartialEq, Eq)]
@@ -138,12 +139,28 @@ pub fn settled_entry_in(format: Format, bytes: &[u8]) -> Option<(MailboxEntry<'_
 }
 
 /// The mail at the front of bytes that begin with its separator, and the bytes after it.
-fn cut_in(format: Format, bytes: &[u8]) -> (MailboxEntry<'_>, &[u8])
-    ensures entry { result.0 ≡ entry_in format bytes.now }
-    ensures after { result.1.now ≡ next_in format bytes.now }
+pub(super) fn cut_in(format: Format, bytes: &[u8]) -> (MailboxEntry<'_>, &[u8])
+    ensures entry { result.0 ≡ entry_by (length_in format) bytes.now }
+    ensures after { result.1.now ≡ next_by (length_in format) bytes.now }
+{
+    let (separator, body) = bytes.split_at(line_length(bytes));
+    let (mail, after) = body.split_at(length_in(format, body));
+    let (ending, next) = after.split_at(empty_line(after));
+    let entry = MailboxEntry {
+        separator,
+        mail,
+        ending,
+    };
+    (entry, next)
+}
+
+/// How many bytes the mail at the front has.
+fn length_in(format: Format, mail: &[u8]) -> usize
+    ensures value { result ≡ length_in format mail.now }
+    ensures bounds { result ≤ length mail.now }
 {
     match format {
-        Format::Plain | Format::Quoted => cut_entry(bytes),
-        Format::Counted => cut_counted(bytes),
+        Format::Plain | Format::Quoted => mail_length(mail),
+        Format::Counted => counted_length(mail),
     }
 }

@@ -1,10 +1,10 @@
 -- Lemmas on the front of a Base64 body.
-use Rattle.std.proofs.Common.{◌≡◌, ℕ, zero, suc, ◌+◌, ◌*◌, ◌≤◌, Bool, true, false, not, List, [], ◌∷◌, ◌++◌, length, take, drop, get_or, Option, Some, None, Result, Ok, Err, refl, sym, ap, ◌∙◌, arith, append_assoc, inl, inr}
-use Rattle.std.specs.Prelude.{filter, ◌==◌, if◌then◌else◌}
+use Rattle.std.proofs.Common.{◌≡◌, ℕ, zero, suc, ◌+◌, ◌*◌, ◌≤◌, Bool, true, false, not, List, [], ◌∷◌, ◌++◌, length, take, drop, get_or, Option, Some, None, Result, Ok, Err, refl, sym, ap, ◌∙◌, arith, append_assoc}
+use Rattle.std.specs.Prelude.{All, ◌==◌, if◌then◌else◌}
 use Rattle.std.specs.Char.{is_ascii_whitespace}
-use Rattle.std.proofs.lemmas.Bool.{cond-true, cond-false, cases_Bool, false≢true}
+use Rattle.std.proofs.lemmas.Bool.{cond-true, false≢true}
 use Rattle.std.proofs.lemmas.List.{append-nil}
-use Rattle.std.proofs.lemmas.List.Elements.{filter-append}
+use Rattle.std.proofs.lemmas.List.Elements.{All-drop, All-head, All-same, All-tail, All-take, filter-append, filter_passes}
 use Rattle.mail_codec.specs.Base64.{base64, group_bytes, groups_from, after_group, prepend, padding}
 use Rattle.mail_codec.specs.Places.{without_ascii_whitespace}
 use Rattle.mail_codec.proofs.lemmas.Base64Groups.{after_group_ok, prepend_err, base64_without_whitespace}
@@ -12,52 +12,26 @@ use Rattle.mail_data.specs.lenient.Base64.{Front, all_read, before, group_then, 
 
 -- ---- texts without whitespace
 
-filter_taken : (p : ℕ → Bool) (n : ℕ) (l : List ℕ) → filter p (take n (filter p l)) ≡ take n (filter p l)
-filter_taken p n [] = ap (filter p) (take-nil n) ∙ sym (take-nil n)
-  where
-    take-nil : (n : ℕ) → take n (let e : List ℕ = [] in e) ≡ []
-    take-nil zero = refl
-    take-nil (suc n) = refl
-filter_taken p n (x ∷ l) = elim (cases_Bool (p x)) [
-  | inl is ↦ ap (λ (f : List ℕ). filter p (take n f)) (cond-true (p x) (x ∷ filter p l) (filter p l) is) ∙ kept n is (λ k. filter_taken p k l) ∙ ap (take n) (sym (cond-true (p x) (x ∷ filter p l) (filter p l) is))
-  | inr fails ↦ ap (λ (f : List ℕ). filter p (take n f)) (cond-false (p x) (x ∷ filter p l) (filter p l) fails) ∙ filter_taken p n l
-      ∙ ap (take n) (sym (cond-false (p x) (x ∷ filter p l) (filter p l) fails))
-]
-  where
-    kept : (n : ℕ) → p x ≡ true → ((k : ℕ) → filter p (take k (filter p l)) ≡ take k (filter p l)) → filter p (take n (x ∷ filter p l)) ≡ take n (x ∷ filter p l)
-    kept zero is more = refl
-    kept (suc n) is more = cond-true (p x) (x ∷ filter p (take n (filter p l))) (filter p (take n (filter p l))) is ∙ ap (λ (r : List ℕ). x ∷ r) (more n)
-
-filter_dropped : (p : ℕ → Bool) (n : ℕ) (l : List ℕ) → filter p (drop n (filter p l)) ≡ drop n (filter p l)
-filter_dropped p n [] = ap (filter p) (drop-nil n) ∙ sym (drop-nil n)
-  where
-    drop-nil : (n : ℕ) → drop n (let e : List ℕ = [] in e) ≡ []
-    drop-nil zero = refl
-    drop-nil (suc n) = refl
-filter_dropped p n (x ∷ l) = elim (cases_Bool (p x)) [
-  | inl is ↦ ap (λ (f : List ℕ). filter p (drop n f)) (cond-true (p x) (x ∷ filter p l) (filter p l) is) ∙ kept n is (λ k. filter_dropped p k l) ∙ ap (drop n) (sym (cond-true (p x) (x ∷ filter p l) (filter p l) is))
-  | inr fails ↦ ap (λ (f : List ℕ). filter p (drop n f)) (cond-false (p x) (x ∷ filter p l) (filter p l) fails) ∙ filter_dropped p n l
-      ∙ ap (drop n) (sym (cond-false (p x) (x ∷ filter p l) (filter p l) fails))
-]
-  where
-    kept : (n : ℕ) → p x ≡ true → ((k : ℕ) → filter p (drop k (filter p l)) ≡ drop k (filter p l)) → filter p (drop n (x ∷ filter p l)) ≡ drop n (x ∷ filter p l)
-    kept zero is more = cond-true (p x) (x ∷ filter p (filter p l)) (filter p (filter p l)) is ∙ ap (λ (r : List ℕ). x ∷ r) (more 0)
-    kept (suc n) is more = more n
-
 -- a text is without whitespace
 abbrev pub Clean : List ℕ → Type 0
 Clean l = without_ascii_whitespace l ≡ l
 
-pub clean-stripped : (l : List ℕ) → Clean (without_ascii_whitespace l)
-clean-stripped l = filter_dropped (λ b. not (is_ascii_whitespace b)) 0 l
+-- a byte is none
+abbrev IsKept : ℕ → Type 0
+IsKept b = not (is_ascii_whitespace b) ≡ true
 
-pub clean-take : (n : ℕ) (l : List ℕ) → Clean l → Clean (take n l)
-clean-take n l h =
-    ap (λ (f : List ℕ). without_ascii_whitespace (take n f)) (sym h) ∙ filter_taken (λ b. not (is_ascii_whitespace b)) n l ∙ ap (take n) h
+clean-from : (l : List ℕ) → All IsKept l → Clean l
+clean-from [] h = refl
+clean-from (b ∷ l) h = cond-true _ _ _ (All-head IsKept b l h) ∙ ap (λ (r : List ℕ). b ∷ r) (clean-from l (All-tail IsKept b l h))
+
+all-kept : (l : List ℕ) → Clean l → All IsKept l
+all-kept l h = All-same IsKept l (without_ascii_whitespace l) (sym h) (filter_passes (λ b. not (is_ascii_whitespace b)) l)
+
+clean-take : (n : ℕ) (l : List ℕ) → Clean l → Clean (take n l)
+clean-take n l h = clean-from (take n l) (All-take IsKept n l (all-kept l h))
 
 pub clean-drop : (n : ℕ) (l : List ℕ) → Clean l → Clean (drop n l)
-clean-drop n l h =
-    ap (λ (f : List ℕ). without_ascii_whitespace (drop n f)) (sym h) ∙ filter_dropped (λ b. not (is_ascii_whitespace b)) n l ∙ ap (drop n) h
+clean-drop n l h = clean-from (drop n l) (All-drop IsKept n l (all-kept l h))
 
 clean-append : (l m : List ℕ) → Clean l → Clean m → Clean (l ++ m)
 clean-append l m h k =
@@ -238,19 +212,15 @@ pub front-cut : (l bytes : List ℕ) (n : ℕ) (f : Front) → groups_from 0 l �
     → f ≡ before bytes (front_from n (drop (4 * n) l)) → f ≡ front_from 0 l
 front-cut l bytes n f h clean ok e =
     let c = cut 0 n n l (omega arith) h in
-    let same : bytes ≡ c.read = ok-is bytes c.read (ok ∙ base64-clean (take (4 * n) l) (clean-take (4 * n) l clean) ∙ c.ok) in
+    let both : ◌≡◌ {A = Result (List ℕ) ℕ} (Ok bytes) (Ok c.read) = ok ∙ base64-clean (take (4 * n) l) (clean-take (4 * n) l clean) ∙ c.ok in
+    let same : bytes ≡ c.read = cc in
     e ∙ ap (λ (b : List ℕ). before b (front_from n (drop (4 * n) l))) same ∙ sym c.front
-  where
-    ok-is : (a b : List ℕ) → ◌≡◌ {A = Result (List ℕ) ℕ} (Ok a) (Ok b) → a ≡ b
-    ok-is a b g = cc g
 
 pub front-no_err : (l : List ℕ) (n k : ℕ) → groups_from 0 l ≡ Err n → Clean l → Err k ≡ base64 (without_ascii_whitespace (take (4 * n) l)) → ⊥
 front-no_err l n k h clean bad =
     let c = cut 0 n n l (omega arith) h in
-    clash c.read (bad ∙ base64-clean (take (4 * n) l) (clean-take (4 * n) l clean) ∙ c.ok)
-  where
-    clash : (b : List ℕ) → ◌≡◌ {A = Result (List ℕ) ℕ} (Err k) (Ok b) → ⊥
-    clash b g = cc g
+    let both : ◌≡◌ {A = Result (List ℕ) ℕ} (Err k) (Ok c.read) = bad ∙ base64-clean (take (4 * n) l) (clean-take (4 * n) l clean) ∙ c.ok in
+    cc
 
 pub cut_fits : (l : List ℕ) (n : ℕ) → groups_from 0 l ≡ Err n → 4 * n ≤ length l
 cut_fits l n h = (cut 0 n n l (omega arith) h).fits
@@ -263,7 +233,7 @@ pub strict-err : (body letters : List ℕ) (n : ℕ) → Err n ≡ base64 (witho
 strict-err body letters n e is = ap (groups_from 0) is ∙ sym (base64_without_whitespace body) ∙ sym e
 
 pub clean-is : (l m body : List ℕ) → l ≡ m → m ≡ without_ascii_whitespace body → Clean l
-clean-is l m body e f = ap without_ascii_whitespace (e ∙ f) ∙ clean-stripped body ∙ sym (e ∙ f)
+clean-is l m body e f = clean-from l (All-same IsKept l (without_ascii_whitespace body) (e ∙ f) (filter_passes (λ b. not (is_ascii_whitespace b)) body))
 
 pub letters-front : (body letters : List ℕ) → letters ≡ without_ascii_whitespace body → front_from 0 letters ≡ base64_front body
 unfolding base64_front

@@ -1,11 +1,11 @@
 -- Lemmas on dates as mail writes them.
-use Rattle.std.proofs.Common.{◌≡◌, ℕ, zero, suc, ◌+◌, ◌*◌, ◌/◌, ◌-◌, ◌^◌, ◌<◌, ◌≤◌, Bool, true, false, cond, ◌&&◌, leb, List, [], ◌∷◌, length, take, get_or, refl, arith}
+use Rattle.std.proofs.Common.{◌≡◌, ℕ, zero, suc, ◌+◌, ◌*◌, ◌/◌, ◌-◌, ◌^◌, ◌<◌, ◌≤◌, Bool, true, false, cond, leb, List, [], ◌∷◌, length, take, get_or, refl, arith}
 use Rattle.std.specs.Char.{digit_value, is_ascii_digit}
 use Rattle.std.specs.Int.{IsInRange}
 use Rattle.std.specs.List.{prefix_len}
 use Rattle.std.specs.Str.Parse.{AllDigits, digits_value}
 use Rattle.std.proofs.Math.Nat.{pow-le-pow_right}
-use Rattle.std.proofs.lemmas.Bool.{lt-ltb, le-ltb, leb-true}
+use Rattle.std.proofs.lemmas.Bool.{and_parts, lt-ltb, le-ltb, leb-true}
 use Rattle.std.proofs.lemmas.Int.Digits.{digits_value-lt, digits_value_more}
 use Rattle.std.proofs.lemmas.Str.Parse.{digit_at, digits_value-take-le}
 use Rattle.mailparse.proofs.lemmas.Date.{year_counts}
@@ -32,18 +32,11 @@ value-small ds i all short =
 
 pub digit_below : (b : ℕ) → is_ascii_digit b ≡ true → digit_value b < 10
 digit_below b h =
-    let low : 48 ≤ b = leb-true 48 b (and_left_true (leb 48 b) (leb b 57) h) in
-    let high : b ≤ 57 = leb-true b 57 (and_right_true (leb 48 b) (leb b 57) h) in
+    let parts = and_parts (leb 48 b) (leb b 57) h in
+    let low = leb-true 48 b parts.0 in
+    let high = leb-true b 57 parts.1 in
     let same : digit_value b ≡ b - 48 = digit_is b (low, high) in
     omega (arith, low, high, same)
-  where
-    and_left_true : (p q : Bool) → p && q ≡ true → p ≡ true
-    and_left_true true q h = refl
-    and_left_true false q h = absurd (cc)
-
-    and_right_true : (p q : Bool) → p && q ≡ true → q ≡ true
-    and_right_true true q h = h
-    and_right_true false q h = absurd (cc)
 
 -- a run of digits
 pub run-digits : (bytes : List ℕ) → AllDigits 10 (take (prefix_len is_ascii_digit bytes) bytes)

@@ -1,4 +1,4 @@
-use Rattle.std.proofs.Common.{◌≡◌, ℕ, ◌-◌, Bool, List, Option, Some, None, length, take, drop, sym, ap, ◌∙◌, arith, refl}
+use Rattle.std.proofs.Common.{◌≡◌, ℕ, ◌-◌, Bool, List, Option, Some, None, length, take, drop, sym, ap, ◌∙◌}
 use Rattle.std.proofs.lemmas.List.{take_rest}
 use Rattle.mail_codec.specs.Places.{byte_place}
 use Rattle.mail_data.proofs.lemmas.Lines.{line_place-found, line_place-all, no_line_next, starts_next, next_within}
@@ -10,9 +10,6 @@ tested test bytes at r t e is = ap test (sym (take_rest bytes at)) ∙ sym e ∙
 
 feed : (bytes : List ℕ) (at : ℕ) (r s : Option ℕ) → r ≡ byte_place (take (length bytes - at) (drop at bytes)) 10 → r ≡ s → s ≡ byte_place (drop at bytes) 10
 feed bytes at r s e is = sym is ∙ e ∙ ap (λ (b : List ℕ). byte_place b 10) (take_rest bytes at)
-
-pub lines-init : goal.lines-init
-lines-init g c = record { within = omega arith; none = λ test says k low. absurd (omega arith); starts = refl }
 
 pub lines-preserved : goal.lines-preserved
 lines-preserved g c =

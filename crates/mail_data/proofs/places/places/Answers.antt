@@ -1,24 +1,11 @@
-use Rattle.std.proofs.Common.{List, ℕ, ◌++◌, map, sym, ap, ◌∙◌}
-use Rattle.mailparse.specs.Mail.{Tree}
-use Rattle.mailparse.specs.Placement.{Placement}
+use Rattle.std.proofs.Common.{List, ℕ, ap, ◌∙◌}
 use Rattle.mailparse.specs.Views.{placements_of, tree_of}
-use Rattle.mail_data.specs.Files.{whole_path, with_paths}
+use Rattle.mail_data.specs.Files.{with_paths}
 use Rattle.mail_data.specs.PartPlaces.{placed}
-use Rattle.mail_data.specs.PlaceViews.{numbered_view, placement_view}
-use Rattle.mail_data.specs.declared.places.Place.{Place}
-use Rattle.mail_data.proofs.lemmas.PartPlaces.{placed-views}
+use Rattle.mail_data.proofs.lemmas.PartPlaces.{placed-added}
 use Rattle.mail_data.proofs.places.places.Goals as goal
 
 pub returns : goal.returns
 returns c =
-    let mail = tree_of c.args.mail.now in
-    let found = c.push_places.new.found.items in
-    let ranges = map placement_view found in
-    let none = c.new-found.ensures.items in
-    let messages = with_paths c.whole_path.result.now mail in
-    let paths =
-    c.in_ok-push_places.ensures.paths ∙ ap (λ (items : List Place). map numbered_view items ++ messages) none
-    ∙ ap (λ (path : List ℕ). with_paths path mail) c.whole_path.ensures in
-    let places = c.in_ok-push_places.ensures.ranges ∙ ap (λ (items : List Place). map placement_view items ++ placements_of c.args.mail.now) none in
-    sym (placed-views found) ∙ ap (λ (found_paths : List (List ℕ × Tree)). placed found_paths ranges) paths
-    ∙ ap (λ (placements : List Placement). placed (with_paths (whole_path mail) mail) placements) places
+    placed-added _ c.push_places.new.found.items _ _ c.new-found.ensures.items c.in_ok-push_places.ensures.paths c.in_ok-push_places.ensures.ranges
+    ∙ ap (λ (path : List ℕ). placed (with_paths path (tree_of c.args.mail.now)) (placements_of c.args.mail.now)) c.whole_path.ensures

@@ -1,10 +1,7 @@
 use Rattle.std.proofs.Common.{lit<}
 use Rattle.std.proofs.lemmas.Str.Pattern.{split_once_first}
-use Rattle.mail_data.proofs.lemmas.lenient.Ids.{opening-pieces, opening-shorter}
+use Rattle.mail_data.proofs.lemmas.lenient.Ids.{opening-pieces}
 use Rattle.mail_data.proofs.lenient.ids.cut_at_opening.Goals as goal
 
 pub returns-clause-pieces : goal.returns-clause-pieces
 returns-clause-pieces c = opening-pieces c.args.text.now _ (split_once_first 60 c.args.text.now _ c.split_once.ensures.cases (lit< tt))
-
-pub returns-clause-shorter : goal.returns-clause-shorter
-returns-clause-shorter c = opening-shorter c.args.text.now _ (split_once_first 60 c.args.text.now _ c.split_once.ensures.cases (lit< tt))

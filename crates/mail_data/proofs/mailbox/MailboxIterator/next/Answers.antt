@@ -1,18 +1,18 @@
 use Rattle.std.proofs.Common.{◌∷◌, ℕ, List, sym, ap, ◌∙◌, arith, length}
-use Rattle.mail_data.specs.Mailbox.{Entry, entries_from, next_entry}
-use Rattle.mail_data.proofs.lemmas.Mailbox.{entries_from-none, entries_from-some}
+use Rattle.mail_data.specs.Mailbox.{Entry, entries_from, mail_length, next_entry}
+use Rattle.mail_data.proofs.lemmas.Mailbox.{entries-none, entries-some}
 use Rattle.mail_data.proofs.mailbox.MailboxIterator.next.Goals as goal
 
 pub returns-then-not-is_separator-clause-steps : goal.returns-then-not-is_separator-clause-steps
 returns-then-not-is_separator-clause-steps c =
-    let none = entries_from-none c.args.self.now.rest.now (sym c.is_separator.ensures ∙ c.if-not-is_separator.true) in
+    let none = entries-none mail_length c.args.self.now.rest.now (sym c.is_separator.ensures ∙ c.if-not-is_separator.true) in
     (none, none)
 
 pub returns-clause-steps : goal.returns-clause-steps
 returns-clause-steps c =
-    entries_from-some c.args.self.now.rest.now (sym c.is_separator.ensures ∙ c.if-not-is_separator.false)
-    ∙ ap (λ (e : Entry). e ∷ entries_from (next_entry c.args.self.now.rest.now)) (sym c.cut_entry-entry.ensures.entry)
-    ∙ ap (λ (r : List ℕ). c.cut_entry-entry.result.0 ∷ entries_from r) (sym c.cut_entry-entry.ensures.after)
+    entries-some mail_length c.args.self.now.rest.now (sym c.is_separator.ensures ∙ c.if-not-is_separator.false)
+    ∙ ap (λ (e : Entry). e ∷ entries_from (next_entry c.args.self.now.rest.now)) (sym c.cut_in-entry.ensures.entry)
+    ∙ ap (λ (r : List ℕ). c.cut_in-entry.result.0 ∷ entries_from r) (sym c.cut_in-entry.ensures.after)
 
 pub returns-clause-goes : goal.returns-clause-goes
 returns-clause-goes c =

@@ -1,19 +1,19 @@
 use Rattle.std.proofs.Common.{◌∷◌, ℕ, List, sym, ap, ◌∙◌, arith, length}
-use Rattle.mail_data.specs.Mailbox.{Entry}
-use Rattle.mail_data.specs.MailboxFormats.{entries_from_in, next_in}
-use Rattle.mail_data.proofs.lemmas.MailboxFormats.{from_in-none, from_in-some}
+use Rattle.mail_data.specs.Mailbox.{Entry, next_by}
+use Rattle.mail_data.specs.MailboxFormats.{entries_from_in, length_in}
+use Rattle.mail_data.proofs.lemmas.Mailbox.{entries-none, entries-some}
 use Rattle.mail_data.proofs.mailbox.formats.MailboxInIterator.next.Goals as goal
 
 pub returns-then-not-is_separator-clause-steps : goal.returns-then-not-is_separator-clause-steps
 returns-then-not-is_separator-clause-steps c =
-    let none = from_in-none c.args.self.now.format c.args.self.now.rest.now (sym c.is_separator.ensures ∙ c.if-not-is_separator.true) in
+    let none = entries-none (length_in c.args.self.now.format) c.args.self.now.rest.now (sym c.is_separator.ensures ∙ c.if-not-is_separator.true) in
     (none, none)
 
 pub returns-clause-steps : goal.returns-clause-steps
 returns-clause-steps c =
     let format = c.args.self.now.format in
-    from_in-some format c.args.self.now.rest.now (sym c.is_separator.ensures ∙ c.if-not-is_separator.false)
-    ∙ ap (λ (e : Entry). e ∷ entries_from_in format (next_in format c.args.self.now.rest.now)) (sym c.cut_in-entry.ensures.entry)
+    entries-some (length_in format) c.args.self.now.rest.now (sym c.is_separator.ensures ∙ c.if-not-is_separator.false)
+    ∙ ap (λ (e : Entry). e ∷ entries_from_in format (next_by (length_in format) c.args.self.now.rest.now)) (sym c.cut_in-entry.ensures.entry)
     ∙ ap (λ (r : List ℕ). c.cut_in-entry.result.0 ∷ entries_from_in format r) (sym c.cut_in-entry.ensures.after)
 
 pub returns-clause-goes : goal.returns-clause-goes
