@@ -1,19 +1,18 @@
 -- Lemmas on runs over what the grammar of a mailbox is made of.
-use Rattle.std.proofs.Common.{◌≡◌, ℕ, suc, ◌+◌, Bool, true, false, eqb, List, [], ◌∷◌, ◌++◌, length, refl, sym, ap, subst, ◌∙◌, arith, append_assoc, length-append}
+use Rattle.std.proofs.Common.{◌≡◌, ℕ, suc, ◌+◌, Bool, true, false, List, [], ◌∷◌, ◌++◌, length, refl, sym, ap, subst, ◌∙◌, arith, append_assoc, length-append}
 use Rattle.std.specs.List.{list_all, prefix_len}
-use Rattle.std.proofs.lemmas.Bool.{and_parts, cond-false, eq-eqb, false≢true, ne_eqb}
+use Rattle.std.proofs.lemmas.Bool.{and_parts, cond-false, eq-eqb}
 use Rattle.std.proofs.lemmas.List.{append-nil}
 use Rattle.mail_address.specs.declared.tokens.Kind.{Kind}
 use Rattle.mail_address.specs.declared.tokens.Kind.TheVariants.{At, Atom, Blank, Colon, Comma, Comment, Dot, Literal, Quoted, Semicolon}
 use Rattle.mail_address.specs.declared.tokens.Span.{Span}
 use Rattle.mail_address.specs.declared.tokens.Span.TheVariants.{Atoms, Literals, White, Word}
-use Rattle.mail_address.specs.Enclosed.{IsBetween, IsClosed, IsCommented, IsInAngles, angles_end, angles_pair, angles_byte, angles_closed, in_comment, in_literal, in_quotes, is_opener}
+use Rattle.mail_address.specs.Enclosed.{IsClosed, IsInAngles, angles_end, angles_pair, angles_byte, angles_closed, in_comment, in_literal, in_quotes, is_opener}
 use Rattle.mail_address.specs.Grammar.{AreDotted, AreDotWords, AreStops, atom, any_word, any_words, atoms, dot_word, dots_end, dotted, in_brackets, IsDomain, IsName, IsPadded, IsPhrase, IsPhraseRest, IsRoute, IsStop, IsWhite, IsWord, last_stop, literal, literals, MayBeRoute, more_stops, next_stop, no_name, no_route, no_stop, one_stop, phrase, phrase_dot, phrase_ends, phrase_white, phrase_word, route, stop, white_byte, white_comment, white_ends, Words}
 use Rattle.mail_address.specs.Names.{IsNameWord, atom_word, quoted_word}
 use Rattle.mail_address.specs.Tokens.{front_token, is_all_white, is_atom_byte, is_in, is_white, run, single_kind, step}
-use Rattle.mail_address.proofs.lemmas.Enclosed.{comment-is, far-run, literal-is, marked, marked-length, quoted-front, run-token, step-token}
-use Rattle.mail_address.proofs.lemmas.Names.{atom_byte-other, atom_byte-visible, no_atom_bytes, nothing-passed}
-use Rattle.mail_address.proofs.lemmas.Tokens.{far-stop}
+use Rattle.mail_address.proofs.lemmas.Enclosed.{closed-passed, comment-closed, far-run, literal-closed, marked, quoted-closed, run-token, step-token}
+use Rattle.mail_address.proofs.lemmas.Tokens.{atom_byte-visible, byte-other, far-nothing, far-stop, no_atom_bytes}
 
 -- ---- what a run goes over
 
@@ -39,7 +38,7 @@ passed-same span e passed = subst (IsPassed span) (sym e) passed
 pub passed-whole : (span : Span) (text : List ℕ) → IsPassed span text → run span text ≡ length text
 passed-whole span text passed =
     let all = passed [] in
-    let none = nothing-passed span in
+    let none = far-nothing (step span) in
     let same = ap (run span) (append-nil text) in
     omega (arith, all, none, same)
 
@@ -49,30 +48,13 @@ passed-up_to span text rest passed none = let all = passed rest in omega (arith,
 
 -- ---- tokens
 
-byte-other : (test : ℕ → Bool) (b other : ℕ) → test b ≡ true → test other ≡ false → eqb b other ≡ false
-byte-other test b other h none = ne_eqb b other (λ e. false≢true (sym none ∙ ap test (sym e) ∙ h))
-
 pub atom_byte-front : (b : ℕ) (rest : List ℕ) → is_atom_byte b ≡ true → front_token (b ∷ rest) ≡ record { kind = Atom; len = 1 + prefix_len is_atom_byte rest }
 unfolding front_token
-atom_byte-front b rest h = cond-false _ _ _ (atom_byte-other b 60 h no_atom_bytes.0) ∙ rw (atom_byte-visible b h, h) refl
+atom_byte-front b rest h = cond-false _ _ _ (byte-other is_atom_byte b 60 h no_atom_bytes.0) ∙ rw (atom_byte-visible b h, h) refl
 
 white_byte-front : (b : ℕ) (rest : List ℕ) → is_white b ≡ true → front_token (b ∷ rest) ≡ record { kind = Blank; len = 1 + prefix_len is_white rest }
 unfolding front_token
 white_byte-front b rest h = cond-false _ _ _ (byte-other is_white b 60 h refl) ∙ rw h refl
-
-pub comment-front : {inner bytes : List ℕ} → IsCommented inner → bytes ≡ 40 ∷ (inner ++ 41 ∷ []) → (rest : List ℕ)
-    → front_token (bytes ++ rest) ≡ record { kind = Comment; len = length bytes }
-unfolding front_token is_atom_byte
-comment-front {inner} {bytes} commented e rest =
-    ap (λ b. front_token (b ++ rest)) e ∙ ap front_token (marked 40 41 inner rest) ∙ comment-is inner rest commented
-    ∙ ap (λ n. record { kind = Comment; len = n }) (sym (ap length e ∙ marked-length 40 41 inner))
-
-pub literal-front : {inner bytes : List ℕ} → IsBetween 91 93 inner → bytes ≡ 91 ∷ (inner ++ 93 ∷ []) → (rest : List ℕ)
-    → front_token (bytes ++ rest) ≡ record { kind = Literal; len = length bytes }
-unfolding front_token is_atom_byte
-literal-front {inner} {bytes} between e rest =
-    ap (λ b. front_token (b ++ rest)) e ∙ ap front_token (marked 91 93 inner rest) ∙ literal-is inner rest between
-    ∙ ap (λ n. record { kind = Literal; len = n }) (sym (ap length e ∙ marked-length 91 93 inner))
 
 pub dot-front : (rest : List ℕ) → front_token (46 ∷ rest) ≡ record { kind = Dot; len = 1 }
 unfolding front_token is_atom_byte single_kind
@@ -119,13 +101,8 @@ white-passed span blank comment (white_byte {b = b} {rest = more} h white) rest 
     let here = white_byte-passed span b (more ++ rest) blank h in
     omega (arith, here, later)
 white-passed span blank comment {bytes} (white_comment {inner = inner} {rest = more} commented white e) rest =
-    let front : List ℕ = 40 ∷ (inner ++ 41 ∷ []) in
-    let len = marked-length 40 41 inner in
     passed-same span (e ∙ sym (marked 40 41 inner more))
-    (passed-append span front more
-    (λ rest. run-token span front rest Comment (omega (arith, len)) (comment-front commented refl rest) comment)
-    (white-passed span blank comment white))
-    rest
+    (passed-append span (40 ∷ (inner ++ 41 ∷ [])) more (closed-passed span (comment-closed commented refl) comment) (white-passed span blank comment white)) rest
 
 atoms-passed : (span : Span) → is_in span Atom ≡ true → (bytes : List ℕ) → list_all is_atom_byte bytes ≡ true → IsPassed span bytes
 atoms-passed span goes [] h rest = omega arith
@@ -136,9 +113,7 @@ atoms-passed span goes (b ∷ bytes) h rest =
     omega (arith, here, later)
 
 pub name_word-passed : (span : Span) → is_in span Atom ≡ true → is_in span Quoted ≡ true → {bytes : List ℕ} → IsNameWord bytes → IsPassed span bytes
-name_word-passed span goes quoted {bytes} (quoted_word {inner = inner} between e) rest =
-    let len : length bytes ≡ length inner + 2 = ap length e ∙ marked-length 34 34 inner in
-    run-token span bytes rest Quoted (omega (arith, len)) (quoted-front between e rest) quoted
+name_word-passed span goes quoted (quoted_word between e) rest = closed-passed span (quoted-closed between e) quoted rest
 name_word-passed span goes quoted (atom_word {b = b} {bytes = bytes} h) rest = atoms-passed span goes (b ∷ bytes) h rest
 
 -- the span of words
@@ -170,9 +145,7 @@ pub over-literals : (span : Span) → is_in span Blank ≡ true → is_in span C
 over-literals span blank comment dot goes = record { blank = blank; comment = comment; dot = dot; word = λ is. go is }
   where
     go : {bytes : List ℕ} → IsWord literals bytes → IsPassed span bytes
-    go {bytes} (literal {inner = inner} between e) rest =
-        let len : length bytes ≡ length inner + 2 = ap length e ∙ marked-length 91 93 inner in
-        run-token span bytes rest Literal (omega (arith, len)) (literal-front between e rest) goes
+    go (literal between e) = closed-passed span (literal-closed between e) goes
 
 padded-passed : {words : Words} {span : Span} → GoesOver words span → {bytes : List ℕ} → IsPadded words bytes → IsPassed span bytes
 padded-passed {words} {span} over is =
@@ -279,12 +252,8 @@ opens_not test b h q p s e o c =
 white_byte-angles : (b : ℕ) → is_white b ≡ true → is_opener b ≡ false
 white_byte-angles b h = opens_not is_white b h refl refl refl refl refl refl
 
-no_atoms : (is_atom_byte 34 ≡ false) × (is_atom_byte 40 ≡ false) × (is_atom_byte 91 ≡ false) × (is_atom_byte 92 ≡ false) × (is_atom_byte 60 ≡ false) × (is_atom_byte 62 ≡ false)
-unfolding is_atom_byte
-no_atoms = (refl, refl, refl, refl, refl, refl)
-
 atom_byte-angles : (b : ℕ) → is_atom_byte b ≡ true → is_opener b ≡ false
-atom_byte-angles b h = let n = no_atoms in opens_not is_atom_byte b h n.0 n.1 n.2 n.3 n.4 n.5
+atom_byte-angles b h = let n = no_atom_bytes in opens_not is_atom_byte b h n.5 n.6 n.7 n.8 n.0 n.9
 
 white-angles : {bytes : List ℕ} → IsWhite bytes → IsInAngles bytes
 white-angles white_ends = angles_end
