@@ -288,33 +288,25 @@ step-token span bytes some = go (is_in span (front_token bytes).kind) refl some
     go false e some = absurd (some refl)
 
 -- what a step is repeated over, in pieces
-far_within-made : (pass : List ℕ → ℕ) (P : List ℕ → Type 0) → P []
-    → ((bytes : List ℕ) (k : ℕ) → pass bytes ≢ 0 → P (take k (drop (pass bytes) bytes)) → P (take (pass bytes) bytes ++ take k (drop (pass bytes) bytes)))
-    → (most : ℕ) (bytes : List ℕ) → P (take (far_within pass most bytes) bytes)
-far_within-made pass P none more zero bytes = none
-far_within-made pass P none more (suc most) [] = none
-far_within-made pass P none more (suc most) (b ∷ bytes) =
-    go (eqb (pass (b ∷ bytes)) 0) refl (far_within-made pass P none more most (drop (pass (b ∷ bytes)) (b ∷ bytes)))
-  where
-    go : (t : Bool) → eqb (pass (b ∷ bytes)) 0 ≡ t
-        → P (take (far_within pass most (drop (pass (b ∷ bytes)) (b ∷ bytes))) (drop (pass (b ∷ bytes)) (b ∷ bytes)))
-        → P (take (cond t 0 (pass (b ∷ bytes) + far_within pass most (drop (pass (b ∷ bytes)) (b ∷ bytes)))) (b ∷ bytes))
-    go true e later = none
-    go false e later =
-        subst P (sym (take-add (pass (b ∷ bytes)) (far_within pass most (drop (pass (b ∷ bytes)) (b ∷ bytes))) (b ∷ bytes)))
-        (more (b ∷ bytes) (far_within pass most (drop (pass (b ∷ bytes)) (b ∷ bytes))) (eqb-false (pass (b ∷ bytes)) 0 e) later)
+module _ (pass : List ℕ → ℕ) (P : List ℕ → Type 0) (none : P [])
+    (more : (bytes : List ℕ) (k : ℕ) → pass bytes ≢ 0 → P (take k (drop (pass bytes) bytes)) → P (take (pass bytes) bytes ++ take k (drop (pass bytes) bytes))) where
+  far_within-made : (most : ℕ) (bytes : List ℕ) → P (take (far_within pass most bytes) bytes)
+  far_within-made zero bytes = none
+  far_within-made (suc most) [] = none
+  far_within-made (suc most) (b ∷ bytes) =
+      let all : List ℕ = b ∷ bytes in
+      let left : ℕ = far_within pass most (drop (pass all) all) in
+      let later = far_within-made most (drop (pass all) all) in
+      cond_both (eqb (pass all) 0) 0 (pass all + left) (λ n. P (take n all)) (λ e. none)
+      (λ e. subst P (sym (take-add (pass all) left all)) (more all left (eqb-false (pass all) 0 e) later))
 
-far-made : (pass : List ℕ → ℕ) (P : List ℕ → Type 0) → P []
-    → ((bytes : List ℕ) (k : ℕ) → pass bytes ≢ 0 → P (take k (drop (pass bytes) bytes)) → P (take (pass bytes) bytes ++ take k (drop (pass bytes) bytes)))
-    → (bytes : List ℕ) → P (take (far pass bytes) bytes)
-unfolding far
-far-made pass P none more bytes = far_within-made pass P none more (length bytes) bytes
+  far-made : (bytes : List ℕ) → P (take (far pass bytes) bytes)
+  unfolding far
+  far-made bytes = far_within-made (length bytes) bytes
 
--- the whole, where it is repeated over all
-far-whole : (pass : List ℕ → ℕ) (P : List ℕ → Type 0) → P []
-    → ((bytes : List ℕ) (k : ℕ) → pass bytes ≢ 0 → P (take k (drop (pass bytes) bytes)) → P (take (pass bytes) bytes ++ take k (drop (pass bytes) bytes)))
-    → (bytes : List ℕ) → far pass bytes ≡ length bytes → P bytes
-far-whole pass P none more bytes all = subst P (take_all (far pass bytes) bytes (omega (arith, all))) (far-made pass P none more bytes)
+  -- the whole, where it is repeated over all
+  far-whole : (bytes : List ℕ) → far pass bytes ≡ length bytes → P bytes
+  far-whole bytes all = subst P (take_all (far pass bytes) bytes (omega (arith, all))) (far-made bytes)
 
 -- where a run ends before the bytes do, a token stands that it does not go over
 module _ (span : Span) (test : ℕ → Bool) (meets : (kind : Kind) (text : List ℕ) → is_in span kind ≡ false → Meets kind text → begins test text ≡ true) where

@@ -15,7 +15,7 @@ use Rattle.mail_address.specs.Mailbox.{after_route, after_white, dot_word_len, i
 use Rattle.mail_address.specs.Names.{atom_word, quoted_word}
 use Rattle.mail_address.specs.Tokens.{far, front_token, is_all_white, is_atom_byte, is_in, run, step}
 use Rattle.mail_address.proofs.lemmas.Enclosed.{angle-front, ClosedToken, far-token, literal-closed, marked, marked-length, quoted-closed, step-token}
-use Rattle.mail_address.proofs.lemmas.Passed.{IsPassed, at_domain-passed, at-front, atom_byte-front, colon-front, comma-front, dot-front, dotted-passed, name-passed, over-atoms, over-literals, over-words, passed-append, passed-up_to, passed-whole, phrase-passed, route-passed, route-stops, run-stops, span_of, spec-angles, stop-passed, white-passed, white-whole}
+use Rattle.mail_address.proofs.lemmas.Passed.{IsPassed, at_domain-passed, at-front, at-passed, atom_byte-front, colon-front, comma-front, comma-passed, dot-front, dotted-passed, name-passed, over-atoms, over-literals, over-words, passed-append, passed-up_to, passed-whole, phrase-passed, route-passed, route-stops, run-stops, span_of, spec-angles, stop-passed, white-passed, white-whole}
 use Rattle.mail_address.proofs.lemmas.Tokens.{atom_byte-visible, far-nothing}
 
 -- ---- one word
@@ -191,7 +191,7 @@ phrase-read {bytes} is =
     ap (run White) is.made ∙ passed-up_to White is.before behind (white-passed White refl refl is.white_before) (run-stops White behind front.len front.kind front.front front.no_white) in
     let cut : drop (run White bytes) bytes ≡ behind = ap (λ n. drop n bytes) white ∙ ap (drop (length is.before)) is.made ∙ drop_at is.before behind (length is.before) refl in
     and_from _ _ (ap (λ b. is_in Word (front_token b).kind) cut ∙ ap (λ t. is_in Word t.kind) front.front ∙ front.goes)
-    (eq-eqb (run Phrase bytes) (length bytes) (passed-whole Phrase bytes (phrase-passed Phrase (over-words Phrase refl refl refl refl refl) is)))
+    (eq-eqb (run Phrase bytes) (length bytes) (passed-whole Phrase bytes (phrase-passed (over-words Phrase refl refl refl refl refl) is)))
 
 name-read : {bytes : List ℕ} → IsName bytes → (is_all_white bytes || is_phrase bytes) ≡ true
 name-read {bytes} (no_name is) = or_left (is_all_white bytes) (is_phrase bytes) (white-whole is)
@@ -208,7 +208,7 @@ stop-read {bytes} (stop {white = white} {domain = domain} is_white domain_is e) 
     ∙ ap (λ b. begins (λ c. eqb c 64) b && is_domain (drop 1 b)) (at-behind_white white domain is_white) ∙ domain-read domain_is)
 
 over-comma : {bytes : List ℕ} → IsStop bytes → IsPassed BeforeComma bytes
-over-comma is = stop-passed (over-atoms BeforeComma refl refl refl refl) (over-literals BeforeComma refl refl refl refl) refl is
+over-comma is = stop-passed (over-atoms BeforeComma refl refl refl refl) (over-literals BeforeComma refl refl refl refl) (at-passed BeforeComma refl) is
 
 stop_len-from : (text : List ℕ) (n : ℕ) → run BeforeComma text ≡ n → is_stop (take n text) ≡ true → stop_len text ≡ min (suc n) (length text)
 unfolding stop_len
@@ -275,7 +275,7 @@ module _ (local domain : List ℕ) (is_local : AreDotted any_words local) (domai
   over-spec : IsPassed BeforeColon (local ++ 64 ∷ domain)
   over-spec =
       passed-append BeforeColon local (64 ∷ domain) (dotted-passed (over-words BeforeColon refl refl refl refl refl) is_local)
-      (at_domain-passed (over-atoms BeforeColon refl refl refl refl) (over-literals BeforeColon refl refl refl refl) refl [] domain white_ends domain_is)
+      (at_domain-passed (over-atoms BeforeColon refl refl refl refl) (over-literals BeforeColon refl refl refl refl) (at-passed BeforeColon refl) [] domain white_ends domain_is)
 
   no_route-read : after_route (local ++ 64 ∷ domain) ≡ local ++ 64 ∷ domain
   unfolding after_route
@@ -290,7 +290,7 @@ module _ (local domain : List ℕ) (is_local : AreDotted any_words local) (domai
       let spec : List ℕ = local ++ 64 ∷ domain in
       let len : run BeforeColon (stops ++ 58 ∷ spec) ≡ length stops =
       passed-up_to BeforeColon stops (58 ∷ spec)
-      (route-passed (over-atoms BeforeColon refl refl refl refl) (over-literals BeforeColon refl refl refl refl) refl refl is)
+      (route-passed (over-atoms BeforeColon refl refl refl refl) (over-literals BeforeColon refl refl refl refl) (at-passed BeforeColon refl) (comma-passed BeforeColon refl) is)
       (run-stops BeforeColon (58 ∷ spec) 1 Colon (colon-front spec) refl) in
       let at : drop (length stops) (stops ++ 58 ∷ spec) ≡ 58 ∷ spec = drop_at stops (58 ∷ spec) (length stops) refl in
       let front : take (length stops) (stops ++ 58 ∷ spec) ≡ stops = take_at stops (58 ∷ spec) (length stops) refl in
@@ -340,7 +340,7 @@ module _ (name inner after : List ℕ) (is_name : IsName name) (inside : IsInAng
   unfolding mailbox_of
   bracket-read =
       let len : run Phrase (name ++ bracket) ≡ length name =
-      passed-up_to Phrase name bracket (name-passed Phrase (over-words Phrase refl refl refl refl refl) is_name) (run-stops Phrase bracket (length inner + 2) Angle angle refl) in
+      passed-up_to Phrase name bracket (name-passed (over-words Phrase refl refl refl refl refl) is_name) (run-stops Phrase bracket (length inner + 2) Angle angle refl) in
       let at : drop (length name) (name ++ bracket) ≡ bracket = drop_at name bracket (length name) refl in
       let front : take (length name) (name ++ bracket) ≡ name = take_at name bracket (length name) refl in
       rw (len, at, front) (rw angle named-read)

@@ -102,9 +102,9 @@ no_items start = refl
 
 -- what a run goes over that a comma or another mark stops
 pub record Crosses (span : Span) : Type 0 where
-  pub over_words : GoesOver any_words span
-  pub over_atoms : GoesOver atoms span
-  pub over_literals : GoesOver literals span
+  pub over_words : GoesOver any_words (IsPassed span)
+  pub over_atoms : GoesOver atoms (IsPassed span)
+  pub over_literals : GoesOver literals (IsPassed span)
   pub at : is_in span At ≡ true
   pub angle : is_in span Angle ≡ true
 
@@ -221,7 +221,7 @@ module _ (name inner : List ℕ) (words : AreNameWords name) (inside : IsInAngle
 
   text-passed : (span : Span) → Crosses span → IsPassed span text
   text-passed span crosses =
-      passed-append span name (bracketed inner) (phrase-passed span crosses.over_words (names-phrase words))
+      passed-append span name (bracketed inner) (phrase-passed crosses.over_words (names-phrase words))
       (λ rest. enclosed-passed span (bracketed inner) rest crosses.angle (in_angles inside refl))
 
   text-shown : is_all_white text ≡ false

@@ -122,79 +122,77 @@ span_of any_words = Word
 span_of atoms = Atoms
 span_of literals = Literals
 
--- what a run has to go over, so that it goes over such words
-pub record GoesOver (words : Words) (span : Span) : Type 0 where
-  pub blank : is_in span Blank ≡ true
-  pub comment : is_in span Comment ≡ true
-  pub dot : is_in span Dot ≡ true
-  pub word : {bytes : List ℕ} → IsWord words bytes → IsPassed span bytes
-
-pub over-words : (span : Span) → is_in span Blank ≡ true → is_in span Comment ≡ true → is_in span Dot ≡ true → is_in span Atom ≡ true → is_in span Quoted ≡ true → GoesOver any_words span
-over-words span blank comment dot goes quoted = record { blank = blank; comment = comment; dot = dot; word = λ is. go is }
-  where
-    go : {bytes : List ℕ} → IsWord any_words bytes → IsPassed span bytes
-    go (any_word is) = name_word-passed span goes quoted is
-
-pub over-atoms : (span : Span) → is_in span Blank ≡ true → is_in span Comment ≡ true → is_in span Dot ≡ true → is_in span Atom ≡ true → GoesOver atoms span
-over-atoms span blank comment dot goes = record { blank = blank; comment = comment; dot = dot; word = λ is. go is }
-  where
-    go : {bytes : List ℕ} → IsWord atoms bytes → IsPassed span bytes
-    go (atom {b = b} {bytes = bytes} h) = atoms-passed span goes (b ∷ bytes) h
-
-pub over-literals : (span : Span) → is_in span Blank ≡ true → is_in span Comment ≡ true → is_in span Dot ≡ true → is_in span Literal ≡ true → GoesOver literals span
-over-literals span blank comment dot goes = record { blank = blank; comment = comment; dot = dot; word = λ is. go is }
-  where
-    go : {bytes : List ℕ} → IsWord literals bytes → IsPassed span bytes
-    go (literal between e) = closed-passed span (literal-closed between e) goes
-
-padded-passed : {words : Words} {span : Span} → GoesOver words span → {bytes : List ℕ} → IsPadded words bytes → IsPassed span bytes
-padded-passed {words} {span} over is =
-    passed-same span is.made
-    (passed-append span is.before (is.word ++ is.after) (white-passed span over.blank over.comment is.white_before)
-    (passed-append span is.word is.after (over.word is.is_word) (white-passed span over.blank over.comment is.white_after)))
-
 dot-passed : (span : Span) → is_in span Dot ≡ true → IsPassed span (46 ∷ [])
 dot-passed span goes rest = run-token span (46 ∷ []) rest Dot (omega arith) (dot-front rest) goes
 
-at-passed : (span : Span) → is_in span At ≡ true → IsPassed span (64 ∷ [])
+pub at-passed : (span : Span) → is_in span At ≡ true → IsPassed span (64 ∷ [])
 at-passed span goes rest = run-token span (64 ∷ []) rest At (omega arith) (at-front rest) goes
 
 pub comma-passed : (span : Span) → is_in span Comma ≡ true → IsPassed span (44 ∷ [])
 comma-passed span goes rest = run-token span (44 ∷ []) rest Comma (omega arith) (comma-front rest) goes
 
-dot_words-passed : {words : Words} {span : Span} → GoesOver words span → {bytes : List ℕ} → AreDotWords words bytes → IsPassed span bytes
-dot_words-passed {words} {span} over dots_end = passed-nil span
-dot_words-passed {words} {span} over (dot_word {word = word} {rest = rest} is more e) =
-    passed-same span e
-    (passed-append span (46 ∷ []) (word ++ rest) (dot-passed span over.dot)
-    (passed-append span word rest (padded-passed over is) (dot_words-passed over more)))
+-- what holds of such words and of what stands between them, as that a run goes over it
+pub record GoesOver (words : Words) (P : List ℕ → Type 0) : Type 0 where
+  pub none : P []
+  pub both : (one two : List ℕ) → P one → P two → P (one ++ two)
+  pub white : {bytes : List ℕ} → IsWhite bytes → P bytes
+  pub dot : P (46 ∷ [])
+  pub word : {bytes : List ℕ} → IsWord words bytes → P bytes
 
-pub dotted-passed : {words : Words} {span : Span} → GoesOver words span → {bytes : List ℕ} → AreDotted words bytes → IsPassed span bytes
-dotted-passed {words} {span} over are =
-    passed-same span are.made (passed-append span are.first are.rest (padded-passed over are.is_first) (dot_words-passed over are.are_rest))
+over : {words : Words} (span : Span) → is_in span Blank ≡ true → is_in span Comment ≡ true → is_in span Dot ≡ true → ((bytes : List ℕ) → IsWord words bytes → IsPassed span bytes)
+    → GoesOver words (IsPassed span)
+over span blank comment dot word =
+    record { none = passed-nil span; both = passed-append span; white = λ is. white-passed span blank comment is; dot = dot-passed span dot; word = λ is. word _ is }
 
-pub domain-passed : {span : Span} → GoesOver atoms span → GoesOver literals span → {bytes : List ℕ} → IsDomain bytes → IsPassed span bytes
+pub over-words : (span : Span) → is_in span Blank ≡ true → is_in span Comment ≡ true → is_in span Dot ≡ true → is_in span Atom ≡ true → is_in span Quoted ≡ true
+    → GoesOver any_words (IsPassed span)
+over-words span blank comment dot goes quoted = over span blank comment dot (λ bytes is. go is)
+  where
+    go : {bytes : List ℕ} → IsWord any_words bytes → IsPassed span bytes
+    go (any_word is) = name_word-passed span goes quoted is
+
+pub over-atoms : (span : Span) → is_in span Blank ≡ true → is_in span Comment ≡ true → is_in span Dot ≡ true → is_in span Atom ≡ true → GoesOver atoms (IsPassed span)
+over-atoms span blank comment dot goes = over span blank comment dot (λ bytes is. go is)
+  where
+    go : {bytes : List ℕ} → IsWord atoms bytes → IsPassed span bytes
+    go (atom {b = b} {bytes = bytes} h) = atoms-passed span goes (b ∷ bytes) h
+
+pub over-literals : (span : Span) → is_in span Blank ≡ true → is_in span Comment ≡ true → is_in span Dot ≡ true → is_in span Literal ≡ true → GoesOver literals (IsPassed span)
+over-literals span blank comment dot goes = over span blank comment dot (λ bytes is. go is)
+  where
+    go : {bytes : List ℕ} → IsWord literals bytes → IsPassed span bytes
+    go (literal between e) = closed-passed span (literal-closed between e) goes
+
+padded-passed : {words : Words} {P : List ℕ → Type 0} → GoesOver words P → {bytes : List ℕ} → IsPadded words bytes → P bytes
+padded-passed {words} {P} over is =
+    subst P (sym is.made)
+    (over.both is.before (is.word ++ is.after) (over.white is.white_before) (over.both is.word is.after (over.word is.is_word) (over.white is.white_after)))
+
+dot_words-passed : {words : Words} {P : List ℕ → Type 0} → GoesOver words P → {bytes : List ℕ} → AreDotWords words bytes → P bytes
+dot_words-passed {words} {P} over dots_end = over.none
+dot_words-passed {words} {P} over (dot_word {word = word} {rest = rest} is more e) =
+    subst P (sym e) (over.both (46 ∷ []) (word ++ rest) over.dot (over.both word rest (padded-passed over is) (dot_words-passed over more)))
+
+pub dotted-passed : {words : Words} {P : List ℕ → Type 0} → GoesOver words P → {bytes : List ℕ} → AreDotted words bytes → P bytes
+dotted-passed {words} {P} over are = subst P (sym are.made) (over.both are.first are.rest (padded-passed over are.is_first) (dot_words-passed over are.are_rest))
+
+domain-passed : {P : List ℕ → Type 0} → GoesOver atoms P → GoesOver literals P → {bytes : List ℕ} → IsDomain bytes → P bytes
 domain-passed one two (dotted are) = dotted-passed one are
 domain-passed one two (in_brackets is) = padded-passed two is
 
 -- an `@` and a domain, with whitespace before them
-pub at_domain-passed : {span : Span} → GoesOver atoms span → GoesOver literals span → is_in span At ≡ true → (white domain : List ℕ) → IsWhite white → IsDomain domain
-    → IsPassed span (white ++ 64 ∷ domain)
-at_domain-passed {span} one two goes white domain is_white is_domain =
-    passed-append span white (64 ∷ domain) (white-passed span one.blank one.comment is_white)
-    (passed-append span (64 ∷ []) domain (at-passed span goes) (domain-passed one two is_domain))
+pub at_domain-passed : {P : List ℕ → Type 0} → GoesOver atoms P → GoesOver literals P → P (64 ∷ []) → (white domain : List ℕ) → IsWhite white → IsDomain domain → P (white ++ 64 ∷ domain)
+at_domain-passed one two at white domain is_white is_domain =
+    one.both white (64 ∷ domain) (one.white is_white) (one.both (64 ∷ []) domain at (domain-passed one two is_domain))
 
-pub stop-passed : {span : Span} → GoesOver atoms span → GoesOver literals span → is_in span At ≡ true → {bytes : List ℕ} → IsStop bytes → IsPassed span bytes
-stop-passed {span} one two goes (no_stop white) = white-passed span one.blank one.comment white
-stop-passed {span} one two goes (stop {white = white} {domain = domain} is_white is_domain e) =
-    passed-same span e (at_domain-passed one two goes white domain is_white is_domain)
+pub stop-passed : {P : List ℕ → Type 0} → GoesOver atoms P → GoesOver literals P → P (64 ∷ []) → {bytes : List ℕ} → IsStop bytes → P bytes
+stop-passed {P} one two at (no_stop white) = one.white white
+stop-passed {P} one two at (stop {white = white} {domain = domain} is_white is_domain e) = subst P (sym e) (at_domain-passed one two at white domain is_white is_domain)
 
-stops-passed : {span : Span} → GoesOver atoms span → GoesOver literals span → is_in span At ≡ true → is_in span Comma ≡ true → {bytes : List ℕ} → AreStops bytes → IsPassed span bytes
-stops-passed {span} one two goes comma (last_stop is) = stop-passed one two goes is
-stops-passed {span} one two goes comma (next_stop {first = first} {rest = rest} is more e) =
-    passed-same span e
-    (passed-append span first (44 ∷ rest) (stop-passed one two goes is)
-    (passed-append span (44 ∷ []) rest (comma-passed span comma) (stops-passed one two goes comma more)))
+stops-passed : {P : List ℕ → Type 0} → GoesOver atoms P → GoesOver literals P → P (64 ∷ []) → P (44 ∷ []) → {bytes : List ℕ} → AreStops bytes → P bytes
+stops-passed {P} one two at comma (last_stop is) = stop-passed one two at is
+stops-passed {P} one two at comma (next_stop {first = first} {rest = rest} is more e) =
+    subst P (sym e) (one.both first (44 ∷ rest) (stop-passed one two at is) (one.both (44 ∷ []) rest comma (stops-passed one two at comma more)))
 
 -- a route is stops
 pub route-stops : {bytes : List ℕ} → IsRoute bytes → AreStops bytes
@@ -203,26 +201,23 @@ route-stops (more_stops {white = white} {domain = domain} {rest = rest} is_white
     next_stop {first = white ++ 64 ∷ domain} {rest = rest} (stop {white = white} {domain = domain} is_white is_domain refl) more
     (e ∙ sym (append_assoc white (64 ∷ domain) (44 ∷ rest)))
 
-pub route-passed : {span : Span} → GoesOver atoms span → GoesOver literals span → is_in span At ≡ true → is_in span Comma ≡ true → {bytes : List ℕ} → IsRoute bytes → IsPassed span bytes
-route-passed one two goes comma is = stops-passed one two goes comma (route-stops is)
+pub route-passed : {P : List ℕ → Type 0} → GoesOver atoms P → GoesOver literals P → P (64 ∷ []) → P (44 ∷ []) → {bytes : List ℕ} → IsRoute bytes → P bytes
+route-passed one two at comma is = stops-passed one two at comma (route-stops is)
 
-phrase_rest-passed : (span : Span) → GoesOver any_words span → {bytes : List ℕ} → IsPhraseRest bytes → IsPassed span bytes
-phrase_rest-passed span over phrase_ends = passed-nil span
-phrase_rest-passed span over (phrase_white {white = white} {rest = rest} is more e) =
-    passed-same span e (passed-append span white rest (white-passed span over.blank over.comment is) (phrase_rest-passed span over more))
-phrase_rest-passed span over (phrase_dot {rest = rest} more) = passed-append span (46 ∷ []) rest (dot-passed span over.dot) (phrase_rest-passed span over more)
-phrase_rest-passed span over (phrase_word {word = word} {rest = rest} is more e) =
-    passed-same span e (passed-append span word rest (over.word (any_word is)) (phrase_rest-passed span over more))
+phrase_rest-passed : {P : List ℕ → Type 0} → GoesOver any_words P → {bytes : List ℕ} → IsPhraseRest bytes → P bytes
+phrase_rest-passed {P} over phrase_ends = over.none
+phrase_rest-passed {P} over (phrase_white {white = white} {rest = rest} is more e) = subst P (sym e) (over.both white rest (over.white is) (phrase_rest-passed over more))
+phrase_rest-passed {P} over (phrase_dot {rest = rest} more) = over.both (46 ∷ []) rest over.dot (phrase_rest-passed over more)
+phrase_rest-passed {P} over (phrase_word {word = word} {rest = rest} is more e) = subst P (sym e) (over.both word rest (over.word (any_word is)) (phrase_rest-passed over more))
 
-pub phrase-passed : (span : Span) → GoesOver any_words span → {bytes : List ℕ} → IsPhrase bytes → IsPassed span bytes
-phrase-passed span over is =
-    passed-same span is.made
-    (passed-append span is.before (is.first ++ is.rest) (white-passed span over.blank over.comment is.white_before)
-    (passed-append span is.first is.rest (over.word (any_word is.is_first)) (phrase_rest-passed span over is.is_rest)))
+pub phrase-passed : {P : List ℕ → Type 0} → GoesOver any_words P → {bytes : List ℕ} → IsPhrase bytes → P bytes
+phrase-passed {P} over is =
+    subst P (sym is.made)
+    (over.both is.before (is.first ++ is.rest) (over.white is.white_before) (over.both is.first is.rest (over.word (any_word is.is_first)) (phrase_rest-passed over is.is_rest)))
 
-pub name-passed : (span : Span) → GoesOver any_words span → {bytes : List ℕ} → IsName bytes → IsPassed span bytes
-name-passed span over (no_name white) = white-passed span over.blank over.comment white
-name-passed span over (phrase is) = phrase-passed span over is
+pub name-passed : {P : List ℕ → Type 0} → GoesOver any_words P → {bytes : List ℕ} → IsName bytes → P bytes
+name-passed over (no_name white) = over.white white
+name-passed over (phrase is) = phrase-passed over is
 
 -- ---- whitespace, wholly
 
@@ -273,33 +268,21 @@ word-angles (any_word (atom_word {b = b} {bytes = bytes} h)) = atoms-angles (b �
 word-angles (atom {b = b} {bytes = bytes} h) = atoms-angles (b ∷ bytes) h
 word-angles (literal between e) = angles-closed (in_literal between e)
 
-padded-angles : {words : Words} {bytes : List ℕ} → IsPadded words bytes → IsInAngles bytes
-padded-angles is = angles-same is.made (angles-append (white-angles is.white_before) (angles-append (word-angles is.is_word) (white-angles is.white_after)))
+over-angles : (words : Words) → GoesOver words IsInAngles
+over-angles words = record {
+  none = angles_end;
+  both = λ one two first second. angles-append first second;
+  white = λ is. white-angles is;
+  dot = angles_byte refl angles_end;
+  word = λ is. word-angles is;
+}
 
-dot_words-angles : {words : Words} {bytes : List ℕ} → AreDotWords words bytes → IsInAngles bytes
-dot_words-angles dots_end = angles_end
-dot_words-angles (dot_word is more e) = angles-same e (angles_byte refl (angles-append (padded-angles is) (dot_words-angles more)))
-
-pub dotted-angles : {words : Words} {bytes : List ℕ} → AreDotted words bytes → IsInAngles bytes
-dotted-angles are = angles-same are.made (angles-append (padded-angles are.is_first) (dot_words-angles are.are_rest))
-
-domain-angles : {bytes : List ℕ} → IsDomain bytes → IsInAngles bytes
-domain-angles (dotted are) = dotted-angles are
-domain-angles (in_brackets is) = padded-angles is
-
-stop-angles : {bytes : List ℕ} → IsStop bytes → IsInAngles bytes
-stop-angles (no_stop white) = white-angles white
-stop-angles (stop white domain e) = angles-same e (angles-append (white-angles white) (angles_byte refl (domain-angles domain)))
-
-stops-angles : {bytes : List ℕ} → AreStops bytes → IsInAngles bytes
-stops-angles (last_stop is) = stop-angles is
-stops-angles (next_stop is more e) = angles-same e (angles-append (stop-angles is) (angles_byte refl (stops-angles more)))
-
-pub may_be_route-angles : {bytes : List ℕ} → MayBeRoute bytes → IsInAngles bytes
+may_be_route-angles : {bytes : List ℕ} → MayBeRoute bytes → IsInAngles bytes
 may_be_route-angles no_route = angles_end
-may_be_route-angles (route is e) = angles-same e (angles-append (stops-angles (route-stops is)) (angles_byte refl angles_end))
+may_be_route-angles (route is e) =
+    angles-same e (angles-append (route-passed (over-angles atoms) (over-angles literals) (angles_byte refl angles_end) (angles_byte refl angles_end) is) (angles_byte refl angles_end))
 
 -- an address, perhaps behind a route
 pub spec-angles : {may_be_route local domain : List ℕ} → MayBeRoute may_be_route → AreDotted any_words local → IsDomain domain
     → IsInAngles (may_be_route ++ (local ++ 64 ∷ domain))
-spec-angles is local domain = angles-append (may_be_route-angles is) (angles-append (dotted-angles local) (angles_byte refl (domain-angles domain)))
+spec-angles is local domain = angles-append (may_be_route-angles is) (angles-append (dotted-passed (over-angles any_words) local) (angles_byte refl (domain-passed (over-angles atoms) (over-angles literals) domain)))

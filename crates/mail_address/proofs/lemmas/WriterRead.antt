@@ -31,7 +31,7 @@ use Rattle.mail_address.proofs.lemmas.Enclosed.{enclosed-passed, marked}
 use Rattle.mail_address.proofs.lemmas.GrammarMade.{all_white-made}
 use Rattle.mail_address.proofs.lemmas.GrammarRead.{mailbox-read, phrase-read}
 use Rattle.mail_address.proofs.lemmas.Names.{no_items, Crosses, IsEnd, at_comma, at_end, crosses-group, crosses-mark, end-stops, member-first, single-first}
-use Rattle.mail_address.proofs.lemmas.Passed.{at_domain-passed, colon-front, comma-passed, dotted-passed, IsPassed, name-passed, passed-append, passed-same, passed-up_to, passed-whole, phrase-passed, run-stops, semicolon-front, spec-angles, white-passed}
+use Rattle.mail_address.proofs.lemmas.Passed.{at_domain-passed, at-passed, colon-front, comma-passed, dotted-passed, IsPassed, name-passed, passed-append, passed-same, passed-up_to, passed-whole, phrase-passed, run-stops, semicolon-front, spec-angles, white-passed}
 use Rattle.mail_address.proofs.lemmas.WriterWords.{address-shows, domain-stands, local-stands, phrase-nothing, phrase-written}
 
 -- ---- runs over a mailbox
@@ -44,12 +44,12 @@ angle-passed span goes {may_be_route} {local} {domain} is is_local is_domain res
 mailbox-passed : {span : Span} → Crosses span → {text : List ℕ} {m : Parts} → IsMailbox text m → IsPassed span text
 mailbox-passed {span} over (address {local = local} {domain = domain} is_local is_domain e) =
     passed-same span e
-    (passed-append span local (64 ∷ domain) (dotted-passed over.over_words is_local) (at_domain-passed over.over_atoms over.over_literals over.at [] domain white_ends is_domain))
+    (passed-append span local (64 ∷ domain) (dotted-passed over.over_words is_local) (at_domain-passed over.over_atoms over.over_literals (at-passed span over.at) [] domain white_ends is_domain))
 mailbox-passed {span} over (named_address {name = name} {may_be_route = may_be_route} {local = local} {domain = domain} {after = after} is_name is_route is_local is_domain is_white e) =
     let inner : List ℕ = may_be_route ++ (local ++ 64 ∷ domain) in
     passed-same span (e ∙ ap (λ b. name ++ b) (sym (marked 60 62 inner after)))
-    (passed-append span name (bracketed inner ++ after) (name-passed span over.over_words is_name)
-    (passed-append span (bracketed inner) after (angle-passed span over.angle is_route is_local is_domain) (white-passed span over.over_words.blank over.over_words.comment is_white)))
+    (passed-append span name (bracketed inner ++ after) (name-passed over.over_words is_name)
+    (passed-append span (bracketed inner) after (angle-passed span over.angle is_route is_local is_domain) (over.over_words.white is_white)))
 
 -- ---- a mailbox is more than whitespace
 
@@ -219,7 +219,7 @@ module _ (known : Charsets) (knows : KnowUtf8 known) where
     name_len-is : name_len bytes ≡ length name
     unfolding name_len
     name_len-is =
-        passed-up_to BeforeMark name (58 ∷ (inner ++ 59 ∷ after)) (phrase-passed BeforeMark crosses-mark.over_words is_name.0)
+        passed-up_to BeforeMark name (58 ∷ (inner ++ 59 ∷ after)) (phrase-passed crosses-mark.over_words is_name.0)
         (run-stops BeforeMark (58 ∷ (inner ++ 59 ∷ after)) 1 Colon (colon-front (inner ++ 59 ∷ after)) refl)
 
     after_name-is : after_name bytes ≡ inner ++ 59 ∷ after
