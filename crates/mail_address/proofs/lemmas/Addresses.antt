@@ -40,9 +40,6 @@ pub record MadeTo {A : Type 0} (at : ℕ → List ℕ → List A) (len : List �
   pub place : start + length rest ≡ first + length bytes
   pub all : made ++ items at len start rest ≡ items at len first bytes
 
-pub MadeTo-start : {A : Type 0} {at : ℕ → List ℕ → List A} {len : List ℕ → ℕ} {first : ℕ} {bytes : List ℕ} {made : List A} → made ≡ [] → MadeTo at len first bytes made first bytes
-MadeTo-start {A} {at} {len} {first} {bytes} none = record { place = refl; all = ap (λ m. m ++ items at len first bytes) none }
-
 pub MadeTo-more : {A : Type 0} {at : ℕ → List ℕ → List A} {len : List ℕ → ℕ} {first : ℕ} {bytes : List ℕ} {made new : List A} {start : ℕ} {rest after : List ℕ} {n next : ℕ}
     → ((b : List ℕ) → 0 < length b → 0 < len b) → MadeTo at len first bytes made start rest → 0 < length rest → new ≡ made ++ at start rest → n ≡ len rest → n ≤ length rest
     → after ≡ drop n rest → next ≡ start + n → MadeTo at len first bytes new next after
@@ -104,7 +101,3 @@ some_bytes (b ∷ bytes) is e = omega arith
 pub no_bytes : (bytes : List ℕ) {r : Bool} → r ≡ nat_eq (length bytes) 0 → r ≡ true → length bytes ≡ 0
 no_bytes [] is e = refl
 no_bytes (b ∷ bytes) is e = absurd (false≢true (sym (ne_eqb (length (b ∷ bytes)) 0 (λ n. absurd (omega arith))) ∙ sym is ∙ e))
-
--- a loop that passes some of the rest comes to its end
-pub shorter : (rest : List ℕ) {after : List ℕ} (n : ℕ) → 0 < length rest → (0 < length rest → 0 < n) → after ≡ drop n rest → length after < length rest
-shorter rest {after} n low some cut = let cuts = ap length cut ∙ length-drop n rest in let more = some low in omega arith

@@ -6,7 +6,6 @@ use Rattle.mail_codec.specs.Latin1.{latin1_text}
 use Rattle.mailparse.specs.Value.{value_text}
 use Rattle.mail_address.specs.declared.tokens.Span.TheVariants.{White}
 use Rattle.mail_address.specs.Tokens.{run, step}
-use Rattle.mail_address.specs.Addresses.{items}
 use Rattle.mail_address.specs.Text.{front_len, word_or_white_len}
 use Rattle.mail_address.proofs.lemmas.Bounds.{token-fits}
 use Rattle.mail_address.proofs.lemmas.Tokens.{far-more}
@@ -37,11 +36,6 @@ word_or_white-some bytes low = go (step White bytes) refl
 
 abbrev pub MadeOf : (ℕ → List ℕ → List ℕ) → (List ℕ → ℕ) → List ℕ → List ℕ → List ℕ → Type 0
 MadeOf at len bytes made rest = MadeTo at len 0 bytes made (length bytes - length rest) rest
-
-pub MadeOf-start : {at : ℕ → List ℕ → List ℕ} {len : List ℕ → ℕ} {bytes made : List ℕ} → made ≡ [] → MadeTo at len 0 bytes made (length bytes - length bytes) bytes
-MadeOf-start {at} {len} {bytes} none =
-    let start : length bytes - length bytes ≡ 0 = omega arith in
-    record { place = omega arith; all = ap (λ m. m ++ items at len (length bytes - length bytes) bytes) none ∙ ap (λ p. items at len p bytes) start }
 
 pub MadeOf-more : {at : ℕ → List ℕ → List ℕ} {len : List ℕ → ℕ} {bytes made new rest after : List ℕ} {n : ℕ} → ((b : List ℕ) → 0 < length b → 0 < len b)
     → MadeTo at len 0 bytes made (length bytes - length rest) rest → 0 < length rest → new ≡ made ++ at (length bytes - length rest) rest → n ≡ len rest → n ≤ length rest → after ≡ drop n rest

@@ -44,9 +44,6 @@ pub record RunsTo (step : List ℕ → ℕ) (bytes rest : List ℕ) : Type 0 whe
   pub within : length rest ≤ length bytes
   pub same : far step bytes + length rest ≡ length bytes + far step rest
 
-pub RunsTo-start : (step : List ℕ → ℕ) (bytes : List ℕ) → RunsTo step bytes bytes
-RunsTo-start step bytes = record { within = omega arith; same = omega arith }
-
 pub RunsTo-more : (step : List ℕ → ℕ) (bytes rest after : List ℕ) (len : ℕ) → RunsTo step bytes rest → len ≡ step rest → len ≢ 0 → len ≤ length rest
     → after ≡ drop len rest → RunsTo step bytes after
 RunsTo-more step bytes rest after len run is some fits cut =

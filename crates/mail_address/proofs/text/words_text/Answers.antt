@@ -1,11 +1,8 @@
 use Rattle.std.proofs.Common.{arith}
 use Rattle.mail_address.specs.Text.{words_text}
-use Rattle.mail_address.proofs.lemmas.Addresses.{MadeTo-end, no_bytes, shorter, some_bytes}
-use Rattle.mail_address.proofs.lemmas.Text.{MadeOf-more, MadeOf-start, word_or_white-some}
+use Rattle.mail_address.proofs.lemmas.Addresses.{MadeTo-end, no_bytes, some_bytes}
+use Rattle.mail_address.proofs.lemmas.Text.{MadeOf-more, word_or_white-some}
 use Rattle.mail_address.proofs.text.words_text.Goals as goal
-
-pub words-init : goal.words-init
-words-init c = MadeOf-start c.new-text.ensures.items
 
 pub words-preserved : goal.words-preserved
 words-preserved c =
@@ -14,8 +11,8 @@ words-preserved c =
 
 pub words-smaller : goal.words-smaller
 words-smaller c =
-    shorter c.words.rest.now c.word_or_white_len-len.result (some_bytes c.words.rest.now c.is_empty.ensures c.words-test.true)
-    (λ low. let some = word_or_white-some c.words.rest.now low in omega (arith, c.word_or_white_len-len.ensures.value, some)) c.split_at.ensures.back
+    let some = word_or_white-some c.words.rest.now (some_bytes c.words.rest.now c.is_empty.ensures c.words-test.true) in
+    omega (arith, some, c.word_or_white_len-len.ensures.value)
 
 pub returns : goal.returns
 unfolding words_text

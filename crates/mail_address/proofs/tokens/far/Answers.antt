@@ -1,8 +1,5 @@
-use Rattle.mail_address.proofs.lemmas.Tokens.{RunsTo-start, RunsTo-more, RunsTo-end}
+use Rattle.mail_address.proofs.lemmas.Tokens.{RunsTo-more, RunsTo-end}
 use Rattle.mail_address.proofs.tokens.far.Goals as goal
-
-pub steps-init : goal.steps-init
-steps-init g c = RunsTo-start _ _
 
 pub steps-preserved : goal.steps-preserved
 steps-preserved g c = RunsTo-more _ _ c.steps.rest.now c.split_at.result.1.now c.pass-len.result c.steps.invariant c.pass-len.ensures.value c.if-len-eq0.false c.pass-len.ensures.bounds c.split_at.ensures.back
