@@ -1,10 +1,10 @@
 -- Lemmas on how long tokens and runs of them are.
-use Rattle.std.proofs.Common.{◌≡◌, ◌≢◌, ℕ, zero, suc, ◌+◌, ◌-◌, ◌<◌, ◌≤◌, Bool, true, false, cond, eqb, not, ◌&&◌, List, [], ◌∷◌, length, drop, refl, sym, ap, ◌∙◌, arith, length-drop, length-take}
+use Rattle.std.proofs.Common.{◌≡◌, ◌≢◌, ℕ, zero, suc, ◌+◌, ◌-◌, ◌<◌, ◌≤◌, Bool, true, false, cond, eqb, not, ◌&&◌, List, [], ◌∷◌, length, drop, refl, sym, ap, ◌∙◌, arith, length-drop}
 use Rattle.std.specs.Prelude.{min, nat_lt}
 use Rattle.std.specs.List.{prefix_len}
 use Rattle.std.proofs.lemmas.Bool.{cond_both, eqb-false, eqb-true, ltb-true}
 use Rattle.std.proofs.lemmas.List.{drop-drop}
-use Rattle.std.proofs.lemmas.List.Folds.{length-prefix_len}
+use Rattle.std.proofs.lemmas.List.Sums.{prefix_len-le-length}
 use Rattle.mail_codec.specs.Places.{begins}
 use Rattle.mail_address.specs.declared.tokens.Kind.{Kind}
 use Rattle.mail_address.specs.declared.tokens.Kind.TheVariants.{Angle, Atom, Blank, Comment, Literal, Opening, Other, Quoted}
@@ -21,12 +21,6 @@ comment_place-within quoted depth [] = omega arith
 comment_place-within quoted depth (b ∷ rest) =
     let later = comment_place-within (not quoted && eqb b 92) (depth_after quoted depth b) rest in
     cond_both (closes_comment quoted depth b) 0 (suc (comment_place (not quoted && eqb b 92) (depth_after quoted depth b) rest)) (λ n. n ≤ suc (length rest)) (λ e. omega arith) (λ e. omega (arith, later))
-
-prefix_len-within : (test : ℕ → Bool) (bytes : List ℕ) → prefix_len test bytes ≤ length bytes
-prefix_len-within test bytes =
-    let same = length-prefix_len test bytes in
-    let len = length-take (prefix_len test bytes) bytes in
-    omega arith
 
 -- ---- tokens
 
@@ -72,8 +66,8 @@ plain-fits b rest = go (is_white b) (is_atom_byte b) (eqb b 40) (eqb b 34) (eqb 
   where
     go : (w a c q l s : Bool) → Fits (suc (length rest)) (cond w (tok Blank (1 + prefix_len is_white rest)) (cond a (tok Atom (1 + prefix_len is_atom_byte rest))
         (cond c (comment_token rest) (cond q (quoted_token rest) (cond l (literal_token rest) (cond s (tok Other (min 2 (1 + length rest))) (tok (single_kind b) 1)))))))
-    go true a c q l s = let low = prefix_len-within is_white rest in (omega arith, omega arith)
-    go false true c q l s = let low = prefix_len-within is_atom_byte rest in (omega arith, omega arith)
+    go true a c q l s = let low = prefix_len-le-length is_white rest in (omega arith, omega arith)
+    go false true c q l s = let low = prefix_len-le-length is_atom_byte rest in (omega arith, omega arith)
     go false false true q l s = comment-fits rest
     go false false false true l s = quoted-fits rest
     go false false false false true s = literal-fits rest
@@ -97,11 +91,11 @@ far_within-within : (pass : List ℕ → ℕ) → ((bytes : List ℕ) → pass b
 far_within-within pass within zero bytes = omega arith
 far_within-within pass within (suc most) [] = omega arith
 far_within-within pass within (suc most) (b ∷ bytes) =
-    go (eqb (pass (b ∷ bytes)) 0) (within (b ∷ bytes)) (length-drop (pass (b ∷ bytes)) (b ∷ bytes)) (far_within-within pass within most (drop (pass (b ∷ bytes)) (b ∷ bytes)))
-  where
-    go : (t : Bool) → {n k d : ℕ} → n ≤ suc (length bytes) → d ≡ suc (length bytes) - n → k ≤ d → cond t 0 (n + k) ≤ suc (length bytes)
-    go true low cut more = omega arith
-    go false low cut more = omega arith
+    let all : List ℕ = b ∷ bytes in
+    let fits = within all in
+    let cut = length-drop (pass all) all in
+    let more = far_within-within pass within most (drop (pass all) all) in
+    cond_both (eqb (pass all) 0) 0 (pass all + far_within pass most (drop (pass all) all)) (λ n. n ≤ length all) (λ e. omega arith) (λ e. omega (arith, fits, cut, more))
 
 pub far-within : (pass : List ℕ → ℕ) → ((bytes : List ℕ) → pass bytes ≤ length bytes) → (bytes : List ℕ) → far pass bytes ≤ length bytes
 unfolding far

@@ -277,15 +277,15 @@ front-meets (b ∷ rest) =
 
 -- ---- steps and runs
 
+-- a length that stands under a test, and is not 0
+under_test : (t : Bool) (n : ℕ) → cond t n 0 ≢ 0 → (t ≡ true) × (cond t n 0 ≡ n)
+under_test true n some = (refl, refl)
+under_test false n some = absurd (some refl)
+
 -- a step that passes something passes a token of the span
 step-token : (span : Span) (bytes : List ℕ) → step span bytes ≢ 0 → (is_in span (front_token bytes).kind ≡ true) × (step span bytes ≡ (front_token bytes).len)
 unfolding step
-step-token span bytes some = go (is_in span (front_token bytes).kind) refl some
-  where
-    go : (t : Bool) → is_in span (front_token bytes).kind ≡ t → cond t (front_token bytes).len 0 ≢ 0
-        → (is_in span (front_token bytes).kind ≡ true) × (cond t (front_token bytes).len 0 ≡ (front_token bytes).len)
-    go true e some = (e, refl)
-    go false e some = absurd (some refl)
+step-token span bytes some = under_test (is_in span (front_token bytes).kind) (front_token bytes).len some
 
 -- what a step is repeated over, in pieces
 module _ (pass : List ℕ → ℕ) (P : List ℕ → Type 0) (none : P [])
@@ -587,12 +587,7 @@ comma-behind = stop-behind BeforeComma (λ b. eqb b 44) comma-meets
 
 stop_len-is : (bytes : List ℕ) → stop_len bytes ≢ 0 → (is_stop (take (run BeforeComma bytes) bytes) ≡ true) × (stop_len bytes ≡ min (suc (run BeforeComma bytes)) (length bytes))
 unfolding stop_len
-stop_len-is bytes some = go (is_stop (take (run BeforeComma bytes) bytes)) refl some
-  where
-    go : (t : Bool) → is_stop (take (run BeforeComma bytes) bytes) ≡ t → cond t (min (suc (run BeforeComma bytes)) (length bytes)) 0 ≢ 0
-        → (is_stop (take (run BeforeComma bytes) bytes) ≡ true) × (cond t (min (suc (run BeforeComma bytes)) (length bytes)) 0 ≡ min (suc (run BeforeComma bytes)) (length bytes))
-    go true e some = (e, refl)
-    go false e some = absurd (some refl)
+stop_len-is bytes some = under_test (is_stop (take (run BeforeComma bytes) bytes)) (min (suc (run BeforeComma bytes)) (length bytes)) some
 
 stops-more : (bytes : List ℕ) (k : ℕ) → stop_len bytes ≢ 0 → AreStops (take k (drop (stop_len bytes) bytes)) → AreStops (take (stop_len bytes) bytes ++ take k (drop (stop_len bytes) bytes))
 stops-more bytes k some later = by (cases_lt (run BeforeComma bytes) (length bytes))
