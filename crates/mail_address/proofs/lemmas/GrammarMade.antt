@@ -287,6 +287,13 @@ step-token : (span : Span) (bytes : List ℕ) → step span bytes ≢ 0 → (is_
 unfolding step
 step-token span bytes some = under_test (is_in span (front_token bytes).kind) (front_token bytes).len some
 
+-- what it passes is what such tokens are
+step-meets : (span : Span) (P : List ℕ → Type 0) → ((kind : Kind) (text : List ℕ) → is_in span kind ≡ true → Meets kind text → P text)
+    → (bytes : List ℕ) → step span bytes ≢ 0 → P (take (step span bytes) bytes)
+step-meets span P meets bytes some =
+    let token = step-token span bytes some in
+    subst (λ n. P (take n bytes)) (sym token.1) (meets (front_token bytes).kind (take (front_token bytes).len bytes) token.0 (front-meets bytes))
+
 -- what a step is repeated over, in pieces
 module _ (pass : List ℕ → ℕ) (P : List ℕ → Type 0) (none : P [])
     (more : (bytes : List ℕ) (k : ℕ) → pass bytes ≢ 0 → P (take k (drop (pass bytes) bytes)) → P (take (pass bytes) bytes ++ take k (drop (pass bytes) bytes))) where
@@ -354,13 +361,8 @@ white-meets Blank text h m = m
 white-meets Comment text h m = m
 white-meets _ text h m = absurd (false≢true h)
 
-white-step : (bytes : List ℕ) → step White bytes ≢ 0 → IsWhite (take (step White bytes) bytes)
-white-step bytes some =
-    let token = step-token White bytes some in
-    subst (λ n. IsWhite (take n bytes)) (sym token.1) (white-meets (front_token bytes).kind (take (front_token bytes).len bytes) token.0 (front-meets bytes))
-
 white-made : (text : List ℕ) → IsWhite (take (run White text) text)
-white-made text = far-made (step White) IsWhite white_ends (λ bytes k some later. white-append (white-step bytes some) later) text
+white-made text = far-made (step White) IsWhite white_ends (λ bytes k some later. white-append (step-meets White IsWhite white-meets bytes some) later) text
 
 pub all_white-made : (text : List ℕ) → is_all_white text ≡ true → IsWhite text
 unfolding is_all_white
@@ -381,11 +383,6 @@ word-meets atoms Atom text h m = m
 word-meets atoms _ text h m = absurd (false≢true h)
 word-meets literals Literal text h m = m
 word-meets literals _ text h m = absurd (false≢true h)
-
-word-step : (words : Words) (bytes : List ℕ) → step (span_of words) bytes ≢ 0 → IsWord words (take (step (span_of words) bytes) bytes)
-word-step words bytes some =
-    let token = step-token (span_of words) bytes some in
-    subst (λ n. IsWord words (take n bytes)) (sym token.1) (word-meets words (front_token bytes).kind (take (front_token bytes).len bytes) token.0 (front-meets bytes))
 
 module _ (words : Words) (text : List ℕ) where
   abbrev w : ℕ
@@ -408,7 +405,7 @@ module _ (words : Words) (text : List ℕ) where
         word = take l (drop w text);
         after = take a (drop (w + l) text);
         white_before = white-made text;
-        is_word = word-step words (drop w text) (eqb-false l 0 e);
+        is_word = step-meets (span_of words) (IsWord words) (word-meets words) (drop w text) (eqb-false l 0 e);
         white_after = white-made (drop (w + l) text);
         made =
             take-add (w + l) a text ∙ ap (λ b. b ++ take a (drop (w + l) text)) (take-add w l text)
@@ -495,9 +492,7 @@ phrase_rest-made text all = far-whole (step Phrase) IsPhraseRest phrase_ends mor
     more : (bytes : List ℕ) (k : ℕ) → step Phrase bytes ≢ 0 → IsPhraseRest (take k (drop (step Phrase bytes) bytes))
         → IsPhraseRest (take (step Phrase bytes) bytes ++ take k (drop (step Phrase bytes) bytes))
     more bytes k some later =
-        let token = step-token Phrase bytes some in
-        phrase-append (front_token bytes).kind (take (step Phrase bytes) bytes) token.0
-        (subst (λ n. Meets (front_token bytes).kind (take n bytes)) (sym token.1) (front-meets bytes)) later
+        step-meets Phrase (λ front. IsPhraseRest (front ++ take k (drop (step Phrase bytes) bytes))) (λ kind text goes meets. phrase-append kind text goes meets later) bytes some
 
 step-is : (span : Span) (bytes : List ℕ) → is_in span (front_token bytes).kind ≡ true → step span bytes ≡ (front_token bytes).len
 unfolding step

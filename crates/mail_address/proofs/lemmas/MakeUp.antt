@@ -5,18 +5,15 @@ use Rattle.std.proofs.lemmas.Bool.{cases_lt, cond-true, cond-false, false≢true
 use Rattle.std.proofs.lemmas.List.{append-nil, drop_all, drop_at, drop-drop, length-take-le, take_all, take_at, take-append-drop}
 use Rattle.mail_codec.specs.Places.{begins}
 use Rattle.mail_address.specs.declared.tokens.Span.TheVariants.{BeforeSeparator, White}
-use Rattle.mail_address.specs.Tokens.{far, is_all_white, run}
+use Rattle.mail_address.specs.Tokens.{is_all_white, run}
 use Rattle.mail_address.specs.Mailbox.{mailbox_of}
 use Rattle.mail_address.specs.Addresses.{addresses, after_group, after_name, Element, element_at, element_len, group, group_at, group_len, inner_len, is_group, is_separator, items, items_within, name_len, separator_len, single, single_at, Single}
+use Rattle.mail_address.specs.Grammar.{white_ends}
 use Rattle.mail_address.specs.Order.{no_separators, next_separator, MayFollow, MakeUp, no_elements, next_element, StandFrom, start_of, text_of}
 use Rattle.mail_address.proofs.lemmas.Addresses.{element_len-some, is_group-within}
 use Rattle.mail_address.proofs.lemmas.Bounds.{run-within}
 use Rattle.mail_address.proofs.lemmas.GrammarMade.{run-separates}
-
--- nothing is whitespace
-nothing-white : is_all_white [] ≡ true
-unfolding is_all_white far
-nothing-white = refl
+use Rattle.mail_address.proofs.lemmas.Passed.{white-whole}
 
 -- a separator with nothing before it but whitespace and comments
 after_separator : (place : ℕ) (white rest bytes : List ℕ) (b : ℕ) {es : List Element} → is_all_white white ≡ true → is_separator b ≡ true → bytes ≡ white ++ b ∷ rest
@@ -34,7 +31,7 @@ only_white : (place : ℕ) (bytes : List ℕ) → is_all_white bytes ≡ true �
 only_white place bytes is = no_elements bytes no_separators is refl
 
 nothing_more : (place : ℕ) → MakeUp place [] []
-nothing_more place = only_white place [] nothing-white
+nothing_more place = only_white place [] (white-whole white_ends)
 
 -- an element at the front
 element_first : (e : Element) (rest bytes : List ℕ) (es : List Element) → MayFollow e rest → MakeUp (start_of e + length (text_of e)) rest es → bytes ≡ text_of e ++ rest
@@ -60,7 +57,7 @@ after_group_made place [] es later = subst (λ p. MakeUp p [] es) (omega arith) 
 after_group_made place (b ∷ rest) es later = go (is_separator b) refl later
   where
     go : (t : Bool) → is_separator b ≡ t → MakeUp (place + cond t 1 0) (drop (cond t 1 0) (b ∷ rest)) es → MakeUp place (b ∷ rest) es
-    go true e later = after_separator place [] rest (b ∷ rest) b nothing-white e refl later
+    go true e later = after_separator place [] rest (b ∷ rest) b (white-whole white_ends) e refl later
     go false e later = subst (λ p. MakeUp p (b ∷ rest) es) (omega arith) later
 
 -- ---- an element without members
@@ -122,7 +119,7 @@ single_made place bytes es alone later none w is = by_end (cases_lt (run BeforeS
             (subst (λ k. MakeUp (place + suc k) (drop (suc (run BeforeSeparator bytes)) bytes) es) (sym len) after)
         go false is =
             element_first (single (here place bytes)) (end.mark ∷ drop (suc (run BeforeSeparator bytes)) bytes) bytes es end.separates
-            (after_separator (place + length (front bytes)) [] (drop (suc (run BeforeSeparator bytes)) bytes) (end.mark ∷ drop (suc (run BeforeSeparator bytes)) bytes) end.mark nothing-white
+            (after_separator (place + length (front bytes)) [] (drop (suc (run BeforeSeparator bytes)) bytes) (end.mark ∷ drop (suc (run BeforeSeparator bytes)) bytes) end.mark (white-whole white_ends)
             end.separates refl (subst (λ p. MakeUp p (drop (suc (run BeforeSeparator bytes)) bytes) es) (omega (arith, len)) after))
             cut
 
