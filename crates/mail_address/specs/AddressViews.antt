@@ -3,7 +3,6 @@ use Rattle.std.specs.Prelude.{map, Some, None}
 use Rattle.mail_address.specs.Addresses.{Element, Single, single, group}
 use Rattle.mail_address.specs.Addresses as spec
 use Rattle.mail_address.specs.declared.list.Address.{Address}
-use Rattle.mail_address.specs.declared.list.Address as address
 use Rattle.mail_address.specs.declared.list.Address.TheVariants as addresses
 use Rattle.mail_address.specs.declared.list.Member.{Member}
 use Rattle.mail_address.specs.declared.list.Member.TheVariants as members

@@ -1,9 +1,8 @@
 -- A list of addresses: RFC 5322, sections 3.4 and 4.4, with groups as RFC 6854 has them.
-use Rattle.std.specs.Prelude.{ℕ, zero, suc, ◌+◌, Bool, ◌&&◌, ◌||◌, ◌==◌, min, List, [], ◌∷◌, ◌++◌, length, map, take, drop, Option, Some, None, if◌then◌else◌}
+use Rattle.std.specs.Prelude.{ℕ, zero, suc, ◌+◌, Bool, ◌&&◌, ◌||◌, ◌==◌, min, List, [], ◌∷◌, ◌++◌, length, map, take, drop, Option, if◌then◌else◌}
 use Rattle.mail_codec.specs.Ascii.{colon, comma, semicolon}
 use Rattle.mail_codec.specs.Places.{begins, is_empty}
-use Rattle.mail_address.specs.declared.tokens.Span.{Span}
-use Rattle.mail_address.specs.declared.tokens.Span.TheVariants.{White, Phrase, Word, Atoms, Literals, BeforeAt, BeforeColon, BeforeComma, BeforeSeparator, BeforeMark, InGroup}
+use Rattle.mail_address.specs.declared.tokens.Span.TheVariants.{White, BeforeComma, BeforeSeparator, BeforeMark, InGroup}
 use Rattle.mail_address.specs.Tokens.{is_all_white, run}
 use Rattle.mail_address.specs.Mailbox.{Parts, is_phrase, mailbox_of}
 

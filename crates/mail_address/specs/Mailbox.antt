@@ -1,11 +1,11 @@
 -- One mailbox: RFC 5322, sections 3.4 and 4.4.
 use Rattle.std.specs.Prelude.{ℕ, suc, ◌+◌, ◌-◌, Bool, true, false, not, ◌&&◌, ◌||◌, ◌==◌, min, List, [], length, take, drop, Option, Some, None, if◌then◌else◌}
-use Rattle.mail_codec.specs.Ascii.{colon, comma}
+use Rattle.mail_codec.specs.Ascii.{colon}
 use Rattle.mail_codec.specs.Places.{begins}
 use Rattle.mail_address.specs.declared.tokens.Kind.{Kind}
-use Rattle.mail_address.specs.declared.tokens.Kind.TheVariants.{Blank, Comment, Atom, Quoted, Literal, Angle, Dot, At, Comma, Semicolon, Colon, Opening, Closing, Other}
+use Rattle.mail_address.specs.declared.tokens.Kind.TheVariants.{Angle}
 use Rattle.mail_address.specs.declared.tokens.Span.{Span}
-use Rattle.mail_address.specs.declared.tokens.Span.TheVariants.{White, Phrase, Word, Atoms, Literals, BeforeAt, BeforeColon, BeforeComma, BeforeSeparator, BeforeMark, InGroup}
+use Rattle.mail_address.specs.declared.tokens.Span.TheVariants.{White, Phrase, Word, Atoms, Literals, BeforeAt, BeforeColon, BeforeComma}
 use Rattle.mail_address.specs.Tokens.{at_sign, dot, far, is_all_white, is_in, run, step, front_token}
 
 -- the bytes of a word with the whitespace and comments around it, or 0 where none stands at the front

@@ -1,10 +1,10 @@
 -- The text of names and addresses: what stands in a phrase, a local part or a domain, without quotes, comments and folding
 -- (RFC 5322, sections 3.2.2, 3.2.4 and 3.4.1).
-use Rattle.std.specs.Prelude.{ℕ, suc, ◌+◌, Bool, true, false, not, ◌&&◌, ◌||◌, ◌==◌, List, [], ◌∷◌, ◌++◌, take, flat_map, if◌then◌else◌}
+use Rattle.std.specs.Prelude.{ℕ, Bool, true, false, not, ◌&&◌, ◌||◌, ◌==◌, List, [], ◌∷◌, ◌++◌, take, flat_map, if◌then◌else◌}
 use Rattle.std.specs.List.{list_all}
 use Rattle.mail_codec.specs.Ascii.{backslash, quote, space}
 use Rattle.mail_address.specs.declared.tokens.Kind.{Kind}
-use Rattle.mail_address.specs.declared.tokens.Kind.TheVariants.{Blank, Comment, Atom, Quoted, Literal, Angle, Dot, At, Comma, Semicolon, Colon, Opening, Closing, Other}
+use Rattle.mail_address.specs.declared.tokens.Kind.TheVariants.{Blank, Comment, Quoted}
 use Rattle.mail_address.specs.declared.tokens.Span.TheVariants.{White, Atoms}
 use Rattle.mail_address.specs.Tokens.{at_sign, dot, front_token, is_all_white, is_atom_byte, run, step}
 use Rattle.mail_address.specs.Mailbox.{after_white, is_dotted, within_ends}

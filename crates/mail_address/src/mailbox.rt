@@ -5,9 +5,10 @@ ghost use Rattle.mail_address.specs.Mailbox.{is_dotted, is_enclosed, is_phrase, 
 ghost use Rattle.mail_address.specs.Mailbox.{is_word, mailbox_of, named_mailbox, spec_mailbox};
 ghost use Rattle.mail_address.specs.Mailbox.{stop_len, within_ends, word_len};
 ghost use Rattle.mail_address.specs.MailboxViews.{parts};
-ghost use Rattle.mail_address.specs.Tokens.{far};
 
-use crate::tokens::{Kind, Span, begins_at, front_token, is_all_white, is_in, run, step};
+use crate::tokens::{
+    Kind, Span, Steps, begins_at, far, front_token, is_all_white, is_in, run, step,
+};
 
 /// The parts of a mailbox, as they are written.
 #[derive(Clone, Copy)]
@@ -33,18 +34,22 @@ fn word_len(span: Span, text: &[u8]) -> usize
     white + len + run(Span::White, after)
 }
 
-/// The bytes of a dot and the word behind it, or 0.
-#[tactic(auto, unfolding(crate::specs::Mailbox::dot_word_len))]
-fn dot_word_len(span: Span, text: &[u8]) -> usize
-    ensures value { result ≡ dot_word_len span text.now }
-    ensures bounds { result ≤ length text.now }
-{
-    if !begins_at(text, 0, b'.') {
-        return 0;
+/// The step over a dot and the word behind it.
+#[derive(Clone, Copy)]
+struct DotWord(Span);
+
+impl Steps for DotWord {
+    ghost passes = { λ step. dot_word_len step.0 };
+
+    #[tactic(auto, unfolding(crate::specs::Mailbox::dot_word_len))]
+    fn pass(self, text: &[u8]) -> usize {
+        if !begins_at(text, 0, b'.') {
+            return 0;
+        }
+        let (_, rest) = text.split_at(1);
+        let len = word_len(self.0, rest);
+        if len == 0 { 0 } else { 1 + len }
     }
-    let (_, rest) = text.split_at(1);
-    let len = word_len(span, rest);
-    if len == 0 { 0 } else { 1 + len }
 }
 
 /// Whether the bytes are one word.
@@ -56,22 +61,6 @@ fn is_word(span: Span, text: &[u8]) -> bool
     len != 0 && len == text.len()
 }
 
-/// How many bytes the dots and words at the front have.
-fn dotted_len(span: Span, text: &[u8]) -> usize
-    ensures value { result ≡ far (dot_word_len span) text.now }
-    ensures bounds { result ≤ length text.now }
-{
-    let mut rest = text;
-    'words: loop {
-        let len = dot_word_len(span, rest);
-        if len == 0 {
-            return text.len() - rest.len();
-        }
-        let (_, after) = rest.split_at(len);
-        rest = after;
-    }
-}
-
 /// Whether the bytes are words with dots between them.
 #[tactic(auto, unfolding(crate::specs::Mailbox::is_dotted))]
 pub(crate) fn is_dotted(span: Span, text: &[u8]) -> bool
@@ -79,7 +68,7 @@ pub(crate) fn is_dotted(span: Span, text: &[u8]) -> bool
 {
     let len = word_len(span, text);
     let (_, rest) = text.split_at(len);
-    len != 0 && len + dotted_len(span, rest) == text.len()
+    len != 0 && len + far(DotWord(span), rest) == text.len()
 }
 
 /// Whether the bytes are a domain.
@@ -115,34 +104,22 @@ fn is_stop(text: &[u8]) -> bool
     is_domain(domain)
 }
 
-/// The bytes of a stop and the comma behind it, or 0.
-#[tactic(auto, unfolding(crate::specs::Mailbox::stop_len))]
-fn stop_len(text: &[u8]) -> usize
-    ensures value { result ≡ stop_len text.now }
-    ensures bounds { result ≤ length text.now }
-{
-    let len = run(Span::BeforeComma, text);
-    let (stop, _) = text.split_at(len);
-    if is_stop(stop) {
-        text.len().min(len + 1)
-    } else {
-        0
-    }
-}
+/// The step over a stop and the comma behind it.
+#[derive(Clone, Copy)]
+struct Stop;
 
-/// How many bytes the stops at the front have.
-fn stops_len(text: &[u8]) -> usize
-    ensures value { result ≡ far stop_len text.now }
-    ensures bounds { result ≤ length text.now }
-{
-    let mut rest = text;
-    'stops: loop {
-        let len = stop_len(rest);
-        if len == 0 {
-            return text.len() - rest.len();
+impl Steps for Stop {
+    ghost passes = { λ _. stop_len };
+
+    #[tactic(auto, unfolding(crate::specs::Mailbox::stop_len))]
+    fn pass(self, text: &[u8]) -> usize {
+        let len = run(Span::BeforeComma, text);
+        let (stop, _) = text.split_at(len);
+        if is_stop(stop) {
+            text.len().min(len + 1)
+        } else {
+            0
         }
-        let (_, after) = rest.split_at(len);
-        rest = after;
     }
 }
 
@@ -151,7 +128,7 @@ fn stops_len(text: &[u8]) -> usize
 fn is_route(text: &[u8]) -> bool
     ensures { result ≡ is_route text.now }
 {
-    begins_at(after_white(text), 0, b'@') && stops_len(text) == text.len()
+    begins_at(after_white(text), 0, b'@') && far(Stop, text) == text.len()
 }
 
 /// What follows the route and its colon, or the whole where none stands.

@@ -1,9 +1,9 @@
 //! The tokens of addresses: words, comments, brackets and marks, over bytes that are not decoded.
-ghost use Rattle.std.specs.Prelude.{◌≡◌, ◌+◌, ◌<◌, ◌≤◌, ◌^◌, ◌==◌, false, drop, length, IsTrue};
+ghost use Rattle.std.specs.Prelude.{◌≡◌, ◌+◌, ◌<◌, ◌≤◌, ◌^◌, ◌==◌, false, List, ℕ, drop, length, IsTrue};
 ghost use Rattle.std.specs.List.{prefix_len};
 ghost use Rattle.mail_codec.specs.Places.{begins};
-ghost use Rattle.mail_address.specs.Tokens.{angle_place, angle_step, angle_token, closes_comment};
-ghost use Rattle.mail_address.specs.Tokens.{comment_place, comment_token, depth_after};
+ghost use Rattle.mail_address.specs.Tokens.{angle_step, angle_token, closes_comment};
+ghost use Rattle.mail_address.specs.Tokens.{comment_place, comment_token, depth_after, far};
 ghost use Rattle.mail_address.specs.Tokens.{is_all_white, is_angle, is_atom_byte, is_in};
 ghost use Rattle.mail_address.specs.Tokens.{is_special, is_white, literal_token, plain_token};
 ghost use Rattle.mail_address.specs.Tokens.{quoted_token, run, single_kind, step, front_token};
@@ -65,6 +65,33 @@ pub(crate) enum Span {
     BeforeMark,
     /// All before a semicolon or colon.
     InGroup,
+}
+
+/// Steps over bytes, to be repeated until one passes none.
+pub(crate) trait Steps: Copy {
+    // How many bytes a step passes at the front.
+    ghost passes: { Self → List ℕ → ℕ };
+
+    /// How many bytes a step passes at the front.
+    fn pass(self, bytes: &[u8]) -> usize
+        ensures value { result ≡ passes self bytes.now }
+        ensures bounds { result ≤ length bytes.now };
+}
+
+/// How many bytes steps pass until one passes none.
+pub(crate) fn far<S: Steps>(step: S, bytes: &[u8]) -> usize
+    ensures value { result ≡ far (S.passes step) bytes.now }
+    ensures bounds { result ≤ length bytes.now }
+{
+    let mut rest = bytes;
+    'steps: loop {
+        let len = step.pass(rest);
+        if len == 0 {
+            return bytes.len() - rest.len();
+        }
+        let (_, after) = rest.split_at(len);
+        rest = after;
+    }
 }
 
 /// Whether a byte is whitespace: a space, a tab or a byte of a line's end.
@@ -317,28 +344,16 @@ fn is_angle(kind: Kind) -> bool
     matches!(kind, Kind::Opening | Kind::Closing)
 }
 
-/// The bytes of the token at the front, if it is no angle bracket.
-fn angle_step(bytes: &[u8]) -> usize
-    ensures value { result ≡ angle_step bytes.now }
-    ensures bounds { result ≤ length bytes.now }
-{
-    let token = plain_token(bytes);
-    if is_angle(token.kind) { 0 } else { token.len }
-}
+/// The step over a token that is no angle bracket.
+#[derive(Clone, Copy)]
+struct NoAngle;
 
-/// How many bytes stand before the first angle bracket.
-fn angle_place(bytes: &[u8]) -> usize
-    ensures value { result ≡ angle_place bytes.now }
-    ensures bounds { result ≤ length bytes.now }
-{
-    let mut rest = bytes;
-    'tokens: loop {
-        let len = angle_step(rest);
-        if len == 0 {
-            return bytes.len() - rest.len();
-        }
-        let (_, after) = rest.split_at(len);
-        rest = after;
+impl Steps for NoAngle {
+    ghost passes = { λ _. angle_step };
+
+    fn pass(self, bytes: &[u8]) -> usize {
+        let token = plain_token(bytes);
+        if is_angle(token.kind) { 0 } else { token.len }
     }
 }
 
@@ -349,7 +364,7 @@ fn angle_token(rest: &[u8]) -> Token
     ensures bounds { result.len ≤ length rest.now + 1 }
     ensures some { 0 < result.len }
 {
-    let place = angle_place(rest);
+    let place = far(NoAngle, rest);
     if begins_at(rest, place, b'>') {
         Token {
             kind: Kind::Angle,
@@ -414,20 +429,20 @@ pub(crate) fn step(span: Span, bytes: &[u8]) -> usize
     }
 }
 
+impl Steps for Span {
+    ghost passes = { step };
+
+    fn pass(self, bytes: &[u8]) -> usize {
+        step(self, bytes)
+    }
+}
+
 /// How many bytes a run of such tokens has at the front.
 pub(crate) fn run(span: Span, bytes: &[u8]) -> usize
     ensures value { result ≡ run span bytes.now }
     ensures bounds { result ≤ length bytes.now }
 {
-    let mut rest = bytes;
-    'tokens: loop {
-        let len = step(span, rest);
-        if len == 0 {
-            return bytes.len() - rest.len();
-        }
-        let (_, after) = rest.split_at(len);
-        rest = after;
-    }
+    far(span, bytes)
 }
 
 /// Whether the bytes are whitespace and comments, or none.

@@ -1,5 +1,5 @@
 -- Lemmas on lists of addresses.
-use Rattle.std.proofs.Common.{◌≡◌, ℕ, zero, suc, ◌+◌, ◌-◌, ◌<◌, ◌≤◌, ◌≢◌, Bool, true, false, cond, eqb, ◌&&◌, List, [], ◌∷◌, ◌++◌, length, take, drop, map, refl, sym, ap, ◌∙◌, arith, length-drop, append_assoc}
+use Rattle.std.proofs.Common.{◌≡◌, ℕ, zero, suc, ◌+◌, ◌-◌, ◌<◌, ◌≤◌, Bool, true, false, cond, eqb, ◌&&◌, List, [], ◌∷◌, ◌++◌, length, take, drop, refl, sym, ap, ◌∙◌, arith, length-drop, append_assoc}
 use Rattle.std.specs.Prelude.{nat_eq, min}
 use Rattle.std.proofs.lemmas.Bool.{and_parts, false≢true, ne_eqb}
 use Rattle.std.proofs.lemmas.List.{append-nil}
@@ -7,7 +7,7 @@ use Rattle.mail_codec.specs.Places.{begins}
 use Rattle.mail_address.specs.declared.tokens.Span.TheVariants.{BeforeSeparator}
 use Rattle.mail_address.specs.Tokens.{run}
 use Rattle.mail_address.specs.Mailbox.{is_phrase}
-use Rattle.mail_address.specs.Addresses.{after_name, element_len, group_len, inner_len, is_group, is_separator, items, items_within, member_len, name_len, separator_len}
+use Rattle.mail_address.specs.Addresses.{after_name, element_len, group_len, inner_len, is_group, items, items_within, member_len, name_len, separator_len}
 
 -- ---- what stands one after another
 
@@ -40,20 +40,17 @@ pub record MadeTo {A : Type 0} (at : ℕ → List ℕ → List A) (len : List �
   pub place : start + length rest ≡ first + length bytes
   pub all : made ++ items at len start rest ≡ items at len first bytes
 
-pub MadeTo-start : {A : Type 0} (at : ℕ → List ℕ → List A) (len : List ℕ → ℕ) (first : ℕ) (bytes : List ℕ) (made : List A) → made ≡ [] → MadeTo at len first bytes made first bytes
-MadeTo-start at len first bytes made none = record { place = refl; all = ap (λ m. m ++ items at len first bytes) none }
-
-pub MadeTo-more : {A : Type 0} (at : ℕ → List ℕ → List A) (len : List ℕ → ℕ) (first : ℕ) (bytes : List ℕ) (made new : List A) (start : ℕ) (rest after : List ℕ) (n next : ℕ)
+pub MadeTo-more : {A : Type 0} {at : ℕ → List ℕ → List A} {len : List ℕ → ℕ} {first : ℕ} {bytes : List ℕ} {made new : List A} {start : ℕ} {rest after : List ℕ} {n next : ℕ}
     → ((b : List ℕ) → 0 < length b → 0 < len b) → MadeTo at len first bytes made start rest → 0 < length rest → new ≡ made ++ at start rest → n ≡ len rest → n ≤ length rest
     → after ≡ drop n rest → next ≡ start + n → MadeTo at len first bytes new next after
-MadeTo-more at len first bytes made new start rest after n next some m low push is fits cut moved = record {
+MadeTo-more {A} {at} {len} {first} {bytes} {made} {new} {start} {rest} {after} {n} {next} some m low push is fits cut moved = record {
   place =
       let before = m.place in
       let len_after : length after ≡ length rest - n = ap length cut ∙ length-drop n rest in
       omega arith;
   all =
       ap (λ i. i ++ items at len next after) push ∙ append_assoc made (at start rest) (items at len next after)
-      ∙ ap (λ i. made ++ (at start rest ++ i)) (same_rest ∙ refl)
+      ∙ ap (λ i. made ++ (at start rest ++ i)) same_rest
       ∙ ap (λ i. made ++ i) (sym (items-more at len some start rest low)) ∙ m.all;
 }
   where
@@ -62,11 +59,11 @@ MadeTo-more at len first bytes made new start rest after n next some m low push 
         ap (λ p. items at len p after) (moved ∙ ap (λ k. start + k) is)
         ∙ ap (items at len (start + len rest)) (cut ∙ ap (λ k. drop k rest) is)
 
-pub MadeTo-end : {A : Type 0} (at : ℕ → List ℕ → List A) (len : List ℕ → ℕ) (first : ℕ) (bytes : List ℕ) (made : List A) (start : ℕ) (rest : List ℕ)
+pub MadeTo-end : {A : Type 0} {at : ℕ → List ℕ → List A} {len : List ℕ → ℕ} {first : ℕ} {bytes : List ℕ} {made : List A} {start : ℕ} {rest : List ℕ}
     → MadeTo at len first bytes made start rest → length rest ≡ 0 → made ≡ items at len first bytes
 unfolding items
-MadeTo-end at len first bytes made start [] m none = sym (append-nil made) ∙ m.all
-MadeTo-end at len first bytes made start (b ∷ rest) m none = absurd (omega (arith, none))
+MadeTo-end {made = made} {rest = []} m none = sym (append-nil made) ∙ m.all
+MadeTo-end {rest = b ∷ rest} m none = absurd (omega (arith, none))
 
 -- ---- bounds
 
@@ -97,14 +94,10 @@ element_len-some bytes low = go (is_group bytes)
     go false = omega arith
 
 -- a test for emptiness, and what it says of the length
-pub some_bytes : (bytes : List ℕ) (r : Bool) → r ≡ nat_eq (length bytes) 0 → r ≡ false → 0 < length bytes
-some_bytes [] r is e = absurd (false≢true (sym e ∙ is))
-some_bytes (b ∷ bytes) r is e = omega arith
+pub some_bytes : (bytes : List ℕ) {r : Bool} → r ≡ nat_eq (length bytes) 0 → r ≡ false → 0 < length bytes
+some_bytes [] is e = absurd (false≢true (sym e ∙ is))
+some_bytes (b ∷ bytes) is e = omega arith
 
-pub no_bytes : (bytes : List ℕ) (r : Bool) → r ≡ nat_eq (length bytes) 0 → r ≡ true → length bytes ≡ 0
-no_bytes [] r is e = refl
-no_bytes (b ∷ bytes) r is e = absurd (false≢true (sym (ne_eqb (length (b ∷ bytes)) 0 (λ n. absurd (omega arith))) ∙ sym is ∙ e))
-
--- a loop that passes some of the rest comes to its end
-pub shorter : (rest after : List ℕ) (n : ℕ) → 0 < length rest → (0 < length rest → 0 < n) → after ≡ drop n rest → length after < length rest
-shorter rest after n low some cut = let cuts = ap length cut ∙ length-drop n rest in let more = some low in omega arith
+pub no_bytes : (bytes : List ℕ) {r : Bool} → r ≡ nat_eq (length bytes) 0 → r ≡ true → length bytes ≡ 0
+no_bytes [] is e = refl
+no_bytes (b ∷ bytes) is e = absurd (false≢true (sym (ne_eqb (length (b ∷ bytes)) 0 (λ n. absurd (omega arith))) ∙ sym is ∙ e))

@@ -1,17 +1,17 @@
 -- Lemmas on what nothing within separates.
-use Rattle.std.proofs.Common.{◌≡◌, ◌≢◌, ℕ, suc, ◌+◌, ◌-◌, ◌<◌, Bool, true, false, cond, eqb, ◌||◌, List, [], ◌∷◌, ◌++◌, length, drop, refl, sym, ap, ◌∙◌, arith, append_assoc, length-append}
+use Rattle.std.proofs.Common.{◌≡◌, ℕ, suc, ◌+◌, ◌-◌, ◌<◌, Bool, true, false, cond, eqb, ◌||◌, List, [], ◌∷◌, ◌++◌, length, drop, refl, sym, ap, ◌∙◌, arith, append_assoc, length-append}
 use Rattle.std.specs.Prelude.{min, nat_lt}
 use Rattle.std.specs.List.{prefix_len}
-use Rattle.std.proofs.lemmas.Bool.{and_parts, eq-eqb, false≢true, lt-ltb, ltb-true, ne_eqb}
+use Rattle.std.proofs.lemmas.Bool.{cond-false, eq-eqb, false≢true, lt-ltb, ne_eqb}
 use Rattle.std.proofs.lemmas.List.{drop_at}
 use Rattle.mail_codec.specs.Places.{begins}
 use Rattle.mail_address.specs.declared.tokens.Kind.{Kind}
 use Rattle.mail_address.specs.declared.tokens.Kind.TheVariants.{Angle, At, Colon, Comma, Comment, Dot, Literal, Other, Quoted, Semicolon}
 use Rattle.mail_address.specs.declared.tokens.Span.{Span}
-use Rattle.mail_address.specs.declared.tokens.Span.TheVariants.{White, Phrase, Word, Atoms, Literals, BeforeAt, BeforeColon, BeforeComma, BeforeSeparator, BeforeMark, InGroup}
+use Rattle.mail_address.specs.declared.tokens.Span.TheVariants.{BeforeAt, BeforeColon, BeforeComma, BeforeSeparator, BeforeMark, InGroup}
 use Rattle.mail_address.specs.Enclosed.{IsBetween, no_bytes, quoted_pair, plain_byte, IsCommented, comment_ends, comment_pair, comment_byte, comment_within, IsClosed, in_quotes, in_comment, in_literal, IsInAngles, angles_end, angles_pair, angles_byte, angles_closed, IsEnclosed, closed, in_angles, is_opener}
 use Rattle.mail_address.specs.Tokens.{angle_place, angle_step, angle_token, comment_place, comment_token, far, front_token, is_angle, is_atom_byte, is_in, is_white, literal_token, plain_token, quoted_token, run, single_kind, step, unquoted_place}
-use Rattle.mail_address.proofs.lemmas.Tokens.{far-more, far-stop}
+use Rattle.mail_address.proofs.lemmas.Tokens.{atom_byte-visible, far-more, far-stop}
 
 -- ---- where marks close
 
@@ -70,7 +70,7 @@ quoted-is inner rest between =
     let at = between-place 34 34 refl refl between rest in
     rw (closes-within (unquoted_place 34 34 false (inner ++ 34 ∷ rest)) 34 inner rest at) (ap (λ n. record { kind = Quoted; len = n + 2 }) at)
 
-pub comment-is : (inner rest : List ℕ) → IsCommented inner → comment_token (inner ++ 41 ∷ rest) ≡ record { kind = Comment; len = length inner + 2 }
+comment-is : (inner rest : List ℕ) → IsCommented inner → comment_token (inner ++ 41 ∷ rest) ≡ record { kind = Comment; len = length inner + 2 }
 unfolding comment_token
 comment-is inner rest commented =
     let at : comment_place false 0 (inner ++ 41 ∷ rest) ≡ length inner =
@@ -81,109 +81,63 @@ comment-is inner rest commented =
 behind : (place last : ℕ) (inner rest : List ℕ) → place ≡ length inner → begins (λ b. eqb b last) (drop place (inner ++ last ∷ rest)) ≡ true
 behind place last inner rest at = ap (begins (λ b. eqb b last)) (drop_at inner (last ∷ rest) place (sym at)) ∙ eq-eqb last last refl
 
-pub literal-is : (inner rest : List ℕ) → IsBetween 91 93 inner → literal_token (inner ++ 93 ∷ rest) ≡ record { kind = Literal; len = length inner + 2 }
+literal-is : (inner rest : List ℕ) → IsBetween 91 93 inner → literal_token (inner ++ 93 ∷ rest) ≡ record { kind = Literal; len = length inner + 2 }
 unfolding literal_token
 literal-is inner rest between =
     let at = between-place 91 93 refl refl between rest in
     rw (behind (unquoted_place 91 93 false (inner ++ 93 ∷ rest)) 93 inner rest at) (ap (λ n. record { kind = Literal; len = n + 2 }) at)
 
+-- a run that goes over angle brackets goes over such a token
+like_angle : (kind : Kind) → is_in BeforeAt kind ≡ true → is_in BeforeColon kind ≡ true → is_in BeforeComma kind ≡ true → is_in BeforeSeparator kind ≡ true → is_in BeforeMark kind ≡ true
+    → is_in InGroup kind ≡ true → (span : Span) → is_in span Angle ≡ true → is_in span kind ≡ true
+like_angle kind at colon comma separator mark group BeforeAt h = at
+like_angle kind at colon comma separator mark group BeforeColon h = colon
+like_angle kind at colon comma separator mark group BeforeComma h = comma
+like_angle kind at colon comma separator mark group BeforeSeparator h = separator
+like_angle kind at colon comma separator mark group BeforeMark h = mark
+like_angle kind at colon comma separator mark group InGroup h = group
+like_angle kind at colon comma separator mark group _ h = absurd (false≢true h)
+
 -- a token of the kinds that are closed
-pub record ClosedToken (bytes rest : List ℕ) : Type 0 where
-  pub kind : Kind
-  pub token : plain_token (bytes ++ rest) ≡ record { kind = kind; len = length bytes }
-  pub front : front_token (bytes ++ rest) ≡ record { kind = kind; len = length bytes }
+pub record ClosedToken (kind : Kind) (bytes : List ℕ) : Type 0 where
+  pub token : (rest : List ℕ) → plain_token (bytes ++ rest) ≡ record { kind = kind; len = length bytes }
+  pub front : (rest : List ℕ) → front_token (bytes ++ rest) ≡ record { kind = kind; len = length bytes }
   pub no_angle : is_angle kind ≡ false
   pub passed : (span : Span) → is_in span Angle ≡ true → is_in span kind ≡ true
   pub some : 0 < length bytes
 
-quoted-passed : (span : Span) → is_in span Angle ≡ true → is_in span Quoted ≡ true
-quoted-passed White h = absurd (false≢true h)
-quoted-passed Phrase h = absurd (false≢true h)
-quoted-passed Word h = absurd (false≢true h)
-quoted-passed Atoms h = absurd (false≢true h)
-quoted-passed Literals h = absurd (false≢true h)
-quoted-passed BeforeAt h = refl
-quoted-passed BeforeColon h = refl
-quoted-passed BeforeComma h = refl
-quoted-passed BeforeSeparator h = refl
-quoted-passed BeforeMark h = refl
-quoted-passed InGroup h = refl
-
-comment_kind-passed : (span : Span) → is_in span Angle ≡ true → is_in span Comment ≡ true
-comment_kind-passed White h = refl
-comment_kind-passed Phrase h = refl
-comment_kind-passed Word h = absurd (false≢true h)
-comment_kind-passed Atoms h = absurd (false≢true h)
-comment_kind-passed Literals h = absurd (false≢true h)
-comment_kind-passed BeforeAt h = refl
-comment_kind-passed BeforeColon h = refl
-comment_kind-passed BeforeComma h = refl
-comment_kind-passed BeforeSeparator h = refl
-comment_kind-passed BeforeMark h = refl
-comment_kind-passed InGroup h = refl
-
-literal-passed : (span : Span) → is_in span Angle ≡ true → is_in span Literal ≡ true
-literal-passed White h = absurd (false≢true h)
-literal-passed Phrase h = absurd (false≢true h)
-literal-passed Word h = absurd (false≢true h)
-literal-passed Atoms h = absurd (false≢true h)
-literal-passed Literals h = refl
-literal-passed BeforeAt h = refl
-literal-passed BeforeColon h = refl
-literal-passed BeforeComma h = refl
-literal-passed BeforeSeparator h = refl
-literal-passed BeforeMark h = refl
-literal-passed InGroup h = refl
-
--- the token of a quoted string
-pub quoted-front : {inner bytes : List ℕ} → IsBetween 34 34 inner → bytes ≡ 34 ∷ (inner ++ 34 ∷ []) → (rest : List ℕ)
-    → front_token (bytes ++ rest) ≡ record { kind = Quoted; len = length bytes }
-unfolding front_token is_atom_byte
-quoted-front {inner} {bytes} between e rest =
-    ap (λ b. front_token (b ++ rest)) e ∙ ap front_token (marked 34 34 inner rest) ∙ quoted-is inner rest between
-    ∙ ap (λ n. record { kind = Quoted; len = n }) (sym (ap length e ∙ marked-length 34 34 inner))
-
-closed-token : {bytes : List ℕ} → IsClosed bytes → (rest : List ℕ) → ClosedToken bytes rest
-unfolding front_token is_atom_byte
-closed-token {bytes} (in_quotes {inner = inner} between e) rest =
-    let whole : bytes ++ rest ≡ 34 ∷ (inner ++ 34 ∷ rest) = ap (λ b. b ++ rest) e ∙ marked 34 34 inner rest in
-    let len : length bytes ≡ length inner + 2 = ap length e ∙ marked-length 34 34 inner in
-    let is : quoted_token (inner ++ 34 ∷ rest) ≡ record { kind = Quoted; len = length bytes } =
-    quoted-is inner rest between ∙ ap (λ n. record { kind = Quoted; len = n }) (sym len) in
+closed-by : (kind : Kind) (first last : ℕ) (inner : List ℕ) {bytes : List ℕ} → eqb first 60 ≡ false → is_angle kind ≡ false → ((span : Span) → is_in span Angle ≡ true → is_in span kind ≡ true)
+    → bytes ≡ first ∷ (inner ++ last ∷ []) → ((rest : List ℕ) → plain_token (first ∷ (inner ++ last ∷ rest)) ≡ record { kind = kind; len = length inner + 2 }) → ClosedToken kind bytes
+unfolding front_token
+closed-by kind first last inner {bytes} no_opening no_angle passed e is =
+    let len : length bytes ≡ length inner + 2 = ap length e ∙ marked-length first last inner in
+    let plain : (rest : List ℕ) → front_token (first ∷ (inner ++ last ∷ rest)) ≡ plain_token (first ∷ (inner ++ last ∷ rest)) = λ rest. cond-false _ _ _ no_opening in
     record {
-      kind = Quoted;
-      token = ap plain_token whole ∙ is;
-      front = ap front_token whole ∙ is;
-      no_angle = refl;
-      passed = quoted-passed;
+      token = λ rest. ap (λ b. plain_token (b ++ rest)) e ∙ ap plain_token (marked first last inner rest) ∙ is rest ∙ ap (λ n. record { kind = kind; len = n }) (sym len);
+      front = λ rest.
+          ap (λ b. front_token (b ++ rest)) e ∙ ap front_token (marked first last inner rest) ∙ plain rest ∙ is rest
+          ∙ ap (λ n. record { kind = kind; len = n }) (sym len);
+      no_angle = no_angle;
+      passed = passed;
       some = omega (arith, len);
     }
-closed-token {bytes} (in_comment {inner = inner} commented e) rest =
-    let whole : bytes ++ rest ≡ 40 ∷ (inner ++ 41 ∷ rest) = ap (λ b. b ++ rest) e ∙ marked 40 41 inner rest in
-    let len : length bytes ≡ length inner + 2 = ap length e ∙ marked-length 40 41 inner in
-    let is : comment_token (inner ++ 41 ∷ rest) ≡ record { kind = Comment; len = length bytes } =
-    comment-is inner rest commented ∙ ap (λ n. record { kind = Comment; len = n }) (sym len) in
-    record {
-      kind = Comment;
-      token = ap plain_token whole ∙ is;
-      front = ap front_token whole ∙ is;
-      no_angle = refl;
-      passed = comment_kind-passed;
-      some = omega (arith, len);
-    }
-closed-token {bytes} (in_literal {inner = inner} between e) rest =
-    let whole : bytes ++ rest ≡ 91 ∷ (inner ++ 93 ∷ rest) = ap (λ b. b ++ rest) e ∙ marked 91 93 inner rest in
-    let len : length bytes ≡ length inner + 2 = ap length e ∙ marked-length 91 93 inner in
-    let is : literal_token (inner ++ 93 ∷ rest) ≡ record { kind = Literal; len = length bytes } =
-    literal-is inner rest between ∙ ap (λ n. record { kind = Literal; len = n }) (sym len) in
-    record {
-      kind = Literal;
-      token = ap plain_token whole ∙ is;
-      front = ap front_token whole ∙ is;
-      no_angle = refl;
-      passed = literal-passed;
-      some = omega (arith, len);
-    }
+
+pub quoted-closed : {inner bytes : List ℕ} → IsBetween 34 34 inner → bytes ≡ 34 ∷ (inner ++ 34 ∷ []) → ClosedToken Quoted bytes
+unfolding is_atom_byte
+quoted-closed {inner} between e = closed-by Quoted 34 34 inner refl refl (like_angle Quoted refl refl refl refl refl refl) e (λ rest. quoted-is inner rest between)
+
+pub comment-closed : {inner bytes : List ℕ} → IsCommented inner → bytes ≡ 40 ∷ (inner ++ 41 ∷ []) → ClosedToken Comment bytes
+unfolding is_atom_byte
+comment-closed {inner} commented e = closed-by Comment 40 41 inner refl refl (like_angle Comment refl refl refl refl refl refl) e (λ rest. comment-is inner rest commented)
+
+pub literal-closed : {inner bytes : List ℕ} → IsBetween 91 93 inner → bytes ≡ 91 ∷ (inner ++ 93 ∷ []) → ClosedToken Literal bytes
+unfolding is_atom_byte
+literal-closed {inner} between e = closed-by Literal 91 93 inner refl refl (like_angle Literal refl refl refl refl refl refl) e (λ rest. literal-is inner rest between)
+
+closed-token : {bytes : List ℕ} → IsClosed bytes → (kind : Kind) × ClosedToken kind bytes
+closed-token (in_quotes between e) = (Quoted, quoted-closed between e)
+closed-token (in_comment commented e) = (Comment, comment-closed commented e)
+closed-token (in_literal between e) = (Literal, literal-closed between e)
 
 -- ---- what a step passes
 
@@ -224,14 +178,8 @@ far-run pass test is b bytes h =
 white-step : (c : ℕ) (cs : List ℕ) → is_white c ≡ true → angle_step (c ∷ cs) ≡ suc (prefix_len is_white cs)
 white-step c cs h = rw h (omega arith)
 
-atom-is_not_white : (c : ℕ) → is_atom_byte c ≡ true → is_white c ≡ false
-unfolding is_atom_byte
-atom-is_not_white c h =
-    let low = ltb-true 32 c (and_parts (nat_lt 32 c) _ (and_parts _ _ h).0).0 in
-    rw (ne_eqb c 32 (λ e. absurd (omega (arith, low))), ne_eqb c 9 (λ e. absurd (omega (arith, low))), ne_eqb c 13 (λ e. absurd (omega (arith, low))), ne_eqb c 10 (λ e. absurd (omega (arith, low)))) refl
-
 atom-step : (c : ℕ) (cs : List ℕ) → is_atom_byte c ≡ true → angle_step (c ∷ cs) ≡ suc (prefix_len is_atom_byte cs)
-atom-step c cs h = rw (atom-is_not_white c h, h) (omega arith)
+atom-step c cs h = rw (atom_byte-visible c h, h) (omega arith)
 
 single-is_no_angle : (b : ℕ) → eqb b 60 ≡ false → eqb b 62 ≡ false → is_angle (single_kind b) ≡ false
 unfolding single_kind
@@ -270,8 +218,8 @@ pair-step : (b : ℕ) (bytes : List ℕ) → angle_step (92 ∷ b ∷ bytes) ≡
 unfolding is_atom_byte
 pair-step b bytes = omega arith
 
-closed-step : {bytes : List ℕ} → (rest : List ℕ) → ClosedToken bytes rest → angle_step (bytes ++ rest) ≡ length bytes
-closed-step rest token = rw (token.token) (rw (token.no_angle) refl)
+closed-step : {kind : Kind} {bytes : List ℕ} → ClosedToken kind bytes → (rest : List ℕ) → angle_step (bytes ++ rest) ≡ length bytes
+closed-step token rest = rw (token.token rest) (rw (token.no_angle) refl)
 
 closing-step : (rest : List ℕ) → angle_step (62 ∷ rest) ≡ 0
 unfolding is_atom_byte single_kind
@@ -289,8 +237,8 @@ angles-passed (angles_byte {b = b} {rest = inner} h more) rest =
     omega (arith, here, later)
 angles-passed (angles_closed {closed = front} {rest = inner} {bytes = bytes} shut more e) rest =
     let later = angles-passed more rest in
-    let token = closed-token shut (inner ++ rest) in
-    let here = far-token angle_step front (inner ++ rest) token.some (closed-step (inner ++ rest) token) in
+    let token = (closed-token shut).1 in
+    let here = far-token angle_step front (inner ++ rest) token.some (closed-step token (inner ++ rest)) in
     let len : length bytes ≡ length front + length inner = ap length e ∙ length-append front inner in
     let whole : far angle_step (bytes ++ rest) ≡ far angle_step (front ++ (inner ++ rest)) =
     ap (λ b. far angle_step (b ++ rest)) e ∙ ap (far angle_step) (append_assoc front inner rest) in
@@ -320,27 +268,17 @@ pub run-token : (span : Span) (bytes rest : List ℕ) (kind : Kind) → 0 < leng
     → is_in span kind ≡ true → run span (bytes ++ rest) ≡ length bytes + run span rest
 run-token span bytes rest kind some is goes = far-token (step span) bytes rest some (step-token span (bytes ++ rest) (length bytes) kind is goes)
 
+pub closed-passed : (span : Span) {kind : Kind} {bytes : List ℕ} → ClosedToken kind bytes → is_in span kind ≡ true → (rest : List ℕ) → run span (bytes ++ rest) ≡ length bytes + run span rest
+closed-passed span {kind} {bytes} token goes rest = run-token span bytes rest kind token.some (token.front rest) goes
+
 pub enclosed-passed : (span : Span) (text rest : List ℕ) → is_in span Angle ≡ true → IsEnclosed text → run span (text ++ rest) ≡ length text + run span rest
 enclosed-passed span text rest goes (closed shut) =
-    let token = closed-token shut rest in
-    run-token span text rest token.kind token.some token.front (token.passed span goes)
+    let token = (closed-token shut).1 in
+    closed-passed span token (token.passed span goes) rest
 enclosed-passed span text rest goes (in_angles {inner = inner} inside e) =
     let whole : text ++ rest ≡ 60 ∷ (inner ++ 62 ∷ rest) = ap (λ b. b ++ rest) e ∙ marked 60 62 inner rest in
     let len : length text ≡ length inner + 2 = ap length e ∙ marked-length 60 62 inner in
     run-token span text rest Angle (omega (arith, len)) (ap front_token whole ∙ angle-front inner rest inside ∙ ap (λ n. record { kind = Angle; len = n }) (sym len)) goes
-
-other-passed : (span : Span) → is_in span Angle ≡ true → is_in span Other ≡ true
-other-passed White h = absurd (false≢true h)
-other-passed Phrase h = absurd (false≢true h)
-other-passed Word h = absurd (false≢true h)
-other-passed Atoms h = absurd (false≢true h)
-other-passed Literals h = absurd (false≢true h)
-other-passed BeforeAt h = refl
-other-passed BeforeColon h = refl
-other-passed BeforeComma h = refl
-other-passed BeforeSeparator h = refl
-other-passed BeforeMark h = refl
-other-passed InGroup h = refl
 
 pair-front : (b : ℕ) (rest : List ℕ) → front_token (92 ∷ b ∷ rest) ≡ record { kind = Other; len = 2 }
 unfolding front_token is_atom_byte
@@ -351,4 +289,4 @@ pair-front b rest = ap (λ n. record { kind = Other; len = n }) (two rest)
 
 -- outside of all of them a backslash takes the byte behind it
 pub pair-passed : (span : Span) (b : ℕ) (rest : List ℕ) → is_in span Angle ≡ true → run span (92 ∷ b ∷ rest) ≡ 2 + run span rest
-pair-passed span b rest goes = run-token span (92 ∷ b ∷ []) rest Other (omega arith) (pair-front b rest) (other-passed span goes)
+pair-passed span b rest goes = run-token span (92 ∷ b ∷ []) rest Other (omega arith) (pair-front b rest) (like_angle Other refl refl refl refl refl refl span goes)

@@ -2,23 +2,25 @@
 use Rattle.std.proofs.Common.{◌≡◌, ◌≢◌, ◌⊎◌, inl, inr, ℕ, zero, suc, ◌+◌, ◌-◌, ◌<◌, ◌≤◌, Bool, true, false, cond, eqb, not, ◌&&◌, ◌||◌, List, [], ◌∷◌, ◌++◌, Some, None, Option, length, take, drop, refl, sym, ap, subst, ◌∙◌, arith, append_assoc, length-append, length-drop}
 use Rattle.std.specs.Prelude.{min, nat_lt}
 use Rattle.std.specs.List.{list_all, prefix_len}
-use Rattle.std.proofs.lemmas.Bool.{and_from, and_parts, cases_lt, eqb-false, eqb-true, false≢true, ltb-true, not-true, or_parts}
+use Rattle.std.proofs.lemmas.Bool.{and_from, and_parts, cases_lt, cond_both, eqb-false, eqb-true, false≢true, ltb-true, not-true, or_parts}
 use Rattle.std.proofs.lemmas.List.{append-nil, drop_at, take_all, take_at, take-append-drop}
 use Rattle.std.proofs.Math.Seq.{take-add}
 use Rattle.mail_codec.specs.Places.{begins}
 use Rattle.mail_address.specs.declared.tokens.Kind.{Kind}
 use Rattle.mail_address.specs.declared.tokens.Kind.TheVariants.{Blank, Comment, Atom, Quoted, Literal, Angle, Dot, At, Comma, Semicolon, Colon, Opening, Closing, Other}
 use Rattle.mail_address.specs.declared.tokens.Span.{Span}
-use Rattle.mail_address.specs.declared.tokens.Span.TheVariants.{Atoms, BeforeAt, BeforeColon, BeforeComma, Literals, Phrase, White, Word}
+use Rattle.mail_address.specs.declared.tokens.Span.TheVariants.{Atoms, BeforeAt, BeforeColon, BeforeComma, BeforeSeparator, Literals, Phrase, White, Word}
 use Rattle.mail_address.specs.declared.tokens.Token.{Token}
+use Rattle.mail_address.specs.Addresses.{is_separator}
 use Rattle.mail_address.specs.Enclosed.{IsBetween, no_bytes, quoted_pair, plain_byte, IsCommented, comment_ends, comment_pair, comment_byte, comment_within}
 use Rattle.mail_address.specs.Grammar.{address, AreDotted, AreDotWords, AreStops, atom, any_word, any_words, atoms, dot_word, dots_end, dotted, in_brackets, IsDomain, IsMailbox, IsName, IsPadded, IsPhrase, IsPhraseRest, IsRoute, IsStop, IsWhite, IsWord, last_stop, literal, literals, MayBeRoute, more_stops, named_address, next_stop, no_name, no_route, no_stop, one_stop, phrase, phrase_dot, phrase_ends, phrase_white, phrase_word, route, stop, white_byte, white_comment, white_ends, Words}
 use Rattle.mail_address.specs.Mailbox.{after_route, after_white, dot_word_len, is_domain, is_dotted, is_enclosed, is_local_part, is_phrase, is_route, is_stop, is_word, mailbox_of, named_mailbox, Parts, spec_mailbox, stop_len, within_ends, word_len}
 use Rattle.mail_address.specs.Names.{IsNameWord, atom_word, quoted_word}
 use Rattle.mail_address.specs.Tokens.{angle_place, angle_token, closes_comment, comment_place, comment_token, depth_after, far, far_within, front_token, is_all_white, is_atom_byte, is_in, is_white, literal_token, plain_token, quoted_token, run, single_kind, step, unquoted_place}
+use Rattle.mail_address.proofs.lemmas.Addresses.{begins-within}
 use Rattle.mail_address.proofs.lemmas.Bounds.{far-over, step-within, token-fits}
 use Rattle.mail_address.proofs.lemmas.Enclosed.{marked, marked-length}
-use Rattle.mail_address.proofs.lemmas.Tokens.{far-more}
+use Rattle.mail_address.proofs.lemmas.Tokens.{far-more, far-nothing}
 use Rattle.mail_address.proofs.lemmas.Passed.{comma-front, passed-up_to, run-stops, span_of, white-passed}
 
 -- ---- cuts
@@ -152,9 +154,6 @@ comment-mark quoted depth (b ∷ rest) low =
 
 -- ---- tokens
 
-abbrev pick : Bool → Token → Token → Token
-pick t one other = cond t one other
-
 -- what the bytes of a token are
 abbrev pub Meets : Kind → List ℕ → Type 0
 Meets Blank text = IsWhite text
@@ -165,7 +164,16 @@ Meets Literal text = IsWord literals text
 Meets Angle text = (inner : List ℕ) × (text ≡ 60 ∷ (inner ++ 62 ∷ []))
 Meets Dot text = text ≡ 46 ∷ []
 Meets Comma text = text ≡ 44 ∷ []
+Meets Semicolon text = text ≡ 59 ∷ []
 Meets _ text = Unit {0}
+
+-- a token at the front of these bytes is what its kind says
+abbrev IsMet : List ℕ → Token → Type 0
+IsMet bytes token = Meets token.kind (take token.len bytes)
+
+-- a token of that kind and length
+abbrev tok : Kind → ℕ → Token
+tok k n = record { kind = k; len = n }
 
 prefix-white : (bytes : List ℕ) → IsWhite (take (prefix_len is_white bytes) bytes)
 prefix-white [] = white_ends
@@ -188,18 +196,14 @@ prefix-atoms (b ∷ bytes) = go (is_atom_byte b) refl (prefix-atoms bytes)
         subst (λ n. list_all is_atom_byte (take n (b ∷ bytes)) ≡ true) one (and_from _ _ e later)
     go false e later = refl
 
-comment-meets : (rest : List ℕ) → Meets (comment_token rest).kind (take (comment_token rest).len (40 ∷ rest))
+comment-meets : (rest : List ℕ) → IsMet (40 ∷ rest) (comment_token rest)
 unfolding comment_token
-comment-meets rest = go (nat_lt (comment_place false 0 rest) (length rest)) refl
-  where
-    go : (t : Bool) → nat_lt (comment_place false 0 rest) (length rest) ≡ t
-        → Meets (pick t (record { kind = Comment; len = comment_place false 0 rest + 2 }) (record { kind = Other; len = comment_place false 0 rest + 1 })).kind
-        (take (pick t (record { kind = Comment; len = comment_place false 0 rest + 2 }) (record { kind = Other; len = comment_place false 0 rest + 1 })).len (40 ∷ rest))
-    go true e =
-        let low = ltb-true _ _ e in
-        white_comment {inner = take (comment_place false 0 rest) rest} {rest = []} (closes-zero (comment-made false 0 rest low)) white_ends
-        (cut-closed 40 41 (comment_place false 0 rest) rest (comment-mark false 0 rest low))
-    go false e = tt
+comment-meets rest =
+    let n : ℕ = comment_place false 0 rest in
+    cond_both (nat_lt n (length rest)) (tok Comment (n + 2)) (tok Other (n + 1)) (IsMet (40 ∷ rest))
+    (λ e. let low = ltb-true n (length rest) e in
+    white_comment {inner = take n rest} {rest = []} (closes-zero (comment-made false 0 rest low)) white_ends (cut-closed 40 41 n rest (comment-mark false 0 rest low)))
+    (λ e. tt)
 
 or-same : (t : Bool) → (t || t) ≡ true → t ≡ true
 or-same true h = refl
@@ -209,140 +213,139 @@ begins-either : (one : ℕ) (bytes : List ℕ) → begins (λ b. eqb b one || eq
 begins-either one [] h = h
 begins-either one (b ∷ bytes) h = or-same (eqb b one) h
 
-quoted-meets : (rest : List ℕ) → Meets (quoted_token rest).kind (take (quoted_token rest).len (34 ∷ rest))
+quoted-meets : (rest : List ℕ) → IsMet (34 ∷ rest) (quoted_token rest)
 unfolding quoted_token
-quoted-meets rest = go (nat_lt (unquoted_place 34 34 false rest) (length rest)) refl
-  where
-    go : (t : Bool) → nat_lt (unquoted_place 34 34 false rest) (length rest) ≡ t
-        → Meets (pick t (record { kind = Quoted; len = unquoted_place 34 34 false rest + 2 }) (record { kind = Other; len = 1 })).kind
-        (take (pick t (record { kind = Quoted; len = unquoted_place 34 34 false rest + 2 }) (record { kind = Other; len = 1 })).len (34 ∷ rest))
-    go true e =
-        let low = ltb-true _ _ e in
-        quoted_word {inner = take (unquoted_place 34 34 false rest) rest} (between-made 34 34 false rest low)
-        (cut-closed 34 34 (unquoted_place 34 34 false rest) rest (begins-either 34 (drop (unquoted_place 34 34 false rest) rest) (between-mark 34 34 false rest low)))
-    go false e = tt
+quoted-meets rest =
+    let n : ℕ = unquoted_place 34 34 false rest in
+    cond_both (nat_lt n (length rest)) (tok Quoted (n + 2)) (tok Other 1) (IsMet (34 ∷ rest))
+    (λ e. let low = ltb-true n (length rest) e in
+    quoted_word {inner = take n rest} (between-made 34 34 false rest low) (cut-closed 34 34 n rest (begins-either 34 (drop n rest) (between-mark 34 34 false rest low))))
+    (λ e. tt)
 
-begins-within : (test : ℕ → Bool) (n : ℕ) (bytes : List ℕ) → begins test (drop n bytes) ≡ true → n < length bytes
-begins-within test zero [] h = absurd (false≢true h)
-begins-within test (suc n) [] h = absurd (false≢true h)
-begins-within test zero (b ∷ bytes) h = omega arith
-begins-within test (suc n) (b ∷ bytes) h = let low = begins-within test n bytes h in omega (arith, low)
-
-literal-meets : (rest : List ℕ) → Meets (literal_token rest).kind (take (literal_token rest).len (91 ∷ rest))
+literal-meets : (rest : List ℕ) → IsMet (91 ∷ rest) (literal_token rest)
 unfolding literal_token
-literal-meets rest = go (begins (λ b. eqb b 93) (drop (unquoted_place 91 93 false rest) rest)) refl
-  where
-    go : (t : Bool) → begins (λ b. eqb b 93) (drop (unquoted_place 91 93 false rest) rest) ≡ t
-        → Meets (pick t (record { kind = Literal; len = unquoted_place 91 93 false rest + 2 }) (record { kind = Other; len = 1 })).kind
-        (take (pick t (record { kind = Literal; len = unquoted_place 91 93 false rest + 2 }) (record { kind = Other; len = 1 })).len (91 ∷ rest))
-    go true e =
-        literal {inner = take (unquoted_place 91 93 false rest) rest}
-        (between-made 91 93 false rest (begins-within (λ b. eqb b 93) (unquoted_place 91 93 false rest) rest e))
-        (cut-closed 91 93 (unquoted_place 91 93 false rest) rest e)
-    go false e = tt
+literal-meets rest =
+    let n : ℕ = unquoted_place 91 93 false rest in
+    cond_both (begins (λ b. eqb b 93) (drop n rest)) (tok Literal (n + 2)) (tok Other 1) (IsMet (91 ∷ rest))
+    (λ e. literal {inner = take n rest} (between-made 91 93 false rest (begins-within (λ b. eqb b 93) n rest e)) (cut-closed 91 93 n rest e)) (λ e. tt)
 
-angle-meets : (rest : List ℕ) → Meets (angle_token rest).kind (take (angle_token rest).len (60 ∷ rest))
+angle-meets : (rest : List ℕ) → IsMet (60 ∷ rest) (angle_token rest)
 unfolding angle_token
-angle-meets rest = go (begins (λ b. eqb b 62) (drop (angle_place rest) rest)) refl
-  where
-    go : (t : Bool) → begins (λ b. eqb b 62) (drop (angle_place rest) rest) ≡ t
-        → Meets (pick t (record { kind = Angle; len = angle_place rest + 2 }) (record { kind = Opening; len = 1 })).kind
-        (take (pick t (record { kind = Angle; len = angle_place rest + 2 }) (record { kind = Opening; len = 1 })).len (60 ∷ rest))
-    go true e = (take (angle_place rest) rest, cut-closed 60 62 (angle_place rest) rest e)
-    go false e = tt
+angle-meets rest =
+    let n : ℕ = angle_place rest in
+    cond_both (begins (λ b. eqb b 62) (drop n rest)) (tok Angle (n + 2)) (tok Opening 1) (IsMet (60 ∷ rest)) (λ e. (take n rest, cut-closed 60 62 n rest e)) (λ e. tt)
 
 single-meets : (b : ℕ) → Meets (single_kind b) (b ∷ [])
 unfolding single_kind
-single-meets b = go (eqb b 46) refl (eqb b 64) (eqb b 44) refl (eqb b 59) (eqb b 58) (eqb b 60) (eqb b 62)
+single-meets b = go (eqb b 46) refl (eqb b 64) (eqb b 44) refl (eqb b 59) refl (eqb b 58) (eqb b 60) (eqb b 62)
   where
-    go : (d : Bool) → eqb b 46 ≡ d → (a c : Bool) → eqb b 44 ≡ c → (s k o e : Bool)
+    go : (d : Bool) → eqb b 46 ≡ d → (a c : Bool) → eqb b 44 ≡ c → (s : Bool) → eqb b 59 ≡ s → (k o e : Bool)
         → Meets (cond d Dot (cond a At (cond c Comma (cond s Semicolon (cond k Colon (cond o Opening (cond e Closing Other))))))) (b ∷ [])
-    go true ed a c ec s k o e = ap (λ (x : ℕ). x ∷ []) (eqb-true b 46 ed)
-    go false ed true c ec s k o e = tt
-    go false ed false true ec s k o e = ap (λ (x : ℕ). x ∷ []) (eqb-true b 44 ec)
-    go false ed false false ec true k o e = tt
-    go false ed false false ec false true o e = tt
-    go false ed false false ec false false true e = tt
-    go false ed false false ec false false false true = tt
-    go false ed false false ec false false false false = tt
+    go true ed a c ec s es k o e = ap (λ (x : ℕ). x ∷ []) (eqb-true b 46 ed)
+    go false ed true c ec s es k o e = tt
+    go false ed false true ec s es k o e = ap (λ (x : ℕ). x ∷ []) (eqb-true b 44 ec)
+    go false ed false false ec true es k o e = ap (λ (x : ℕ). x ∷ []) (eqb-true b 59 es)
+    go false ed false false ec false es true o e = tt
+    go false ed false false ec false es false true e = tt
+    go false ed false false ec false es false false true = tt
+    go false ed false false ec false es false false false = tt
 
--- the token at the front, by the tests on its first byte
-abbrev token : ℕ → List ℕ → Bool → Bool → Bool → Bool → Bool → Bool → Token
-token b rest w a c q l s =
-    cond w (record { kind = Blank; len = 1 + prefix_len is_white rest })
-    (cond a (record { kind = Atom; len = 1 + prefix_len is_atom_byte rest })
-    (cond c (comment_token rest) (cond q (quoted_token rest) (cond l (literal_token rest)
-    (cond s (record { kind = Other; len = min 2 (1 + length rest) }) (record { kind = single_kind b; len = 1 }))))))
-
-plain-meets : (b : ℕ) (rest : List ℕ) → Meets (plain_token (b ∷ rest)).kind (take (plain_token (b ∷ rest)).len (b ∷ rest))
+plain-meets : (b : ℕ) (rest : List ℕ) → IsMet (b ∷ rest) (plain_token (b ∷ rest))
 plain-meets b rest = go (is_white b) refl (is_atom_byte b) refl (eqb b 40) refl (eqb b 34) refl (eqb b 91) refl (eqb b 92)
   where
     go : (w : Bool) → is_white b ≡ w → (a : Bool) → is_atom_byte b ≡ a → (c : Bool) → eqb b 40 ≡ c → (q : Bool) → eqb b 34 ≡ q → (l : Bool) → eqb b 91 ≡ l → (s : Bool)
-        → Meets (token b rest w a c q l s).kind (take (token b rest w a c q l s).len (b ∷ rest))
+        → IsMet (b ∷ rest) (cond w (tok Blank (1 + prefix_len is_white rest)) (cond a (tok Atom (1 + prefix_len is_atom_byte rest))
+        (cond c (comment_token rest) (cond q (quoted_token rest) (cond l (literal_token rest) (cond s (tok Other (min 2 (1 + length rest))) (tok (single_kind b) 1)))))))
     go true ew a ea c ec q eq l el s =
         let one : suc (prefix_len is_white rest) ≡ 1 + prefix_len is_white rest = omega arith in
         subst (λ n. IsWhite (take n (b ∷ rest))) one (white_byte ew (prefix-white rest))
     go false ew true ea c ec q eq l el s =
         let one : suc (prefix_len is_atom_byte rest) ≡ 1 + prefix_len is_atom_byte rest = omega arith in
         subst (λ n. IsWord atoms (take n (b ∷ rest))) one (atom (and_from _ _ ea (prefix-atoms rest)))
-    go false ew false ea true ec q eq l el s =
-        subst (λ x. Meets (comment_token rest).kind (take (comment_token rest).len (x ∷ rest))) (sym (eqb-true b 40 ec)) (comment-meets rest)
-    go false ew false ea false ec true eq l el s =
-        subst (λ x. Meets (quoted_token rest).kind (take (quoted_token rest).len (x ∷ rest))) (sym (eqb-true b 34 eq)) (quoted-meets rest)
-    go false ew false ea false ec false eq true el s =
-        subst (λ x. Meets (literal_token rest).kind (take (literal_token rest).len (x ∷ rest))) (sym (eqb-true b 91 el)) (literal-meets rest)
+    go false ew false ea true ec q eq l el s = subst (λ x. IsMet (x ∷ rest) (comment_token rest)) (sym (eqb-true b 40 ec)) (comment-meets rest)
+    go false ew false ea false ec true eq l el s = subst (λ x. IsMet (x ∷ rest) (quoted_token rest)) (sym (eqb-true b 34 eq)) (quoted-meets rest)
+    go false ew false ea false ec false eq true el s = subst (λ x. IsMet (x ∷ rest) (literal_token rest)) (sym (eqb-true b 91 el)) (literal-meets rest)
     go false ew false ea false ec false eq false el true = tt
     go false ew false ea false ec false eq false el false = single-meets b
 
-pub front-meets : (bytes : List ℕ) → Meets (front_token bytes).kind (take (front_token bytes).len bytes)
+pub front-meets : (bytes : List ℕ) → IsMet bytes (front_token bytes)
 unfolding front_token
 front-meets [] = tt
-front-meets (b ∷ rest) = go (eqb b 60) refl
-  where
-    go : (t : Bool) → eqb b 60 ≡ t → Meets (pick t (angle_token rest) (plain_token (b ∷ rest))).kind (take (pick t (angle_token rest) (plain_token (b ∷ rest))).len (b ∷ rest))
-    go true e = subst (λ x. Meets (angle_token rest).kind (take (angle_token rest).len (x ∷ rest))) (sym (eqb-true b 60 e)) (angle-meets rest)
-    go false e = plain-meets b rest
+front-meets (b ∷ rest) =
+    cond_both (eqb b 60) (angle_token rest) (plain_token (b ∷ rest)) (IsMet (b ∷ rest))
+    (λ e. subst (λ x. IsMet (x ∷ rest) (angle_token rest)) (sym (eqb-true b 60 e)) (angle-meets rest)) (λ e. plain-meets b rest)
 
 -- ---- steps and runs
+
+-- a length that stands under a test, and is not 0
+under_test : (t : Bool) (n : ℕ) → cond t n 0 ≢ 0 → (t ≡ true) × (cond t n 0 ≡ n)
+under_test true n some = (refl, refl)
+under_test false n some = absurd (some refl)
 
 -- a step that passes something passes a token of the span
 step-token : (span : Span) (bytes : List ℕ) → step span bytes ≢ 0 → (is_in span (front_token bytes).kind ≡ true) × (step span bytes ≡ (front_token bytes).len)
 unfolding step
-step-token span bytes some = go (is_in span (front_token bytes).kind) refl some
-  where
-    go : (t : Bool) → is_in span (front_token bytes).kind ≡ t → cond t (front_token bytes).len 0 ≢ 0
-        → (is_in span (front_token bytes).kind ≡ true) × (cond t (front_token bytes).len 0 ≡ (front_token bytes).len)
-    go true e some = (e, refl)
-    go false e some = absurd (some refl)
+step-token span bytes some = under_test (is_in span (front_token bytes).kind) (front_token bytes).len some
+
+-- what it passes is what such tokens are
+step-meets : (span : Span) (P : List ℕ → Type 0) → ((kind : Kind) (text : List ℕ) → is_in span kind ≡ true → Meets kind text → P text)
+    → (bytes : List ℕ) → step span bytes ≢ 0 → P (take (step span bytes) bytes)
+step-meets span P meets bytes some =
+    let token = step-token span bytes some in
+    subst (λ n. P (take n bytes)) (sym token.1) (meets (front_token bytes).kind (take (front_token bytes).len bytes) token.0 (front-meets bytes))
 
 -- what a step is repeated over, in pieces
-far_within-made : (pass : List ℕ → ℕ) (P : List ℕ → Type 0) → P []
-    → ((bytes : List ℕ) (k : ℕ) → pass bytes ≢ 0 → P (take k (drop (pass bytes) bytes)) → P (take (pass bytes) bytes ++ take k (drop (pass bytes) bytes)))
-    → (most : ℕ) (bytes : List ℕ) → P (take (far_within pass most bytes) bytes)
-far_within-made pass P none more zero bytes = none
-far_within-made pass P none more (suc most) [] = none
-far_within-made pass P none more (suc most) (b ∷ bytes) =
-    go (eqb (pass (b ∷ bytes)) 0) refl (far_within-made pass P none more most (drop (pass (b ∷ bytes)) (b ∷ bytes)))
-  where
-    go : (t : Bool) → eqb (pass (b ∷ bytes)) 0 ≡ t
-        → P (take (far_within pass most (drop (pass (b ∷ bytes)) (b ∷ bytes))) (drop (pass (b ∷ bytes)) (b ∷ bytes)))
-        → P (take (cond t 0 (pass (b ∷ bytes) + far_within pass most (drop (pass (b ∷ bytes)) (b ∷ bytes)))) (b ∷ bytes))
-    go true e later = none
-    go false e later =
-        subst P (sym (take-add (pass (b ∷ bytes)) (far_within pass most (drop (pass (b ∷ bytes)) (b ∷ bytes))) (b ∷ bytes)))
-        (more (b ∷ bytes) (far_within pass most (drop (pass (b ∷ bytes)) (b ∷ bytes))) (eqb-false (pass (b ∷ bytes)) 0 e) later)
+module _ (pass : List ℕ → ℕ) (P : List ℕ → Type 0) (none : P [])
+    (more : (bytes : List ℕ) (k : ℕ) → pass bytes ≢ 0 → P (take k (drop (pass bytes) bytes)) → P (take (pass bytes) bytes ++ take k (drop (pass bytes) bytes))) where
+  far_within-made : (most : ℕ) (bytes : List ℕ) → P (take (far_within pass most bytes) bytes)
+  far_within-made zero bytes = none
+  far_within-made (suc most) [] = none
+  far_within-made (suc most) (b ∷ bytes) =
+      let all : List ℕ = b ∷ bytes in
+      let left : ℕ = far_within pass most (drop (pass all) all) in
+      let later = far_within-made most (drop (pass all) all) in
+      cond_both (eqb (pass all) 0) 0 (pass all + left) (λ n. P (take n all)) (λ e. none)
+      (λ e. subst P (sym (take-add (pass all) left all)) (more all left (eqb-false (pass all) 0 e) later))
 
-far-made : (pass : List ℕ → ℕ) (P : List ℕ → Type 0) → P []
-    → ((bytes : List ℕ) (k : ℕ) → pass bytes ≢ 0 → P (take k (drop (pass bytes) bytes)) → P (take (pass bytes) bytes ++ take k (drop (pass bytes) bytes)))
-    → (bytes : List ℕ) → P (take (far pass bytes) bytes)
-unfolding far
-far-made pass P none more bytes = far_within-made pass P none more (length bytes) bytes
+  far-made : (bytes : List ℕ) → P (take (far pass bytes) bytes)
+  unfolding far
+  far-made bytes = far_within-made (length bytes) bytes
 
--- the whole, where it is repeated over all
-far-whole : (pass : List ℕ → ℕ) (P : List ℕ → Type 0) → P []
-    → ((bytes : List ℕ) (k : ℕ) → pass bytes ≢ 0 → P (take k (drop (pass bytes) bytes)) → P (take (pass bytes) bytes ++ take k (drop (pass bytes) bytes)))
-    → (bytes : List ℕ) → far pass bytes ≡ length bytes → P bytes
-far-whole pass P none more bytes all = subst P (take_all (far pass bytes) bytes (omega (arith, all))) (far-made pass P none more bytes)
+  -- the whole, where it is repeated over all
+  far-whole : (bytes : List ℕ) → far pass bytes ≡ length bytes → P bytes
+  far-whole bytes all = subst P (take_all (far pass bytes) bytes (omega (arith, all))) (far-made bytes)
+
+-- where a run ends before the bytes do, a token stands that it does not go over
+module _ (span : Span) (test : ℕ → Bool) (meets : (kind : Kind) (text : List ℕ) → is_in span kind ≡ false → Meets kind text → begins test text ≡ true) where
+  stop-first : (bytes : List ℕ) → 0 < length bytes → step span bytes ≡ 0 → begins test bytes ≡ true
+  unfolding step
+  stop-first [] low none = absurd (omega (arith, low))
+  stop-first (b ∷ rest) low none = go (is_in span (front_token (b ∷ rest)).kind) refl none
+    where
+      some : 0 < (front_token (b ∷ rest)).len
+      some = (token-fits b rest).0
+
+      first : (n : ℕ) → 0 < n → begins test (take n (b ∷ rest)) ≡ true → test b ≡ true
+      first zero low e = absurd (omega (arith, low))
+      first (suc n) low e = e
+
+      go : (t : Bool) → is_in span (front_token (b ∷ rest)).kind ≡ t → cond t (front_token (b ∷ rest)).len 0 ≡ 0 → test b ≡ true
+      go true e none = let low = some in absurd (omega (arith, low, none))
+      go false e none = first (front_token (b ∷ rest)).len some (meets (front_token (b ∷ rest)).kind _ e (front-meets (b ∷ rest)))
+
+  stop-behind : (bytes : List ℕ) → run span bytes < length bytes → begins test (drop (run span bytes) bytes) ≡ true
+  stop-behind bytes low =
+      let len = length-drop (run span bytes) bytes in
+      stop-first (drop (run span bytes) bytes) (omega (arith, low, len)) (far-over (step span) (step-within span) (length bytes) bytes (omega arith) low)
+
+separator-meets : (kind : Kind) (text : List ℕ) → is_in BeforeSeparator kind ≡ false → Meets kind text → begins is_separator text ≡ true
+separator-meets Comma text h m = ap (begins is_separator) m
+separator-meets Semicolon text h m = ap (begins is_separator) m
+separator-meets _ text h m = absurd (false≢true (sym h))
+
+-- behind a run up to a separator stands one, or nothing
+pub run-separates : (bytes : List ℕ) → run BeforeSeparator bytes < length bytes → begins is_separator (drop (run BeforeSeparator bytes) bytes) ≡ true
+run-separates = stop-behind BeforeSeparator is_separator separator-meets
 
 -- ---- folding whitespace and comments
 
@@ -358,13 +361,8 @@ white-meets Blank text h m = m
 white-meets Comment text h m = m
 white-meets _ text h m = absurd (false≢true h)
 
-white-step : (bytes : List ℕ) → step White bytes ≢ 0 → IsWhite (take (step White bytes) bytes)
-white-step bytes some =
-    let token = step-token White bytes some in
-    subst (λ n. IsWhite (take n bytes)) (sym token.1) (white-meets (front_token bytes).kind (take (front_token bytes).len bytes) token.0 (front-meets bytes))
-
 white-made : (text : List ℕ) → IsWhite (take (run White text) text)
-white-made text = far-made (step White) IsWhite white_ends (λ bytes k some later. white-append (white-step bytes some) later) text
+white-made text = far-made (step White) IsWhite white_ends (λ bytes k some later. white-append (step-meets White IsWhite white-meets bytes some) later) text
 
 pub all_white-made : (text : List ℕ) → is_all_white text ≡ true → IsWhite text
 unfolding is_all_white
@@ -385,11 +383,6 @@ word-meets atoms Atom text h m = m
 word-meets atoms _ text h m = absurd (false≢true h)
 word-meets literals Literal text h m = m
 word-meets literals _ text h m = absurd (false≢true h)
-
-word-step : (words : Words) (bytes : List ℕ) → step (span_of words) bytes ≢ 0 → IsWord words (take (step (span_of words) bytes) bytes)
-word-step words bytes some =
-    let token = step-token (span_of words) bytes some in
-    subst (λ n. IsWord words (take n bytes)) (sym token.1) (word-meets words (front_token bytes).kind (take (front_token bytes).len bytes) token.0 (front-meets bytes))
 
 module _ (words : Words) (text : List ℕ) where
   abbrev w : ℕ
@@ -412,7 +405,7 @@ module _ (words : Words) (text : List ℕ) where
         word = take l (drop w text);
         after = take a (drop (w + l) text);
         white_before = white-made text;
-        is_word = word-step words (drop w text) (eqb-false l 0 e);
+        is_word = step-meets (span_of words) (IsWord words) (word-meets words) (drop w text) (eqb-false l 0 e);
         white_after = white-made (drop (w + l) text);
         made =
             take-add (w + l) a text ∙ ap (λ b. b ++ take a (drop (w + l) text)) (take-add w l text)
@@ -499,9 +492,7 @@ phrase_rest-made text all = far-whole (step Phrase) IsPhraseRest phrase_ends mor
     more : (bytes : List ℕ) (k : ℕ) → step Phrase bytes ≢ 0 → IsPhraseRest (take k (drop (step Phrase bytes) bytes))
         → IsPhraseRest (take (step Phrase bytes) bytes ++ take k (drop (step Phrase bytes) bytes))
     more bytes k some later =
-        let token = step-token Phrase bytes some in
-        phrase-append (front_token bytes).kind (take (step Phrase bytes) bytes) token.0
-        (subst (λ n. Meets (front_token bytes).kind (take n bytes)) (sym token.1) (front-meets bytes)) later
+        step-meets Phrase (λ front. IsPhraseRest (front ++ take k (drop (step Phrase bytes) bytes))) (λ kind text goes meets. phrase-append kind text goes meets later) bytes some
 
 step-is : (span : Span) (bytes : List ℕ) → is_in span (front_token bytes).kind ≡ true → step span bytes ≡ (front_token bytes).len
 unfolding step
@@ -582,40 +573,16 @@ stop-made text h = go (is_all_white text) refl h
         stop {white = take (run White text) text} {domain = drop 1 (drop (run White text) text)} (white-made text) (domain-made (drop 1 (drop (run White text) text)) both.1)
         (sym (take-append-drop (run White text) text) ∙ ap (λ r. take (run White text) text ++ r) (begins-cut 64 (drop (run White text) text) both.0))
 
--- where a run up to a comma ends before the text does, a comma stands
-comma-meets : (kind : Kind) (text : List ℕ) → is_in BeforeComma kind ≡ false → Meets kind text → text ≡ 44 ∷ []
-comma-meets Comma text h m = m
+comma-meets : (kind : Kind) (text : List ℕ) → is_in BeforeComma kind ≡ false → Meets kind text → begins (λ b. eqb b 44) text ≡ true
+comma-meets Comma text h m = ap (begins (λ b. eqb b 44)) m
 comma-meets _ text h m = absurd (false≢true (sym h))
 
-comma-first : (bytes : List ℕ) → 0 < length bytes → step BeforeComma bytes ≡ 0 → begins (λ b. eqb b 44) bytes ≡ true
-unfolding step
-comma-first [] low none = absurd (omega (arith, low))
-comma-first (b ∷ rest) low none = go (is_in BeforeComma (front_token (b ∷ rest)).kind) refl none
-  where
-    some : 0 < (front_token (b ∷ rest)).len
-    some = (token-fits b rest).0
-
-    first : (n : ℕ) → 0 < n → take n (b ∷ rest) ≡ 44 ∷ [] → eqb b 44 ≡ true
-    first zero low e = absurd (omega (arith, low))
-    first (suc n) low e = ap (begins (λ c. eqb c 44)) e
-
-    go : (t : Bool) → is_in BeforeComma (front_token (b ∷ rest)).kind ≡ t → cond t (front_token (b ∷ rest)).len 0 ≡ 0 → eqb b 44 ≡ true
-    go true e none = let low = some in absurd (omega (arith, low, none))
-    go false e none = first (front_token (b ∷ rest)).len some (comma-meets (front_token (b ∷ rest)).kind _ e (front-meets (b ∷ rest)))
-
 comma-behind : (bytes : List ℕ) → run BeforeComma bytes < length bytes → begins (λ b. eqb b 44) (drop (run BeforeComma bytes) bytes) ≡ true
-comma-behind bytes low =
-    let len = length-drop (run BeforeComma bytes) bytes in
-    comma-first (drop (run BeforeComma bytes) bytes) (omega (arith, low, len)) (far-over (step BeforeComma) (step-within BeforeComma) (length bytes) bytes (omega arith) low)
+comma-behind = stop-behind BeforeComma (λ b. eqb b 44) comma-meets
 
 stop_len-is : (bytes : List ℕ) → stop_len bytes ≢ 0 → (is_stop (take (run BeforeComma bytes) bytes) ≡ true) × (stop_len bytes ≡ min (suc (run BeforeComma bytes)) (length bytes))
 unfolding stop_len
-stop_len-is bytes some = go (is_stop (take (run BeforeComma bytes) bytes)) refl some
-  where
-    go : (t : Bool) → is_stop (take (run BeforeComma bytes) bytes) ≡ t → cond t (min (suc (run BeforeComma bytes)) (length bytes)) 0 ≢ 0
-        → (is_stop (take (run BeforeComma bytes) bytes) ≡ true) × (cond t (min (suc (run BeforeComma bytes)) (length bytes)) 0 ≡ min (suc (run BeforeComma bytes)) (length bytes))
-    go true e some = (e, refl)
-    go false e some = absurd (some refl)
+stop_len-is bytes some = under_test (is_stop (take (run BeforeComma bytes) bytes)) (min (suc (run BeforeComma bytes)) (length bytes)) some
 
 stops-more : (bytes : List ℕ) (k : ℕ) → stop_len bytes ≢ 0 → AreStops (take k (drop (stop_len bytes) bytes)) → AreStops (take (stop_len bytes) bytes ++ take k (drop (stop_len bytes) bytes))
 stops-more bytes k some later = by (cases_lt (run BeforeComma bytes) (length bytes))
@@ -640,14 +607,10 @@ unfolding after_white
 at-not_behind white rest is none other =
     ap (begins (λ b. eqb b 64)) (drop_at white rest (run White (white ++ rest)) (sym (passed-up_to White white rest (white-passed White refl refl is) none))) ∙ other
 
-nothing-run : run White [] ≡ 0
-unfolding far
-nothing-run = refl
-
 route-from : {bytes : List ℕ} → AreStops bytes → begins (λ b. eqb b 64) (after_white bytes) ≡ true → IsRoute bytes
 route-from (last_stop (stop {white = white} {domain = domain} is_white is_domain e)) at = one_stop {white = white} {domain = domain} is_white is_domain e
 route-from {bytes} (last_stop (no_stop is)) at =
-    absurd (false≢true (sym (ap (λ b. begins (λ c. eqb c 64) (after_white b)) (sym (append-nil bytes)) ∙ at-not_behind bytes [] is nothing-run refl) ∙ at))
+    absurd (false≢true (sym (ap (λ b. begins (λ c. eqb c 64) (after_white b)) (sym (append-nil bytes)) ∙ at-not_behind bytes [] is (far-nothing (step White)) refl) ∙ at))
 route-from (next_stop {first = first} {rest = rest} (stop {white = white} {domain = domain} is_white is_domain cut) more e) at =
     more_stops {white = white} {domain = domain} {rest = rest} is_white is_domain more
     (e ∙ ap (λ f. f ++ 44 ∷ rest) cut ∙ append_assoc white (64 ∷ domain) (44 ∷ rest))

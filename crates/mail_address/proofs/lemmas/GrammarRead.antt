@@ -6,21 +6,22 @@ use Rattle.std.proofs.lemmas.Bool.{and_from, and_parts, eq-eqb, false≢true, ne
 use Rattle.std.proofs.lemmas.List.{append-nil, drop_all, drop_at, take_all, take_at}
 use Rattle.mail_codec.specs.Places.{begins}
 use Rattle.mail_address.specs.declared.tokens.Kind.{Kind}
-use Rattle.mail_address.specs.declared.tokens.Kind.TheVariants.{Angle, At, Atom, Colon, Comma, Dot, Literal, Quoted}
+use Rattle.mail_address.specs.declared.tokens.Kind.TheVariants.{Angle, At, Atom, Colon, Comma, Dot}
 use Rattle.mail_address.specs.declared.tokens.Span.{Span}
 use Rattle.mail_address.specs.declared.tokens.Span.TheVariants.{Atoms, BeforeAt, BeforeColon, BeforeComma, Literals, Phrase, White, Word}
-use Rattle.mail_address.specs.Grammar.{address, AreDotted, AreDotWords, AreStops, atom, any_word, any_words, atoms, dot_word, dots_end, dotted, in_brackets, IsDomain, IsMailbox, IsName, IsPadded, IsPhrase, IsRoute, IsStop, IsWhite, IsWord, last_stop, literal, MayBeRoute, more_stops, named_address, next_stop, no_name, no_route, no_stop, one_stop, phrase, route, stop, white_byte, white_comment, white_ends, Words}
+use Rattle.mail_address.specs.Enclosed.{IsInAngles}
+use Rattle.mail_address.specs.Grammar.{address, AreDotted, AreDotWords, AreStops, atom, any_word, any_words, atoms, dot_word, dots_end, dotted, in_brackets, IsDomain, IsMailbox, IsName, IsPadded, IsPhrase, IsRoute, IsStop, IsWhite, IsWord, last_stop, literal, literals, MayBeRoute, more_stops, named_address, next_stop, no_name, no_route, no_stop, one_stop, phrase, route, stop, white_byte, white_comment, white_ends, Words}
 use Rattle.mail_address.specs.Mailbox.{after_route, after_white, dot_word_len, is_domain, is_dotted, is_phrase, is_route, is_stop, is_word, mailbox_of, named_mailbox, Parts, spec_mailbox, stop_len, within_ends, word_len}
 use Rattle.mail_address.specs.Names.{atom_word, quoted_word}
 use Rattle.mail_address.specs.Tokens.{far, front_token, is_all_white, is_atom_byte, is_in, run, step}
-use Rattle.mail_address.proofs.lemmas.Enclosed.{angle-front, far-token, marked, marked-length, quoted-front, step-token}
-use Rattle.mail_address.proofs.lemmas.Names.{atom_byte-visible, nothing-passed}
-use Rattle.mail_address.proofs.lemmas.Passed.{IsPassed, at_domain-passed, at-front, atom_byte-front, colon-front, comma-front, dot-front, dotted-passed, literal-front, name-passed, over-atoms, over-literals, over-words, passed-append, passed-up_to, passed-whole, phrase-passed, route-passed, route-stops, run-stops, span_of, spec-angles, stop-passed, white-passed, white-whole}
+use Rattle.mail_address.proofs.lemmas.Enclosed.{angle-front, ClosedToken, far-token, literal-closed, marked, marked-length, quoted-closed, step-token}
+use Rattle.mail_address.proofs.lemmas.Passed.{IsPassed, at_domain-passed, at-front, at-passed, atom_byte-front, colon-front, comma-front, comma-passed, dot-front, dotted-passed, name-passed, over-atoms, over-literals, over-words, passed-append, passed-up_to, passed-whole, phrase-passed, route-passed, route-stops, run-stops, span_of, spec-angles, stop-passed, white-passed, white-whole}
+use Rattle.mail_address.proofs.lemmas.Tokens.{atom_byte-visible, far-nothing}
 
 -- ---- one word
 
 -- the token that a word is: whole, if no byte of an atom follows
-record WordFront (words : Words) (word rest : List ℕ) : Type 0 where
+pub record WordFront (words : Words) (word rest : List ℕ) : Type 0 where
   pub kind : Kind
   pub len : ℕ
   pub front : front_token (word ++ rest) ≡ record { kind = kind; len = len }
@@ -50,31 +51,22 @@ atom-word_front words b bytes rest goes h =
       whole = λ ends. let all = prefix-whole bytes rest both.1 ends in omega (arith, all);
     }
 
-word-front : {words : Words} {word : List ℕ} → IsWord words word → (rest : List ℕ) → WordFront words word rest
-word-front {words} {word} (any_word (quoted_word {inner = inner} between e)) rest =
-    let len : length word ≡ length inner + 2 = ap length e ∙ marked-length 34 34 inner in
-    record {
-      kind = Quoted;
-      len = length word;
-      front = quoted-front between e rest;
-      some = omega (arith, len);
-      no_white = refl;
-      goes = refl;
-      whole = λ ends. refl;
-    }
+closed-word_front : (words : Words) {kind : Kind} {word : List ℕ} → ClosedToken kind word → is_in White kind ≡ false → is_in (span_of words) kind ≡ true → (rest : List ℕ) → WordFront words word rest
+closed-word_front words {kind} {word} token no_white goes rest = record {
+  kind = kind;
+  len = length word;
+  front = token.front rest;
+  some = token.some;
+  no_white = no_white;
+  goes = goes;
+  whole = λ ends. refl;
+}
+
+pub word-front : {words : Words} {word : List ℕ} → IsWord words word → (rest : List ℕ) → WordFront words word rest
+word-front (any_word (quoted_word between e)) rest = closed-word_front any_words (quoted-closed between e) refl refl rest
 word-front (any_word (atom_word {b = b} {bytes = bytes} h)) rest = atom-word_front any_words b bytes rest refl h
 word-front (atom {b = b} {bytes = bytes} h) rest = atom-word_front atoms b bytes rest refl h
-word-front {words} {word} (literal {inner = inner} between e) rest =
-    let len : length word ≡ length inner + 2 = ap length e ∙ marked-length 91 93 inner in
-    record {
-      kind = Literal;
-      len = length word;
-      front = literal-front between e rest;
-      some = omega (arith, len);
-      no_white = refl;
-      goes = refl;
-      whole = λ ends. refl;
-    }
+word-front (literal between e) rest = closed-word_front literals (literal-closed between e) refl refl rest
 
 -- what may follow a word with what is around it
 record Follows (rest : List ℕ) : Type 0 where
@@ -82,7 +74,7 @@ record Follows (rest : List ℕ) : Type 0 where
   pub no_white : run White rest ≡ 0
 
 nothing-follows : Follows []
-nothing-follows = record { no_atom = refl; no_white = nothing-passed White }
+nothing-follows = record { no_atom = refl; no_white = far-nothing (step White) }
 
 pub white-no_atom : {white : List ℕ} → IsWhite white → (rest : List ℕ) → begins is_atom_byte rest ≡ false → begins is_atom_byte (white ++ rest) ≡ false
 unfolding is_atom_byte
@@ -199,7 +191,7 @@ phrase-read {bytes} is =
     ap (run White) is.made ∙ passed-up_to White is.before behind (white-passed White refl refl is.white_before) (run-stops White behind front.len front.kind front.front front.no_white) in
     let cut : drop (run White bytes) bytes ≡ behind = ap (λ n. drop n bytes) white ∙ ap (drop (length is.before)) is.made ∙ drop_at is.before behind (length is.before) refl in
     and_from _ _ (ap (λ b. is_in Word (front_token b).kind) cut ∙ ap (λ t. is_in Word t.kind) front.front ∙ front.goes)
-    (eq-eqb (run Phrase bytes) (length bytes) (passed-whole Phrase bytes (phrase-passed Phrase (over-words Phrase refl refl refl refl refl) is)))
+    (eq-eqb (run Phrase bytes) (length bytes) (passed-whole Phrase bytes (phrase-passed (over-words Phrase refl refl refl refl refl) is)))
 
 name-read : {bytes : List ℕ} → IsName bytes → (is_all_white bytes || is_phrase bytes) ≡ true
 name-read {bytes} (no_name is) = or_left (is_all_white bytes) (is_phrase bytes) (white-whole is)
@@ -216,7 +208,7 @@ stop-read {bytes} (stop {white = white} {domain = domain} is_white domain_is e) 
     ∙ ap (λ b. begins (λ c. eqb c 64) b && is_domain (drop 1 b)) (at-behind_white white domain is_white) ∙ domain-read domain_is)
 
 over-comma : {bytes : List ℕ} → IsStop bytes → IsPassed BeforeComma bytes
-over-comma is = stop-passed (over-atoms BeforeComma refl refl refl refl) (over-literals BeforeComma refl refl refl refl) refl is
+over-comma is = stop-passed (over-atoms BeforeComma refl refl refl refl) (over-literals BeforeComma refl refl refl refl) (at-passed BeforeComma refl) is
 
 stop_len-from : (text : List ℕ) (n : ℕ) → run BeforeComma text ≡ n → is_stop (take n text) ≡ true → stop_len text ≡ min (suc n) (length text)
 unfolding stop_len
@@ -232,10 +224,6 @@ stop-len {first} is rest =
     stop_len-from (first ++ 44 ∷ rest) (length first) (passed-up_to BeforeComma first (44 ∷ rest) (over-comma is) (run-stops BeforeComma (44 ∷ rest) 1 Comma (comma-front rest) refl))
     (ap is_stop (take_at first (44 ∷ rest) (length first) refl) ∙ stop-read is)
     ∙ omega (arith, len)
-
-far-nothing : (pass : List ℕ → ℕ) → far pass [] ≡ 0
-unfolding far
-far-nothing pass = refl
 
 last_stop-far : (bytes : List ℕ) → IsStop bytes → far stop_len bytes ≡ length bytes
 last_stop-far [] is = far-nothing stop_len
@@ -287,7 +275,7 @@ module _ (local domain : List ℕ) (is_local : AreDotted any_words local) (domai
   over-spec : IsPassed BeforeColon (local ++ 64 ∷ domain)
   over-spec =
       passed-append BeforeColon local (64 ∷ domain) (dotted-passed (over-words BeforeColon refl refl refl refl refl) is_local)
-      (at_domain-passed (over-atoms BeforeColon refl refl refl refl) (over-literals BeforeColon refl refl refl refl) refl [] domain white_ends domain_is)
+      (at_domain-passed (over-atoms BeforeColon refl refl refl refl) (over-literals BeforeColon refl refl refl refl) (at-passed BeforeColon refl) [] domain white_ends domain_is)
 
   no_route-read : after_route (local ++ 64 ∷ domain) ≡ local ++ 64 ∷ domain
   unfolding after_route
@@ -302,7 +290,7 @@ module _ (local domain : List ℕ) (is_local : AreDotted any_words local) (domai
       let spec : List ℕ = local ++ 64 ∷ domain in
       let len : run BeforeColon (stops ++ 58 ∷ spec) ≡ length stops =
       passed-up_to BeforeColon stops (58 ∷ spec)
-      (route-passed (over-atoms BeforeColon refl refl refl refl) (over-literals BeforeColon refl refl refl refl) refl refl is)
+      (route-passed (over-atoms BeforeColon refl refl refl refl) (over-literals BeforeColon refl refl refl refl) (at-passed BeforeColon refl) (comma-passed BeforeColon refl) is)
       (run-stops BeforeColon (58 ∷ spec) 1 Colon (colon-front spec) refl) in
       let at : drop (length stops) (stops ++ 58 ∷ spec) ≡ 58 ∷ spec = drop_at stops (58 ∷ spec) (length stops) refl in
       let front : take (length stops) (stops ++ 58 ∷ spec) ≡ stops = take_at stops (58 ∷ spec) (length stops) refl in
@@ -326,44 +314,42 @@ module _ (local domain : List ℕ) (is_local : AreDotted any_words local) (domai
       let at : drop (length local) (local ++ 64 ∷ domain) ≡ 64 ∷ domain = drop_at local (64 ∷ domain) (length local) refl in
       rw (len, at, at-front domain) (spec-read [])
 
-  module _ (name may_be_route after : List ℕ) (is_name : IsName name) (is_route : MayBeRoute may_be_route) (is_white : IsWhite after) where
-    abbrev inner : List ℕ
-    inner = may_be_route ++ (local ++ 64 ∷ domain)
+-- a name, and what stands in angle brackets
+module _ (name inner after : List ℕ) (is_name : IsName name) (inside : IsInAngles inner) (is_white : IsWhite after) where
+  abbrev bracket : List ℕ
+  bracket = 60 ∷ (inner ++ 62 ∷ after)
 
-    abbrev bracket : List ℕ
-    bracket = 60 ∷ (inner ++ 62 ∷ after)
+  angle : front_token bracket ≡ record { kind = Angle; len = length inner + 2 }
+  angle = angle-front inner after inside
 
-    angle : front_token bracket ≡ record { kind = Angle; len = length inner + 2 }
-    angle = angle-front inner after (spec-angles is_route is_local domain_is)
+  within : (n : ℕ) → n ≡ length inner + 2 → within_ends (take n bracket) ≡ inner
+  within n is =
+      let len = marked-length 60 62 inner in
+      ap within_ends (ap (take n) (sym (marked 60 62 inner after)) ∙ take_at (60 ∷ (inner ++ 62 ∷ [])) after n (len ∙ sym is))
+      ∙ take_at inner (62 ∷ []) (length (60 ∷ (inner ++ 62 ∷ [])) - 2) (omega (arith, len))
 
-    within : (n : ℕ) → n ≡ length inner + 2 → within_ends (take n bracket) ≡ inner
-    within n is =
-        let len = marked-length 60 62 inner in
-        ap within_ends (ap (take n) (sym (marked 60 62 inner after)) ∙ take_at (60 ∷ (inner ++ 62 ∷ [])) after n (len ∙ sym is))
-        ∙ take_at inner (62 ∷ []) (length (60 ∷ (inner ++ 62 ∷ [])) - 2) (omega (arith, len))
+  behind : (n : ℕ) → n ≡ length inner + 2 → drop n bracket ≡ after
+  behind n is =
+      ap (drop n) (sym (marked 60 62 inner after)) ∙ drop_at (60 ∷ (inner ++ 62 ∷ [])) after n (marked-length 60 62 inner ∙ sym is)
 
-    behind : (n : ℕ) → n ≡ length inner + 2 → drop n bracket ≡ after
-    behind n is =
-        ap (drop n) (sym (marked 60 62 inner after)) ∙ drop_at (60 ∷ (inner ++ 62 ∷ [])) after n (marked-length 60 62 inner ∙ sym is)
+  named-read : named_mailbox name bracket ≡ spec_mailbox name (after_route inner)
+  unfolding named_mailbox
+  named-read = rw (angle) (rw (name-read is_name, behind (length inner + 2) refl, white-whole is_white, within (length inner + 2) refl) refl)
 
-    named-read : named_mailbox name bracket ≡ Some (record { display_name = name; local_part = local; domain = domain })
-    unfolding named_mailbox
-    named-read =
-        rw (angle) (rw (name-read is_name, behind (length inner + 2) refl, white-whole is_white, within (length inner + 2) refl) (ap (spec_mailbox name) (may_be_route-passes is_route) ∙ spec-read name))
-
-    named_address-read : mailbox_of (name ++ bracket) ≡ Some (record { display_name = name; local_part = local; domain = domain })
-    unfolding mailbox_of
-    named_address-read =
-        let len : run Phrase (name ++ bracket) ≡ length name =
-        passed-up_to Phrase name bracket (name-passed Phrase (over-words Phrase refl refl refl refl refl) is_name) (run-stops Phrase bracket (length inner + 2) Angle angle refl) in
-        let at : drop (length name) (name ++ bracket) ≡ bracket = drop_at name bracket (length name) refl in
-        let front : take (length name) (name ++ bracket) ≡ name = take_at name bracket (length name) refl in
-        rw (len, at, front) (rw angle named-read)
+  pub bracket-read : mailbox_of (name ++ bracket) ≡ spec_mailbox name (after_route inner)
+  unfolding mailbox_of
+  bracket-read =
+      let len : run Phrase (name ++ bracket) ≡ length name =
+      passed-up_to Phrase name bracket (name-passed (over-words Phrase refl refl refl refl refl) is_name) (run-stops Phrase bracket (length inner + 2) Angle angle refl) in
+      let at : drop (length name) (name ++ bracket) ≡ bracket = drop_at name bracket (length name) refl in
+      let front : take (length name) (name ++ bracket) ≡ name = take_at name bracket (length name) refl in
+      rw (len, at, front) (rw angle named-read)
 
 pub mailbox-read : (text : List ℕ) (m : Parts) → IsMailbox text m → mailbox_of text ≡ Some m
 mailbox-read text m (address {local = local} {domain = domain} is_local is_domain e) = ap mailbox_of e ∙ address-read local domain is_local is_domain
 mailbox-read text m (named_address {name = name} {may_be_route = may_be_route} {local = local} {domain = domain} {after = after} is_name is_route is_local is_domain is_white e) =
-    ap mailbox_of e ∙ named_address-read local domain is_local is_domain name may_be_route after is_name is_route is_white
+    ap mailbox_of e ∙ bracket-read name (may_be_route ++ (local ++ 64 ∷ domain)) after is_name (spec-angles is_route is_local is_domain) is_white
+    ∙ ap (spec_mailbox name) (may_be_route-passes local domain is_local is_domain is_route) ∙ spec-read local domain is_local is_domain name
 
 pub mailbox-one : (text : List ℕ) (m n : Parts) → IsMailbox text m → IsMailbox text n → m ≡ n
 mailbox-one text m n one two = some-same (sym (mailbox-read text m one) ∙ mailbox-read text n two)

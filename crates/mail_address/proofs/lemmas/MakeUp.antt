@@ -1,20 +1,19 @@
--- Lemmas on what stands between the elements of a list of addresses.
-use Rattle.std.proofs.Common.{◌≡◌, ℕ, zero, suc, ◌+◌, ◌-◌, ◌<◌, ◌≤◌, ◌⊎◌, inl, inr, Bool, true, false, cond, List, [], ◌∷◌, ◌++◌, length, take, drop, map, refl, sym, ap, subst, ◌∙◌, arith, length-drop, append_assoc, length-append}
+-- Lemmas on where the elements of a list of addresses stand, and on what stands between them.
+use Rattle.std.proofs.Common.{◌≡◌, ℕ, zero, suc, ◌+◌, ◌<◌, ◌≤◌, ◌⊎◌, inl, inr, Bool, true, false, cond, List, [], ◌∷◌, ◌++◌, length, take, drop, map, refl, sym, ap, subst, ◌∙◌, arith, length-drop, append_assoc, length-append}
 use Rattle.std.specs.Prelude.{min}
-use Rattle.std.proofs.lemmas.Bool.{cases_lt, cond-true, cond-false}
-use Rattle.std.proofs.lemmas.List.{append-nil, drop_all, length-take-le, take_all, take-append-drop, drop-drop}
+use Rattle.std.proofs.lemmas.Bool.{cases_lt, cond-true, cond-false, false≢true}
+use Rattle.std.proofs.lemmas.List.{append-nil, drop_all, drop_at, drop-drop, length-take-le, take_all, take_at, take-append-drop}
+use Rattle.mail_codec.specs.Places.{begins}
 use Rattle.mail_address.specs.declared.tokens.Span.TheVariants.{BeforeSeparator, White}
-use Rattle.mail_address.specs.Tokens.{far, is_all_white, run}
+use Rattle.mail_address.specs.Tokens.{is_all_white, run}
 use Rattle.mail_address.specs.Mailbox.{mailbox_of}
 use Rattle.mail_address.specs.Addresses.{addresses, after_group, after_name, Element, element_at, element_len, group, group_at, group_len, inner_len, is_group, is_separator, items, items_within, name_len, separator_len, single, single_at, Single}
-use Rattle.mail_address.specs.Order.{no_separators, next_separator, MayFollow, MakeUp, no_elements, next_element, start_of, text_of}
+use Rattle.mail_address.specs.Grammar.{white_ends}
+use Rattle.mail_address.specs.Order.{no_separators, next_separator, MayFollow, MakeUp, no_elements, next_element, StandFrom, start_of, text_of}
 use Rattle.mail_address.proofs.lemmas.Addresses.{element_len-some, is_group-within}
-use Rattle.mail_address.proofs.lemmas.Bounds.{BeginsSeparated, run-separates, run-within}
-
--- nothing is whitespace
-nothing-white : is_all_white [] ≡ true
-unfolding is_all_white far
-nothing-white = refl
+use Rattle.mail_address.proofs.lemmas.Bounds.{run-within}
+use Rattle.mail_address.proofs.lemmas.GrammarMade.{run-separates}
+use Rattle.mail_address.proofs.lemmas.Passed.{white-whole}
 
 -- a separator with nothing before it but whitespace and comments
 after_separator : (place : ℕ) (white rest bytes : List ℕ) (b : ℕ) {es : List Element} → is_all_white white ≡ true → is_separator b ≡ true → bytes ≡ white ++ b ∷ rest
@@ -32,7 +31,7 @@ only_white : (place : ℕ) (bytes : List ℕ) → is_all_white bytes ≡ true �
 only_white place bytes is = no_elements bytes no_separators is refl
 
 nothing_more : (place : ℕ) → MakeUp place [] []
-nothing_more place = only_white place [] nothing-white
+nothing_more place = only_white place [] (white-whole white_ends)
 
 -- an element at the front
 element_first : (e : Element) (rest bytes : List ℕ) (es : List Element) → MayFollow e rest → MakeUp (start_of e + length (text_of e)) rest es → bytes ≡ text_of e ++ rest
@@ -58,7 +57,7 @@ after_group_made place [] es later = subst (λ p. MakeUp p [] es) (omega arith) 
 after_group_made place (b ∷ rest) es later = go (is_separator b) refl later
   where
     go : (t : Bool) → is_separator b ≡ t → MakeUp (place + cond t 1 0) (drop (cond t 1 0) (b ∷ rest)) es → MakeUp place (b ∷ rest) es
-    go true e later = after_separator place [] rest (b ∷ rest) b nothing-white e refl later
+    go true e later = after_separator place [] rest (b ∷ rest) b (white-whole white_ends) e refl later
     go false e later = subst (λ p. MakeUp p (b ∷ rest) es) (omega arith) later
 
 -- ---- an element without members
@@ -69,9 +68,9 @@ pub record Ended (bytes : List ℕ) (n : ℕ) : Type 0 where
   pub separates : is_separator mark ≡ true
   pub cut : drop n bytes ≡ mark ∷ drop (suc n) bytes
 
-ended : (bytes : List ℕ) (n : ℕ) → BeginsSeparated (drop n bytes) → Ended bytes n
-ended [] zero none = absurd none
-ended [] (suc n) none = absurd none
+ended : (bytes : List ℕ) (n : ℕ) → begins is_separator (drop n bytes) ≡ true → Ended bytes n
+ended [] zero none = absurd (false≢true none)
+ended [] (suc n) none = absurd (false≢true none)
 ended (b ∷ bytes) zero sep = record { mark = b; separates = sep; cut = refl }
 ended (b ∷ bytes) (suc n) sep = let later = ended bytes n sep in record { mark = later.mark; separates = later.separates; cut = later.cut }
 
@@ -120,7 +119,7 @@ single_made place bytes es alone later none w is = by_end (cases_lt (run BeforeS
             (subst (λ k. MakeUp (place + suc k) (drop (suc (run BeforeSeparator bytes)) bytes) es) (sym len) after)
         go false is =
             element_first (single (here place bytes)) (end.mark ∷ drop (suc (run BeforeSeparator bytes)) bytes) bytes es end.separates
-            (after_separator (place + length (front bytes)) [] (drop (suc (run BeforeSeparator bytes)) bytes) (end.mark ∷ drop (suc (run BeforeSeparator bytes)) bytes) end.mark nothing-white
+            (after_separator (place + length (front bytes)) [] (drop (suc (run BeforeSeparator bytes)) bytes) (end.mark ∷ drop (suc (run BeforeSeparator bytes)) bytes) end.mark (white-whole white_ends)
             end.separates refl (subst (λ p. MakeUp p (drop (suc (run BeforeSeparator bytes)) bytes) es) (omega (arith, len)) after))
             cut
 
@@ -190,3 +189,19 @@ made (suc most) start (b ∷ bytes) short =
 pub elements-make_up : (raw : List ℕ) → MakeUp 0 raw (addresses raw)
 unfolding items
 elements-make_up raw = made (length raw) 0 raw (omega arith)
+
+-- ---- where the elements stand
+
+-- in what is made up of elements each stands at its place
+made-stand : (raw : List ℕ) {place : ℕ} {bytes : List ℕ} {es : List Element} → MakeUp place bytes es → bytes ≡ drop place raw → StandFrom place raw es
+made-stand raw (no_elements white empties is e) at = tt
+made-stand raw {place} (next_element {empty = empty} {rest = rest} {e = element} empties starts follows later cut) at =
+    let text : List ℕ = text_of element in
+    let here : drop (start_of element) raw ≡ text ++ rest =
+    ap (λ n. drop n raw) starts ∙ sym (drop-drop (length empty) place raw) ∙ ap (drop (length empty)) (sym at ∙ cut) ∙ drop_at empty (text ++ rest) (length empty) refl in
+    let behind : rest ≡ drop (start_of element + length text) raw =
+    sym (drop_at text rest (length text) refl) ∙ ap (drop (length text)) (sym here) ∙ drop-drop (length text) (start_of element) raw in
+    (omega (arith, starts), ap (take (length text)) here ∙ take_at text rest (length text) refl, made-stand raw later behind)
+
+pub elements-stand : (raw : List ℕ) → StandFrom 0 raw (addresses raw)
+elements-stand raw = made-stand raw (elements-make_up raw) refl

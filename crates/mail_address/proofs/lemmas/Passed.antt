@@ -1,19 +1,18 @@
 -- Lemmas on runs over what the grammar of a mailbox is made of.
-use Rattle.std.proofs.Common.{◌≡◌, ℕ, suc, ◌+◌, Bool, true, false, eqb, List, [], ◌∷◌, ◌++◌, length, refl, sym, ap, subst, ◌∙◌, arith, append_assoc, length-append}
+use Rattle.std.proofs.Common.{◌≡◌, ℕ, suc, ◌+◌, Bool, true, false, List, [], ◌∷◌, ◌++◌, length, refl, sym, ap, subst, ◌∙◌, arith, append_assoc, length-append}
 use Rattle.std.specs.List.{list_all, prefix_len}
-use Rattle.std.proofs.lemmas.Bool.{and_parts, cond-false, eq-eqb, false≢true, ne_eqb}
+use Rattle.std.proofs.lemmas.Bool.{and_parts, cond-false, eq-eqb}
 use Rattle.std.proofs.lemmas.List.{append-nil}
 use Rattle.mail_address.specs.declared.tokens.Kind.{Kind}
 use Rattle.mail_address.specs.declared.tokens.Kind.TheVariants.{At, Atom, Blank, Colon, Comma, Comment, Dot, Literal, Quoted, Semicolon}
 use Rattle.mail_address.specs.declared.tokens.Span.{Span}
 use Rattle.mail_address.specs.declared.tokens.Span.TheVariants.{Atoms, Literals, White, Word}
-use Rattle.mail_address.specs.Enclosed.{IsBetween, IsClosed, IsCommented, IsInAngles, angles_end, angles_pair, angles_byte, angles_closed, in_comment, in_literal, in_quotes, is_opener}
+use Rattle.mail_address.specs.Enclosed.{IsClosed, IsInAngles, angles_end, angles_pair, angles_byte, angles_closed, in_comment, in_literal, in_quotes, is_opener}
 use Rattle.mail_address.specs.Grammar.{AreDotted, AreDotWords, AreStops, atom, any_word, any_words, atoms, dot_word, dots_end, dotted, in_brackets, IsDomain, IsName, IsPadded, IsPhrase, IsPhraseRest, IsRoute, IsStop, IsWhite, IsWord, last_stop, literal, literals, MayBeRoute, more_stops, next_stop, no_name, no_route, no_stop, one_stop, phrase, phrase_dot, phrase_ends, phrase_white, phrase_word, route, stop, white_byte, white_comment, white_ends, Words}
 use Rattle.mail_address.specs.Names.{IsNameWord, atom_word, quoted_word}
 use Rattle.mail_address.specs.Tokens.{front_token, is_all_white, is_atom_byte, is_in, is_white, run, single_kind, step}
-use Rattle.mail_address.proofs.lemmas.Enclosed.{comment-is, far-run, literal-is, marked, marked-length, quoted-front, run-token, step-token}
-use Rattle.mail_address.proofs.lemmas.Names.{atom_byte-other, atom_byte-visible, no_atom_bytes, nothing-passed}
-use Rattle.mail_address.proofs.lemmas.Tokens.{far-stop}
+use Rattle.mail_address.proofs.lemmas.Enclosed.{closed-passed, comment-closed, far-run, literal-closed, marked, quoted-closed, run-token, step-token}
+use Rattle.mail_address.proofs.lemmas.Tokens.{atom_byte-visible, byte-other, far-nothing, far-stop, no_atom_bytes}
 
 -- ---- what a run goes over
 
@@ -39,7 +38,7 @@ passed-same span e passed = subst (IsPassed span) (sym e) passed
 pub passed-whole : (span : Span) (text : List ℕ) → IsPassed span text → run span text ≡ length text
 passed-whole span text passed =
     let all = passed [] in
-    let none = nothing-passed span in
+    let none = far-nothing (step span) in
     let same = ap (run span) (append-nil text) in
     omega (arith, all, none, same)
 
@@ -49,30 +48,13 @@ passed-up_to span text rest passed none = let all = passed rest in omega (arith,
 
 -- ---- tokens
 
-byte-other : (test : ℕ → Bool) (b other : ℕ) → test b ≡ true → test other ≡ false → eqb b other ≡ false
-byte-other test b other h none = ne_eqb b other (λ e. false≢true (sym none ∙ ap test (sym e) ∙ h))
-
 pub atom_byte-front : (b : ℕ) (rest : List ℕ) → is_atom_byte b ≡ true → front_token (b ∷ rest) ≡ record { kind = Atom; len = 1 + prefix_len is_atom_byte rest }
 unfolding front_token
-atom_byte-front b rest h = cond-false _ _ _ (atom_byte-other b 60 h no_atom_bytes.0) ∙ rw (atom_byte-visible b h, h) refl
+atom_byte-front b rest h = cond-false _ _ _ (byte-other is_atom_byte b 60 h no_atom_bytes.0) ∙ rw (atom_byte-visible b h, h) refl
 
 white_byte-front : (b : ℕ) (rest : List ℕ) → is_white b ≡ true → front_token (b ∷ rest) ≡ record { kind = Blank; len = 1 + prefix_len is_white rest }
 unfolding front_token
 white_byte-front b rest h = cond-false _ _ _ (byte-other is_white b 60 h refl) ∙ rw h refl
-
-pub comment-front : {inner bytes : List ℕ} → IsCommented inner → bytes ≡ 40 ∷ (inner ++ 41 ∷ []) → (rest : List ℕ)
-    → front_token (bytes ++ rest) ≡ record { kind = Comment; len = length bytes }
-unfolding front_token is_atom_byte
-comment-front {inner} {bytes} commented e rest =
-    ap (λ b. front_token (b ++ rest)) e ∙ ap front_token (marked 40 41 inner rest) ∙ comment-is inner rest commented
-    ∙ ap (λ n. record { kind = Comment; len = n }) (sym (ap length e ∙ marked-length 40 41 inner))
-
-pub literal-front : {inner bytes : List ℕ} → IsBetween 91 93 inner → bytes ≡ 91 ∷ (inner ++ 93 ∷ []) → (rest : List ℕ)
-    → front_token (bytes ++ rest) ≡ record { kind = Literal; len = length bytes }
-unfolding front_token is_atom_byte
-literal-front {inner} {bytes} between e rest =
-    ap (λ b. front_token (b ++ rest)) e ∙ ap front_token (marked 91 93 inner rest) ∙ literal-is inner rest between
-    ∙ ap (λ n. record { kind = Literal; len = n }) (sym (ap length e ∙ marked-length 91 93 inner))
 
 pub dot-front : (rest : List ℕ) → front_token (46 ∷ rest) ≡ record { kind = Dot; len = 1 }
 unfolding front_token is_atom_byte single_kind
@@ -119,13 +101,8 @@ white-passed span blank comment (white_byte {b = b} {rest = more} h white) rest 
     let here = white_byte-passed span b (more ++ rest) blank h in
     omega (arith, here, later)
 white-passed span blank comment {bytes} (white_comment {inner = inner} {rest = more} commented white e) rest =
-    let front : List ℕ = 40 ∷ (inner ++ 41 ∷ []) in
-    let len = marked-length 40 41 inner in
     passed-same span (e ∙ sym (marked 40 41 inner more))
-    (passed-append span front more
-    (λ rest. run-token span front rest Comment (omega (arith, len)) (comment-front commented refl rest) comment)
-    (white-passed span blank comment white))
-    rest
+    (passed-append span (40 ∷ (inner ++ 41 ∷ [])) more (closed-passed span (comment-closed commented refl) comment) (white-passed span blank comment white)) rest
 
 atoms-passed : (span : Span) → is_in span Atom ≡ true → (bytes : List ℕ) → list_all is_atom_byte bytes ≡ true → IsPassed span bytes
 atoms-passed span goes [] h rest = omega arith
@@ -136,9 +113,7 @@ atoms-passed span goes (b ∷ bytes) h rest =
     omega (arith, here, later)
 
 pub name_word-passed : (span : Span) → is_in span Atom ≡ true → is_in span Quoted ≡ true → {bytes : List ℕ} → IsNameWord bytes → IsPassed span bytes
-name_word-passed span goes quoted {bytes} (quoted_word {inner = inner} between e) rest =
-    let len : length bytes ≡ length inner + 2 = ap length e ∙ marked-length 34 34 inner in
-    run-token span bytes rest Quoted (omega (arith, len)) (quoted-front between e rest) quoted
+name_word-passed span goes quoted (quoted_word between e) rest = closed-passed span (quoted-closed between e) quoted rest
 name_word-passed span goes quoted (atom_word {b = b} {bytes = bytes} h) rest = atoms-passed span goes (b ∷ bytes) h rest
 
 -- the span of words
@@ -147,81 +122,77 @@ span_of any_words = Word
 span_of atoms = Atoms
 span_of literals = Literals
 
--- what a run has to go over, so that it goes over such words
-pub record GoesOver (words : Words) (span : Span) : Type 0 where
-  pub blank : is_in span Blank ≡ true
-  pub comment : is_in span Comment ≡ true
-  pub dot : is_in span Dot ≡ true
-  pub word : {bytes : List ℕ} → IsWord words bytes → IsPassed span bytes
-
-pub over-words : (span : Span) → is_in span Blank ≡ true → is_in span Comment ≡ true → is_in span Dot ≡ true → is_in span Atom ≡ true → is_in span Quoted ≡ true → GoesOver any_words span
-over-words span blank comment dot goes quoted = record { blank = blank; comment = comment; dot = dot; word = λ is. go is }
-  where
-    go : {bytes : List ℕ} → IsWord any_words bytes → IsPassed span bytes
-    go (any_word is) = name_word-passed span goes quoted is
-
-pub over-atoms : (span : Span) → is_in span Blank ≡ true → is_in span Comment ≡ true → is_in span Dot ≡ true → is_in span Atom ≡ true → GoesOver atoms span
-over-atoms span blank comment dot goes = record { blank = blank; comment = comment; dot = dot; word = λ is. go is }
-  where
-    go : {bytes : List ℕ} → IsWord atoms bytes → IsPassed span bytes
-    go (atom {b = b} {bytes = bytes} h) = atoms-passed span goes (b ∷ bytes) h
-
-pub over-literals : (span : Span) → is_in span Blank ≡ true → is_in span Comment ≡ true → is_in span Dot ≡ true → is_in span Literal ≡ true → GoesOver literals span
-over-literals span blank comment dot goes = record { blank = blank; comment = comment; dot = dot; word = λ is. go is }
-  where
-    go : {bytes : List ℕ} → IsWord literals bytes → IsPassed span bytes
-    go {bytes} (literal {inner = inner} between e) rest =
-        let len : length bytes ≡ length inner + 2 = ap length e ∙ marked-length 91 93 inner in
-        run-token span bytes rest Literal (omega (arith, len)) (literal-front between e rest) goes
-
-padded-passed : {words : Words} {span : Span} → GoesOver words span → {bytes : List ℕ} → IsPadded words bytes → IsPassed span bytes
-padded-passed {words} {span} over is =
-    passed-same span is.made
-    (passed-append span is.before (is.word ++ is.after) (white-passed span over.blank over.comment is.white_before)
-    (passed-append span is.word is.after (over.word is.is_word) (white-passed span over.blank over.comment is.white_after)))
-
 dot-passed : (span : Span) → is_in span Dot ≡ true → IsPassed span (46 ∷ [])
 dot-passed span goes rest = run-token span (46 ∷ []) rest Dot (omega arith) (dot-front rest) goes
 
-at-passed : (span : Span) → is_in span At ≡ true → IsPassed span (64 ∷ [])
+pub at-passed : (span : Span) → is_in span At ≡ true → IsPassed span (64 ∷ [])
 at-passed span goes rest = run-token span (64 ∷ []) rest At (omega arith) (at-front rest) goes
 
 pub comma-passed : (span : Span) → is_in span Comma ≡ true → IsPassed span (44 ∷ [])
 comma-passed span goes rest = run-token span (44 ∷ []) rest Comma (omega arith) (comma-front rest) goes
 
-dot_words-passed : {words : Words} {span : Span} → GoesOver words span → {bytes : List ℕ} → AreDotWords words bytes → IsPassed span bytes
-dot_words-passed {words} {span} over dots_end = passed-nil span
-dot_words-passed {words} {span} over (dot_word {word = word} {rest = rest} is more e) =
-    passed-same span e
-    (passed-append span (46 ∷ []) (word ++ rest) (dot-passed span over.dot)
-    (passed-append span word rest (padded-passed over is) (dot_words-passed over more)))
+-- what holds of such words and of what stands between them, as that a run goes over it
+pub record GoesOver (words : Words) (P : List ℕ → Type 0) : Type 0 where
+  pub none : P []
+  pub both : (one two : List ℕ) → P one → P two → P (one ++ two)
+  pub white : {bytes : List ℕ} → IsWhite bytes → P bytes
+  pub dot : P (46 ∷ [])
+  pub word : {bytes : List ℕ} → IsWord words bytes → P bytes
 
-pub dotted-passed : {words : Words} {span : Span} → GoesOver words span → {bytes : List ℕ} → AreDotted words bytes → IsPassed span bytes
-dotted-passed {words} {span} over are =
-    passed-same span are.made (passed-append span are.first are.rest (padded-passed over are.is_first) (dot_words-passed over are.are_rest))
+over : {words : Words} (span : Span) → is_in span Blank ≡ true → is_in span Comment ≡ true → is_in span Dot ≡ true → ((bytes : List ℕ) → IsWord words bytes → IsPassed span bytes)
+    → GoesOver words (IsPassed span)
+over span blank comment dot word =
+    record { none = passed-nil span; both = passed-append span; white = λ is. white-passed span blank comment is; dot = dot-passed span dot; word = λ is. word _ is }
 
-pub domain-passed : {span : Span} → GoesOver atoms span → GoesOver literals span → {bytes : List ℕ} → IsDomain bytes → IsPassed span bytes
+pub over-words : (span : Span) → is_in span Blank ≡ true → is_in span Comment ≡ true → is_in span Dot ≡ true → is_in span Atom ≡ true → is_in span Quoted ≡ true
+    → GoesOver any_words (IsPassed span)
+over-words span blank comment dot goes quoted = over span blank comment dot (λ bytes is. go is)
+  where
+    go : {bytes : List ℕ} → IsWord any_words bytes → IsPassed span bytes
+    go (any_word is) = name_word-passed span goes quoted is
+
+pub over-atoms : (span : Span) → is_in span Blank ≡ true → is_in span Comment ≡ true → is_in span Dot ≡ true → is_in span Atom ≡ true → GoesOver atoms (IsPassed span)
+over-atoms span blank comment dot goes = over span blank comment dot (λ bytes is. go is)
+  where
+    go : {bytes : List ℕ} → IsWord atoms bytes → IsPassed span bytes
+    go (atom {b = b} {bytes = bytes} h) = atoms-passed span goes (b ∷ bytes) h
+
+pub over-literals : (span : Span) → is_in span Blank ≡ true → is_in span Comment ≡ true → is_in span Dot ≡ true → is_in span Literal ≡ true → GoesOver literals (IsPassed span)
+over-literals span blank comment dot goes = over span blank comment dot (λ bytes is. go is)
+  where
+    go : {bytes : List ℕ} → IsWord literals bytes → IsPassed span bytes
+    go (literal between e) = closed-passed span (literal-closed between e) goes
+
+padded-passed : {words : Words} {P : List ℕ → Type 0} → GoesOver words P → {bytes : List ℕ} → IsPadded words bytes → P bytes
+padded-passed {words} {P} over is =
+    subst P (sym is.made)
+    (over.both is.before (is.word ++ is.after) (over.white is.white_before) (over.both is.word is.after (over.word is.is_word) (over.white is.white_after)))
+
+dot_words-passed : {words : Words} {P : List ℕ → Type 0} → GoesOver words P → {bytes : List ℕ} → AreDotWords words bytes → P bytes
+dot_words-passed {words} {P} over dots_end = over.none
+dot_words-passed {words} {P} over (dot_word {word = word} {rest = rest} is more e) =
+    subst P (sym e) (over.both (46 ∷ []) (word ++ rest) over.dot (over.both word rest (padded-passed over is) (dot_words-passed over more)))
+
+pub dotted-passed : {words : Words} {P : List ℕ → Type 0} → GoesOver words P → {bytes : List ℕ} → AreDotted words bytes → P bytes
+dotted-passed {words} {P} over are = subst P (sym are.made) (over.both are.first are.rest (padded-passed over are.is_first) (dot_words-passed over are.are_rest))
+
+domain-passed : {P : List ℕ → Type 0} → GoesOver atoms P → GoesOver literals P → {bytes : List ℕ} → IsDomain bytes → P bytes
 domain-passed one two (dotted are) = dotted-passed one are
 domain-passed one two (in_brackets is) = padded-passed two is
 
 -- an `@` and a domain, with whitespace before them
-pub at_domain-passed : {span : Span} → GoesOver atoms span → GoesOver literals span → is_in span At ≡ true → (white domain : List ℕ) → IsWhite white → IsDomain domain
-    → IsPassed span (white ++ 64 ∷ domain)
-at_domain-passed {span} one two goes white domain is_white is_domain =
-    passed-append span white (64 ∷ domain) (white-passed span one.blank one.comment is_white)
-    (passed-append span (64 ∷ []) domain (at-passed span goes) (domain-passed one two is_domain))
+pub at_domain-passed : {P : List ℕ → Type 0} → GoesOver atoms P → GoesOver literals P → P (64 ∷ []) → (white domain : List ℕ) → IsWhite white → IsDomain domain → P (white ++ 64 ∷ domain)
+at_domain-passed one two at white domain is_white is_domain =
+    one.both white (64 ∷ domain) (one.white is_white) (one.both (64 ∷ []) domain at (domain-passed one two is_domain))
 
-pub stop-passed : {span : Span} → GoesOver atoms span → GoesOver literals span → is_in span At ≡ true → {bytes : List ℕ} → IsStop bytes → IsPassed span bytes
-stop-passed {span} one two goes (no_stop white) = white-passed span one.blank one.comment white
-stop-passed {span} one two goes (stop {white = white} {domain = domain} is_white is_domain e) =
-    passed-same span e (at_domain-passed one two goes white domain is_white is_domain)
+pub stop-passed : {P : List ℕ → Type 0} → GoesOver atoms P → GoesOver literals P → P (64 ∷ []) → {bytes : List ℕ} → IsStop bytes → P bytes
+stop-passed {P} one two at (no_stop white) = one.white white
+stop-passed {P} one two at (stop {white = white} {domain = domain} is_white is_domain e) = subst P (sym e) (at_domain-passed one two at white domain is_white is_domain)
 
-stops-passed : {span : Span} → GoesOver atoms span → GoesOver literals span → is_in span At ≡ true → is_in span Comma ≡ true → {bytes : List ℕ} → AreStops bytes → IsPassed span bytes
-stops-passed {span} one two goes comma (last_stop is) = stop-passed one two goes is
-stops-passed {span} one two goes comma (next_stop {first = first} {rest = rest} is more e) =
-    passed-same span e
-    (passed-append span first (44 ∷ rest) (stop-passed one two goes is)
-    (passed-append span (44 ∷ []) rest (comma-passed span comma) (stops-passed one two goes comma more)))
+stops-passed : {P : List ℕ → Type 0} → GoesOver atoms P → GoesOver literals P → P (64 ∷ []) → P (44 ∷ []) → {bytes : List ℕ} → AreStops bytes → P bytes
+stops-passed {P} one two at comma (last_stop is) = stop-passed one two at is
+stops-passed {P} one two at comma (next_stop {first = first} {rest = rest} is more e) =
+    subst P (sym e) (one.both first (44 ∷ rest) (stop-passed one two at is) (one.both (44 ∷ []) rest comma (stops-passed one two at comma more)))
 
 -- a route is stops
 pub route-stops : {bytes : List ℕ} → IsRoute bytes → AreStops bytes
@@ -230,26 +201,23 @@ route-stops (more_stops {white = white} {domain = domain} {rest = rest} is_white
     next_stop {first = white ++ 64 ∷ domain} {rest = rest} (stop {white = white} {domain = domain} is_white is_domain refl) more
     (e ∙ sym (append_assoc white (64 ∷ domain) (44 ∷ rest)))
 
-pub route-passed : {span : Span} → GoesOver atoms span → GoesOver literals span → is_in span At ≡ true → is_in span Comma ≡ true → {bytes : List ℕ} → IsRoute bytes → IsPassed span bytes
-route-passed one two goes comma is = stops-passed one two goes comma (route-stops is)
+pub route-passed : {P : List ℕ → Type 0} → GoesOver atoms P → GoesOver literals P → P (64 ∷ []) → P (44 ∷ []) → {bytes : List ℕ} → IsRoute bytes → P bytes
+route-passed one two at comma is = stops-passed one two at comma (route-stops is)
 
-phrase_rest-passed : (span : Span) → GoesOver any_words span → {bytes : List ℕ} → IsPhraseRest bytes → IsPassed span bytes
-phrase_rest-passed span over phrase_ends = passed-nil span
-phrase_rest-passed span over (phrase_white {white = white} {rest = rest} is more e) =
-    passed-same span e (passed-append span white rest (white-passed span over.blank over.comment is) (phrase_rest-passed span over more))
-phrase_rest-passed span over (phrase_dot {rest = rest} more) = passed-append span (46 ∷ []) rest (dot-passed span over.dot) (phrase_rest-passed span over more)
-phrase_rest-passed span over (phrase_word {word = word} {rest = rest} is more e) =
-    passed-same span e (passed-append span word rest (over.word (any_word is)) (phrase_rest-passed span over more))
+phrase_rest-passed : {P : List ℕ → Type 0} → GoesOver any_words P → {bytes : List ℕ} → IsPhraseRest bytes → P bytes
+phrase_rest-passed {P} over phrase_ends = over.none
+phrase_rest-passed {P} over (phrase_white {white = white} {rest = rest} is more e) = subst P (sym e) (over.both white rest (over.white is) (phrase_rest-passed over more))
+phrase_rest-passed {P} over (phrase_dot {rest = rest} more) = over.both (46 ∷ []) rest over.dot (phrase_rest-passed over more)
+phrase_rest-passed {P} over (phrase_word {word = word} {rest = rest} is more e) = subst P (sym e) (over.both word rest (over.word (any_word is)) (phrase_rest-passed over more))
 
-pub phrase-passed : (span : Span) → GoesOver any_words span → {bytes : List ℕ} → IsPhrase bytes → IsPassed span bytes
-phrase-passed span over is =
-    passed-same span is.made
-    (passed-append span is.before (is.first ++ is.rest) (white-passed span over.blank over.comment is.white_before)
-    (passed-append span is.first is.rest (over.word (any_word is.is_first)) (phrase_rest-passed span over is.is_rest)))
+pub phrase-passed : {P : List ℕ → Type 0} → GoesOver any_words P → {bytes : List ℕ} → IsPhrase bytes → P bytes
+phrase-passed {P} over is =
+    subst P (sym is.made)
+    (over.both is.before (is.first ++ is.rest) (over.white is.white_before) (over.both is.first is.rest (over.word (any_word is.is_first)) (phrase_rest-passed over is.is_rest)))
 
-pub name-passed : (span : Span) → GoesOver any_words span → {bytes : List ℕ} → IsName bytes → IsPassed span bytes
-name-passed span over (no_name white) = white-passed span over.blank over.comment white
-name-passed span over (phrase is) = phrase-passed span over is
+pub name-passed : {P : List ℕ → Type 0} → GoesOver any_words P → {bytes : List ℕ} → IsName bytes → P bytes
+name-passed over (no_name white) = over.white white
+name-passed over (phrase is) = phrase-passed over is
 
 -- ---- whitespace, wholly
 
@@ -279,12 +247,8 @@ opens_not test b h q p s e o c =
 white_byte-angles : (b : ℕ) → is_white b ≡ true → is_opener b ≡ false
 white_byte-angles b h = opens_not is_white b h refl refl refl refl refl refl
 
-no_atoms : (is_atom_byte 34 ≡ false) × (is_atom_byte 40 ≡ false) × (is_atom_byte 91 ≡ false) × (is_atom_byte 92 ≡ false) × (is_atom_byte 60 ≡ false) × (is_atom_byte 62 ≡ false)
-unfolding is_atom_byte
-no_atoms = (refl, refl, refl, refl, refl, refl)
-
 atom_byte-angles : (b : ℕ) → is_atom_byte b ≡ true → is_opener b ≡ false
-atom_byte-angles b h = let n = no_atoms in opens_not is_atom_byte b h n.0 n.1 n.2 n.3 n.4 n.5
+atom_byte-angles b h = let n = no_atom_bytes in opens_not is_atom_byte b h n.5 n.6 n.7 n.8 n.0 n.9
 
 white-angles : {bytes : List ℕ} → IsWhite bytes → IsInAngles bytes
 white-angles white_ends = angles_end
@@ -304,33 +268,21 @@ word-angles (any_word (atom_word {b = b} {bytes = bytes} h)) = atoms-angles (b �
 word-angles (atom {b = b} {bytes = bytes} h) = atoms-angles (b ∷ bytes) h
 word-angles (literal between e) = angles-closed (in_literal between e)
 
-padded-angles : {words : Words} {bytes : List ℕ} → IsPadded words bytes → IsInAngles bytes
-padded-angles is = angles-same is.made (angles-append (white-angles is.white_before) (angles-append (word-angles is.is_word) (white-angles is.white_after)))
+over-angles : (words : Words) → GoesOver words IsInAngles
+over-angles words = record {
+  none = angles_end;
+  both = λ one two first second. angles-append first second;
+  white = λ is. white-angles is;
+  dot = angles_byte refl angles_end;
+  word = λ is. word-angles is;
+}
 
-dot_words-angles : {words : Words} {bytes : List ℕ} → AreDotWords words bytes → IsInAngles bytes
-dot_words-angles dots_end = angles_end
-dot_words-angles (dot_word is more e) = angles-same e (angles_byte refl (angles-append (padded-angles is) (dot_words-angles more)))
-
-pub dotted-angles : {words : Words} {bytes : List ℕ} → AreDotted words bytes → IsInAngles bytes
-dotted-angles are = angles-same are.made (angles-append (padded-angles are.is_first) (dot_words-angles are.are_rest))
-
-domain-angles : {bytes : List ℕ} → IsDomain bytes → IsInAngles bytes
-domain-angles (dotted are) = dotted-angles are
-domain-angles (in_brackets is) = padded-angles is
-
-stop-angles : {bytes : List ℕ} → IsStop bytes → IsInAngles bytes
-stop-angles (no_stop white) = white-angles white
-stop-angles (stop white domain e) = angles-same e (angles-append (white-angles white) (angles_byte refl (domain-angles domain)))
-
-stops-angles : {bytes : List ℕ} → AreStops bytes → IsInAngles bytes
-stops-angles (last_stop is) = stop-angles is
-stops-angles (next_stop is more e) = angles-same e (angles-append (stop-angles is) (angles_byte refl (stops-angles more)))
-
-pub may_be_route-angles : {bytes : List ℕ} → MayBeRoute bytes → IsInAngles bytes
+may_be_route-angles : {bytes : List ℕ} → MayBeRoute bytes → IsInAngles bytes
 may_be_route-angles no_route = angles_end
-may_be_route-angles (route is e) = angles-same e (angles-append (stops-angles (route-stops is)) (angles_byte refl angles_end))
+may_be_route-angles (route is e) =
+    angles-same e (angles-append (route-passed (over-angles atoms) (over-angles literals) (angles_byte refl angles_end) (angles_byte refl angles_end) is) (angles_byte refl angles_end))
 
 -- an address, perhaps behind a route
 pub spec-angles : {may_be_route local domain : List ℕ} → MayBeRoute may_be_route → AreDotted any_words local → IsDomain domain
     → IsInAngles (may_be_route ++ (local ++ 64 ∷ domain))
-spec-angles is local domain = angles-append (may_be_route-angles is) (angles-append (dotted-angles local) (angles_byte refl (domain-angles domain)))
+spec-angles is local domain = angles-append (may_be_route-angles is) (angles-append (dotted-passed (over-angles any_words) local) (angles_byte refl (domain-passed (over-angles atoms) (over-angles literals) domain)))

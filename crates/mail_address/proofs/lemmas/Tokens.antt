@@ -1,7 +1,7 @@
 -- Lemmas on tokens and runs of them.
-use Rattle.std.proofs.Common.{◌≡◌, ℕ, zero, suc, ◌+◌, ◌-◌, ◌<◌, ◌≤◌, ◌≢◌, Bool, true, false, cond, eqb, ◌||◌, List, [], ◌∷◌, length, drop, refl, sym, ap, ◌∙◌, arith, length-drop}
-use Rattle.std.proofs.lemmas.Bool.{ne_eqb}
-use Rattle.mail_address.specs.Tokens.{far, far_within}
+use Rattle.std.proofs.Common.{◌≡◌, ℕ, zero, suc, ◌+◌, ◌-◌, ◌<◌, ◌≤◌, ◌≢◌, Bool, true, false, cond, eqb, List, [], ◌∷◌, length, drop, refl, sym, ap, ◌∙◌, arith, length-drop}
+use Rattle.std.proofs.lemmas.Bool.{false≢true, ne_eqb}
+use Rattle.mail_address.specs.Tokens.{far, far_within, is_atom_byte, is_white}
 
 -- ---- a step that is repeated until it passes none
 
@@ -35,13 +35,14 @@ far-more step (b ∷ bytes) low some =
     ap (λ t. cond t 0 (step (b ∷ bytes) + far_within step (length bytes) (drop (step (b ∷ bytes)) (b ∷ bytes)))) (ne_eqb (step (b ∷ bytes)) 0 some)
     ∙ ap (λ x. step (b ∷ bytes) + x) (far-enough step (length bytes) (length (drop (step (b ∷ bytes)) (b ∷ bytes))) (drop (step (b ∷ bytes)) (b ∷ bytes)) (omega arith) (omega arith))
 
+pub far-nothing : (step : List ℕ → ℕ) → far step [] ≡ 0
+unfolding far
+far-nothing step = refl
+
 -- what a run over the bytes passes, once it has come to this rest
 pub record RunsTo (step : List ℕ → ℕ) (bytes rest : List ℕ) : Type 0 where
   pub within : length rest ≤ length bytes
   pub same : far step bytes + length rest ≡ length bytes + far step rest
-
-pub RunsTo-start : (step : List ℕ → ℕ) (bytes : List ℕ) → RunsTo step bytes bytes
-RunsTo-start step bytes = record { within = omega arith; same = omega arith }
 
 pub RunsTo-more : (step : List ℕ → ℕ) (bytes rest after : List ℕ) (len : ℕ) → RunsTo step bytes rest → len ≡ step rest → len ≢ 0 → len ≤ length rest
     → after ≡ drop len rest → RunsTo step bytes after
@@ -60,3 +61,18 @@ RunsTo-end step bytes rest len run is none =
     let within = run.within in
     let same = run.same in
     omega arith
+
+-- ---- bytes of atoms
+
+pub byte-other : (test : ℕ → Bool) (b other : ℕ) → test b ≡ true → test other ≡ false → eqb b other ≡ false
+byte-other test b other h none = ne_eqb b other (λ e. false≢true (sym none ∙ ap test (sym e) ∙ h))
+
+pub no_atom_bytes : (is_atom_byte 60 ≡ false) × (is_atom_byte 32 ≡ false) × (is_atom_byte 9 ≡ false) × (is_atom_byte 13 ≡ false) × (is_atom_byte 10 ≡ false)
+    × (is_atom_byte 34 ≡ false) × (is_atom_byte 40 ≡ false) × (is_atom_byte 91 ≡ false) × (is_atom_byte 92 ≡ false) × (is_atom_byte 62 ≡ false)
+unfolding is_atom_byte
+no_atom_bytes = (refl, refl, refl, refl, refl, refl, refl, refl, refl, refl)
+
+pub atom_byte-visible : (b : ℕ) → is_atom_byte b ≡ true → is_white b ≡ false
+atom_byte-visible b h =
+    let n = no_atom_bytes in
+    rw (byte-other is_atom_byte b 32 h n.1, byte-other is_atom_byte b 9 h n.2, byte-other is_atom_byte b 13 h n.3, byte-other is_atom_byte b 10 h n.4) refl

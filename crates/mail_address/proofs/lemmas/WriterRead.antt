@@ -1,9 +1,9 @@
 -- A list of addresses that is written is read back as itself.
-use Rattle.std.proofs.Common.{◌≡◌, ℕ, suc, ◌+◌, ◌<◌, Bool, true, false, cond, eqb, ◌&&◌, List, [], ◌∷◌, ◌++◌, Some, None, Option, length, map, take, drop, refl, sym, ap, subst, ◌∙◌, arith, append_assoc, length-append}
+use Rattle.std.proofs.Common.{◌≡◌, ℕ, suc, ◌+◌, Bool, true, false, cond, eqb, List, [], ◌∷◌, ◌++◌, Some, None, Option, length, map, take, drop, refl, sym, ap, subst, ◌∙◌, arith, append_assoc, length-append}
 use Rattle.std.specs.Prelude.{min}
 use Rattle.std.specs.List.{list_all}
 use Rattle.std.specs.Str.{IsUtf8}
-use Rattle.std.proofs.lemmas.Bool.{and_from, and_parts, cond-false}
+use Rattle.std.proofs.lemmas.Bool.{and_from, and_parts}
 use Rattle.std.proofs.lemmas.List.{append-nil, drop_all, drop_at, take_at}
 use Rattle.std.proofs.Math.Seq.{drop-append-add}
 use Rattle.mail_codec.specs.Charset.{Charsets}
@@ -11,67 +11,45 @@ use Rattle.mail_codec.specs.Places.{begins}
 use Rattle.mailparse.specs.Value.{lenient_value_in}
 use Rattle.mail_laws.specs.Encode.{KnowUtf8}
 use Rattle.mail_laws.proofs.lemmas.EncodeRead.{words_read}
-use Rattle.mail_address.specs.declared.tokens.Kind.TheVariants.{Angle, At, Colon, Comma, Semicolon}
+use Rattle.mail_address.specs.declared.tokens.Kind.TheVariants.{Angle, Colon, Semicolon}
 use Rattle.mail_address.specs.declared.tokens.Span.{Span}
-use Rattle.mail_address.specs.declared.tokens.Span.TheVariants.{BeforeAt, BeforeComma, BeforeMark, BeforeSeparator, InGroup, Phrase, White}
+use Rattle.mail_address.specs.declared.tokens.Span.TheVariants.{BeforeAt, BeforeMark, BeforeSeparator, InGroup, Phrase, White}
 use Rattle.mail_address.specs.declared.writer.NewAddress.{NewAddress}
 use Rattle.mail_address.specs.declared.writer.NewAddress.TheVariants as new
 use Rattle.mail_address.specs.declared.writer.NewGroup.{NewGroup}
 use Rattle.mail_address.specs.declared.writer.NewMailbox.{NewMailbox}
 use Rattle.mail_address.specs.Addresses.{addresses, after_group, after_name, element_at, element_len, group, group_at, group_len, inner_len, is_group, items, member_at, member_len, members_at, name_len, separator_len, single, single_at}
-use Rattle.mail_address.specs.Grammar.{address, any_words, AreDotted, atoms, IsDomain, IsMailbox, IsName, IsPhrase, IsWhite, literals, MayBeRoute, named_address, no_name, no_route, phrase, white_byte, white_ends}
+use Rattle.mail_address.specs.Enclosed.{in_angles}
+use Rattle.mail_address.specs.Grammar.{address, any_words, AreDotted, IsDomain, IsMailbox, IsName, IsPhrase, IsWhite, MayBeRoute, named_address, no_name, no_route, phrase, white_byte, white_ends}
 use Rattle.mail_address.specs.Mailbox.{is_phrase, mailbox_of, Parts, spec_mailbox}
 use Rattle.mail_address.specs.Names.{bracketed}
 use Rattle.mail_address.specs.Text.{address_bytes, phrase_text}
 use Rattle.mail_address.specs.Tokens.{front_token, is_all_white, is_in, run}
 use Rattle.mail_address.specs.Writer.{are_writable, AreTexts, element_shows, element_stands_for, HasTexts, HaveTexts, is_element_writable, is_writable, joined, mailbox_stands_for, seen_group, seen_single, single_shows, written_address, written_element, written_list, written_local, written_mailbox, written_name, written_phrase}
-use Rattle.mail_address.proofs.lemmas.Addresses.{element_len-some, items-more, member_len-some}
-use Rattle.mail_address.proofs.lemmas.Enclosed.{angle-front, marked, marked-length, run-token}
+use Rattle.mail_address.proofs.lemmas.Addresses.{element_len-some, items-more}
+use Rattle.mail_address.proofs.lemmas.Enclosed.{enclosed-passed, marked}
 use Rattle.mail_address.proofs.lemmas.GrammarMade.{all_white-made}
 use Rattle.mail_address.proofs.lemmas.GrammarRead.{mailbox-read, phrase-read}
-use Rattle.mail_address.proofs.lemmas.Names.{no_items, nothing-passed}
-use Rattle.mail_address.proofs.lemmas.Passed.{at_domain-passed, colon-front, comma-front, comma-passed, dotted-passed, GoesOver, IsPassed, name-passed, over-atoms, over-literals, over-words, passed-append, passed-same, passed-up_to, passed-whole, phrase-passed, run-stops, semicolon-front, spec-angles, white-passed}
+use Rattle.mail_address.proofs.lemmas.Names.{no_items, Crosses, IsEnd, at_comma, at_end, crosses-group, crosses-mark, end-stops, member-first, single-first}
+use Rattle.mail_address.proofs.lemmas.Passed.{at_domain-passed, at-passed, colon-front, comma-passed, dotted-passed, IsPassed, name-passed, passed-append, passed-same, passed-up_to, passed-whole, phrase-passed, run-stops, semicolon-front, spec-angles, white-passed}
 use Rattle.mail_address.proofs.lemmas.WriterWords.{address-shows, domain-stands, local-stands, phrase-nothing, phrase-written}
 
 -- ---- runs over a mailbox
 
--- what a run goes over that a comma or another mark stops
-record Crosses (span : Span) : Type 0 where
-  pub over_words : GoesOver any_words span
-  pub over_atoms : GoesOver atoms span
-  pub over_literals : GoesOver literals span
-  pub at : is_in span At ≡ true
-  pub angle : is_in span Angle ≡ true
-
-crosses-mark : Crosses BeforeMark
-crosses-mark = record { over_words = over-words BeforeMark refl refl refl refl refl; over_atoms = over-atoms BeforeMark refl refl refl refl; over_literals = over-literals BeforeMark refl refl refl refl; at = refl; angle = refl }
-
-crosses-separator : Crosses BeforeSeparator
-crosses-separator = record { over_words = over-words BeforeSeparator refl refl refl refl refl; over_atoms = over-atoms BeforeSeparator refl refl refl refl; over_literals = over-literals BeforeSeparator refl refl refl refl; at = refl; angle = refl }
-
-crosses-comma : Crosses BeforeComma
-crosses-comma = record { over_words = over-words BeforeComma refl refl refl refl refl; over_atoms = over-atoms BeforeComma refl refl refl refl; over_literals = over-literals BeforeComma refl refl refl refl; at = refl; angle = refl }
-
-crosses-group : Crosses InGroup
-crosses-group = record { over_words = over-words InGroup refl refl refl refl refl; over_atoms = over-atoms InGroup refl refl refl refl; over_literals = over-literals InGroup refl refl refl refl; at = refl; angle = refl }
-
 angle-passed : (span : Span) → is_in span Angle ≡ true → {may_be_route local domain : List ℕ} → MayBeRoute may_be_route → AreDotted any_words local → IsDomain domain
     → IsPassed span (bracketed (may_be_route ++ (local ++ 64 ∷ domain)))
 angle-passed span goes {may_be_route} {local} {domain} is is_local is_domain rest =
-    let inner : List ℕ = may_be_route ++ (local ++ 64 ∷ domain) in
-    let len = marked-length 60 62 inner in
-    run-token span (bracketed inner) rest Angle (omega (arith, len))
-    (ap front_token (marked 60 62 inner rest) ∙ angle-front inner rest (spec-angles is is_local is_domain) ∙ ap (λ n. record { kind = Angle; len = n }) (sym len)) goes
+    enclosed-passed span (bracketed (may_be_route ++ (local ++ 64 ∷ domain))) rest goes (in_angles (spec-angles is is_local is_domain) refl)
 
 mailbox-passed : {span : Span} → Crosses span → {text : List ℕ} {m : Parts} → IsMailbox text m → IsPassed span text
 mailbox-passed {span} over (address {local = local} {domain = domain} is_local is_domain e) =
     passed-same span e
-    (passed-append span local (64 ∷ domain) (dotted-passed over.over_words is_local) (at_domain-passed over.over_atoms over.over_literals over.at [] domain white_ends is_domain))
+    (passed-append span local (64 ∷ domain) (dotted-passed over.over_words is_local) (at_domain-passed over.over_atoms over.over_literals (at-passed span over.at) [] domain white_ends is_domain))
 mailbox-passed {span} over (named_address {name = name} {may_be_route = may_be_route} {local = local} {domain = domain} {after = after} is_name is_route is_local is_domain is_white e) =
     let inner : List ℕ = may_be_route ++ (local ++ 64 ∷ domain) in
     passed-same span (e ∙ ap (λ b. name ++ b) (sym (marked 60 62 inner after)))
-    (passed-append span name (bracketed inner ++ after) (name-passed span over.over_words is_name)
-    (passed-append span (bracketed inner) after (angle-passed span over.angle is_route is_local is_domain) (white-passed span over.over_words.blank over.over_words.comment is_white)))
+    (passed-append span name (bracketed inner ++ after) (name-passed over.over_words is_name)
+    (passed-append span (bracketed inner) after (angle-passed span over.angle is_route is_local is_domain) (over.over_words.white is_white)))
 
 -- ---- a mailbox is more than whitespace
 
@@ -93,102 +71,27 @@ mailbox-not_white {text} {m} is = go (is_all_white text) refl
     go true e = absurd (none-some (sym (white-no_mailbox text (all_white-made text e)) ∙ mailbox-read text m is))
     go false e = refl
 
-mailbox-some : (text : List ℕ) {m : Parts} → IsMailbox text m → 0 < length text
-mailbox-some [] {m} is = absurd (none-some (sym (white-no_mailbox [] white_ends) ∙ mailbox-read [] m is))
-mailbox-some (b ∷ rest) {m} is = omega arith
-
-single-is : (start : ℕ) {text : List ℕ} {m : Parts} → IsMailbox text m → single_at start text ≡ record { start = start; text = text; mailbox = Some m } ∷ []
-unfolding single_at
-single-is start {text} {m} is =
-    cond-false _ _ _ (mailbox-not_white is) ∙ ap (λ o. record { start = start; text = text; mailbox = o } ∷ []) (mailbox-read text m is)
-
 -- ---- a mailbox at the front of a list
 
--- what may follow: the end, or a comma
-data IsEnd : List ℕ → List ℕ → Type 0 where
-  at_end : IsEnd [] []
-  at_comma : (rest : List ℕ) → IsEnd (44 ∷ rest) rest
-
-end-stops : (span : Span) → is_in span Comma ≡ false → {after left : List ℕ} → IsEnd after left → run span after ≡ 0
-end-stops span stops at_end = nothing-passed span
-end-stops span stops (at_comma rest) = run-stops span (44 ∷ rest) 1 Comma (comma-front rest) stops
-
-end-no_colon : {after left : List ℕ} → IsEnd after left → begins (λ b. eqb b 58) after ≡ false
-end-no_colon at_end = refl
-end-no_colon (at_comma rest) = refl
-
--- the bytes up to and with the comma, and what is left behind them
-end-left : (text : List ℕ) {after left : List ℕ} → IsEnd after left → drop (min (suc (length text)) (length (text ++ after))) (text ++ after) ≡ left
-end-left text at_end =
-    let same = append-nil text in
-    let len = ap length same in
-    drop_all (min (suc (length text)) (length (text ++ []))) (text ++ []) (omega (arith, len))
-end-left text (at_comma rest) =
-    let len = length-append text (44 ∷ rest) in
-    ap (drop (min (suc (length text)) (length (text ++ 44 ∷ rest)))) (sym (append_assoc text (44 ∷ []) rest))
-    ∙ drop_at (text ++ 44 ∷ []) rest (min (suc (length text)) (length (text ++ 44 ∷ rest))) (let front = length-append text (44 ∷ []) in omega (arith, len, front))
-
--- the same behind a group
+-- what is left behind a group, and a comma if one follows
 separator-left : (text : List ℕ) {after left : List ℕ} → IsEnd after left → drop (length text + separator_len after) (text ++ after) ≡ left
 separator-left text at_end = drop-append-add text [] 0
 separator-left text (at_comma rest) = drop-append-add text (44 ∷ rest) 1
 
 module _ (text after left : List ℕ) (m : Parts) (is : IsMailbox text m) (end : IsEnd after left) where
-  up_to : (span : Span) → Crosses span → is_in span Comma ≡ false → run span (text ++ after) ≡ length text
-  up_to span over stops = passed-up_to span text after (mailbox-passed over is) (end-stops span stops end)
-
-  low : 0 < length (text ++ after)
-  low = let some = mailbox-some text is in let len = length-append text after in omega (arith, some, len)
-
-  no_group : is_group (text ++ after) ≡ false
-  unfolding is_group name_len
-  no_group =
-      ap (λ n. begins (λ b. eqb b 58) (drop n (text ++ after)) && is_phrase (take n (text ++ after)) && begins (λ b. eqb b 59) (drop (inner_len (text ++ after)) (after_name (text ++ after))))
-      (up_to BeforeMark crosses-mark refl)
-      ∙ ap (λ r. begins (λ b. eqb b 58) r && is_phrase (take (length text) (text ++ after)) && begins (λ b. eqb b 59) (drop (inner_len (text ++ after)) (after_name (text ++ after))))
-      (drop_at text after (length text) refl)
-      ∙ rw (end-no_colon end) refl
-
-  element-is : (start : ℕ) → element_at start (text ++ after) ≡ single (record { start = start; text = text; mailbox = Some m }) ∷ []
-  unfolding element_at
-  element-is start =
-      cond-false _ _ _ no_group
-      ∙ ap (λ n. map single (single_at start (take n (text ++ after)))) (up_to BeforeSeparator crosses-separator refl)
-      ∙ ap (λ t. map single (single_at start t)) (take_at text after (length text) refl)
-      ∙ ap (map single) (single-is start is)
-
-  element_len-is : element_len (text ++ after) ≡ min (suc (length text)) (length (text ++ after))
-  unfolding element_len
-  element_len-is = cond-false _ _ _ no_group ∙ ap (λ n. min (suc n) (length (text ++ after))) (up_to BeforeSeparator crosses-separator refl)
-
   -- the first element, and then those of what is left
   mailbox-first : (start : ℕ) → items element_at element_len start (text ++ after)
       ≡ single (record { start = start; text = text; mailbox = Some m }) ∷ items element_at element_len (start + min (suc (length text)) (length (text ++ after))) left
   mailbox-first start =
-      items-more element_at element_len element_len-some start (text ++ after) low
-      ∙ ap (λ e. e ++ items element_at element_len (start + element_len (text ++ after)) (drop (element_len (text ++ after)) (text ++ after))) (element-is start)
-      ∙ ap (λ n. single (record { start = start; text = text; mailbox = Some m }) ∷ items element_at element_len (start + n) (drop n (text ++ after))) element_len-is
-      ∙ ap (λ r. single (record { start = start; text = text; mailbox = Some m }) ∷ items element_at element_len (start + min (suc (length text)) (length (text ++ after))) r) (end-left text end)
+      single-first text after left end (λ span over. mailbox-passed over is) (mailbox-not_white is) start
+      ∙ ap (λ o. single (record { start = start; text = text; mailbox = o }) ∷ items element_at element_len (start + min (suc (length text)) (length (text ++ after))) left) (mailbox-read text m is)
 
   -- the same among the members of a group
-  member-is : (start : ℕ) → member_at start (text ++ after) ≡ record { start = start; text = text; mailbox = Some m } ∷ []
-  unfolding member_at
-  member-is start =
-      ap (λ n. single_at start (take n (text ++ after))) (up_to BeforeComma crosses-comma refl)
-      ∙ ap (single_at start) (take_at text after (length text) refl)
-      ∙ single-is start is
-
-  member_len-is : member_len (text ++ after) ≡ min (suc (length text)) (length (text ++ after))
-  unfolding member_len
-  member_len-is = ap (λ n. min (suc n) (length (text ++ after))) (up_to BeforeComma crosses-comma refl)
-
-  member-first : (start : ℕ) → items member_at member_len start (text ++ after)
+  mailbox_member-first : (start : ℕ) → items member_at member_len start (text ++ after)
       ≡ record { start = start; text = text; mailbox = Some m } ∷ items member_at member_len (start + min (suc (length text)) (length (text ++ after))) left
-  member-first start =
-      items-more member_at member_len member_len-some start (text ++ after) low
-      ∙ ap (λ e. e ++ items member_at member_len (start + member_len (text ++ after)) (drop (member_len (text ++ after)) (text ++ after))) (member-is start)
-      ∙ ap (λ n. record { start = start; text = text; mailbox = Some m } ∷ items member_at member_len (start + n) (drop n (text ++ after))) member_len-is
-      ∙ ap (λ r. record { start = start; text = text; mailbox = Some m } ∷ items member_at member_len (start + min (suc (length text)) (length (text ++ after))) r) (end-left text end)
+  mailbox_member-first start =
+      member-first text after left end (λ span over. mailbox-passed over is) (mailbox-not_white is) start
+      ∙ ap (λ o. record { start = start; text = text; mailbox = o } ∷ items member_at member_len (start + min (suc (length text)) (length (text ++ after))) left) (mailbox-read text m is)
 
 no_members : (start : ℕ) → items member_at member_len start [] ≡ []
 unfolding items
@@ -248,7 +151,7 @@ module _ (known : Charsets) (knows : KnowUtf8 known) where
       let both = and_parts (is_writable m) true able in
       let n : ℕ = min (suc (length text)) (length (text ++ [])) in
       ap (λ b. map (single_shows known) (items member_at member_len start b)) (sym (append_assoc before (written_mailbox m) []))
-      ∙ ap (map (single_shows known)) (member-first text [] [] (parts_of before m) (mailbox-stands before m white texts.0 both.0) at_end start)
+      ∙ ap (map (single_shows known)) (mailbox_member-first text [] [] (parts_of before m) (mailbox-stands before m white texts.0 both.0) at_end start)
       ∙ ap (λ ms. single_shows known (record { start = start; text = text; mailbox = Some (parts_of before m) }) ∷ map (single_shows known) ms) (no_members (start + n))
       ∙ ap (λ s. s ∷ []) (mailbox-shows before m start text white texts.0 both.0)
   members-read before m (next ∷ ms) start white texts able =
@@ -257,7 +160,7 @@ module _ (known : Charsets) (knows : KnowUtf8 known) where
       let both = and_parts (is_writable m) (list_all is_writable (next ∷ ms)) able in
       let n : ℕ = min (suc (length text)) (length (text ++ 44 ∷ left)) in
       ap (λ b. map (single_shows known) (items member_at member_len start b)) (sym (append_assoc before (written_mailbox m) (44 ∷ left)))
-      ∙ ap (map (single_shows known)) (member-first text (44 ∷ left) left (parts_of before m) (mailbox-stands before m white texts.0 both.0) (at_comma left) start)
+      ∙ ap (map (single_shows known)) (mailbox_member-first text (44 ∷ left) left (parts_of before m) (mailbox-stands before m white texts.0 both.0) (at_comma left) start)
       ∙ ap (λ ms. single_shows known (record { start = start; text = text; mailbox = Some (parts_of before m) }) ∷ ms)
       (members-read (13 ∷ 10 ∷ 32 ∷ []) next ms (start + n) fold_white texts.1 both.1)
       ∙ ap (λ s. s ∷ map mailbox_stands_for (next ∷ ms)) (mailbox-shows before m start text white texts.0 both.0)
@@ -316,7 +219,7 @@ module _ (known : Charsets) (knows : KnowUtf8 known) where
     name_len-is : name_len bytes ≡ length name
     unfolding name_len
     name_len-is =
-        passed-up_to BeforeMark name (58 ∷ (inner ++ 59 ∷ after)) (phrase-passed BeforeMark crosses-mark.over_words is_name.0)
+        passed-up_to BeforeMark name (58 ∷ (inner ++ 59 ∷ after)) (phrase-passed crosses-mark.over_words is_name.0)
         (run-stops BeforeMark (58 ∷ (inner ++ 59 ∷ after)) 1 Colon (colon-front (inner ++ 59 ∷ after)) refl)
 
     after_name-is : after_name bytes ≡ inner ++ 59 ∷ after

@@ -22,7 +22,7 @@ use Rattle.mail_address.specs.declared.tokens.Kind.TheVariants.{Atom, Literal, Q
 use Rattle.mail_address.specs.declared.tokens.Span.TheVariants.{Atoms, Literals, White}
 use Rattle.mail_address.specs.declared.writer.NewMailbox.{NewMailbox}
 use Rattle.mail_address.specs.Addresses.{items, items_within}
-use Rattle.mail_address.specs.Grammar.{any_word, any_words, AreDotted, AreDotWords, atom, atoms, dot_word, dots_end, dotted, in_brackets, IsDomain, IsPadded, IsPhrase, IsPhraseRest, IsWhite, IsWord, literals, phrase_ends, phrase_white, phrase_word, white_byte, white_ends}
+use Rattle.mail_address.specs.Grammar.{any_word, any_words, AreDotted, AreDotWords, atom, atoms, dot_word, dots_end, dotted, in_brackets, IsDomain, IsPadded, IsPhrase, IsPhraseRest, IsWhite, IsWord, literals, phrase_ends, phrase_white, phrase_word, white_ends}
 use Rattle.mail_address.specs.Mailbox.{after_white, is_dotted}
 use Rattle.mail_address.specs.Names.{IsNameWord, atom_word}
 use Rattle.mail_address.specs.Text.{address_bytes, bare, front_len, front_meaning, local_text, meaning, meaning_at, needs_no_quotes, phrase_text, quoted_text, word_at, word_or_space, word_or_white_len, words_text}
@@ -31,10 +31,10 @@ use Rattle.mail_address.specs.Writer.{are_atoms, are_atoms_after, has_no_control
 use Rattle.mail_address.proofs.lemmas.Addresses.{items-more}
 use Rattle.mail_address.proofs.lemmas.GrammarMade.{dotted-made, front-meets, Meets, word-meets}
 use Rattle.mail_address.proofs.lemmas.GrammarRead.{prefix-whole, white-no_atom}
-use Rattle.mail_address.proofs.lemmas.Names.{after_white-same, Front, no_atom_bytes, no_white-front, no_words, quoted-is_word, quoted-len, quoted-meaning, quoted-token, word-len, word-meaning}
+use Rattle.mail_address.proofs.lemmas.Names.{after_white-same, Front, no_white-front, no_words, quoted-is_word, quoted-len, quoted-meaning, quoted-token, word-len, word-meaning, one_space, space-rest}
 use Rattle.mail_address.proofs.lemmas.Passed.{atom_byte-front, dot-front, passed-whole, white-passed, white-whole}
 use Rattle.mail_address.proofs.lemmas.Text.{front_len-some, word_or_white-some}
-use Rattle.mail_address.proofs.lemmas.Tokens.{far-stop}
+use Rattle.mail_address.proofs.lemmas.Tokens.{far-stop, no_atom_bytes}
 
 -- ---- whitespace around a phrase
 
@@ -122,8 +122,10 @@ quoted-then : (text rest : List ℕ) (start : ℕ)
 quoted-then text rest start =
     word-then (quoted_text text) rest text (quoted-front text rest) (quoted-some text) (quoted-meaning text rest) (quoted-len text rest) start
 
-one_space : IsWhite (32 ∷ [])
-one_space = white_byte refl white_ends
+pub quoted-shows : (text : List ℕ) {white : List ℕ} → IsWhite white → phrase_text (quoted_text text ++ white) ≡ text
+quoted-shows text {white} is =
+    phrase-starts (quoted_text text ++ white) (quoted-front text white) ∙ quoted-then text white 0
+    ∙ ap (λ r. text ++ r) (white-shows white is (0 + length (quoted_text text))) ∙ append-nil text
 
 not_white-behind : (rest : List ℕ) → run White (32 ∷ rest) ≡ 1 → 0 < length rest → is_all_white (32 ∷ rest) ≡ false
 unfolding is_all_white
@@ -218,7 +220,7 @@ atoms-rest : {text : List ℕ} → AreAtoms text → (white : List ℕ) → IsWh
 atoms-rest {text} (last_atom is) white w = phrase_word {word = text} {rest = white} (name-word is) (white-rest w) refl
 atoms-rest (next_atom {word = word} {rest = rest} is more e) white w =
     phrase_word {word = word} {rest = 32 ∷ (rest ++ white)} (name-word is)
-    (phrase_white {white = 32 ∷ []} {rest = rest ++ white} one_space (atoms-rest more white w) refl)
+    (space-rest (atoms-rest more white w))
     (ap (λ t. t ++ white) e ∙ append_assoc word (32 ∷ rest) white)
 
 atoms-phrase : {text : List ℕ} → AreAtoms text → (before white : List ℕ) → IsWhite before → IsWhite white → IsPhrase (before ++ (text ++ white))
@@ -237,7 +239,7 @@ atoms-phrase (next_atom {word = word} {rest = rest} is more e) before white b w 
   rest = 32 ∷ (rest ++ white);
   white_before = b;
   is_first = name-word is;
-  is_rest = phrase_white {white = 32 ∷ []} {rest = rest ++ white} one_space (atoms-rest more white w) refl;
+  is_rest = space-rest (atoms-rest more white w);
   made = ap (λ t. before ++ (t ++ white)) e ∙ ap (λ t. before ++ t) (append_assoc word (32 ∷ rest) white);
 }
 
@@ -267,10 +269,7 @@ quoted-written known name reads = record {
     made = refl;
   };
   shows = λ before white b w.
-      ap (lenient_value_in known)
-      (phrase-skipped b (quoted_text name ++ white) ∙ phrase-starts (quoted_text name ++ white) (quoted-front name white) ∙ quoted-then name white 0
-      ∙ ap (λ r. name ++ r) (white-shows white w (0 + length (quoted_text name))) ∙ append-nil name)
-      ∙ reads;
+      ap (lenient_value_in known) (phrase-skipped b (quoted_text name ++ white) ∙ quoted-shows name w) ∙ reads;
 }
 
 name_bytes : (name : List ℕ) → IsUtf8 name → IsBytes name

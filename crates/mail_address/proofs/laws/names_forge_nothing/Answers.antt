@@ -1,4 +1,5 @@
-use Rattle.mail_address.proofs.lemmas.Names.{names-alone, names-first, quoted-is_name, quoted-shows}
+use Rattle.mail_address.proofs.lemmas.Names.{names-alone, names-first, one_space, quoted-is_name}
+use Rattle.mail_address.proofs.lemmas.WriterWords.{quoted-shows}
 use Rattle.mail_address.proofs.laws.names_forge_nothing.Goals as goal
 
 pub returns-clause-alone : goal.returns-clause-alone
@@ -11,4 +12,4 @@ pub returns-clause-quoted : goal.returns-clause-quoted
 returns-clause-quoted c = quoted-is_name
 
 pub returns-clause-shown : goal.returns-clause-shown
-returns-clause-shown c = quoted-shows
+returns-clause-shown c = λ text. quoted-shows text one_space
