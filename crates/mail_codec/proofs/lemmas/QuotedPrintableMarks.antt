@@ -17,7 +17,7 @@ use Rattle.mail_codec.specs.private.Vectors.{lane_mask}
 use Rattle.mail_codec.proofs.lemmas.Places.{first_place-≤, first_place-before, first_place-passes, first_place-begins}
 use Rattle.mail_codec.proofs.lemmas.Written.{written_rest, stored_after}
 use Rattle.mail_codec.proofs.lemmas.QuotedPrintableEscapes.{unescaped_stays, unescaped_escape, unescaped-nil, first_escape-other}
-use Rattle.mail_codec.proofs.lemmas.QuotedPrintableLines.{is_lf, split_some, line_read, line_last, nothing_left}
+use Rattle.mail_codec.proofs.lemmas.QuotedPrintableLines.{ends_in-push, without_last-push, is_lf, split_some, line_read, line_last, nothing_left}
 
 -- ---- what begins with bytes of which the last is no blank, no CR and no `=`
 
@@ -378,22 +378,11 @@ line_end text from to low high plain = lf_place text from to low high plain.no_l
 
 -- ---- a line that a soft line break ends
 
-ends_in-last : (c : ℕ) → (c == c) ≡ true → (xs : List ℕ) → ends_in c (xs ++ c ∷ []) ≡ true
-ends_in-last c same [] = same
-ends_in-last c same (x ∷ []) = same
-ends_in-last c same (x ∷ y ∷ xs) = ends_in-last c same (y ∷ xs)
-
-without_last-last : (c : ℕ) (xs : List ℕ) → without_last (xs ++ c ∷ []) ≡ xs
-without_last-last c xs =
-    ap (λ (k : ℕ). take k (xs ++ c ∷ [])) {x = length (xs ++ c ∷ []) - 1} {y = length xs + 0} (omega (arith, length-append xs (c ∷ [])))
-    ∙ take-append-add xs (c ∷ []) 0
-    ∙ append-nil xs
-
 soft_line : (piece ending : List ℕ) → HasNoEscape piece → line_bytes (record { content = piece ++ 61 ∷ []; ending = ending }) ≡ piece
 unfolding line_bytes
 soft_line piece ending none =
     let trimmed : trimmed_at_end is_blank (piece ++ 61 ∷ []) ≡ piece ++ 61 ∷ [] = trimmed-front is_blank 61 piece [] refl in
-    rw (trimmed, ends_in-last 61 refl piece, without_last-last 61 piece) (stays_whole piece none)
+    rw (trimmed, ends_in-push 61 piece, without_last-push 61 piece) (stays_whole piece none)
 
 soft_lf : (piece : List ℕ) → HasNoEscape piece → line_bytes (ended_line (piece ++ 61 ∷ [])) ≡ piece
 soft_lf piece none =
@@ -402,7 +391,7 @@ soft_lf piece none =
 
 soft_cr : (piece : List ℕ) → HasNoEscape piece → line_bytes (ended_line ((piece ++ 61 ∷ []) ++ 13 ∷ [])) ≡ piece
 soft_cr piece none =
-    rw (ends_in-last 13 refl (piece ++ 61 ∷ []), without_last-last 13 (piece ++ 61 ∷ [])) (soft_line piece cr_lf none)
+    rw (ends_in-push 13 (piece ++ 61 ∷ []), without_last-push 13 (piece ++ 61 ∷ [])) (soft_line piece cr_lf none)
 
 -- one byte more of a piece
 piece_more : (text : List ℕ) (from to b : ℕ) → from ≤ to → to < length text → get_or text to 0 ≡ b
