@@ -219,11 +219,12 @@ module _ (n : ℕ) (v vs ns : List ℕ) (long : length v ≡ 4 * n) (fits : Each
       → (k : ℕ) → 4 * k + 4 ≤ prefix_len is_letter v → group_of v k ≡ Some (three_at (pick_l 0 (number_bytes ++ number_bytes) places) k)
   in_order places full many all k letters =
       let h : k < n = omega (arith, letters, prefix_len-le-length is_letter v, long) in
-      let picked : (p j : ℕ) → p / 3 ≡ k → j + p % 3 ≡ 4 * k + 2 → get_or (pick_l 0 (number_bytes ++ number_bytes) places) p 0 ≡ get_or number_bytes j 0 = λ p j at is.
+      let ordered : List ℕ = pick_l 0 (number_bytes ++ number_bytes) places in
+      let picked : (p j : ℕ) → p / 3 ≡ k → j + p % 3 ≡ 4 * k + 2 → get_or ordered p 0 ≡ get_or number_bytes j 0 = λ p j at is.
       let place : get_or places p 0 ≡ j = eqb-true _ _ (agree_below_at (λ p. get_or places p 0 == p / 3 * 4 + 2 - p % 3) (λ _. true) (3 * n) p all (omega arith)) ∙ omega arith in
       get_or-map (λ m. get_or (number_bytes ++ number_bytes) m 0) places p 0 0 (omega arith)
       ∙ ap (λ m. get_or (number_bytes ++ number_bytes) m 0) place ∙ get_or_append_left number_bytes number_bytes 0 j (omega arith) in
-      group_read k h letters _ _ _ (picked (3 * k) (4 * k + 2) (omega arith) (omega arith)) (picked (3 * k + 1) (4 * k + 1) (omega arith) (omega arith)) (picked (3 * k + 2) (4 * k + 0) (omega arith) (omega arith))
+      group_read k h letters (get_or ordered (3 * k) 0) (get_or ordered (3 * k + 1) 0) (get_or ordered (3 * k + 2) 0) (picked (3 * k) (4 * k + 2) (omega arith) (omega arith)) (picked (3 * k + 1) (4 * k + 1) (omega arith) (omega arith)) (picked (3 * k + 2) (4 * k + 0) (omega arith) (omega arith))
 
 -- ---- letters in a text
 
