@@ -3,7 +3,7 @@ use Rattle.std.proofs.Common.{◌≡◌, ℕ, zero, suc, ◌+◌, ◌*◌, ◌/�
 use Rattle.std.specs.Int.{w64, trailing_zeros}
 use Rattle.std.specs.List.{slice_get}
 use Rattle.std.specs.Simd.{first_chunks}
-use Rattle.std.proofs.lemmas.Bool.{cases_Bool, cases_lt, lt-ltb, le-ltb}
+use Rattle.std.proofs.lemmas.Bool.{and_parts, cases_Bool, cases_lt, lt-ltb, le-ltb}
 use Rattle.std.proofs.lemmas.List.{drop-drop, length-drop, length-take-le, take_all}
 use Rattle.std.proofs.lemmas.Nat.{le_or_l, le_or_r}
 use Rattle.std.proofs.Math.Nat.{mul-suc}
@@ -150,14 +150,10 @@ PassedTo-weaker weak strong implies bytes rest answer at n h is place =
 
 -- ---- a text found by its first byte
 
-both_first : (s t : Bool) → s && t ≡ true → s ≡ true
-both_first true t h = refl
-both_first false t h = h
-
 stands_begins : (needle rest : List ℕ) → 0 < length needle → stands needle rest ≡ true → begins (λ b. b == get_or needle 0 0) rest ≡ true
 stands_begins [] rest some h = absurd (omega arith)
 stands_begins (n ∷ needle) [] some h = h
-stands_begins (n ∷ needle) (b ∷ rest) some h = (Decides-eqb b n).1 (sym ((Decides-eqb n b).0 (both_first (n == b) _ h)))
+stands_begins (n ∷ needle) (b ∷ rest) some h = (Decides-eqb b n).1 (sym ((Decides-eqb n b).0 (and_parts (n == b) _ h).0))
 
 -- up to the first place of its first byte, the text stands nowhere
 pub PassedTo-first_byte : (needle bytes rest : List ℕ) (answer at n : ℕ) → 0 < length needle → PassedTo (stands needle) bytes answer at
