@@ -54,11 +54,8 @@ module _ (test : ℕ → Bool) (bytes : List ℕ) (at : ℕ) (fits : at + 128 �
   start = record { within = omega arith; later = omega arith }
 
   module _ (a b : ℕ) (is_a : a ≡ lane_mask test (take 64 (drop at bytes))) (is_b : b ≡ lane_mask test (vector 64)) where
-    first_vector : take 64 (drop at bytes) ≡ vector 0
-    first_vector = ap (λ (j : ℕ). take 64 (drop j bytes)) {x = at} {y = at + 0} (omega arith)
-
     is_first : a ≡ lane_mask test (vector 0)
-    is_first = is_a ∙ ap (lane_mask test) first_vector
+    is_first = is_a ∙ ap (λ (j : ℕ). lane_mask test (take 64 (drop j bytes))) {x = at} {y = at + 0} (omega arith)
 
     none_there : bit_or a b ≡ 0 → first_place (begins test) block ≡ 128
     none_there none =

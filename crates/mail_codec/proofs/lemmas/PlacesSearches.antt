@@ -64,12 +64,6 @@ PassedTo-found test bytes chunk answer at n h fits is found =
     let later = h.later in
     omega arith
 
--- a chunk of a list, as a loop over the chunks meets it
-chunk_is : (n : ℕ) (bytes : List ℕ) (chunks : List (List ℕ)) (i at : ℕ) → chunks ≡ first_chunks n (length bytes / n) bytes
-    → i < length bytes / n → at ≡ n * i → get_or chunks i [] ≡ take n (drop at bytes)
-chunk_is n bytes chunks i at is l place =
-    ap (λ (cs : List (List ℕ)). get_or cs i []) is ∙ chunk_at n (length bytes / n) bytes i l ∙ ap (λ (j : ℕ). take n (drop j bytes)) (sym place)
-
 -- the last n bytes, of which some were passed over before
 pub last_chunk : (test : ℕ → Bool) (bytes : List ℕ) (n at last p : ℕ) → PassedTo (begins test) bytes (first_place (begins test) bytes) at → last + n ≡ length bytes → last ≤ at
     → p ≡ first_place (begins test) (take n (drop last bytes)) → first_place (begins test) bytes ≡ last + p
@@ -114,7 +108,8 @@ marked_first test bs m len is some =
 module _ (test : ℕ → Bool) (bytes : List ℕ) (words : List (List ℕ)) (i at mask : ℕ) (are : words ≡ first_chunks 8 (length bytes / 8) bytes)
     (within : i < length bytes / 8) (place : at ≡ 8 * i) (marks : IsMask test (get_or words i []) mask) where
   pub word_is : get_or words i [] ≡ take 8 (drop at bytes)
-  word_is = chunk_is 8 bytes words i at are within place
+  word_is =
+      ap (λ (cs : List (List ℕ)). get_or cs i []) are ∙ chunk_at 8 (length bytes / 8) bytes i within ∙ ap (λ (j : ℕ). take 8 (drop j bytes)) (sym place)
 
   -- it has the first place, or the search goes on after it
   pub word_found : (answer : ℕ) → PassedTo (begins test) bytes answer at → mask ≢ 0 → (at + trailing_zeros w64 mask / 8 ≡ answer) × (trailing_zeros w64 mask / 8 < 8)

@@ -124,15 +124,12 @@ map_same p q all [] h = refl
 map_same p q all (x ∷ v) h = rw (agree_below_at p q 256 x all h.0.fits, map_same p q all v h.1) refl
 
 -- a byte is whitespace exactly where it is the one with its lower half
-whitespace_agree : agree_below (λ b. b == whitespace_of_half b) is_ascii_whitespace 256 ≡ true
-whitespace_agree = refl
-
 pub whitespace_marked : (v like : List ℕ) → (length v ≡ 16) × Each1 (Fits w8) v → like ≡ map whitespace_of_half v
     → mask_l (map (top 7) (zip2 (λ x y. cond (x == y) 255 0) v like)) % 2 ^ 64 ≡ mask_l (map is_ascii_whitespace v)
 whitespace_marked v like fits is =
     lanes_marked (λ b. cond (b == whitespace_of_half b) 255 0) (λ b. b == whitespace_of_half b) v _ (omega (arith, fits.0))
     (zip2_of_maps (λ x y. cond (x == y) 255 0) (λ b. b) whitespace_of_half v (sym (map-id v)) is) (λ b. flag (b == whitespace_of_half b))
-    ∙ ap mask_l (map_same (λ b. b == whitespace_of_half b) is_ascii_whitespace whitespace_agree v fits.1)
+    ∙ ap mask_l (map_same (λ b. b == whitespace_of_half b) is_ascii_whitespace refl v fits.1)
 
 -- what a mask tells: no lane passes, or the first that does
 pub no_mark : (test : ℕ → Bool) (v : List ℕ) (mask : ℕ) → mask ≡ mask_l (map test v) → mask ≡ 0 → length v ≡ first_place (begins test) v

@@ -93,9 +93,6 @@ length-fours : (n a b c d : ℕ) → length (fours n a b c d) ≡ 4 * n
 length-fours zero a b c d = refl
 length-fours (suc n) a b c d = omega (arith, length-fours n a b c d)
 
-twelves : (n : ℕ) → length {A = ℕ} (replicate n 12) ≡ n
-twelves n = length-replicate n 12
-
 -- the numbers of the n groups of a vector of values
 module _ (n : ℕ) (v : List ℕ) (long : length v ≡ 4 * n) (fits : Each1 (Fits w8) v) where
   abbrev first_pairs : List ℕ
@@ -114,7 +111,7 @@ module _ (n : ℕ) (v : List ℕ) (long : length v ≡ 4 * n) (fits : Each1 (Fit
   last_len = (sum_dots n v (fours n 0 0 64 1) long (length-fours n 0 0 64 1)).1
 
   raised_len : length raised ≡ n
-  raised_len = length-zip2 (λ a b. a * 2 ^ b % 2 ^ 32) first_pairs (replicate n 12) (first_len ∙ sym (twelves n)) ∙ first_len
+  raised_len = length-zip2 (λ a b. a * 2 ^ b % 2 ^ 32) first_pairs (replicate n 12) (first_len ∙ sym (length-replicate {A = ℕ} n 12)) ∙ first_len
 
   pub numbers_len : length (zip2 bit_or raised last_pairs) ≡ n
   numbers_len = length-zip2 bit_or raised last_pairs (raised_len ∙ sym last_len) ∙ raised_len
@@ -124,7 +121,7 @@ module _ (n : ℕ) (v : List ℕ) (long : length v ≡ 4 * n) (fits : Each1 (Fit
   numbers_at k h hy hz =
       get_or-zip2 bit_or raised last_pairs k 0 0 0 (omega (arith, raised_len)) (omega (arith, last_len))
       ∙ ap (λ m. bit_or m (get_or last_pairs k 0))
-      (get_or-zip2 (λ a b. a * 2 ^ b % 2 ^ 32) first_pairs (replicate n 12) k 0 0 0 (omega (arith, first_len)) (omega (arith, twelves n))
+      (get_or-zip2 (λ a b. a * 2 ^ b % 2 ^ 32) first_pairs (replicate n 12) k 0 0 0 (omega (arith, first_len)) (omega (arith, length-replicate {A = ℕ} n 12))
       ∙ ap (λ s. get_or first_pairs k 0 * 2 ^ s % 2 ^ 32) (get_or-replicate n k 12 0 h))
       ∙ pairs_joined (get_or v (4 * k) 0) (get_or v (4 * k + 1) 0) (get_or v (4 * k + 2) 0) (get_or v (4 * k + 3) 0) (get_or first_pairs k 0) (get_or last_pairs k 0)
       (lane_fits v (4 * k) fits) (lane_fits v (4 * k + 1) fits) hy hz (dots_at 64 1 0 0 n k v h long) (dots_at 0 0 64 1 n k v h long)
@@ -132,7 +129,7 @@ module _ (n : ℕ) (v : List ℕ) (long : length v ≡ 4 * n) (fits : Each1 (Fit
   pub numbers_fit : (k : ℕ) → k < n → get_or (zip2 bit_or raised last_pairs) k 0 < 2 ^ 32
   numbers_fit k h =
       let at = get_or-zip2 bit_or raised last_pairs k 0 0 0 (omega (arith, raised_len)) (omega (arith, last_len)) in
-      let high : get_or raised k 0 < 2 ^ 32 = omega (arith, get_or-zip2 (λ a b. a * 2 ^ b % 2 ^ 32) first_pairs (replicate n 12) k 0 0 0 (omega (arith, first_len)) (omega (arith, twelves n))) in
+      let high : get_or raised k 0 < 2 ^ 32 = omega (arith, get_or-zip2 (λ a b. a * 2 ^ b % 2 ^ 32) first_pairs (replicate n 12) k 0 0 0 (omega (arith, first_len)) (omega (arith, length-replicate {A = ℕ} n 12))) in
       let low : get_or last_pairs k 0 < 2 ^ 32 = omega (arith, dots_at 0 0 64 1 n k v h long, lane_fits v (4 * k + 2) fits, lane_fits v (4 * k + 3) fits) in
       subst (λ m. m < 2 ^ 32) (sym at) (or_lt 32 (get_or raised k 0) (get_or last_pairs k 0) high low)
 
