@@ -8,7 +8,6 @@ pub mod Vectors
 pub mod VectorsLetters
 pub mod Pairs
 pub mod Blocks
-pub mod VectorsWide
 pub mod CharsetUtf8
 pub mod CharsetLabels
 pub mod CharsetMarks

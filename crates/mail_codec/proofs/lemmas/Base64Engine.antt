@@ -44,16 +44,11 @@ bytes_again a b c ha hb hc =
 two_again : (a b : ℕ) → a < 256 → b < 256
     → take 2 (three_bytes (group_number (a / 4) (a % 4 * 16 + b / 16) (b % 16 * 4) 0)) ≡ a ∷ b ∷ []
 two_again a b ha hb =
-    let n : group_number (a / 4) (a % 4 * 16 + b / 16) (b % 16 * 4) 0 ≡ a * 65536 + b * 256 = omega arith in
-    let x : (a * 65536 + b * 256) / 65536 ≡ a = omega arith in
-    let y : (a * 65536 + b * 256) / 256 % 256 ≡ b = omega arith in
-    rw (n, x, y) refl
+    ap (λ n. take 2 (three_bytes (group_number (a / 4) (a % 4 * 16 + b / 16) n 0))) {x = b % 16 * 4} {y = b % 16 * 4 + 0} (omega arith) ∙ ap (take 2) (bytes_again a b 0 ha hb (omega arith))
 
 one_again : (a : ℕ) → a < 256 → take 1 (three_bytes (group_number (a / 4) (a % 4 * 16) 0 0)) ≡ a ∷ []
 one_again a ha =
-    let n : group_number (a / 4) (a % 4 * 16) 0 0 ≡ a * 65536 = omega arith in
-    let x : (a * 65536) / 65536 ≡ a = omega arith in
-    rw (n, x) refl
+    ap (λ n. take 1 (three_bytes (group_number (a / 4) n 0 0))) {x = a % 4 * 16} {y = a % 4 * 16 + 0} (omega arith) ∙ ap (take 1) (bytes_again a 0 0 ha (omega arith) (omega arith))
 
 -- the encoding of three bytes and more
 encode-three : (a b c : ℕ) (rest : List ℕ) → encode alphabet padding true (a ∷ b ∷ c ∷ rest)

@@ -7,7 +7,7 @@ use Rattle.mail_codec.specs.Base64.{letter, letter_value, padding, group_number,
 use Rattle.mail_codec.specs.Base64.IsGroup.{four_letters, three_letters, two_letters}
 use Rattle.mail_codec.proofs.lemmas.Base64Letters.{letter-letter_value, letter_value-letter}
 use Rattle.mail_codec.proofs.lemmas.Base64Engine.{group_bytes-letters, group_bytes-three, group_bytes-two}
-use Rattle.mail_codec.proofs.lemmas.Base64Groups.{after_group_ok}
+use Rattle.mail_codec.proofs.lemmas.Base64Groups.{after_group_ok, prepend_err}
 use Rattle.mail_codec.proofs.lemmas.Base64Steps.{group_bytes-no_padding, group_bytes-one_padding, group_bytes-two_padding}
 
 -- ---- one group
@@ -27,9 +27,6 @@ zero_value v h =
     let e : Some 0 ≡ Some v = sym (letter_value-letter 0 (omega arith)) ∙ h in
     cc e
 
-same_four : (p q r s a b c d : ℕ) → a ≡ p → b ≡ q → c ≡ r → d ≡ s → p ∷ q ∷ r ∷ s ∷ [] ≡ a ∷ b ∷ c ∷ d ∷ []
-same_four p q r s a b c d ea eb ec ed = cc
-
 same_bytes : (n x y z w v u : ℕ) (bytes : List ℕ) → bytes ≡ take n (three_bytes (group_number x y z w)) → z ≡ v → w ≡ u
     → bytes ≡ take n (three_bytes (group_number x y v u))
 same_bytes n x y z w v u bytes h e f =
@@ -43,7 +40,7 @@ IsGroup-from_bytes p q r s bytes h = elim (cases_eq s padding) [
         let lp = letter-letter_value p v.0 v.4 in
         let lq = letter-letter_value q v.1 v.5 in
         two_letters v.0 v.1 lp.0 lq.0
-        (same_four p q r s (letter v.0) (letter v.1) padding padding lp.1 lq.1 (sym er) (sym es))
+        (cc (lp.1, lq.1, er, es))
         (same_bytes 1 v.0 v.1 v.2 v.3 0 0 bytes v.8 (zero_value v.2 v.6) (zero_value v.3 v.7))
     | inr nr ↦
         let v = values_are 2 _ _ _ _ bytes (sym (group_bytes-one_padding p q r s es nr) ∙ h) in
@@ -51,7 +48,7 @@ IsGroup-from_bytes p q r s bytes h = elim (cases_eq s padding) [
         let lq = letter-letter_value q v.1 v.5 in
         let lr = letter-letter_value r v.2 v.6 in
         three_letters v.0 v.1 v.2 lp.0 lq.0 lr.0
-        (same_four p q r s (letter v.0) (letter v.1) (letter v.2) padding lp.1 lq.1 lr.1 (sym es))
+        (cc (lp.1, lq.1, lr.1, es))
         (same_bytes 2 v.0 v.1 v.2 v.3 v.2 0 bytes v.8 refl (zero_value v.3 v.7))
   ]
   | inr ns ↦
@@ -61,7 +58,7 @@ IsGroup-from_bytes p q r s bytes h = elim (cases_eq s padding) [
       let lr = letter-letter_value r v.2 v.6 in
       let ls = letter-letter_value s v.3 v.7 in
       four_letters v.0 v.1 v.2 v.3 lp.0 lq.0 lr.0 ls.0
-      (same_four p q r s (letter v.0) (letter v.1) (letter v.2) (letter v.3) lp.1 lq.1 lr.1 ls.1) v.8
+      (cc (lp.1, lq.1, lr.1, ls.1)) v.8
 ]
 
 -- a group is four bytes, and has the bytes that the function gives
@@ -166,10 +163,6 @@ option_cases : (g : Option (List ℕ)) → (g ≡ None) ⊎ ((bytes : List ℕ) 
 option_cases None = inl refl
 option_cases (Some bytes) = inr (bytes, refl)
 
-after_group_fault : (n m : ℕ) (b : List ℕ) (r : Result (List ℕ) ℕ) → after_group n (Some b) r ≡ Err m → r ≡ Err m
-after_group_fault n m b (Ok c) h = cc h
-after_group_fault n m b (Err k) h = cc h
-
 fault_first : (p q r s : ℕ) (text : List ℕ) → group_bytes p q r s ≡ None → IsFault (p ∷ q ∷ r ∷ s ∷ text) 0
 fault_first p q r s text none = (omega arith, λ bytes h. no_four p q r s bytes none h, λ k lt. absurd (omega arith))
 
@@ -203,7 +196,7 @@ fault_is n m (p ∷ q ∷ r ∷ s ∷ text) h = elim (option_cases (group_bytes 
       let same : n ≡ m = cc e in
       (0, omega arith, fault_first p q r s text none)
   | inr some ↦
-      let rest : groups_from (suc n) text ≡ Err m = after_group_fault n m some.0 _ (rw some.1 at h) in
+      let rest : groups_from (suc n) text ≡ Err m = prepend_err some.0 m _ (rw some.1 at h) in
       let more = fault_is (suc n) m text rest in
       (suc more.0, omega (arith, more.1), fault_next p q r s more.0 text some.0 some.1 more.2)
 ]

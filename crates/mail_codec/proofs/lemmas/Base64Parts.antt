@@ -1,7 +1,7 @@
 -- A text read in parts: blocks of letters, groups that go over line ends, and what is absent.
 use Rattle.std.proofs.Common.{◌≡◌, ℕ, zero, suc, ◌+◌, ◌*◌, ◌/◌, ◌<◌, ◌≤◌, Bool, true, false, cond, List, [], ◌∷◌, ◌++◌, length, take, drop, get_or, replicate, set, Ok, refl, sym, ap, ◌∙◌, arith, inl, inr}
 use Rattle.std.proofs.lemmas.Bool.{cases_Bool}
-use Rattle.std.proofs.lemmas.List.{append_assoc, drop-drop, drop_more, take-append-drop, take-append-le, take_more_set, length-take-le, length-drop}
+use Rattle.std.proofs.lemmas.List.{append_assoc, drop-drop, drop_all, drop_more, take-append-drop, take-append-le, take_more_set, length-take-le, length-drop}
 use Rattle.std.proofs.Math.Seq.{take-add}
 use Rattle.std.specs.List.{prefix_len}
 use Rattle.mail_codec.specs.Base64.{letter_value, groups_from, prepend}
@@ -10,7 +10,7 @@ use Rattle.mail_codec.specs.private.Runs.{ends_run, without_ends}
 use Rattle.mail_codec.specs.private.Vectors.{is_letter}
 use Rattle.mail_codec.specs.declared.bytescan.runs.RunEnd.{RunEnd}
 use Rattle.mail_codec.specs.declared.bytescan.runs.RunEnd.TheVariants.{LineEnd, Whitespace}
-use Rattle.mail_codec.proofs.lemmas.Base64Groups.{groups_from-append, groups_from-nil, prepend-prepend, without_ends-append}
+use Rattle.mail_codec.proofs.lemmas.Base64Groups.{drop_four, groups_from-append, groups_from-nil, prepend-prepend, without_ends-append}
 use Rattle.mail_codec.proofs.lemmas.Base64Steps.{groups_end}
 
 -- ---- bytes that are kept
@@ -103,12 +103,7 @@ buffer_read whole old new bytes first count here later so_far read is =
 
 -- four items
 pub four_items : (xs : List ℕ) → length xs ≡ 4 → xs ≡ get_or xs 0 0 ∷ get_or xs 1 0 ∷ get_or xs 2 0 ∷ get_or xs 3 0 ∷ []
-four_items [] h = absurd (omega arith)
-four_items (a ∷ []) h = absurd (omega arith)
-four_items (a ∷ b ∷ []) h = absurd (omega arith)
-four_items (a ∷ b ∷ c ∷ []) h = absurd (omega arith)
-four_items (a ∷ b ∷ c ∷ d ∷ []) h = refl
-four_items (a ∷ b ∷ c ∷ d ∷ e ∷ xs) h = absurd (omega arith)
+four_items xs h = drop_four 0 xs (omega arith) ∙ ap (λ r. get_or xs 0 0 ∷ get_or xs 1 0 ∷ get_or xs 2 0 ∷ get_or xs 3 0 ∷ r) (drop_all 4 xs (omega arith))
 
 -- ---- steps
 

@@ -1,20 +1,12 @@
 -- Blocks of two vectors of 64 bytes, whose masks are put together.
-use Rattle.std.proofs.Common.{◌≡◌, ℕ, suc, ◌+◌, ◌-◌, ◌≤◌, Bool, ◌==◌, bit_or, List, [], ◌∷◌, length, take, drop, inl, inr, refl, sym, ap, ◌∙◌, arith}
-use Rattle.std.proofs.lemmas.Bool.{cases_Bool, cases_eq, ne_eqb, cases_lt}
+use Rattle.std.proofs.Common.{◌≡◌, ℕ, ◌+◌, ◌-◌, ◌≤◌, Bool, ◌==◌, bit_or, List, length, take, drop, inl, inr, refl, sym, ap, ◌∙◌, arith}
+use Rattle.std.proofs.lemmas.Bool.{cases_eq, ne_eqb, cases_lt}
 use Rattle.std.proofs.lemmas.List.{length-drop, length-take-le, drop-drop, drop-take, take-take}
 use Rattle.mail_codec.specs.Places.{first_place, begins}
 use Rattle.mail_codec.specs.private.Vectors.{lane_mask}
 use Rattle.mail_codec.proofs.lemmas.Places.{PassedTo, first_place-≤}
-use Rattle.mail_codec.proofs.lemmas.Vectors.{no_mark}
+use Rattle.mail_codec.proofs.lemmas.Vectors.{no_mark, free_mask}
 use Rattle.mail_codec.proofs.lemmas.PlacesSearches.{PassedTo-chunk, PassedTo-found, both_zero}
-
--- a mask is 0 where no lane passes
-pub free_mask : (test : ℕ → Bool) (v : List ℕ) → first_place (begins test) v ≡ length v → lane_mask test v ≡ 0
-free_mask test [] e = refl
-free_mask test (b ∷ v) e = elim (cases_Bool (test b)) [
-  | inl t ↦ let here : 0 ≡ suc (length v) = rw t at e in absurd (omega arith)
-  | inr t ↦ let past : suc (first_place (begins test) v) ≡ suc (length v) = rw t at e in let rest = free_mask test v (omega arith) in rw t (omega arith)
-]
 
 -- a part of a list from a place on lies within a longer one
 inside : (k m n : ℕ) (xs : List ℕ) → k + m ≤ n → take m (drop k (take n xs)) ≡ take m (drop k xs)
@@ -62,11 +54,8 @@ module _ (test : ℕ → Bool) (bytes : List ℕ) (at : ℕ) (fits : at + 128 �
   start = record { within = omega arith; later = omega arith }
 
   module _ (a b : ℕ) (is_a : a ≡ lane_mask test (take 64 (drop at bytes))) (is_b : b ≡ lane_mask test (vector 64)) where
-    first_vector : take 64 (drop at bytes) ≡ vector 0
-    first_vector = ap (λ (j : ℕ). take 64 (drop j bytes)) {x = at} {y = at + 0} (omega arith)
-
     is_first : a ≡ lane_mask test (vector 0)
-    is_first = is_a ∙ ap (lane_mask test) first_vector
+    is_first = is_a ∙ ap (λ (j : ℕ). lane_mask test (take 64 (drop j bytes))) {x = at} {y = at + 0} (omega arith)
 
     none_there : bit_or a b ≡ 0 → first_place (begins test) block ≡ 128
     none_there none =

@@ -1,6 +1,7 @@
 -- Texts in which each byte is one character: the tables, ASCII, and texts in pieces.
-use Rattle.std.proofs.Common.{◌≡◌, ℕ, ◌+◌, ◌-◌, ◌<◌, ◌≤◌, Bool, true, false, leb-false, List, [], ◌∷◌, ◌++◌, map, take, drop, length, get_or, IsAscii, refl, sym, ap, subst, append-nil, take-append-drop, ◌∙◌, encode_utf8, encode_utf8_all, append_assoc, arith, suc-le-suc, Fits, w8, map-id, ap₂, zero, suc, ◌==◌, ◌&&◌}
-use Rattle.std.proofs.lemmas.Bool.Decides.{nat_tests, Decides-below_and, Decides-eqb}
+use Rattle.std.proofs.Common.{◌≡◌, ℕ, ◌+◌, ◌-◌, ◌<◌, ◌≤◌, Bool, true, false, leb-false, List, [], ◌∷◌, ◌++◌, map, take, drop, length, get_or, IsAscii, refl, sym, ap, subst, append-nil, take-append-drop, ◌∙◌, encode_utf8, encode_utf8_all, append_assoc, arith, suc-le-suc, Fits, w8, map-id, ap₂, zero, suc, ◌==◌}
+use Rattle.std.proofs.lemmas.Bool.{agree_below, agree_below_at, eqb-true}
+use Rattle.std.proofs.lemmas.Bool.Decides.{nat_tests}
 use Rattle.std.proofs.Math.Seq.{take-add}
 use Rattle.std.proofs.lemmas.Str.{IsAscii-append, encodes-IsAscii, encodes-append}
 use Rattle.std.proofs.lemmas.List.{map-append, take_more, take-take}
@@ -18,46 +19,32 @@ spelled high bytes = encode_utf8_all (map (single_byte_char high) bytes)
 pub IsAscii-block : (bs : List ℕ) (n k : ℕ) → IsAscii (take n bs) → IsAscii (take ((n + k) - n) (drop n bs)) → IsAscii (take (n + k) bs)
 IsAscii-block bs n k front block = let e : (n + k) - n ≡ k = omega arith in rw take-add (IsAscii-append (take n bs) (take k (drop n bs)) front (rw e at block))
 
--- whether the two give the same of each number below n
-abbrev pub agree_below : (ℕ → ℕ) → (ℕ → ℕ) → ℕ → Bool
-agree_below f g zero = true
-agree_below f g (suc n) = (f n == g n) && agree_below f g n
-
 -- what gives the same of each number below n gives the same of a list of such numbers
 pub map_agree : (f g : ℕ → ℕ) (n : ℕ) → ((b : ℕ) → b < n → f b ≡ g b) → (bs : List ℕ) → ((k : ℕ) → k < length bs → get_or bs k 0 < n) → map f bs ≡ map g bs
 map_agree f g n same [] low = refl
 map_agree f g n same (b ∷ bs) low = ap₂ (λ x y. x ∷ y) (same b (low 0 (omega arith))) (map_agree f g n same bs (λ k h. low (suc k) (suc-le-suc h)))
 
 -- what the test finds
-pub agree : (f g : ℕ → ℕ) (n : ℕ) → agree_below f g n ≡ true → (b : ℕ) → b < n → f b ≡ g b
-agree f g n = (Decides-below_and (λ k. f k == g k) (λ k. f k ≡ g k) (agree_below f g) (λ k. Decides-eqb (f k) (g k)) refl (λ _. refl) n).0
-
--- each high half gives, of each byte, the character of its charset
-LATIN_1-is : (b : ℕ) → b < 256 → single_byte_char LATIN_1 b ≡ b
-LATIN_1-is = agree (single_byte_char LATIN_1) (λ b. b) 256 refl
-
-WINDOWS_1252-is : (b : ℕ) → b < 256 → single_byte_char WINDOWS_1252 b ≡ windows_1252_char b
-WINDOWS_1252-is = agree (single_byte_char WINDOWS_1252) windows_1252_char 256 refl
-
-ASCII-is : (b : ℕ) → b < 256 → single_byte_char ASCII b ≡ ascii_char b
-ASCII-is = agree (single_byte_char ASCII) ascii_char 256 refl
+pub agree : (f g : ℕ → ℕ) (n : ℕ) → agree_below (λ k. f k == g k) (λ _. true) n ≡ true → (b : ℕ) → b < n → f b ≡ g b
+agree f g n all b h = eqb-true _ _ (agree_below_at (λ k. f k == g k) (λ _. true) n b all h)
 
 -- each number of the list is a byte
 abbrev pub AreBytes : List ℕ → Type 0
 AreBytes bs = (k : ℕ) → Fits w8 (get_or bs k 0)
 
-byte_below : (bs : List ℕ) → AreBytes bs → (k : ℕ) → get_or bs k 0 < 256
-byte_below bs bytes k = let fits : Fits w8 (get_or bs k 0) = bytes k in omega arith
+-- a high half that gives, of each byte, the character of its charset gives the text of bytes
+spelled_by : (high : List ℕ) (char : ℕ → ℕ) → agree_below (λ b. single_byte_char high b == char b) (λ _. true) 256 ≡ true → (bs : List ℕ) → AreBytes bs → spelled high bs ≡ encode_utf8_all (map char bs)
+spelled_by high char all bs bytes =
+    ap encode_utf8_all (map_agree (single_byte_char high) char 256 (agree (single_byte_char high) char 256 all) bs (λ k _. let fits : Fits w8 (get_or bs k 0) = bytes k in omega arith))
 
--- and so of a list of bytes
 pub spelled_latin1 : (bs : List ℕ) → AreBytes bs → spelled LATIN_1 bs ≡ latin1_text bs
-spelled_latin1 bs bytes = ap encode_utf8_all (map_agree (single_byte_char LATIN_1) (λ b. b) 256 LATIN_1-is bs (λ k _. byte_below bs bytes k) ∙ map-id bs)
+spelled_latin1 bs bytes = spelled_by LATIN_1 (λ b. b) refl bs bytes ∙ ap encode_utf8_all (map-id bs)
 
 pub spelled_windows_1252 : (bs : List ℕ) → AreBytes bs → spelled WINDOWS_1252 bs ≡ encode_utf8_all (map windows_1252_char bs)
-spelled_windows_1252 bs bytes = ap encode_utf8_all (map_agree (single_byte_char WINDOWS_1252) windows_1252_char 256 WINDOWS_1252-is bs (λ k _. byte_below bs bytes k))
+spelled_windows_1252 = spelled_by WINDOWS_1252 windows_1252_char refl
 
 pub spelled_ascii : (bs : List ℕ) → AreBytes bs → spelled ASCII bs ≡ ascii_text bs
-spelled_ascii bs bytes = ap encode_utf8_all (map_agree (single_byte_char ASCII) ascii_char 256 ASCII-is bs (λ k _. byte_below bs bytes k))
+spelled_ascii = spelled_by ASCII ascii_char refl
 
 -- ASCII bytes are their own text
 single_byte_char_low : (high : List ℕ) (b : ℕ) → b < 128 → single_byte_char high b ≡ b

@@ -26,18 +26,14 @@ encode_four c from = let more : 128 ≤ c = omega arith in let most : 2048 ≤ c
 pub stored_two : (xs : List ℕ) (n a b : ℕ) → n + 4 ≤ length xs → take (n + 2) (set (set xs n a) (n + 1) b) ≡ take n xs ++ a ∷ b ∷ []
 stored_two xs n a b h =
     let e : n + 2 ≡ (n + 1) + 1 = omega arith in
-    let room : n + 1 < length (set xs n a) = rw length-set (omega arith) in
-    let first : n < length xs = omega arith in
-    rw (e, take_more_set (set xs n a) (n + 1) b room, take_more_set xs n a first, append_assoc) refl
+    rw (e, take_more_set (set xs n a) (n + 1) b (rw length-set (omega arith)), take_more_set xs n a (omega arith), append_assoc) refl
 
 pub stored_three : (xs : List ℕ) (n a b c : ℕ) → n + 4 ≤ length xs → take (n + 3) (set (set (set xs n a) (n + 1) b) (n + 2) c) ≡ take n xs ++ a ∷ b ∷ c ∷ []
 stored_three xs n a b c h =
     let e : n + 3 ≡ (n + 2) + 1 = omega arith in
-    let room : n + 2 < length (set (set xs n a) (n + 1) b) = simp length-set (omega arith) in
-    rw (e, take_more_set (set (set xs n a) (n + 1) b) (n + 2) c room, stored_two xs n a b h, append_assoc) refl
+    rw (e, take_more_set (set (set xs n a) (n + 1) b) (n + 2) c (simp length-set (omega arith)), stored_two xs n a b h, append_assoc) refl
 
 pub stored_four : (xs : List ℕ) (n a b c d : ℕ) → n + 4 ≤ length xs → take (n + 4) (set (set (set (set xs n a) (n + 1) b) (n + 2) c) (n + 3) d) ≡ take n xs ++ a ∷ b ∷ c ∷ d ∷ []
 stored_four xs n a b c d h =
     let e : n + 4 ≡ (n + 3) + 1 = omega arith in
-    let room : n + 3 < length (set (set (set xs n a) (n + 1) b) (n + 2) c) = simp length-set (omega arith) in
-    rw (e, take_more_set (set (set (set xs n a) (n + 1) b) (n + 2) c) (n + 3) d room, stored_three xs n a b c h, append_assoc) refl
+    rw (e, take_more_set (set (set (set xs n a) (n + 1) b) (n + 2) c) (n + 3) d (simp length-set (omega arith)), stored_three xs n a b c h, append_assoc) refl

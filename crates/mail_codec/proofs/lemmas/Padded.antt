@@ -1,6 +1,6 @@
 -- Padded groups filled up, read, and cut.
-use Rattle.std.proofs.Common.{◌≡◌, ℕ, zero, suc, ◌+◌, ◌*◌, ◌/◌, ◌%◌, ◌<◌, ◌≤◌, ◌==◌, ◌&&◌, Bool, cond, List, [], ◌∷◌, ◌++◌, length, take, drop, slice_index, Option, Some, None, true, false, Ok, refl, sym, ap, ◌∙◌, arith, inl, inr}
-use Rattle.std.proofs.lemmas.Bool.{cases_Bool, eqb-true}
+use Rattle.std.proofs.Common.{◌≡◌, ◌≢◌, ℕ, zero, suc, ◌+◌, ◌*◌, ◌/◌, ◌%◌, ◌<◌, ◌≤◌, ◌==◌, ◌&&◌, Bool, cond, List, [], ◌∷◌, ◌++◌, length, take, drop, slice_index, Option, Some, None, true, false, Ok, refl, sym, ap, ◌∙◌, arith, inl, inr}
+use Rattle.std.proofs.lemmas.Bool.{cases_Bool, eqb-true, eqb-false}
 use Rattle.std.proofs.lemmas.List.{append_assoc, drop_all, take-append-le, take-take, drop-append-le, length-append, append-nil, drop-drop}
 use Rattle.std.proofs.lemmas.List.Sums.{prefix_len_passes}
 use Rattle.std.specs.List.{prefix_len}
@@ -13,7 +13,7 @@ use Rattle.mail_codec.specs.private.Padded.{zero_letter, third, fourth, filled, 
 use Rattle.base64.specs.GeneralPurpose.{IsBytes, decode_of}
 use Rattle.base64.specs.Engines.{standard}
 use Rattle.mail_codec.proofs.lemmas.Base64Groups.{drop_four, after_group_ok, prepend-nil}
-use Rattle.mail_codec.proofs.lemmas.Base64Steps.{groups_decoded}
+use Rattle.mail_codec.proofs.lemmas.Base64Steps.{group_bytes-no_padding, groups_decoded}
 
 -- `A` has the value 0
 zero_value : letter_value zero_letter ≡ Some 0
@@ -30,25 +30,6 @@ cut_values n None b c d bytes h = cc h
 cut_values n (Some a) None c d bytes h = cc h
 cut_values n (Some a) (Some b) None d bytes h = cc h
 cut_values n (Some a) (Some b) (Some c) None bytes h = cc h
-
--- a group that reads once it is filled up stands for the first of its bytes
-group_cut : (p q r s : ℕ) (bytes : List ℕ) → group_bytes p q (third r s) (fourth s) ≡ Some bytes
-    → (group_bytes p q r s ≡ Some (take (group_len r s) bytes)) × (length bytes ≡ 3)
-unfolding group_bytes
-group_cut p q r s bytes h = elim (cases_Bool (s == padding)) [
-  | inr whole ↦
-      let same : group_bytes p q r s ≡ Some bytes = rw whole at h in
-      let full : bytes_of_values 3 (letter_value p) (letter_value q) (letter_value r) (letter_value s) ≡ Some bytes = rw whole at same in
-      rw whole (cut_values 3 (letter_value p) (letter_value q) (letter_value r) (letter_value s) bytes full)
-  | inl short ↦ elim (cases_Bool (r == padding)) [
-    | inl both ↦
-        let full : bytes_of_values 3 (letter_value p) (letter_value q) (Some 0) (Some 0) ≡ Some bytes = rw (short, both, zero_value) at h in
-        rw (short, both) (cut_values 1 (letter_value p) (letter_value q) (Some 0) (Some 0) bytes full)
-    | inr one ↦
-        let full : bytes_of_values 3 (letter_value p) (letter_value q) (letter_value r) (Some 0) ≡ Some bytes = rw (short, one, zero_value) at h in
-        rw (short, one) (cut_values 2 (letter_value p) (letter_value q) (letter_value r) (Some 0) bytes full)
-  ]
-]
 
 -- what holds where there is no padding, and where there is one or two, always does
 by_padding : (P : Bool → Bool → Type 0) → ((y : Bool) → P false y) → P true true → P true false → (x y : Bool) → P x y
@@ -70,6 +51,14 @@ group_bytes-filled p q r s = elim (cases_Bool (s == padding)) [
     | inr one ↦ rw (short, one, zero_value) refl
   ]
 ]
+
+-- so a group that reads once it is filled up stands for the first of its bytes
+group_cut : (p q r s : ℕ) (bytes : List ℕ) → group_bytes p q (third r s) (fourth s) ≡ Some bytes
+    → (group_bytes p q r s ≡ Some (take (group_len r s) bytes)) × (length bytes ≡ 3)
+group_cut p q r s bytes h =
+    let unpadded : fourth s ≢ padding = elim (cases_Bool (s == padding)) [ inl e ↦ rw e (omega arith) | inr e ↦ rw e (eqb-false s padding e) ] in
+    let cut = cut_values (group_len r s) _ _ _ _ bytes (sym (group_bytes-no_padding p q (third r s) (fourth s) unpadded) ∙ h) in
+    (group_bytes-filled p q r s ∙ cut.0, cut.1)
 
 -- three bytes before others
 front_of : (c d : List ℕ) (k : ℕ) → length c ≡ 3 → k ≤ 3 → (take k (c ++ d) ≡ take k c) × (drop 3 (c ++ d) ≡ d)

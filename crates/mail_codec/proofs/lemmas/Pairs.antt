@@ -7,8 +7,7 @@ use Rattle.mail_codec.specs.Places.{first_place, begins, stands}
 use Rattle.mail_codec.specs.private.Vectors.{is_set, lane_mask, pair_flags}
 use Rattle.std.specs.Int.{w64, trailing_zeros}
 use Rattle.mail_codec.proofs.lemmas.Places.{PassedTo, first_place-≤, first_place-drop}
-use Rattle.mail_codec.proofs.lemmas.Blocks.{free_mask}
-use Rattle.mail_codec.proofs.lemmas.Vectors.{no_mark, lowest_mark}
+use Rattle.mail_codec.proofs.lemmas.Vectors.{no_mark, lowest_mark, free_mask}
 use lib.Lanes.{zip2, mask_l, top}
 
 -- ---- the mask of the flags

@@ -2,9 +2,41 @@
 use Rattle.std.proofs.Common.{◌≢◌, ◌-◌, sym, length-drop, ◌≡◌, ℕ, zero, suc, ◌+◌, ◌<◌, ◌≤◌, Bool, true, false, cond, List, [], ◌∷◌, length, drop, get_or, Some, inl, inr, refl, ap, subst, ◌∙◌, arith}
 use Rattle.std.specs.Prelude.{nat_eq}
 use Rattle.std.specs.List.{position_or_len, starts_with}
-use Rattle.std.proofs.lemmas.Bool.{cases_Bool, false≢true, cases_lt, lt-ltb}
+use Rattle.std.proofs.lemmas.Bool.{cases_Bool, cases_lt, lt-ltb}
 use Rattle.std.proofs.lemmas.List.{drop_more, drop-drop}
 use Rattle.mail_codec.specs.Places.{first_place, place_from, begins, stands, place, least, IsFirstPlace}
+
+-- ---- the least number
+
+-- a number below the bound that passes and below which none passes is the least
+pub least-is : (test : ℕ → Bool) (bound n : ℕ) → n ≤ bound → ((k : ℕ) → k < n → test k ≡ false) → (n < bound → test n ≡ true) → least test bound ≡ n
+least-is test zero n h below at = omega arith
+least-is test (suc bound) zero h below at = let e : test 0 ≡ true = at (omega arith) in rw e refl
+least-is test (suc bound) (suc n) h below at =
+    let e : test 0 ≡ false = below 0 (omega arith) in
+    rw e (ap suc (least-is (λ k. test (suc k)) bound n (omega arith) (λ k low. below (suc k) (omega arith)) (λ low. at (omega arith))))
+
+-- no number below it passes
+pub least-before : (test : ℕ → Bool) (bound k : ℕ) → k < least test bound → test k ≡ false
+least-before test zero k h = absurd (omega arith)
+least-before test (suc bound) k h = by_test (test 0) refl k h (least-before (λ n. test (suc n)) bound)
+  where
+    by_test : (v : Bool) → test 0 ≡ v → (k : ℕ) → k < least test (suc bound) → ((j : ℕ) → j < least (λ n. test (suc n)) bound → test (suc j) ≡ false) → test k ≡ false
+    by_test true e k h later = let z : least test (suc bound) ≡ 0 = rw e refl in absurd (omega arith)
+    by_test false e zero h later = e
+    by_test false e (suc k) h later = let s : least test (suc bound) ≡ suc (least (λ n. test (suc n)) bound) = rw e refl in later k (omega arith)
+
+-- below the bound, it passes
+pub least-passes : (test : ℕ → Bool) (bound : ℕ) → least test bound < bound → test (least test bound) ≡ true
+least-passes test zero h = absurd (omega arith)
+least-passes test (suc bound) h = elim (cases_Bool (test 0)) [
+  | inl e ↦ rw e e
+  | inr e ↦
+      let s : least test (suc bound) ≡ suc (least (λ n. test (suc n)) bound) = rw e refl in
+      rw s (least-passes (λ n. test (suc n)) bound (omega arith))
+]
+
+-- ---- the least place
 
 -- it lies within the bytes
 pub first_place-≤ : (test : List ℕ → Bool) (bytes : List ℕ) → first_place test bytes ≤ length bytes
@@ -28,26 +60,20 @@ first_place-past_at test bytes i h e =
     let cut = drop_more bytes i 0 h in
     ap (first_place test) cut ∙ first_place-past test (get_or bytes i 0) (drop (i + 1) bytes) (subst (λ (x : List ℕ). test x ≡ false) cut e)
 
+-- it is the least number of bytes after which the rest passes
+first_place-least : (test : List ℕ → Bool) (bytes : List ℕ) → first_place test bytes ≡ least (λ k. test (drop k bytes)) (length bytes)
+first_place-least test [] = refl
+first_place-least test (b ∷ rest) = ap (λ n. cond (test (b ∷ rest)) 0 (suc n)) (first_place-least test rest)
+
 -- the rest from there on passes
 pub first_place-passes : (test : List ℕ → Bool) (bytes : List ℕ) → first_place test bytes < length bytes → test (drop (first_place test bytes) bytes) ≡ true
-first_place-passes test [] h = absurd (omega arith)
-first_place-passes test (b ∷ rest) h = by_test (test (b ∷ rest)) refl (first_place-passes test rest)
-  where
-    by_test : (v : Bool) → test (b ∷ rest) ≡ v → (first_place test rest < length rest → test (drop (first_place test rest) rest) ≡ true) → test (drop (first_place test (b ∷ rest)) (b ∷ rest)) ≡ true
-    by_test true e later = rw e e
-    by_test false e later =
-        let past = first_place-past test b rest e in
-        rw e (later (omega arith))
+first_place-passes test bytes h =
+    let is = first_place-least test bytes in
+    subst (λ n. test (drop n bytes) ≡ true) (sym is) (least-passes (λ k. test (drop k bytes)) (length bytes) (omega arith))
 
 -- no rest from an earlier place does
 pub first_place-before : (test : List ℕ → Bool) (bytes : List ℕ) (k : ℕ) → k < first_place test bytes → test (drop k bytes) ≡ false
-first_place-before test [] k h = absurd (omega arith)
-first_place-before test (b ∷ rest) k h = by_test (test (b ∷ rest)) refl k h (first_place-before test rest)
-  where
-    by_test : (v : Bool) → test (b ∷ rest) ≡ v → (k : ℕ) → k < first_place test (b ∷ rest) → ((j : ℕ) → j < first_place test rest → test (drop j rest) ≡ false) → test (drop k (b ∷ rest)) ≡ false
-    by_test true e k h later = let here = first_place-here test (b ∷ rest) e in absurd (omega arith)
-    by_test false e zero h later = e
-    by_test false e (suc k) h later = let past = first_place-past test b rest e in later k (omega arith)
+first_place-before test bytes k h = least-before (λ n. test (drop n bytes)) (length bytes) k (omega (arith, first_place-least test bytes))
 
 -- all three
 pub first_place-is_first : (test : List ℕ → Bool) (bytes : List ℕ) → IsFirstPlace test bytes (first_place test bytes)
@@ -60,15 +86,11 @@ first_place-is_first test bytes = record {
 pub true_not_false : {v : Bool} → v ≡ true → v ≡ false → ⊥
 true_not_false a b = cc
 
-IsFirstPlace-≤ : (test : List ℕ → Bool) (bytes : List ℕ) (p q : ℕ) → IsFirstPlace test bytes p → IsFirstPlace test bytes q → p ≤ q
-IsFirstPlace-≤ test bytes p q h k = elim (cases_lt q p) [ inl below ↦ absurd (true_not_false (k.passes (let w = h.within in omega arith)) (h.before q below)) | inr above ↦ above ]
-
 -- two least places of one property are one
 pub IsFirstPlace-unique : (test : List ℕ → Bool) (bytes : List ℕ) (p q : ℕ) → IsFirstPlace test bytes p → IsFirstPlace test bytes q → p ≡ q
 IsFirstPlace-unique test bytes p q h k =
-    let low = IsFirstPlace-≤ test bytes p q h k in
-    let high = IsFirstPlace-≤ test bytes q p k h in
-    omega arith
+    let is : (p : ℕ) → IsFirstPlace test bytes p → least (λ k. test (drop k bytes)) (length bytes) ≡ p = λ p h. least-is (λ k. test (drop k bytes)) (length bytes) p h.within h.before h.passes in
+    sym (is p h) ∙ is q k
 
 -- a search that has come to place i, and whose result is the first place from there on
 pub record PassedTo (test : List ℕ → Bool) (bytes : List ℕ) (answer i : ℕ) : Type 0 where
@@ -118,12 +140,10 @@ pub first_place-drop : (test : List ℕ → Bool) (bytes : List ℕ) (k : ℕ) �
     → first_place test (drop k bytes) + k ≡ first_place test bytes
 first_place-drop test bytes zero h = omega arith
 first_place-drop test [] (suc k) h = absurd (omega arith)
-first_place-drop test (b ∷ bytes) (suc k) h = go (test (b ∷ bytes)) refl (first_place-drop test bytes k)
-  where
-    go : (t : Bool) → test (b ∷ bytes) ≡ t → (k ≤ first_place test bytes → first_place test (drop k bytes) + k ≡ first_place test bytes)
-        → first_place test (drop k bytes) + suc k ≡ first_place test (b ∷ bytes)
-    go true e ih = let here = first_place-here test (b ∷ bytes) e in absurd (omega arith)
-    go false e ih = let later = first_place-past test b bytes e in let same = ih (omega arith) in omega arith
+first_place-drop test (b ∷ bytes) (suc k) h = elim (cases_Bool (test (b ∷ bytes))) [
+  | inl e ↦ let here = first_place-here test (b ∷ bytes) e in absurd (omega arith)
+  | inr e ↦ let later = first_place-past test b bytes e in let same = first_place-drop test bytes k (omega arith) in omega arith
+]
 
 -- a place found lies at or after the start, and within the length
 pub place_from_bounds : (test : List ℕ → Bool) (bytes : List ℕ) (s : ℕ) → s ≤ length bytes
@@ -149,74 +169,27 @@ pub place_from_same : (test : List ℕ → Bool) (bytes : List ℕ) (s k : ℕ) 
 place_from_same test bytes s k low high =
     let d = k - s in
     let same = first_place-drop test (drop s bytes) d (omega arith) in
-    let there : drop d (drop s bytes) ≡ drop k bytes = drop-drop d s bytes ∙ ap (λ n. drop n bytes) (omega arith) in
-    let moved : first_place test (drop k bytes) + d ≡ first_place test (drop s bytes) = subst (λ rest. first_place test rest + d ≡ first_place test (drop s bytes)) there same in
+    let there = ap (first_place test) (drop-drop d s bytes ∙ ap (λ n. drop n bytes) {x = s + d} {y = k} (omega arith)) in
     omega arith
 
 -- a place whose rest passes is the one found from it
 pub place_from_here : (test : List ℕ → Bool) (bytes : List ℕ) (s : ℕ) → s < length bytes → test (drop s bytes) ≡ true
     → place_from test bytes s ≡ s
-place_from_here test bytes s h e =
-    let first = drop_more bytes s 0 h in
-    let here : first_place test (drop s bytes) ≡ 0 = subst (λ rest. test rest ≡ true → first_place test rest ≡ 0) (sym first) (first_place-here test (get_or bytes s 0 ∷ drop (s + 1) bytes)) e in
-    omega arith
+place_from_here test bytes s h e = omega (arith, first_place-here test (drop s bytes) e)
 
 -- a place whose rest fails is passed over
 pub place_from_next : (test : List ℕ → Bool) (bytes : List ℕ) (s : ℕ) → s < length bytes → test (drop s bytes) ≡ false
     → place_from test bytes s ≡ place_from test bytes (s + 1)
-place_from_next test bytes s h e =
-    let first = drop_more bytes s 0 h in
-    let later : first_place test (drop s bytes) ≡ suc (first_place test (drop (s + 1) bytes)) =
-    subst (λ rest. test rest ≡ false → first_place test rest ≡ suc (first_place test (drop (s + 1) bytes))) (sym first)
-    (first_place-past test (get_or bytes s 0) (drop (s + 1) bytes)) e in
-    omega arith
+place_from_next test bytes s h e = omega (arith, first_place-past_at test bytes s h e)
 
 first_place_weaker : (test stronger : List ℕ → Bool) → ((rest : List ℕ) → stronger rest ≡ true → test rest ≡ true) → (bytes : List ℕ)
     → first_place test bytes ≤ first_place stronger bytes
-first_place_weaker test stronger implies [] = omega arith
-first_place_weaker test stronger implies (b ∷ bytes) = go (test (b ∷ bytes)) (stronger (b ∷ bytes)) refl refl (first_place_weaker test stronger implies bytes)
-  where
-    go : (t u : Bool) → test (b ∷ bytes) ≡ t → stronger (b ∷ bytes) ≡ u → first_place test bytes ≤ first_place stronger bytes
-        → first_place test (b ∷ bytes) ≤ first_place stronger (b ∷ bytes)
-    go true u e f ih = let here = first_place-here test (b ∷ bytes) e in omega arith
-    go false true e f ih = absurd (false≢true (sym e ∙ implies (b ∷ bytes) f))
-    go false false e f ih =
-        let later = first_place-past test b bytes e in
-        let later' = first_place-past stronger b bytes f in
-        omega arith
+first_place_weaker test stronger implies bytes = elim (cases_lt (first_place stronger bytes) (first_place test bytes)) [
+  | inl lt ↦ absurd (true_not_false (implies _ (first_place-passes stronger bytes (omega (arith, first_place-≤ test bytes)))) (first_place-before test bytes _ lt))
+  | inr ge ↦ ge
+]
 
 -- a test that passes wherever another does has its place at or before that one's
 pub place_from_weaker : (test stronger : List ℕ → Bool) → ((rest : List ℕ) → stronger rest ≡ true → test rest ≡ true) → (bytes : List ℕ) (s : ℕ)
     → place_from test bytes s ≤ place_from stronger bytes s
 place_from_weaker test stronger implies bytes s = let le = first_place_weaker test stronger implies (drop s bytes) in omega arith
-
--- ---- the least number
-
--- a number below the bound that passes and below which none passes is the least
-pub least-is : (test : ℕ → Bool) (bound n : ℕ) → n ≤ bound → ((k : ℕ) → k < n → test k ≡ false) → (n < bound → test n ≡ true) → least test bound ≡ n
-least-is test zero n h below at = omega arith
-least-is test (suc bound) zero h below at = let e : test 0 ≡ true = at (omega arith) in rw e refl
-least-is test (suc bound) (suc n) h below at =
-    let e : test 0 ≡ false = below 0 (omega arith) in
-    rw e (ap suc (least-is (λ k. test (suc k)) bound n (omega arith) (λ k low. below (suc k) (omega arith)) (λ low. at (omega arith))))
-
--- no number below it passes
-pub least-before : (test : ℕ → Bool) (bound k : ℕ) → k < least test bound → test k ≡ false
-least-before test zero k h = absurd (omega arith)
-least-before test (suc bound) k h = by_test (test 0) refl k h (least-before (λ n. test (suc n)) bound)
-  where
-    by_test : (v : Bool) → test 0 ≡ v → (k : ℕ) → k < least test (suc bound) → ((j : ℕ) → j < least (λ n. test (suc n)) bound → test (suc j) ≡ false) → test k ≡ false
-    by_test true e k h later = let z : least test (suc bound) ≡ 0 = rw e refl in absurd (omega arith)
-    by_test false e zero h later = e
-    by_test false e (suc k) h later = let s : least test (suc bound) ≡ suc (least (λ n. test (suc n)) bound) = rw e refl in later k (omega arith)
-
--- below the bound, it passes
-pub least-passes : (test : ℕ → Bool) (bound : ℕ) → least test bound < bound → test (least test bound) ≡ true
-least-passes test zero h = absurd (omega arith)
-least-passes test (suc bound) h = by_test (test 0) refl (least-passes (λ n. test (suc n)) bound)
-  where
-    by_test : (v : Bool) → test 0 ≡ v → (least (λ n. test (suc n)) bound < bound → test (suc (least (λ n. test (suc n)) bound)) ≡ true) → test (least test (suc bound)) ≡ true
-    by_test true e later = rw e e
-    by_test false e later =
-        let s : least test (suc bound) ≡ suc (least (λ n. test (suc n)) bound) = rw e refl in
-        rw s (later (omega arith))

@@ -1,9 +1,9 @@
 -- Searches that go over words and steps.
-use Rattle.std.proofs.Common.{◌≡◌, ℕ, zero, suc, ◌+◌, ◌*◌, ◌/◌, ◌<◌, ◌≤◌, ◌≢◌, bit_or, Bool, true, false, ◌==◌, ◌&&◌, None, Some, List, [], ◌∷◌, length, take, drop, get_or, inl, inr, refl, sym, ap, subst, ◌∙◌, arith}
+use Rattle.std.proofs.Common.{◌≡◌, ℕ, zero, suc, ◌+◌, ◌*◌, ◌/◌, ◌<◌, ◌≤◌, ◌≢◌, bit_or, Bool, true, false, ◌==◌, None, Some, List, [], ◌∷◌, length, take, drop, get_or, inl, inr, refl, sym, ap, subst, ◌∙◌, arith}
 use Rattle.std.specs.Int.{w64, trailing_zeros}
 use Rattle.std.specs.List.{slice_get}
 use Rattle.std.specs.Simd.{first_chunks}
-use Rattle.std.proofs.lemmas.Bool.{cases_Bool, cases_lt, lt-ltb, le-ltb}
+use Rattle.std.proofs.lemmas.Bool.{and_parts, cases_Bool, cases_lt, lt-ltb, le-ltb}
 use Rattle.std.proofs.lemmas.List.{drop-drop, length-drop, length-take-le, take_all}
 use Rattle.std.proofs.lemmas.Nat.{le_or_l, le_or_r}
 use Rattle.std.proofs.Math.Nat.{mul-suc}
@@ -64,12 +64,6 @@ PassedTo-found test bytes chunk answer at n h fits is found =
     let later = h.later in
     omega arith
 
--- a chunk of a list, as a loop over the chunks meets it
-chunk_is : (n : ℕ) (bytes : List ℕ) (chunks : List (List ℕ)) (i at : ℕ) → chunks ≡ first_chunks n (length bytes / n) bytes
-    → i < length bytes / n → at ≡ n * i → get_or chunks i [] ≡ take n (drop at bytes)
-chunk_is n bytes chunks i at is l place =
-    ap (λ (cs : List (List ℕ)). get_or cs i []) is ∙ chunk_at n (length bytes / n) bytes i l ∙ ap (λ (j : ℕ). take n (drop j bytes)) (sym place)
-
 -- the last n bytes, of which some were passed over before
 pub last_chunk : (test : ℕ → Bool) (bytes : List ℕ) (n at last p : ℕ) → PassedTo (begins test) bytes (first_place (begins test) bytes) at → last + n ≡ length bytes → last ≤ at
     → p ≡ first_place (begins test) (take n (drop last bytes)) → first_place (begins test) bytes ≡ last + p
@@ -114,7 +108,8 @@ marked_first test bs m len is some =
 module _ (test : ℕ → Bool) (bytes : List ℕ) (words : List (List ℕ)) (i at mask : ℕ) (are : words ≡ first_chunks 8 (length bytes / 8) bytes)
     (within : i < length bytes / 8) (place : at ≡ 8 * i) (marks : IsMask test (get_or words i []) mask) where
   pub word_is : get_or words i [] ≡ take 8 (drop at bytes)
-  word_is = chunk_is 8 bytes words i at are within place
+  word_is =
+      ap (λ (cs : List (List ℕ)). get_or cs i []) are ∙ chunk_at 8 (length bytes / 8) bytes i within ∙ ap (λ (j : ℕ). take 8 (drop j bytes)) (sym place)
 
   -- it has the first place, or the search goes on after it
   pub word_found : (answer : ℕ) → PassedTo (begins test) bytes answer at → mask ≢ 0 → (at + trailing_zeros w64 mask / 8 ≡ answer) × (trailing_zeros w64 mask / 8 < 8)
@@ -150,14 +145,10 @@ PassedTo-weaker weak strong implies bytes rest answer at n h is place =
 
 -- ---- a text found by its first byte
 
-both_first : (s t : Bool) → s && t ≡ true → s ≡ true
-both_first true t h = refl
-both_first false t h = h
-
 stands_begins : (needle rest : List ℕ) → 0 < length needle → stands needle rest ≡ true → begins (λ b. b == get_or needle 0 0) rest ≡ true
 stands_begins [] rest some h = absurd (omega arith)
 stands_begins (n ∷ needle) [] some h = h
-stands_begins (n ∷ needle) (b ∷ rest) some h = (Decides-eqb b n).1 (sym ((Decides-eqb n b).0 (both_first (n == b) _ h)))
+stands_begins (n ∷ needle) (b ∷ rest) some h = (Decides-eqb b n).1 (sym ((Decides-eqb n b).0 (and_parts (n == b) _ h).0))
 
 -- up to the first place of its first byte, the text stands nowhere
 pub PassedTo-first_byte : (needle bytes rest : List ℕ) (answer at n : ℕ) → 0 < length needle → PassedTo (stands needle) bytes answer at

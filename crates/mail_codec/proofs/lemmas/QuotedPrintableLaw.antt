@@ -1,12 +1,12 @@
 -- The lines that the function finds are the lines of the text, and no others are.
 use Rattle.std.proofs.Common.{◌≡◌, ◌≢◌, ℕ, suc, ◌-◌, true, false, List, [], ◌∷◌, ◌++◌, length, take, refl, sym, ap, ◌∙◌, arith, inl, inr, ◌↔◌, All}
 use Rattle.std.specs.List.{flat_map, slice_split, onto_first, join_with_byte}
-use Rattle.std.proofs.lemmas.Bool.{cases_Bool, eqb-true, eqb-false, ne_eqb, eq-eqb}
-use Rattle.std.proofs.lemmas.List.{append-nil, append_assoc, length-append, take_at}
+use Rattle.std.proofs.lemmas.Bool.{cases_Bool, eqb-true, eqb-false, ne_eqb}
+use Rattle.std.proofs.lemmas.List.{append-nil, append_assoc}
 use Rattle.std.proofs.lemmas.List.Elements.{All-nil, All-cons, All-head, All-tail, All-take, All-push, All-weaker}
 use Rattle.std.proofs.lemmas.List.Splits.{slice_split_none, slice_split_at, join_with_byte-slice_split}
 use Rattle.mail_codec.specs.QuotedPrintable.{Line, ends_in, without_last, lf, cr_lf, IsEndedLine, IsLastLine, AreEnded, AreLines, IsQuotedPrintable, ended_line, lines_of_pieces, lines_of, line_bytes, quoted_printable}
-use Rattle.mail_codec.proofs.lemmas.QuotedPrintableLines.{is_lf, split_some, lines_of_more}
+use Rattle.mail_codec.proofs.lemmas.QuotedPrintableLines.{ends_in-push, without_last-push, is_lf, split_some, lines_of_more}
 
 abbrev HasNoLf : List ℕ → Type 0
 HasNoLf bytes = All (λ b. b ≢ 10) bytes
@@ -18,16 +18,6 @@ no_lf : (bytes : List ℕ) → HasNoLf bytes → All (λ b. is_lf b ≡ false) b
 no_lf bytes h = All-weaker (λ b. b ≢ 10) (λ b. is_lf b ≡ false) (λ b. ne_eqb b 10) bytes h
 
 -- ---- the last byte
-
-ends_in-push : (c : ℕ) (xs : List ℕ) → ends_in c (xs ++ c ∷ []) ≡ true
-ends_in-push c [] = eq-eqb c c refl
-ends_in-push c (x ∷ []) = eq-eqb c c refl
-ends_in-push c (x ∷ y ∷ xs) = ends_in-push c (y ∷ xs)
-
-without_last-push : (c : ℕ) (xs : List ℕ) → without_last (xs ++ c ∷ []) ≡ xs
-without_last-push c xs =
-    let len : length (xs ++ c ∷ []) - 1 ≡ length xs = omega (arith, length-append xs (c ∷ [])) in
-    ap (λ (n : ℕ). take n (xs ++ c ∷ [])) len ∙ take_at xs (c ∷ []) (length xs) refl
 
 push-without_last : (c : ℕ) (xs : List ℕ) → ends_in c xs ≡ true → xs ≡ without_last xs ++ c ∷ []
 push-without_last c [] h = cc h

@@ -4,13 +4,13 @@ use Rattle.std.specs.Prelude.{nat_eq}
 use Rattle.std.specs.List.{flat_map, slice_split, onto_first, position_or_len, before_first, after_first, suffix_len}
 use lib.Pointwise.{pointwise}
 use Rattle.std.proofs.Math.Bool.{and-true}
-use Rattle.std.proofs.lemmas.Bool.{cases_Bool}
-use Rattle.std.proofs.lemmas.List.{append-nil, append_assoc, drop-drop, drop_all, take_all, length-drop}
+use Rattle.std.proofs.lemmas.Bool.{cases_Bool, eq-eqb}
+use Rattle.std.proofs.lemmas.List.{append-nil, append_assoc, drop-drop, drop_all, take_all, take_at, length-append, length-drop}
 use Rattle.std.proofs.lemmas.List.Splits.{slice_split_none, slice_split_first}
 use Rattle.std.proofs.lemmas.List.Sums.{fails_before_first}
 use Rattle.mail_codec.specs.Ascii.{is_blank}
 use Rattle.mail_codec.specs.Places.{first_place, begins, trimmed_at_end}
-use Rattle.mail_codec.specs.QuotedPrintable.{Line, ends_in, lf, cr_lf, ended_line, lines_of_pieces, lines_of, line_bytes, quoted_printable, unescaped}
+use Rattle.mail_codec.specs.QuotedPrintable.{Line, ends_in, without_last, lf, cr_lf, ended_line, lines_of_pieces, lines_of, line_bytes, quoted_printable, unescaped}
 use Rattle.mail_codec.proofs.lemmas.Places.{first_place-begins}
 
 -- the last byte, as std's `strip_suffix` tests it
@@ -20,6 +20,17 @@ ends_in-suffix c (x ∷ []) = sym (and-true (x == c))
 ends_in-suffix c (x ∷ y ∷ xs) =
     let e : suc (suc (length xs)) - 1 ≡ suc (suc (length xs) - 1) = omega arith in
     ends_in-suffix c (y ∷ xs) ∙ ap (λ (k : ℕ). pointwise nat_eq (drop k (x ∷ y ∷ xs)) (c ∷ [])) (sym e)
+
+-- what ends in a byte, and what stands before it
+pub ends_in-push : (c : ℕ) (xs : List ℕ) → ends_in c (xs ++ c ∷ []) ≡ true
+ends_in-push c [] = eq-eqb c c refl
+ends_in-push c (x ∷ []) = eq-eqb c c refl
+ends_in-push c (x ∷ y ∷ xs) = ends_in-push c (y ∷ xs)
+
+pub without_last-push : (c : ℕ) (xs : List ℕ) → without_last (xs ++ c ∷ []) ≡ xs
+without_last-push c xs =
+    let len : length (xs ++ c ∷ []) - 1 ≡ length xs = omega (arith, length-append xs (c ∷ [])) in
+    ap (λ (n : ℕ). take n (xs ++ c ∷ [])) len ∙ take_at xs (c ∷ []) (length xs) refl
 
 -- ---- the bytes of a line
 

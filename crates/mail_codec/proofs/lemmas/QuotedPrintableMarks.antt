@@ -17,7 +17,7 @@ use Rattle.mail_codec.specs.private.Vectors.{lane_mask}
 use Rattle.mail_codec.proofs.lemmas.Places.{first_place-≤, first_place-before, first_place-passes, first_place-begins}
 use Rattle.mail_codec.proofs.lemmas.Written.{written_rest, stored_after}
 use Rattle.mail_codec.proofs.lemmas.QuotedPrintableEscapes.{unescaped_stays, unescaped_escape, unescaped-nil, first_escape-other}
-use Rattle.mail_codec.proofs.lemmas.QuotedPrintableLines.{is_lf, split_some, line_read, line_last, nothing_left}
+use Rattle.mail_codec.proofs.lemmas.QuotedPrintableLines.{ends_in-push, without_last-push, is_lf, split_some, line_read, line_last, nothing_left}
 
 -- ---- what begins with bytes of which the last is no blank, no CR and no `=`
 
@@ -372,28 +372,13 @@ lf_place text from to low high no_lf lf_there =
     (λ lt. ap is_lf (get_or-drop from text (to - from) 0 ∙ ap (λ (j : ℕ). get_or text j 0) {x = from + (to - from)} {y = to} (omega arith) ∙ lf_there (omega arith))) in
     omega arith
 
-line_end : (text : List ℕ) (from to : ℕ) → from ≤ to → to ≤ length text → IsPlain text from to → (to < length text → get_or text to 0 ≡ 10)
-    → to ≡ from + first_place (begins is_lf) (drop from text)
-line_end text from to low high plain = lf_place text from to low high plain.no_lf
-
 -- ---- a line that a soft line break ends
-
-ends_in-last : (c : ℕ) → (c == c) ≡ true → (xs : List ℕ) → ends_in c (xs ++ c ∷ []) ≡ true
-ends_in-last c same [] = same
-ends_in-last c same (x ∷ []) = same
-ends_in-last c same (x ∷ y ∷ xs) = ends_in-last c same (y ∷ xs)
-
-without_last-last : (c : ℕ) (xs : List ℕ) → without_last (xs ++ c ∷ []) ≡ xs
-without_last-last c xs =
-    ap (λ (k : ℕ). take k (xs ++ c ∷ [])) {x = length (xs ++ c ∷ []) - 1} {y = length xs + 0} (omega (arith, length-append xs (c ∷ [])))
-    ∙ take-append-add xs (c ∷ []) 0
-    ∙ append-nil xs
 
 soft_line : (piece ending : List ℕ) → HasNoEscape piece → line_bytes (record { content = piece ++ 61 ∷ []; ending = ending }) ≡ piece
 unfolding line_bytes
 soft_line piece ending none =
     let trimmed : trimmed_at_end is_blank (piece ++ 61 ∷ []) ≡ piece ++ 61 ∷ [] = trimmed-front is_blank 61 piece [] refl in
-    rw (trimmed, ends_in-last 61 refl piece, without_last-last 61 piece) (stays_whole piece none)
+    rw (trimmed, ends_in-push 61 piece, without_last-push 61 piece) (stays_whole piece none)
 
 soft_lf : (piece : List ℕ) → HasNoEscape piece → line_bytes (ended_line (piece ++ 61 ∷ [])) ≡ piece
 soft_lf piece none =
@@ -402,7 +387,7 @@ soft_lf piece none =
 
 soft_cr : (piece : List ℕ) → HasNoEscape piece → line_bytes (ended_line ((piece ++ 61 ∷ []) ++ 13 ∷ [])) ≡ piece
 soft_cr piece none =
-    rw (ends_in-last 13 refl (piece ++ 61 ∷ []), without_last-last 13 (piece ++ 61 ∷ [])) (soft_line piece cr_lf none)
+    rw (ends_in-push 13 (piece ++ 61 ∷ []), without_last-push 13 (piece ++ 61 ∷ [])) (soft_line piece cr_lf none)
 
 -- one byte more of a piece
 piece_more : (text : List ℕ) (from to b : ℕ) → from ≤ to → to < length text → get_or text to 0 ≡ b
@@ -505,13 +490,13 @@ module _ (text : List ℕ) (from : ℕ) (output : List ℕ) (len plain at : ℕ)
   length-copy = let within = h.within in length-take-le (at - plain) (drop plain text) (omega (arith, length-drop plain text))
 
   -- more bytes without a mark, or with one that stays
-  extended : (run : ℕ) (ys : List ℕ) → at + run ≤ length text → len + (at + run - plain) ≤ length ys
-      → take (place + run) ys ≡ take place output ++ take run (drop at text) → IsPlain text at (at + run) → IsReading text from ys len plain (at + run)
-  extended run ys within room is more =
+  extended : (run to : ℕ) (ys : List ℕ) → to ≡ at + run → to ≤ length text → len + (to - plain) ≤ length ys
+      → take (place + run) ys ≡ take place output ++ take run (drop at text) → IsPlain text at to → IsReading text from ys len plain to
+  extended run to ys to_is within room is more =
       let n = at - plain in
       let start = h.start in
       let both = copied_more len n run output ys copy (take run (drop at text)) h.room h.copied is in
-      let e : at + run - plain ≡ n + run = omega arith in
+      let e : to - plain ≡ n + run = omega arith in
       record {
         within = within;
         start = omega arith;
@@ -524,7 +509,7 @@ module _ (text : List ℕ) (from : ℕ) (output : List ℕ) (len plain at : ℕ)
             ∙ ap (λ (r : List ℕ). copy ++ take run r) (ap (λ (k : ℕ). drop k text) {x = at} {y = plain + n} (omega arith) ∙ sym (drop-drop n plain text))
             ∙ sym (take-add n run (drop plain text))
             ∙ ap (λ (k : ℕ). take k (drop plain text)) (sym e);
-        marks = plain-joined text plain at (at + run) h.marks more;
+        marks = plain-joined text plain at to h.marks more;
       }
 
   module _ (n : ℕ) (part : List ℕ) (same : length part ≡ length (room_from place output)) where
@@ -543,7 +528,7 @@ module _ (text : List ℕ) (from : ℕ) (output : List ℕ) (len plain at : ℕ)
         let after = h.after in
         let fits : place + n ≤ length output = omega arith in
         record {
-          reading = extended n (with_part place output part) (omega arith) (omega (arith, full))
+          reading = extended n (at + n) (with_part place output part) refl (omega arith) (omega (arith, full))
               (written_rest place n output part fits same (take n (drop at text)) (copied ∙ take-take n m (drop at text) (omega arith)))
               (plain-run text at m n first);
           marked = λ other.
@@ -556,9 +541,7 @@ module _ (text : List ℕ) (from : ℕ) (output : List ℕ) (len plain at : ℕ)
         → IsReading text from (with_part place output part) len plain to
     after_copy to few ahead inside fits free copied =
         let start = h.start in
-        let e : at + n ≡ to = omega arith in
-        subst (IsReading text from (with_part place output part) len plain) e (extended n (with_part place output part) (omega arith) (omega (arith, full))
-        (written_rest place n output part fits same (take n (drop at text)) copied) (subst (IsPlain text at) (sym e) free))
+        extended n to (with_part place output part) (omega arith) inside (omega (arith, full)) (written_rest place n output part fits same (take n (drop at text)) copied) free
 
     -- escapes are read
     pub after_escapes : n ≤ length (room_from place output) → n ≢ 0 → ((n ≡ 0) ↔ (first_escape (drop at text) ≡ None)) → at + 3 * n ≤ length text
@@ -581,10 +564,7 @@ module _ (text : List ℕ) (from : ℕ) (output : List ℕ) (len plain at : ℕ)
     -- nothing is read at the place
     pub after_none : n ≡ 0 → IsReading text from (with_part place output part) len plain at
     after_none none =
-        let ys = with_part place output part in
-        let e : at + 0 ≡ at = omega arith in
-        subst (IsReading text from ys len plain) e (extended 0 ys (omega (arith, h.within)) (omega (arith, full, h.room))
-        (written_rest place 0 output part (omega (arith, h.room)) same [] refl) (subst (IsPlain text at) (sym e) (plain-empty text at)))
+        extended 0 at (with_part place output part) (omega arith) h.within (omega (arith, full, h.room)) (written_rest place 0 output part (omega (arith, h.room)) same [] refl) (plain-empty text at)
 
   -- a vector is copied, of which as much counts as is plain
   pub after_vector : (m to : ℕ) (v : List ℕ) → v ≡ take m (drop at text) → at ≤ to → to ≤ at + m → at + m ≤ length text → place + m ≤ length output → IsPlain text at to
@@ -592,13 +572,10 @@ module _ (text : List ℕ) (from : ℕ) (output : List ℕ) (len plain at : ℕ)
   after_vector m to v is low high inside fits free =
       let start = h.start in
       let n : ℕ = to - at in
-      let e : at + n ≡ to = omega arith in
       let long : length v ≡ m = ap length is ∙ length-take-le m (drop at text) (omega (arith, length-drop at text)) in
-      subst (IsReading text from (put_chunk place output v) len plain) e (
-      extended n (put_chunk place output v) (omega arith) (omega (arith, length-put_chunk place output v))
+      extended n to (put_chunk place output v) (omega arith) (omega arith) (omega (arith, length-put_chunk place output v))
       (stored_after place n output v (omega (arith, long)) (omega (arith, long))
-      ∙ ap (λ (r : List ℕ). take place output ++ r) (ap (take n) is ∙ take-take n m (drop at text) (omega arith)))
-      (subst (IsPlain text at) (sym e) free))
+      ∙ ap (λ (r : List ℕ). take place output ++ r) (ap (take n) is ∙ take-take n m (drop at text) (omega arith))) free
 
   -- an escape is read
   pub after_escape : (byte : ℕ) → place < length output → at + 3 ≤ length text → first_escape (drop at text) ≡ Some byte
@@ -669,7 +646,7 @@ module _ (text : List ℕ) (from : ℕ) (output : List ℕ) (len plain at : ℕ)
       let front : take place ys ≡ take place output =
       ap (λ (k : ℕ). take k ys) {x = place} {y = place + 0} (omega arith) ∙ written_rest place 0 output part (omega arith) same [] refl ∙ append-nil (take place output) in
       let room : place < length ys = omega (arith, fits, full 0 part same) in
-      extended 1 (slice_set ys place 61) (omega arith) (omega (arith, room, length-set ys place 61))
+      extended 1 (at + 1) (slice_set ys place 61) refl (omega arith) (omega (arith, room, length-set ys place 61))
       (take_more_set ys place 61 room
       ∙ ap (λ (r : List ℕ). r ++ 61 ∷ []) front
       ∙ ap (λ (r : List ℕ). take place output ++ r) (sym (ap (take 1) (drop_more text at 0 lt) ∙ ap (λ (b : ℕ). b ∷ take 0 (drop (at + 1) text)) sign)))
@@ -685,7 +662,7 @@ module _ (text : List ℕ) (from : ℕ) (output : List ℕ) (len plain at : ℕ)
         let fits : len + n ≤ length output = omega (arith, length-copy, room, few) in
         fresh text from (with_part len output part) (len + n) (at + 1) (omega arith) (omega (arith, length-copy, few))
         (omega (arith, fits, length-with_part len output part (omega arith) same))
-        (sym (line_read text (take len output) plain at (omega arith) (line_end text plain at h.start h.within h.marks (λ _. lf_there))
+        (sym (line_read text (take len output) plain at (omega arith) (lf_place text plain at h.start h.within h.marks.no_lf (λ _. lf_there))
         (take (len + n) (with_part len output part)) lt (written_rest len n output part fits same _ is))
         ∙ h.so_far)
 
@@ -696,7 +673,7 @@ module _ (text : List ℕ) (from : ℕ) (output : List ℕ) (len plain at : ℕ)
         let start = h.start in
         let fits : len + n ≤ length output = omega (arith, length-copy, h.room, few) in
         nothing_left text (take (len + n) (with_part len output part)) at (omega arith)
-        ∙ sym (line_last text (take len output) plain at (omega arith) (line_end text plain at h.start h.within h.marks (λ lt. absurd (omega arith)))
+        ∙ sym (line_last text (take len output) plain at (omega arith) (lf_place text plain at h.start h.within h.marks.no_lf (λ lt. absurd (omega arith)))
         (take (len + n) (with_part len output part)) end (written_rest len n output part fits same _ is))
         ∙ h.so_far
 

@@ -1,6 +1,6 @@
 -- The tables of a caller: the one that is read under a label, and what none of them change.
-use Rattle.std.proofs.Common.{◌≡◌, ℕ, Bool, true, false, ltb, List, [], map, length, get_or, Option, Some, None, is_some, option_map, find, refl, sym, ap, ◌∙◌}
-use Rattle.std.proofs.lemmas.Bool.{cond-true, cond-false, ltb-false, ltb-true}
+use Rattle.std.proofs.Common.{◌≡◌, ℕ, Bool, ltb, List, [], map, length, get_or, Option, Some, None, is_some, option_map, find, refl, sym, ap, inl, inr, ◌∙◌}
+use Rattle.std.proofs.lemmas.Bool.{cases_Bool, cond-true, cond-false, ltb-false, ltb-true}
 use Rattle.std.proofs.lemmas.Option.{none-some, slice_get-get_or, slice_get_past}
 use Rattle.std.proofs.lemmas.List.Folds.{find_at}
 use Rattle.std.proofs.Math.Path.{fun_ext}
@@ -19,11 +19,10 @@ has trimmed table = is_among_labels (map (λ known. known.now) table.labels.now)
 pub table_none : (tables : List SingleByteTable) (label trimmed : List ℕ) → trimmed ≡ trimmed_label label → None ≡ position (has trimmed) tables
     → None ≡ table_of_label tables label
 unfolding table_of_label
-table_none tables label trimmed t none = go (is_some (charset_of_label label)) refl
-  where
-    go : (b : Bool) → is_some (charset_of_label label) ≡ b → None ≡ table_of_label tables label
-    go true is = sym (cond-true _ _ _ is)
-    go false is = none ∙ ap (λ l. position (has l) tables) t ∙ sym (cond-false _ _ _ is)
+table_none tables label trimmed t none = elim (cases_Bool (is_some (charset_of_label label))) [
+  | inl is ↦ sym (cond-true _ _ _ is)
+  | inr is ↦ none ∙ ap (λ l. position (has l) tables) t ∙ sym (cond-false _ _ _ is)
+]
 
 pub table_kept : (tables : List SingleByteTable) (label : List ℕ) (charset : Charset) → charset_of_label label ≡ Some charset → None ≡ table_of_label tables label
 unfolding table_of_label
@@ -36,21 +35,19 @@ table_some tables label trimmed number t some is = some ∙ ap (λ l. position (
 
 -- the first that passes, by its place
 find_first : {A : Type 0} (test : A → Bool) (xs : List A) (i : ℕ) (d : A) → position test xs ≡ Some i → find test xs ≡ Some (get_or xs i d)
-find_first test xs i d found = go (ltb (position_or_len test xs) (length xs)) refl
-  where
-    go : (b : Bool) → ltb (position_or_len test xs) (length xs) ≡ b → find test xs ≡ Some (get_or xs i d)
-    go true is =
-        let e : Some (position_or_len test xs) ≡ Some i = sym (cond-true _ _ _ is) ∙ found in
-        let same : position_or_len test xs ≡ i = cc e in
-        find_at test xs ∙ slice_get-get_or xs _ d (ltb-true _ _ is) ∙ ap (λ k. Some (get_or xs k d)) same
-    go false is = let clash : None ≡ Some i = sym (cond-false _ _ _ is) ∙ found in absurd (none-some _ clash)
+find_first test xs i d found = elim (cases_Bool (ltb (position_or_len test xs) (length xs))) [
+  | inl is ↦
+      let e : Some (position_or_len test xs) ≡ Some i = sym (cond-true _ _ _ is) ∙ found in
+      let same : position_or_len test xs ≡ i = cc e in
+      find_at test xs ∙ slice_get-get_or xs _ d (ltb-true _ _ is) ∙ ap (λ k. Some (get_or xs k d)) same
+  | inr is ↦ let clash : None ≡ Some i = sym (cond-false _ _ _ is) ∙ found in absurd (none-some _ clash)
+]
 
 find_none : {A : Type 0} (test : A → Bool) (xs : List A) → position test xs ≡ None → find test xs ≡ None
-find_none test xs none = go (ltb (position_or_len test xs) (length xs)) refl
-  where
-    go : (b : Bool) → ltb (position_or_len test xs) (length xs) ≡ b → find test xs ≡ None
-    go true is = let clash : None ≡ Some (position_or_len test xs) = sym none ∙ cond-true _ _ _ is in absurd (none-some _ clash)
-    go false is = find_at test xs ∙ slice_get_past xs _ (ltb-false _ _ is)
+find_none test xs none = elim (cases_Bool (ltb (position_or_len test xs) (length xs))) [
+  | inl is ↦ let clash : None ≡ Some (position_or_len test xs) = sym none ∙ cond-true _ _ _ is in absurd (none-some _ clash)
+  | inr is ↦ find_at test xs ∙ slice_get_past xs _ (ltb-false _ _ is)
+]
 
 -- with a table that has the label
 pub charsets-table : (tables : List SingleByteTable) (label : List ℕ) (number : ℕ) (d : SingleByteTable) → Some number ≡ table_of_label tables label

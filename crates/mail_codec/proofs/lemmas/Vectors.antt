@@ -1,7 +1,7 @@
 -- Vectors of sixteen bytes, lane by lane.
 use Rattle.std.proofs.Common.{◌≡◌, ℕ, zero, suc, ◌+◌, ◌*◌, ◌/◌, ◌^◌, ◌%◌, ◌<◌, ◌≤◌, ◌-◌, Bool, true, false, cond, ◌==◌, ◌||◌, bit_or, List, [], ◌∷◌, map, length, take, drop, get_or, replicate, Fits, w8, refl, sym, ap, inl, inr, ◌∙◌, arith}
 use Rattle.std.proofs.lemmas.List.{get_or-map, length-map, map-id, drop-map, ext_get_or}
-use Rattle.std.proofs.lemmas.Bool.{cases_lt, agree_below, agree_below_at}
+use Rattle.std.proofs.lemmas.Bool.{cases_lt, agree_below, agree_below_at, eqb-true}
 use Rattle.std.proofs.lemmas.Simd.{Each1-from_get_or, swz_l, SwzOk, SwzOk-from_below, length-swz_l, get_or-swz_l_below, map-map, bitmask_splat, mask_l-mod, zip2_splat, zip2_splat_left, zip2_of_maps, leading_from_mask_l, trailing_mask_l}
 use Rattle.std.specs.List.{prefix_len}
 use Rattle.std.specs.Prelude.{nat_le}
@@ -14,10 +14,6 @@ use mir.Val.{bits, hbits}
 use native.Mathlib.Nat.{pow-suc, mul_comm, zero-div, div-one, div-div-eq-div-mul}
 use lib.Lanes.{Each1, zip2, mask_l, top, sel_l, put_chunk}
 
--- what a vector's lanes are
-abbrev pub IsLanes : List ℕ → Type 0
-IsLanes v = (length v ≡ 16) × Each1 (Fits w8) v
-
 pub lane_fits : (v : List ℕ) (i : ℕ) → Each1 (Fits w8) v → get_or v i 0 < 256
 lane_fits [] i h = omega arith
 lane_fits (x ∷ xs) zero h = h.0.fits
@@ -25,27 +21,28 @@ lane_fits (x ∷ xs) (suc i) h = lane_fits xs i h.1
 
 -- ---- look-ups
 
--- a table of sixteen, read at places that are computed lane by lane
-module _ (t : List ℕ) (g : ℕ → ℕ) (v js : List ℕ) (fits : IsLanes v) (e : js ≡ map g v) (small : (x : ℕ) → x < 256 → g x < 16) where
-  long : length js ≡ 16
+-- a table that stands once for each sixteen of n lanes, read at places that are computed lane by lane
+module _ (b n : ℕ) (whole : n ≡ b * 16) (g : ℕ → ℕ) (v js : List ℕ) (fits : (length v ≡ n) × Each1 (Fits w8) v) (e : js ≡ map g v) (small : (x : ℕ) → x < 256 → g x < 16) where
+  long : length js ≡ n
   long = ap length e ∙ length-map v g ∙ fits.0
 
-  at : (i : ℕ) → i < 16 → (get_or js i 0 ≡ g (get_or v i 0)) × (get_or js i 0 < 16)
+  at : (i : ℕ) → i < n → (get_or js i 0 ≡ g (get_or v i 0)) × (get_or js i 0 < 16)
   at i h =
       let is : get_or js i 0 ≡ g (get_or v i 0) = ap (λ l. get_or l i 0) e ∙ get_or-map g v i 0 0 (omega (arith, fits.0)) in
       (is, omega (arith, is, small (get_or v i 0) (lane_fits v i fits.1)))
 
-  pub places_ok : SwzOk w8 16 16 0 js
-  places_ok = SwzOk-from_below w8 16 1 16 0 js refl (omega (arith, long)) (Each1-from_get_or (λ j. j < 16) js 0 (λ i h. (at i (omega (arith, long))).1))
+  pub places_ok : SwzOk w8 16 n 0 js
+  places_ok = SwzOk-from_below w8 16 b n 0 js whole (omega (arith, long)) (Each1-from_get_or (λ j. j < 16) js 0 (λ i h. (at i (omega (arith, long))).1))
 
-  pub looked_up : swz_l w8 16 t 0 js ≡ map (λ x. get_or t (g x) 0) v
-  looked_up =
-      ext_get_or 0 _ _ (length-swz_l w8 16 t 0 js ∙ long ∙ sym (length-map v (λ x. get_or t (g x) 0) ∙ fits.0)) (λ i h.
-      let lt : i < 16 = omega (arith, length-swz_l w8 16 t 0 js, long) in
+  pub looked_up : (t s : List ℕ) → agree_below (λ i. get_or t i 0 == get_or s (i % 16) 0) (λ _. true) n ≡ true → swz_l w8 16 t 0 js ≡ map (λ x. get_or s (g x) 0) v
+  looked_up t s all =
+      ext_get_or 0 _ _ (length-swz_l w8 16 t 0 js ∙ long ∙ sym (length-map v (λ x. get_or s (g x) 0) ∙ fits.0)) (λ i h.
+      let lt : i < n = omega (arith, length-swz_l w8 16 t 0 js, long) in
       let is = at i lt in
       get_or-swz_l_below w8 16 t 0 js i (omega (arith, long)) is.1
-      ∙ ap (λ k. get_or t k 0) {x = 16 * ((0 + i) / 16) + get_or js i 0} {y = get_or js i 0} (omega arith)
-      ∙ ap (λ k. get_or t k 0) is.0 ∙ sym (get_or-map (λ x. get_or t (g x) 0) v i 0 0 (omega (arith, fits.0))))
+      ∙ eqb-true _ _ (agree_below_at (λ j. get_or t j 0 == get_or s (j % 16) 0) (λ _. true) n (16 * ((0 + i) / 16) + get_or js i 0) all (omega (arith, is.1, lt, whole)))
+      ∙ ap (λ k. get_or s k 0) {x = (16 * ((0 + i) / 16) + get_or js i 0) % 16} {y = get_or js i 0} (omega (arith, is.1))
+      ∙ ap (λ k. get_or s k 0) is.0 ∙ sym (get_or-map (λ x. get_or s (g x) 0) v i 0 0 (omega (arith, fits.0))))
 
 -- ---- how many lanes come before the first that passes
 
@@ -55,10 +52,10 @@ prefix_same p q all [] h = refl
 prefix_same p q all (x ∷ v) h = rw (agree_below_at p q 256 x all h.0.fits, prefix_same p q all v h.1) refl
 
 -- the mask of a comparison of computed lanes with one number
-pub marks_of : (t : ℕ → ℕ → Bool) (f : ℕ → ℕ) (y : ℕ) (v fs : List ℕ) → length v ≡ 16 → fs ≡ map f v
-    → mask_l (map (top (hbits w8)) (zip2 (λ a b. cond (t a b) (2 ^ bits w8 - 1) 0) fs (replicate 16 y))) % 2 ^ 64 ≡ mask_l (map (λ x. t (f x) y) v)
-marks_of t f y v fs long is =
-    bitmask_splat w8 t fs 16 y (ap length is ∙ length-map v f ∙ long) (omega arith)
+pub marks_of : (n : ℕ) → n ≤ 64 → (t : ℕ → ℕ → Bool) (f : ℕ → ℕ) (y : ℕ) (v fs : List ℕ) → length v ≡ n → fs ≡ map f v
+    → mask_l (map (top (hbits w8)) (zip2 (λ a b. cond (t a b) (2 ^ bits w8 - 1) 0) fs (replicate n y))) % 2 ^ 64 ≡ mask_l (map (λ x. t (f x) y) v)
+marks_of n few t f y v fs long is =
+    bitmask_splat w8 t fs n y (ap length is ∙ length-map v f ∙ long) few
     ∙ ap (λ l. mask_l (map (λ x. t x y) l)) is
     ∙ ap mask_l (map-map (λ x. t x y) f v)
 
@@ -127,15 +124,12 @@ map_same p q all [] h = refl
 map_same p q all (x ∷ v) h = rw (agree_below_at p q 256 x all h.0.fits, map_same p q all v h.1) refl
 
 -- a byte is whitespace exactly where it is the one with its lower half
-whitespace_agree : agree_below (λ b. b == whitespace_of_half b) is_ascii_whitespace 256 ≡ true
-whitespace_agree = refl
-
-pub whitespace_marked : (v like : List ℕ) → IsLanes v → like ≡ map whitespace_of_half v
+pub whitespace_marked : (v like : List ℕ) → (length v ≡ 16) × Each1 (Fits w8) v → like ≡ map whitespace_of_half v
     → mask_l (map (top 7) (zip2 (λ x y. cond (x == y) 255 0) v like)) % 2 ^ 64 ≡ mask_l (map is_ascii_whitespace v)
 whitespace_marked v like fits is =
     lanes_marked (λ b. cond (b == whitespace_of_half b) 255 0) (λ b. b == whitespace_of_half b) v _ (omega (arith, fits.0))
     (zip2_of_maps (λ x y. cond (x == y) 255 0) (λ b. b) whitespace_of_half v (sym (map-id v)) is) (λ b. flag (b == whitespace_of_half b))
-    ∙ ap mask_l (map_same (λ b. b == whitespace_of_half b) is_ascii_whitespace whitespace_agree v fits.1)
+    ∙ ap mask_l (map_same (λ b. b == whitespace_of_half b) is_ascii_whitespace refl v fits.1)
 
 -- what a mask tells: no lane passes, or the first that does
 pub no_mark : (test : ℕ → Bool) (v : List ℕ) (mask : ℕ) → mask ≡ mask_l (map test v) → mask ≡ 0 → length v ≡ first_place (begins test) v
@@ -174,13 +168,14 @@ unmarked : (b : Bool) (n m l : ℕ) → cond b 0 (suc m) ≡ suc l → (m ≡ l 
 unmarked true n m l e f = absurd (omega arith)
 unmarked false n m l e f = let z = f (omega arith) in omega arith
 
-all_unmarked : (test : ℕ → Bool) (v : List ℕ) → first_place (begins test) v ≡ length v → mask_l (map test v) ≡ 0
-all_unmarked test [] e = refl
-all_unmarked test (x ∷ v) e = unmarked (test x) (mask_l (map test v)) (first_place (begins test) v) (length v) e (all_unmarked test v)
+-- a mask is 0 where no lane passes
+pub free_mask : (test : ℕ → Bool) (v : List ℕ) → first_place (begins test) v ≡ length v → mask_l (map test v) ≡ 0
+free_mask test [] e = refl
+free_mask test (x ∷ v) e = unmarked (test x) (mask_l (map test v)) (first_place (begins test) v) (length v) e (free_mask test v)
 
 -- where there is a mark, it is that of a lane
 pub mark_within : (test : ℕ → Bool) (v : List ℕ) (mask : ℕ) → mask ≡ mask_l (map test v) → ((mask ≡ 0) → ⊥) → first_place (begins test) v < length v
 mark_within test v mask is some = elim (cases_lt (first_place (begins test) v) (length v)) [
   | inl lt ↦ lt
-  | inr ge ↦ absurd (some (is ∙ all_unmarked test v (omega (arith, ge, first_place-≤ (begins test) v))))
+  | inr ge ↦ absurd (some (is ∙ free_mask test v (omega (arith, ge, first_place-≤ (begins test) v))))
 ]

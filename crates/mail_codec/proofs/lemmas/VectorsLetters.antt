@@ -1,17 +1,19 @@
 -- Letters of Base64 in a vector, and the bytes of their groups.
-use Rattle.std.proofs.Common.{◌≡◌, ℕ, zero, suc, ◌+◌, ◌*◌, ◌/◌, ◌%◌, ◌^◌, ◌<◌, ◌≤◌, Bool, true, false, not, ◌&&◌, ◌||◌, ◌==◌, nat_lt, bit_or, List, [], ◌∷◌, ◌++◌, map, length, take, drop, get_or, replicate, Option, Some, None, Ok, Fits, w8, refl, sym, ap, subst, ◌∙◌, arith}
-use Rattle.std.proofs.lemmas.Bool.{agree_below, agree_below_at, and_parts, not-true, ltb-true}
-use Rattle.std.proofs.lemmas.List.{get_or-map, length-take-le}
+use Rattle.std.proofs.Common.{◌≡◌, ℕ, zero, suc, ◌+◌, ◌*◌, ◌/◌, ◌%◌, ◌^◌, ◌<◌, ◌≤◌, Bool, true, false, not, ◌&&◌, ◌||◌, ◌==◌, nat_lt, bit_or, List, [], ◌∷◌, ◌++◌, map, length, take, drop, get_or, replicate, Option, Some, None, Ok, Fits, w8, refl, sym, ap, subst, ◌∙◌, ◌-◌, cond, inl, inr, arith}
+use Rattle.std.proofs.lemmas.Bool.{agree_below, agree_below_at, and_parts, cases_eq, eq-eqb, eqb-true, ne_eqb, not-true, ltb-true}
+use Rattle.std.proofs.lemmas.List.{get_or-map, get_or_append_left, length-take-le}
 use Rattle.std.proofs.lemmas.List.Sums.{prefix_len_passes, prefix_len-le-length}
 use Rattle.std.proofs.lemmas.Nat.{or_shifted, or_lt}
-use Rattle.std.proofs.lemmas.Simd.{Each1-from_get_or, get_or_narrower, get_or-zip2, get_or-replicate, length-replicate, length-zip2, sum_dots}
+use Rattle.std.proofs.lemmas.Simd.{Each1-from_get_or, get_or_narrower, get_or-zip2, get_or-replicate, length-replicate, length-zip2, leading_from_mask_l, sum_dots}
 use Rattle.std.proofs.Math.Seq.{take-add}
 use Rattle.std.specs.List.{prefix_len}
 use Rattle.std.specs.Option.{is_some}
-use lib.Lanes.{Each1, zip2, dots, digits_l, number_l, pick_l}
+use lib.Lanes.{Each1, zip2, dots, digits_l, mask_l, number_l, pick_l, top}
+use mir.Val.{bits, hbits}
 use Rattle.mail_codec.specs.Base64.{letter, letter_value, padding, group_bytes, group_number, groups_from, after_group, prepend, three_bytes}
 use Rattle.mail_codec.specs.private.Vectors.{fault_of, group_of, is_letter, addition_place, three_at, value_of}
-use Rattle.mail_codec.proofs.lemmas.Vectors.{IsLanes, lane_fits}
+use Rattle.mail_codec.proofs.lemmas.Places.{first_place-begins}
+use Rattle.mail_codec.proofs.lemmas.Vectors.{free_mask, lane_fits, marks_of, prefix_same}
 use Rattle.mail_codec.proofs.lemmas.Base64Letters.{is_value, is_value_true, letter-letter_value}
 use Rattle.mail_codec.proofs.lemmas.Base64Groups.{drop_three, drop_four, groups_from-append}
 
@@ -21,6 +23,20 @@ use Rattle.mail_codec.proofs.lemmas.Base64Groups.{drop_three, drop_four, groups_
 pub faults_agree : agree_below (λ b. not (not (fault_of b == 0))) is_letter 256 ≡ true
 unfolding letter_value
 faults_agree = refl
+
+-- no byte has a fault exactly where all are letters
+pub all_letters : (v fs : List ℕ) → (length v ≡ 64) × Each1 (Fits w8) v → fs ≡ map fault_of v
+    → (mask_l (map (top (hbits w8)) (zip2 (λ a b. cond (not (a == b)) (2 ^ bits w8 - 1) 0) fs (replicate 64 0))) % 2 ^ 64 == 0) ≡ (prefix_len is_letter v == 64)
+all_letters v fs fits is =
+    let faulty : ℕ → Bool = λ b. not (fault_of b == 0) in
+    let marks = marks_of 64 (omega arith) (λ a b. not (a == b)) fault_of 0 v fs fits.0 is in
+    let same = prefix_same (λ b. not (faulty b)) is_letter faults_agree v fits.1 in
+    let free = first_place-begins faulty v in
+    ap (λ m. m == 0) marks
+    ∙ elim (cases_eq (mask_l (map faulty v)) 0) [
+      | inl none ↦ eq-eqb _ _ none ∙ sym (eq-eqb _ _ (sym same ∙ leading_from_mask_l faulty v none ∙ fits.0))
+      | inr some ↦ ne_eqb _ _ some ∙ sym (ne_eqb _ _ (λ e. some (free_mask faulty v (free ∙ same ∙ e ∙ sym fits.0))))
+    ]
 
 -- a letter's value is what is computed, and it is no padding
 abbrev has_value : ℕ → Bool
@@ -77,9 +93,6 @@ length-fours : (n a b c d : ℕ) → length (fours n a b c d) ≡ 4 * n
 length-fours zero a b c d = refl
 length-fours (suc n) a b c d = omega (arith, length-fours n a b c d)
 
-twelves : (n : ℕ) → length {A = ℕ} (replicate n 12) ≡ n
-twelves n = length-replicate n 12
-
 -- the numbers of the n groups of a vector of values
 module _ (n : ℕ) (v : List ℕ) (long : length v ≡ 4 * n) (fits : Each1 (Fits w8) v) where
   abbrev first_pairs : List ℕ
@@ -98,7 +111,7 @@ module _ (n : ℕ) (v : List ℕ) (long : length v ≡ 4 * n) (fits : Each1 (Fit
   last_len = (sum_dots n v (fours n 0 0 64 1) long (length-fours n 0 0 64 1)).1
 
   raised_len : length raised ≡ n
-  raised_len = length-zip2 (λ a b. a * 2 ^ b % 2 ^ 32) first_pairs (replicate n 12) (first_len ∙ sym (twelves n)) ∙ first_len
+  raised_len = length-zip2 (λ a b. a * 2 ^ b % 2 ^ 32) first_pairs (replicate n 12) (first_len ∙ sym (length-replicate {A = ℕ} n 12)) ∙ first_len
 
   pub numbers_len : length (zip2 bit_or raised last_pairs) ≡ n
   numbers_len = length-zip2 bit_or raised last_pairs (raised_len ∙ sym last_len) ∙ raised_len
@@ -108,7 +121,7 @@ module _ (n : ℕ) (v : List ℕ) (long : length v ≡ 4 * n) (fits : Each1 (Fit
   numbers_at k h hy hz =
       get_or-zip2 bit_or raised last_pairs k 0 0 0 (omega (arith, raised_len)) (omega (arith, last_len))
       ∙ ap (λ m. bit_or m (get_or last_pairs k 0))
-      (get_or-zip2 (λ a b. a * 2 ^ b % 2 ^ 32) first_pairs (replicate n 12) k 0 0 0 (omega (arith, first_len)) (omega (arith, twelves n))
+      (get_or-zip2 (λ a b. a * 2 ^ b % 2 ^ 32) first_pairs (replicate n 12) k 0 0 0 (omega (arith, first_len)) (omega (arith, length-replicate {A = ℕ} n 12))
       ∙ ap (λ s. get_or first_pairs k 0 * 2 ^ s % 2 ^ 32) (get_or-replicate n k 12 0 h))
       ∙ pairs_joined (get_or v (4 * k) 0) (get_or v (4 * k + 1) 0) (get_or v (4 * k + 2) 0) (get_or v (4 * k + 3) 0) (get_or first_pairs k 0) (get_or last_pairs k 0)
       (lane_fits v (4 * k) fits) (lane_fits v (4 * k + 1) fits) hy hz (dots_at 64 1 0 0 n k v h long) (dots_at 0 0 64 1 n k v h long)
@@ -116,7 +129,7 @@ module _ (n : ℕ) (v : List ℕ) (long : length v ≡ 4 * n) (fits : Each1 (Fit
   pub numbers_fit : (k : ℕ) → k < n → get_or (zip2 bit_or raised last_pairs) k 0 < 2 ^ 32
   numbers_fit k h =
       let at = get_or-zip2 bit_or raised last_pairs k 0 0 0 (omega (arith, raised_len)) (omega (arith, last_len)) in
-      let high : get_or raised k 0 < 2 ^ 32 = omega (arith, get_or-zip2 (λ a b. a * 2 ^ b % 2 ^ 32) first_pairs (replicate n 12) k 0 0 0 (omega (arith, first_len)) (omega (arith, twelves n))) in
+      let high : get_or raised k 0 < 2 ^ 32 = omega (arith, get_or-zip2 (λ a b. a * 2 ^ b % 2 ^ 32) first_pairs (replicate n 12) k 0 0 0 (omega (arith, first_len)) (omega (arith, length-replicate {A = ℕ} n 12))) in
       let low : get_or last_pairs k 0 < 2 ^ 32 = omega (arith, dots_at 0 0 64 1 n k v h long, lane_fits v (4 * k + 2) fits, lane_fits v (4 * k + 3) fits) in
       subst (λ m. m < 2 ^ 32) (sym at) (or_lt 32 (get_or raised k 0) (get_or last_pairs k 0) high low)
 
@@ -186,7 +199,7 @@ module _ (n : ℕ) (v vs ns : List ℕ) (long : length v ≡ 4 * n) (fits : Each
   abbrev pub number_bytes : List ℕ
   number_bytes = digits_l (2 ^ 8) (4 * n) (number_l (2 ^ 32) ns)
 
-  pub group_read : (k : ℕ) → k < n → 4 * k + 4 ≤ prefix_len is_letter v → (x y z : ℕ) → x ≡ get_or number_bytes (4 * k + 2) 0 → y ≡ get_or number_bytes (4 * k + 1) 0 → z ≡ get_or number_bytes (4 * k + 0) 0
+  group_read : (k : ℕ) → k < n → 4 * k + 4 ≤ prefix_len is_letter v → (x y z : ℕ) → x ≡ get_or number_bytes (4 * k + 2) 0 → y ≡ get_or number_bytes (4 * k + 1) 0 → z ≡ get_or number_bytes (4 * k + 0) 0
       → group_of v k ≡ Some (x ∷ y ∷ z ∷ [])
   group_read k h letters x y z ex ey ez =
       let a = letter_at (4 * k) (omega arith) (omega arith) in
@@ -198,27 +211,17 @@ module _ (n : ℕ) (v vs ns : List ℕ) (long : length v ≡ 4 * n) (fits : Each
       ∙ ap (λ m. Some (three_bytes m)) (sym is)
       ∙ ap Some (three_of n ns ns_fit k h (omega (arith, is, a.1, b.1, c.1, d.1)) x y z ex ey ez)
 
-  pub past_groups : (k : ℕ) → n ≤ k → 4 * k + 4 ≤ prefix_len is_letter v → ⊥
-  past_groups k h letters = omega (arith, h, letters, prefix_len-le-length is_letter v, long)
-
--- four groups, their bytes in order
-module _ (v vs ns : List ℕ) (fits : IsLanes v) (vs_is : vs ≡ map value_of v) (ns_len : length ns ≡ 4) (ns_small : (k : ℕ) → k < 4 → get_or ns k 0 < 2 ^ 32)
-    (ns_is : (k : ℕ) → k < 4 → get_or vs (4 * k + 2) 0 < 64 → get_or vs (4 * k + 3) 0 < 64
-    → get_or ns k 0 ≡ group_number (get_or vs (4 * k) 0) (get_or vs (4 * k + 1) 0) (get_or vs (4 * k + 2) 0) (get_or vs (4 * k + 3) 0)) where
-  abbrev pub ordered : List ℕ
-  ordered = pick_l 0 (digits_l (2 ^ 8) 16 (number_l (2 ^ 32) ns) ++ digits_l (2 ^ 8) 16 (number_l (2 ^ 32) ns)) (2 ∷ 1 ∷ 0 ∷ 6 ∷ 5 ∷ 4 ∷ 10 ∷ 9 ∷ 8 ∷ 14 ∷ 13 ∷ 12 ∷ 3 ∷ 7 ∷ 11 ∷ 15 ∷ [])
-
-  at : (k : ℕ) → k < 4 → 4 * k + 4 ≤ prefix_len is_letter v → (x y z : ℕ) → x ≡ get_or (digits_l (2 ^ 8) 16 (number_l (2 ^ 32) ns)) (4 * k + 2) 0
-      → y ≡ get_or (digits_l (2 ^ 8) 16 (number_l (2 ^ 32) ns)) (4 * k + 1) 0 → z ≡ get_or (digits_l (2 ^ 8) 16 (number_l (2 ^ 32) ns)) (4 * k + 0) 0
-      → group_of v k ≡ Some (x ∷ y ∷ z ∷ [])
-  at = group_read 4 v vs ns fits.0 fits.1 vs_is ns_len ns_small ns_is
-
-  pub ordered_groups : (k : ℕ) → 4 * k + 4 ≤ prefix_len is_letter v → group_of v k ≡ Some (three_at ordered k)
-  ordered_groups zero h = at 0 (omega arith) h _ _ _ refl refl refl
-  ordered_groups (suc zero) h = at 1 (omega arith) h _ _ _ refl refl refl
-  ordered_groups (suc (suc zero)) h = at 2 (omega arith) h _ _ _ refl refl refl
-  ordered_groups (suc (suc (suc zero))) h = at 3 (omega arith) h _ _ _ refl refl refl
-  ordered_groups (suc (suc (suc (suc k)))) h = absurd (past_groups 4 v vs ns fits.0 fits.1 vs_is ns_len ns_small ns_is (suc (suc (suc (suc k)))) (omega arith) h)
+  -- the bytes of the numbers in order, three of each, as they are picked by their places
+  pub in_order : (places : List ℕ) → length number_bytes ≡ 4 * n → length places ≡ 4 * n → agree_below (λ p. get_or places p 0 == p / 3 * 4 + 2 - p % 3) (λ _. true) (3 * n) ≡ true
+      → (k : ℕ) → 4 * k + 4 ≤ prefix_len is_letter v → group_of v k ≡ Some (three_at (pick_l 0 (number_bytes ++ number_bytes) places) k)
+  in_order places full many all k letters =
+      let h : k < n = omega (arith, letters, prefix_len-le-length is_letter v, long) in
+      let ordered : List ℕ = pick_l 0 (number_bytes ++ number_bytes) places in
+      let picked : (p j : ℕ) → p / 3 ≡ k → j + p % 3 ≡ 4 * k + 2 → get_or ordered p 0 ≡ get_or number_bytes j 0 = λ p j at is.
+      let place : get_or places p 0 ≡ j = eqb-true _ _ (agree_below_at (λ p. get_or places p 0 == p / 3 * 4 + 2 - p % 3) (λ _. true) (3 * n) p all (omega arith)) ∙ omega arith in
+      get_or-map (λ m. get_or (number_bytes ++ number_bytes) m 0) places p 0 0 (omega arith)
+      ∙ ap (λ m. get_or (number_bytes ++ number_bytes) m 0) place ∙ get_or_append_left number_bytes number_bytes 0 j (omega arith) in
+      group_read k h letters (get_or ordered (3 * k) 0) (get_or ordered (3 * k + 1) 0) (get_or ordered (3 * k + 2) 0) (picked (3 * k) (4 * k + 2) (omega arith) (omega arith)) (picked (3 * k + 1) (4 * k + 1) (omega arith) (omega arith)) (picked (3 * k + 2) (4 * k + 0) (omega arith) (omega arith))
 
 -- ---- letters in a text
 

@@ -7,8 +7,9 @@ use Rattle.std.proofs.lemmas.Bool.{cases_lt, lt-ltb, le-ltb}
 use Rattle.std.proofs.lemmas.Bool.Decides.{nat_tests}
 use Rattle.std.proofs.lemmas.Nat.{and_block, and_le_l, and_le_r}
 use Rattle.std.proofs.lemmas.Nat.Bits.{and_pow, bit_at_and, bit_at_cat_low, bit_at_cat_high, bit_at-zero, bit_at-pow_other, bit_at-trailing_zeros}
-use Rattle.mail_codec.specs.Places.{first_place, begins}
+use Rattle.mail_codec.specs.Places.{first_place, begins, least}
 use Rattle.mail_codec.specs.private.Words.{IsMask}
+use Rattle.mail_codec.proofs.lemmas.Places.{least-passes}
 
 -- ---- numbers made of bytes, the first the lowest
 
@@ -109,16 +110,13 @@ mask_is n hn (b ∷ bs) h c r hc hr d =
 
 -- ---- the bits of a list of marks
 
--- how many marks stand before the first that is set
-abbrev first_mark : List Bool → ℕ
-first_mark [] = 0
-first_mark (m ∷ ms) = cond m 0 (suc (first_mark ms))
-
 -- whether mark k is set
 abbrev mark_at : List Bool → ℕ → Bool
-mark_at [] k = false
-mark_at (m ∷ ms) zero = m
-mark_at (m ∷ ms) (suc k) = mark_at ms k
+mark_at ms k = get_or ms k false
+
+-- how many marks stand before the first that is set
+abbrev first_mark : List Bool → ℕ
+first_mark ms = least (mark_at ms) (length ms)
 
 -- one mark's bits
 mark_bit : (m : Bool) (i : ℕ) → i < 7 → bit_at (cond m 128 0) i ≡ 0
@@ -162,9 +160,7 @@ number_before (false ∷ ms) i h = elim (cases_lt i 8) [
 ]
 
 first_is_set : (ms : List Bool) → first_mark ms < length ms → mark_at ms (first_mark ms) ≡ true
-first_is_set [] h = absurd (omega arith)
-first_is_set (true ∷ ms) h = refl
-first_is_set (false ∷ ms) h = first_is_set ms (omega arith)
+first_is_set ms h = least-passes (mark_at ms) (length ms) h
 
 number_none : (ms : List Bool) → first_mark ms ≡ length ms → number ms ≡ 0
 number_none [] h = refl

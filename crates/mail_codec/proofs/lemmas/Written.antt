@@ -57,12 +57,6 @@ pub stored_lanes : (w at m : ℕ) (xs bytes : List ℕ) → take at xs ≡ take 
 stored_lanes w at m xs bytes front room within few =
     let v = take w (drop at bytes) in
     let long : length v ≡ w = length-take-le w (drop at bytes) (omega (arith, length-drop at bytes)) in
-    take-add at m (put_chunk at xs v)
-    ∙ ap (λ ys. ys ++ take m (drop at (put_chunk at xs v))) (stored_before at xs v ∙ front)
-    ∙ ap (λ ys. take at bytes ++ ys) (stored_at at m xs v (omega (arith, long)) (omega (arith, long)) ∙ take-take m w (drop at bytes) few)
+    stored_after at m xs v (omega (arith, long)) (omega (arith, long))
+    ∙ (λ i. front i ++ take-take m w (drop at bytes) few i)
     ∙ sym (take-add at m bytes)
-
--- the same of sixteen bytes
-pub stored_copy : (at m : ℕ) (xs bytes : List ℕ) → take at xs ≡ take at bytes → at + 16 ≤ length xs → at + 16 ≤ length bytes → m ≤ 16
-    → take (at + m) (put_chunk at xs (take 16 (drop at bytes))) ≡ take (at + m) bytes
-stored_copy = stored_lanes 16

@@ -1,7 +1,7 @@
 use Rattle.std.proofs.Common.{arith}
 use Rattle.std.specs.Prelude.{nat_le}
 use Rattle.mail_codec.proofs.lemmas.PlacesSearches.{lane_is}
-use Rattle.mail_codec.proofs.lemmas.Written.{stored_copy}
+use Rattle.mail_codec.proofs.lemmas.Written.{stored_lanes}
 use Rattle.mail_codec.proofs.lemmas.CharsetSingleByte.{ascii_more}
 use Rattle.mail_codec.proofs.charset.single_byte.put_ascii.Goals as goal
 
@@ -18,7 +18,7 @@ returns-then-place-ne-LANES-clause-ascii c =
 pub returns-then-place-ne-LANES-clause-written : goal.returns-then-place-ne-LANES-clause-written
 returns-then-place-ne-LANES-clause-written c =
     let lane = lane_is (λ b. nat_le 128 b) c.args.bytes.now c.vectors.at _ _ (omega (arith, c.vectors.invariant.within)) c.lanes_from.ensures c.first_lane-place.ensures in
-    stored_copy c.vectors.at c.first_lane-place.result c.vectors.output c.args.bytes.now c.vectors.invariant.written (omega (arith, c.vectors.invariant.within, c.requires.room)) (omega (arith, c.vectors.invariant.within)) lane.1
+    stored_lanes 16 c.vectors.at c.first_lane-place.result c.vectors.output c.args.bytes.now c.vectors.invariant.written (omega (arith, c.vectors.invariant.within, c.requires.room)) (omega (arith, c.vectors.invariant.within)) lane.1
 
 pub vectors-preserved : goal.vectors-preserved
 vectors-preserved c =
@@ -26,5 +26,5 @@ vectors-preserved c =
     record {
       within = omega (arith, c.vectors.invariant.within);
       ascii = ascii_more c.args.bytes.now c.vectors.at 16 (omega (arith, lane.0, c.if-place-ne-LANES.false)) (omega arith) c.vectors.invariant.ascii;
-      written = stored_copy c.vectors.at 16 c.vectors.output c.args.bytes.now c.vectors.invariant.written (omega (arith, c.vectors.invariant.within, c.requires.room)) (omega (arith, c.vectors.invariant.within)) (omega arith);
+      written = stored_lanes 16 c.vectors.at 16 c.vectors.output c.args.bytes.now c.vectors.invariant.written (omega (arith, c.vectors.invariant.within, c.requires.room)) (omega (arith, c.vectors.invariant.within)) (omega arith);
     }

@@ -1,4 +1,4 @@
-use Rattle.std.proofs.Common.{bit_and, arith}
+use Rattle.std.proofs.Common.{bit_and, refl, arith}
 use Rattle.std.proofs.lemmas.Nat.{and_le_r}
 use Rattle.std.proofs.lemmas.Simd.{zip2_splat}
 use Rattle.mail_codec.specs.declared.vectors.letters.TheConstants.{LOWER_FAULTS}
@@ -6,7 +6,7 @@ use Rattle.mail_codec.proofs.lemmas.Vectors.{places_ok, looked_up}
 use Rattle.mail_codec.proofs.vectors.letters.lower_faults_of.Goals as goal
 
 pub swizzle : goal.swizzle
-swizzle c = places_ok LOWER_FAULTS (λ b. bit_and b 15) c.args.bytes _ c.fits-bytes (zip2_splat bit_and c.args.bytes 16 15 c.fits-bytes.0) (λ x h. omega (arith, and_le_r x 15))
+swizzle c = places_ok 1 16 refl (λ b. bit_and b 15) c.args.bytes _ c.fits-bytes (zip2_splat bit_and c.args.bytes 16 15 c.fits-bytes.0) (λ x h. omega (arith, and_le_r x 15))
 
 pub returns : goal.returns
-returns c = looked_up LOWER_FAULTS (λ b. bit_and b 15) c.args.bytes _ c.fits-bytes (zip2_splat bit_and c.args.bytes 16 15 c.fits-bytes.0) (λ x h. omega (arith, and_le_r x 15))
+returns c = looked_up 1 16 refl (λ b. bit_and b 15) c.args.bytes _ c.fits-bytes (zip2_splat bit_and c.args.bytes 16 15 c.fits-bytes.0) (λ x h. omega (arith, and_le_r x 15)) LOWER_FAULTS LOWER_FAULTS refl

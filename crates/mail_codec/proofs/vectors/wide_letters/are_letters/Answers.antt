@@ -1,4 +1,4 @@
-use Rattle.mail_codec.proofs.lemmas.VectorsWide.{all_letters}
+use Rattle.mail_codec.proofs.lemmas.VectorsLetters.{all_letters}
 use Rattle.mail_codec.proofs.vectors.wide_letters.are_letters.Goals as goal
 
 pub returns : goal.returns

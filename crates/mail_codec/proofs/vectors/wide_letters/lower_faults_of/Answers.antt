@@ -3,13 +3,11 @@ use Rattle.std.proofs.lemmas.Nat.{and_le_r}
 use Rattle.std.proofs.lemmas.Simd.{zip2_splat}
 use Rattle.mail_codec.specs.declared.vectors.wide_letters.TheConstants.{LOWER_FAULTS}
 use Rattle.mail_codec.specs.private.Vectors.{lower_faults}
-use Rattle.mail_codec.proofs.lemmas.VectorsWide.{four_times, wide_places_ok, wide_looked_up}
+use Rattle.mail_codec.proofs.lemmas.Vectors.{places_ok, looked_up}
 use Rattle.mail_codec.proofs.vectors.wide_letters.lower_faults_of.Goals as goal
 
 pub swizzle : goal.swizzle
-swizzle c = wide_places_ok LOWER_FAULTS lower_faults (λ b. bit_and b 15) c.args.bytes _ c.fits-bytes (zip2_splat bit_and c.args.bytes 64 15 c.fits-bytes.0) (λ x h. omega (arith, and_le_r x 15))
+swizzle c = places_ok 4 64 refl (λ b. bit_and b 15) c.args.bytes _ c.fits-bytes (zip2_splat bit_and c.args.bytes 64 15 c.fits-bytes.0) (λ x h. omega (arith, and_le_r x 15))
 
 pub returns : goal.returns
-returns c =
-    wide_looked_up LOWER_FAULTS lower_faults (λ b. bit_and b 15) c.args.bytes _ c.fits-bytes (zip2_splat bit_and c.args.bytes 64 15 c.fits-bytes.0) (λ x h. omega (arith, and_le_r x 15))
-    (four_times LOWER_FAULTS lower_faults refl)
+returns c = looked_up 4 64 refl (λ b. bit_and b 15) c.args.bytes _ c.fits-bytes (zip2_splat bit_and c.args.bytes 64 15 c.fits-bytes.0) (λ x h. omega (arith, and_le_r x 15)) LOWER_FAULTS lower_faults refl

@@ -9,11 +9,9 @@ dot4-first c = (dot4_Fits c.args.values FIRST_PAIR c.fits-values.1 tt, tt)
 pub dot4-last : goal.dot4-last
 dot4-last c = (dot4_Fits c.args.values LAST_PAIR c.fits-values.1 tt, tt)
 
-pub returns-clause-len : goal.returns-clause-len
-returns-clause-len c = numbers_len 16 c.args.values c.fits-values.0 c.fits-values.1
-
-pub returns-clause-fits : goal.returns-clause-fits
-returns-clause-fits c = numbers_fit 16 c.args.values c.fits-values.0 c.fits-values.1
-
-pub returns-clause-lanes : goal.returns-clause-lanes
-returns-clause-lanes c = numbers_at 16 c.args.values c.fits-values.0 c.fits-values.1
+pub returns : goal.returns
+returns c = record {
+  len = numbers_len 16 c.args.values c.fits-values.0 c.fits-values.1;
+  fits = numbers_fit 16 c.args.values c.fits-values.0 c.fits-values.1;
+  lanes = numbers_at 16 c.args.values c.fits-values.0 c.fits-values.1;
+}

@@ -1,100 +1,87 @@
-use Rattle.std.proofs.Common.{◌+◌, ◌-◌, take, drop, subst, refl, sym, ◌∙◌, arith}
+use Rattle.std.proofs.Common.{◌≡◌, ◌≢◌, ℕ, ◌+◌, ◌-◌, ◌<◌, ◌≤◌, Bool, List, length, take, drop, get_or, refl, sym, ◌∙◌, arith}
 use Rattle.std.proofs.lemmas.List.{length-take}
+use Rattle.mail_codec.specs.Places.{begins, first_place}
 use Rattle.mail_codec.specs.private.QuotedPrintable.{is_mark, IsPlain}
+use Rattle.mail_codec.specs.private.Vectors.{lane_mask}
 use Rattle.mail_codec.proofs.lemmas.Vectors.{no_mark}
 use Rattle.mail_codec.proofs.lemmas.QuotedPrintableMarks.{mark_there, marks_later, plain-empty, plain-joined, plain-sign, plain-to_end, plain-to_mark}
 use Rattle.mail_codec.proofs.transfer.quoted_printable.blocks.put_marked.Goals as goal
 
+-- what the first mark from the next place on says of the text, and what is left of the marks
+record FirstMark (text : List ℕ) (at end mark left : ℕ) : Type 0 where
+  plain : IsPlain text at mark
+  inside : mark < end
+  sign : get_or text mark 0 ≢ 10 → get_or text mark 0 ≡ 61
+  later : (k next rest : ℕ) → next ≡ mark + k → ((test : ℕ → Bool) (bytes : List ℕ) → left ≡ lane_mask test bytes → rest ≡ lane_mask test (drop k bytes))
+      → rest ≡ lane_mask is_mark (take (end - next) (drop next text))
+
+first_mark : (text : List ℕ) (at end next rest count left : ℕ) → IsPlain text at next → rest ≡ lane_mask is_mark (take (end - next) (drop next text)) → end - next ≤ 64
+    → ((test : ℕ → Bool) (bytes : List ℕ) → length bytes ≤ 64 → rest ≡ lane_mask test bytes → (count ≡ first_place (begins test) bytes) × (count < length bytes))
+    → ((test : ℕ → Bool) (bytes : List ℕ) → rest ≡ lane_mask test bytes → left ≡ lane_mask test (drop count bytes)) → FirstMark text at end (next + count) left
+first_mark text at end next rest count left plain marks near least after =
+    let few = length-take (end - next) (drop next text) in
+    let first = least is_mark (take (end - next) (drop next text)) (omega (arith, few, near)) marks in
+    record {
+      plain = plain-to_mark text at next end count plain first.0;
+      inside = omega (arith, few, first.1);
+      sign = mark_there text next (end - next) count first.0 first.1;
+      later = λ k next' rest' is shift. marks_later text (next + count) end k next' left rest' is shift (marks_later text next end count (next + count) rest left refl after marks);
+    }
+
 pub put_line_end-read-requires-clause-plain : goal.put_line_end-read-requires-clause-plain
 put_line_end-read-requires-clause-plain c =
-    let text = c.args.text.now in
-    let end = c.args.end in
-    let next = c.marks.next in
-    let count = c.first_mark-count.result in
     let h = c.marks.invariant in
-    let few = length-take (end - next) (drop next text) in
-    let first = c.first_mark-count.ensures.least is_mark (take (end - next) (drop next text)) (omega (arith, few, h.later, h.ahead, c.requires.near)) h.left in
-    plain-to_mark text c.marks.read.at next end count h.plain first.0
+    let first = first_mark _ _ c.args.end _ _ c.first_mark-count.result c.marks_after-left.result h.plain h.left (omega (arith, h.later, h.ahead, c.requires.near)) c.first_mark-count.ensures.least c.marks_after-left.ensures in
+    first.plain
 
 pub marks-preserved-then-text-mark-eq10 : goal.marks-preserved-then-text-mark-eq10
 marks-preserved-then-text-mark-eq10 c =
-    let text = c.args.text.now in
-    let end = c.args.end in
-    let next = c.marks.next in
-    let count = c.first_mark-count.result in
     let h = c.marks.invariant in
-    let few = length-take (end - next) (drop next text) in
-    let first = c.first_mark-count.ensures.least is_mark (take (end - next) (drop next text)) (omega (arith, few, h.later, h.ahead, c.requires.near)) h.left in
-    let mark = next + count in
-    let left = marks_later text next end count mark c.marks.rest c.marks_after-left.result refl c.marks_after-left.ensures h.left in
+    let first = first_mark _ _ c.args.end _ _ c.first_mark-count.result c.marks_after-left.result h.plain h.left (omega (arith, h.later, h.ahead, c.requires.near)) c.first_mark-count.ensures.least c.marks_after-left.ensures in
     let line = c.put_line_end-read.ensures in
     record {
       begun = line.from ∙ h.begun;
       reading = line.reading;
       ahead = omega (arith, line.after.0);
-      plain = subst (λ k. IsPlain text k (mark + 1)) (sym line.after.0) (plain-empty text (mark + 1));
-      left = marks_later text mark end 1 (mark + 1) c.marks_after-left.result c.marks_after-rest.result refl c.marks_after-rest.ensures left;
+      plain = rw line.after.0 (plain-empty _ _);
+      left = first.later 1 _ _ refl c.marks_after-rest.ensures;
       room = omega (arith, line.fits, line.after.1, h.room, c.put_line_end-read.auto.output);
       later = omega (arith, h.later, h.ahead, line.after.0);
-      inside = omega (arith, few, first.1);
+      inside = omega (arith, first.inside);
     }
 
 pub escape_at-requires-clause-sign : goal.escape_at-requires-clause-sign
 escape_at-requires-clause-sign c =
-    let text = c.args.text.now in
-    let end = c.args.end in
-    let next = c.marks.next in
-    let count = c.first_mark-count.result in
     let h = c.marks.invariant in
-    let few = length-take (end - next) (drop next text) in
-    let first = c.first_mark-count.ensures.least is_mark (take (end - next) (drop next text)) (omega (arith, few, h.later, h.ahead, c.requires.near)) h.left in
-    mark_there text next (end - next) count first.0 first.1 c.if-text-mark-eq10.false
+    let first = first_mark _ _ c.args.end _ _ c.first_mark-count.result c.marks_after-left.result h.plain h.left (omega (arith, h.later, h.ahead, c.requires.near)) c.first_mark-count.ensures.least c.marks_after-left.ensures in
+    first.sign c.if-text-mark-eq10.false
 
 pub marks-preserved-then-after-mark : goal.marks-preserved-then-after-mark
 marks-preserved-then-after-mark c =
-    let text = c.args.text.now in
-    let end = c.args.end in
-    let next = c.marks.next in
-    let count = c.first_mark-count.result in
     let h = c.marks.invariant in
-    let few = length-take (end - next) (drop next text) in
-    let first = c.first_mark-count.ensures.least is_mark (take (end - next) (drop next text)) (omega (arith, few, h.later, h.ahead, c.requires.near)) h.left in
-    let mark = next + count in
-    let left = marks_later text next end count mark c.marks.rest c.marks_after-left.result refl c.marks_after-left.ensures h.left in
-    let sign = mark_there text next (end - next) count first.0 first.1 c.if-text-mark-eq10.false in
+    let first = first_mark _ _ c.args.end _ _ c.first_mark-count.result c.marks_after-left.result h.plain h.left (omega (arith, h.later, h.ahead, c.requires.near)) c.first_mark-count.ensures.least c.marks_after-left.ensures in
     record {
       begun = h.begun;
       reading = h.reading;
       ahead = omega (arith, h.ahead);
-      plain = plain-joined text c.marks.read.at mark (mark + 1) (plain-to_mark text c.marks.read.at next end count h.plain first.0) (plain-sign text mark sign (sym c.in_default.ensures.read));
-      left = marks_later text mark end 1 (mark + 1) c.marks_after-left.result c.marks_after-rest-then-after-mark.result refl c.marks_after-rest-then-after-mark.ensures left;
+      plain = plain-joined _ _ _ _ first.plain (plain-sign c.args.text.now (c.marks.next + c.first_mark-count.result) (first.sign c.if-text-mark-eq10.false) (sym c.in_default.ensures.read));
+      left = first.later 1 _ _ refl c.marks_after-rest-then-after-mark.ensures;
       room = h.room;
       later = h.later;
-      inside = omega (arith, few, first.1);
+      inside = omega (arith, first.inside);
     }
 
 pub put_soft_break-read-requires-clause-plain : goal.put_soft_break-read-requires-clause-plain
 put_soft_break-read-requires-clause-plain c =
-    let text = c.args.text.now in
-    let end = c.args.end in
-    let next = c.marks.next in
-    let count = c.first_mark-count.result in
     let h = c.marks.invariant in
-    let few = length-take (end - next) (drop next text) in
-    let first = c.first_mark-count.ensures.least is_mark (take (end - next) (drop next text)) (omega (arith, few, h.later, h.ahead, c.requires.near)) h.left in
-    plain-to_mark text c.marks.read.at next end count h.plain first.0
+    let first = first_mark _ _ c.args.end _ _ c.first_mark-count.result c.marks_after-left.result h.plain h.left (omega (arith, h.later, h.ahead, c.requires.near)) c.first_mark-count.ensures.least c.marks_after-left.ensures in
+    first.plain
 
 pub marks-preserved-in_default : goal.marks-preserved-in_default
 marks-preserved-in_default c =
-    let text = c.args.text.now in
-    let end = c.args.end in
-    let next = c.marks.next in
-    let count = c.first_mark-count.result in
+    let mark = c.marks.next + c.first_mark-count.result in
     let h = c.marks.invariant in
-    let few = length-take (end - next) (drop next text) in
-    let first = c.first_mark-count.ensures.least is_mark (take (end - next) (drop next text)) (omega (arith, few, h.later, h.ahead, c.requires.near)) h.left in
-    let mark = next + count in
-    let left = marks_later text next end count mark c.marks.rest c.marks_after-left.result refl c.marks_after-left.ensures h.left in
+    let first = first_mark _ _ c.args.end _ _ c.first_mark-count.result c.marks_after-left.result h.plain h.left (omega (arith, h.later, h.ahead, c.requires.near)) c.first_mark-count.ensures.least c.marks_after-left.ensures in
     let soft = c.put_soft_break-read.ensures in
     let near = c.after_soft_break-after.ensures in
     let after = c.after_soft_break-after.result in
@@ -102,62 +89,46 @@ marks-preserved-in_default c =
       begun = soft.from ∙ h.begun;
       reading = soft.reading;
       ahead = omega (arith, soft.after.0);
-      plain = subst (λ k. IsPlain text k after) (sym soft.after.0) (plain-empty text after);
-      left = marks_later text mark end (after - mark) after c.marks_after-left.result c.marks_after-rest-in_default.result (omega (arith, near.bounds.0)) c.marks_after-rest-in_default.ensures left;
+      plain = rw soft.after.0 (plain-empty _ _);
+      left = first.later (after - mark) after _ (omega (arith, near.bounds.0)) c.marks_after-rest-in_default.ensures;
       room = omega (arith, soft.fits, soft.after.1, near.bounds.0, c.if-after-mark.false, h.room, c.put_soft_break-read.auto.output);
       later = omega (arith, h.later, h.ahead, soft.after.0, near.bounds.0);
-      inside = omega (arith, few, first.1, near.near);
+      inside = omega (arith, first.inside, near.near);
     }
 
 pub put_escape-read-requires-clause-plain : goal.put_escape-read-requires-clause-plain
 put_escape-read-requires-clause-plain c =
-    let text = c.args.text.now in
-    let end = c.args.end in
-    let next = c.marks.next in
-    let count = c.first_mark-count.result in
     let h = c.marks.invariant in
-    let few = length-take (end - next) (drop next text) in
-    let first = c.first_mark-count.ensures.least is_mark (take (end - next) (drop next text)) (omega (arith, few, h.later, h.ahead, c.requires.near)) h.left in
-    plain-to_mark text c.marks.read.at next end count h.plain first.0
+    let first = first_mark _ _ c.args.end _ _ c.first_mark-count.result c.marks_after-left.result h.plain h.left (omega (arith, h.later, h.ahead, c.requires.near)) c.first_mark-count.ensures.least c.marks_after-left.ensures in
+    first.plain
 
 pub marks-preserved-then-text-next-ne61 : goal.marks-preserved-then-text-next-ne61
 marks-preserved-then-text-next-ne61 c =
-    let text = c.args.text.now in
-    let end = c.args.end in
-    let next = c.marks.next in
-    let count = c.first_mark-count.result in
     let h = c.marks.invariant in
-    let few = length-take (end - next) (drop next text) in
-    let first = c.first_mark-count.ensures.least is_mark (take (end - next) (drop next text)) (omega (arith, few, h.later, h.ahead, c.requires.near)) h.left in
-    let mark = next + count in
-    let left = marks_later text next end count mark c.marks.rest c.marks_after-left.result refl c.marks_after-left.ensures h.left in
+    let first = first_mark _ _ c.args.end _ _ c.first_mark-count.result c.marks_after-left.result h.plain h.left (omega (arith, h.later, h.ahead, c.requires.near)) c.first_mark-count.ensures.least c.marks_after-left.ensures in
     let escape = c.put_escape-read.ensures in
     record {
       begun = escape.from ∙ h.begun;
       reading = escape.reading;
       ahead = omega (arith, escape.after.0);
-      plain = subst (λ k. IsPlain text k (mark + 3)) (sym escape.after.0) (plain-empty text (mark + 3));
-      left = marks_later text mark end 3 (mark + 3) c.marks_after-left.result c.marks_after-rest-in-marks.result refl c.marks_after-rest-in-marks.ensures left;
+      plain = rw escape.after.0 (plain-empty _ _);
+      left = first.later 3 _ _ refl c.marks_after-rest-in-marks.ensures;
       room = omega (arith, escape.fits, escape.after.1, h.room, c.put_escape-read.auto.output);
       later = omega (arith, h.later, h.ahead, escape.after.0);
-      inside = omega (arith, few, first.1);
+      inside = omega (arith, first.inside);
     }
 
 pub marks-preserved : goal.marks-preserved
 marks-preserved c =
     let text = c.args.text.now in
     let end = c.args.end in
-    let next = c.marks.next in
-    let count = c.first_mark-count.result in
+    let mark = c.marks.next + c.first_mark-count.result in
     let h = c.marks.invariant in
-    let few = length-take (end - next) (drop next text) in
-    let first = c.first_mark-count.ensures.least is_mark (take (end - next) (drop next text)) (omega (arith, few, h.later, h.ahead, c.requires.near)) h.left in
-    let mark = next + count in
-    let left = marks_later text next end count mark c.marks.rest c.marks_after-left.result refl c.marks_after-left.ensures h.left in
+    let first = first_mark _ _ c.args.end _ _ c.first_mark-count.result c.marks_after-left.result h.plain h.left (omega (arith, h.later, h.ahead, c.requires.near)) c.first_mark-count.ensures.least c.marks_after-left.ensures in
     let escape = c.put_escape-read.ensures in
     let more = c.put_more_escapes-read.ensures in
     let after = c.put_more_escapes-read.result.at in
-    let third = marks_later text mark end 3 (mark + 3) c.marks_after-left.result c.marks_after-rest-in-marks.result refl c.marks_after-rest-in-marks.ensures left in
+    let third = first.later 3 (mark + 3) _ refl c.marks_after-rest-in-marks.ensures in
     record {
       begun = more.from ∙ escape.from ∙ h.begun;
       reading = more.reading;
