@@ -1,5 +1,5 @@
 -- Two dispositions are equal exactly if their kinds are.
-use Rattle.std.proofs.Common.{◌≡◌, ◌≢◌, ℕ, false, List, [], refl, ap, arith}
+use Rattle.std.proofs.Common.{◌≡◌, false, refl, ap}
 use Rattle.std.proofs.lemmas.Bool.{false≢true}
 use Rattle.std.proofs.lemmas.Slice.Eq.{bytes_eq-Decides}
 use Rattle.std.specs.Prelude.{Decides, string_bytes}
