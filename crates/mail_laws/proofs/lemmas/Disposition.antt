@@ -3,7 +3,7 @@ use Rattle.std.proofs.Common.{◌≡◌, false, refl, ap}
 use Rattle.std.proofs.lemmas.Bool.{false≢true}
 use Rattle.std.proofs.lemmas.Slice.Eq.{bytes_eq-Decides}
 use Rattle.std.specs.Prelude.{Decides, string_bytes}
-use Rattle.mailparse.specs.Disposition.{Kind, inline, attachment, form_data, extension}
+use Rattle.mailparse.specs.Disposition.{Kind, extension}
 use Rattle.mailparse.specs.Views.{kind}
 use Rattle.mailparse.specs.contracts.disposition.DispositionTypePartialEq.TheImpl.{ghosts}
 use Rattle.mailparse.specs.declared.disposition.DispositionType.{DispositionType}

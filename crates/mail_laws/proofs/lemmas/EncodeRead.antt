@@ -208,18 +208,13 @@ shown_next (w ∷ ws) =
     ap (λ t. encode_utf8_all w ++ (cond t [] [] ++ shown_after (Some decoded_word) (Some whitespace) (next_tokens ws))) (not_released ws)
     ∙ ap (λ r. encode_utf8_all w ++ r) (shown_next ws)
 
-shown_all : (w : List ℕ) (ws : List (List ℕ)) → shown_tokens (around (encode_utf8_all w) ++ next_tokens ws) ≡ flat_map encode_utf8_all (w ∷ ws)
-shown_all w ws =
-    ap (λ t. encode_utf8_all w ++ (cond t [] [] ++ shown_after (Some decoded_word) (Some whitespace) (next_tokens ws))) (not_released ws)
-    ∙ ap (λ r. encode_utf8_all w ++ r) (shown_next ws)
-
 words_show : (known : Charsets) → KnowUtf8 known → (w : List ℕ) (ws : List (List ℕ)) → AreTexts (w ∷ ws)
     → shown_value known (word_lines (w ∷ ws)) ≡ flat_map encode_utf8_all (w ∷ ws)
 unfolding shown_value value_tokens
 words_show known knows w ws h =
     ap (λ ls. shown_tokens (tokens_of_lines known ls)) (trimmed_lines w ws h)
     ∙ ap shown_tokens (tokens_are known knows w ws h)
-    ∙ shown_all w ws
+    ∙ shown_next (w ∷ ws)
 
 -- ---- the whole value
 
@@ -297,10 +292,7 @@ caller_knows tables = go (four_charsets (codes "utf-8")) (ap (option_map text_of
     go : (o : Option (List ℕ → List ℕ)) → o ≡ Some (text_of Utf8)
         → option_or o (option_map table_text (find (has_label (codes "utf-8")) tables)) ≡ o
     go (Some reading) e = refl
-    go None e = absurd (no_none e)
-      where
-        no_none : ◌≡◌ {A = Option (List ℕ → List ℕ)} None (Some (text_of Utf8)) → ⊥
-        no_none e = cc
+    go None e = absurd (cc)
 
 -- and so give the texts of values
 pub caller_reads : (tables : List SingleByteTable) (text : List ℕ) → IsUtf8 text → lenient_value_in (charsets_with tables) (written_value text) ≡ text
