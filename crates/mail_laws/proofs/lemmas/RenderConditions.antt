@@ -56,10 +56,7 @@ utf8_told P Q (Err e) bytes cases = sym (false_from_ne_true (is_utf8 bytes) (λ 
 -- where the values are UTF-8, so is that of the first `Content-Type`
 text_found : (headers : List Header) (value : List ℕ) → list_all (λ h. is_utf8 h.value) headers ≡ true
     → option_map (λ h. h.value) (type_header headers) ≡ Some value → is_utf8 value ≡ true
-text_found [] value all found = absurd (no_none found)
-  where
-    no_none : ◌≡◌ {A = Option (List ℕ)} None (Some value) → ⊥
-    no_none e = cc
+text_found [] value all found = let none : ◌≡◌ {A = Option (List ℕ)} None (Some value) = found in absurd (cc)
 text_found (h ∷ headers) value all found =
     let each = and_parts (is_utf8 h.value) (list_all (λ h. is_utf8 h.value) headers) all in
     by_key (has_type_key h) refl each.0 (text_found headers value each.1)

@@ -4,7 +4,8 @@ use Rattle.std.specs.Char.{is_ascii_alphanumeric}
 use Rattle.std.specs.List.{list_all}
 use Rattle.std.specs.Option.{option_map_or}
 use Rattle.std.specs.Str.{bytes_eq, is_utf8}
-use Rattle.std.proofs.lemmas.Bool.{cond-false, cases_lt, ne_eqb, eqb-true, leb-true, and_parts, or_parts, false≢true, not-true}
+use Rattle.std.proofs.lemmas.Bool.{cond-false, cases_lt, ne_eqb, leb-true, and_parts, or_parts, false≢true, not-true}
+use Rattle.std.proofs.lemmas.Bool.Decides.{nat_tests}
 use Rattle.std.proofs.lemmas.List.{append_cancel_left, drop_at, map-append, take_at, take_all}
 use lib.Pointwise.{bytes_decides}
 use Rattle.mail_codec.specs.Charset.{Charsets, four_charsets}
@@ -52,11 +53,7 @@ AreClear-from boundary (outline_and part parts) none =
 
 -- letters and digits are no CR
 no_return-alphanumeric : (b : ℕ) → is_ascii_alphanumeric b ≡ true → no_return b ≡ true
-no_return-alphanumeric b h = go (eqb b 13) refl
-  where
-    go : (t : Bool) → eqb b 13 ≡ t → not t ≡ true
-    go true e = absurd (false≢true (ap is_ascii_alphanumeric (sym (eqb-true b 13 e)) ∙ h))
-    go false e = refl
+no_return-alphanumeric b h = grind (arith, nat_tests)
 
 dash_boundary-free : (boundary : List ℕ) → list_all is_ascii_alphanumeric boundary ≡ true → list_all no_return (dash_boundary boundary) ≡ true
 dash_boundary-free boundary all = list_all-weaker is_ascii_alphanumeric no_return no_return-alphanumeric boundary all
@@ -91,14 +88,11 @@ branch-formed headers boundary parts formed =
 -- what is read of each part, unless one is refused
 each_read : (read : List ℕ → Reads Tree) (part : List ℕ) (parts : List (List ℕ)) (t : Tree) (others : Reads Forest) → read part ≡ Ok t → read_each read parts ≡ others
     → read_each read (part ∷ parts) ≡ ◌>>=◌ others (λ xs. Ok (part_and t xs))
-each_read read part parts t others first later =
-    ap (λ (r : Reads Tree). ◌>>=◌ r (λ x. ◌>>=◌ (read_each read parts) (λ xs. Ok (part_and x xs)))) first
-    ∙ ap (λ (r : Reads Forest). ◌>>=◌ r (λ xs. Ok (part_and t xs))) later
+each_read read part parts t others first later = rw (first, later) refl
 
 first_refused : (read : List ℕ → Reads Tree) (part : List ℕ) (parts : List (List ℕ)) → read part ≡ Err recursion_limit
     → read_each read (part ∷ parts) ≡ Err recursion_limit
-first_refused read part parts first =
-    ap (λ (r : Reads Tree). ◌>>=◌ r (λ x. ◌>>=◌ (read_each read parts) (λ xs. Ok (part_and x xs)))) first
+first_refused read part parts first = rw first refl
 
 -- Under the charsets that are known.
 module _ (known : Charsets) where
@@ -247,13 +241,7 @@ module _ (known : Charsets) where
   -- ---- the message that an outline stands for tells the outline
 
   same_parts : (t u : Tree) (ts us : Forest) → part_and t ts ≡ part_and u us → (t ≡ u) × (ts ≡ us)
-  same_parts t u ts us e = (first e, others e)
-    where
-      first : part_and t ts ≡ part_and u us → t ≡ u
-      first h = cc
-
-      others : part_and t ts ≡ part_and u us → ts ≡ us
-      others h = cc
+  same_parts t u ts us e = ((cc), (cc))
 
   abbrev is_bare : Forest → Bool
   is_bare no_parts = true

@@ -1,5 +1,5 @@
 -- Lemmas on where the headers of a block, their keys and their values stand.
-use Rattle.std.proofs.Common.{◌≡◌, ℕ, zero, suc, ◌+◌, ◌-◌, ◌<◌, ◌≤◌, ◌⊎◌, inl, inr, List, ◌++◌, take, drop, slice_range, Ok, refl, sym, ap, ◌∙◌, arith, take-add}
+use Rattle.std.proofs.Common.{◌≡◌, ℕ, zero, suc, ◌+◌, ◌-◌, ◌<◌, ◌≤◌, inl, inr, List, ◌++◌, take, drop, slice_range, Ok, refl, sym, ap, ◌∙◌, arith, take-add}
 use Rattle.std.specs.List.{flat_map}
 use Rattle.std.proofs.lemmas.Bool.{cases_lt}
 use Rattle.std.proofs.lemmas.List.{drop-drop}
@@ -67,11 +67,10 @@ ranges-in_order raw j =
 -- the places go on
 place-later : (raw : List ℕ) (j n : ℕ) → j ≤ n → header_place raw j ≤ header_place raw n
 place-later raw j zero low = let e : j ≡ 0 = omega arith in rw e (omega arith)
-place-later raw j (suc n) low = by_last (λ below. place-later raw j n below) (cases_lt n j)
-  where
-    by_last : (j ≤ n → header_place raw j ≤ header_place raw n) → (n < j) ⊎ (j ≤ n) → header_place raw j ≤ header_place raw (suc n)
-    by_last more (inl last) = let e : j ≡ suc n = omega arith in rw e (omega arith)
-    by_last more (inr below) = let before = more below in let next = place-next raw n in omega arith
+place-later raw j (suc n) low = elim (cases_lt n j) [
+  | inl last ↦ let e : j ≡ suc n = omega arith in rw e (omega arith)
+  | inr below ↦ let before = place-later raw j n below in let next = place-next raw n in omega arith
+]
 
 pub place-within : (raw : List ℕ) (block : HeaderList) (j : ℕ) → read_headers raw ≡ Ok block → j < header_count raw → header_place raw (suc j) ≤ block.index
 place-within raw block j e low =
