@@ -3,7 +3,7 @@ use Rattle.std.proofs.Common.{◌≡◌, ℕ, ◌<◌, Bool, true, false, cond, 
 use Rattle.std.specs.Prelude.{All}
 use Rattle.std.specs.List.{list_any, slice_split, onto_first, position_or_len, before_first, after_first}
 use Rattle.std.specs.Str.{IsUtf8, chars, encode_utf8_all, skip_leading_whitespace, trim_start}
-use Rattle.std.proofs.lemmas.Bool.{eqb-true, ltb-true}
+use Rattle.std.proofs.lemmas.Bool.{cond-false, eqb-true, ltb-true, or_parts}
 use Rattle.std.proofs.lemmas.List.{get_or-take}
 use Rattle.std.proofs.lemmas.List.Elements.{All-cons, All-head, All-tail}
 use Rattle.std.proofs.lemmas.List.Folds.{list_any_none}
@@ -41,13 +41,9 @@ opened_both s id utf8 = by_front s (encoded_after 60 utf8.0 id (lit< tt) utf8.1.
 -- a piece up to its `>`
 pub split_at : (piece rest : List ℕ) → list_any is_closing piece ≡ false → slice_split is_closing (piece ++ 62 ∷ rest) ≡ piece ∷ slice_split is_closing rest
 split_at [] rest h = refl
-split_at (b ∷ piece) rest h = go (split_at piece rest) (is_closing b) h
-  where
-    go : (list_any is_closing piece ≡ false → slice_split is_closing (piece ++ 62 ∷ rest) ≡ piece ∷ slice_split is_closing rest)
-        → (t : Bool) → t || list_any is_closing piece ≡ false
-        → cond t ([] ∷ slice_split is_closing (piece ++ 62 ∷ rest)) (onto_first b (slice_split is_closing (piece ++ 62 ∷ rest))) ≡ (b ∷ piece) ∷ slice_split is_closing rest
-    go later true h = absurd (cc)
-    go later false h = ap (onto_first b) (later h)
+split_at (b ∷ piece) rest h =
+    let parts = or_parts (is_closing b) (list_any is_closing piece) h in
+    cond-false _ _ _ parts.0 ∙ ap (onto_first b) (split_at piece rest parts.1)
 
 front_free : (s : Bool) (id : List ℕ) → HoldsNoClosing id → list_any is_closing (front s (60 ∷ id)) ≡ false
 front_free true id h = h

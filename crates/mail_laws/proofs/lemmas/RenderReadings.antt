@@ -102,10 +102,7 @@ module _ (known : Charsets) where
       → read_levels known (suc levels) false bytes
       ≡ ◌>>=◌ (read_each (read_levels known levels (is_digest ctype)) (map (slice bytes) cut.parts)) (λ parts. Ok (tree (node_with bytes block ctype cut) parts))
   unfolding read_levels
-  read_levels-cut levels bytes block ctype cut read type is =
-      ap (λ (r : Reads HeaderList). ◌>>=◌ r (λ b. read_parts known (read_levels known levels) bytes b (node_type known false b.headers))) read
-      ∙ ap (λ (t : ContentType). read_parts known (read_levels known levels) bytes block t) type
-      ∙ ap (λ (c : Cut). ◌>>=◌ (read_each (read_levels known levels (is_digest ctype)) (map (slice bytes) c.parts)) (λ parts. Ok (tree (node_with bytes block ctype c) parts))) is
+  read_levels-cut levels bytes block ctype cut read type is = rw (read, type, is) refl
 
   read_levels-none : (bytes : List ℕ) → read_levels known zero false bytes ≡ Err recursion_limit
   unfolding read_levels
@@ -243,14 +240,10 @@ module _ (known : Charsets) where
   same_parts : (t u : Tree) (ts us : Forest) → part_and t ts ≡ part_and u us → (t ≡ u) × (ts ≡ us)
   same_parts t u ts us e = ((cc), (cc))
 
-  abbrev is_bare : Forest → Bool
-  is_bare no_parts = true
-  is_bare (part_and t ts) = false
-
   -- an outline with parts stands for a message with parts
   some_parts : (headers : List Header) (boundary : List ℕ) (parts : OutlineForest) → has_some_part (branch headers boundary parts) ≡ true → no_parts ≡ stand_for known parts → ⊥
   some_parts headers boundary no_outlines some e = false≢true some
-  some_parts headers boundary (outline_and part parts) some e = false≢true (sym (ap is_bare e))
+  some_parts headers boundary (outline_and part parts) some e = let f : no_parts ≡ part_and (stands_for known part) (stand_for known parts) = e in cc
 
   -- its first `Content-Type` tells its boundary
   same_boundary : (found : Option Header) (one two : List ℕ) → option_map_or (λ h. bytes_eq h.value (boundary_type one)) found false ≡ true
@@ -283,8 +276,8 @@ module _ (known : Charsets) where
 
     tell : (one two : OutlineForest) → are_well_formed_within one ≡ true → are_well_formed_within two ≡ true → stand_for known one ≡ stand_for known two → one ≡ two
     tell no_outlines no_outlines formed also e = refl
-    tell no_outlines (outline_and part parts) formed also e = absurd (false≢true (sym (ap is_bare e)))
-    tell (outline_and part parts) no_outlines formed also e = absurd (false≢true (ap is_bare e))
+    tell no_outlines (outline_and part parts) formed also e = let f : no_parts ≡ part_and (stands_for known part) (stand_for known parts) = e in absurd (cc)
+    tell (outline_and part parts) no_outlines formed also e = let f : part_and (stands_for known part) (stand_for known parts) ≡ no_parts = e in absurd (cc)
     tell (outline_and part parts) (outline_and other others) formed also e =
         let one = and_parts (is_well_formed_within part) (are_well_formed_within parts) formed in
         let two = and_parts (is_well_formed_within other) (are_well_formed_within others) also in
