@@ -1,5 +1,5 @@
 -- Lists of message ids that are written and read.
-use Rattle.std.proofs.Common.{◌≡◌, ℕ, ◌<◌, Bool, true, false, cond, ◌||◌, List, [], ◌∷◌, ◌++◌, length, drop, Result, Ok, Err, refl, sym, ap, ◌∙◌, arith, append_assoc, length-take, lit<}
+use Rattle.std.proofs.Common.{◌≡◌, ℕ, ◌<◌, Bool, true, false, cond, List, [], ◌∷◌, ◌++◌, length, drop, Result, Ok, Err, refl, sym, ap, ◌∙◌, arith, append_assoc, length-take, lit<}
 use Rattle.std.specs.Prelude.{All}
 use Rattle.std.specs.List.{list_any, slice_split, onto_first, position_or_len, before_first, after_first}
 use Rattle.std.specs.Str.{IsUtf8, chars, encode_utf8_all, skip_leading_whitespace, trim_start}
@@ -134,11 +134,7 @@ cons_same : (a b : List ℕ) (later : Result (List (List ℕ)) Refusal) (ids : L
 cons_same a b (Err refusal) ids h = absurd (cc)
 cons_same a b (Ok found) ids h =
     let all : ◌≡◌ {A = List (List ℕ)} (a ∷ found) (b ∷ ids) = cc in
-    (ap (head_or []) all, ap (λ xs. Ok (drop 1 xs)) all)
-  where
-    head_or : List ℕ → List (List ℕ) → List ℕ
-    head_or d [] = d
-    head_or d (x ∷ xs) = x
+    ((cc), (cc))
 
 not_cut : (s : Bool) (id : List ℕ) (ids : List (List ℕ)) → IsUtf8 id
     → ids_of_pieces (slice_split is_closing (front s (written_ids (id ∷ ids)))) ≡ Ok (id ∷ ids) → HoldsNoClosing id

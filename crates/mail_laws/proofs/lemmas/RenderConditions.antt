@@ -28,13 +28,9 @@ pub prefixed : (prefix text rest : List ℕ) → pointwise nat_eq (take (length 
     → bytes_eq (drop (length prefix) text) rest ≡ bytes_eq text (prefix ++ rest)
 prefixed [] text rest h = refl
 prefixed (p ∷ prefix) [] rest h = absurd (false≢true h)
-prefixed (p ∷ prefix) (t ∷ text) rest h = by_first (nat_eq t p) h (prefixed prefix text rest)
-  where
-    by_first : (v : Bool) → v && pointwise nat_eq (take (length prefix) text) prefix ≡ true
-        → (pointwise nat_eq (take (length prefix) text) prefix ≡ true → bytes_eq (drop (length prefix) text) rest ≡ bytes_eq text (prefix ++ rest))
-        → bytes_eq (drop (length prefix) text) rest ≡ v && bytes_eq text (prefix ++ rest)
-    by_first true h later = later h
-    by_first false h later = absurd (false≢true h)
+prefixed (p ∷ prefix) (t ∷ text) rest h =
+    let parts = and_parts (nat_eq t p) (pointwise nat_eq (take (length prefix) text) prefix) h in
+    prefixed prefix text rest parts.1 ∙ ap (λ v. v && bytes_eq text (prefix ++ rest)) (sym parts.0)
 
 -- another text is not
 pub not_prefixed : (prefix text rest : List ℕ) → pointwise nat_eq (take (length prefix) text) prefix ≡ false → false ≡ bytes_eq text (prefix ++ rest)
