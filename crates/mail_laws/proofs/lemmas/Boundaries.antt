@@ -1,6 +1,6 @@
 -- The text `multipart/mixed; boundary=B`, where B is letters and digits.
 use Rattle.std.proofs.Common.{◌≡◌, ◌≢◌, ◌⊎◌, ℕ, zero, suc, ◌≤◌, Bool, true, false, eqb, not, ◌&&◌, List, [], ◌∷◌, ◌++◌, length, Some, codes, refl, ap, ◌∙◌, ⊎_elim, arith, length-append}
-use Rattle.std.proofs.lemmas.Bool.{cond-false, ne_eqb, eqb-false, and_left, and_right, and_parts, cases_lt}
+use Rattle.std.proofs.lemmas.Bool.{cond-false, ne_eqb, eqb-false, and_left, and_right, and_parts, cases_lt, not-true}
 use Rattle.std.proofs.lemmas.List.{get_or_past}
 use Rattle.std.proofs.lemmas.List.Elements.{All-head, All-tail}
 use Rattle.std.proofs.lemmas.Str.{chars-IsAscii, encodes-IsAscii}
@@ -89,11 +89,7 @@ abbrev plain : ℕ → Bool
 plain b = not (eqb b quote) && not (eqb b semicolon)
 
 different : (b n : ℕ) → not (eqb b n) ≡ true → b ≢ n
-different b n h = go (eqb b n) refl h
-  where
-    go : (t : Bool) → eqb b n ≡ t → not t ≡ true → b ≢ n
-    go true e h = absurd (cc)
-    go false e h = eqb-false b n e
+different b n h = eqb-false b n (not-true (eqb b n) h)
 
 segments_after : (front rest : List ℕ) (p : List ℕ) (ps : List (List ℕ)) → list_all plain front ≡ true → segments_from outside rest ≡ p ∷ ps
     → segments_from outside (front ++ rest) ≡ (front ++ p) ∷ ps

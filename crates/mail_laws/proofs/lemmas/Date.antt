@@ -1,8 +1,8 @@
 -- Days that follow each other.
-use Rattle.std.proofs.Common.{◌≡◌, ℕ, zero, suc, ◌+◌, ◌-◌, ◌*◌, ◌/◌, ◌<◌, ◌≤◌, Bool, true, false, cond, ltb, List, [], ◌∷◌, length, take, get_or, sum, refl, sym, ap, ◌∙◌, arith}
+use Rattle.std.proofs.Common.{◌≡◌, ℕ, suc, ◌+◌, ◌-◌, ◌*◌, ◌/◌, ◌<◌, ◌≤◌, Bool, true, false, cond, ltb, List, [], ◌∷◌, length, take, get_or, sum, refl, sym, ap, ◌∙◌, arith}
 use Rattle.std.specs.List.{list_all}
-use Rattle.std.proofs.lemmas.Bool.{and_parts, ltb-true}
-use Rattle.std.proofs.lemmas.List.Sums.{fold_more}
+use Rattle.std.proofs.lemmas.Bool.{ltb-true}
+use Rattle.std.proofs.lemmas.List.Sums.{AllPass-from_list_all, fold_more}
 use Rattle.mailparse.specs.Date.{day_number, days_of_years, is_leap_year, month_lengths, year_length}
 use Rattle.mailparse.proofs.lemmas.Date.{days_of_years-closed}
 
@@ -16,9 +16,7 @@ pub in_month : (year month day : ℕ) → 1 ≤ day → 86400 * day_number year 
 in_month year month day h = omega arith
 
 all_some : (xs : List ℕ) (k : ℕ) → list_all (λ n. ltb 0 n) xs ≡ true → k < length xs → 1 ≤ get_or xs k 0
-all_some [] k all h = absurd (omega arith)
-all_some (x ∷ xs) zero all h = let some = ltb-true 0 x (and_parts (ltb 0 x) _ all).0 in omega arith
-all_some (x ∷ xs) (suc k) all h = all_some xs k (and_parts (ltb 0 x) _ all).1 (omega arith)
+all_some xs k all h = let some = ltb-true 0 _ (AllPass-from_list_all (λ n. ltb 0 n) xs all k 0 h) in omega arith
 
 -- each month has a day
 month_some : (leap : Bool) (k : ℕ) → k < 12 → 1 ≤ get_or (31 ∷ cond leap 29 28 ∷ 31 ∷ 30 ∷ 31 ∷ 30 ∷ 31 ∷ 31 ∷ 30 ∷ 31 ∷ 30 ∷ 31 ∷ []) k 0

@@ -3,7 +3,7 @@ use Rattle.std.proofs.Common.{◌≡◌, ℕ, zero, suc, ◌+◌, ◌-◌, ◌<�
 use Rattle.std.specs.Prelude.{nat_lt, ◌==◌, filter_map, option_and_then, codes, if◌then◌else◌}
 use Rattle.std.specs.List.{cons_option}
 use Rattle.std.specs.Option.{option_map_or}
-use Rattle.std.proofs.lemmas.Bool.{cases_lt, cases_eq, cases_Bool, lt-ltb, le-ltb, eq-eqb, eqb-true, ne_eqb, and_parts, and_from, or_left, or_right, false≢true}
+use Rattle.std.proofs.lemmas.Bool.{cond-true, cond-false, cases_lt, cases_eq, cases_Bool, lt-ltb, le-ltb, eq-eqb, eqb-true, ne_eqb, and_parts, and_from, and_left, or_left, or_right, false≢true}
 use Rattle.std.proofs.lemmas.Bool.Decides.{Decides-eqb}
 use Rattle.std.proofs.lemmas.List.{drop_all}
 use Rattle.std.proofs.lemmas.Slice.Eq.{slice_eq-Decides}
@@ -40,15 +40,9 @@ byte-rest bytes b q k has = let len = length-drop q bytes in (omega (arith, has.
 
 -- ---- what runs up to a place, less the line end before it
 
-nat_lt-and : (start p : ℕ) (t : Bool) → p ≤ start → (nat_lt start p && t) ≡ false
-nat_lt-and start p t low = ap (λ x. x && t) (le-ltb start p low)
-
-before_byte-cut : (b : ℕ) (bytes : List ℕ) (start p : ℕ) → start < p → HasByteAt bytes b (p - 1) → before_byte b bytes start p ≡ p - 1
-before_byte-cut b bytes start p low has =
-    ap (λ t. if t then p - 1 else p) (and_from (nat_lt start p) (begins (λ x. x == b) (drop (p - 1) bytes)) (lt-ltb start p low) (byte-there bytes b (p - 1) has))
-
 pub before_byte-start : (b : ℕ) (bytes : List ℕ) (start p : ℕ) → p ≤ start → before_byte b bytes start p ≡ p
-before_byte-start b bytes start p low = ap (λ t. if t then p - 1 else p) (nat_lt-and start p (begins (λ x. x == b) (drop (p - 1) bytes)) low)
+before_byte-start b bytes start p low =
+    cond-false (nat_lt start p && begins (λ x. x == b) (drop (p - 1) bytes)) (p - 1) p (and_left (nat_lt start p) _ (le-ltb start p low))
 
 before_byte-other : (b : ℕ) (bytes : List ℕ) (start p : ℕ) → ¬ HasByteAt bytes b (p - 1) → before_byte b bytes start p ≡ p
 before_byte-other b bytes start p other = ⊎_elim
@@ -56,23 +50,32 @@ before_byte-other b bytes start p other = ⊎_elim
     (λ h. ap (λ t. if t then p - 1 else p) h)
     (cases_Bool (nat_lt start p && begins (λ x. x == b) (drop (p - 1) bytes)))
 
+before_byte-one : (b : ℕ) (bytes : List ℕ) (start p : ℕ) → start ≤ p → begins (λ x. x == b) (drop p bytes) ≡ true → before_byte b bytes start (suc p) ≡ p
+before_byte-one b bytes start p low h =
+    let less : suc p - 1 ≡ p = omega arith in
+    let at : begins (λ x. x == b) (drop (suc p - 1) bytes) ≡ true = ap (λ n. begins (λ x. x == b) (drop n bytes)) less ∙ h in
+    cond-true (nat_lt start (suc p) && begins (λ x. x == b) (drop (suc p - 1) bytes)) (suc p - 1) (suc p)
+    (and_from _ _ (lt-ltb start (suc p) (omega arith)) at) ∙ less
+
+pub before_line_end-crlf : (bytes : List ℕ) (start p : ℕ) → start ≤ p → begins (λ x. x == 13) (drop p bytes) ≡ true → begins (λ x. x == 10) (drop (suc p) bytes) ≡ true
+    → before_line_end bytes start (suc (suc p)) ≡ p
+before_line_end-crlf bytes start p low return feed =
+    ap (before_byte 13 bytes start) (before_byte-one 10 bytes start (suc p) (omega arith) feed)
+    ∙ before_byte-one 13 bytes start p low return
+
+pub before_line_end-start : (bytes : List ℕ) (start : ℕ) → before_line_end bytes start start ≡ start
+before_line_end-start bytes start =
+    ap (before_byte 13 bytes start) (before_byte-start 10 bytes start start (omega arith)) ∙ before_byte-start 13 bytes start start (omega arith)
+
 module _ (bytes : List ℕ) (s q : ℕ) where
   ends-is : (e : ℕ) → EndsBefore bytes s q e → e ≡ before_line_end bytes s q
-  ends-is e (nothing_between start same) =
-      let feed = before_byte-start 10 bytes s q (omega arith) in
-      let return = before_byte-start 13 bytes s (before_byte 10 bytes s q) (omega arith) in
-      omega arith
+  ends-is e (nothing_between start same) = start ∙ sym (ap (before_line_end bytes s) same ∙ before_line_end-start bytes s)
   ends-is e (line_feed_before next low feed other) =
-      let one : before_byte 10 bytes s q ≡ q - 1 = before_byte-cut 10 bytes s q (omega arith) (subst (HasByteAt bytes 10) (omega arith) feed) in
-      let here : before_byte 10 bytes s q ≡ e = one ∙ omega arith in
+      let here : before_byte 10 bytes s q ≡ e = ap (before_byte 10 bytes s) (sym next) ∙ before_byte-one 10 bytes s e low (byte-there bytes 10 e feed) in
       let none : before_byte 13 bytes s e ≡ e = ⊎_elim (λ start. before_byte-start 13 bytes s e (omega arith)) (λ not. before_byte-other 13 bytes s e not) other in
       sym (ap (before_byte 13 bytes s) here ∙ none)
   ends-is e (both_before next low return feed) =
-      let one : before_byte 10 bytes s q ≡ q - 1 = before_byte-cut 10 bytes s q (omega arith) (subst (HasByteAt bytes 10) (omega arith) feed) in
-      let here : before_byte 10 bytes s q ≡ suc e = one ∙ omega arith in
-      let two : before_byte 13 bytes s (suc e) ≡ suc e - 1 = before_byte-cut 13 bytes s (suc e) (omega arith) (subst (HasByteAt bytes 13) (omega arith) return) in
-      let there : suc e - 1 ≡ e = omega arith in
-      sym (ap (before_byte 13 bytes s) here ∙ two ∙ there)
+      sym (ap (before_line_end bytes s) (sym next) ∙ before_line_end-crlf bytes s e low (byte-there bytes 13 e return) (byte-there bytes 10 (suc e) feed))
 
   as-computed : (e : ℕ) → EndsBefore bytes s q e → EndsBefore bytes s q (before_line_end bytes s q)
   as-computed e h = subst (EndsBefore bytes s q) (ends-is e h) h
@@ -254,14 +257,15 @@ module _ (d bytes : List ℕ) (body : ℕ) where
       let after = ends.after in
       inr (omega arith, subst (HasByteAt bytes 10) (omega arith) ends.feed)
 
-  follow-fits : (n p : ℕ) → body ≤ p → p < length bytes → length bytes - p < n
+  abbrev FollowFrom : ℕ → Type 0
+  FollowFrom n = (p : ℕ) → body ≤ p → p < length bytes → length bytes - p < n
       → Follow d bytes body p (found (part_ranges d bytes (part_after d bytes p))) (part_ranges d bytes (part_after d bytes p))
+
+  follow-fits : (n : ℕ) → FollowFrom n
   follow-fits zero p low high fuel = absurd (omega arith)
-  follow-fits (suc n) p low high fuel = by_after (part_after d bytes p) refl (λ q. follow-fits n q)
+  follow-fits (suc n) p low high fuel = by_after (part_after d bytes p) refl (follow-fits n)
     where
-      by_close : (l q : ℕ) → EndsLine d bytes body p l → IsFirstFrom d bytes body (suc l) q → (t : Bool) → is_close_delimiter d bytes q ≡ t
-          → ((q : ℕ) → body ≤ q → q < length bytes → length bytes - q < n
-          → Follow d bytes body q (found (part_ranges d bytes (part_after d bytes q))) (part_ranges d bytes (part_after d bytes q)))
+      by_close : (l q : ℕ) → EndsLine d bytes body p l → IsFirstFrom d bytes body (suc l) q → (t : Bool) → is_close_delimiter d bytes q ≡ t → FollowFrom n
           → Follow d bytes body p (q ∷ found (part_ranges d bytes (if t then None else part_after d bytes q)))
           (range (suc l) (before_line_end bytes (suc l) q) ∷ part_ranges d bytes (if t then None else part_after d bytes q))
       by_close l q ends first true e ih =
@@ -276,18 +280,14 @@ module _ (d bytes : List ℕ) (body : ℕ) where
           let within = first.stands.within in
           next_delimiter ends first (λ closes. true_not_false (closes-is q closes) e) fit (ih q in_body within (omega arith))
 
-      by_delimiter : (l : ℕ) → EndsLine d bytes body p l → (o : Option ℕ) → delimiter_from d bytes (suc l) ≡ o
-          → ((q : ℕ) → body ≤ q → q < length bytes → length bytes - q < n
-          → Follow d bytes body q (found (part_ranges d bytes (part_after d bytes q))) (part_ranges d bytes (part_after d bytes q)))
+      by_delimiter : (l : ℕ) → EndsLine d bytes body p l → (o : Option ℕ) → delimiter_from d bytes (suc l) ≡ o → FollowFrom n
           → Follow d bytes body p (cons_option o (found (part_ranges d bytes (next_from o)))) (part_to (suc l) o ∷ part_ranges d bytes (next_from o))
       by_delimiter l ends None e ih =
           subst (λ rs. Follow d bytes body p (found rs) (range (suc l) (length bytes) ∷ rs)) (sym (part_ranges-none d bytes))
           (last_delimiter ends (none-out (suc l) (line-starts p l low ends) e))
       by_delimiter l ends (Some q) e ih = by_close l q ends (first-out (suc l) q (line-starts p l low ends) e) (is_close_delimiter d bytes q) refl ih
 
-      by_after : (o : Option ℕ) → part_after d bytes p ≡ o
-          → ((q : ℕ) → body ≤ q → q < length bytes → length bytes - q < n
-          → Follow d bytes body q (found (part_ranges d bytes (part_after d bytes q))) (part_ranges d bytes (part_after d bytes q)))
+      by_after : (o : Option ℕ) → part_after d bytes p ≡ o → FollowFrom n
           → Follow d bytes body p (found (part_ranges d bytes o)) (part_ranges d bytes o)
       by_after None e ih = subst (λ rs. Follow d bytes body p (found rs) rs) (sym (part_ranges-none d bytes)) (line_never_ends (never-out p e))
       by_after (Some s) e ih =
@@ -371,7 +371,7 @@ module _ (d bytes : List ℕ) (body : ℕ) where
     ap (λ x. cut (preamble_to x) (part_ranges d bytes (first_after x))) e,
   )
 
-  cut-is : {places : List ℕ} {whole : Cut} → IsCutAt d bytes body places whole → (places ≡ delimiters d bytes body) × (whole ≡ cut_parts d bytes body)
+  pub cut-is : {places : List ℕ} {whole : Cut} → IsCutAt d bytes body places whole → (places ≡ delimiters d bytes body) × (whole ≡ cut_parts d bytes body)
   unfolding cut
   cut-is (no_delimiter none) =
       let by = cut-by None (none-is body (inl refl) none) in
@@ -384,9 +384,3 @@ module _ (d bytes : List ℕ) (body : ℕ) where
         ap (λ (ps : List ℕ). p ∷ ps) rest.0 ∙ sym by.0,
         ap (λ k. cut (range body k) parts) is ∙ ap (cut (range body (before_line_end bytes body p))) rest.1 ∙ sym by.1,
       )
-
-  pub delimiters-only : (places : List ℕ) (whole : Cut) → IsCutAt d bytes body places whole → places ≡ delimiters d bytes body
-  delimiters-only places whole h = (cut-is h).0
-
-  pub parts-only : (places : List ℕ) (whole : Cut) → IsCutAt d bytes body places whole → whole ≡ cut_parts d bytes body
-  parts-only places whole h = (cut-is h).1

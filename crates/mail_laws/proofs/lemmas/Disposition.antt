@@ -1,9 +1,9 @@
 -- Two dispositions are equal exactly if their kinds are.
-use Rattle.std.proofs.Common.{◌≡◌, ◌≢◌, ℕ, false, List, [], refl, ap, arith}
+use Rattle.std.proofs.Common.{◌≡◌, false, refl, ap}
 use Rattle.std.proofs.lemmas.Bool.{false≢true}
 use Rattle.std.proofs.lemmas.Slice.Eq.{bytes_eq-Decides}
 use Rattle.std.specs.Prelude.{Decides, string_bytes}
-use Rattle.mailparse.specs.Disposition.{Kind, inline, attachment, form_data, extension}
+use Rattle.mailparse.specs.Disposition.{Kind, extension}
 use Rattle.mailparse.specs.Views.{kind}
 use Rattle.mailparse.specs.contracts.disposition.DispositionTypePartialEq.TheImpl.{ghosts}
 use Rattle.mailparse.specs.declared.disposition.DispositionType.{DispositionType}
@@ -13,36 +13,22 @@ use Rattle.mailparse.specs.declared.disposition.DispositionType.TheVariants as c
 other : {a b : Kind} → (a ≡ b → ⊥) → Decides false (a ≡ b)
 other apart = (λ h. absurd (false≢true h), λ h. absurd (apart h))
 
-number : Kind → ℕ
-number inline = 0
-number attachment = 1
-number form_data = 2
-number (extension name) = 3
-
-name_of : Kind → List ℕ
-name_of (extension name) = name
-name_of _ = []
-
-apart : {a b : Kind} → number a ≢ number b → a ≡ b → ⊥
-apart some h = some (ap number h)
-
 pub equal_by_kind : (a b : DispositionType) → Decides (ghosts.eq a b) (kind a ≡ kind b)
-unfolding number name_of
 equal_by_kind code.Inline code.Inline = (λ _. refl, λ _. refl)
-equal_by_kind code.Inline code.Attachment = other (apart (λ h. absurd (omega arith)))
-equal_by_kind code.Inline code.FormData = other (apart (λ h. absurd (omega arith)))
-equal_by_kind code.Inline (code.Extension n) = other (apart (λ h. absurd (omega arith)))
-equal_by_kind code.Attachment code.Inline = other (apart (λ h. absurd (omega arith)))
+equal_by_kind code.Inline code.Attachment = other (λ h. cc)
+equal_by_kind code.Inline code.FormData = other (λ h. cc)
+equal_by_kind code.Inline (code.Extension n) = other (λ h. cc)
+equal_by_kind code.Attachment code.Inline = other (λ h. cc)
 equal_by_kind code.Attachment code.Attachment = (λ _. refl, λ _. refl)
-equal_by_kind code.Attachment code.FormData = other (apart (λ h. absurd (omega arith)))
-equal_by_kind code.Attachment (code.Extension n) = other (apart (λ h. absurd (omega arith)))
-equal_by_kind code.FormData code.Inline = other (apart (λ h. absurd (omega arith)))
-equal_by_kind code.FormData code.Attachment = other (apart (λ h. absurd (omega arith)))
+equal_by_kind code.Attachment code.FormData = other (λ h. cc)
+equal_by_kind code.Attachment (code.Extension n) = other (λ h. cc)
+equal_by_kind code.FormData code.Inline = other (λ h. cc)
+equal_by_kind code.FormData code.Attachment = other (λ h. cc)
 equal_by_kind code.FormData code.FormData = (λ _. refl, λ _. refl)
-equal_by_kind code.FormData (code.Extension n) = other (apart (λ h. absurd (omega arith)))
-equal_by_kind (code.Extension m) code.Inline = other (apart (λ h. absurd (omega arith)))
-equal_by_kind (code.Extension m) code.Attachment = other (apart (λ h. absurd (omega arith)))
-equal_by_kind (code.Extension m) code.FormData = other (apart (λ h. absurd (omega arith)))
+equal_by_kind code.FormData (code.Extension n) = other (λ h. cc)
+equal_by_kind (code.Extension m) code.Inline = other (λ h. cc)
+equal_by_kind (code.Extension m) code.Attachment = other (λ h. cc)
+equal_by_kind (code.Extension m) code.FormData = other (λ h. cc)
 equal_by_kind (code.Extension m) (code.Extension n) =
     let same = bytes_eq-Decides (string_bytes m) (string_bytes n) in
-    (λ h. ap extension (same.0 h), λ h. same.1 (ap name_of h))
+    (λ h. ap extension (same.0 h), λ h. same.1 (cc))

@@ -1,12 +1,13 @@
 -- Plain bytes; and the words into which a text is cut: exactly one list fits, and its words make up the text.
-use Rattle.std.proofs.Common.{◌≡◌, ◌≢◌, ℕ, zero, suc, ◌+◌, ◌<◌, ◌≤◌, Bool, true, false, cond, eqb, List, [], ◌∷◌, ◌++◌, length, refl, sym, ap, subst, ◌∙◌, arith, append_assoc, length-append}
+use Rattle.std.proofs.Common.{◌≡◌, ◌≢◌, ℕ, ◌+◌, ◌<◌, ◌≤◌, Bool, true, false, cond, eqb, List, [], ◌∷◌, ◌++◌, length, refl, sym, ap, subst, ◌∙◌, arith, append_assoc, length-append}
 use Rattle.std.specs.Prelude.{nat_le, encode_utf8_all, flat_map}
 use Rattle.std.specs.Char.{encode_utf8}
 use Rattle.std.specs.List.{All, list_all}
 use Rattle.std.specs.Str.{IsAscii}
-use Rattle.std.proofs.lemmas.Bool.{and_from, and_parts, cond-true, cond-false, leb-true, leb-false, le-leb, lt-leb, ne_eqb}
+use Rattle.std.proofs.lemmas.Bool.{cond-true, cond-false, leb-true, leb-false, le-leb, lt-leb, ne_eqb}
 use Rattle.std.proofs.lemmas.Bool.Decides.{nat_tests}
 use Rattle.std.proofs.lemmas.List.{append-nil}
+use Rattle.std.proofs.lemmas.List.Sums.{AllPass-from_list_all, list_all-from_AllPass}
 use Rattle.std.proofs.lemmas.Str.{encodes-append, length-encode, len_utf8_bounds}
 use Rattle.std.proofs.lemmas.Str.Ascii.{IsAscii-from_all}
 use Rattle.mail_laws.specs.Encode.{is_plain_byte, most, size, IsFull, AreWords, no_word, next_word, words_after, words_of}
@@ -14,15 +15,10 @@ use Rattle.mail_laws.specs.Encode.{is_plain_byte, most, size, IsFull, AreWords, 
 -- ---- bytes that pass a test
 
 pub list_all-weaker : (p q : ℕ → Bool) → ((b : ℕ) → p b ≡ true → q b ≡ true) → (xs : List ℕ) → list_all p xs ≡ true → list_all q xs ≡ true
-list_all-weaker p q implies [] all = refl
-list_all-weaker p q implies (b ∷ xs) all =
-    let parts = and_parts (p b) (list_all p xs) all in
-    and_from (q b) (list_all q xs) (implies b parts.0) (list_all-weaker p q implies xs parts.1)
+list_all-weaker p q implies xs all = list_all-from_AllPass q xs (λ i d low. implies _ (AllPass-from_list_all p xs all i d low))
 
 pub each : {P : ℕ → Type 0} (test : ℕ → Bool) → ((b : ℕ) → test b ≡ true → P b) → (text : List ℕ) → list_all test text ≡ true → All P text
-each test holds [] all i d low = absurd (omega arith)
-each test holds (b ∷ text) all zero d low = holds b (and_parts (test b) (list_all test text) all).0
-each test holds (b ∷ text) all (suc i) d low = each test holds text (and_parts (test b) (list_all test text) all).1 i d (omega arith)
+each test holds text all i d low = holds _ (AllPass-from_list_all test text all i d low)
 
 pub plain_byte : (b : ℕ) → is_plain_byte b ≡ true → (32 ≤ b) × (b ≤ 126)
 plain_byte b h = (grind (arith, nat_tests), grind (arith, nat_tests))

@@ -6,7 +6,7 @@ use Rattle.std.specs.List.{All, list_all, slice_split}
 use Rattle.std.specs.Option.{option_or}
 use Rattle.std.specs.Str.{chars, trim_start, skip_leading_whitespace, IsAscii, IsUtf8}
 use Rattle.std.specs.Str.Lines.{lines, lines_of_parts, strip_carriage_return}
-use Rattle.std.proofs.lemmas.Bool.{cond-true, cond-false, and_parts, cases_lt, false≢true, ltb-false, ne_eqb, eq-eqb, not-true}
+use Rattle.std.proofs.lemmas.Bool.{cond-true, cond-false, and_parts, cases_lt, false≢true, lt-ltb, ne_eqb, eq-eqb, not-true}
 use Rattle.std.proofs.lemmas.List.{get_or_push, take_all, take-append-le, drop_all}
 use Rattle.std.proofs.lemmas.List.Folds.{list_all-append}
 use Rattle.std.proofs.lemmas.List.Elements.{All-append}
@@ -112,9 +112,6 @@ word_ascii w h = plain_ascii (encoded_word w) (word_plain w h)
 abbrev NoFeed : List ℕ → Type 0
 NoFeed xs = All (λ b. eqb b 10 ≡ false) xs
 
-NoFeed-append : (xs ys : List ℕ) → NoFeed xs → NoFeed ys → NoFeed (xs ++ ys)
-NoFeed-append xs ys a b = All-append (λ b. eqb b 10 ≡ false) xs ys a b
-
 no_feed : (xs : List ℕ) → list_all (λ b. not (eqb b 10)) xs ≡ true → NoFeed xs
 no_feed xs h = each {P = λ b. eqb b 10 ≡ false} (λ b. not (eqb b 10)) (λ b k. not-true (eqb b 10) k) xs h
 
@@ -147,7 +144,7 @@ lines_are : (front w : List ℕ) (ws : List (List ℕ)) → NoFeed front → Are
     → lines (front ++ word_lines (w ∷ ws)) ≡ (front ++ encoded_word w) ∷ folded ws
 lines_are front w [] clear h =
     let some = length-append front (encoded_word w) in
-    ap lines_of_parts (slice_split_none (λ b. eqb b 10) (front ++ encoded_word w) (NoFeed-append front (encoded_word w) clear (word_no_feed w h.0)))
+    ap lines_of_parts (slice_split_none (λ b. eqb b 10) (front ++ encoded_word w) (All-append (λ b. eqb b 10 ≡ false) front (encoded_word w) clear (word_no_feed w h.0)))
     ∙ cond-false _ _ _ (ne_eqb (length (front ++ encoded_word w)) 0 (λ (e : length (front ++ encoded_word w) ≡ 0). absurd (omega arith)))
 lines_are front w (v ∷ ws) clear h =
     let line : List ℕ = front ++ encoded_word w in
@@ -155,7 +152,7 @@ lines_are front w (v ∷ ws) clear h =
     let whole : front ++ word_lines (w ∷ v ∷ ws) ≡ (line ++ 13 ∷ []) ++ 10 ∷ rest =
     sym (append_assoc line (13 ∷ []) (10 ∷ rest) ∙ append_assoc front (encoded_word w) (13 ∷ 10 ∷ rest)) in
     let here : NoFeed (line ++ 13 ∷ []) =
-    NoFeed-append line (13 ∷ []) (NoFeed-append front (encoded_word w) clear (word_no_feed w h.0)) (no_feed (13 ∷ []) refl) in
+    All-append (λ b. eqb b 10 ≡ false) line (13 ∷ []) (All-append (λ b. eqb b 10 ≡ false) front (encoded_word w) clear (word_no_feed w h.0)) (no_feed (13 ∷ []) refl) in
     ap lines whole
     ∙ ap lines_of_parts (slice_split_at (λ b. eqb b 10) (line ++ 13 ∷ []) 10 rest here refl)
     ∙ first_of_more (line ++ 13 ∷ []) (pieces rest) (split_some (λ b. eqb b 10) rest)
@@ -208,18 +205,13 @@ shown_next (w ∷ ws) =
     ap (λ t. encode_utf8_all w ++ (cond t [] [] ++ shown_after (Some decoded_word) (Some whitespace) (next_tokens ws))) (not_released ws)
     ∙ ap (λ r. encode_utf8_all w ++ r) (shown_next ws)
 
-shown_all : (w : List ℕ) (ws : List (List ℕ)) → shown_tokens (around (encode_utf8_all w) ++ next_tokens ws) ≡ flat_map encode_utf8_all (w ∷ ws)
-shown_all w ws =
-    ap (λ t. encode_utf8_all w ++ (cond t [] [] ++ shown_after (Some decoded_word) (Some whitespace) (next_tokens ws))) (not_released ws)
-    ∙ ap (λ r. encode_utf8_all w ++ r) (shown_next ws)
-
 words_show : (known : Charsets) → KnowUtf8 known → (w : List ℕ) (ws : List (List ℕ)) → AreTexts (w ∷ ws)
     → shown_value known (word_lines (w ∷ ws)) ≡ flat_map encode_utf8_all (w ∷ ws)
 unfolding shown_value value_tokens
 words_show known knows w ws h =
     ap (λ ls. shown_tokens (tokens_of_lines known ls)) (trimmed_lines w ws h)
     ∙ ap shown_tokens (tokens_are known knows w ws h)
-    ∙ shown_all w ws
+    ∙ shown_next (w ∷ ws)
 
 -- ---- the whole value
 
@@ -249,11 +241,10 @@ encoded_reads_back known knows text utf8 =
 -- ---- plain values
 
 none_found : (p n : ℕ) → is_none (cond (nat_lt p n) (Some p) None) ≡ true → n ≤ p
-none_found p n h = go (nat_lt p n) refl h
-  where
-    go : (t : Bool) → nat_lt p n ≡ t → is_none (cond t (Some p) None) ≡ true → n ≤ p
-    go true e none = absurd (false≢true none)
-    go false e none = ltb-false p n e
+none_found p n h = elim (cases_lt p n) [
+  | inl low ↦ absurd (false≢true (sym (ap (λ t. is_none (cond t (Some p) None)) (lt-ltb p n low)) ∙ h))
+  | inr high ↦ high
+]
 
 pub plain_is : (value : List ℕ) → is_plain_value value ≡ true → IsPlain value
 plain_is value h =
@@ -297,10 +288,7 @@ caller_knows tables = go (four_charsets (codes "utf-8")) (ap (option_map text_of
     go : (o : Option (List ℕ → List ℕ)) → o ≡ Some (text_of Utf8)
         → option_or o (option_map table_text (find (has_label (codes "utf-8")) tables)) ≡ o
     go (Some reading) e = refl
-    go None e = absurd (no_none e)
-      where
-        no_none : ◌≡◌ {A = Option (List ℕ → List ℕ)} None (Some (text_of Utf8)) → ⊥
-        no_none e = cc
+    go None e = absurd (cc)
 
 -- and so give the texts of values
 pub caller_reads : (tables : List SingleByteTable) (text : List ℕ) → IsUtf8 text → lenient_value_in (charsets_with tables) (written_value text) ≡ text

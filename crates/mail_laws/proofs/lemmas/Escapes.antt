@@ -1,6 +1,7 @@
 -- Exactly the backslashes at odd places of their runs go.
 use Rattle.std.proofs.Common.{◌≡◌, ℕ, zero, suc, ◌+◌, ◌/◌, Bool, true, false, not, ◌||◌, cond, eqb, List, [], ◌∷◌, ◌++◌, length, map, replicate, drop, slice_index, refl, sym, ap, ◌∙◌, arith}
 use Rattle.std.proofs.lemmas.Bool.{cond-true, cond-false}
+use Rattle.std.proofs.lemmas.List.{drop-drop}
 use Rattle.std.specs.List.{filter, range_with_len}
 use Rattle.mail_codec.specs.Ascii.{backslash}
 use Rattle.mail_codec.specs.Places.{begins}
@@ -26,14 +27,11 @@ first_is [] (suc a) c cs h = absurd (cc)
 first_is (x ∷ xs) zero c cs h = ap (λ l. slice_index l 0) h
 first_is (x ∷ xs) (suc a) c cs h = first_is xs a c cs h
 
-rest_is : (text : List ℕ) (a c : ℕ) (cs : List ℕ) → drop a text ≡ c ∷ cs → drop (suc a) text ≡ cs
-rest_is [] zero c cs h = absurd (cc)
-rest_is [] (suc a) c cs h = absurd (cc)
-rest_is (x ∷ xs) zero c cs h = ap (drop 1) h
-rest_is (x ∷ xs) (suc a) c cs h = rest_is xs a c cs h
-
 next : (a : ℕ) → a + 1 ≡ suc a
 next a = omega arith
+
+rest_is : (text : List ℕ) (a c : ℕ) (cs : List ℕ) → drop a text ≡ c ∷ cs → drop (suc a) text ≡ cs
+rest_is text a c cs h = ap (λ k. drop k text) (sym (next a)) ∙ sym (drop-drop 1 a text) ∙ ap (drop 1) h
 
 -- the characters that stay from a place on
 abbrev staying_from : List ℕ → ℕ → ℕ → List ℕ

@@ -1,5 +1,5 @@
 -- The form of a list of message ids, and the function that reads it.
-use Rattle.std.proofs.Common.{◌≡◌, ◌≢◌, ◌⊎◌, inl, inr, ℕ, Bool, true, false, cond, eqb, ◌||◌, List, [], ◌∷◌, ◌++◌, drop, Result, Ok, Err, refl, sym, ap, subst, ◌∙◌, append_assoc, append-nil}
+use Rattle.std.proofs.Common.{◌≡◌, ◌≢◌, ◌⊎◌, inl, inr, ℕ, Bool, true, false, cond, eqb, ◌&&◌, ◌||◌, List, [], ◌∷◌, ◌++◌, drop, Result, Ok, Err, refl, sym, ap, subst, ◌∙◌, append_assoc, append-nil}
 use Rattle.std.specs.Str.{trim_start}
 use Rattle.std.proofs.lemmas.Bool.{eqb-true, false≢true}
 use Rattle.std.proofs.lemmas.List.Folds.{list_any-append}
@@ -79,16 +79,13 @@ Form text = ((ids : List (List ℕ)) × AreIds text ids) ⊎ ((refusal : Refusal
 append_free : (piece : List ℕ) (b : ℕ) → HoldsNoClosing piece → is_closing b ≡ false → HoldsNoClosing (piece ++ b ∷ [])
 append_free piece b h e = list_any-append is_closing piece (b ∷ []) ∙ ap (λ t. t || (is_closing b || false)) h ∙ ap (λ t. t || false) e
 
-shut_at : (b : ℕ) (t : List ℕ) → eqb 60 b ≡ false → stands (60 ∷ []) (b ∷ t) ≡ false
-shut_at b t e = rw e refl
-
 opened_is : (t : List ℕ) → stands (60 ∷ []) t ≡ true → t ≡ 60 ∷ drop 1 t
 opened_is [] h = absurd (false≢true h)
 opened_is (b ∷ t) h = go (eqb 60 b) refl
   where
     go : (v : Bool) → eqb 60 b ≡ v → b ∷ t ≡ 60 ∷ t
     go true e = ap (λ x. x ∷ t) (sym (eqb-true 60 b e))
-    go false e = absurd (false≢true (sym (shut_at b t e) ∙ h))
+    go false e = absurd (false≢true (sym (ap (λ v. v && true) e) ∙ h))
 
 -- the text without `>` that is left
 form-last : (text : List ℕ) → HoldsNoClosing text → Form text
@@ -100,10 +97,7 @@ form-last text free = by_whitespace (trim_start text) refl
 
     by_whitespace : (t : List ℕ) → trim_start text ≡ t → Form text
     by_whitespace [] e = inl ([], no_ids free e)
-    by_whitespace (b ∷ t) e = by_open (opens_id text) refl (λ none. absurd (differ (sym e ∙ none)))
-      where
-        differ : b ∷ t ≡ [] → ⊥
-        differ f = cc
+    by_whitespace (b ∷ t) e = by_open (opens_id text) refl (λ none. let f : b ∷ t ≡ [] = sym e ∙ none in absurd (cc))
 
 -- a piece up to a `>`, and the form of what stands after that
 form-piece : (piece rest : List ℕ) → HoldsNoClosing piece → Form rest → Form (piece ++ 62 ∷ rest)

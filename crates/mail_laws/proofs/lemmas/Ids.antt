@@ -1,9 +1,9 @@
 -- Lists of message ids that are written and read.
-use Rattle.std.proofs.Common.{◌≡◌, ℕ, ◌<◌, Bool, true, false, cond, ◌||◌, List, [], ◌∷◌, ◌++◌, length, drop, Result, Ok, Err, refl, sym, ap, ◌∙◌, arith, append_assoc, length-take, lit<}
+use Rattle.std.proofs.Common.{◌≡◌, ℕ, ◌<◌, Bool, true, false, cond, List, [], ◌∷◌, ◌++◌, length, drop, Result, Ok, Err, refl, sym, ap, ◌∙◌, arith, append_assoc, length-take, lit<}
 use Rattle.std.specs.Prelude.{All}
 use Rattle.std.specs.List.{list_any, slice_split, onto_first, position_or_len, before_first, after_first}
 use Rattle.std.specs.Str.{IsUtf8, chars, encode_utf8_all, skip_leading_whitespace, trim_start}
-use Rattle.std.proofs.lemmas.Bool.{eqb-true, ltb-true}
+use Rattle.std.proofs.lemmas.Bool.{cond-false, eqb-true, ltb-true, or_parts}
 use Rattle.std.proofs.lemmas.List.{get_or-take}
 use Rattle.std.proofs.lemmas.List.Elements.{All-cons, All-head, All-tail}
 use Rattle.std.proofs.lemmas.List.Folds.{list_any_none}
@@ -15,27 +15,16 @@ use Rattle.mailparse.specs.Refusal.{Refusal}
 use Rattle.mailparse.proofs.lemmas.EncodedWord.{any_from_place}
 use Rattle.mailparse.proofs.lemmas.MessageIds.{pieces_step}
 use Rattle.mail_laws.specs.Ids.{HoldsNoClosing}
+use lib.Utf8.{scalars}
 
 -- a `<` in front is not whitespace, and a space before it goes
 encoded_after : (b : ℕ) (cs : List ℕ) (id : List ℕ) → b < 128 → encode_utf8_all cs ≡ id → encode_utf8_all (b ∷ cs) ≡ b ∷ id
 encoded_after b cs id lt e = ap (λ front. front ++ encode_utf8_all cs) (encode_ascii b lt) ∙ ap (λ r. b ∷ r) e
 
-opened : (id : List ℕ) → IsUtf8 id → trim_start (60 ∷ id) ≡ 60 ∷ id
+-- characters as they are spelled
+trimmed : (cs text : List ℕ) → encode_utf8_all cs ≡ text → scalars cs ≡ true → trim_start text ≡ encode_utf8_all (skip_leading_whitespace cs)
 unfolding trim_start
-opened id utf8 =
-    let cs = utf8.0 in
-    let bytes = encoded_after 60 cs id (lit< tt) utf8.1.1 in
-    let spelled : chars (60 ∷ id) ≡ 60 ∷ cs = ap chars (sym bytes) ∙ chars-encodes (60 ∷ cs) utf8.1.0 in
-    ap (λ k. encode_utf8_all (skip_leading_whitespace k)) spelled ∙ bytes
-
-opened_after_space : (id : List ℕ) → IsUtf8 id → trim_start (32 ∷ 60 ∷ id) ≡ 60 ∷ id
-unfolding trim_start
-opened_after_space id utf8 =
-    let cs = utf8.0 in
-    let bytes = encoded_after 60 cs id (lit< tt) utf8.1.1 in
-    let spaced = encoded_after 32 (60 ∷ cs) (60 ∷ id) (lit< tt) bytes in
-    let spelled : chars (32 ∷ 60 ∷ id) ≡ 32 ∷ 60 ∷ cs = ap chars (sym spaced) ∙ chars-encodes (32 ∷ 60 ∷ cs) utf8.1.0 in
-    ap (λ k. encode_utf8_all (skip_leading_whitespace k)) spelled ∙ bytes
+trimmed cs text bytes are = ap (λ k. encode_utf8_all (skip_leading_whitespace k)) (ap chars (sym bytes) ∙ chars-encodes cs are)
 
 -- the front of a text of ids: nothing, or a space
 abbrev front : Bool → List ℕ → List ℕ
@@ -43,19 +32,18 @@ front true text = 32 ∷ text
 front false text = text
 
 opened_both : (s : Bool) (id : List ℕ) → IsUtf8 id → trim_start (front s (60 ∷ id)) ≡ 60 ∷ id
-opened_both true id utf8 = opened_after_space id utf8
-opened_both false id utf8 = opened id utf8
+opened_both s id utf8 = by_front s (encoded_after 60 utf8.0 id (lit< tt) utf8.1.1)
+  where
+    by_front : (s : Bool) → encode_utf8_all (60 ∷ utf8.0) ≡ 60 ∷ id → trim_start (front s (60 ∷ id)) ≡ 60 ∷ id
+    by_front true bytes = trimmed (32 ∷ 60 ∷ utf8.0) (32 ∷ 60 ∷ id) (encoded_after 32 (60 ∷ utf8.0) (60 ∷ id) (lit< tt) bytes) utf8.1.0 ∙ bytes
+    by_front false bytes = trimmed (60 ∷ utf8.0) (60 ∷ id) bytes utf8.1.0 ∙ bytes
 
 -- a piece up to its `>`
 pub split_at : (piece rest : List ℕ) → list_any is_closing piece ≡ false → slice_split is_closing (piece ++ 62 ∷ rest) ≡ piece ∷ slice_split is_closing rest
 split_at [] rest h = refl
-split_at (b ∷ piece) rest h = go (split_at piece rest) (is_closing b) h
-  where
-    go : (list_any is_closing piece ≡ false → slice_split is_closing (piece ++ 62 ∷ rest) ≡ piece ∷ slice_split is_closing rest)
-        → (t : Bool) → t || list_any is_closing piece ≡ false
-        → cond t ([] ∷ slice_split is_closing (piece ++ 62 ∷ rest)) (onto_first b (slice_split is_closing (piece ++ 62 ∷ rest))) ≡ (b ∷ piece) ∷ slice_split is_closing rest
-    go later true h = absurd (cc)
-    go later false h = ap (onto_first b) (later h)
+split_at (b ∷ piece) rest h =
+    let parts = or_parts (is_closing b) (list_any is_closing piece) h in
+    cond-false _ _ _ parts.0 ∙ ap (onto_first b) (split_at piece rest parts.1)
 
 front_free : (s : Bool) (id : List ℕ) → HoldsNoClosing id → list_any is_closing (front s (60 ∷ id)) ≡ false
 front_free true id h = h
@@ -143,17 +131,10 @@ cut_id s id rest utf8 closing =
 
 -- an id that reads back holds no `>`
 cons_same : (a b : List ℕ) (later : Result (List (List ℕ)) Refusal) (ids : List (List ℕ)) → with_id a later ≡ Ok (b ∷ ids) → (a ≡ b) × (later ≡ Ok ids)
-cons_same a b (Err refusal) ids h = absurd (clash h)
-  where
-    clash : ◌≡◌ {A = Result (List (List ℕ)) Refusal} (Err refusal) (Ok (b ∷ ids)) → ⊥
-    clash e = cc
+cons_same a b (Err refusal) ids h = absurd (cc)
 cons_same a b (Ok found) ids h =
     let all : ◌≡◌ {A = List (List ℕ)} (a ∷ found) (b ∷ ids) = cc in
-    (ap (head_or []) all, ap (λ xs. Ok (drop 1 xs)) all)
-  where
-    head_or : List ℕ → List (List ℕ) → List ℕ
-    head_or d [] = d
-    head_or d (x ∷ xs) = x
+    ((cc), (cc))
 
 not_cut : (s : Bool) (id : List ℕ) (ids : List (List ℕ)) → IsUtf8 id
     → ids_of_pieces (slice_split is_closing (front s (written_ids (id ∷ ids)))) ≡ Ok (id ∷ ids) → HoldsNoClosing id

@@ -241,57 +241,69 @@ module _ (mail : List ℕ) (whole : Range) (block : HeaderList) (read : read_hea
             (omega arith) (omega arith) (Apart-moved whole.start 3 cut.body.end cut.parts (length raw) apart.2);
       }
 
--- a message stands where it was read, and the ranges within it lie in order
-abbrev ReadsNested : (Range → Reads RangeTree) → Type 0
-ReadsNested ranges = (whole : Range) (t : RangeTree) → whole.start ≤ whole.end → ranges whole ≡ Ok t → ((range_root t).whole ≡ whole) × AreNested t
+-- what holds of each message that is read, if it does wherever it does of the parts
+abbrev pub FitEach : (Range → RangeTree → Type 0) → List Range → RangeForest → Type 0
+FitEach Fits [] no_ranges = Unit {0}
+FitEach Fits (r ∷ rs) (ranges_and t ts) = Fits r t × FitEach Fits rs ts
+FitEach Fits _ _ = ⊥
 
-each-nested : (ranges : Range → Reads RangeTree) → ReadsNested ranges → (gap from : ℕ) (rs : List Range) (to : ℕ) → Apart gap from rs to → (parts : RangeForest)
-    → range_each ranges rs ≡ Ok parts → (wholes parts ≡ rs) × AllNested parts
-each-nested ranges nests gap from [] to apart parts e =
-    let same : no_ranges ≡ parts = cc in
-    subst (λ (p : RangeForest). (wholes p ≡ []) × AllNested p) same (refl, tt)
-each-nested ranges nests gap from (r ∷ rs) to apart parts e =
-    by_part (ranges r) (range_each ranges rs) refl refl e (λ others more. each-nested ranges nests gap r.end rs to apart.2 others more)
-  where
-    by_part : (first : Reads RangeTree) (rest : Reads RangeForest) → ranges r ≡ first → range_each ranges rs ≡ rest
-        → ◌>>=◌ first (λ t. read_map (ranges_and t) rest) ≡ Ok parts
-        → ((others : RangeForest) → range_each ranges rs ≡ Ok others → (wholes others ≡ rs) × AllNested others)
-        → (wholes parts ≡ r ∷ rs) × AllNested parts
-    by_part (Err refusal) rest f g h ih = absurd (cc)
-    by_part (Ok t) (Err refusal) f g h ih = absurd (cc)
-    by_part (Ok t) (Ok others) f g h ih =
-        let same : ranges_and t others ≡ parts = cc in
-        let here = nests r t apart.1 f in
-        let more = ih others g in
-        subst (λ (p : RangeForest). (wholes p ≡ r ∷ rs) × AllNested p) same
-        (ap (λ (x : Range). x ∷ wholes others) here.0 ∙ ap (λ (xs : List Range). r ∷ xs) more.0, (here.1, more.1))
+module _ (known : Charsets) (mail : List ℕ) (Fits : Range → RangeTree → Type 0) where
+  each-fits : (ranges : Range → Reads RangeTree) → ((whole : Range) (t : RangeTree) → ranges whole ≡ Ok t → Fits whole t) → (rs : List Range) (parts : RangeForest)
+      → range_each ranges rs ≡ Ok parts → FitEach Fits rs parts
+  each-fits ranges fits [] parts e = let same : no_ranges ≡ parts = cc in subst (FitEach Fits []) same tt
+  each-fits ranges fits (r ∷ rs) parts e = by_part (ranges r) (range_each ranges rs) refl e (each-fits ranges fits rs)
+    where
+      by_part : (first : Reads RangeTree) (rest : Reads RangeForest) → ranges r ≡ first → ◌>>=◌ first (λ t. read_map (ranges_and t) rest) ≡ Ok parts
+          → ((others : RangeForest) → rest ≡ Ok others → FitEach Fits rs others) → FitEach Fits (r ∷ rs) parts
+      by_part (Err refusal) rest f h ih = absurd (cc)
+      by_part (Ok t) (Err refusal) f h ih = absurd (cc)
+      by_part (Ok t) (Ok others) f h ih = let same : ranges_and t others ≡ parts = cc in subst (FitEach Fits (r ∷ rs)) same (fits r t f, ih others refl)
+
+  module _ (step : (whole : Range) (block : HeaderList) (ctype : ContentType) → read_headers (slice mail whole) ≡ Ok block → (parts : RangeForest)
+      → FitEach Fits (map (moved whole.start) (cut_of ctype (slice mail whole) block.index).parts) parts
+      → Fits whole (range_tree (range_node whole (slice mail whole) block ctype (cut_of ctype (slice mail whole) block.index)) parts)) where
+    pub levels-fit : (levels : ℕ) (in_digest : Bool) (whole : Range) (t : RangeTree) → range_levels known mail levels in_digest whole ≡ Ok t → Fits whole t
+    unfolding range_levels
+    levels-fit zero in_digest whole t e = absurd (cc)
+    levels-fit (suc levels) in_digest whole t e = by_block (read_headers (slice mail whole)) refl e (levels-fit levels)
+      where
+        by_parts : (block : HeaderList) (ctype : ContentType) → read_headers (slice mail whole) ≡ Ok block → (parts : Reads RangeForest)
+            → read_map (range_tree (range_node whole (slice mail whole) block ctype (cut_of ctype (slice mail whole) block.index))) parts ≡ Ok t
+            → ((found : RangeForest) → parts ≡ Ok found → FitEach Fits (map (moved whole.start) (cut_of ctype (slice mail whole) block.index).parts) found) → Fits whole t
+        by_parts block ctype read (Err refusal) h each = absurd (cc)
+        by_parts block ctype read (Ok parts) h each =
+            let same : range_tree (range_node whole (slice mail whole) block ctype (cut_of ctype (slice mail whole) block.index)) parts ≡ t = cc in
+            subst (Fits whole) same (step whole block ctype read parts (each parts refl))
+
+        by_block : (block : Reads HeaderList) → read_headers (slice mail whole) ≡ block
+            → ◌>>=◌ block (λ b. range_parts known mail (range_levels known mail levels) whole b (node_type known in_digest b.headers)) ≡ Ok t
+            → ((digest : Bool) (part : Range) (u : RangeTree) → range_levels known mail levels digest part ≡ Ok u → Fits part u) → Fits whole t
+        by_block (Err refusal) read h ih = absurd (cc)
+        by_block (Ok block) read h ih =
+            let ctype = node_type known in_digest block.headers in
+            by_parts block ctype read _ h (each-fits (range_levels known mail levels (is_digest ctype)) (ih (is_digest ctype)) _)
+
+-- a message stands where it was read, and the ranges within it lie in order
+abbrev IsNested : Range → RangeTree → Type 0
+IsNested whole t = whole.start ≤ whole.end → ((range_root t).whole ≡ whole) × AreNested t
+
+each-nested : (gap from : ℕ) (rs : List Range) (to : ℕ) → Apart gap from rs to → (parts : RangeForest) → FitEach IsNested rs parts
+    → (wholes parts ≡ rs) × AllNested parts
+each-nested gap from [] to apart no_ranges each = (refl, tt)
+each-nested gap from [] to apart (ranges_and t ts) each = absurd each
+each-nested gap from (r ∷ rs) to apart no_ranges each = absurd each
+each-nested gap from (r ∷ rs) to apart (ranges_and t ts) each =
+    let here = each.0 apart.1 in
+    let more = each-nested gap r.end rs to apart.2 ts each.1 in
+    (ap (λ (x : Range). x ∷ wholes ts) here.0 ∙ ap (λ (xs : List Range). r ∷ xs) more.0, (here.1, more.1))
 
 module _ (known : Charsets) (mail : List ℕ) where
-  levels-nested : (levels : ℕ) (in_digest : Bool) → ReadsNested (range_levels known mail levels in_digest)
-  unfolding range_levels
-  levels-nested zero in_digest whole t order e = absurd (cc)
-  levels-nested (suc levels) in_digest whole t order e = by_block (read_headers (slice mail whole)) refl e (λ digest. levels-nested levels digest)
-    where
-      by_parts : (block : HeaderList) (ctype : ContentType) → read_headers (slice mail whole) ≡ Ok block → (parts : Reads RangeForest)
-          → range_each (range_levels known mail levels (is_digest ctype)) (map (moved whole.start) (cut_of ctype (slice mail whole) block.index).parts) ≡ parts
-          → read_map (range_tree (range_node whole (slice mail whole) block ctype (cut_of ctype (slice mail whole) block.index))) parts ≡ Ok t
-          → ReadsNested (range_levels known mail levels (is_digest ctype)) → ((range_root t).whole ≡ whole) × AreNested t
-      by_parts block ctype read (Err refusal) f h ih = absurd (cc)
-      by_parts block ctype read (Ok parts) f h ih =
-          let raw = slice mail whole in
-          let node = range_node whole raw block ctype (cut_of ctype raw block.index) in
-          let ranges = map (moved whole.start) (cut_of ctype raw block.index).parts in
-          let same : range_tree node parts ≡ t = cc in
-          let lie = node-in_order mail whole block read ctype order in
-          let all = each-nested (range_levels known mail levels (is_digest ctype)) ih 3 node.body.end ranges whole.end lie.parts parts f in
-          subst (λ (u : RangeTree). ((range_root u).whole ≡ whole) × AreNested u) same
-          (refl, (subst (LieInOrder node) (sym all.0) lie, all.1))
-
-      by_block : (block : Reads HeaderList) → read_headers (slice mail whole) ≡ block
-          → ◌>>=◌ block (λ b. range_parts known mail (range_levels known mail levels) whole b (node_type known in_digest b.headers)) ≡ Ok t
-          → ((digest : Bool) → ReadsNested (range_levels known mail levels digest)) → ((range_root t).whole ≡ whole) × AreNested t
-      by_block (Err refusal) read h ih = absurd (cc)
-      by_block (Ok block) read h ih = by_parts block (node_type known in_digest block.headers) read _ refl h (ih (is_digest (node_type known in_digest block.headers)))
+  levels-nested : (levels : ℕ) (in_digest : Bool) (whole : Range) (t : RangeTree) → range_levels known mail levels in_digest whole ≡ Ok t → IsNested whole t
+  levels-nested = levels-fit known mail IsNested (λ whole block ctype read parts each order.
+      let node = range_node whole (slice mail whole) block ctype (cut_of ctype (slice mail whole) block.index) in
+      let lie = node-in_order mail whole block read ctype order in
+      let all = each-nested 3 node.body.end (map (moved whole.start) (cut_of ctype (slice mail whole) block.index).parts) whole.end lie.parts parts each in
+      (refl, (subst (LieInOrder node) (sym all.0) lie, all.1)))
 
 mutual
   -- so the blocks and the bodies lie apart
@@ -336,7 +348,7 @@ held-once from (r ∷ rs) to place (suc i) (suc j) d apart low high here there =
 module _ (known : Charsets) (mail : List ℕ) (greatest : ℕ) (t : RangeTree) (read : ranges_in known mail greatest ≡ Ok t) where
   pub ranges_in-nested : ((range_root t).whole ≡ record { start = 0; end = length mail }) × AreNested t
   unfolding ranges_in
-  ranges_in-nested = levels-nested known mail (suc greatest) false (record { start = 0; end = length mail }) t (omega arith) read
+  ranges_in-nested = levels-nested known mail (suc greatest) false (record { start = 0; end = length mail }) t read (omega arith)
 
   pub ranges_in-apart : Apart 0 0 (blocks_and_bodies t) (length mail)
   ranges_in-apart =

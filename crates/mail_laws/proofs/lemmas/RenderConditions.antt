@@ -1,11 +1,11 @@
 -- Lemmas on the conditions of a well-formed outline, and on how they are looked at one after another.
-use Rattle.std.proofs.Common.{◌≡◌, ℕ, suc, ◌-◌, ◌<◌, max, Bool, true, false, not, cond, ◌&&◌, List, [], ◌∷◌, ◌++◌, length, take, drop, Option, Some, None, Result, Ok, Err, is_ok, refl, sym, ap, subst, ◌∙◌, arith}
+use Rattle.std.proofs.Common.{◌≡◌, inl, inr, ℕ, suc, ◌-◌, ◌<◌, max, Bool, true, false, not, cond, ◌&&◌, List, [], ◌∷◌, ◌++◌, length, take, drop, Option, Some, None, Result, Ok, Err, is_ok, refl, sym, ap, subst, ◌∙◌, arith}
 use Rattle.std.specs.Prelude.{MatchResult, nat_eq, nat_le, option_map}
 use Rattle.std.specs.Char.{is_ascii_alphanumeric}
 use Rattle.std.specs.List.{list_all}
 use Rattle.std.specs.Option.{option_map_or}
 use Rattle.std.specs.Str.{IsUtf8, bytes_eq, is_utf8}
-use Rattle.std.proofs.lemmas.Bool.{and_parts, false_from_ne_true, leb-true, leb-false, le-leb, lt-leb, ne_eqb, false≢true}
+use Rattle.std.proofs.lemmas.Bool.{and_parts, cases_Bool, false_from_ne_true, leb-true, leb-false, le-leb, lt-leb, ne_eqb, false≢true}
 use Rattle.std.proofs.lemmas.Str.{IsUtf8-from_is_utf8, is_utf8-from_IsUtf8}
 use Rattle.mail_codec.specs.Places.{is_empty}
 use Rattle.mailparse.specs.Header.{Header}
@@ -28,24 +28,18 @@ pub prefixed : (prefix text rest : List ℕ) → pointwise nat_eq (take (length 
     → bytes_eq (drop (length prefix) text) rest ≡ bytes_eq text (prefix ++ rest)
 prefixed [] text rest h = refl
 prefixed (p ∷ prefix) [] rest h = absurd (false≢true h)
-prefixed (p ∷ prefix) (t ∷ text) rest h = by_first (nat_eq t p) h (prefixed prefix text rest)
-  where
-    by_first : (v : Bool) → v && pointwise nat_eq (take (length prefix) text) prefix ≡ true
-        → (pointwise nat_eq (take (length prefix) text) prefix ≡ true → bytes_eq (drop (length prefix) text) rest ≡ bytes_eq text (prefix ++ rest))
-        → bytes_eq (drop (length prefix) text) rest ≡ v && bytes_eq text (prefix ++ rest)
-    by_first true h later = later h
-    by_first false h later = absurd (false≢true h)
+prefixed (p ∷ prefix) (t ∷ text) rest h =
+    let parts = and_parts (nat_eq t p) (pointwise nat_eq (take (length prefix) text) prefix) h in
+    prefixed prefix text rest parts.1 ∙ ap (λ v. v && bytes_eq text (prefix ++ rest)) (sym parts.0)
 
 -- another text is not
 pub not_prefixed : (prefix text rest : List ℕ) → pointwise nat_eq (take (length prefix) text) prefix ≡ false → false ≡ bytes_eq text (prefix ++ rest)
 not_prefixed [] text rest h = absurd (false≢true (sym h))
 not_prefixed (p ∷ prefix) [] rest h = refl
-not_prefixed (p ∷ prefix) (t ∷ text) rest h = by_first (nat_eq t p) h (not_prefixed prefix text rest)
-  where
-    by_first : (v : Bool) → v && pointwise nat_eq (take (length prefix) text) prefix ≡ false
-        → (pointwise nat_eq (take (length prefix) text) prefix ≡ false → false ≡ bytes_eq text (prefix ++ rest)) → false ≡ v && bytes_eq text (prefix ++ rest)
-    by_first true h later = later h
-    by_first false h later = refl
+not_prefixed (p ∷ prefix) (t ∷ text) rest h = elim (cases_Bool (nat_eq t p)) [
+  | inl e ↦ not_prefixed prefix text rest (sym (ap (λ v. v && pointwise nat_eq (take (length prefix) text) prefix) e) ∙ h) ∙ ap (λ v. v && bytes_eq text (prefix ++ rest)) (sym e)
+  | inr e ↦ ap (λ v. v && bytes_eq text (prefix ++ rest)) (sym e)
+]
 
 -- what a call says of UTF-8 by whether it succeeds
 pub utf8_told : {T E : Type 0} (P : T → Type 0) (Q : E → Type 0) (result : Result T E) (bytes : List ℕ)
@@ -56,10 +50,7 @@ utf8_told P Q (Err e) bytes cases = sym (false_from_ne_true (is_utf8 bytes) (λ 
 -- where the values are UTF-8, so is that of the first `Content-Type`
 text_found : (headers : List Header) (value : List ℕ) → list_all (λ h. is_utf8 h.value) headers ≡ true
     → option_map (λ h. h.value) (type_header headers) ≡ Some value → is_utf8 value ≡ true
-text_found [] value all found = absurd (no_none found)
-  where
-    no_none : ◌≡◌ {A = Option (List ℕ)} None (Some value) → ⊥
-    no_none e = cc
+text_found [] value all found = let none : ◌≡◌ {A = Option (List ℕ)} None (Some value) = found in absurd (cc)
 text_found (h ∷ headers) value all found =
     let each = and_parts (is_utf8 h.value) (list_all (λ h. is_utf8 h.value) headers) all in
     by_key (has_type_key h) refl each.0 (text_found headers value each.1)

@@ -1,7 +1,8 @@
 -- The header block of an outline, as it is written, reads as its headers.
 use Rattle.std.proofs.Common.{◌≡◌, ℕ, suc, ◌+◌, ◌-◌, ◌≤◌, Bool, true, false, eqb, not, ◌&&◌, ◌||◌, List, [], ◌∷◌, ◌++◌, length, take, drop, Ok, codes, refl, sym, ap, ◌∙◌, arith, append_assoc, length-append, flat_map}
 use Rattle.std.specs.List.{list_all}
-use Rattle.std.proofs.lemmas.Bool.{false≢true, and_parts, and_left, eq-eqb, ne_eqb, leb-true, not-true}
+use Rattle.std.proofs.lemmas.Bool.{false≢true, and_parts, and_left, eq-eqb, ne_eqb, not-true}
+use Rattle.std.proofs.lemmas.Bool.Decides.{nat_tests}
 use Rattle.std.proofs.lemmas.List.{drop_at, take_at}
 use Rattle.mail_codec.specs.Ascii.{is_blank}
 use Rattle.mail_codec.specs.Places.{first_place, begins, stands, is_empty}
@@ -35,16 +36,10 @@ drop_past (x ∷ front) b rest = drop_past front b rest
 -- ---- the bytes of keys and values
 
 pub key_byte : (b : ℕ) → is_key_byte b ≡ true → (33 ≤ b) × (b ≤ 126) × (eqb b 58 ≡ false)
-key_byte b h =
-    let parts = and_parts _ (not (eqb b 58)) h in
-    let range = and_parts _ _ parts.0 in
-    (leb-true 33 b range.0, leb-true b 126 range.1, not-true (eqb b 58) parts.1)
+key_byte b h = (grind (arith, nat_tests), grind (arith, nat_tests), grind (arith, nat_tests))
 
 key_passed : (b : ℕ) (bs : List ℕ) → is_key_byte b ≡ true → begins ends_key (b ∷ bs) ≡ false
-key_passed b bs h =
-    let at = key_byte b h in
-    let low = at.0 in
-    ap (λ t. t || eqb b 10) at.2 ∙ ne_eqb b 10 (λ e. absurd (omega (arith, low)))
+key_passed b bs h = grind (arith, nat_tests)
 
 pub plain_passed : (b : ℕ) (bs : List ℕ) → is_plain_byte b ≡ true → ends_header (b ∷ bs) ≡ false
 plain_passed b bs h = and_left (eqb b 10) _ (plain_no_feed b h)

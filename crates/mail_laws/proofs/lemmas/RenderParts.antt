@@ -9,10 +9,10 @@ use Rattle.mail_codec.specs.Places.{stands, begins, place, byte_place}
 use Rattle.mail_codec.proofs.lemmas.Places.{first_place-before}
 use Rattle.mail_codec.proofs.lemmas.PlacesSearches.{place_none}
 use Rattle.mailparse.specs.Ranges.{Range, slice}
-use Rattle.mailparse.specs.Delimiters.{is_delimiter, delimiter_from, line_after, part_after, is_close_delimiter, first_part, next_part, before_byte, before_line_end, end_from, part_range, cut_parts}
+use Rattle.mailparse.specs.Delimiters.{is_delimiter, delimiter_from, line_after, part_after, is_close_delimiter, first_part, next_part, before_line_end, end_from, part_range, cut_parts}
 use Rattle.mailparse.proofs.lemmas.Delimiters.{NoDelimiter, is_delimiter-line, is_delimiter-start, delimiter_from-some, starts_delimiter, part_ranges, part_ranges-none, part_ranges-some}
 use Rattle.mailparse.proofs.lemmas.Places.{not_some}
-use Rattle.mail_laws.proofs.lemmas.DelimiterPlaces.{before_byte-start}
+use Rattle.mail_laws.proofs.lemmas.DelimiterPlaces.{before_line_end-crlf, before_line_end-start}
 use Rattle.mail_laws.proofs.lemmas.RenderHeaders.{drop_past}
 
 -- ---- a text that stands
@@ -39,25 +39,6 @@ stands-nowhere x text bytes none k =
     let whole = place_none (stands (x ∷ text)) bytes (not_some (place (stands (x ∷ text)) bytes) none) in
     ⊎_elim (λ low. first_place-before (stands (x ∷ text)) bytes k (omega (arith, low, whole)))
     (λ high. ap (stands (x ∷ text)) (drop_all k bytes high)) (cases_lt k (length bytes))
-
--- ---- where a line ends by CR LF
-
-before_byte-one : (b : ℕ) (bytes : List ℕ) (start p : ℕ) → start ≤ p → begins (λ x. eqb x b) (drop p bytes) ≡ true → before_byte b bytes start (suc p) ≡ p
-before_byte-one b bytes start p low h =
-    let less : suc p - 1 ≡ p = omega arith in
-    let at : begins (λ x. eqb x b) (drop (suc p - 1) bytes) ≡ true = ap (λ n. begins (λ x. eqb x b) (drop n bytes)) less ∙ h in
-    cond-true (nat_lt start (suc p) && begins (λ x. eqb x b) (drop (suc p - 1) bytes)) (suc p - 1) (suc p)
-    (and_from _ _ (lt-ltb start (suc p) (omega arith)) at) ∙ less
-
-before_line_end-crlf : (bytes : List ℕ) (start p : ℕ) → start ≤ p → begins (λ x. eqb x 13) (drop p bytes) ≡ true → begins (λ x. eqb x 10) (drop (suc p) bytes) ≡ true
-    → before_line_end bytes start (suc (suc p)) ≡ p
-before_line_end-crlf bytes start p low return feed =
-    ap (before_byte 13 bytes start) (before_byte-one 10 bytes start (suc p) (omega arith) feed)
-    ∙ before_byte-one 13 bytes start p low return
-
-before_line_end-start : (bytes : List ℕ) (start : ℕ) → before_line_end bytes start start ≡ start
-before_line_end-start bytes start =
-    ap (before_byte 13 bytes start) (before_byte-start 10 bytes start start (omega arith)) ∙ before_byte-start 13 bytes start start (omega arith)
 
 -- ---- what follows a delimiter
 

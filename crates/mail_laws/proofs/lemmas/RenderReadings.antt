@@ -1,10 +1,11 @@
 -- What is written of an outline reads as the message that it stands for.
-use Rattle.std.proofs.Common.{◌≡◌, ◌⊎◌, inl, ℕ, zero, suc, ◌+◌, ◌-◌, ◌<◌, ◌≤◌, ⊎_elim, Bool, true, false, eqb, not, List, [], ◌∷◌, ◌++◌, length, map, take, drop, Option, Some, None, is_some, Ok, Err, codes, refl, sym, ap, ◌∙◌, subst, arith, length-append}
+use Rattle.std.proofs.Common.{◌≡◌, ◌⊎◌, inl, ℕ, zero, suc, ◌+◌, ◌-◌, ◌<◌, ◌≤◌, ⊎_elim, true, false, eqb, not, List, [], ◌∷◌, ◌++◌, length, map, take, drop, Option, Some, None, is_some, Ok, Err, codes, refl, sym, ap, ◌∙◌, subst, arith, length-append}
 use Rattle.std.specs.Char.{is_ascii_alphanumeric}
 use Rattle.std.specs.List.{list_all}
 use Rattle.std.specs.Option.{option_map_or}
 use Rattle.std.specs.Str.{bytes_eq, is_utf8}
-use Rattle.std.proofs.lemmas.Bool.{cond-false, cases_lt, ne_eqb, eqb-true, leb-true, and_parts, or_parts, false≢true, not-true}
+use Rattle.std.proofs.lemmas.Bool.{cond-false, cases_lt, ne_eqb, leb-true, and_parts, or_parts, false≢true, not-true}
+use Rattle.std.proofs.lemmas.Bool.Decides.{nat_tests}
 use Rattle.std.proofs.lemmas.List.{append_cancel_left, drop_at, map-append, take_at, take_all}
 use lib.Pointwise.{bytes_decides}
 use Rattle.mail_codec.specs.Charset.{Charsets, four_charsets}
@@ -15,7 +16,7 @@ use Rattle.mailparse.specs.Block.{HeaderList, read_headers}
 use Rattle.mailparse.specs.ContentType.{ContentType}
 use Rattle.mailparse.specs.Ranges.{slice}
 use Rattle.mailparse.specs.Delimiters.{Cut, cut_parts}
-use Rattle.mailparse.specs.Mail.{Node, Tree, tree, Forest, no_parts, part_and, root, parts_of, nodes, trees_in, trees_within, is_digest, cut_of, node_with, read_each, read_parts, node_type, read_levels, read_mail_in, read_mail}
+use Rattle.mailparse.specs.Mail.{Node, Tree, tree, Forest, no_parts, part_and, root, parts_of, nodes, trees_in, trees_within, is_digest, cut_of, node_with, read_each, node_type, read_levels, read_mail_in, read_mail}
 use Rattle.mail_laws.specs.Boundaries.{boundary_type}
 use Rattle.mail_laws.specs.Encode.{KnowUtf8}
 use Rattle.mail_laws.specs.Render.{OutlineTree, OutlineForest, leaf, branch, no_outlines, outline_and, header_block, dash_boundary, rendered, rendered_parts, is_key, has_keys, has_texts, type_header, names_its_boundary, has_plain_boundary, is_not_multipart, has_some_part, holds_delimiter, hold_no_delimiter, has_clear_parts, depth, depth_of_parts, is_well_formed_here, is_well_formed_within, are_well_formed_within, type_of, node_of, stands_for, stand_for, is_within_levels, IsWellFormed, written_headers, has_plain_values, is_plain_within, are_plain_within, KnowItsWords, shown_header, headers_within, headers_in}
@@ -52,11 +53,7 @@ AreClear-from boundary (outline_and part parts) none =
 
 -- letters and digits are no CR
 no_return-alphanumeric : (b : ℕ) → is_ascii_alphanumeric b ≡ true → no_return b ≡ true
-no_return-alphanumeric b h = go (eqb b 13) refl
-  where
-    go : (t : Bool) → eqb b 13 ≡ t → not t ≡ true
-    go true e = absurd (false≢true (ap is_ascii_alphanumeric (sym (eqb-true b 13 e)) ∙ h))
-    go false e = refl
+no_return-alphanumeric b h = grind (arith, nat_tests)
 
 dash_boundary-free : (boundary : List ℕ) → list_all is_ascii_alphanumeric boundary ≡ true → list_all no_return (dash_boundary boundary) ≡ true
 dash_boundary-free boundary all = list_all-weaker is_ascii_alphanumeric no_return no_return-alphanumeric boundary all
@@ -82,19 +79,20 @@ IsFormed-from outline h =
     let six = and_parts (has_some_part outline) (has_clear_parts outline) five.1 in
     record { keys = one.0; values = two.0; names = three.0; plain = four.0; other = five.0; some = six.0; clear = six.1 }
 
+branch-formed : (headers : List Header) (boundary : List ℕ) (parts : OutlineForest) → is_well_formed_within (branch headers boundary parts) ≡ true → IsFormed (branch headers boundary parts)
+branch-formed headers boundary parts formed =
+    IsFormed-from (branch headers boundary parts) (and_parts (is_well_formed_here (branch headers boundary parts)) (are_well_formed_within parts) formed).0
+
 -- ---- one message
 
 -- what is read of each part, unless one is refused
 each_read : (read : List ℕ → Reads Tree) (part : List ℕ) (parts : List (List ℕ)) (t : Tree) (others : Reads Forest) → read part ≡ Ok t → read_each read parts ≡ others
     → read_each read (part ∷ parts) ≡ ◌>>=◌ others (λ xs. Ok (part_and t xs))
-each_read read part parts t others first later =
-    ap (λ (r : Reads Tree). ◌>>=◌ r (λ x. ◌>>=◌ (read_each read parts) (λ xs. Ok (part_and x xs)))) first
-    ∙ ap (λ (r : Reads Forest). ◌>>=◌ r (λ xs. Ok (part_and t xs))) later
+each_read read part parts t others first later = rw (first, later) refl
 
 first_refused : (read : List ℕ → Reads Tree) (part : List ℕ) (parts : List (List ℕ)) → read part ≡ Err recursion_limit
     → read_each read (part ∷ parts) ≡ Err recursion_limit
-first_refused read part parts first =
-    ap (λ (r : Reads Tree). ◌>>=◌ r (λ x. ◌>>=◌ (read_each read parts) (λ xs. Ok (part_and x xs)))) first
+first_refused read part parts first = rw first refl
 
 -- Under the charsets that are known.
 module _ (known : Charsets) where
@@ -104,10 +102,7 @@ module _ (known : Charsets) where
       → read_levels known (suc levels) false bytes
       ≡ ◌>>=◌ (read_each (read_levels known levels (is_digest ctype)) (map (slice bytes) cut.parts)) (λ parts. Ok (tree (node_with bytes block ctype cut) parts))
   unfolding read_levels
-  read_levels-cut levels bytes block ctype cut read type is =
-      ap (λ (r : Reads HeaderList). ◌>>=◌ r (λ b. read_parts known (read_levels known levels) bytes b (node_type known false b.headers))) read
-      ∙ ap (λ (t : ContentType). read_parts known (read_levels known levels) bytes block t) type
-      ∙ ap (λ (c : Cut). ◌>>=◌ (read_each (read_levels known levels (is_digest ctype)) (map (slice bytes) c.parts)) (λ parts. Ok (tree (node_with bytes block ctype c) parts))) is
+  read_levels-cut levels bytes block ctype cut read type is = rw (read, type, is) refl
 
   read_levels-none : (bytes : List ℕ) → read_levels known zero false bytes ≡ Err recursion_limit
   unfolding read_levels
@@ -166,36 +161,26 @@ module _ (known : Charsets) where
       ∙ ap (λ (n : Node). ◌>>=◌ (read_each (read_levels known levels false) (part ∷ parts)) (λ xs. Ok (tree n xs)))
       (made-same bytes headers (take index bytes) (slice bytes (cut_parts d bytes index).body) (take_at block whole index refl) [] body)
 
-  branch-written : (levels : ℕ) (headers : List Header) (boundary : List ℕ) (parts : OutlineForest) → IsFormed (branch headers boundary parts) → AreShown known headers
+  branch-written : (levels : ℕ) (headers : List Header) (boundary : List ℕ) (parts : OutlineForest) → KnowItsWords known (branch headers boundary parts)
+      → is_well_formed_within (branch headers boundary parts) ≡ true → (read : Reads Forest) → read_each (read_levels known levels false) (renderings parts) ≡ read
       → read_levels known (suc levels) false (rendered (branch headers boundary parts))
-      ≡ ◌>>=◌ (read_each (read_levels known levels false) (renderings parts)) (λ found. Ok (tree (node_of known (rendered (branch headers boundary parts)) headers []) found))
-  branch-written levels headers boundary no_outlines formed shown = absurd (false≢true formed.some)
-  branch-written levels headers boundary (outline_and part parts) formed shown =
+      ≡ ◌>>=◌ read (λ found. Ok (tree (node_of known (rendered (branch headers boundary parts)) headers []) found))
+  branch-written levels headers boundary no_outlines able well read is = absurd (false≢true (branch-formed headers boundary no_outlines well).some)
+  branch-written levels headers boundary (outline_and part parts) able well read is =
+      let formed = branch-formed headers boundary (outline_and part parts) well in
+      let plain = known_first (has_plain_values (branch headers boundary (outline_and part parts))) (are_plain_within (outline_and part parts)) able in
       branch-by_parts levels headers boundary (rendered part) (renderings parts) (rendered_parts boundary (outline_and part parts))
-      formed.keys formed.values shown formed.names (and_parts (list_all is_ascii_alphanumeric boundary) (not (is_empty boundary)) formed.plain).0
+      formed.keys formed.values (written_are_shown known headers plain formed.values) formed.names (and_parts (list_all is_ascii_alphanumeric boundary) (not (is_empty boundary)) formed.plain).0
       (AreClear-from boundary (outline_and part parts) formed.clear) (rendered_parts-written boundary (outline_and part parts))
+      ∙ ap (λ (r : Reads Forest). ◌>>=◌ r (λ found. Ok (tree (node_of known (rendered (branch headers boundary (outline_and part parts))) headers []) found))) is
 
   -- ---- the charsets know the words of outlines with their parts
 
   abbrev KnowTheirWords : OutlineForest → Type 0
   KnowTheirWords parts = KnowUtf8 known ⊎ (are_plain_within parts ≡ true)
 
-  shown-leaf : (headers : List Header) (body : List ℕ) → KnowItsWords known (leaf headers body) → IsFormed (leaf headers body) → AreShown known headers
-  shown-leaf headers body able formed = written_are_shown known headers able formed.values
-
-  shown-branch : (headers : List Header) (boundary : List ℕ) (parts : OutlineForest) → KnowItsWords known (branch headers boundary parts)
-      → IsFormed (branch headers boundary parts) → AreShown known headers
-  shown-branch headers boundary parts able formed =
-      written_are_shown known headers (known_first (has_plain_values (branch headers boundary parts)) (are_plain_within parts) able) formed.values
-
   shown-parts : (headers : List Header) (boundary : List ℕ) (parts : OutlineForest) → KnowItsWords known (branch headers boundary parts) → KnowTheirWords parts
   shown-parts headers boundary parts = known_others (has_plain_values (branch headers boundary parts)) (are_plain_within parts)
-
-  shown-first : (part : OutlineTree) (parts : OutlineForest) → KnowTheirWords (outline_and part parts) → KnowItsWords known part
-  shown-first part parts = known_first (is_plain_within part) (are_plain_within parts)
-
-  shown-others : (part : OutlineTree) (parts : OutlineForest) → KnowTheirWords (outline_and part parts) → KnowTheirWords parts
-  shown-others part parts = known_others (is_plain_within part) (are_plain_within parts)
 
   -- ---- outlines with their parts
 
@@ -204,13 +189,10 @@ module _ (known : Charsets) where
         → read_levels known (suc n) false (rendered outline) ≡ Ok (stands_for known outline)
     reads (leaf headers body) n able formed within =
         let is = IsFormed-from (leaf headers body) formed in
-        leaf-written n headers body is (shown-leaf headers body able is)
+        leaf-written n headers body is (written_are_shown known headers able is.values)
     reads (branch headers boundary parts) n able formed within =
         let both = and_parts (is_well_formed_here (branch headers boundary parts)) (are_well_formed_within parts) formed in
-        let is = IsFormed-from (branch headers boundary parts) both.0 in
-        branch-written n headers boundary parts is (shown-branch headers boundary parts able is)
-        ∙ ap (λ (r : Reads Forest). ◌>>=◌ r (λ found. Ok (tree (node_of known (rendered (branch headers boundary parts)) headers []) found)))
-        (reads_parts parts n (shown-parts headers boundary parts able) both.1 within)
+        branch-written n headers boundary parts able formed (Ok (stand_for known parts)) (reads_parts parts n (shown-parts headers boundary parts able) both.1 within)
 
     reads_parts : (parts : OutlineForest) (n : ℕ) → KnowTheirWords parts → are_well_formed_within parts ≡ true → depth_of_parts parts ≤ n
         → read_each (read_levels known n false) (renderings parts) ≡ Ok (stand_for known parts)
@@ -219,7 +201,7 @@ module _ (known : Charsets) where
     reads_parts (outline_and part parts) (suc n) able formed within =
         let both = and_parts (is_well_formed_within part) (are_well_formed_within parts) formed in
         each_read (read_levels known (suc n) false) (rendered part) (renderings parts) (stands_for known part) (Ok (stand_for known parts))
-        (reads part n (shown-first part parts able) both.0 (omega (arith, within))) (reads_parts parts (suc n) (shown-others part parts able) both.1 (omega (arith, within)))
+        (reads part n (known_first (is_plain_within part) (are_plain_within parts) able) both.0 (omega (arith, within))) (reads_parts parts (suc n) (known_others (is_plain_within part) (are_plain_within parts) able) both.1 (omega (arith, within)))
 
   mutual
     refuses : (outline : OutlineTree) (n : ℕ) → KnowItsWords known outline → is_well_formed_within outline ≡ true → n < depth outline
@@ -227,10 +209,7 @@ module _ (known : Charsets) where
     refuses (leaf headers body) n able formed deep = absurd (omega (arith, deep))
     refuses (branch headers boundary parts) n able formed deep =
         let both = and_parts (is_well_formed_here (branch headers boundary parts)) (are_well_formed_within parts) formed in
-        let is = IsFormed-from (branch headers boundary parts) both.0 in
-        branch-written n headers boundary parts is (shown-branch headers boundary parts able is)
-        ∙ ap (λ (r : Reads Forest). ◌>>=◌ r (λ found. Ok (tree (node_of known (rendered (branch headers boundary parts)) headers []) found)))
-        (refuses_parts parts n (shown-parts headers boundary parts able) both.1 deep)
+        branch-written n headers boundary parts able formed (Err recursion_limit) (refuses_parts parts n (shown-parts headers boundary parts able) both.1 deep)
 
     refuses_parts : (parts : OutlineForest) (n : ℕ) → KnowTheirWords parts → are_well_formed_within parts ≡ true → n < depth_of_parts parts
         → read_each (read_levels known n false) (renderings parts) ≡ Err recursion_limit
@@ -239,9 +218,9 @@ module _ (known : Charsets) where
         first_refused (read_levels known zero false) (rendered part) (renderings parts) (read_levels-none (rendered part))
     refuses_parts (outline_and part parts) (suc n) able formed deep =
         let both = and_parts (is_well_formed_within part) (are_well_formed_within parts) formed in
-        ⊎_elim (λ below. first_refused (read_levels known (suc n) false) (rendered part) (renderings parts) (refuses part n (shown-first part parts able) both.0 below))
-        (λ within. each_read (read_levels known (suc n) false) (rendered part) (renderings parts) (stands_for known part) (Err recursion_limit) (reads part n (shown-first part parts able) both.0 within)
-        (refuses_parts parts (suc n) (shown-others part parts able) both.1 (omega (arith, deep, within))))
+        ⊎_elim (λ below. first_refused (read_levels known (suc n) false) (rendered part) (renderings parts) (refuses part n (known_first (is_plain_within part) (are_plain_within parts) able) both.0 below))
+        (λ within. each_read (read_levels known (suc n) false) (rendered part) (renderings parts) (stands_for known part) (Err recursion_limit) (reads part n (known_first (is_plain_within part) (are_plain_within parts) able) both.0 within)
+        (refuses_parts parts (suc n) (known_others (is_plain_within part) (are_plain_within parts) able) both.1 (omega (arith, deep, within))))
         (cases_lt n (depth part))
 
   -- an outline no deeper than the limit is read
@@ -259,22 +238,12 @@ module _ (known : Charsets) where
   -- ---- the message that an outline stands for tells the outline
 
   same_parts : (t u : Tree) (ts us : Forest) → part_and t ts ≡ part_and u us → (t ≡ u) × (ts ≡ us)
-  same_parts t u ts us e = (first e, others e)
-    where
-      first : part_and t ts ≡ part_and u us → t ≡ u
-      first h = cc
-
-      others : part_and t ts ≡ part_and u us → ts ≡ us
-      others h = cc
-
-  abbrev is_bare : Forest → Bool
-  is_bare no_parts = true
-  is_bare (part_and t ts) = false
+  same_parts t u ts us e = ((cc), (cc))
 
   -- an outline with parts stands for a message with parts
   some_parts : (headers : List Header) (boundary : List ℕ) (parts : OutlineForest) → has_some_part (branch headers boundary parts) ≡ true → no_parts ≡ stand_for known parts → ⊥
   some_parts headers boundary no_outlines some e = false≢true some
-  some_parts headers boundary (outline_and part parts) some e = false≢true (sym (ap is_bare e))
+  some_parts headers boundary (outline_and part parts) some e = let f : no_parts ≡ part_and (stands_for known part) (stand_for known parts) = e in cc
 
   -- its first `Content-Type` tells its boundary
   same_boundary : (found : Option Header) (one two : List ℕ) → option_map_or (λ h. bytes_eq h.value (boundary_type one)) found false ≡ true
@@ -291,26 +260,24 @@ module _ (known : Charsets) where
         same_headers headers others (IsFormed-from (leaf headers body) formed).values (IsFormed-from (leaf others rest) also).values (ap (λ (t : Tree). (root t).headers) e) in
         ap (λ (x : List Header). leaf x body) same ∙ ap (leaf others) (ap (λ (t : Tree). (root t).body) e)
     tells (leaf headers body) (branch others boundary parts) formed also e =
-        absurd (some_parts others boundary parts (IsFormed-from (branch others boundary parts) (and_parts (is_well_formed_here (branch others boundary parts)) (are_well_formed_within parts) also).0).some (ap parts_of e))
+        absurd (some_parts others boundary parts (branch-formed others boundary parts also).some (ap parts_of e))
     tells (branch headers boundary parts) (leaf others rest) formed also e =
-        absurd (some_parts headers boundary parts (IsFormed-from (branch headers boundary parts) (and_parts (is_well_formed_here (branch headers boundary parts)) (are_well_formed_within parts) formed).0).some (sym (ap parts_of e)))
+        absurd (some_parts headers boundary parts (branch-formed headers boundary parts formed).some (sym (ap parts_of e)))
     tells (branch headers boundary parts) (branch others limit rest) formed also e =
-        let one = and_parts (is_well_formed_here (branch headers boundary parts)) (are_well_formed_within parts) formed in
-        let two = and_parts (is_well_formed_here (branch others limit rest)) (are_well_formed_within rest) also in
-        let same : headers ≡ others =
-        same_headers headers others (IsFormed-from (branch headers boundary parts) one.0).values (IsFormed-from (branch others limit rest) two.0).values
-        (ap (λ (t : Tree). (root t).headers) e) in
+        let one = branch-formed headers boundary parts formed in
+        let two = branch-formed others limit rest also in
+        let same : headers ≡ others = same_headers headers others one.values two.values (ap (λ (t : Tree). (root t).headers) e) in
         let named : option_map_or (λ h. bytes_eq h.value (boundary_type boundary)) (type_header others) false ≡ true =
-        subst (λ (hs : List Header). option_map_or (λ h. bytes_eq h.value (boundary_type boundary)) (type_header hs) false ≡ true) same
-        (IsFormed-from (branch headers boundary parts) one.0).names in
+        subst (λ (hs : List Header). option_map_or (λ h. bytes_eq h.value (boundary_type boundary)) (type_header hs) false ≡ true) same one.names in
         ap (λ (x : List Header). branch x boundary parts) same
-        ∙ ap (λ (x : List ℕ). branch others x parts) (same_boundary (type_header others) boundary limit named (IsFormed-from (branch others limit rest) two.0).names)
-        ∙ ap (branch others limit) (tell parts rest one.1 two.1 (ap parts_of e))
+        ∙ ap (λ (x : List ℕ). branch others x parts) (same_boundary (type_header others) boundary limit named two.names)
+        ∙ ap (branch others limit) (tell parts rest (and_parts (is_well_formed_here (branch headers boundary parts)) (are_well_formed_within parts) formed).1
+        (and_parts (is_well_formed_here (branch others limit rest)) (are_well_formed_within rest) also).1 (ap parts_of e))
 
     tell : (one two : OutlineForest) → are_well_formed_within one ≡ true → are_well_formed_within two ≡ true → stand_for known one ≡ stand_for known two → one ≡ two
     tell no_outlines no_outlines formed also e = refl
-    tell no_outlines (outline_and part parts) formed also e = absurd (false≢true (sym (ap is_bare e)))
-    tell (outline_and part parts) no_outlines formed also e = absurd (false≢true (ap is_bare e))
+    tell no_outlines (outline_and part parts) formed also e = let f : no_parts ≡ part_and (stands_for known part) (stand_for known parts) = e in absurd (cc)
+    tell (outline_and part parts) no_outlines formed also e = let f : part_and (stands_for known part) (stand_for known parts) ≡ no_parts = e in absurd (cc)
     tell (outline_and part parts) (outline_and other others) formed also e =
         let one = and_parts (is_well_formed_within part) (are_well_formed_within parts) formed in
         let two = and_parts (is_well_formed_within other) (are_well_formed_within others) also in
@@ -347,11 +314,11 @@ module _ (known : Charsets) where
     pub headers_show : (outline : OutlineTree) → KnowItsWords known outline → is_well_formed_within outline ≡ true
         → map (shown_headers known) (nodes (stands_for known outline)) ≡ headers_within outline
     headers_show (leaf headers body) able formed =
-        ap (λ (hs : List Header). hs ∷ []) (headers_again known headers (shown-leaf known headers body able (IsFormed-from (leaf headers body) formed)))
+        ap (λ (hs : List Header). hs ∷ []) (headers_again known headers (written_are_shown known headers able (IsFormed-from (leaf headers body) formed).values))
     headers_show (branch headers boundary parts) able formed =
         let both = and_parts (is_well_formed_here (branch headers boundary parts)) (are_well_formed_within parts) formed in
         ap (λ (hs : List Header). hs ∷ map (shown_headers known) (map root (trees_in (stand_for known parts))))
-        (headers_again known headers (shown-branch known headers boundary parts able (IsFormed-from (branch headers boundary parts) both.0)))
+        (headers_again known headers (written_are_shown known headers (known_first (has_plain_values (branch headers boundary parts)) (are_plain_within parts) able) (branch-formed headers boundary parts formed).values))
         ∙ ap (λ (rest : List (List Header)). headers ∷ rest) (headers_of_parts_show parts (shown-parts known headers boundary parts able) both.1)
 
     headers_of_parts_show : (parts : OutlineForest) → KnowTheirWords known parts → are_well_formed_within parts ≡ true
@@ -363,5 +330,5 @@ module _ (known : Charsets) where
         let others = trees_in (stand_for known parts) in
         ap (map (shown_headers known)) (map-append root first others)
         ∙ map-append (shown_headers known) (map root first) (map root others)
-        ∙ ap (λ hs. hs ++ map (shown_headers known) (map root others)) (headers_show part (shown-first known part parts able) both.0)
-        ∙ ap (λ hs. headers_within part ++ hs) (headers_of_parts_show parts (shown-others known part parts able) both.1)
+        ∙ ap (λ hs. hs ++ map (shown_headers known) (map root others)) (headers_show part (known_first (is_plain_within part) (are_plain_within parts) able) both.0)
+        ∙ ap (λ hs. headers_within part ++ hs) (headers_of_parts_show parts (known_others (is_plain_within part) (are_plain_within parts) able) both.1)

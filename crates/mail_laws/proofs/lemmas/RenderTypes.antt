@@ -56,7 +56,7 @@ module _ (known : Charsets) where
   pub node_type-written : (headers : List Header) → list_all (λ h. is_key h.key) headers ≡ true → AreShown known headers
       → node_type known false (written_headers headers) ≡ type_of known headers
   unfolding node_type
-  node_type-written headers keys shown = found_type default_type headers keys shown
+  node_type-written = found_type default_type
 
   -- ---- what the type says of parts
 

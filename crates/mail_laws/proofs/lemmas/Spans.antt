@@ -1,8 +1,8 @@
 -- Lemmas on where the headers of a block, their keys and their values stand.
-use Rattle.std.proofs.Common.{◌≡◌, ℕ, zero, suc, ◌+◌, ◌-◌, ◌<◌, ◌≤◌, ◌⊎◌, inl, inr, List, ◌++◌, take, drop, slice_range, Ok, refl, sym, ap, ◌∙◌, arith}
+use Rattle.std.proofs.Common.{◌≡◌, ℕ, zero, suc, ◌+◌, ◌-◌, ◌<◌, ◌≤◌, inl, inr, List, ◌++◌, take, drop, slice_range, Ok, refl, sym, ap, ◌∙◌, arith, take-add}
 use Rattle.std.specs.List.{flat_map}
 use Rattle.std.proofs.lemmas.Bool.{cases_lt}
-use Rattle.std.proofs.lemmas.List.{take-take, drop-take, drop-drop, take-append-drop}
+use Rattle.std.proofs.lemmas.List.{drop-drop}
 use Rattle.mail_codec.specs.Places.{values_below}
 use Rattle.mailparse.specs.Header.{Header, header_length, header_of, key_end, value_start, value_end}
 use Rattle.mailparse.specs.Block.{HeaderList, blank_line, header_place, rest_at, header_count, read_headers}
@@ -10,13 +10,6 @@ use Rattle.mailparse.specs.Ranges.{slice}
 use Rattle.mailparse.proofs.lemmas.Header.{value-in_order}
 use Rattle.mailparse.proofs.lemmas.Block.{rest_at-first, rest_at-more, header_place-more, header_place-first, read_headers-index, read_headers-list, values_below-same}
 use Rattle.mail_laws.specs.Spans.{header_span, header_spans, blank_span, key_range, value_range, header_at, StandBefore}
-
--- two parts that adjoin
-take-take-drop : (a b : ℕ) (xs : List ℕ) → take a xs ++ take b (drop a xs) ≡ take (a + b) xs
-take-take-drop a b xs =
-    ap (λ (x : List ℕ). x ++ take b (drop a xs)) (sym (take-take a (a + b) xs (omega arith)))
-    ∙ ap (λ (x : List ℕ). take a (take (a + b) xs) ++ x) (sym (drop-take a b xs))
-    ∙ take-append-drop a (take (a + b) xs)
 
 -- the first headers take the bytes up to where the next one starts
 spans-below : (n : ℕ) (raw : List ℕ) → flat_map (λ (span : List ℕ). span) (values_below n (header_span raw)) ≡ take (header_place raw n) raw
@@ -28,13 +21,13 @@ spans-below (suc n) raw =
     ∙ ap (λ (x : List (List ℕ)). take size raw ++ flat_map (λ (span : List ℕ). span) x)
     (values_below-same n (λ j. header_span raw (suc j)) (header_span rest) (λ j. ap (λ (x : List ℕ). take (header_length x) x) (rest_at-more raw j)))
     ∙ ap (λ (x : List ℕ). take size raw ++ x) (spans-below n rest)
-    ∙ take-take-drop size (header_place rest n) raw
+    ∙ sym (take-add size (header_place rest n) raw)
     ∙ ap (λ k. take k raw) (sym (header_place-more raw n))
 
 pub spans-cover : (raw : List ℕ) (block : HeaderList) → read_headers raw ≡ Ok block → header_spans raw ++ blank_span raw ≡ take block.index raw
 spans-cover raw block e =
     ap (λ (x : List ℕ). x ++ blank_span raw) (spans-below (header_count raw) raw)
-    ∙ take-take-drop (header_place raw (header_count raw)) (blank_line (rest_at raw (header_count raw))) raw
+    ∙ sym (take-add (header_place raw (header_count raw)) (blank_line (rest_at raw (header_count raw))) raw)
     ∙ ap (λ k. take k raw) (sym (read_headers-index raw block e))
 
 -- a range of what follows a place is a range of the whole
@@ -74,11 +67,10 @@ ranges-in_order raw j =
 -- the places go on
 place-later : (raw : List ℕ) (j n : ℕ) → j ≤ n → header_place raw j ≤ header_place raw n
 place-later raw j zero low = let e : j ≡ 0 = omega arith in rw e (omega arith)
-place-later raw j (suc n) low = by_last (λ below. place-later raw j n below) (cases_lt n j)
-  where
-    by_last : (j ≤ n → header_place raw j ≤ header_place raw n) → (n < j) ⊎ (j ≤ n) → header_place raw j ≤ header_place raw (suc n)
-    by_last more (inl last) = let e : j ≡ suc n = omega arith in rw e (omega arith)
-    by_last more (inr below) = let before = more below in let next = place-next raw n in omega arith
+place-later raw j (suc n) low = elim (cases_lt n j) [
+  | inl last ↦ let e : j ≡ suc n = omega arith in rw e (omega arith)
+  | inr below ↦ let before = place-later raw j n below in let next = place-next raw n in omega arith
+]
 
 pub place-within : (raw : List ℕ) (block : HeaderList) (j : ℕ) → read_headers raw ≡ Ok block → j < header_count raw → header_place raw (suc j) ≤ block.index
 place-within raw block j e low =

@@ -1,5 +1,5 @@
 -- Where no key holds a star, the parameters are the pairs.
-use Rattle.std.proofs.Common.{◌≡◌, ℕ, true, false, List, [], ◌∷◌, Some, None, refl, ◌∙◌}
+use Rattle.std.proofs.Common.{◌≡◌, ℕ, true, false, List, [], ◌∷◌, Some, refl, ◌∙◌}
 use Rattle.std.proofs.lemmas.Bool.{cond-false}
 use Rattle.std.proofs.lemmas.List.Elements.{All-head, All-tail}
 use Rattle.std.specs.Map.{update, update_all}
@@ -19,9 +19,6 @@ kept texts (pair ∷ pairs) name free some =
     kept (update bytes_eq texts pair.0 (Some pair.1)) pairs name (All-tail (λ pair. has_star pair.0 ≡ false) pair pairs free) some
     ∙ cond-false _ _ _ (another_key pair.0 name (All-head (λ pair. has_star pair.0 ≡ false) pair pairs free) some)
 
-none_starred : (pairs : List (List ℕ × List ℕ)) (name : List ℕ) → AreStarFree pairs → has_star name ≡ true → last_of pairs name ≡ None
-none_starred pairs name free some = kept no_texts pairs name free some
-
 -- so they have nothing there, and the parameters are the pairs
 pub star_free_pairs_are_parameters : (known : Charsets) (pairs : List (List ℕ × List ℕ)) → AreStarFree pairs → (name : List ℕ) → parameters_in known pairs name ≡ last_of pairs name
-star_free_pairs_are_parameters known pairs free name = parameters_are_pairs known pairs (λ key some. none_starred pairs key free some) name
+star_free_pairs_are_parameters known pairs free name = parameters_are_pairs known pairs (λ key some. kept no_texts pairs key free some) name

@@ -1,5 +1,6 @@
 -- Lemmas on what shows between two decoded words.
 use Rattle.std.proofs.Common.{◌≡◌, ℕ, cond, not, ◌||◌, List, [], ◌∷◌, ◌++◌, Option, Some, None, refl, sym, ap, ◌∙◌}
+use Rattle.std.proofs.lemmas.List.{map-append}
 use Rattle.mailparse.specs.Tokens.{TokenKind, plain_text, whitespace, line_end, decoded_word}
 use Rattle.mailparse.specs.Value.{Token, is_released, is_held, kinds, newline, shown_after, shown_tokens, shows, whitespace_token}
 use Rattle.mail_laws.specs.WordTokens.{word}
@@ -41,17 +42,13 @@ shown-after_word e f (token ∷ rest) =
     ap (λ held. cond (not held || is_released token.kind (kinds rest)) token.shown [] ++ shown_after (Some decoded_word) (Some token.kind) rest) (held-same e f token.kind)
 
 -- so what shows is the same if it is the same from the first word on
-kinds-append : (front more : List Token) → kinds (front ++ more) ≡ kinds front ++ kinds more
-kinds-append [] more = refl
-kinds-append (token ∷ front) more = ap (λ (ks : List TokenKind). token.kind ∷ ks) (kinds-append front more)
-
 shown-same : (e b : Option TokenKind) (front : List Token) (text : List ℕ) (rest other : List Token)
     → ((f : Option TokenKind) → shown_after f (Some decoded_word) rest ≡ shown_after f (Some decoded_word) other)
     → shown_after e b (front ++ word text ∷ rest) ≡ shown_after e b (front ++ word text ∷ other)
 shown-same e b [] text rest other same = ap (λ (shown : List ℕ). text ++ shown) (same b)
 shown-same e b (token ∷ front) text rest other same =
     let after : is_released token.kind (kinds (front ++ word text ∷ rest)) ≡ is_released token.kind (kinds (front ++ word text ∷ other)) =
-    ap (is_released token.kind) (kinds-append front (word text ∷ rest)) ∙ released-same token.kind (kinds front) (kinds rest) (kinds other) ∙ sym (ap (is_released token.kind) (kinds-append front (word text ∷ other))) in
+    ap (is_released token.kind) (map-append (λ (t : Token). t.kind) front (word text ∷ rest)) ∙ released-same token.kind (kinds front) (kinds rest) (kinds other) ∙ sym (ap (is_released token.kind) (map-append (λ (t : Token). t.kind) front (word text ∷ other))) in
     ap (λ released. cond (not (is_held e b token.kind) || released) token.shown [] ++ shown_after b (Some token.kind) (front ++ word text ∷ rest)) after
     ∙ ap (λ (shown : List ℕ). cond (shows e b token.kind (kinds (front ++ word text ∷ other))) token.shown [] ++ shown) (shown-same b (Some token.kind) front text rest other same)
 
