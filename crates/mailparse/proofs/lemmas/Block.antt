@@ -1,7 +1,8 @@
 -- Lemmas on the block of headers: the headers, one after another.
 use Rattle.std.proofs.Common.{◌≡◌, ℕ, zero, suc, ◌+◌, ◌<◌, ◌≤◌, Bool, true, false, ◌&&◌, ◌||◌, not, cond, eqb, nat_eq, Option, Some, None, List, [], ◌∷◌, ◌++◌, length, drop, Result, Ok, Err, refl, sym, ap, subst, ◌∙◌, ⊎_elim, arith, length-drop, add_assoc, append_assoc, append-nil, zero-add}
 use Rattle.std.specs.List.{starts_with}
-use Rattle.std.proofs.lemmas.Bool.{cases_lt, false≢true}
+use Rattle.std.proofs.lemmas.Bool.{cases_lt, false≢true, not-false, not-true}
+use Rattle.std.proofs.Math.Bool.{or-true}
 use Rattle.std.proofs.lemmas.List.{drop-drop}
 use Rattle.std.proofs.Math.ListN.{drop_of_length-le}
 use Rattle.mail_codec.specs.Places.{stands, is_empty, values_below}
@@ -48,26 +49,15 @@ header_count-is raw n before at =
     let within = header_place-≤ raw n in
     least-is (λ j. not (has_header (rest_at raw j))) (length raw) n (omega arith) (λ k low. rw (before k low) refl) (λ low. rw at refl)
 
-not_false : (v : Bool) → not v ≡ false → v ≡ true
-not_false true h = refl
-not_false false h = absurd (differ h)
-  where
-    differ : true ≡ false → ⊥
-    differ e = cc
-
-not_true : (v : Bool) → not v ≡ true → v ≡ false
-not_true true h = sym h
-not_true false h = refl
-
 pub header_count-before : (raw : List ℕ) (k : ℕ) → k < header_count raw → has_header (rest_at raw k) ≡ true
 unfolding header_count
-header_count-before raw k low = not_false (has_header (rest_at raw k)) (least-before (λ j. not (has_header (rest_at raw j))) (length raw) k low)
+header_count-before raw k low = not-false (has_header (rest_at raw k)) (least-before (λ j. not (has_header (rest_at raw j))) (length raw) k low)
 
 pub header_count-stops : (raw : List ℕ) → has_header (rest_at raw (header_count raw)) ≡ false
 unfolding header_count
 header_count-stops raw =
     let moved = header_place-≥ raw (header_count raw) (header_count-before raw) in
-    ⊎_elim (λ below. not_true (has_header (rest_at raw (header_count raw))) (least-passes (λ j. not (has_header (rest_at raw j))) (length raw) below))
+    ⊎_elim (λ below. not-true (has_header (rest_at raw (header_count raw))) (least-passes (λ j. not (has_header (rest_at raw j))) (length raw) below))
     (λ above. ap has_header (drop_of_length-le raw (omega arith)) ∙ has_header-none)
     (cases_lt (header_count raw) (length raw))
 
@@ -161,10 +151,6 @@ pub with_front-front : (front more : List Header) (n m : ℕ) (rest : Result Hea
 with_front-front front more n m (Ok block) = ap (λ (xs : List Header). Ok (record { headers = xs; index = n + (m + block.index) })) (sym (append_assoc front more block.headers)) ∙ ap (λ k. Ok (record { headers = front ++ more ++ block.headers; index = k })) (sym (add_assoc n m block.index))
 with_front-front front more n m (Err refusal) = refl
 
-ended : (v : Bool) (n : ℕ) (other : Result (Option ℕ) Refusal) → cond (v || true) (Ok (Some n)) other ≡ Ok (Some n)
-ended true n other = refl
-ended false n other = refl
-
 -- what ends the block, by the bytes in front
 module _ (raw : List ℕ) where
   stands-there : (text : List ℕ) (v : Bool) → starts_with nat_eq raw text ≡ v → stands text raw ≡ v
@@ -172,11 +158,11 @@ module _ (raw : List ℕ) where
 
   pub block_end-feed : starts_with nat_eq raw (10 ∷ []) ≡ true → block_end raw ≡ Ok (Some 1)
   unfolding block_end headers_end blank_line
-  block_end-feed feed = rw (stands-there (10 ∷ []) true feed) (ended (is_empty raw) 1 (cond (stands (13 ∷ []) raw) (Err lone_carriage_return) (Ok None)))
+  block_end-feed feed = rw (stands-there (10 ∷ []) true feed, or-true (is_empty raw)) refl
 
   pub block_end-return_feed : starts_with nat_eq raw (10 ∷ []) ≡ false → starts_with nat_eq raw (13 ∷ 10 ∷ []) ≡ true → block_end raw ≡ Ok (Some 2)
   unfolding block_end headers_end blank_line
-  block_end-return_feed feed both = rw (stands-there (10 ∷ []) false feed, stands-there (13 ∷ 10 ∷ []) true both) (ended (is_empty raw) 2 (cond (stands (13 ∷ []) raw) (Err lone_carriage_return) (Ok None)))
+  block_end-return_feed feed both = rw (stands-there (10 ∷ []) false feed, stands-there (13 ∷ 10 ∷ []) true both, or-true (is_empty raw)) refl
 
   pub block_end-return : 0 < length raw → starts_with nat_eq raw (10 ∷ []) ≡ false → starts_with nat_eq raw (13 ∷ 10 ∷ []) ≡ false → starts_with nat_eq raw (13 ∷ []) ≡ true → block_end raw ≡ Err lone_carriage_return
   unfolding block_end headers_end blank_line

@@ -10,7 +10,7 @@ use Rattle.std.specs.Str.{IsCharBoundary, IsUtf8, all_ascii_digits, str_eq_ignor
 use Rattle.std.proofs.lemmas.List.Sums.{prefix_len-le-length, prefix_len_passes, prefix_len_stops}
 use Rattle.std.proofs.lemmas.Str.{IsCharBoundary-after_ascii}
 use Rattle.std.specs.Str.Parse.{ParsesUnsigned, ParsesSigned, digits_value, signed_digits_value, without_leading_plus, without_leading_sign}
-use Rattle.std.proofs.lemmas.Bool.{lt-ltb, ltb-true, leb-true, eqb-true, eqb-false}
+use Rattle.std.proofs.lemmas.Bool.{lt-ltb, ltb-true, leb-true, eqb-true, eqb-false, not-false}
 use Rattle.std.proofs.lemmas.Str.Parse.{IsNumeralModel, numerals_by_value, tells_all_ascii_digits}
 use Rattle.mail_codec.specs.Places.{is_empty}
 use Rattle.mailparse.specs.Date.{fits_32_bits, is_separator, look_up, words, zones, date_words, from_hour, from_minute, from_second, from_zone, seconds_of, invalid_hour, invalid_minute, invalid_second, invalid_year, signed_number, number_below, days_of_years, year_length, year_of, year_of_number}
@@ -179,13 +179,9 @@ cut_after_word rest end count = (omega (arith, prefix_len-le-length (λ b. not (
     clash lt high =
         let stops = prefix_len_stops (λ b. not (is_separator b)) rest 0 (omega arith) in
         let at : get_or rest end 0 ≡ get_or rest (prefix_len (λ b. not (is_separator b)) rest) 0 = ap (λ k. get_or rest k 0) count in
-        let sep : is_separator (get_or rest end 0) ≡ true = go (is_separator (get_or rest end 0)) refl (ap (λ b. not (is_separator b)) at ∙ stops) in
+        let sep : is_separator (get_or rest end 0) ≡ true = not-false _ (ap (λ b. not (is_separator b)) at ∙ stops) in
         let small : get_or rest end 0 < 128 = separator_ascii _ sep in
         omega arith
-      where
-        go : (t : Bool) → is_separator (get_or rest end 0) ≡ t → not (is_separator (get_or rest end 0)) ≡ false → is_separator (get_or rest end 0) ≡ true
-        go true e h = e
-        go false e h = absurd (cc)
 
 -- ---- tables
 

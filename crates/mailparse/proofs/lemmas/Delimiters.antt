@@ -1,7 +1,8 @@
 -- Lemmas on delimiters: where the first one stands, and the ranges of the parts.
 use Rattle.std.proofs.Common.{◌≡◌, ℕ, zero, suc, ◌+◌, ◌-◌, ◌<◌, ◌≤◌, Bool, true, false, cond, eqb, List, [], ◌∷◌, ◌&&◌, ◌||◌, length, drop, get_or, Option, Some, None, option_map, refl, sym, ap, ◌∙◌, subst, ⊎_elim, arith, length-drop, get_or-drop, ◌++◌, map}
 use Rattle.std.specs.Prelude.{nat_lt, filter_map, option_and_then, codes, if◌then◌else◌}
-use Rattle.std.proofs.lemmas.Bool.{cond-true, cond-false, cases_lt, cases_eq, lt-ltb, le-ltb, eq-eqb, eqb-true, ne_eqb, and_parts, and_from, false≢true}
+use Rattle.std.proofs.lemmas.Bool.{cond-true, cond-false, cases_lt, cases_eq, lt-ltb, le-ltb, eq-eqb, eqb-true, ne_eqb, and_parts, and_from, false_from_ne_true, false≢true}
+use Rattle.std.proofs.Math.Bool.{and-false}
 use Rattle.std.proofs.lemmas.List.{drop-drop}
 use Rattle.bstr.specs.Find.{OccursAt, FindsNeedle}
 use Rattle.mail_codec.specs.Places.{stands, begins, first_place, least, byte_place, text_place, values_below}
@@ -72,9 +73,6 @@ least_from-out test start end p e =
 
 eqb_swap : (a b : ℕ) → eqb a b ≡ eqb b a
 eqb_swap a b = ⊎_elim (λ e. ap (λ x. eqb x b) e ∙ ap (λ x. eqb b x) (sym e)) (λ n. ne_eqb a b n ∙ sym (ne_eqb b a (λ e. n (sym e)))) (cases_eq a b)
-
-or_false : (x y : Bool) → x ≡ false → y ≡ false → (x || y) ≡ false
-or_false x y e f = rw (e, f) refl
 
 reads_more : (x b : ℕ) (text rest : List ℕ) → x ≡ b → ((j : ℕ) → j < length text → get_or rest j 0 ≡ get_or text j 0) → (j : ℕ) → j < suc (length text)
     → get_or (b ∷ rest) j 0 ≡ get_or (x ∷ text) j 0
@@ -173,12 +171,8 @@ none_to dash_boundary bytes start to within fits first none k low high =
     let i = k - 1 - start in
     let there : drop i (drop start bytes) ≡ drop (k - 1) bytes = drop-drop i start bytes ∙ ap (λ n. drop n bytes) (omega (arith, other)) in
     is_delimiter-line dash_boundary bytes start k (omega (arith, other)) ∙ ap (stands (10 ∷ dash_boundary)) (sym there)
-    ∙ by_test i (omega (arith, other)) (stands (10 ∷ dash_boundary) (drop i (drop start bytes))) refl)
+    ∙ false_from_ne_true _ (λ e. none i (omega arith) (omega (arith, other)) (stands_occurs (10 ∷ dash_boundary) (drop start bytes) i (omega arith) e)))
     (cases_eq k start)
-  where
-    by_test : (i : ℕ) → i < to → (t : Bool) → stands (10 ∷ dash_boundary) (drop i (drop start bytes)) ≡ t → t ≡ false
-    by_test i low true e = absurd (none i (omega arith) low (stands_occurs (10 ∷ dash_boundary) (drop start bytes) i (omega arith) e))
-    by_test i low false e = refl
 
 -- ---- a search from one line that begins with the dash-boundary's first byte to the next
 
@@ -187,15 +181,11 @@ both_and true true u h = absurd (false≢true (sym h))
 both_and true false u h = refl
 both_and false t u h = refl
 
-no_and : (s : Bool) → s && false ≡ false
-no_and true = refl
-no_and false = refl
-
 -- a LF and the dash-boundary stand only where the LF and the dash-boundary's first byte do
 pub stands_pair : (dash_boundary rest : List ℕ) → 0 < length dash_boundary → stands (10 ∷ get_or dash_boundary 0 0 ∷ []) rest ≡ false → stands (10 ∷ dash_boundary) rest ≡ false
 stands_pair [] rest some h = absurd (omega arith)
 stands_pair (x ∷ dash_boundary) [] some h = refl
-stands_pair (x ∷ dash_boundary) (b ∷ []) some h = no_and (eqb 10 b)
+stands_pair (x ∷ dash_boundary) (b ∷ []) some h = and-false (eqb 10 b)
 stands_pair (x ∷ dash_boundary) (b ∷ c ∷ rest) some h = both_and (eqb 10 b) (eqb x c) (stands dash_boundary rest) h
 
 -- where the two bytes are found, both stand within the bytes

@@ -1,6 +1,7 @@
 -- Where no key holds a star, the parameters are the pairs.
 use Rattle.std.proofs.Common.{◌≡◌, ◌<◌, ℕ, suc, Bool, true, false, cond, not, ◌&&◌, ◌||◌, eqb, ltb, List, [], ◌∷◌, ◌++◌, ◌==◌, length, map, Option, Some, None, BTreeMap, String, refl, sym, ap, ◌∙◌, arith}
-use Rattle.std.proofs.lemmas.Bool.{cond-false, false≢true, and_right, lt-ltb, le-ltb}
+use Rattle.std.proofs.lemmas.List.{map_push}
+use Rattle.std.proofs.lemmas.Bool.{cond-false, false_from_ne_true, false≢true, and_right, lt-ltb, le-ltb}
 use Rattle.std.proofs.lemmas.Slice.Eq.{bytes_eq-Decides}
 use Rattle.std.specs.Borrow.{Bor}
 use Rattle.std.specs.Global.{Global}
@@ -17,7 +18,7 @@ use Rattle.mailparse.specs.Sections.{text, octets, alone, is_star, numbered, sec
 use Rattle.mailparse.specs.Pairs.{last_of, text_at}
 use Rattle.mailparse.specs.private.Continuations.{has_star, names_in}
 use Rattle.mailparse.specs.private.Filled.{holds_name}
-use Rattle.mailparse.proofs.lemmas.Filled.{shown_name}
+use Rattle.mailparse.proofs.lemmas.Filled.{any_push, shown_name}
 use Rattle.mailparse.proofs.lemmas.Sections.{unnamed}
 
 -- ---- the search for a star
@@ -59,11 +60,7 @@ star_found name = go (has_star name) refl
 -- ---- names without a star
 
 pub another_key : (key name : List ℕ) → has_star key ≡ false → has_star name ≡ true → bytes_eq key name ≡ false
-another_key key name free some = go (bytes_eq key name) refl
-  where
-    go : (t : Bool) → bytes_eq key name ≡ t → bytes_eq key name ≡ false
-    go true e = absurd (false≢true (sym free ∙ ap has_star ((bytes_eq-Decides key name).0 e) ∙ some))
-    go false e = e
+another_key key name free some = false_from_ne_true _ (λ e. false≢true (sym free ∙ ap has_star ((bytes_eq-Decides key name).0 e) ∙ some))
 
 not_held : (names : List (List ℕ)) (name : List ℕ) → list_any has_star names ≡ false → has_star name ≡ true → holds_name names name ≡ false
 not_held [] name free some = refl
@@ -80,28 +77,12 @@ not_held (key ∷ names) name free some = go (has_star key) refl free (λ h. not
 pub nothing_starred : (m : BTreeMap (String Global) (String Global)) (name : List ℕ) → list_any has_star (names_in m) ≡ false → has_star name ≡ true → text_at m name ≡ None
 nothing_starred m name free some = ap (option_map string_bytes) (unnamed name m (not_held (names_in m) name free some))
 
-pub free_of : (t : Bool) → not t ≡ true → t ≡ false
-free_of true h = absurd (false≢true h)
-free_of false h = refl
-
 -- one more name
 pub star_more : (yielded : List (Bor (String Global) × Bor (String Global))) (e : Bor (String Global) × Bor (String Global)) (so here : Bool)
     → so ≡ list_any has_star (map shown_name yielded) → here ≡ has_star (shown_name e)
     → (so || here) ≡ list_any has_star (map shown_name (yielded ++ e ∷ []))
-star_more yielded e so here before now = (λ i. before i || now i) ∙ go yielded
-  where
-    alone : (t : Bool) → t ≡ (t || false)
-    alone true = refl
-    alone false = refl
-
-    go : (names : List (Bor (String Global) × Bor (String Global))) → (list_any has_star (map shown_name names) || has_star (shown_name e)) ≡ list_any has_star (map shown_name (names ++ e ∷ []))
-    go [] = alone (has_star (shown_name e))
-    go (n ∷ names) = by_first (has_star (shown_name n)) (go names)
-      where
-        by_first : (t : Bool) → (list_any has_star (map shown_name names) || has_star (shown_name e)) ≡ list_any has_star (map shown_name (names ++ e ∷ []))
-            → ((t || list_any has_star (map shown_name names)) || has_star (shown_name e)) ≡ (t || list_any has_star (map shown_name (names ++ e ∷ [])))
-        by_first true h = refl
-        by_first false h = h
+star_more yielded e so here before now =
+    (λ i. before i || now i) ∙ sym (any_push has_star (map shown_name yielded) (shown_name e)) ∙ ap (list_any has_star) (sym (map_push shown_name yielded e))
 
 starred_has : (name : List ℕ) → has_star (starred name) ≡ true
 starred_has [] = refl
