@@ -276,27 +276,31 @@ line_after-bounds bytes p next within e =
     let len = length-drop p bytes in
     (omega arith, omega arith)
 
--- the next part starts after this one does, within the bytes
-pub next_part-bounds : (dash_boundary bytes : List ℕ) (s next : ℕ) → next_part dash_boundary bytes s ≡ Some next → (s < next) × (next ≤ length bytes)
-next_part-bounds dash_boundary bytes s next e = by_delimiter (delimiter_from dash_boundary bytes s) refl e
+-- the next part starts on the line after a delimiter
+pub next_part-delimiter : (dash_boundary bytes : List ℕ) (s next : ℕ) → next_part dash_boundary bytes s ≡ Some next
+    → (p : ℕ) × (delimiter_from dash_boundary bytes s ≡ Some p) × (part_after dash_boundary bytes p ≡ Some next)
+next_part-delimiter dash_boundary bytes s next e = by_delimiter (delimiter_from dash_boundary bytes s) refl e
   where
-    clash : None ≡ Some next → ⊥
-    clash h = cc
-
-    by_last : (p : ℕ) → delimiter_from dash_boundary bytes s ≡ Some p → (t : Bool) → if t then None else part_after dash_boundary bytes p ≡ Some next → (s < next) × (next ≤ length bytes)
-    by_last p f true h = absurd (clash h)
-    by_last p f false h =
-        let least = delimiter_from-out dash_boundary bytes s p f in
-        let low = least.low in
-        let high = least.high in
-        let fits = is_delimiter-fits dash_boundary bytes s p (omega arith) least.passes in
-        let after = line_after-bounds bytes (p + length dash_boundary) next fits h in
-        (omega (arith, after.0), after.1)
+    by_last : (p : ℕ) → delimiter_from dash_boundary bytes s ≡ Some p → (t : Bool) → if t then None else part_after dash_boundary bytes p ≡ Some next
+        → (p : ℕ) × (delimiter_from dash_boundary bytes s ≡ Some p) × (part_after dash_boundary bytes p ≡ Some next)
+    by_last p f true h = absurd (cc)
+    by_last p f false h = (p, f, h)
 
     by_delimiter : (o : Option ℕ) → delimiter_from dash_boundary bytes s ≡ o → option_and_then (λ p. if is_close_delimiter dash_boundary bytes p then None else part_after dash_boundary bytes p) o ≡ Some next
-        → (s < next) × (next ≤ length bytes)
-    by_delimiter None f h = absurd (clash h)
+        → (p : ℕ) × (delimiter_from dash_boundary bytes s ≡ Some p) × (part_after dash_boundary bytes p ≡ Some next)
+    by_delimiter None f h = absurd (cc)
     by_delimiter (Some p) f h = by_last p f (is_close_delimiter dash_boundary bytes p) h
+
+-- after this one does, within the bytes
+pub next_part-bounds : (dash_boundary bytes : List ℕ) (s next : ℕ) → next_part dash_boundary bytes s ≡ Some next → (s < next) × (next ≤ length bytes)
+next_part-bounds dash_boundary bytes s next e =
+    let at = next_part-delimiter dash_boundary bytes s next e in
+    let least = delimiter_from-out dash_boundary bytes s at.0 at.1 in
+    let low = least.low in
+    let high = least.high in
+    let fits = is_delimiter-fits dash_boundary bytes s at.0 (omega arith) least.passes in
+    let after = line_after-bounds bytes (at.0 + length dash_boundary) next fits at.2 in
+    (omega (arith, after.0), after.1)
 
 part_start-more : (dash_boundary bytes : List ℕ) (s j : ℕ) → part_start dash_boundary bytes (Some s) (suc j) ≡ part_start dash_boundary bytes (next_part dash_boundary bytes s) j
 part_start-more dash_boundary bytes s zero = refl

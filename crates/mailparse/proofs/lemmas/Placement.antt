@@ -10,7 +10,7 @@ use Rattle.mailparse.specs.Delimiters.{Cut, cut_parts, end_from, first_part, nex
 use Rattle.mailparse.specs.Mail.{Tree, tree, Forest, no_parts, part_and, forest, cut_of, dash_boundary_of}
 use Rattle.mailparse.specs.Placement.{Placement, placements, placements_in}
 use Rattle.mailparse.specs.Ranges.{Range, moved}
-use Rattle.mailparse.specs.Views.{placements_of, placements_step, tree_of}
+use Rattle.mailparse.specs.Views.{placements_of, tree_of}
 use Rattle.mailparse.specs.declared.mail.message.ParsedMail.{ParsedMail}
 use Rattle.mailparse.proofs.lemmas.Delimiters.{part_ranges, part_ranges-some}
 use Rattle.mailparse.proofs.lemmas.Mail.{forest_and, forest_and-push, forest_and-none}
