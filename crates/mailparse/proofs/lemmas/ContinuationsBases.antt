@@ -1,6 +1,6 @@
 -- The bases, name by name, and what is left beside them.
 use Rattle.std.proofs.Common.{◌≡◌, ℕ, Bool, true, false, not, ◌&&◌, ◌||◌, ◌==◌, cond, ltb, List, [], ◌∷◌, ◌++◌, length, Option, Some, None, is_some, option_map, refl, sym, ap, ◌∙◌}
-use Rattle.std.proofs.Math.Bool.{and_comm, and-or_distrib_left, or-true}
+use Rattle.std.proofs.Math.Bool.{and-true, and_comm, and-or_distrib_left, or-true}
 use Rattle.std.proofs.lemmas.Bool.{and_left, and_right, cond-false, false≢true, true_from_ne_false}
 use Rattle.std.specs.List.{list_any}
 use Rattle.std.specs.Option.{option_and_then, option_map_or, option_or, option_to_list}
@@ -21,22 +21,18 @@ hit base q = option_map_or (λ b. bytes_eq b q) base false
 hit_is : (at : List ℕ → Option Section) (q name : List ℕ) → (not (is_text (at q)) && is_first_of q name) ≡ hit (base_of_section_0 at name) q
 hit_is at q name = go (numbered name)
   where
-    taken : (n : List ℕ × ℕ) (t : Bool) → bytes_eq n.0 q ≡ true → hit (cond t (Some n.0) None) q ≡ t
-    taken n true is = is
-    taken n false is = refl
-
-    passed : (n : List ℕ × ℕ) (t : Bool) → bytes_eq n.0 q ≡ false → hit (cond t (Some n.0) None) q ≡ false
-    passed n true is = is
-    passed n false is = refl
+    unless : (n : List ℕ × ℕ) (t : Bool) → hit (cond t (Some n.0) None) q ≡ (t && bytes_eq n.0 q)
+    unless n true = refl
+    unless n false = refl
 
     pick : (n : List ℕ × ℕ) (b : Bool) → bytes_eq n.0 q ≡ b
         → (not (is_text (at q)) && (bytes_eq n.0 q && (n.1 == 0))) ≡ hit (cond ((n.1 == 0) && not (is_text (at n.0))) (Some n.0) None) q
-    pick n false is = and_right _ _ (and_left _ _ is) ∙ sym (passed n ((n.1 == 0) && not (is_text (at n.0))) is)
+    pick n false is = and_right _ _ (and_left _ _ is) ∙ sym (unless n ((n.1 == 0) && not (is_text (at n.0))) ∙ and_right _ _ is)
     pick n true is =
         ap (λ b. not (is_text (at q)) && (b && (n.1 == 0))) is
         ∙ and_comm (not (is_text (at q))) (n.1 == 0)
         ∙ ap (λ x. (n.1 == 0) && not (is_text (at x))) (sym (equal_bytes n.0 q is))
-        ∙ sym (taken n ((n.1 == 0) && not (is_text (at n.0))) is)
+        ∙ sym (unless n ((n.1 == 0) && not (is_text (at n.0))) ∙ ap (λ b. ((n.1 == 0) && not (is_text (at n.0))) && b) is ∙ and-true _)
 
     go : (o : Option (List ℕ × ℕ)) → (not (is_text (at q)) && option_map_or (λ n. bytes_eq n.0 q && (n.1 == 0)) o false)
         ≡ hit (option_and_then (λ n. cond ((n.1 == 0) && not (is_text (at n.0))) (Some n.0) None) o) q

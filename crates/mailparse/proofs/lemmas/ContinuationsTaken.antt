@@ -12,7 +12,7 @@ use Rattle.mailparse.proofs.lemmas.Filled.{filled_again, filled_push, holds_agai
 use Rattle.mailparse.proofs.lemmas.ContinuationsJoining.{cons_if_some, most, sections_are, sections_from}
 use Rattle.mailparse.proofs.lemmas.SectionsNumbers.{numbered_section}
 use Rattle.mailparse.proofs.lemmas.Sections.{cond_none}
-use Rattle.mailparse.proofs.lemmas.ExtendedValues.{equal_bytes, same_bytes}
+use Rattle.mailparse.proofs.lemmas.ExtendedValues.{equal_bytes, is_some_where, same_bytes}
 
 both_taken : (e p : Bool) (x : Option Section) → cond e None (cond p None x) ≡ cond (p || e) None x
 both_taken true true x = refl
@@ -158,8 +158,4 @@ pub joined_again : (at : List ℕ → Option Section) (bases : List (List ℕ)) 
 joined_again at bases base q old before held = filled_again (λ z. Some (joined (sections_of at z))) (λ _. None) bases base q old before held
 
 pub joined_known : (at : List ℕ → Option Section) (bases : List (List ℕ)) (base : List ℕ) (old : Option (List ℕ)) → old ≡ joined_text at bases base → is_some old ≡ holds_name bases base
-joined_known at bases base old before = ap is_some before ∙ go (holds_name bases base)
-  where
-    go : (b : Bool) → is_some (cond b (Some (joined (sections_of at base))) None) ≡ b
-    go true = refl
-    go false = refl
+joined_known at bases base old before = ap is_some before ∙ is_some_where (holds_name bases base) (joined (sections_of at base))

@@ -52,7 +52,7 @@ least_from-out test start end p e =
     let k = least (λ n. test (start + n)) (end - start) in
     ⊎_elim (λ small.
     let here : Some (start + k) ≡ Some p = sym (cond-true (nat_lt k (end - start)) (Some (start + k)) None (lt-ltb k (end - start) small)) ∙ e in
-    let same : start + k ≡ p = unwrap here in
+    let same : start + k ≡ p = cc in
     record {
       low = omega arith;
       high = omega arith;
@@ -60,14 +60,8 @@ least_from-out test start end p e =
       before = λ j low high.
           ap test (omega arith) ∙ least-before (λ n. test (start + n)) (end - start) (j - start) (omega arith);
     })
-    (λ ge. absurd (clash (sym (cond-false (nat_lt k (end - start)) (Some (start + k)) None (le-ltb k (end - start) ge)) ∙ e)))
+    (λ ge. let clash : None ≡ Some p = sym (cond-false (nat_lt k (end - start)) (Some (start + k)) None (le-ltb k (end - start) ge)) ∙ e in absurd (cc))
     (cases_lt k (end - start))
-  where
-    unwrap : {a : ℕ} → Some a ≡ Some p → a ≡ p
-    unwrap {a = a} h = cc
-
-    clash : None ≡ Some p → ⊥
-    clash h = cc
 
 -- ---- a text that stands
 
@@ -122,14 +116,8 @@ nowhere f None e = refl
 nowhere f (Some k) e = cc
 
 pub somewhere : (f : ℕ → ℕ) (at : ℕ) (o : Option ℕ) → Some at ≡ option_map f o → (k : ℕ) × (Some k ≡ o) × (at ≡ f k)
-somewhere f at None e = absurd (clash e)
-  where
-    clash : Some at ≡ None → ⊥
-    clash h = cc
-somewhere f at (Some k) e = (k, refl, unwrap (f k) e)
-  where
-    unwrap : (b : ℕ) → Some at ≡ Some b → at ≡ b
-    unwrap b h = cc
+somewhere f at None e = let clash : Some at ≡ None = e in absurd (cc)
+somewhere f at (Some k) e = let same : Some at ≡ Some (f k) = e in (k, refl, cc)
 
 -- ---- a search for the LF and the delimiter after it
 
@@ -307,18 +295,12 @@ part_start-more dash_boundary bytes s zero = refl
 part_start-more dash_boundary bytes s (suc j) = ap (option_and_then (next_part dash_boundary bytes)) (part_start-more dash_boundary bytes s j)
 
 part_start-bounds : (dash_boundary bytes : List ℕ) (s j p : ℕ) → s ≤ length bytes → part_start dash_boundary bytes (Some s) j ≡ Some p → (s + j ≤ p) × (p ≤ length bytes)
-part_start-bounds dash_boundary bytes s zero p within e = let same = unwrap e in (omega arith, omega arith)
-  where
-    unwrap : Some s ≡ Some p → s ≡ p
-    unwrap h = cc
+part_start-bounds dash_boundary bytes s zero p within e = let here : Some s ≡ Some p = e in let same : s ≡ p = cc in (omega arith, omega arith)
 part_start-bounds dash_boundary bytes s (suc j) p within e = by_part (part_start dash_boundary bytes (Some s) j) refl (λ q. part_start-bounds dash_boundary bytes s j q within) e
   where
-    clash : None ≡ Some p → ⊥
-    clash h = cc
-
     by_part : (o : Option ℕ) → part_start dash_boundary bytes (Some s) j ≡ o → ((q : ℕ) → part_start dash_boundary bytes (Some s) j ≡ Some q → (s + j ≤ q) × (q ≤ length bytes))
         → option_and_then (next_part dash_boundary bytes) o ≡ Some p → (s + suc j ≤ p) × (p ≤ length bytes)
-    by_part None f ih h = absurd (clash h)
+    by_part None f ih h = let clash : None ≡ Some p = h in absurd (cc)
     by_part (Some q) f ih h =
         let before = (ih q f).0 in
         let more = next_part-bounds dash_boundary bytes q p h in

@@ -1,5 +1,5 @@
 -- Extended values: keys that end in a star, and their names.
-use Rattle.std.proofs.Common.{◌≡◌, ◌≢◌, ℕ, ◌-◌, Bool, true, false, not, List, [], ◌∷◌, ◌++◌, length, map, take, drop, Option, Some, None, String, string_bytes, is_some, option_map, refl, sym, ap, ◌∙◌, arith}
+use Rattle.std.proofs.Common.{cond, ◌≡◌, ◌≢◌, ℕ, ◌-◌, Bool, true, false, not, List, [], ◌∷◌, ◌++◌, length, map, take, drop, Option, Some, None, String, string_bytes, is_some, option_map, refl, sym, ap, ◌∙◌, arith}
 use Rattle.std.proofs.lemmas.Bool.{false_from_ne_true, and_from, and_left, and_right, cond-true, cond-false}
 use Rattle.std.proofs.lemmas.List.{append-nil, drop_all, flat_map_more, map_push, take-append-drop}
 use Rattle.std.proofs.lemmas.Slice.Eq.{bytes_eq-Decides}
@@ -22,6 +22,10 @@ shown_view e = (string_bytes e.0.now, string_bytes e.1.now)
 pub is_some_map : {A B : Type 0} (f : A → B) (o : Option A) → is_some (option_map f o) ≡ is_some o
 is_some_map f None = refl
 is_some_map f (Some x) = refl
+
+pub is_some_where : {A : Type 0} (b : Bool) (x : A) → is_some (cond b (Some x) None) ≡ b
+is_some_where true x = refl
+is_some_where false x = refl
 
 pub same_bytes : (xs ys : List ℕ) → xs ≡ ys → bytes_eq xs ys ≡ true
 same_bytes xs ys e = (bytes_eq-Decides xs ys).1 e

@@ -1,14 +1,13 @@
 -- How the values of the extended names are read.
 use Rattle.std.proofs.Common.{◌≡◌, ℕ, ◌+◌, ◌<◌, ◌≤◌, Bool, true, false, not, ◌&&◌, ◌||◌, cond, eqb, List, [], ◌∷◌, ◌++◌, length, take, get_or, map, Option, Some, None, is_some, option_map, refl, sym, ap, subst, ◌∙◌, arith, ⊎_elim}
 use Rattle.std.proofs.Math.ListN.{get_or-map}
-use Rattle.std.proofs.Math.Bool.{or-false, or-true}
-use Rattle.std.proofs.lemmas.Bool.{and_from, and_right, cases_order, cond-false, cond-true, eq-eqb, false_from_ne_true, ne_eqb}
-use Rattle.std.proofs.lemmas.List.{get_or_default, length-map, take_all}
+use Rattle.std.proofs.Math.Bool.{and-or_distrib_right, or-and_distrib_right, or-false}
+use Rattle.std.proofs.lemmas.Bool.{and_parts, false≢true, or_right, and_from, and_right, cases_order, cond-false, cond-true, eq-eqb, false_from_ne_true, ne_eqb}
+use Rattle.std.proofs.lemmas.List.{map-id, get_or_default, length-map, take_all}
 use Rattle.std.proofs.lemmas.Simd.{map-map}
 use Rattle.std.proofs.lemmas.List.Folds.{list_any_at, list_any_more}
 use Rattle.std.specs.List.{All}
 use Rattle.std.specs.Option.{unwrap_or}
-use Rattle.std.specs.String.{string_bytes}
 use Rattle.std.specs.Str.{bytes_eq}
 use Rattle.mail_codec.specs.Charset.{Charsets}
 use Rattle.mailparse.specs.Sections as words
@@ -187,34 +186,22 @@ pub names_more : (names : List (List ℕ)) (known : List ℕ → Bool) (place : 
     → holds_name (found ++ name ∷ []) q ≡ (holds_name (take (place + 1) names) q && known q)
 names_more names known place found name q below is known_here before =
     holds_push found name q ∙ ap (λ b. b || bytes_eq name q) before
-    ∙ go (bytes_eq name q) refl
+    ∙ or-and_distrib_right (holds_name (take place names) q) (known q) (bytes_eq name q) ∙ ap (λ k. (holds_name (take place names) q || bytes_eq name q) && k) (stays (bytes_eq name q) refl)
     ∙ ap (λ b. b && known q) (sym (list_any_more (λ n. bytes_eq n q) names place [] below ∙ ap (λ n. holds_name (take place names) q || bytes_eq n q) (sym is)))
   where
-    both : (h k : Bool) → k ≡ true → ((h && k) || true) ≡ ((h || true) && k)
-    both true k e = or-true (true && k) ∙ sym e
-    both false k e = sym e
-
-    go : (b : Bool) → bytes_eq name q ≡ b → ((holds_name (take place names) q && known q) || bytes_eq name q) ≡ ((holds_name (take place names) q || bytes_eq name q) && known q)
-    go true e =
-        ap (λ b. (holds_name (take place names) q && known q) || b) e
-        ∙ both (holds_name (take place names) q) (known q) (ap known (sym (equal_bytes name q e) ∙ is) ∙ known_here)
-        ∙ ap (λ b. (holds_name (take place names) q || b) && known q) (sym e)
-    go false e =
-        ap (λ b. (holds_name (take place names) q && known q) || b) e ∙ or-false (holds_name (take place names) q && known q)
-        ∙ ap (λ b. b && known q) (sym (ap (λ b. holds_name (take place names) q || b) e ∙ or-false (holds_name (take place names) q)))
+    stays : (b : Bool) → bytes_eq name q ≡ b → (known q || bytes_eq name q) ≡ known q
+    stays true e = or_right _ _ e ∙ sym (ap known (sym (equal_bytes name q e) ∙ is) ∙ known_here)
+    stays false e = ap (λ b. known q || b) e ∙ or-false (known q)
 
 pub names_passed : (names : List (List ℕ)) (known : List ℕ → Bool) (place : ℕ) (found : List (List ℕ)) (q : List ℕ) → place < length names
     → known (name_at names place) ≡ false → holds_name found q ≡ (holds_name (take place names) q && known q)
     → holds_name found q ≡ (holds_name (take (place + 1) names) q && known q)
 names_passed names known place found q below unknown before =
-    before ∙ go (bytes_eq (name_at names place) q) refl
+    let held = holds_name (take place names) q in
+    let here = bytes_eq (name_at names place) q in
+    let apart : (here && known q) ≡ false = false_from_ne_true _ (λ both. let parts = and_parts _ _ both in false≢true (sym unknown ∙ ap known (equal_bytes _ _ parts.0) ∙ parts.1)) in
+    before ∙ sym (and-or_distrib_right held here (known q) ∙ ap (λ b. (held && known q) || b) apart ∙ or-false (held && known q))
     ∙ ap (λ b. b && known q) (sym (list_any_more (λ n. bytes_eq n q) names place [] below))
-  where
-    go : (b : Bool) → bytes_eq (name_at names place) q ≡ b → (holds_name (take place names) q && known q) ≡ ((holds_name (take place names) q || bytes_eq (name_at names place) q) && known q)
-    go true e =
-        let not_known : known q ≡ false = ap known (sym (equal_bytes (name_at names place) q e)) ∙ unknown in
-        and_right _ _ not_known ∙ sym (and_right _ _ not_known)
-    go false e = ap (λ b. b && known q) (sym (ap (λ b. holds_name (take place names) q || b) e ∙ or-false (holds_name (take place names) q)))
 
 -- the place of the charset source, as it was read
 pub place_read : {C : Type 0} (extended slice : List (ExtendedName C)) (items : List ℕ) (place at : ℕ) → slice ≡ extended → AreInOrder (names_of extended) → length items ≡ length slice
@@ -266,5 +253,4 @@ module _ (known : Charsets) where
       subst (IsReading known keys) (get_or-map (reading_view reads) items k r ∙ ap (reading_view reads) (sym is)) (all k (reading_view reads r) (omega (arith, below, long)))
 
 pub names_of_all : {C : Type 0} (taken items : List (Reading C)) → map (λ r. r) taken ≡ items → names_read taken ≡ names_read items
-names_of_all [] items h = ap names_read h
-names_of_all (r ∷ taken) items h = ap (λ ns. string_bytes r.name ∷ ns) (names_of_all taken (map (λ x. x) taken) refl) ∙ ap names_read h
+names_of_all taken items h = ap names_read (sym (map-id taken) ∙ h)

@@ -15,7 +15,7 @@ use Rattle.std.specs.Option.{MatchOption}
 use Rattle.std.specs.Char.{encode_utf8}
 use Rattle.std.specs.Str.{trim_start}
 use Rattle.std.specs.Str.Pattern.{FindsCharPrefix, StripsPrefix}
-use Rattle.std.proofs.lemmas.Bool.{lt-ltb, le-ltb, eqb-true}
+use Rattle.std.proofs.lemmas.Bool.{ne_eqb, lt-ltb, le-ltb}
 use Rattle.mail_codec.specs.Places.{stands}
 use Rattle.mailparse.proofs.lemmas.EncodedWord.{any_from_place, join_next, split_some}
 
@@ -132,11 +132,7 @@ opens_from_strip piece text None e h = ap (stands (60 ∷ [])) (sym e) ∙ go te
   where
     go : (text : List ℕ) → ((rest : List ℕ) → text ≢ encode_utf8 60 ++ rest) → stands (60 ∷ []) text ≡ false
     go [] h = refl
-    go (b ∷ text) h = at (eqb 60 b) refl
-      where
-        at : (t : Bool) → eqb 60 b ≡ t → eqb 60 b && true ≡ false
-        at true p = absurd (h text (ap (λ c. c ∷ text) (sym (eqb-true _ _ p)) ∙ ap (λ r. r ++ text) (sym (encode_ascii 60 (lit< tt)))))
-        at false p = rw p refl
+    go (b ∷ text) h = ap (λ t. t && true) (ne_eqb 60 b (λ p. h text (ap (λ c. c ∷ text) (sym p) ∙ ap (λ r. r ++ text) (sym (encode_ascii 60 (lit< tt))))))
 opens_from_strip piece text (Some x) e h =
     let n = h.0 in
     let front : text ≡ 60 ∷ drop n text = h.1.split ∙ ap (λ r. r ++ drop n text) (encode_ascii 60 (lit< tt)) in

@@ -1,5 +1,7 @@
 -- What stands at each name once the extended values are read.
 use Rattle.std.proofs.Common.{◌≡◌, ℕ, Bool, true, false, ◌&&◌, ◌||◌, cond, List, [], ◌∷◌, ◌++◌, map, Option, Some, None, is_some, option_map, BTreeMap, String, string_bytes, refl, sym, ap, ◌∙◌}
+use Rattle.std.proofs.lemmas.List.{map-id}
+use Rattle.std.proofs.lemmas.Simd.{map-map}
 use Rattle.std.proofs.Math.Bool.{or-false, or-true}
 use Rattle.std.proofs.lemmas.Bool.{and_from, and_left, cond-false, cond-true, false_from_ne_true, false≢true, or_parts, true_from_ne_false}
 use Rattle.std.proofs.lemmas.Map.Text.{is_eq-slice_cmp}
@@ -111,9 +113,8 @@ module _ (known : Charsets) where
 -- all were shown
 pub names_shown : {X : Type 0} (shown : List (Bor (String Global) × Bor X)) (entries : List (String Global × X)) → map (λ e. (e.0.now, e.1.now)) shown ≡ entries
     → map shown_name shown ≡ map (λ e. string_bytes e.0) entries
-names_shown {X = X} [] entries h = ap (map (λ (e : String Global × X). string_bytes e.0)) h
-names_shown {X = X} (e ∷ shown) entries h =
-    ap (λ r. shown_name e ∷ r) (names_shown shown (map (λ e. (e.0.now, e.1.now)) shown) refl) ∙ ap (map (λ (e : String Global × X). string_bytes e.0)) h
+names_shown {X = X} shown entries h =
+    sym (map-map (λ (e : String Global × X). string_bytes e.0) (λ (e : Bor (String Global) × Bor X). (e.0.now, e.1.now)) shown) ∙ ap (map (λ (e : String Global × X). string_bytes e.0)) h
 
 lookup_unnamed : {X : Type 0} (q : List ℕ) (entries : List (String Global × X)) → holds_name (map (λ e. string_bytes e.0) entries) q ≡ false
     → lookup (λ k. is_eq (slice_cmp nat_cmp q (string_bytes k))) entries ≡ None
@@ -147,8 +148,7 @@ named q m h = lookup_named q m.entries h
 
 -- all were taken
 pub names_taken : {X : Type 0} (taken entries : List (String Global × X)) → map (λ e. e) taken ≡ entries → map taken_name taken ≡ map (λ e. string_bytes e.0) entries
-names_taken {X = X} [] entries h = ap (map (λ (e : String Global × X). string_bytes e.0)) h
-names_taken {X = X} (e ∷ taken) entries h = ap (λ r. taken_name e ∷ r) (names_taken taken (map (λ x. x) taken) refl) ∙ ap (map (λ (e : String Global × X). string_bytes e.0)) h
+names_taken taken entries h = ap (map taken_name) (sym (map-id taken) ∙ h)
 
 -- ---- what is taken from both maps
 
