@@ -15,10 +15,8 @@ use Rattle.mailparse.proofs.lemmas.Sections.{cond_none}
 use Rattle.mailparse.proofs.lemmas.ExtendedValues.{equal_bytes, is_some_where, same_bytes}
 
 both_taken : (e p : Bool) (x : Option Section) → cond e None (cond p None x) ≡ cond (p || e) None x
-both_taken true true x = refl
-both_taken true false x = refl
-both_taken false true x = refl
-both_taken false false x = refl
+both_taken e true x = cond_none e
+both_taken e false x = refl
 
 -- ---- the sections of one base
 

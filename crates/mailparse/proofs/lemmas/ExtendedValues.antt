@@ -1,6 +1,6 @@
 -- Extended values: keys that end in a star, and their names.
 use Rattle.std.proofs.Common.{cond, ◌≡◌, ◌≢◌, ℕ, ◌-◌, Bool, true, false, not, List, [], ◌∷◌, ◌++◌, length, map, take, drop, Option, Some, None, String, string_bytes, is_some, option_map, refl, sym, ap, ◌∙◌, arith}
-use Rattle.std.proofs.lemmas.Bool.{false_from_ne_true, and_from, and_left, and_right, cond-true, cond-false}
+use Rattle.std.proofs.lemmas.Bool.{false_from_ne_true, true_from_ne_false, and_from, and_left, and_right, cond-true, cond-false}
 use Rattle.std.proofs.lemmas.List.{append-nil, drop_all, flat_map_more, map_push, take-append-drop}
 use Rattle.std.proofs.lemmas.Slice.Eq.{bytes_eq-Decides}
 use Rattle.std.specs.Borrow.{Bor}
@@ -56,11 +56,10 @@ star_cases key None h = sym (star_none key h)
 star_cases key (Some x) h = sym (star_some key x.now h.0 h.1.0 h.2 h.1.1.split)
 
 taken_some : (key name : List ℕ) → star_taken key ≡ Some name → (is_starred key ≡ true) × (name_under key ≡ name)
-taken_some key name h = go (is_starred key) refl
-  where
-    go : (b : Bool) → is_starred key ≡ b → (is_starred key ≡ true) × (name_under key ≡ name)
-    go true is = let same : Some (name_under key) ≡ Some name = sym (cond-true _ _ _ is) ∙ h in (is, cc)
-    go false is = let same : None ≡ Some name = sym (cond-false _ _ _ is) ∙ h in absurd (cc)
+taken_some key name h =
+    let is = true_from_ne_false _ (λ e. let same : None ≡ Some name = sym (cond-false _ _ _ e) ∙ h in cc) in
+    let same : Some (name_under key) ≡ Some name = sym (cond-true _ _ _ is) ∙ h in
+    (is, cc)
 
 taken_none : (key : List ℕ) → star_taken key ≡ None → is_starred key ≡ false
 taken_none key h = false_from_ne_true _ (λ is. let same : Some (name_under key) ≡ None = sym (cond-true _ _ _ is) ∙ h in cc)
