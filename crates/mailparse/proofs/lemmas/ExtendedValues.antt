@@ -57,7 +57,7 @@ star_cases key (Some x) h = sym (star_some key x.now h.0 h.1.0 h.2 h.1.1.split)
 
 taken_some : (key name : List ℕ) → star_taken key ≡ Some name → (is_starred key ≡ true) × (name_under key ≡ name)
 taken_some key name h =
-    let is = true_from_ne_false _ (λ e. let same : None ≡ Some name = sym (cond-false _ _ _ e) ∙ h in cc) in
+    let is = true_from_ne_false (is_starred key) (λ e. let same : None ≡ Some name = sym (cond-false _ _ _ e) ∙ h in cc) in
     let same : Some (name_under key) ≡ Some name = sym (cond-true _ _ _ is) ∙ h in
     (is, cc)
 
