@@ -49,6 +49,13 @@ pub closing_stands : (line : List ℕ) (s e : ℕ) → s ≤ length line → clo
     → (s ≤ e) × (e + 2 ≤ length line) × (get_or line e 0 ≡ 63) × (get_or line (e + 1) 0 ≡ 61)
 closing_stands = stands_where begins_closing 63 61 (λ rest h. (and_parts _ _ h).0)
 
+-- a `=?` and the `?=` after it
+both_stand : (line : List ℕ) (s v e : ℕ) → s ≤ length line → opening line s ≡ v → v ≢ length line → closing line (v + 2) ≡ e → e ≢ length line → (s ≤ v) × (v + 2 ≤ e) × (e + 2 ≤ length line)
+both_stand line s v e h at some close more =
+    let here = opening_stands line s v h at some in
+    let there = closing_stands line (v + 2) e here.1 close more in
+    (here.0, there.0, there.1)
+
 Adjoin-append : (s t e : ℕ) (xs ys : List TokenRange) → Adjoin s xs t → Adjoin t ys e → Adjoin s (xs ++ ys) e
 Adjoin-append s t e [] ys first more = subst (λ s. Adjoin s ys e) (sym first) more
 Adjoin-append s t e (x ∷ xs) ys first more = (first.0, first.1, Adjoin-append x.to t e xs ys first.2 more)
@@ -153,14 +160,8 @@ module _ (known : Charsets) where
       → (s + 2 ≤ t) × (t ≤ length line)
   next_ahead {line} {s} (no_boundary {v = v} e some out) h = let at = opening_stands line s v h e some in (omega arith, omega arith)
   next_ahead {line} {s} (no_closing {v = v} e some beside close) h = let at = opening_stands line s v h e some in (omega arith, omega arith)
-  next_ahead {line} {s} (decodes {v = v} {e = e} at some beside close more read) h =
-      let here = opening_stands line s v h at some in
-      let there = closing_stands line (v + 2) e here.1 close more in
-      (omega arith, omega arith)
-  next_ahead {line} {s} (stays_text {v = v} {e = e} at some beside close more fails) h =
-      let here = opening_stands line s v h at some in
-      let there = closing_stands line (v + 2) e here.1 close more in
-      (omega arith, omega arith)
+  next_ahead {line} {s} (decodes {v = v} {e = e} at some beside close more read) h = let both = both_stand line s v e h at some close more in (omega arith, omega arith)
+  next_ahead {line} {s} (stays_text {v = v} {e = e} at some beside close more fails) h = let both = both_stand line s v e h at some close more in (omega arith, omega arith)
 
   -- ---- the computed list
 
@@ -211,14 +212,8 @@ module _ (known : Charsets) where
   group_adjoins {line} {s} (no_boundary {v = v} e some out) h = let at = opening_stands line s v h e some in (refl, omega arith, refl)
   group_adjoins {line} {s} (no_closing {v = v} e some beside close) h =
       let at = opening_stands line s v h e some in (refl, at.0, (refl, omega arith, refl))
-  group_adjoins {line} {s} (decodes {v = v} {e = e} at some beside close more read) h =
-      let here = opening_stands line s v h at some in
-      let there = closing_stands line (v + 2) e here.1 close more in
-      (refl, here.0, (refl, omega arith, refl))
-  group_adjoins {line} {s} (stays_text {v = v} {e = e} at some beside close more fails) h =
-      let here = opening_stands line s v h at some in
-      let there = closing_stands line (v + 2) e here.1 close more in
-      (refl, here.0, (refl, omega arith, refl))
+  group_adjoins {line} {s} (decodes {v = v} {e = e} at some beside close more read) h = let both = both_stand line s v e h at some close more in (refl, both.0, (refl, omega arith, refl))
+  group_adjoins {line} {s} (stays_text {v = v} {e = e} at some beside close more fails) h = let both = both_stand line s v e h at some close more in (refl, both.0, (refl, omega arith, refl))
 
   pub tokens_adjoin : {line : List ℕ} {s : ℕ} {tokens : List TokenRange} → AreTokensFrom known line s tokens → s ≤ length line → Adjoin s tokens (length line)
   tokens_adjoin (last_group g) h = group_adjoins g h
