@@ -1,7 +1,8 @@
 -- Lemmas on the block of headers: the headers, one after another.
-use Rattle.std.proofs.Common.{◌≡◌, ℕ, zero, suc, ◌+◌, ◌<◌, ◌≤◌, Bool, true, false, ◌&&◌, ◌||◌, not, cond, eqb, nat_eq, Option, Some, None, List, [], ◌∷◌, ◌++◌, length, drop, Result, Ok, Err, refl, sym, ap, subst, ◌∙◌, inl, inr, arith, length-drop, add_assoc, append_assoc, append-nil, zero-add}
+use Rattle.std.proofs.Common.{◌≡◌, ℕ, zero, suc, ◌+◌, ◌<◌, ◌≤◌, Bool, true, false, ◌&&◌, not, cond, eqb, nat_eq, Some, None, List, [], ◌∷◌, ◌++◌, length, drop, Result, Ok, Err, refl, sym, ap, subst, ◌∙◌, ⊎_elim, arith, length-drop, add_assoc, append_assoc, append-nil, zero-add}
 use Rattle.std.specs.List.{starts_with}
-use Rattle.std.proofs.lemmas.Bool.{cases_lt}
+use Rattle.std.proofs.lemmas.Bool.{cases_lt, false≢true, not-false, not-true}
+use Rattle.std.proofs.Math.Bool.{or-true}
 use Rattle.std.proofs.lemmas.List.{drop-drop}
 use Rattle.std.proofs.Math.ListN.{drop_of_length-le}
 use Rattle.mail_codec.specs.Places.{stands, is_empty, values_below}
@@ -15,10 +16,7 @@ use Rattle.mailparse.specs.Block.{HeaderList, blank_line, headers_end, has_heade
 -- where a header stands there are bytes
 pub has_header-nonempty : (bytes : List ℕ) → has_header bytes ≡ true → 0 < length bytes
 unfolding has_header headers_end
-has_header-nonempty [] h = let f : false ≡ true = h in absurd (elim_false f)
-  where
-    elim_false : false ≡ true → ⊥
-    elim_false f = cc
+has_header-nonempty [] h = absurd (false≢true h)
 has_header-nonempty (b ∷ bytes) h = omega arith
 
 has_header-none : has_header [] ≡ false
@@ -51,33 +49,17 @@ header_count-is raw n before at =
     let within = header_place-≤ raw n in
     least-is (λ j. not (has_header (rest_at raw j))) (length raw) n (omega arith) (λ k low. rw (before k low) refl) (λ low. rw at refl)
 
-not_false : (v : Bool) → not v ≡ false → v ≡ true
-not_false true h = refl
-not_false false h = absurd (differ h)
-  where
-    differ : true ≡ false → ⊥
-    differ e = cc
-
-not_true : (v : Bool) → not v ≡ true → v ≡ false
-not_true true h = sym h
-not_true false h = refl
-
 pub header_count-before : (raw : List ℕ) (k : ℕ) → k < header_count raw → has_header (rest_at raw k) ≡ true
 unfolding header_count
-header_count-before raw k low = not_false (has_header (rest_at raw k)) (least-before (λ j. not (has_header (rest_at raw j))) (length raw) k low)
-
-header_count-below : (raw : List ℕ) → header_count raw < length raw → has_header (rest_at raw (header_count raw)) ≡ false
-unfolding header_count
-header_count-below raw below = not_true (has_header (rest_at raw (header_count raw))) (least-passes (λ j. not (has_header (rest_at raw j))) (length raw) below)
-
-header_count-past : (raw : List ℕ) → length raw ≤ header_count raw → has_header (rest_at raw (header_count raw)) ≡ false
-header_count-past raw above =
-    let moved = header_place-≥ raw (header_count raw) (header_count-before raw) in
-    let none : rest_at raw (header_count raw) ≡ [] = drop_of_length-le raw (omega arith) in
-    rw none has_header-none
+header_count-before raw k low = not-false (has_header (rest_at raw k)) (least-before (λ j. not (has_header (rest_at raw j))) (length raw) k low)
 
 pub header_count-stops : (raw : List ℕ) → has_header (rest_at raw (header_count raw)) ≡ false
-header_count-stops raw = elim (cases_lt (header_count raw) (length raw)) [ inl below ↦ header_count-below raw below | inr above ↦ header_count-past raw above ]
+unfolding header_count
+header_count-stops raw =
+    let moved = header_place-≥ raw (header_count raw) (header_count-before raw) in
+    ⊎_elim (λ below. not-true (has_header (rest_at raw (header_count raw))) (least-passes (λ j. not (has_header (rest_at raw j))) (length raw) below))
+    (λ above. ap has_header (drop_of_length-le raw (omega arith)) ∙ has_header-none)
+    (cases_lt (header_count raw) (length raw))
 
 -- the places after the first header are those of the rest
 pub header_place-more : (raw : List ℕ) (j : ℕ) → header_place raw (suc j) ≡ header_length raw + header_place (drop (header_length raw) raw) j
@@ -169,13 +151,6 @@ pub with_front-front : (front more : List Header) (n m : ℕ) (rest : Result Hea
 with_front-front front more n m (Ok block) = ap (λ (xs : List Header). Ok (record { headers = xs; index = n + (m + block.index) })) (sym (append_assoc front more block.headers)) ∙ ap (λ k. Ok (record { headers = front ++ more ++ block.headers; index = k })) (sym (add_assoc n m block.index))
 with_front-front front more n m (Err refusal) = refl
 
-ended : (v : Bool) (n : ℕ) (other : Result (Option ℕ) Refusal) → cond (v || true) (Ok (Some n)) other ≡ Ok (Some n)
-ended true n other = refl
-ended false n other = refl
-
-true_not_false : true ≡ false → ⊥
-true_not_false e = cc
-
 -- what ends the block, by the bytes in front
 module _ (raw : List ℕ) where
   stands-there : (text : List ℕ) (v : Bool) → starts_with nat_eq raw text ≡ v → stands text raw ≡ v
@@ -183,11 +158,11 @@ module _ (raw : List ℕ) where
 
   pub block_end-feed : starts_with nat_eq raw (10 ∷ []) ≡ true → block_end raw ≡ Ok (Some 1)
   unfolding block_end headers_end blank_line
-  block_end-feed feed = rw (stands-there (10 ∷ []) true feed) (ended (is_empty raw) 1 (cond (stands (13 ∷ []) raw) (Err lone_carriage_return) (Ok None)))
+  block_end-feed feed = rw (stands-there (10 ∷ []) true feed, or-true (is_empty raw)) refl
 
   pub block_end-return_feed : starts_with nat_eq raw (10 ∷ []) ≡ false → starts_with nat_eq raw (13 ∷ 10 ∷ []) ≡ true → block_end raw ≡ Ok (Some 2)
   unfolding block_end headers_end blank_line
-  block_end-return_feed feed both = rw (stands-there (10 ∷ []) false feed, stands-there (13 ∷ 10 ∷ []) true both) (ended (is_empty raw) 2 (cond (stands (13 ∷ []) raw) (Err lone_carriage_return) (Ok None)))
+  block_end-return_feed feed both = rw (stands-there (10 ∷ []) false feed, stands-there (13 ∷ 10 ∷ []) true both, or-true (is_empty raw)) refl
 
   pub block_end-return : 0 < length raw → starts_with nat_eq raw (10 ∷ []) ≡ false → starts_with nat_eq raw (13 ∷ 10 ∷ []) ≡ false → starts_with nat_eq raw (13 ∷ []) ≡ true → block_end raw ≡ Err lone_carriage_return
   unfolding block_end headers_end blank_line
@@ -221,57 +196,43 @@ read_header-at raw s some leads = rw (some, leads) refl
 
 is_empty-from_headers_end : (raw : List ℕ) → headers_end raw ≡ false → is_empty raw ≡ false
 unfolding headers_end
-is_empty-from_headers_end [] e = absurd (true_not_false e)
+is_empty-from_headers_end [] e = absurd (false≢true (sym e))
 is_empty-from_headers_end (b ∷ raw) e = refl
+
+-- how the bytes in front stand: the block ends there, a lone CR or a space refuses it, or a header stands there
+data Front (raw : List ℕ) : Type 0 where
+  ended_there : block_end raw ≡ Ok (Some (blank_line raw)) → read_headers raw ≡ Ok (record { headers = []; index = blank_line raw }) → Front raw
+  returned : block_end raw ≡ Err lone_carriage_return → read_headers raw ≡ Err lone_carriage_return → Front raw
+  spaced : block_end raw ≡ Ok None → read_header raw ≡ Err leading_space → read_headers raw ≡ Err leading_space → Front raw
+  header : block_end raw ≡ Ok None → read_header raw ≡ Ok (header_of raw, header_length raw) → has_header raw ≡ true → Front raw
+
+front_of : (raw : List ℕ) → Front raw
+front_of raw = by_tests (headers_end raw) (stands (13 ∷ []) raw) (stands (32 ∷ []) raw) refl refl refl
+  where
+    by_tests : (h r s : Bool) → headers_end raw ≡ h → stands (13 ∷ []) raw ≡ r → stands (32 ∷ []) raw ≡ s → Front raw
+    by_tests true r s ends return leads = ended_there (block_end-at raw true r ends return) (read_headers-at raw true r ends return (has_header-at raw true r ends return s leads) ∙ ap (λ n. Ok (record { headers = []; index = n })) (zero-add (blank_line raw)))
+    by_tests false true s ends return leads = returned (block_end-at raw false true ends return) (read_headers-at raw false true ends return (has_header-at raw false true ends return s leads))
+    by_tests false false true ends return leads =
+        spaced (block_end-at raw false false ends return) (read_header-at raw true (is_empty-from_headers_end raw ends) leads)
+        (read_headers-at raw false false ends return (has_header-at raw false false ends return true leads))
+    by_tests false false false ends return leads =
+        header (block_end-at raw false false ends return) (read_header-at raw false (is_empty-from_headers_end raw ends) leads) (has_header-at raw false false ends return false leads)
 
 -- where the block ends, it has no header
 pub block_end-some : (raw : List ℕ) (taken : ℕ) → block_end raw ≡ Ok (Some taken) → read_headers raw ≡ Ok (record { headers = []; index = taken })
-block_end-some raw taken e = by_tests (headers_end raw) (stands (13 ∷ []) raw) refl refl
-  where
-    by_tests : (h r : Bool) → headers_end raw ≡ h → stands (13 ∷ []) raw ≡ r → read_headers raw ≡ Ok (record { headers = []; index = taken })
-    by_tests true r ends return =
-        let same : blank_line raw ≡ taken = let f : ◌≡◌ {A = Result (Option ℕ) Refusal} (Ok (Some (blank_line raw))) (Ok (Some taken)) = sym (block_end-at raw true r ends return) ∙ e in cc in
-        read_headers-at raw true r ends return (has_header-at raw true r ends return (stands (32 ∷ []) raw) refl)
-        ∙ ap (λ n. Ok (record { headers = []; index = n })) (zero-add (blank_line raw) ∙ same)
-    by_tests false true ends return = let f : ◌≡◌ {A = Result (Option ℕ) Refusal} (Err lone_carriage_return) (Ok (Some taken)) = sym (block_end-at raw false true ends return) ∙ e in cc
-    by_tests false false ends return = let f : ◌≡◌ {A = Result (Option ℕ) Refusal} (Ok None) (Ok (Some taken)) = sym (block_end-at raw false false ends return) ∙ e in cc
+block_end-some raw taken e = elim (front_of raw) [ ended_there b h ↦ let same : blank_line raw ≡ taken = cc in h ∙ ap (λ n. Ok (record { headers = []; index = n })) same | returned b h ↦ cc | spaced b r h ↦ cc | header b r h ↦ cc ]
 
 -- a lone CR refuses it
 pub block_end-err : (raw : List ℕ) (refusal : Refusal) → block_end raw ≡ Err refusal → read_headers raw ≡ Err refusal
-block_end-err raw refusal e = by_tests (headers_end raw) (stands (13 ∷ []) raw) refl refl
-  where
-    by_tests : (h r : Bool) → headers_end raw ≡ h → stands (13 ∷ []) raw ≡ r → read_headers raw ≡ Err refusal
-    by_tests true r ends return = let f : ◌≡◌ {A = Result (Option ℕ) Refusal} (Ok (Some (blank_line raw))) (Err refusal) = sym (block_end-at raw true r ends return) ∙ e in cc
-    by_tests false true ends return =
-        let same : lone_carriage_return ≡ refusal = let f : ◌≡◌ {A = Result (Option ℕ) Refusal} (Err lone_carriage_return) (Err refusal) = sym (block_end-at raw false true ends return) ∙ e in cc in
-        read_headers-at raw false true ends return (has_header-at raw false true ends return (stands (32 ∷ []) raw) refl) ∙ ap (λ r. Err r) same
-    by_tests false false ends return = let f : ◌≡◌ {A = Result (Option ℕ) Refusal} (Ok None) (Err refusal) = sym (block_end-at raw false false ends return) ∙ e in cc
+block_end-err raw refusal e = elim (front_of raw) [ ended_there b h ↦ cc | returned b h ↦ cc | spaced b r h ↦ cc | header b r h ↦ cc ]
 
 -- where nothing ends it, what is refused as a header refuses it
 pub block_end-header : (raw : List ℕ) (refusal : Refusal) → block_end raw ≡ Ok None → read_header raw ≡ Err refusal → read_headers raw ≡ Err refusal
-block_end-header raw refusal e refused = by_tests (headers_end raw) (stands (13 ∷ []) raw) (stands (32 ∷ []) raw) refl refl refl
-  where
-    by_tests : (h r s : Bool) → headers_end raw ≡ h → stands (13 ∷ []) raw ≡ r → stands (32 ∷ []) raw ≡ s → read_headers raw ≡ Err refusal
-    by_tests true r s ends return leads = let f : ◌≡◌ {A = Result (Option ℕ) Refusal} (Ok (Some (blank_line raw))) (Ok None) = sym (block_end-at raw true r ends return) ∙ e in cc
-    by_tests false true s ends return leads = let f : ◌≡◌ {A = Result (Option ℕ) Refusal} (Err lone_carriage_return) (Ok None) = sym (block_end-at raw false true ends return) ∙ e in cc
-    by_tests false false true ends return leads =
-        let same : leading_space ≡ refusal = let f : ◌≡◌ {A = Result (Header × ℕ) Refusal} (Err leading_space) (Err refusal) = sym (read_header-at raw true (is_empty-from_headers_end raw ends) leads) ∙ refused in cc in
-        read_headers-at raw false false ends return (has_header-at raw false false ends return true leads) ∙ ap (λ r. Err r) same
-    by_tests false false false ends return leads =
-        let f : ◌≡◌ {A = Result (Header × ℕ) Refusal} (Ok (header_of raw, header_length raw)) (Err refusal) = sym (read_header-at raw false (is_empty-from_headers_end raw ends) leads) ∙ refused in cc
+block_end-header raw refusal e refused = elim (front_of raw) [ ended_there b h ↦ cc | returned b h ↦ cc | spaced b r h ↦ cc | header b r h ↦ cc ]
 
 -- and what is read as one is its first
 pub block_end-found : (raw : List ℕ) (found : Header × ℕ) → block_end raw ≡ Ok None → read_header raw ≡ Ok found → (has_header raw ≡ true) × (found ≡ (header_of raw, header_length raw))
-block_end-found raw found e read = by_tests (headers_end raw) (stands (13 ∷ []) raw) (stands (32 ∷ []) raw) refl refl refl
-  where
-    by_tests : (h r s : Bool) → headers_end raw ≡ h → stands (13 ∷ []) raw ≡ r → stands (32 ∷ []) raw ≡ s → (has_header raw ≡ true) × (found ≡ (header_of raw, header_length raw))
-    by_tests true r s ends return leads = let f : ◌≡◌ {A = Result (Option ℕ) Refusal} (Ok (Some (blank_line raw))) (Ok None) = sym (block_end-at raw true r ends return) ∙ e in absurd (cc)
-    by_tests false true s ends return leads = let f : ◌≡◌ {A = Result (Option ℕ) Refusal} (Err lone_carriage_return) (Ok None) = sym (block_end-at raw false true ends return) ∙ e in absurd (cc)
-    by_tests false false true ends return leads =
-        let f : ◌≡◌ {A = Result (Header × ℕ) Refusal} (Err leading_space) (Ok found) = sym (read_header-at raw true (is_empty-from_headers_end raw ends) leads) ∙ read in absurd (cc)
-    by_tests false false false ends return leads =
-        let same : found ≡ (header_of raw, header_length raw) = let f : ◌≡◌ {A = Result (Header × ℕ) Refusal} (Ok (header_of raw, header_length raw)) (Ok found) = sym (read_header-at raw false (is_empty-from_headers_end raw ends) leads) ∙ read in cc in
-        (has_header-at raw false false ends return false leads, same)
+block_end-found raw found e read = elim (front_of raw) [ ended_there b h ↦ absurd (cc) | returned b h ↦ absurd (cc) | spaced b r h ↦ absurd (cc) | header b r h ↦ (h, cc) ]
 
 -- so it goes in front of the block after it, and adds one to their number
 pub read_headers-found : (raw : List ℕ) (found : Header × ℕ) → block_end raw ≡ Ok None → read_header raw ≡ Ok found → read_headers raw ≡ with_front (found.0 ∷ []) found.1 (read_headers (drop found.1 raw))
@@ -329,15 +290,9 @@ blank_line-≤ (b ∷ []) = blank_line-one (eqb 10 b) (eqb 13 b)
 blank_line-≤ (b ∷ d ∷ raw) = let two : cond (stands (10 ∷ []) (b ∷ d ∷ raw)) 1 (cond (stands (13 ∷ 10 ∷ []) (b ∷ d ∷ raw)) 2 0) ≤ 2 = blank_line-at (stands (10 ∷ []) (b ∷ d ∷ raw)) (stands (13 ∷ 10 ∷ []) (b ∷ d ∷ raw)) in omega arith
 
 pub block_end-≤ : (raw : List ℕ) (taken : ℕ) → block_end raw ≡ Ok (Some taken) → taken ≤ length raw
-block_end-≤ raw taken e = by_tests (headers_end raw) (stands (13 ∷ []) raw) refl refl
-  where
-    by_tests : (h r : Bool) → headers_end raw ≡ h → stands (13 ∷ []) raw ≡ r → taken ≤ length raw
-    by_tests true r ends return =
-        let same : blank_line raw ≡ taken = let f : ◌≡◌ {A = Result (Option ℕ) Refusal} (Ok (Some (blank_line raw))) (Ok (Some taken)) = sym (block_end-at raw true r ends return) ∙ e in cc in
-        let fits = blank_line-≤ raw in
-        omega arith
-    by_tests false true ends return = let f : ◌≡◌ {A = Result (Option ℕ) Refusal} (Err lone_carriage_return) (Ok (Some taken)) = sym (block_end-at raw false true ends return) ∙ e in absurd (cc)
-    by_tests false false ends return = let f : ◌≡◌ {A = Result (Option ℕ) Refusal} (Ok None) (Ok (Some taken)) = sym (block_end-at raw false false ends return) ∙ e in absurd (cc)
+block_end-≤ raw taken e =
+    let fits = blank_line-≤ raw in
+    elim (front_of raw) [ ended_there b h ↦ let same : blank_line raw ≡ taken = cc in omega arith | returned b h ↦ absurd (cc) | spaced b r h ↦ absurd (cc) | header b r h ↦ absurd (cc) ]
 
 -- one header fewer is left after a header
 pub count_further : (raw : List ℕ) (place : ℕ) (found : Header × ℕ) → block_end (drop place raw) ≡ Ok None → read_header (drop place raw) ≡ Ok found → header_count (drop place raw) ≡ suc (header_count (drop (place + found.1) raw))
@@ -360,49 +315,6 @@ length-values_below : {X : Type 0} (n : ℕ) (f : ℕ → X) → length (values_
 length-values_below zero f = refl
 length-values_below (suc n) f = ap suc (length-values_below n (λ k. f (suc k)))
 
--- the headers and the blank line fit the index, and the index fits the bytes
-pub record Bounded (raw : List ℕ) (block : HeaderList) : Type 0 where
-  pub headers : length block.headers + blank_line (rest_at raw (header_count raw)) ≤ block.index
-  pub index : block.index ≤ length raw
-
-pub read_headers-bounded : (raw : List ℕ) (block : HeaderList) → read_headers raw ≡ Ok block → Bounded raw block
-read_headers-bounded raw block e = by_tests (headers_end (rest_at raw (header_count raw))) (stands (13 ∷ []) (rest_at raw (header_count raw))) refl refl
-  where
-    stop : List ℕ
-    stop = rest_at raw (header_count raw)
-
-    found : List Header
-    found = values_below (header_count raw) (λ j. header_of (rest_at raw j))
-
-    at : (h r : Bool) → headers_end stop ≡ h → stands (13 ∷ []) stop ≡ r → cond h (Ok (record { headers = found; index = header_place raw (header_count raw) + blank_line stop })) (cond r (Err lone_carriage_return) (Err leading_space)) ≡ Ok block
-    at h r ends return = sym (read_headers-end_at raw ∙ (rw (ends, return) refl)) ∙ e
-
-    by_tests : (h r : Bool) → headers_end stop ≡ h → stands (13 ∷ []) stop ≡ r → Bounded raw block
-    by_tests true r ends return =
-        let f = at true r ends return in
-        let same : ◌≡◌ {A = HeaderList} (record { headers = found; index = header_place raw (header_count raw) + blank_line stop }) block = cc in
-        let many : length found ≡ header_count raw = length-values_below (header_count raw) (λ j. header_of (rest_at raw j)) in
-        let moved = header_place-≥ raw (header_count raw) (header_count-before raw) in
-        let within = header_place-≤ raw (header_count raw) in
-        let blank = blank_line-≤ stop in
-        subst (λ (b : HeaderList). Bounded raw b) same (record { headers = omega arith; index = omega (arith, length-drop (header_place raw (header_count raw)) raw) })
-    by_tests false true ends return = let f = at false true ends return in absurd (cc)
-    by_tests false false ends return = let f = at false false ends return in absurd (cc)
-
--- a header that is read takes at least one byte and at most all
-pub read_header-bounds : (raw : List ℕ) (found : Header × ℕ) → read_header raw ≡ Ok found → (0 < found.1) × (found.1 ≤ length raw)
-read_header-bounds [] found e = let f : ◌≡◌ {A = Result (Header × ℕ) Refusal} (Err empty_string) (Ok found) = sym (read_header-empty [] refl) ∙ e in absurd (cc)
-read_header-bounds (b ∷ raw) found e = by_test (stands (32 ∷ []) (b ∷ raw)) refl
-  where
-    by_test : (s : Bool) → stands (32 ∷ []) (b ∷ raw) ≡ s → (0 < found.1) × (found.1 ≤ suc (length raw))
-    by_test true leads = let f : ◌≡◌ {A = Result (Header × ℕ) Refusal} (Err leading_space) (Ok found) = sym (read_header-at (b ∷ raw) true refl leads) ∙ e in absurd (cc)
-    by_test false leads =
-        let same : found ≡ (header_of (b ∷ raw), header_length (b ∷ raw)) = let f : ◌≡◌ {A = Result (Header × ℕ) Refusal} (Ok (header_of (b ∷ raw), header_length (b ∷ raw))) (Ok found) = sym (read_header-at (b ∷ raw) false refl leads) ∙ e in cc in
-        let size : found.1 ≡ header_length (b ∷ raw) = ap (λ (f : Header × ℕ). f.1) same in
-        let low = header_length-> (b ∷ raw) (omega arith) in
-        let high = header_length-≤ (b ∷ raw) in
-        (omega arith, omega arith)
-
 -- what a block is that is read: the headers at its places, and the place after the blank line
 abbrev block_read : List ℕ → HeaderList
 block_read raw = record {
@@ -423,6 +335,34 @@ read_headers-is raw block e = by_tests (headers_end stop) (stands (13 ∷ []) st
     by_tests true r ends return = let f = at true r ends return in cc
     by_tests false true ends return = let f = at false true ends return in absurd (cc)
     by_tests false false ends return = let f = at false false ends return in absurd (cc)
+
+-- the headers and the blank line fit the index, and the index fits the bytes
+pub record Bounded (raw : List ℕ) (block : HeaderList) : Type 0 where
+  pub headers : length block.headers + blank_line (rest_at raw (header_count raw)) ≤ block.index
+  pub index : block.index ≤ length raw
+
+pub read_headers-bounded : (raw : List ℕ) (block : HeaderList) → read_headers raw ≡ Ok block → Bounded raw block
+read_headers-bounded raw block e =
+    let stop = header_count raw in
+    let many = length-values_below stop (λ j. header_of (rest_at raw j)) in
+    let moved = header_place-≥ raw stop (header_count-before raw) in
+    let within = header_place-≤ raw stop in
+    let blank = blank_line-≤ (rest_at raw stop) in
+    subst (Bounded raw) (read_headers-is raw block e) (record { headers = omega arith; index = omega (arith, length-drop (header_place raw stop) raw) })
+
+-- a header that is read takes at least one byte and at most all
+pub read_header-bounds : (raw : List ℕ) (found : Header × ℕ) → read_header raw ≡ Ok found → (0 < found.1) × (found.1 ≤ length raw)
+read_header-bounds [] found e = let f : ◌≡◌ {A = Result (Header × ℕ) Refusal} (Err empty_string) (Ok found) = sym (read_header-empty [] refl) ∙ e in absurd (cc)
+read_header-bounds (b ∷ raw) found e = by_test (stands (32 ∷ []) (b ∷ raw)) refl
+  where
+    by_test : (s : Bool) → stands (32 ∷ []) (b ∷ raw) ≡ s → (0 < found.1) × (found.1 ≤ suc (length raw))
+    by_test true leads = let f : ◌≡◌ {A = Result (Header × ℕ) Refusal} (Err leading_space) (Ok found) = sym (read_header-at (b ∷ raw) true refl leads) ∙ e in absurd (cc)
+    by_test false leads =
+        let same : found ≡ (header_of (b ∷ raw), header_length (b ∷ raw)) = let f : ◌≡◌ {A = Result (Header × ℕ) Refusal} (Ok (header_of (b ∷ raw), header_length (b ∷ raw))) (Ok found) = sym (read_header-at (b ∷ raw) false refl leads) ∙ e in cc in
+        let size : found.1 ≡ header_length (b ∷ raw) = ap (λ (f : Header × ℕ). f.1) same in
+        let low = header_length-> (b ∷ raw) (omega arith) in
+        let high = header_length-≤ (b ∷ raw) in
+        (omega arith, omega arith)
 
 pub read_headers-index : (raw : List ℕ) (block : HeaderList) → read_headers raw ≡ Ok block → block.index ≡ header_place raw (header_count raw) + blank_line (rest_at raw (header_count raw))
 read_headers-index raw block e = sym (ap (λ (b : HeaderList). b.index) (read_headers-is raw block e))

@@ -1,5 +1,5 @@
 -- A message that was read, with its parts, takes no more than its bytes.
-use Rattle.std.proofs.Common.{◌≡◌, ℕ, zero, suc, ◌+◌, ◌-◌, ◌*◌, ◌≤◌, Bool, false, List, [], ◌∷◌, ◌++◌, length, map, take, drop, Result, Ok, Err, IfOk, refl, ap, ◌∙◌, subst, arith}
+use Rattle.std.proofs.Common.{length-take, ◌≡◌, ℕ, zero, suc, ◌+◌, ◌-◌, ◌*◌, ◌≤◌, Bool, false, List, [], ◌∷◌, ◌++◌, length, map, take, drop, Result, Ok, Err, IfOk, refl, ap, ◌∙◌, subst, arith}
 use Rattle.std.specs.List.{sum_by}
 use Rattle.std.proofs.lemmas.List.{map-append}
 use Rattle.std.proofs.lemmas.List.Sums.{sum_by-cons, sum_by-append}
@@ -74,9 +74,7 @@ abbrev Fits : (List ℕ → Reads Tree) → Type 0
 Fits read = (bytes : List ℕ) (t : Tree) → read bytes ≡ Ok t → weight (nodes t) ≤ length bytes + 3
 
 take-length : (n : ℕ) (bytes : List ℕ) → length (take n bytes) ≤ n
-take-length zero bytes = omega arith
-take-length (suc n) [] = omega arith
-take-length (suc n) (b ∷ bytes) = let rest = take-length n bytes in omega arith
+take-length n bytes = let len = length-take n bytes in omega arith
 
 slice-length : (bytes : List ℕ) (range : Range) → length (slice bytes range) ≤ range.end - range.start
 slice-length bytes range = take-length (range.end - range.start) (drop range.start bytes)

@@ -1,7 +1,7 @@
 -- The charset source of a name, among the extended names in the order of their starred keys.
 use Rattle.std.proofs.Common.{◌≡◌, ◌⊎◌, inl, inr, ℕ, zero, suc, ◌-◌, ◌<◌, Bool, true, false, cond, eqb, List, [], ◌∷◌, ◌++◌, length, take, map, Option, Some, None, refl, sym, ap, subst, ◌∙◌, arith, nat_eq, ⊎_elim, append_assoc}
 use Rattle.std.proofs.Math.Seq.{take-append_seam}
-use Rattle.std.proofs.lemmas.Bool.{and_from, and_parts, cases_order, cond-false, cond-true, eq-eqb, eqb-true}
+use Rattle.std.proofs.lemmas.Bool.{and_from, and_parts, cases_order, cond-false, cond-true, eq-eqb, eqb-true, false_from_ne_true, false≢true}
 use Rattle.std.proofs.lemmas.Bool.Decides.{Decides-eqb}
 use Rattle.std.proofs.lemmas.Cmp.{nat_list_cmp_total}
 use Rattle.std.proofs.lemmas.List.{length-append}
@@ -168,11 +168,7 @@ pub not_back : (x z : List ℕ) → is_before x z ≡ true → is_before z x ≡
 not_back x z h = one_way _ _ (nat_list_cmp_total.antisymm (starred z) (starred x)) h
 
 pub not_itself : (x : List ℕ) → is_before x x ≡ false
-not_itself x = go (is_before x x) refl
-  where
-    go : (b : Bool) → is_before x x ≡ b → is_before x x ≡ false
-    go false is = is
-    go true is = not_back x x is
+not_itself x = false_from_ne_true _ (λ is. false≢true (sym (not_back x x is) ∙ is))
 
 pub last_in : (xs : List (List ℕ)) (w : List ℕ) → last_starred xs ≡ Some w → In w xs
 last_in [] w h = absurd (cc)

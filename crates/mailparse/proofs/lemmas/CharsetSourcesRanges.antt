@@ -1,7 +1,7 @@
 -- The names that one name is a candidate for stand in a range.
 use Rattle.std.proofs.Common.{◌≡◌, ℕ, zero, suc, ◌-◌, ◌+◌, ◌<◌, ◌≤◌, Bool, true, false, ◌&&◌, cond, eqb, List, [], ◌∷◌, ◌++◌, length, get_or, take, refl, sym, ap, subst, ◌∙◌, arith, nat_eq, ◌⊎◌, inl, inr, ⊎_elim}
 use Rattle.std.proofs.Math.ListN.{get_or-map}
-use Rattle.std.proofs.lemmas.Bool.{and_from, and_left, and_parts, and_right, both_ways, cases_lt, cases_order, cond-false, cond-true, eq-eqb, eqb-true, le-ltb, ne_eqb}
+use Rattle.std.proofs.lemmas.Bool.{false_from_ne_true, and_from, and_left, and_parts, and_right, both_ways, cases_lt, cases_order, cond-false, cond-true, eq-eqb, eqb-true, le-ltb, ne_eqb}
 use Rattle.std.proofs.lemmas.List.{get_or_default, length-map, length-take-le}
 use Rattle.std.specs.Cmp.Lexicographic.{slice_cmp}
 use Rattle.std.specs.List.{starts_with}
@@ -89,15 +89,11 @@ range_inside names prefix place first end r k from below =
     ⊎_elim (λ same. ap (λ j. starts_with nat_eq (name_at names j) prefix) same ∙ r.own) (λ apart. ⊎_elim (λ lt. r.lower k from lt) (λ gt. r.upper k gt below) apart)
     (cases_order k place)
 
-by_absence : (b : Bool) → (b ≡ true → ⊥) → b ≡ false
-by_absence true h = absurd (h refl)
-by_absence false h = refl
-
 range_before : (names : List (List ℕ)) (prefix : List ℕ) (place first end : ℕ) → AreInOrder names → place < length names → IsRange names prefix place first end
     → (k : ℕ) → k < first → starts_with nat_eq (name_at names k) prefix ≡ false
 range_before names prefix place first end order within r k below =
     let until = r.until in
-    by_absence _ (λ begins.
+    false_from_ne_true _ (λ begins.
     ⊎_elim
     (λ lt. both_ways _ (r.before (omega arith))
     (between prefix (name_at names k) (name_at names (first - 1)) (name_at names place) (order k (first - 1) lt (omega arith)) (order (first - 1) place (omega arith) within) begins r.own))
@@ -109,7 +105,7 @@ range_after : (names : List (List ℕ)) (prefix : List ℕ) (place first end : �
     → (k : ℕ) → end ≤ k → k < length names → starts_with nat_eq (name_at names k) prefix ≡ false
 range_after names prefix place first end order r k above within =
     let from = r.from in
-    by_absence _ (λ begins.
+    false_from_ne_true _ (λ begins.
     ⊎_elim
     (λ lt. both_ways _ (r.after (omega arith))
     (between prefix (name_at names place) (name_at names end) (name_at names k) (order place end from (omega arith)) (order end k lt within) r.own begins))
@@ -227,10 +223,10 @@ module _ (C : Type 0) (extended : List (ExtendedName C)) (prefix : List ℕ) (pl
         lower = λ k above below. down k above (omega (arith, below));
         own = own;
         upper = λ k above below. up k (omega (arith, above)) (omega (arith, below));
-        before = λ some. by_absence _ (λ yes.
+        before = λ some. false_from_ne_true _ (λ yes.
             let same : suc (first - 1) ≡ first = omega (arith, some) in
             not_both (first - 1) (omega (arith, some, until, within)) (before some) yes (ap begins same ∙ down first (omega arith) until));
-        after = λ more. by_absence _ (λ yes.
+        after = λ more. false_from_ne_true _ (λ yes.
             let next : suc last ≡ last + 1 = omega arith in
             not_both last (omega (arith, more, long)) (after (omega (arith, more, long))) (up last from (omega arith)) (ap begins next ∙ yes));
       }

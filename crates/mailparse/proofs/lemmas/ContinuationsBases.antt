@@ -1,6 +1,7 @@
 -- The bases, name by name, and what is left beside them.
 use Rattle.std.proofs.Common.{◌≡◌, ℕ, Bool, true, false, not, ◌&&◌, ◌||◌, ◌==◌, cond, ltb, List, [], ◌∷◌, ◌++◌, length, Option, Some, None, is_some, option_map, refl, sym, ap, ◌∙◌}
-use Rattle.std.proofs.lemmas.Bool.{and_left, and_right, cond-false}
+use Rattle.std.proofs.Math.Bool.{and-true, and_comm, and-or_distrib_left, or-true}
+use Rattle.std.proofs.lemmas.Bool.{and_left, and_right, cond-false, false≢true, true_from_ne_false}
 use Rattle.std.specs.List.{list_any}
 use Rattle.std.specs.Option.{option_and_then, option_map_or, option_or, option_to_list}
 use Rattle.std.specs.Str.{bytes_eq}
@@ -9,7 +10,7 @@ use Rattle.mailparse.specs.Continuations.{is_base, is_first_of, is_used, joined,
 use Rattle.mailparse.specs.Sections.{Section, alone, is_text, numbered, section_name}
 use Rattle.mailparse.specs.private.Continuations.{base_of_section_0, bases_of_sections_0, is_taken, joined_text, left_by}
 use Rattle.mailparse.specs.private.Filled.{filled, holds_name}
-use Rattle.mailparse.proofs.lemmas.Filled.{filled_again, filled_skip, or_true}
+use Rattle.mailparse.proofs.lemmas.Filled.{filled_again, filled_skip, mapped_unless}
 use Rattle.mailparse.proofs.lemmas.ExtendedValues.{equal_bytes, same_bytes}
 
 -- ---- the bases of names
@@ -20,28 +21,18 @@ hit base q = option_map_or (λ b. bytes_eq b q) base false
 hit_is : (at : List ℕ → Option Section) (q name : List ℕ) → (not (is_text (at q)) && is_first_of q name) ≡ hit (base_of_section_0 at name) q
 hit_is at q name = go (numbered name)
   where
-    taken : (n : List ℕ × ℕ) (t : Bool) → bytes_eq n.0 q ≡ true → hit (cond t (Some n.0) None) q ≡ t
-    taken n true is = is
-    taken n false is = refl
-
-    passed : (n : List ℕ × ℕ) (t : Bool) → bytes_eq n.0 q ≡ false → hit (cond t (Some n.0) None) q ≡ false
-    passed n true is = is
-    passed n false is = refl
-
-    swap : (a z : Bool) → (a && z) ≡ (z && a)
-    swap true true = refl
-    swap true false = refl
-    swap false true = refl
-    swap false false = refl
+    unless : (n : List ℕ × ℕ) (t : Bool) → hit (cond t (Some n.0) None) q ≡ (t && bytes_eq n.0 q)
+    unless n true = refl
+    unless n false = refl
 
     pick : (n : List ℕ × ℕ) (b : Bool) → bytes_eq n.0 q ≡ b
         → (not (is_text (at q)) && (bytes_eq n.0 q && (n.1 == 0))) ≡ hit (cond ((n.1 == 0) && not (is_text (at n.0))) (Some n.0) None) q
-    pick n false is = and_right _ _ (and_left _ _ is) ∙ sym (passed n ((n.1 == 0) && not (is_text (at n.0))) is)
+    pick n false is = and_right _ _ (and_left _ _ is) ∙ sym (unless n ((n.1 == 0) && not (is_text (at n.0))) ∙ and_right _ _ is)
     pick n true is =
         ap (λ b. not (is_text (at q)) && (b && (n.1 == 0))) is
-        ∙ swap (not (is_text (at q))) (n.1 == 0)
+        ∙ and_comm (not (is_text (at q))) (n.1 == 0)
         ∙ ap (λ x. (n.1 == 0) && not (is_text (at x))) (sym (equal_bytes n.0 q is))
-        ∙ sym (taken n ((n.1 == 0) && not (is_text (at n.0))) is)
+        ∙ sym (unless n ((n.1 == 0) && not (is_text (at n.0))) ∙ ap (λ b. ((n.1 == 0) && not (is_text (at n.0))) && b) is ∙ and-true _)
 
     go : (o : Option (List ℕ × ℕ)) → (not (is_text (at q)) && option_map_or (λ n. bytes_eq n.0 q && (n.1 == 0)) o false)
         ≡ hit (option_and_then (λ n. cond ((n.1 == 0) && not (is_text (at n.0))) (Some n.0) None) o) q
@@ -54,19 +45,15 @@ pub holds_first : (at : List ℕ → Option Section) (names : List (List ℕ)) (
 holds_first at [] q some = sym (and_right _ _ refl)
 holds_first at (name ∷ names) q some =
     one (base_of_section_0 at name)
-    ∙ ap (λ b. hit (base_of_section_0 at name) q || b) (holds_first at names q (λ z held. some z (ap (λ b. bytes_eq name z || b) held ∙ or_true (bytes_eq name z))))
+    ∙ ap (λ b. hit (base_of_section_0 at name) q || b) (holds_first at names q (λ z held. some z (ap (λ b. bytes_eq name z || b) held ∙ or-true (bytes_eq name z))))
     ∙ ap (λ b. b || is_base at names q) (sym (hit_is at q name))
-    ∙ sym (split (not (is_text (at q))) (is_first_of q name) (list_any (λ n. is_some (at n) && is_first_of q n) names))
+    ∙ sym (and-or_distrib_left (not (is_text (at q))) (is_first_of q name) (list_any (λ n. is_some (at n) && is_first_of q n) names))
     ∙ ap (λ b. not (is_text (at q)) && ((b && is_first_of q name) || list_any (λ n. is_some (at n) && is_first_of q n) names))
     (sym (some name (ap (λ b. b || holds_name names name) (same_bytes name name refl))))
   where
     one : (o : Option (List ℕ)) → holds_name (option_to_list o ++ bases_of_sections_0 at names) q ≡ (hit o q || holds_name (bases_of_sections_0 at names) q)
     one None = refl
     one (Some b) = refl
-
-    split : (a x y : Bool) → (a && (x || y)) ≡ ((a && x) || (a && y))
-    split true x y = refl
-    split false x y = refl
 
 -- ---- what is left
 
@@ -91,17 +78,13 @@ in_the_end at names q extended text base given some left joined_is made =
     made ∙ over extended text
     ∙ ap (λ o. option_or (option_map alone o) base) left
     ∙ ap (λ b. option_or (option_map alone (cond b None (at q))) base) (taken_used at names (bases_of_sections_0 at names) bases q)
-    ∙ ap (λ o. option_or o base) (inner (is_used at names q))
+    ∙ ap (λ o. option_or o base) (mapped_unless alone (is_used at names q) (at q))
     ∙ ap (option_or (cond (is_used at names q) None (option_map alone (at q)))) (joined_is ∙ ap (λ b. cond b (Some (joined (sections_of at q))) None) (bases q))
   where
     over : (e : Option Section) (t : Option (List ℕ)) → option_or (option_map alone e) (option_or t base) ≡ option_or (option_map alone (option_or e (option_map words.text t))) base
     over None None = refl
     over None (Some t) = refl
     over (Some e) t = refl
-
-    inner : (b : Bool) → option_map alone (cond b None (at q)) ≡ cond b None (option_map alone (at q))
-    inner true = refl
-    inner false = refl
 
 -- ---- texts that are written beside others
 
@@ -126,8 +109,4 @@ base_kept t b names name q old here before at_name some = go (t name) refl
   where
     go : (o : Option (List ℕ)) → t name ≡ o → old ≡ filled (λ z. option_or (t z) (b z)) t (names ++ name ∷ []) q
     go (Some v) e = filled_skip (λ z. option_or (t z) (b z)) t names name q old before (ap (λ o. option_or o (b name)) e ∙ sym e)
-    go None e = filled_again (λ z. option_or (t z) (b z)) t names name q old before (held (holds_name names name) refl)
-      where
-        held : (h : Bool) → holds_name names name ≡ h → holds_name names name ≡ true
-        held true is = is
-        held false is = let clash : true ≡ false = sym some ∙ ap is_some (at_name ∙ cond-false _ _ _ is ∙ e) in absurd (cc)
+    go None e = filled_again (λ z. option_or (t z) (b z)) t names name q old before (true_from_ne_false _ (λ is. false≢true (sym (sym some ∙ ap is_some (at_name ∙ cond-false _ _ _ is ∙ e)))))

@@ -1,6 +1,6 @@
 -- The parameters do not depend on the order in which the names are walked.
 use Rattle.std.proofs.Common.{◌≡◌, ◌⊎◌, inl, inr, ℕ, Bool, true, false, not, ◌&&◌, ◌||◌, cond, List, [], ◌∷◌, ◌++◌, ltb, length, map, Option, Some, None, is_some, option_map, BTreeMap, String, string_bytes, refl, sym, ap, ◌∙◌, ⊎_elim}
-use Rattle.std.proofs.lemmas.Bool.{and_parts, cond-false}
+use Rattle.std.proofs.lemmas.Bool.{and_parts, cond-false, or_left, or_right, true_from_ne_false}
 use Rattle.std.proofs.lemmas.List.Folds.{list_any-append}
 use Rattle.std.specs.BTreeMap.{get_by_text}
 use Rattle.std.specs.Global.{Global}
@@ -26,14 +26,6 @@ use Rattle.mailparse.proofs.lemmas.CharsetSources.{name_under_starred}
 use Rattle.mailparse.proofs.lemmas.ExtendedValues.{equal_bytes, is_some_map, same_bytes}
 
 -- ---- a test that passes only names of two lists says the same of both
-
-or_left : (a b : Bool) → a ≡ true → (a || b) ≡ true
-or_left true b h = refl
-or_left false b h = absurd (cc)
-
-or_right : (a b : Bool) → b ≡ true → (a || b) ≡ true
-or_right true b h = refl
-or_right false b h = h
 
 pub or_either : (a b : Bool) → (a || b) ≡ true → (a ≡ true) ⊎ (b ≡ true)
 or_either true b h = inl refl
@@ -128,11 +120,7 @@ section_named known pairs q h = go (last_of pairs q) refl
     go None is = without_key is (is_extended (last_of pairs) q) refl
 
 entry_named : {X : Type 0} (m : BTreeMap (String Global) X) (q : List ℕ) → is_some (get_by_text m q) ≡ true → holds_name (names_in m) q ≡ true
-entry_named m q h = go (holds_name (names_in m) q) refl
-  where
-    go : (b : Bool) → holds_name (names_in m) q ≡ b → holds_name (names_in m) q ≡ true
-    go true is = is
-    go false is = absurd (some_of _ (unnamed q m is) h)
+entry_named m q h = true_from_ne_false _ (λ is. some_of _ (unnamed q m is) h)
 
 -- the names of sections are those at which something stands
 holds_both : (xs ys : List (List ℕ)) (q : List ℕ) → holds_name (xs ++ ys) q ≡ (holds_name xs q || holds_name ys q)

@@ -1,27 +1,22 @@
 -- The sections of bases, and what stands at the names once they are taken.
 use Rattle.std.proofs.Common.{◌≡◌, ℕ, zero, suc, ◌+◌, ◌<◌, ◌^◌, Bool, true, false, ◌&&◌, ◌||◌, cond, ltb, List, [], ◌∷◌, ◌++◌, length, Option, Some, None, is_some, refl, sym, ap, ◌∙◌, arith, ⊎_elim}
-use Rattle.std.proofs.lemmas.Bool.{and_left, cases_order, cond-false, cond-true, le-ltb, lt-ltb}
+use Rattle.std.proofs.Math.Bool.{and-false, and-or_distrib_right, and-true, or-false, or-true}
+use Rattle.std.proofs.lemmas.Bool.{and_left, cases_order, cond-false, cond-true, false_from_ne_true, false≢true, le-ltb, lt-ltb}
 use Rattle.std.specs.Option.{option_map_or}
 use Rattle.std.specs.Str.{bytes_eq}
 use Rattle.mailparse.specs.Continuations.{joined, most_sections, sections_of}
 use Rattle.mailparse.specs.Sections.{Section, numbered, section_name}
 use Rattle.mailparse.specs.private.Continuations.{is_section_below, is_taken, joined_text, left_by, without_sections}
 use Rattle.mailparse.specs.private.Filled.{holds_name}
-use Rattle.mailparse.proofs.lemmas.Filled.{filled_again, filled_push, holds_again, holds_push, or_false, or_true}
+use Rattle.mailparse.proofs.lemmas.Filled.{filled_again, filled_push, holds_again, holds_push}
 use Rattle.mailparse.proofs.lemmas.ContinuationsJoining.{cons_if_some, most, sections_are, sections_from}
 use Rattle.mailparse.proofs.lemmas.SectionsNumbers.{numbered_section}
 use Rattle.mailparse.proofs.lemmas.Sections.{cond_none}
-use Rattle.mailparse.proofs.lemmas.ExtendedValues.{equal_bytes, same_bytes}
-
-and_true : (b : Bool) → (b && true) ≡ b
-and_true true = refl
-and_true false = refl
+use Rattle.mailparse.proofs.lemmas.ExtendedValues.{equal_bytes, is_some_where, same_bytes}
 
 both_taken : (e p : Bool) (x : Option Section) → cond e None (cond p None x) ≡ cond (p || e) None x
-both_taken true true x = refl
-both_taken true false x = refl
-both_taken false true x = refl
-both_taken false false x = refl
+both_taken e true x = cond_none e
+both_taken e false x = refl
 
 -- ---- the sections of one base
 
@@ -30,7 +25,7 @@ section_here base count z below =
     ap (λ o. option_map_or (λ n. bytes_eq base n.0 && (ltb n.1 z && bytes_eq (section_name base count) (section_name n.0 n.1))) o false) (numbered_section base count below)
     ∙ ap (λ b. b && (ltb count z && bytes_eq (section_name base count) (section_name base count))) (same_bytes base base refl)
     ∙ ap (λ b. ltb count z && b) (same_bytes (section_name base count) (section_name base count) refl)
-    ∙ and_true (ltb count z)
+    ∙ and-true (ltb count z)
 
 -- one more number names one more section
 one_more : (base : List ℕ) (count : ℕ) (q : List ℕ) → count < 2 ^ 64 → is_section_below base (count + 1) q ≡ (is_section_below base count q || bytes_eq (section_name base count) q)
@@ -44,24 +39,13 @@ one_more base count q below = go (bytes_eq (section_name base count) q) refl
         (⊎_elim
         (λ same.
         let apart : bytes_eq q (section_name n.0 n.1) ≡ false =
-        differs (bytes_eq q (section_name n.0 n.1)) refl same in
-        ap (λ b. ltb n.1 (count + 1) && b) apart ∙ none (ltb n.1 (count + 1)) ∙ sym (ap (λ b. ltb n.1 count && b) apart ∙ none (ltb n.1 count)))
+        false_from_ne_true _ (λ e. false≢true (sym other ∙ same_bytes (section_name base count) q (sym (equal_bytes q (section_name n.0 n.1) e ∙ ap (λ k. section_name n.0 k) same ∙ ap (λ z. section_name z count) (sym (equal_bytes base n.0 is)))))) in
+        ap (λ b. ltb n.1 (count + 1) && b) apart ∙ and-false (ltb n.1 (count + 1)) ∙ sym (ap (λ b. ltb n.1 count && b) apart ∙ and-false (ltb n.1 count)))
         (λ unlike. ⊎_elim
         (λ lt. ap (λ b. b && bytes_eq q (section_name n.0 n.1)) (lt-ltb n.1 (count + 1) (omega arith) ∙ sym (lt-ltb n.1 count lt)))
         (λ gt. ap (λ b. b && bytes_eq q (section_name n.0 n.1)) (le-ltb n.1 (count + 1) (omega arith) ∙ sym (le-ltb n.1 count (omega arith))))
         unlike)
         (cases_order n.1 count))
-      where
-        none : (b : Bool) → (b && false) ≡ false
-        none true = refl
-        none false = refl
-
-        differs : (b : Bool) → bytes_eq q (section_name n.0 n.1) ≡ b → n.1 ≡ count → bytes_eq q (section_name n.0 n.1) ≡ false
-        differs false e same = e
-        differs true e same =
-            let whole : q ≡ section_name base count = equal_bytes q (section_name n.0 n.1) e ∙ ap (λ k. section_name n.0 k) same ∙ ap (λ z. section_name z count) (sym (equal_bytes base n.0 is)) in
-            let clash : false ≡ true = sym other ∙ same_bytes (section_name base count) q (sym whole) in
-            absurd (cc)
 
     by_number : bytes_eq (section_name base count) q ≡ false → (o : Option (List ℕ × ℕ))
         → option_map_or (λ n. bytes_eq base n.0 && (ltb n.1 (count + 1) && bytes_eq q (section_name n.0 n.1))) o false
@@ -72,8 +56,8 @@ one_more base count q below = go (bytes_eq (section_name base count) q) refl
     go : (b : Bool) → bytes_eq (section_name base count) q ≡ b → is_section_below base (count + 1) q ≡ (is_section_below base count q || bytes_eq (section_name base count) q)
     go true is =
         ap (is_section_below base (count + 1)) (sym (equal_bytes (section_name base count) q is)) ∙ section_here base count (count + 1) below ∙ lt-ltb count (count + 1) (omega arith)
-        ∙ sym (ap (λ b. is_section_below base count q || b) is ∙ or_true (is_section_below base count q))
-    go false is = by_number is (numbered q) ∙ sym (ap (λ b. is_section_below base count q || b) is ∙ or_false (is_section_below base count q))
+        ∙ sym (ap (λ b. is_section_below base count q || b) is ∙ or-true (is_section_below base count q))
+    go false is = by_number is (numbered q) ∙ sym (ap (λ b. is_section_below base count q || b) is ∙ or-false (is_section_below base count q))
 
 -- the next section is as it was
 pub next_stands : (at now : List ℕ → Option Section) (base : List ℕ) (count : ℕ) → count < 2 ^ 64 → ((q : List ℕ) → now q ≡ without_sections at base count q)
@@ -127,39 +111,20 @@ one_base : (at : List ℕ → Option Section) (bases : List (List ℕ)) (base q 
     → is_taken at (bases ++ base ∷ []) q ≡ (is_taken at bases q || is_section_below base (length (sections_of at base)) q)
 one_base at bases base q = go (numbered q)
   where
-    split : (h x y : Bool) → ((h || true) && x) ≡ ((h && x) || (true && x))
-    split true true y = refl
-    split true false y = refl
-    split false x y = refl
-
-    same : (h x y : Bool) → ((h || false) && x) ≡ ((h && x) || (false && y))
-    same true true y = refl
-    same true false y = refl
-    same false x y = refl
-
-    pick : (n : List ℕ × ℕ) (b : Bool) → bytes_eq base n.0 ≡ b
-        → (holds_name (bases ++ base ∷ []) n.0 && (ltb n.1 (length (sections_of at n.0)) && bytes_eq q (section_name n.0 n.1)))
-        ≡ ((holds_name bases n.0 && (ltb n.1 (length (sections_of at n.0)) && bytes_eq q (section_name n.0 n.1)))
-        || (bytes_eq base n.0 && (ltb n.1 (length (sections_of at base)) && bytes_eq q (section_name n.0 n.1))))
-    pick n true is =
-        ap (λ b. b && (ltb n.1 (length (sections_of at n.0)) && bytes_eq q (section_name n.0 n.1))) (holds_push bases base n.0 ∙ ap (λ b. holds_name bases n.0 || b) is)
-        ∙ split (holds_name bases n.0) (ltb n.1 (length (sections_of at n.0)) && bytes_eq q (section_name n.0 n.1)) true
-        ∙ ap (λ b. (holds_name bases n.0 && (ltb n.1 (length (sections_of at n.0)) && bytes_eq q (section_name n.0 n.1)))
-        || (b && (ltb n.1 (length (sections_of at n.0)) && bytes_eq q (section_name n.0 n.1)))) (sym is)
-        ∙ ap (λ z. (holds_name bases n.0 && (ltb n.1 (length (sections_of at n.0)) && bytes_eq q (section_name n.0 n.1)))
-        || (bytes_eq base n.0 && (ltb n.1 (length (sections_of at z)) && bytes_eq q (section_name n.0 n.1)))) (sym (equal_bytes base n.0 is))
-    pick n false is =
-        ap (λ b. b && (ltb n.1 (length (sections_of at n.0)) && bytes_eq q (section_name n.0 n.1))) (holds_push bases base n.0 ∙ ap (λ b. holds_name bases n.0 || b) is)
-        ∙ same (holds_name bases n.0) (ltb n.1 (length (sections_of at n.0)) && bytes_eq q (section_name n.0 n.1)) (ltb n.1 (length (sections_of at base)) && bytes_eq q (section_name n.0 n.1))
-        ∙ ap (λ b. (holds_name bases n.0 && (ltb n.1 (length (sections_of at n.0)) && bytes_eq q (section_name n.0 n.1)))
-        || (b && (ltb n.1 (length (sections_of at base)) && bytes_eq q (section_name n.0 n.1)))) (sym is)
+    same : (n : List ℕ × ℕ) (b : Bool) → bytes_eq base n.0 ≡ b
+        → (bytes_eq base n.0 && (ltb n.1 (length (sections_of at n.0)) && bytes_eq q (section_name n.0 n.1))) ≡ (bytes_eq base n.0 && (ltb n.1 (length (sections_of at base)) && bytes_eq q (section_name n.0 n.1)))
+    same n true is = ap (λ z. bytes_eq base n.0 && (ltb n.1 (length (sections_of at z)) && bytes_eq q (section_name n.0 n.1))) (sym (equal_bytes base n.0 is))
+    same n false is = and_left _ _ is ∙ sym (and_left _ _ is)
 
     go : (o : Option (List ℕ × ℕ))
         → option_map_or (λ n. holds_name (bases ++ base ∷ []) n.0 && (ltb n.1 (length (sections_of at n.0)) && bytes_eq q (section_name n.0 n.1))) o false
         ≡ (option_map_or (λ n. holds_name bases n.0 && (ltb n.1 (length (sections_of at n.0)) && bytes_eq q (section_name n.0 n.1))) o false
         || option_map_or (λ n. bytes_eq base n.0 && (ltb n.1 (length (sections_of at base)) && bytes_eq q (section_name n.0 n.1))) o false)
     go None = refl
-    go (Some n) = pick n (bytes_eq base n.0) refl
+    go (Some n) =
+        let below = ltb n.1 (length (sections_of at n.0)) && bytes_eq q (section_name n.0 n.1) in
+        ap (λ b. b && below) (holds_push bases base n.0) ∙ and-or_distrib_right (holds_name bases n.0) (bytes_eq base n.0) below
+        ∙ ap (λ b. (holds_name bases n.0 && below) || b) (same n (bytes_eq base n.0) refl)
 
 -- a base was joined
 pub left_next : (at now : List ℕ → Option Section) (bases : List (List ℕ)) (base q : List ℕ) (new : Option Section) → holds_name bases base ≡ false
@@ -191,8 +156,4 @@ pub joined_again : (at : List ℕ → Option Section) (bases : List (List ℕ)) 
 joined_again at bases base q old before held = filled_again (λ z. Some (joined (sections_of at z))) (λ _. None) bases base q old before held
 
 pub joined_known : (at : List ℕ → Option Section) (bases : List (List ℕ)) (base : List ℕ) (old : Option (List ℕ)) → old ≡ joined_text at bases base → is_some old ≡ holds_name bases base
-joined_known at bases base old before = ap is_some before ∙ go (holds_name bases base)
-  where
-    go : (b : Bool) → is_some (cond b (Some (joined (sections_of at base))) None) ≡ b
-    go true = refl
-    go false = refl
+joined_known at bases base old before = ap is_some before ∙ is_some_where (holds_name bases base) (joined (sections_of at base))

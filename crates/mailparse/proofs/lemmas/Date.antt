@@ -10,7 +10,7 @@ use Rattle.std.specs.Str.{IsCharBoundary, IsUtf8, all_ascii_digits, str_eq_ignor
 use Rattle.std.proofs.lemmas.List.Sums.{prefix_len-le-length, prefix_len_passes, prefix_len_stops}
 use Rattle.std.proofs.lemmas.Str.{IsCharBoundary-after_ascii}
 use Rattle.std.specs.Str.Parse.{ParsesUnsigned, ParsesSigned, digits_value, signed_digits_value, without_leading_plus, without_leading_sign}
-use Rattle.std.proofs.lemmas.Bool.{lt-ltb, ltb-true, leb-true, eqb-true, eqb-false}
+use Rattle.std.proofs.lemmas.Bool.{and_parts, cond-false, false_from_ne_true, not-true, lt-ltb, ltb-true, leb-true, eqb-true, eqb-false, not-false}
 use Rattle.std.proofs.lemmas.Str.Parse.{IsNumeralModel, numerals_by_value, tells_all_ascii_digits}
 use Rattle.mail_codec.specs.Places.{is_empty}
 use Rattle.mailparse.specs.Date.{fits_32_bits, is_separator, look_up, words, zones, date_words, from_hour, from_minute, from_second, from_zone, seconds_of, invalid_hour, invalid_minute, invalid_second, invalid_year, signed_number, number_below, days_of_years, year_length, year_of, year_of_number}
@@ -36,20 +36,11 @@ number_below-parse k word (Ok x) h =
     let all : all_ascii_digits d ≡ true = own.from d h.0.0.1 in
     let lt : ltb (digits_value 10 d) (2 ^ k) ≡ true = lt-ltb _ _ h.0.1 in
     rw (some, all, lt) (ap Some (sym h.1))
-number_below-parse k word (Err e) h = go (is_empty d) (all_ascii_digits d) (ltb v (2 ^ k)) refl refl refl
-  where
-    d : List ℕ
-    d = without_leading_plus word
-
-    v : ℕ
-    v = digits_value 10 d
-
-    go : (none all lt : Bool) → is_empty d ≡ none → all_ascii_digits d ≡ all → ltb v (2 ^ k) ≡ lt
-        → cond (not none && (all && lt)) (Some v) None ≡ None
-    go true all lt p q r = refl
-    go false false lt p q r = refl
-    go false true false p q r = refl
-    go false true true p q r = absurd (h ((some_digit d p, own.to d q), ltb-true v (2 ^ k) r))
+number_below-parse k word (Err e) h =
+    cond-false _ _ _ (false_from_ne_true _ (λ t.
+    let some = and_parts _ _ t in
+    let rest = and_parts _ _ some.1 in
+    h ((some_digit _ (not-true _ some.0), own.to _ rest.0), ltb-true _ _ rest.1)))
 
 -- the year of a number, if there is one
 abbrev pub year_if_read : Option ℕ → Reads ℕ
@@ -61,6 +52,9 @@ unfolding year_of
 year_of-parse word r h = ap year_if_read (number_below-parse 32 word r h)
 
 -- ---- words
+
+past_first : (m b : ℕ) (bytes : List ℕ) → drop (1 + m) (b ∷ bytes) ≡ drop m bytes
+past_first m b bytes = let e : 1 + m ≡ suc m = omega arith in rw e refl
 
 -- the first piece of bytes, and what stands from its end on
 abbrev FirstPiece : (ℕ → Bool) → List ℕ → Type 0
@@ -79,9 +73,6 @@ first_piece test (b ∷ bytes) = go (first_piece test bytes) (test b) refl
     taken : take (1 + m) (b ∷ bytes) ≡ b ∷ take m bytes
     taken = let e : 1 + m ≡ suc m = omega arith in rw e refl
 
-    dropped : drop (1 + m) (b ∷ bytes) ≡ drop m bytes
-    dropped = let e : 1 + m ≡ suc m = omega arith in rw e refl
-
     go : FirstPiece test bytes → (t : Bool) → test b ≡ t
         → (more : List (List ℕ))
         × ((cond t ([] ∷ slice_split test bytes) (onto_first b (slice_split test bytes)) ≡ take (cond (not t) (1 + m) 0) (b ∷ bytes) ∷ more)
@@ -91,7 +82,7 @@ first_piece test (b ∷ bytes) = go (first_piece test bytes) (test b) refl
       later.0,
       (
         ap (onto_first b) later.1.0 ∙ ap (λ front. front ∷ later.0) (sym taken),
-        ap (slice_split test) dropped ∙ later.1.1,
+        ap (slice_split test) (past_first m b bytes) ∙ later.1.1,
       ),
     )
 
@@ -120,13 +111,10 @@ after_skip (b ∷ bytes) h = go (after_skip bytes) (is_separator b) refl h
     m : ℕ
     m = prefix_len is_separator bytes
 
-    dropped : drop (1 + m) (b ∷ bytes) ≡ drop m bytes
-    dropped = let e : 1 + m ≡ suc m = omega arith in rw e refl
-
     go : (prefix_len (λ b. not (is_separator b)) (drop (prefix_len is_separator bytes) bytes) ≡ 0 → drop (prefix_len is_separator bytes) bytes ≡ [])
         → (t : Bool) → is_separator b ≡ t → prefix_len (λ b. not (is_separator b)) (drop (cond t (1 + m) 0) (b ∷ bytes)) ≡ 0
         → drop (cond t (1 + m) 0) (b ∷ bytes) ≡ []
-    go later true e h = dropped ∙ later (sym (ap (prefix_len (λ b. not (is_separator b))) dropped) ∙ h)
+    go later true e h = past_first m b bytes ∙ later (sym (ap (prefix_len (λ b. not (is_separator b))) (past_first m b bytes)) ∙ h)
     go later false e h = absurd (none (sym first ∙ h))
       where
         first : prefix_len (λ b. not (is_separator b)) (b ∷ bytes) ≡ 1 + prefix_len (λ b. not (is_separator b)) bytes
@@ -179,13 +167,9 @@ cut_after_word rest end count = (omega (arith, prefix_len-le-length (λ b. not (
     clash lt high =
         let stops = prefix_len_stops (λ b. not (is_separator b)) rest 0 (omega arith) in
         let at : get_or rest end 0 ≡ get_or rest (prefix_len (λ b. not (is_separator b)) rest) 0 = ap (λ k. get_or rest k 0) count in
-        let sep : is_separator (get_or rest end 0) ≡ true = go (is_separator (get_or rest end 0)) refl (ap (λ b. not (is_separator b)) at ∙ stops) in
+        let sep : is_separator (get_or rest end 0) ≡ true = not-false _ (ap (λ b. not (is_separator b)) at ∙ stops) in
         let small : get_or rest end 0 < 128 = separator_ascii _ sep in
         omega arith
-      where
-        go : (t : Bool) → is_separator (get_or rest end 0) ≡ t → not (is_separator (get_or rest end 0)) ≡ false → is_separator (get_or rest end 0) ≡ true
-        go true e h = e
-        go false e h = absurd (cc)
 
 -- ---- tables
 
@@ -203,10 +187,7 @@ zone_size_at_most (pos n) h = let le = leb-true _ _ h in (omega (arith, ints), o
 zone_size_at_most (negsuc n) h = let lt = ltb-true _ _ h in (omega (arith, ints), omega (arith, ints))
 
 look_up-size : (table : List (List ℕ × ℤ)) (word : List ℕ) (z : ℤ) → list_all (λ row. is_zone_size row.1) table ≡ true → look_up table word ≡ Some z → HasSizeAtMost 2400 z
-look_up-size [] word z all h = absurd (clash h)
-  where
-    clash : None ≡ Some z → ⊥
-    clash e = cc
+look_up-size [] word z all h = let clash : None ≡ Some z = h in absurd (cc)
 look_up-size (row ∷ table) word z all h = go (look_up-size table word z) (str_eq_ignore_ascii_case word row.0) (is_zone_size row.1) refl all h
   where
     go : (list_all (λ row. is_zone_size row.1) table ≡ true → look_up table word ≡ Some z → HasSizeAtMost 2400 z) → (t n : Bool) → is_zone_size row.1 ≡ n
@@ -237,34 +218,22 @@ signed_number-parse word (Ok x) h =
     fits_true : (z : ℤ) → FitsSigned w32 z → fits_32_bits z ≡ true
     fits_true (pos n) f = lt-ltb _ _ f.sfits
     fits_true (negsuc n) f = lt-ltb _ _ f.sfits
-signed_number-parse word (Err e) h = go (is_empty d) (all_ascii_digits d) (fits_32_bits v) refl refl refl
+signed_number-parse word (Err e) h =
+    cond-false _ _ _ (false_from_ne_true _ (λ t.
+    let some = and_parts _ _ t in
+    let rest = and_parts _ _ some.1 in
+    h ((some_digit _ (not-true _ some.0), own.to _ rest.0), true_fits _ rest.1)))
   where
-    d : List ℕ
-    d = without_leading_sign word
-
-    v : ℤ
-    v = signed_digits_value 10 word
-
     true_fits : (z : ℤ) → fits_32_bits z ≡ true → FitsSigned w32 z
     true_fits (pos n) e = record { sfits = ltb-true _ _ e }
     true_fits (negsuc n) e = record { sfits = ltb-true _ _ e }
-
-    go : (none all fits : Bool) → is_empty d ≡ none → all_ascii_digits d ≡ all → fits_32_bits v ≡ fits
-        → cond (not none && (all && fits)) (Some v) None ≡ None
-    go true all fits p q r = refl
-    go false false fits p q r = refl
-    go false true false p q r = refl
-    go false true true p q r = absurd (h ((some_digit d p, own.to d q), true_fits v r))
 
 -- ---- parts of a date
 
 -- a number that was found at the front of words
 pub next_some : (refusal : Refusal) (ws : List (List ℕ)) (n : ℕ) (after : List (List ℕ)) → next_number refusal ws ≡ Ok (Some (n, after))
     → (word : List ℕ) × ((ws ≡ word ∷ after) × (number_below 256 word ≡ Some n))
-next_some refusal [] n after h = absurd (clash h)
-  where
-    clash : ◌≡◌ {A = Result (Option (ℕ × List (List ℕ))) Refusal} (Ok None) (Ok (Some (n, after))) → ⊥
-    clash e = cc
+next_some refusal [] n after h = let clash : ◌≡◌ {A = Result (Option (ℕ × List (List ℕ))) Refusal} (Ok None) (Ok (Some (n, after))) = h in absurd (cc)
 next_some refusal (word ∷ ws) n after h = go (number_below 256 word) refl h
   where
     go : (read : Option ℕ) → number_below 256 word ≡ read → ◌>>=◌ {B = Option (ℕ × List (List ℕ))} (ok_or read refusal) (λ m. Ok (Some (m, ws))) ≡ Ok (Some (n, after))

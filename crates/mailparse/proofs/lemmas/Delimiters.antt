@@ -1,7 +1,8 @@
 -- Lemmas on delimiters: where the first one stands, and the ranges of the parts.
 use Rattle.std.proofs.Common.{◌≡◌, ℕ, zero, suc, ◌+◌, ◌-◌, ◌<◌, ◌≤◌, Bool, true, false, cond, eqb, List, [], ◌∷◌, ◌&&◌, ◌||◌, length, drop, get_or, Option, Some, None, option_map, refl, sym, ap, ◌∙◌, subst, ⊎_elim, arith, length-drop, get_or-drop, ◌++◌, map}
 use Rattle.std.specs.Prelude.{nat_lt, filter_map, option_and_then, codes, if◌then◌else◌}
-use Rattle.std.proofs.lemmas.Bool.{cond-true, cond-false, cases_lt, cases_eq, lt-ltb, le-ltb, eq-eqb, eqb-true, ne_eqb, and_parts, and_from, false≢true}
+use Rattle.std.proofs.lemmas.Bool.{cond-true, cond-false, cases_lt, cases_eq, lt-ltb, le-ltb, eq-eqb, eqb-true, ne_eqb, and_parts, and_from, false_from_ne_true, false≢true}
+use Rattle.std.proofs.Math.Bool.{and-false}
 use Rattle.std.proofs.lemmas.List.{drop-drop}
 use Rattle.bstr.specs.Find.{OccursAt, FindsNeedle}
 use Rattle.mail_codec.specs.Places.{stands, begins, first_place, least, byte_place, text_place, values_below}
@@ -51,7 +52,7 @@ least_from-out test start end p e =
     let k = least (λ n. test (start + n)) (end - start) in
     ⊎_elim (λ small.
     let here : Some (start + k) ≡ Some p = sym (cond-true (nat_lt k (end - start)) (Some (start + k)) None (lt-ltb k (end - start) small)) ∙ e in
-    let same : start + k ≡ p = unwrap here in
+    let same : start + k ≡ p = cc in
     record {
       low = omega arith;
       high = omega arith;
@@ -59,22 +60,13 @@ least_from-out test start end p e =
       before = λ j low high.
           ap test (omega arith) ∙ least-before (λ n. test (start + n)) (end - start) (j - start) (omega arith);
     })
-    (λ ge. absurd (clash (sym (cond-false (nat_lt k (end - start)) (Some (start + k)) None (le-ltb k (end - start) ge)) ∙ e)))
+    (λ ge. let clash : None ≡ Some p = sym (cond-false (nat_lt k (end - start)) (Some (start + k)) None (le-ltb k (end - start) ge)) ∙ e in absurd (cc))
     (cases_lt k (end - start))
-  where
-    unwrap : {a : ℕ} → Some a ≡ Some p → a ≡ p
-    unwrap {a = a} h = cc
-
-    clash : None ≡ Some p → ⊥
-    clash h = cc
 
 -- ---- a text that stands
 
 eqb_swap : (a b : ℕ) → eqb a b ≡ eqb b a
 eqb_swap a b = ⊎_elim (λ e. ap (λ x. eqb x b) e ∙ ap (λ x. eqb b x) (sym e)) (λ n. ne_eqb a b n ∙ sym (ne_eqb b a (λ e. n (sym e)))) (cases_eq a b)
-
-or_false : (x y : Bool) → x ≡ false → y ≡ false → (x || y) ≡ false
-or_false x y e f = rw (e, f) refl
 
 reads_more : (x b : ℕ) (text rest : List ℕ) → x ≡ b → ((j : ℕ) → j < length text → get_or rest j 0 ≡ get_or text j 0) → (j : ℕ) → j < suc (length text)
     → get_or (b ∷ rest) j 0 ≡ get_or (x ∷ text) j 0
@@ -124,14 +116,8 @@ nowhere f None e = refl
 nowhere f (Some k) e = cc
 
 pub somewhere : (f : ℕ → ℕ) (at : ℕ) (o : Option ℕ) → Some at ≡ option_map f o → (k : ℕ) × (Some k ≡ o) × (at ≡ f k)
-somewhere f at None e = absurd (clash e)
-  where
-    clash : Some at ≡ None → ⊥
-    clash h = cc
-somewhere f at (Some k) e = (k, refl, unwrap (f k) e)
-  where
-    unwrap : (b : ℕ) → Some at ≡ Some b → at ≡ b
-    unwrap b h = cc
+somewhere f at None e = let clash : Some at ≡ None = e in absurd (cc)
+somewhere f at (Some k) e = let same : Some at ≡ Some (f k) = e in (k, refl, cc)
 
 -- ---- a search for the LF and the delimiter after it
 
@@ -173,12 +159,8 @@ none_to dash_boundary bytes start to within fits first none k low high =
     let i = k - 1 - start in
     let there : drop i (drop start bytes) ≡ drop (k - 1) bytes = drop-drop i start bytes ∙ ap (λ n. drop n bytes) (omega (arith, other)) in
     is_delimiter-line dash_boundary bytes start k (omega (arith, other)) ∙ ap (stands (10 ∷ dash_boundary)) (sym there)
-    ∙ by_test i (omega (arith, other)) (stands (10 ∷ dash_boundary) (drop i (drop start bytes))) refl)
+    ∙ false_from_ne_true _ (λ e. none i (omega arith) (omega (arith, other)) (stands_occurs (10 ∷ dash_boundary) (drop start bytes) i (omega arith) e)))
     (cases_eq k start)
-  where
-    by_test : (i : ℕ) → i < to → (t : Bool) → stands (10 ∷ dash_boundary) (drop i (drop start bytes)) ≡ t → t ≡ false
-    by_test i low true e = absurd (none i (omega arith) low (stands_occurs (10 ∷ dash_boundary) (drop start bytes) i (omega arith) e))
-    by_test i low false e = refl
 
 -- ---- a search from one line that begins with the dash-boundary's first byte to the next
 
@@ -187,15 +169,11 @@ both_and true true u h = absurd (false≢true (sym h))
 both_and true false u h = refl
 both_and false t u h = refl
 
-no_and : (s : Bool) → s && false ≡ false
-no_and true = refl
-no_and false = refl
-
 -- a LF and the dash-boundary stand only where the LF and the dash-boundary's first byte do
 pub stands_pair : (dash_boundary rest : List ℕ) → 0 < length dash_boundary → stands (10 ∷ get_or dash_boundary 0 0 ∷ []) rest ≡ false → stands (10 ∷ dash_boundary) rest ≡ false
 stands_pair [] rest some h = absurd (omega arith)
 stands_pair (x ∷ dash_boundary) [] some h = refl
-stands_pair (x ∷ dash_boundary) (b ∷ []) some h = no_and (eqb 10 b)
+stands_pair (x ∷ dash_boundary) (b ∷ []) some h = and-false (eqb 10 b)
 stands_pair (x ∷ dash_boundary) (b ∷ c ∷ rest) some h = both_and (eqb 10 b) (eqb x c) (stands dash_boundary rest) h
 
 -- where the two bytes are found, both stand within the bytes
@@ -286,45 +264,43 @@ line_after-bounds bytes p next within e =
     let len = length-drop p bytes in
     (omega arith, omega arith)
 
--- the next part starts after this one does, within the bytes
-pub next_part-bounds : (dash_boundary bytes : List ℕ) (s next : ℕ) → next_part dash_boundary bytes s ≡ Some next → (s < next) × (next ≤ length bytes)
-next_part-bounds dash_boundary bytes s next e = by_delimiter (delimiter_from dash_boundary bytes s) refl e
+-- the next part starts on the line after a delimiter
+pub next_part-delimiter : (dash_boundary bytes : List ℕ) (s next : ℕ) → next_part dash_boundary bytes s ≡ Some next
+    → (p : ℕ) × (delimiter_from dash_boundary bytes s ≡ Some p) × (part_after dash_boundary bytes p ≡ Some next)
+next_part-delimiter dash_boundary bytes s next e = by_delimiter (delimiter_from dash_boundary bytes s) refl e
   where
-    clash : None ≡ Some next → ⊥
-    clash h = cc
-
-    by_last : (p : ℕ) → delimiter_from dash_boundary bytes s ≡ Some p → (t : Bool) → if t then None else part_after dash_boundary bytes p ≡ Some next → (s < next) × (next ≤ length bytes)
-    by_last p f true h = absurd (clash h)
-    by_last p f false h =
-        let least = delimiter_from-out dash_boundary bytes s p f in
-        let low = least.low in
-        let high = least.high in
-        let fits = is_delimiter-fits dash_boundary bytes s p (omega arith) least.passes in
-        let after = line_after-bounds bytes (p + length dash_boundary) next fits h in
-        (omega (arith, after.0), after.1)
+    by_last : (p : ℕ) → delimiter_from dash_boundary bytes s ≡ Some p → (t : Bool) → if t then None else part_after dash_boundary bytes p ≡ Some next
+        → (p : ℕ) × (delimiter_from dash_boundary bytes s ≡ Some p) × (part_after dash_boundary bytes p ≡ Some next)
+    by_last p f true h = absurd (cc)
+    by_last p f false h = (p, f, h)
 
     by_delimiter : (o : Option ℕ) → delimiter_from dash_boundary bytes s ≡ o → option_and_then (λ p. if is_close_delimiter dash_boundary bytes p then None else part_after dash_boundary bytes p) o ≡ Some next
-        → (s < next) × (next ≤ length bytes)
-    by_delimiter None f h = absurd (clash h)
+        → (p : ℕ) × (delimiter_from dash_boundary bytes s ≡ Some p) × (part_after dash_boundary bytes p ≡ Some next)
+    by_delimiter None f h = absurd (cc)
     by_delimiter (Some p) f h = by_last p f (is_close_delimiter dash_boundary bytes p) h
+
+-- after this one does, within the bytes
+pub next_part-bounds : (dash_boundary bytes : List ℕ) (s next : ℕ) → next_part dash_boundary bytes s ≡ Some next → (s < next) × (next ≤ length bytes)
+next_part-bounds dash_boundary bytes s next e =
+    let at = next_part-delimiter dash_boundary bytes s next e in
+    let least = delimiter_from-out dash_boundary bytes s at.0 at.1 in
+    let low = least.low in
+    let high = least.high in
+    let fits = is_delimiter-fits dash_boundary bytes s at.0 (omega arith) least.passes in
+    let after = line_after-bounds bytes (at.0 + length dash_boundary) next fits at.2 in
+    (omega (arith, after.0), after.1)
 
 part_start-more : (dash_boundary bytes : List ℕ) (s j : ℕ) → part_start dash_boundary bytes (Some s) (suc j) ≡ part_start dash_boundary bytes (next_part dash_boundary bytes s) j
 part_start-more dash_boundary bytes s zero = refl
 part_start-more dash_boundary bytes s (suc j) = ap (option_and_then (next_part dash_boundary bytes)) (part_start-more dash_boundary bytes s j)
 
 part_start-bounds : (dash_boundary bytes : List ℕ) (s j p : ℕ) → s ≤ length bytes → part_start dash_boundary bytes (Some s) j ≡ Some p → (s + j ≤ p) × (p ≤ length bytes)
-part_start-bounds dash_boundary bytes s zero p within e = let same = unwrap e in (omega arith, omega arith)
-  where
-    unwrap : Some s ≡ Some p → s ≡ p
-    unwrap h = cc
+part_start-bounds dash_boundary bytes s zero p within e = let here : Some s ≡ Some p = e in let same : s ≡ p = cc in (omega arith, omega arith)
 part_start-bounds dash_boundary bytes s (suc j) p within e = by_part (part_start dash_boundary bytes (Some s) j) refl (λ q. part_start-bounds dash_boundary bytes s j q within) e
   where
-    clash : None ≡ Some p → ⊥
-    clash h = cc
-
     by_part : (o : Option ℕ) → part_start dash_boundary bytes (Some s) j ≡ o → ((q : ℕ) → part_start dash_boundary bytes (Some s) j ≡ Some q → (s + j ≤ q) × (q ≤ length bytes))
         → option_and_then (next_part dash_boundary bytes) o ≡ Some p → (s + suc j ≤ p) × (p ≤ length bytes)
-    by_part None f ih h = absurd (clash h)
+    by_part None f ih h = let clash : None ≡ Some p = h in absurd (cc)
     by_part (Some q) f ih h =
         let before = (ih q f).0 in
         let more = next_part-bounds dash_boundary bytes q p h in

@@ -1,6 +1,6 @@
 -- Extended values: keys that end in a star, and their names.
-use Rattle.std.proofs.Common.{◌≡◌, ◌≢◌, ℕ, ◌-◌, Bool, true, false, not, cond, List, [], ◌∷◌, ◌++◌, length, map, take, drop, Option, Some, None, String, string_bytes, is_some, option_map, refl, sym, ap, ◌∙◌, arith}
-use Rattle.std.proofs.lemmas.Bool.{and_from, and_left, and_right, cond-true, cond-false}
+use Rattle.std.proofs.Common.{cond, ◌≡◌, ◌≢◌, ℕ, ◌-◌, Bool, true, false, not, List, [], ◌∷◌, ◌++◌, length, map, take, drop, Option, Some, None, String, string_bytes, is_some, option_map, refl, sym, ap, ◌∙◌, arith}
+use Rattle.std.proofs.lemmas.Bool.{false_from_ne_true, true_from_ne_false, and_from, and_left, and_right, cond-true, cond-false}
 use Rattle.std.proofs.lemmas.List.{append-nil, drop_all, flat_map_more, map_push, take-append-drop}
 use Rattle.std.proofs.lemmas.Slice.Eq.{bytes_eq-Decides}
 use Rattle.std.specs.Borrow.{Bor}
@@ -23,6 +23,10 @@ pub is_some_map : {A B : Type 0} (f : A → B) (o : Option A) → is_some (optio
 is_some_map f None = refl
 is_some_map f (Some x) = refl
 
+pub is_some_where : {A : Type 0} (b : Bool) (x : A) → is_some (cond b (Some x) None) ≡ b
+is_some_where true x = refl
+is_some_where false x = refl
+
 pub same_bytes : (xs ys : List ℕ) → xs ≡ ys → bytes_eq xs ys ≡ true
 same_bytes xs ys e = (bytes_eq-Decides xs ys).1 e
 
@@ -32,11 +36,7 @@ equal_bytes xs ys e = (bytes_eq-Decides xs ys).0 e
 -- ---- the star of a key
 
 pub star_none : (key : List ℕ) → ((front : List ℕ) → key ≢ front ++ 42 ∷ []) → star_taken key ≡ None
-star_none key h = go (is_starred key) refl
-  where
-    go : (b : Bool) → is_starred key ≡ b → cond (is_starred key) (Some (name_under key)) None ≡ None
-    go false is = cond-false _ _ _ is
-    go true is = absurd (h (name_under key) (equal_bytes _ _ is))
+star_none key h = cond-false _ _ _ (false_from_ne_true _ (λ is. h (name_under key) (equal_bytes _ _ is)))
 
 pub star_some : (key name : List ℕ) (n : ℕ) → n ≡ 1 → name ≡ take (length key - n) key → drop (length key - n) key ≡ 42 ∷ drop (length key) key
     → star_taken key ≡ Some name
@@ -56,18 +56,13 @@ star_cases key None h = sym (star_none key h)
 star_cases key (Some x) h = sym (star_some key x.now h.0 h.1.0 h.2 h.1.1.split)
 
 taken_some : (key name : List ℕ) → star_taken key ≡ Some name → (is_starred key ≡ true) × (name_under key ≡ name)
-taken_some key name h = go (is_starred key) refl
-  where
-    go : (b : Bool) → is_starred key ≡ b → (is_starred key ≡ true) × (name_under key ≡ name)
-    go true is = let same : Some (name_under key) ≡ Some name = sym (cond-true _ _ _ is) ∙ h in (is, cc)
-    go false is = let same : None ≡ Some name = sym (cond-false _ _ _ is) ∙ h in absurd (cc)
+taken_some key name h =
+    let is = true_from_ne_false (is_starred key) (λ e. let same : None ≡ Some name = sym (cond-false _ _ _ e) ∙ h in cc) in
+    let same : Some (name_under key) ≡ Some name = sym (cond-true _ _ _ is) ∙ h in
+    (is, cc)
 
 taken_none : (key : List ℕ) → star_taken key ≡ None → is_starred key ≡ false
-taken_none key h = go (is_starred key) refl
-  where
-    go : (b : Bool) → is_starred key ≡ b → is_starred key ≡ false
-    go false is = is
-    go true is = let same : Some (name_under key) ≡ None = sym (cond-true _ _ _ is) ∙ h in absurd (cc)
+taken_none key h = false_from_ne_true _ (λ is. let same : Some (name_under key) ≡ None = sym (cond-true _ _ _ is) ∙ h in cc)
 
 -- ---- the extended names, as a walk over the entries finds them
 

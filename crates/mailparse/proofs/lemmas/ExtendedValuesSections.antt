@@ -1,12 +1,13 @@
 -- How the values of the extended names are read.
 use Rattle.std.proofs.Common.{◌≡◌, ℕ, ◌+◌, ◌<◌, ◌≤◌, Bool, true, false, not, ◌&&◌, ◌||◌, cond, eqb, List, [], ◌∷◌, ◌++◌, length, take, get_or, map, Option, Some, None, is_some, option_map, refl, sym, ap, subst, ◌∙◌, arith, ⊎_elim}
 use Rattle.std.proofs.Math.ListN.{get_or-map}
-use Rattle.std.proofs.lemmas.Bool.{and_from, and_right, cases_order, cond-false, cond-true, eq-eqb, ne_eqb}
-use Rattle.std.proofs.lemmas.List.{get_or_default, length-map, take_all}
+use Rattle.std.proofs.Math.Bool.{and-or_distrib_right, or-and_distrib_right, or-false}
+use Rattle.std.proofs.lemmas.Bool.{and_parts, false≢true, or_right, and_from, and_right, cases_order, cond-false, cond-true, eq-eqb, false_from_ne_true, ne_eqb}
+use Rattle.std.proofs.lemmas.List.{map-id, get_or_default, length-map, take_all}
+use Rattle.std.proofs.lemmas.Simd.{map-map}
 use Rattle.std.proofs.lemmas.List.Folds.{list_any_at, list_any_more}
 use Rattle.std.specs.List.{All}
 use Rattle.std.specs.Option.{unwrap_or}
-use Rattle.std.specs.String.{string_bytes}
 use Rattle.std.specs.Str.{bytes_eq}
 use Rattle.mail_codec.specs.Charset.{Charsets}
 use Rattle.mailparse.specs.Sections as words
@@ -17,26 +18,18 @@ use Rattle.mailparse.specs.private.CharsetSources.{AreInOrder, source_place, nam
 use Rattle.mailparse.specs.private.Filled.{holds_name}
 use Rattle.mailparse.specs.declared.parameters.extended_values.Reading.{Reading}
 use Rattle.mailparse.specs.declared.parameters.extended_values.names.ExtendedName.{ExtendedName}
-use Rattle.mailparse.proofs.lemmas.Filled.{holds_push, or_false, or_true}
+use Rattle.mailparse.proofs.lemmas.Filled.{holds_push}
 use Rattle.mailparse.proofs.lemmas.CharsetSources.{source_place_within, charset_source_at, is_before, not_itself}
 use Rattle.mailparse.proofs.lemmas.ExtendedValues.{equal_bytes, is_some_map, same_bytes}
 use Rattle.mailparse.proofs.lemmas.ExtendedValuesNames.{AreExtended, IsFound, IsMapOf, are_extended, at_in, in_found}
 use Rattle.percent_encoding.specs.Percent.{percent_decode}
-
-map_twice : {A B C : Type 0} (f : B → C) (g : A → B) (xs : List A) → map f (map g xs) ≡ map (λ x. f (g x)) xs
-map_twice f g [] = refl
-map_twice f g (x ∷ xs) = ap (λ r. f (g x) ∷ r) (map_twice f g xs)
-
-option_twice : {A B C : Type 0} (f : B → C) (g : A → B) (o : Option A) → option_map f (option_map g o) ≡ option_map (λ x. f (g x)) o
-option_twice f g None = refl
-option_twice f g (Some x) = refl
 
 -- Under the charsets that are known.
 module _ (known : Charsets) where
   -- the names that were found
   pub names_found : {C : Type 0} (reads : C → List ℕ → List ℕ) (keys : Texts) (entries : List (List ℕ × List ℕ)) (extended : List (ExtendedName C)) → map (extended_view reads) extended ≡ extended_entries known keys entries
       → names_of extended ≡ map (λ (w : Found). w.0) (extended_entries known keys entries)
-  names_found reads keys entries extended found = sym (map_twice (λ (w : Found). w.0) (extended_view reads) extended) ∙ ap (map (λ (w : Found). w.0)) found
+  names_found reads keys entries extended found = sym (map-map (λ (w : Found). w.0) (extended_view reads) extended) ∙ ap (map (λ (w : Found). w.0)) found
 
   pub extended_found : {C : Type 0} (reads : C → List ℕ → List ℕ) (keys : Texts) (entries : List (List ℕ × List ℕ)) (extended : List (ExtendedName C)) → IsMapOf keys entries → map (extended_view reads) extended ≡ extended_entries known keys entries
       → AreExtended keys (names_of extended)
@@ -53,23 +46,19 @@ module _ (known : Charsets) where
 
 name_by_place : {C : Type 0} (reads : C → List ℕ → List ℕ) (extended : List (ExtendedName C)) (place : ℕ) → (found_by_place (map (extended_view reads) extended) place).0 ≡ name_at (names_of extended) place
 name_by_place reads extended place =
-    sym (get_or-map (λ (w : Found). w.0) (map (extended_view reads) extended) place ([], [], None)) ∙ ap (λ ns. name_at ns place) (map_twice (λ (w : Found). w.0) (extended_view reads) extended)
+    sym (get_or-map (λ (w : Found). w.0) (map (extended_view reads) extended) place ([], [], None)) ∙ ap (λ ns. name_at ns place) (map-map (λ (w : Found). w.0) (extended_view reads) extended)
 
 -- names at different places differ
 apart : (names : List (List ℕ)) → AreInOrder names → (i j : ℕ) → i < length names → j < length names → bytes_eq (name_at names i) (name_at names j) ≡ eqb i j
 apart names order i j below within =
     ⊎_elim (λ same. same_bytes _ _ (ap (name_at names) same) ∙ sym (eq-eqb i j same))
-    (λ other. go (bytes_eq (name_at names i) (name_at names j)) refl
+    (λ other. false_from_ne_true _
     (λ e. ⊎_elim (λ lt. clash (name_at names i) (name_at names j) (equal_bytes _ _ e) (order i j lt within)) (λ gt. clash (name_at names j) (name_at names i) (sym (equal_bytes _ _ e)) (order j i gt below)) other)
     ∙ sym (ne_eqb i j (λ e. ⊎_elim (λ lt. absurd (omega arith)) (λ gt. absurd (omega arith)) other)))
     (cases_order i j)
   where
     clash : (x y : List ℕ) → x ≡ y → is_before x y ≡ true → ⊥
     clash x y e h = let no : false ≡ true = sym (not_itself y) ∙ sym (ap (λ z. is_before z y) e) ∙ h in cc
-
-    go : (b : Bool) → bytes_eq (name_at names i) (name_at names j) ≡ b → (bytes_eq (name_at names i) (name_at names j) ≡ true → ⊥) → bytes_eq (name_at names i) (name_at names j) ≡ false
-    go false is h = is
-    go true is h = absurd (h is)
 
 -- Under the charsets that are known.
 module _ (known : Charsets) where
@@ -197,34 +186,22 @@ pub names_more : (names : List (List ℕ)) (known : List ℕ → Bool) (place : 
     → holds_name (found ++ name ∷ []) q ≡ (holds_name (take (place + 1) names) q && known q)
 names_more names known place found name q below is known_here before =
     holds_push found name q ∙ ap (λ b. b || bytes_eq name q) before
-    ∙ go (bytes_eq name q) refl
+    ∙ or-and_distrib_right (holds_name (take place names) q) (known q) (bytes_eq name q) ∙ ap (λ k. (holds_name (take place names) q || bytes_eq name q) && k) (stays (bytes_eq name q) refl)
     ∙ ap (λ b. b && known q) (sym (list_any_more (λ n. bytes_eq n q) names place [] below ∙ ap (λ n. holds_name (take place names) q || bytes_eq n q) (sym is)))
   where
-    both : (h k : Bool) → k ≡ true → ((h && k) || true) ≡ ((h || true) && k)
-    both true k e = or_true (true && k) ∙ sym e
-    both false k e = sym e
-
-    go : (b : Bool) → bytes_eq name q ≡ b → ((holds_name (take place names) q && known q) || bytes_eq name q) ≡ ((holds_name (take place names) q || bytes_eq name q) && known q)
-    go true e =
-        ap (λ b. (holds_name (take place names) q && known q) || b) e
-        ∙ both (holds_name (take place names) q) (known q) (ap known (sym (equal_bytes name q e) ∙ is) ∙ known_here)
-        ∙ ap (λ b. (holds_name (take place names) q || b) && known q) (sym e)
-    go false e =
-        ap (λ b. (holds_name (take place names) q && known q) || b) e ∙ or_false (holds_name (take place names) q && known q)
-        ∙ ap (λ b. b && known q) (sym (ap (λ b. holds_name (take place names) q || b) e ∙ or_false (holds_name (take place names) q)))
+    stays : (b : Bool) → bytes_eq name q ≡ b → (known q || bytes_eq name q) ≡ known q
+    stays true e = or_right _ _ e ∙ sym (ap known (sym (equal_bytes name q e) ∙ is) ∙ known_here)
+    stays false e = ap (λ b. known q || b) e ∙ or-false (known q)
 
 pub names_passed : (names : List (List ℕ)) (known : List ℕ → Bool) (place : ℕ) (found : List (List ℕ)) (q : List ℕ) → place < length names
     → known (name_at names place) ≡ false → holds_name found q ≡ (holds_name (take place names) q && known q)
     → holds_name found q ≡ (holds_name (take (place + 1) names) q && known q)
 names_passed names known place found q below unknown before =
-    before ∙ go (bytes_eq (name_at names place) q) refl
+    let held = holds_name (take place names) q in
+    let here = bytes_eq (name_at names place) q in
+    let apart : (here && known q) ≡ false = false_from_ne_true _ (λ both. let parts = and_parts _ _ both in false≢true (sym unknown ∙ ap known (equal_bytes _ _ parts.0) ∙ parts.1)) in
+    before ∙ sym (and-or_distrib_right held here (known q) ∙ ap (λ b. (held && known q) || b) apart ∙ or-false (held && known q))
     ∙ ap (λ b. b && known q) (sym (list_any_more (λ n. bytes_eq n q) names place [] below))
-  where
-    go : (b : Bool) → bytes_eq (name_at names place) q ≡ b → (holds_name (take place names) q && known q) ≡ ((holds_name (take place names) q || bytes_eq (name_at names place) q) && known q)
-    go true e =
-        let not_known : known q ≡ false = ap known (sym (equal_bytes (name_at names place) q e)) ∙ unknown in
-        and_right _ _ not_known ∙ sym (and_right _ _ not_known)
-    go false e = ap (λ b. b && known q) (sym (ap (λ b. holds_name (take place names) q || b) e ∙ or_false (holds_name (take place names) q)))
 
 -- the place of the charset source, as it was read
 pub place_read : {C : Type 0} (extended slice : List (ExtendedName C)) (items : List ℕ) (place at : ℕ) → slice ≡ extended → AreInOrder (names_of extended) → length items ≡ length slice
@@ -276,5 +253,4 @@ module _ (known : Charsets) where
       subst (IsReading known keys) (get_or-map (reading_view reads) items k r ∙ ap (reading_view reads) (sym is)) (all k (reading_view reads r) (omega (arith, below, long)))
 
 pub names_of_all : {C : Type 0} (taken items : List (Reading C)) → map (λ r. r) taken ≡ items → names_read taken ≡ names_read items
-names_of_all [] items h = ap names_read h
-names_of_all (r ∷ taken) items h = ap (λ ns. string_bytes r.name ∷ ns) (names_of_all taken (map (λ x. x) taken) refl) ∙ ap names_read h
+names_of_all taken items h = ap names_read (sym (map-id taken) ∙ h)

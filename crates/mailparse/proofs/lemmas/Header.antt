@@ -1,7 +1,7 @@
 -- Lemmas on the places of one header, for the searches that find them.
 use Rattle.std.proofs.Common.{◌≡◌, ℕ, suc, ◌+◌, ◌-◌, ◌<◌, ◌≤◌, Bool, true, false, ◌&&◌, ◌||◌, not, cond, eqb, min, Some, None, List, [], ◌∷◌, ◌++◌, length, take, drop, get_or, Ok, Err, refl, sym, ap, subst, ◌∙◌, inl, inr, ⊎_elim, arith, ne_eqb, add-one, slice_range, append_assoc, length-append, length-drop, length-take}
 use Rattle.std.specs.List.{list_all}
-use Rattle.std.proofs.lemmas.Bool.{cases_lt, eqb-true}
+use Rattle.std.proofs.lemmas.Bool.{and_parts, cases_lt, eqb-true, false≢true}
 use Rattle.std.proofs.lemmas.List.{drop_more, drop-take, drop-drop, take-take, get_or-take}
 use Rattle.std.proofs.Math.ListN.{drop_of_length-le}
 use Rattle.std.proofs.Math.Seq.{take-append_seam}
@@ -117,11 +117,7 @@ header_length-at raw end at = ap (λ n. min (suc n) (length raw)) at
 
 pub ends_header_is_feed : (rest : List ℕ) → ends_header rest ≡ true → begins is_line_feed rest ≡ true
 ends_header_is_feed [] h = h
-ends_header_is_feed (b ∷ rest) h = go (eqb b 10) h
-  where
-    go : (t : Bool) → (t && not (begins is_blank rest)) ≡ true → t ≡ true
-    go true h = refl
-    go false h = h
+ends_header_is_feed (b ∷ rest) h = (and_parts _ _ h).0
 
 -- whether a colon ends the key
 pub has_colon-at : (raw : List ℕ) (place : ℕ) (found t : Bool) → place ≡ key_end raw → found ≡ begins is_colon (drop place raw) → found ≡ t → has_colon raw ≡ t
@@ -190,10 +186,8 @@ unfolding key_end
 key_end-≤ raw = first_place-≤ (begins ends_key) raw
 
 begins-within : (test : ℕ → Bool) (raw : List ℕ) (i : ℕ) → begins test (drop i raw) ≡ true → i < length raw
-begins-within test raw i e = elim (cases_lt i (length raw)) [ inl below ↦ below | inr above ↦ absurd (nothing (drop_of_length-le raw above)) ]
-  where
-    nothing : drop i raw ≡ [] → ⊥
-    nothing none = let f : false ≡ true = subst (λ (xs : List ℕ). begins test xs ≡ true) none e in cc
+begins-within test raw i e =
+    elim (cases_lt i (length raw)) [ inl below ↦ below | inr above ↦ absurd (false≢true (subst (λ (xs : List ℕ). begins test xs ≡ true) (drop_of_length-le raw above) e)) ]
 
 -- a colon that ends the key stands within the bytes
 pub key_end-< : (raw : List ℕ) → has_colon raw ≡ true → key_end raw < length raw

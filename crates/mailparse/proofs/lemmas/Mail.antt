@@ -9,7 +9,7 @@ use Rattle.mailparse.specs.Block.{HeaderList, read_headers}
 use Rattle.mailparse.specs.ContentType.{ContentType, content_type_in}
 use Rattle.mailparse.specs.Ranges.{Range, slice}
 use Rattle.mailparse.specs.Delimiters.{first_part, next_part, end_from, Cut, cut_parts}
-use Rattle.mailparse.specs.Mail.{Node, Tree, tree, Forest, no_parts, part_and, forest, is_digest, dash_boundary_of, cut_of, node_with, read_each, read_parts, node_type, read_levels, part_type, trees_within, trees_in}
+use Rattle.mailparse.specs.Mail.{Tree, tree, Forest, no_parts, part_and, forest, is_digest, dash_boundary_of, cut_of, node_with, read_each, read_parts, node_type, read_levels, part_type, trees_within, trees_in}
 use Rattle.mailparse.specs.private.Delimiters.{IsFeedAndDashBoundary}
 use Rattle.mailparse.proofs.lemmas.Refusal.{read_map}
 use Rattle.std.specs.Option.{option_map_or}
@@ -23,9 +23,6 @@ use Rattle.mailparse.proofs.lemmas.Delimiters.{part_ranges-none, part_ranges-som
 
 -- ---- the type of a message
 
-unwrapped : (a b : List ℕ) → ◌≡◌ {A = Result (List ℕ) Refusal} (Ok a) (Ok b) → a ≡ b
-unwrapped a b e = cc
-
 -- Under the charsets that are known.
 module _ (known : Charsets) where
   -- the type of a message whose first `Content-Type` has that text
@@ -33,7 +30,8 @@ module _ (known : Charsets) where
       → ◌≡◌ {A = Result (List ℕ) Refusal} (Ok (lenient_value_in known h.value)) (Ok text) → content_type_in known text ≡ node_type known in_digest headers
   unfolding node_type
   node_type-some in_digest headers h text first e =
-      ap (content_type_in known) (sym (unwrapped _ _ e))
+      let same : lenient_value_in known h.value ≡ text = cc in
+      ap (content_type_in known) (sym same)
       ∙ ap (λ o. option_map_or (λ (x : Header). content_type_in known (lenient_value_in known x.value)) o (part_type in_digest)) first
 
   -- the type of a message that has none
@@ -165,9 +163,6 @@ module _ (known : Charsets) where
     cut_at : (dash_boundary : List ℕ) → dash_boundary_of ctype ≡ Some dash_boundary → cut_of ctype raw index ≡ cut_parts dash_boundary raw index
     cut_at dash_boundary e = rw e refl
 
-    node : List ℕ → Node
-    node dash_boundary = record { bytes = raw; block = take index raw; headers = headers; ctype = ctype; body = slice_range raw index (end_from dash_boundary raw index index) }
-
     -- one that may have parts
     pub read_levels-parts : (dash_boundary : List ℕ) → 0 < levels → read_headers raw ≡ Ok (record { headers = headers; index = index })
         → node_type known in_digest headers ≡ ctype → dash_boundary_of ctype ≡ Some dash_boundary
@@ -183,38 +178,27 @@ module _ (known : Charsets) where
 -- ---- the dash-boundary of a type, and the LF before it
 
 pub feed_and_dash_boundary_some : (feed_and_dash_boundary : List ℕ) (o : Option (List ℕ)) → Some feed_and_dash_boundary ≡ option_map (λ dash_boundary. 10 ∷ dash_boundary) o → (o ≡ Some (drop 1 feed_and_dash_boundary)) × (feed_and_dash_boundary ≡ 10 ∷ drop 1 feed_and_dash_boundary)
-feed_and_dash_boundary_some feed_and_dash_boundary None e = absurd (clash e)
-  where
-    clash : Some feed_and_dash_boundary ≡ None → ⊥
-    clash h = cc
+feed_and_dash_boundary_some feed_and_dash_boundary None e = let clash : Some feed_and_dash_boundary ≡ None = e in absurd (cc)
 feed_and_dash_boundary_some feed_and_dash_boundary (Some dash_boundary) e =
-    let same = unwrap e in
+    let here : Some feed_and_dash_boundary ≡ Some (10 ∷ dash_boundary) = e in
+    let same : feed_and_dash_boundary ≡ 10 ∷ dash_boundary = cc in
     (ap (λ (l : List ℕ). Some (drop 1 l)) (sym same), same ∙ ap (λ (l : List ℕ). 10 ∷ drop 1 l) (sym same))
-  where
-    unwrap : Some feed_and_dash_boundary ≡ Some (10 ∷ dash_boundary) → feed_and_dash_boundary ≡ 10 ∷ dash_boundary
-    unwrap h = cc
 
 pub feed_and_dash_boundary_none : (o : Option (List ℕ)) → None ≡ option_map (λ dash_boundary. 10 ∷ dash_boundary) o → o ≡ None
 feed_and_dash_boundary_none None e = refl
-feed_and_dash_boundary_none (Some dash_boundary) e = absurd (clash e)
-  where
-    clash : None ≡ Some (10 ∷ dash_boundary) → ⊥
-    clash h = cc
+feed_and_dash_boundary_none (Some dash_boundary) e = let clash : None ≡ Some (10 ∷ dash_boundary) = e in absurd (cc)
 
 -- a dash-boundary has at least the two bytes in front of the boundary
 pub dash_boundary_of-length : (ctype : ContentType) (dash_boundary : List ℕ) → dash_boundary_of ctype ≡ Some dash_boundary → 2 ≤ length dash_boundary
 dash_boundary_of-length ctype dash_boundary e = by_tests (stands (codes "multipart") ctype.mimetype) (ctype.params (codes "boundary")) e
   where
-    clash : None ≡ Some dash_boundary → ⊥
-    clash h = cc
-
-    unwrap : (b : List ℕ) → Some (codes "--" ++ b) ≡ Some dash_boundary → codes "--" ++ b ≡ dash_boundary
-    unwrap b h = cc
-
     by_tests : (t : Bool) (o : Option (List ℕ)) → if t then option_map (λ b. codes "--" ++ b) o else None ≡ Some dash_boundary → 2 ≤ length dash_boundary
-    by_tests false o h = absurd (clash h)
-    by_tests true None h = absurd (clash h)
-    by_tests true (Some b) h = subst (λ (x : List ℕ). 2 ≤ length x) (unwrap b h) (omega arith)
+    by_tests false o h = let clash : None ≡ Some dash_boundary = h in absurd (cc)
+    by_tests true None h = let clash : None ≡ Some dash_boundary = h in absurd (cc)
+    by_tests true (Some b) h =
+        let here : Some (codes "--" ++ b) ≡ Some dash_boundary = h in
+        let same : codes "--" ++ b ≡ dash_boundary = cc in
+        subst (λ (x : List ℕ). 2 ≤ length x) same (omega arith)
 
 pub IsFeedAndDashBoundary-of : (feed_and_dash_boundary : List ℕ) (ctype : ContentType) → Some feed_and_dash_boundary ≡ option_map (λ dash_boundary. 10 ∷ dash_boundary) (dash_boundary_of ctype) → IsFeedAndDashBoundary feed_and_dash_boundary
 IsFeedAndDashBoundary-of feed_and_dash_boundary ctype e =

@@ -2,7 +2,7 @@
 use Rattle.std.proofs.Common.{◌≡◌, ◌↔◌, ℕ, suc, ◌+◌, ◌/◌, ◌<◌, ◌≤◌, Bool, true, false, cond, ltb, ◌&&◌, eqb, List, [], ◌∷◌, ◌++◌, length, map, drop, get_or, refl, sym, ap, subst, ◌∙◌, ⊎_elim, arith}
 use Rattle.std.specs.Char.{eq_ignore_ascii_case, to_ascii_lowercase}
 use Rattle.std.specs.Str.{IsAscii, IsUtf8, bytes_eq, chars, encode_utf8_all, str_eq_ignore_ascii_case}
-use Rattle.std.proofs.lemmas.Bool.{cond-true, cond-false, lt-ltb, le-ltb, cases_lt, and_parts, and_from, false≢true}
+use Rattle.std.proofs.lemmas.Bool.{cond-true, cond-false, lt-ltb, le-ltb, cases_lt, and_parts, and_from, false_from_ne_true, false≢true}
 use Rattle.std.proofs.lemmas.Str.{chars-IsAscii, chars-encodes, encodes-chars, encode_ascii, scalars-chars}
 use lib.Utf8.{encode, next, scalar, scalars}
 use Rattle.mail_codec.specs.Latin1.{latin1_text}
@@ -100,13 +100,8 @@ encodes_same xs ys h i = go (bytes_eq xs ys) refl
   where
     go : (t : Bool) → bytes_eq xs ys ≡ t → bytes_eq (encode_utf8_all xs) (encode_utf8_all ys) ≡ t
     go true e = (bytes_decides (encode_utf8_all xs) (encode_utf8_all ys)).1 (ap encode_utf8_all ((bytes_decides xs ys).0 e))
-    go false e = other (bytes_eq (encode_utf8_all xs) (encode_utf8_all ys)) refl
-      where
-        other : (u : Bool) → bytes_eq (encode_utf8_all xs) (encode_utf8_all ys) ≡ u → bytes_eq (encode_utf8_all xs) (encode_utf8_all ys) ≡ false
-        other false f = f
-        other true f =
-            let same : xs ≡ ys = sym (chars-encodes xs h) ∙ ap chars ((bytes_decides (encode_utf8_all xs) (encode_utf8_all ys)).0 f) ∙ chars-encodes ys i in
-            absurd (false≢true (sym e ∙ (bytes_decides xs ys).1 same))
+    go false e = false_from_ne_true _ (λ f.
+        false≢true (sym e ∙ (bytes_decides xs ys).1 (sym (chars-encodes xs h) ∙ ap chars ((bytes_decides (encode_utf8_all xs) (encode_utf8_all ys)).0 f) ∙ chars-encodes ys i)))
 
 low_scalar : (c : ℕ) → scalar c ≡ true → scalar (low c) ≡ true
 low_scalar c h = ⊎_elim (λ i. cond-true _ _ _ (lt-ltb (low c) 55296 (let small = low_below c i in omega arith))) (λ i. ap scalar (low_past c (omega arith)) ∙ h) (cases_lt c 128)

@@ -1,12 +1,12 @@
 -- Lists of message ids, as they are written and read.
-use Rattle.std.proofs.Common.{◌≡◌, ◌≢◌, ℕ, suc, ◌+◌, ◌<◌, Bool, true, false, cond, not, ◌&&◌, ◌||◌, eqb, List, [], ◌∷◌, ◌++◌, length, map, take, drop, get_or, Option, Some, None, Ok, Err, refl, sym, ap, ◌∙◌, arith, append_assoc, length-drop, lit<}
+use Rattle.std.proofs.Common.{◌≡◌, ◌≢◌, ℕ, ◌+◌, ◌<◌, true, false, cond, ◌&&◌, eqb, List, [], ◌∷◌, ◌++◌, length, map, take, drop, get_or, Option, Some, None, Ok, Err, refl, sym, ap, ◌∙◌, arith, append_assoc, length-drop, lit<}
 use Rattle.std.proofs.lemmas.List.{length-map, length-take, map_push, take_more}
 use Rattle.std.proofs.lemmas.Str.{encode_ascii}
 use Rattle.std.proofs.lemmas.Grind.{get_or_after_one}
 use Rattle.std.specs.Prelude.{String, bytes_eq, string_bytes, string_eq}
 use Rattle.std.specs.Cmp.Lexicographic.{pointwise}
 use Rattle.std.specs.Global.{Global}
-use Rattle.std.specs.List.{join_with_byte, list_any, slice_split, onto_first, position_or_len, before_first, after_first}
+use Rattle.std.specs.List.{join_with_byte, list_any, slice_split, position_or_len, before_first, after_first}
 use Rattle.mailparse.specs.MessageIds.{begins_with_id, id_not_opened, id_of_piece, ids_at_end, ids_of_pieces, is_closing, message_ids, opens_id, with_id, written_id, written_ids}
 use Rattle.mailparse.specs.Refusal.{◌>>=◌, Reads}
 use Rattle.mailparse.specs.private.MessageIds.{IsCutAtClosing, IsNextId, IsOpenedId}
@@ -15,7 +15,9 @@ use Rattle.std.specs.Option.{MatchOption}
 use Rattle.std.specs.Char.{encode_utf8}
 use Rattle.std.specs.Str.{trim_start}
 use Rattle.std.specs.Str.Pattern.{FindsCharPrefix, StripsPrefix}
-use Rattle.std.proofs.lemmas.Bool.{lt-ltb, le-ltb, eqb-true}
+use Rattle.std.proofs.lemmas.List.Folds.{list_any_at}
+use Rattle.std.proofs.lemmas.List.Splits.{slice_split_first, slice_split_none}
+use Rattle.std.proofs.lemmas.Bool.{false_from_ne_true, false≢true, ne_eqb, lt-ltb, le-ltb}
 use Rattle.mail_codec.specs.Places.{stands}
 use Rattle.mailparse.proofs.lemmas.EncodedWord.{any_from_place, join_next, split_some}
 
@@ -48,33 +50,7 @@ written_ids-next all others x i rest lt at =
 
 -- without a `>`
 pub split_none : (bytes : List ℕ) → list_any is_closing bytes ≡ false → slice_split is_closing bytes ≡ bytes ∷ []
-split_none [] h = refl
-split_none (b ∷ bytes) h = go (split_none bytes) (is_closing b) h
-  where
-    go : (list_any is_closing bytes ≡ false → slice_split is_closing bytes ≡ bytes ∷ []) → (t : Bool) → t || list_any is_closing bytes ≡ false
-        → cond t ([] ∷ slice_split is_closing bytes) (onto_first b (slice_split is_closing bytes)) ≡ (b ∷ bytes) ∷ []
-    go later true h = absurd (cc)
-    go later false h = ap (onto_first b) (later h)
-
--- at the first `>`
-pub split_first : (bytes : List ℕ) → list_any is_closing bytes ≡ true
-    → slice_split is_closing bytes ≡ before_first is_closing bytes ∷ slice_split is_closing (after_first is_closing bytes)
-split_first [] h = absurd (cc)
-split_first (b ∷ bytes) h = go (split_first bytes) (is_closing b) h
-  where
-    m : ℕ
-    m = position_or_len is_closing bytes
-
-    go : (list_any is_closing bytes ≡ true → slice_split is_closing bytes ≡ before_first is_closing bytes ∷ slice_split is_closing (after_first is_closing bytes))
-        → (t : Bool) → t || list_any is_closing bytes ≡ true
-        → cond t ([] ∷ slice_split is_closing bytes) (onto_first b (slice_split is_closing bytes))
-        ≡ take (cond (not t) (1 + m) 0) (b ∷ bytes) ∷ slice_split is_closing (drop (cond (not t) (1 + m) 0 + 1) (b ∷ bytes))
-    go later true h = refl
-    go later false h =
-        let taken : take (1 + m) (b ∷ bytes) ≡ b ∷ take m bytes = let e : 1 + m ≡ suc m = omega arith in rw e refl in
-        let dropped : drop (1 + m + 1) (b ∷ bytes) ≡ drop (m + 1) bytes = let e : 1 + m + 1 ≡ suc (m + 1) = omega arith in rw e refl in
-        ap (onto_first b) (later h) ∙ ap (λ front. front ∷ slice_split is_closing (drop (m + 1) bytes)) (sym taken)
-        ∙ ap (λ rest. take (1 + m) (b ∷ bytes) ∷ slice_split is_closing rest) (sym dropped)
+split_none bytes h = slice_split_none is_closing bytes (λ k d lt. false_from_ne_true _ (λ e. false≢true (sym h ∙ list_any_at is_closing bytes k d lt e)))
 
 -- what `split_once` at a `>` says
 pub cut_from_closing : (bytes : List ℕ) (r : Option (Bor (List ℕ) × Bor (List ℕ)))
@@ -87,7 +63,7 @@ cut_from_closing bytes (Some x) h =
     record {
       closed = closed;
       before = h.1;
-      pieces = split_first bytes closed ∙ ap (λ piece. piece ∷ slice_split is_closing (after_first is_closing bytes)) (sym h.1)
+      pieces = slice_split_first is_closing bytes 0 h.0 ∙ ap (λ piece. piece ∷ slice_split is_closing (after_first is_closing bytes)) (sym h.1)
           ∙ ap (λ rest. x.0.now ∷ slice_split is_closing rest) (sym h.2);
       shorter = omega (arith, h.0, ap length h.2, length-drop (position_or_len is_closing bytes + 1) bytes);
     }
@@ -132,11 +108,7 @@ opens_from_strip piece text None e h = ap (stands (60 ∷ [])) (sym e) ∙ go te
   where
     go : (text : List ℕ) → ((rest : List ℕ) → text ≢ encode_utf8 60 ++ rest) → stands (60 ∷ []) text ≡ false
     go [] h = refl
-    go (b ∷ text) h = at (eqb 60 b) refl
-      where
-        at : (t : Bool) → eqb 60 b ≡ t → eqb 60 b && true ≡ false
-        at true p = absurd (h text (ap (λ c. c ∷ text) (sym (eqb-true _ _ p)) ∙ ap (λ r. r ++ text) (sym (encode_ascii 60 (lit< tt)))))
-        at false p = rw p refl
+    go (b ∷ text) h = ap (λ t. t && true) (ne_eqb 60 b (λ p. h text (ap (λ c. c ∷ text) (sym p) ∙ ap (λ r. r ++ text) (sym (encode_ascii 60 (lit< tt))))))
 opens_from_strip piece text (Some x) e h =
     let n = h.0 in
     let front : text ≡ 60 ∷ drop n text = h.1.split ∙ ap (λ r. r ++ drop n text) (encode_ascii 60 (lit< tt)) in

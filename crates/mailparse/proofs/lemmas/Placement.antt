@@ -10,10 +10,8 @@ use Rattle.mailparse.specs.Delimiters.{Cut, cut_parts, end_from, first_part, nex
 use Rattle.mailparse.specs.Mail.{Tree, tree, Forest, no_parts, part_and, forest, cut_of, dash_boundary_of}
 use Rattle.mailparse.specs.Placement.{Placement, placements, placements_in}
 use Rattle.mailparse.specs.Ranges.{Range, moved}
-use Rattle.mailparse.specs.Views.{placement_of, placements_of, placements_step, tree_of}
+use Rattle.mailparse.specs.Views.{placements_of, tree_of}
 use Rattle.mailparse.specs.declared.mail.message.ParsedMail.{ParsedMail}
-use Rattle.mailparse.specs.declared.mail.message.ParsedMail.TheFolds.{fold_out-ParsedMail}
-use Rattle.mailparse.specs.declared.mail.message.ParsedMail.TheViews.{out-ParsedMail}
 use Rattle.mailparse.proofs.lemmas.Delimiters.{part_ranges, part_ranges-some}
 use Rattle.mailparse.proofs.lemmas.Mail.{forest_and, forest_and-push, forest_and-none}
 
@@ -52,10 +50,6 @@ module _ (offset : ℕ) (raw : List ℕ) (headers : List Header) (index : ℕ) (
 -- where some messages say that they and their parts stand, one after another
 abbrev pub all_placed : List ParsedMail → List Placement
 all_placed parts = flat_map (λ places. places) (map placements_of parts)
-
--- a message and then its parts
-pub placements-out : (m : ParsedMail) → placements_of m ≡ placement_of m ∷ all_placed (out-ParsedMail m).subparts.items
-placements-out m = fold_out-ParsedMail (List Placement) placements_step m
 
 all_placed-push : (front : List ParsedMail) (part : ParsedMail) → all_placed (front ++ part ∷ []) ≡ all_placed front ++ placements_of part
 all_placed-push front part =

@@ -1,6 +1,6 @@
 -- The parts of a message stand at ranges that lie apart, and so take no more bytes than there are.
 use Rattle.std.proofs.Common.{◌≡◌, ℕ, zero, suc, ◌+◌, ◌-◌, ◌<◌, ◌≤◌, Bool, true, false, ◌&&◌, cond, List, [], ◌∷◌, length, drop, Option, Some, None, refl, sym, ap, subst, arith}
-use Rattle.std.specs.Prelude.{nat_eq, nat_lt, option_and_then, if◌then◌else◌}
+use Rattle.std.specs.Prelude.{nat_eq, nat_lt, option_and_then}
 use Rattle.std.specs.List.{sum_by}
 use Rattle.std.specs.Option.{option_map_or}
 use Rattle.std.proofs.lemmas.List.Sums.{sum_by-cons}
@@ -8,9 +8,9 @@ use Rattle.std.proofs.lemmas.Bool.{and_parts, ltb-true}
 use Rattle.mail_codec.specs.Places.{begins}
 use Rattle.mailparse.specs.ContentType.{ContentType}
 use Rattle.mailparse.specs.Ranges.{Range, Apart}
-use Rattle.mailparse.specs.Delimiters.{before_byte, before_line_end, delimiter_from, end_from, is_close_delimiter, part_after, first_part, next_part, cut_parts}
+use Rattle.mailparse.specs.Delimiters.{before_byte, before_line_end, delimiter_from, end_from, part_after, first_part, next_part, cut_parts}
 use Rattle.mailparse.specs.Mail.{dash_boundary_of, cut_of}
-use Rattle.mailparse.proofs.lemmas.Delimiters.{delimiter_from-out, is_delimiter-fits, line_after-bounds, part_ranges, part_ranges-none, part_ranges-some}
+use Rattle.mailparse.proofs.lemmas.Delimiters.{delimiter_from-out, is_delimiter-fits, line_after-bounds, next_part-delimiter, part_ranges, part_ranges-none, part_ranges-some}
 use Rattle.mailparse.proofs.lemmas.Mail.{dash_boundary_of-length}
 
 before_byte-bounds : (b : ℕ) (bytes : List ℕ) (start p : ℕ) → start ≤ p → (start ≤ before_byte b bytes start p) × (before_byte b bytes start p ≤ p)
@@ -52,20 +52,9 @@ after_delimiter dash_boundary bytes s otherwise p next e after =
 
 next_part-apart : (dash_boundary bytes : List ℕ) (s next : ℕ) → next_part dash_boundary bytes s ≡ Some next
     → (end_from dash_boundary bytes s (length bytes) + suc (length dash_boundary) ≤ next) × (next ≤ length bytes)
-next_part-apart dash_boundary bytes s next e = by_delimiter (delimiter_from dash_boundary bytes s) refl e
-  where
-    clash : None ≡ Some next → ⊥
-    clash h = cc
-
-    by_last : (p : ℕ) → delimiter_from dash_boundary bytes s ≡ Some p → (t : Bool) → if t then None else part_after dash_boundary bytes p ≡ Some next
-        → (end_from dash_boundary bytes s (length bytes) + suc (length dash_boundary) ≤ next) × (next ≤ length bytes)
-    by_last p f true h = absurd (clash h)
-    by_last p f false h = after_delimiter dash_boundary bytes s (length bytes) p next f h
-
-    by_delimiter : (o : Option ℕ) → delimiter_from dash_boundary bytes s ≡ o → option_and_then (λ p. if is_close_delimiter dash_boundary bytes p then None else part_after dash_boundary bytes p) o ≡ Some next
-        → (end_from dash_boundary bytes s (length bytes) + suc (length dash_boundary) ≤ next) × (next ≤ length bytes)
-    by_delimiter None f h = absurd (clash h)
-    by_delimiter (Some p) f h = by_last p f (is_close_delimiter dash_boundary bytes p) h
+next_part-apart dash_boundary bytes s next e =
+    let at = next_part-delimiter dash_boundary bytes s next e in
+    after_delimiter dash_boundary bytes s (length bytes) at.0 next at.1 at.2
 
 parts_apart-from : (dash_boundary bytes : List ℕ) (n from s : ℕ) → from + suc (length dash_boundary) ≤ s → s ≤ length bytes → length bytes - s < n
     → Apart (suc (length dash_boundary)) from (part_ranges dash_boundary bytes (Some s)) (length bytes)

@@ -1,6 +1,9 @@
 -- What stands at each name once the extended values are read.
 use Rattle.std.proofs.Common.{◌≡◌, ℕ, Bool, true, false, ◌&&◌, ◌||◌, cond, List, [], ◌∷◌, ◌++◌, map, Option, Some, None, is_some, option_map, BTreeMap, String, string_bytes, refl, sym, ap, ◌∙◌}
-use Rattle.std.proofs.lemmas.Bool.{and_from, and_left, cond-false, cond-true}
+use Rattle.std.proofs.lemmas.List.{map-id}
+use Rattle.std.proofs.lemmas.Simd.{map-map}
+use Rattle.std.proofs.Math.Bool.{or-false, or-true}
+use Rattle.std.proofs.lemmas.Bool.{and_from, and_left, cond-false, cond-true, false_from_ne_true, false≢true, or_parts, true_from_ne_false}
 use Rattle.std.proofs.lemmas.Map.Text.{is_eq-slice_cmp}
 use Rattle.std.specs.BTreeMap.{get_by_text}
 use Rattle.std.specs.Prelude.{if◌then◌else◌}
@@ -16,7 +19,7 @@ use Rattle.mailparse.specs.Sections as words
 use Rattle.mailparse.specs.ExtendedValues.{extended_at, has_left, section_at, extended_value, is_starred, name_under, reading_of, starred}
 use Rattle.mailparse.specs.Pairs.{Texts}
 use Rattle.mailparse.specs.private.Filled.{filled, holds_name}
-use Rattle.mailparse.proofs.lemmas.Filled.{filled_all, holds_push, or_false, or_true, shown_name, taken_name}
+use Rattle.mailparse.proofs.lemmas.Filled.{filled_all, holds_push, mapped_unless, shown_name, taken_name}
 use Rattle.mailparse.proofs.lemmas.CharsetSources.{name_under_starred}
 use Rattle.mailparse.proofs.lemmas.ExtendedValues.{equal_bytes, is_some_map, same_bytes}
 
@@ -56,20 +59,16 @@ starred_leaves keys names name q old new before step = go (bytes_eq (starred nam
         let under : name ≡ name_under q = sym (name_under_starred name) ∙ ap name_under whole in
         let ends : is_starred q ≡ true = same_bytes q (starred (name_under q)) (sym whole ∙ ap starred under) in
         let held : holds_name (names ++ name ∷ []) (name_under q) ≡ true =
-        more ∙ ap (λ b. holds_name names (name_under q) || b) (same_bytes name (name_under q) under) ∙ or_true (holds_name names (name_under q)) in
+        more ∙ ap (λ b. holds_name names (name_under q) || b) (same_bytes name (name_under q) under) ∙ or-true (holds_name names (name_under q)) in
         step ∙ cond-true _ _ _ is ∙ sym (cond-true _ _ _ (and_from _ _ ends held))
     go false is = step ∙ cond-false _ _ _ is ∙ before ∙ ap (λ b. cond b None (keys q)) (sym (other (is_starred q) refl))
       where
         other : (b : Bool) → is_starred q ≡ b → (is_starred q && holds_name (names ++ name ∷ []) (name_under q)) ≡ (is_starred q && holds_name names (name_under q))
         other false ends = and_left _ _ ends ∙ sym (and_left _ _ ends)
-        other true ends = ap (λ b. is_starred q && b) (more ∙ ap (λ b. holds_name names (name_under q) || b) (unlike (bytes_eq name (name_under q)) refl) ∙ or_false (holds_name names (name_under q)))
+        other true ends = ap (λ b. is_starred q && b) (more ∙ ap (λ b. holds_name names (name_under q) || b) unlike ∙ or-false (holds_name names (name_under q)))
           where
-            unlike : (b : Bool) → bytes_eq name (name_under q) ≡ b → bytes_eq name (name_under q) ≡ false
-            unlike false e = e
-            unlike true e =
-                let whole : starred name ≡ q = ap starred (equal_bytes name (name_under q) e) ∙ sym (equal_bytes q (starred (name_under q)) ends) in
-                let clash : false ≡ true = sym is ∙ same_bytes (starred name) q whole in
-                absurd (cc)
+            unlike : bytes_eq name (name_under q) ≡ false
+            unlike = false_from_ne_true _ (λ e. false≢true (sym is ∙ same_bytes (starred name) q (ap starred (equal_bytes name (name_under q) e) ∙ sym (equal_bytes q (starred (name_under q)) ends))))
 
 starred_at : (keys : Texts) (names : List (List ℕ)) (name : List ℕ) → without_starred keys names (starred name) ≡ cond (holds_name names name) None (keys (starred name))
 starred_at keys names name =
@@ -87,11 +86,7 @@ value_there keys names name value is = go (holds_name names name) (is ∙ starre
 -- a key that is not there has left
 pub value_gone : (keys : Texts) (names : List (List ℕ)) (name : List ℕ) → is_some (keys (starred name)) ≡ true → None ≡ without_starred keys names (starred name)
     → holds_name names name ≡ true
-value_gone keys names name some is = go (holds_name names name) refl (is ∙ starred_at keys names name)
-  where
-    go : (b : Bool) → holds_name names name ≡ b → None ≡ cond (holds_name names name) None (keys (starred name)) → holds_name names name ≡ true
-    go true e h = e
-    go false e h = let clash : true ≡ false = sym some ∙ ap is_some (sym (h ∙ cond-false _ _ _ e)) in absurd (cc)
+value_gone keys names name some is = true_from_ne_false _ (λ e. false≢true (sym (sym some ∙ ap is_some (sym ((is ∙ starred_at keys names name) ∙ cond-false _ _ _ e)))))
 
 -- Under the charsets that are known.
 module _ (known : Charsets) where
@@ -104,12 +99,8 @@ module _ (known : Charsets) where
   sections_read keys names q extended texts all e t =
       ap (λ o. option_or o (option_map words.text texts)) (filled_all (extended_at known keys) (λ _. None) names q extended e (λ none. unread (sym (all q) ∙ none)))
       ∙ ap (option_or (extended_at known keys q))
-      (ap (option_map words.text) (t ∙ ap (λ b. cond (is_starred q && b) None (keys q)) (all (name_under q))) ∙ inner (has_left known keys q))
+      (ap (option_map words.text) (t ∙ ap (λ b. cond (is_starred q && b) None (keys q)) (all (name_under q))) ∙ mapped_unless words.text (has_left known keys q) (keys q))
     where
-      inner : (b : Bool) → option_map words.text (cond b None (keys q)) ≡ cond b None (option_map words.text (keys q))
-      inner true = refl
-      inner false = refl
-
       unread : is_some (reading_of known keys q) ≡ false → extended_at known keys q ≡ None
       unread none = by_none _ (is_some_map _ (reading_of known keys q) ∙ none)
         where
@@ -122,27 +113,16 @@ module _ (known : Charsets) where
 -- all were shown
 pub names_shown : {X : Type 0} (shown : List (Bor (String Global) × Bor X)) (entries : List (String Global × X)) → map (λ e. (e.0.now, e.1.now)) shown ≡ entries
     → map shown_name shown ≡ map (λ e. string_bytes e.0) entries
-names_shown {X = X} [] entries h = ap (map (λ (e : String Global × X). string_bytes e.0)) h
-names_shown {X = X} (e ∷ shown) entries h =
-    ap (λ r. shown_name e ∷ r) (names_shown shown (map (λ e. (e.0.now, e.1.now)) shown) refl) ∙ ap (map (λ (e : String Global × X). string_bytes e.0)) h
+names_shown {X = X} shown entries h =
+    sym (map-map (λ (e : String Global × X). string_bytes e.0) (λ (e : Bor (String Global) × Bor X). (e.0.now, e.1.now)) shown) ∙ ap (map (λ (e : String Global × X). string_bytes e.0)) h
 
 lookup_unnamed : {X : Type 0} (q : List ℕ) (entries : List (String Global × X)) → holds_name (map (λ e. string_bytes e.0) entries) q ≡ false
     → lookup (λ k. is_eq (slice_cmp nat_cmp q (string_bytes k))) entries ≡ None
 lookup_unnamed q [] h = refl
 lookup_unnamed q (e ∷ entries) h =
-    cond-false _ _ _ (is_eq-slice_cmp q (string_bytes e.0) ∙ other (bytes_eq q (string_bytes e.0)) refl (or_first _ _ h)) ∙ lookup_unnamed q entries (or_rest _ _ h)
-  where
-    or_first : (a b : Bool) → (a || b) ≡ false → a ≡ false
-    or_first true b h = absurd (cc)
-    or_first false b h = refl
-
-    or_rest : (a b : Bool) → (a || b) ≡ false → b ≡ false
-    or_rest true b h = absurd (cc)
-    or_rest false b h = h
-
-    other : (b : Bool) → bytes_eq q (string_bytes e.0) ≡ b → bytes_eq (string_bytes e.0) q ≡ false → bytes_eq q (string_bytes e.0) ≡ false
-    other false is h = is
-    other true is h = let clash : false ≡ true = sym h ∙ same_bytes (string_bytes e.0) q (sym (equal_bytes q (string_bytes e.0) is)) in absurd (cc)
+    let none = or_parts _ _ h in
+    cond-false _ _ _ (is_eq-slice_cmp q (string_bytes e.0) ∙ false_from_ne_true _ (λ is. false≢true (sym none.0 ∙ same_bytes (string_bytes e.0) q (sym (equal_bytes q (string_bytes e.0) is)))))
+    ∙ lookup_unnamed q entries none.1
 
 pub unnamed : {X : Type 0} (q : List ℕ) (m : BTreeMap (String Global) X) → holds_name (map (λ e. string_bytes e.0) m.entries) q ≡ false → get_by_text m q ≡ None
 unnamed q m h = lookup_unnamed q m.entries h
@@ -168,8 +148,7 @@ named q m h = lookup_named q m.entries h
 
 -- all were taken
 pub names_taken : {X : Type 0} (taken entries : List (String Global × X)) → map (λ e. e) taken ≡ entries → map taken_name taken ≡ map (λ e. string_bytes e.0) entries
-names_taken {X = X} [] entries h = ap (map (λ (e : String Global × X). string_bytes e.0)) h
-names_taken {X = X} (e ∷ taken) entries h = ap (λ r. taken_name e ∷ r) (names_taken taken (map (λ x. x) taken) refl) ∙ ap (map (λ (e : String Global × X). string_bytes e.0)) h
+names_taken taken entries h = ap (map taken_name) (sym (map-id taken) ∙ h)
 
 -- ---- what is taken from both maps
 

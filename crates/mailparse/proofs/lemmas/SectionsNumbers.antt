@@ -1,6 +1,6 @@
 -- The base and the number of a name.
-use Rattle.std.proofs.Common.{◌≡◌, ℕ, suc, ◌++◌, subst, ◌+◌, ◌-◌, ◌<◌, ◌^◌, Bool, true, false, not, ◌&&◌, ◌||◌, cond, eqb, ltb, List, [], ◌∷◌, length, length-drop, take, drop, get_or, Option, Some, None, option_map, Ok, Err, refl, sym, ap, ◌∙◌, arith, ⊎_elim}
-use Rattle.std.proofs.lemmas.Bool.{cond-true, cond-false, lt-ltb, ltb-true, eq-eqb, ne_eqb, and_from, and_parts, cases_lt}
+use Rattle.std.proofs.Common.{◌≡◌, ℕ, suc, ◌++◌, subst, ◌+◌, ◌-◌, ◌<◌, ◌^◌, true, false, not, ◌&&◌, ◌||◌, cond, eqb, ltb, List, [], ◌∷◌, length, length-drop, take, drop, get_or, Option, Some, None, option_map, Ok, Err, refl, sym, ap, ◌∙◌, arith, ⊎_elim}
+use Rattle.std.proofs.lemmas.Bool.{false_from_ne_true, cond-true, cond-false, lt-ltb, ltb-true, eq-eqb, ne_eqb, and_from, and_parts, cases_lt}
 use Rattle.std.proofs.Math.Seq.{drop-append-add, get_or-append_right, get_or-append_seam, take-append_seam}
 use Rattle.std.proofs.lemmas.Fmt.{decimal_is_IsNumeral}
 use Rattle.std.proofs.lemmas.List.{get_or-drop, length-append}
@@ -32,18 +32,11 @@ number_parsed text n h =
     cond-true _ _ _ tests ∙ ap Some (sym h.1)
 
 pub number_refused : (text : List ℕ) → ParsesUnsigned {E = ℕ} 64 10 text (Err 0) → number_in text ≡ None
-number_refused text h = go (ltb 0 (length ds) && all_ascii_digits ds && ltb (digits_value 10 ds) (2 ^ 64)) refl
-  where
-    ds : List ℕ
-    ds = without_leading_plus text
-
-    go : (b : Bool) → (ltb 0 (length ds) && all_ascii_digits ds && ltb (digits_value 10 ds) (2 ^ 64)) ≡ b
-        → cond (ltb 0 (length ds) && all_ascii_digits ds && ltb (digits_value 10 ds) (2 ^ 64)) (Some (digits_value 10 ds)) None ≡ None
-    go false is = cond-false _ _ _ is
-    go true is =
-        let outer = and_parts _ _ is in
-        let inner = and_parts _ _ outer.0 in
-        absurd (h ((ltb-true 0 (length ds) inner.0, digits_all ds inner.1), ltb-true (digits_value 10 ds) (2 ^ 64) outer.1))
+number_refused text h =
+    cond-false _ _ _ (false_from_ne_true _ (λ is.
+    let outer = and_parts _ _ is in
+    let inner = and_parts _ _ outer.0 in
+    h ((ltb-true _ _ inner.0, digits_all _ inner.1), ltb-true _ _ outer.1)))
 
 -- ---- the last star of a name
 

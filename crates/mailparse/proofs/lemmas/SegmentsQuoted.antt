@@ -1,7 +1,7 @@
 -- Lemmas on the text that a quoted text stands for.
 use lib.Utf8.{encode}
 use Rattle.std.proofs.Common.{◌≡◌, ◌≢◌, ℕ, suc, Bool, true, false, not, cond, eqb, ◌&&◌, None, List, [], ◌∷◌, ◌++◌, refl, sym, ap, subst, ◌∙◌, append_assoc}
-use Rattle.std.proofs.lemmas.Bool.{cond-true, cond-false, and_right, eq-eqb, eqb-true, false≢true, ne_eqb}
+use Rattle.std.proofs.lemmas.Bool.{cond-true, cond-false, and_right, eq-eqb, eqb-true, false_from_ne_true, false≢true, ne_eqb}
 use Rattle.std.proofs.lemmas.List.{append-nil}
 use Rattle.std.proofs.lemmas.Str.{chars-nil, chars_past_char, encodes-chars}
 use Rattle.std.specs.Char.{encode_utf8}
@@ -76,13 +76,10 @@ stays_plain c escaped some = ap (λ t. t && not escaped) (ne_eqb c backslash som
 no_backslash_stays : (cs : List ℕ) → Nowhere (begins (λ b. eqb b backslash)) (encode_utf8_all cs) → without_escapes 0 cs ≡ cs
 unfolding encode
 no_backslash_stays [] none = refl
-no_backslash_stays (c ∷ cs) none = by_test (no_backslash_stays cs (nowhere_behind (begins (λ b. eqb b backslash)) (encode_utf8 c) (encode_utf8_all cs) none)) (eqb c backslash) refl
-  where
-    by_test : without_escapes 0 cs ≡ cs → (t : Bool) → eqb c backslash ≡ t → without_escapes 0 (c ∷ cs) ≡ c ∷ cs
-    by_test later true e =
-        let stands = ap (λ d. begins (λ b. eqb b backslash) (encode_utf8 d ++ encode_utf8_all cs)) (eqb-true c backslash e) in
-        absurd (false≢true (sym (none 0) ∙ stands))
-    by_test later false e = rw e (ap (λ x. c ∷ x) later)
+no_backslash_stays (c ∷ cs) none =
+    let other : eqb c backslash ≡ false =
+    false_from_ne_true _ (λ e. false≢true (sym (none 0) ∙ ap (λ d. begins (λ b. eqb b backslash) (encode_utf8 d ++ encode_utf8_all cs)) (eqb-true c backslash e))) in
+    rw other (ap (λ x. c ∷ x) (no_backslash_stays cs (nowhere_behind (begins (λ b. eqb b backslash)) (encode_utf8 c) (encode_utf8_all cs) none)))
 
 pub unescapes_nothing : (text : List ℕ) → IsUtf8 text → None ≡ place (begins (λ b. eqb b backslash)) text
     → text ≡ encode_utf8_all (without_escapes 0 (chars text))

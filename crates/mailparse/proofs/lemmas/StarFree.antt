@@ -1,6 +1,10 @@
 -- Where no key holds a star, the parameters are the pairs.
-use Rattle.std.proofs.Common.{◌≡◌, ◌<◌, ℕ, suc, Bool, true, false, cond, not, ◌&&◌, ◌||◌, eqb, ltb, List, [], ◌∷◌, ◌++◌, ◌==◌, length, map, Option, Some, None, BTreeMap, String, refl, sym, ap, ◌∙◌, arith}
-use Rattle.std.proofs.lemmas.Bool.{cond-false, false≢true, and_right, lt-ltb, le-ltb}
+use Rattle.std.proofs.Common.{◌≡◌, ℕ, Bool, true, false, cond, not, ◌&&◌, ◌||◌, eqb, ltb, List, [], ◌∷◌, ◌++◌, length, map, Option, Some, None, BTreeMap, String, refl, sym, ap, ◌∙◌}
+use Rattle.mailparse.proofs.lemmas.ExtendedValues.{is_some_where}
+use Rattle.std.proofs.lemmas.List.Folds.{list_any-append}
+use Rattle.std.proofs.Math.Bool.{or-true}
+use Rattle.std.proofs.lemmas.List.{map_push}
+use Rattle.std.proofs.lemmas.Bool.{or_from, or_parts, cond-false, false_from_ne_true, false≢true, and_right}
 use Rattle.std.proofs.lemmas.Slice.Eq.{bytes_eq-Decides}
 use Rattle.std.specs.Borrow.{Bor}
 use Rattle.std.specs.Global.{Global}
@@ -9,107 +13,47 @@ use Rattle.std.specs.Option.{is_some, option_map, option_or, option_map_or}
 use Rattle.std.specs.Prelude.{string_bytes}
 use Rattle.std.specs.Str.{bytes_eq}
 use Rattle.mail_codec.specs.Charset.{Charsets}
-use Rattle.mail_codec.specs.Places.{begins, byte_place, first_place}
-use Rattle.mail_codec.proofs.lemmas.Places.{first_place-here, first_place-past}
+use Rattle.mail_codec.specs.Places.{byte_place}
+use Rattle.mail_codec.proofs.lemmas.Places.{first_place-begins}
+use Rattle.mailparse.proofs.lemmas.EncodedWord.{any_from_place}
 use Rattle.mailparse.specs.Continuations.{is_first_of, is_base, is_used, sections_of, joined, joined_at, parameters_in, possible_names}
 use Rattle.mailparse.specs.ExtendedValues.{has_left, section_at, starred, is_starred, name_under, is_extended, octets_of, reading_of}
 use Rattle.mailparse.specs.Sections.{text, octets, alone, is_star, numbered, section_name}
 use Rattle.mailparse.specs.Pairs.{last_of, text_at}
 use Rattle.mailparse.specs.private.Continuations.{has_star, names_in}
 use Rattle.mailparse.specs.private.Filled.{holds_name}
-use Rattle.mailparse.proofs.lemmas.Filled.{shown_name}
+use Rattle.mailparse.proofs.lemmas.Filled.{any_push, shown_name}
 use Rattle.mailparse.proofs.lemmas.Sections.{unnamed}
 
 -- ---- the search for a star
 
-found : (test : ℕ → Bool) (bytes : List ℕ) → list_any test bytes ≡ true → first_place (begins test) bytes < length bytes
-found test [] h = absurd (false≢true h)
-found test (b ∷ bytes) h = go (test b) refl h (found test bytes)
-  where
-    go : (v : Bool) → test b ≡ v → (v || list_any test bytes) ≡ true → (list_any test bytes ≡ true → first_place (begins test) bytes < length bytes)
-        → first_place (begins test) (b ∷ bytes) < suc (length bytes)
-    go true e h more = let here = first_place-here (begins test) (b ∷ bytes) e in omega arith
-    go false e h more =
-        let past = first_place-past (begins test) b bytes e in
-        let later = more h in
-        omega arith
-
-missing : (test : ℕ → Bool) (bytes : List ℕ) → list_any test bytes ≡ false → first_place (begins test) bytes ≡ length bytes
-missing test [] h = refl
-missing test (b ∷ bytes) h = go (test b) refl h (missing test bytes)
-  where
-    go : (v : Bool) → test b ≡ v → (v || list_any test bytes) ≡ false → (list_any test bytes ≡ false → first_place (begins test) bytes ≡ length bytes)
-        → first_place (begins test) (b ∷ bytes) ≡ suc (length bytes)
-    go true e h more = absurd (false≢true (sym h))
-    go false e h more =
-        let past = first_place-past (begins test) b bytes e in
-        let later = more h in
-        omega arith
-
 pub star_found : (name : List ℕ) → is_some (byte_place name 42) ≡ has_star name
-star_found name = go (has_star name) refl
-  where
-    go : (v : Bool) → has_star name ≡ v → is_some (byte_place name 42) ≡ has_star name
-    go true e =
-        ap (λ t. is_some (cond t (Some (first_place (begins (λ b. b == 42)) name)) None)) (lt-ltb (first_place (begins (λ b. b == 42)) name) (length name) (found is_star name e)) ∙ sym e
-    go false e =
-        let none : first_place (begins (λ b. b == 42)) name ≡ length name = missing is_star name e in
-        ap (λ t. is_some (cond t (Some (first_place (begins (λ b. b == 42)) name)) None)) (le-ltb (first_place (begins (λ b. b == 42)) name) (length name) (omega (arith, none))) ∙ sym e
+star_found name = is_some_where _ _ ∙ ap (λ n. ltb n (length name)) (first_place-begins is_star name) ∙ sym (any_from_place is_star name)
 
 -- ---- names without a star
 
 pub another_key : (key name : List ℕ) → has_star key ≡ false → has_star name ≡ true → bytes_eq key name ≡ false
-another_key key name free some = go (bytes_eq key name) refl
-  where
-    go : (t : Bool) → bytes_eq key name ≡ t → bytes_eq key name ≡ false
-    go true e = absurd (false≢true (sym free ∙ ap has_star ((bytes_eq-Decides key name).0 e) ∙ some))
-    go false e = e
+another_key key name free some = false_from_ne_true _ (λ e. false≢true (sym free ∙ ap has_star ((bytes_eq-Decides key name).0 e) ∙ some))
 
 not_held : (names : List (List ℕ)) (name : List ℕ) → list_any has_star names ≡ false → has_star name ≡ true → holds_name names name ≡ false
 not_held [] name free some = refl
-not_held (key ∷ names) name free some = go (has_star key) refl free (λ h. not_held names name h some)
-  where
-    go : (t : Bool) → has_star key ≡ t → (has_star key || list_any has_star names) ≡ false → (list_any has_star names ≡ false → holds_name names name ≡ false)
-        → holds_name (key ∷ names) name ≡ false
-    go true e h rest = absurd (false≢true (sym h ∙ ap (λ s. s || list_any has_star names) e))
-    go false e h rest =
-        ap (λ s. s || holds_name names name) (another_key key name e some)
-        ∙ rest (sym (ap (λ s. s || list_any has_star names) e) ∙ h)
+not_held (key ∷ names) name free some =
+    let parts = or_parts _ _ free in
+    or_from _ _ (another_key key name parts.0 some) (not_held names name parts.1 some)
 
 -- a map whose names hold no star has nothing at a name with one
 pub nothing_starred : (m : BTreeMap (String Global) (String Global)) (name : List ℕ) → list_any has_star (names_in m) ≡ false → has_star name ≡ true → text_at m name ≡ None
 nothing_starred m name free some = ap (option_map string_bytes) (unnamed name m (not_held (names_in m) name free some))
 
-pub free_of : (t : Bool) → not t ≡ true → t ≡ false
-free_of true h = absurd (false≢true h)
-free_of false h = refl
-
 -- one more name
 pub star_more : (yielded : List (Bor (String Global) × Bor (String Global))) (e : Bor (String Global) × Bor (String Global)) (so here : Bool)
     → so ≡ list_any has_star (map shown_name yielded) → here ≡ has_star (shown_name e)
     → (so || here) ≡ list_any has_star (map shown_name (yielded ++ e ∷ []))
-star_more yielded e so here before now = (λ i. before i || now i) ∙ go yielded
-  where
-    alone : (t : Bool) → t ≡ (t || false)
-    alone true = refl
-    alone false = refl
-
-    go : (names : List (Bor (String Global) × Bor (String Global))) → (list_any has_star (map shown_name names) || has_star (shown_name e)) ≡ list_any has_star (map shown_name (names ++ e ∷ []))
-    go [] = alone (has_star (shown_name e))
-    go (n ∷ names) = by_first (has_star (shown_name n)) (go names)
-      where
-        by_first : (t : Bool) → (list_any has_star (map shown_name names) || has_star (shown_name e)) ≡ list_any has_star (map shown_name (names ++ e ∷ []))
-            → ((t || list_any has_star (map shown_name names)) || has_star (shown_name e)) ≡ (t || list_any has_star (map shown_name (names ++ e ∷ [])))
-        by_first true h = refl
-        by_first false h = h
+star_more yielded e so here before now =
+    (λ i. before i || now i) ∙ sym (any_push has_star (map shown_name yielded) (shown_name e)) ∙ ap (list_any has_star) (sym (map_push shown_name yielded e))
 
 starred_has : (name : List ℕ) → has_star (starred name) ≡ true
-starred_has [] = refl
-starred_has (b ∷ name) = go (is_star b) refl (starred_has name)
-  where
-    go : (t : Bool) → is_star b ≡ t → has_star (starred name) ≡ true → has_star (starred (b ∷ name)) ≡ true
-    go true e h = ap (λ t. t || has_star (starred name)) e
-    go false e h = ap (λ t. t || has_star (starred name)) e ∙ h
+starred_has name = list_any-append is_star name (42 ∷ []) ∙ or-true (list_any is_star name)
 
 -- ---- pairs that have nothing at a name with a star
 

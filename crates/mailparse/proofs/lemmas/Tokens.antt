@@ -23,19 +23,21 @@ begins_two a b (c ∷ d ∷ bytes) h =
     let second = and_parts (eqb b d) true parts.1 in
     (omega arith, sym (eqb-true a c parts.0), sym (eqb-true b d second.0))
 
--- where a pair of bytes is found it stands, within the line
-pub pair_stands : (a b : ℕ) (line : List ℕ) (s v : ℕ) → s ≤ length line → place_from (stands (a ∷ b ∷ [])) line s ≡ v → v ≢ length line
+-- where what begins with two bytes is found they stand, within the line
+stands_where : (test : List ℕ → Bool) (a b : ℕ) → ((rest : List ℕ) → test rest ≡ true → stands (a ∷ b ∷ []) rest ≡ true) → (line : List ℕ) (s v : ℕ) → s ≤ length line → place_from test line s ≡ v → v ≢ length line
     → (s ≤ v) × (v + 2 ≤ length line) × (get_or line v 0 ≡ a) × (get_or line (v + 1) 0 ≡ b)
-pair_stands a b line s v h e some =
-    let pair = stands (a ∷ b ∷ []) in
-    let bounds = place_from_bounds pair line s h in
-    let stands : pair (drop v line) ≡ true =
-    subst (λ v. pair (drop v line) ≡ true) e (place_from_passes pair line s h (λ i. some (sym e ∙ i))) in
-    let two = begins_two a b (drop v line) stands in
+stands_where test a b begins line s v h e some =
+    let bounds = place_from_bounds test line s h in
+    let stands : test (drop v line) ≡ true = subst (λ v. test (drop v line) ≡ true) e (place_from_passes test line s h (λ i. some (sym e ∙ i))) in
+    let two = begins_two a b (drop v line) (begins (drop v line) stands) in
     let len = length-drop v line in
     let first = get_or-drop v line 0 0 in
     let second = get_or-drop v line 1 0 in
     (omega arith, omega arith, ap (λ n. get_or line n 0) (omega arith) ∙ sym first ∙ two.1, sym second ∙ two.2)
+
+pub pair_stands : (a b : ℕ) (line : List ℕ) (s v : ℕ) → s ≤ length line → place_from (stands (a ∷ b ∷ [])) line s ≡ v → v ≢ length line
+    → (s ≤ v) × (v + 2 ≤ length line) × (get_or line v 0 ≡ a) × (get_or line (v + 1) 0 ≡ b)
+pair_stands a b = stands_where (stands (a ∷ b ∷ [])) a b (λ rest h. h)
 
 -- where `=?` is found it stands, within the line
 pub opening_stands : (line : List ℕ) (s v : ℕ) → s ≤ length line → opening line s ≡ v → v ≢ length line
@@ -45,15 +47,14 @@ opening_stands = pair_stands 61 63
 -- where `?=` is found it stands, within the line, with a boundary after it
 pub closing_stands : (line : List ℕ) (s e : ℕ) → s ≤ length line → closing line s ≡ e → e ≢ length line
     → (s ≤ e) × (e + 2 ≤ length line) × (get_or line e 0 ≡ 63) × (get_or line (e + 1) 0 ≡ 61)
-closing_stands line s e h at some =
-    let bounds = place_from_bounds begins_closing line s h in
-    let stands : begins_closing (drop e line) ≡ true =
-    subst (λ v. begins_closing (drop v line) ≡ true) at (place_from_passes begins_closing line s h (λ i. some (sym at ∙ i))) in
-    let two = begins_two 63 61 (drop e line) (and_parts _ _ stands).0 in
-    let len = length-drop e line in
-    let first = get_or-drop e line 0 0 in
-    let second = get_or-drop e line 1 0 in
-    (omega arith, omega arith, ap (λ n. get_or line n 0) (omega arith) ∙ sym first ∙ two.1, sym second ∙ two.2)
+closing_stands = stands_where begins_closing 63 61 (λ rest h. (and_parts _ _ h).0)
+
+-- a `=?` and the `?=` after it
+both_stand : (line : List ℕ) (s v e : ℕ) → s ≤ length line → opening line s ≡ v → v ≢ length line → closing line (v + 2) ≡ e → e ≢ length line → (s ≤ v) × (v + 2 ≤ e) × (e + 2 ≤ length line)
+both_stand line s v e h at some close more =
+    let here = opening_stands line s v h at some in
+    let there = closing_stands line (v + 2) e here.1 close more in
+    (here.0, there.0, there.1)
 
 Adjoin-append : (s t e : ℕ) (xs ys : List TokenRange) → Adjoin s xs t → Adjoin t ys e → Adjoin s (xs ++ ys) e
 Adjoin-append s t e [] ys first more = subst (λ s. Adjoin s ys e) (sym first) more
@@ -159,14 +160,8 @@ module _ (known : Charsets) where
       → (s + 2 ≤ t) × (t ≤ length line)
   next_ahead {line} {s} (no_boundary {v = v} e some out) h = let at = opening_stands line s v h e some in (omega arith, omega arith)
   next_ahead {line} {s} (no_closing {v = v} e some beside close) h = let at = opening_stands line s v h e some in (omega arith, omega arith)
-  next_ahead {line} {s} (decodes {v = v} {e = e} at some beside close more read) h =
-      let here = opening_stands line s v h at some in
-      let there = closing_stands line (v + 2) e here.1 close more in
-      (omega arith, omega arith)
-  next_ahead {line} {s} (stays_text {v = v} {e = e} at some beside close more fails) h =
-      let here = opening_stands line s v h at some in
-      let there = closing_stands line (v + 2) e here.1 close more in
-      (omega arith, omega arith)
+  next_ahead {line} {s} (decodes {v = v} {e = e} at some beside close more read) h = let both = both_stand line s v e h at some close more in (omega arith, omega arith)
+  next_ahead {line} {s} (stays_text {v = v} {e = e} at some beside close more fails) h = let both = both_stand line s v e h at some close more in (omega arith, omega arith)
 
   -- ---- the computed list
 
@@ -217,14 +212,8 @@ module _ (known : Charsets) where
   group_adjoins {line} {s} (no_boundary {v = v} e some out) h = let at = opening_stands line s v h e some in (refl, omega arith, refl)
   group_adjoins {line} {s} (no_closing {v = v} e some beside close) h =
       let at = opening_stands line s v h e some in (refl, at.0, (refl, omega arith, refl))
-  group_adjoins {line} {s} (decodes {v = v} {e = e} at some beside close more read) h =
-      let here = opening_stands line s v h at some in
-      let there = closing_stands line (v + 2) e here.1 close more in
-      (refl, here.0, (refl, omega arith, refl))
-  group_adjoins {line} {s} (stays_text {v = v} {e = e} at some beside close more fails) h =
-      let here = opening_stands line s v h at some in
-      let there = closing_stands line (v + 2) e here.1 close more in
-      (refl, here.0, (refl, omega arith, refl))
+  group_adjoins {line} {s} (decodes {v = v} {e = e} at some beside close more read) h = let both = both_stand line s v e h at some close more in (refl, both.0, (refl, omega arith, refl))
+  group_adjoins {line} {s} (stays_text {v = v} {e = e} at some beside close more fails) h = let both = both_stand line s v e h at some close more in (refl, both.0, (refl, omega arith, refl))
 
   pub tokens_adjoin : {line : List ℕ} {s : ℕ} {tokens : List TokenRange} → AreTokensFrom known line s tokens → s ≤ length line → Adjoin s tokens (length line)
   tokens_adjoin (last_group g) h = group_adjoins g h

@@ -1,5 +1,6 @@
 -- Lemmas on the two readings of a value's bytes.
-use Rattle.std.proofs.Common.{◌≡◌, ℕ, Bool, true, false, List, Result, Ok, Err, IsErr, refl, subst}
+use Rattle.std.proofs.Common.{◌≡◌, ℕ, true, false, List, Result, Ok, Err, IsErr, refl, subst}
+use Rattle.std.proofs.lemmas.Bool.{false_from_ne_true}
 use Rattle.std.specs.Str.{IsUtf8, is_utf8}
 use Rattle.std.proofs.lemmas.Str.{IsUtf8-from_is_utf8, is_utf8-from_IsUtf8}
 use Rattle.mail_codec.specs.Charset.{Charsets, four_charsets}
@@ -8,11 +9,7 @@ use Rattle.mailparse.specs.Refusal.{Refusal, value_not_utf8}
 use Rattle.mailparse.specs.Value.{shown_value, lenient_value_in, strict_value}
 
 is_utf8-false : (bytes : List ℕ) → (IsUtf8 bytes → ⊥) → is_utf8 bytes ≡ false
-is_utf8-false bytes none = by_test (is_utf8 bytes) refl
-  where
-    by_test : (v : Bool) → is_utf8 bytes ≡ v → is_utf8 bytes ≡ false
-    by_test true e = absurd (none (IsUtf8-from_is_utf8 bytes e))
-    by_test false e = e
+is_utf8-false bytes none = false_from_ne_true _ (λ e. none (IsUtf8-from_is_utf8 bytes e))
 
 -- bytes that are UTF-8 are read as they are
 pub lenient-utf8 : (known : Charsets) (bytes : List ℕ) → IsUtf8 bytes → lenient_value_in known bytes ≡ shown_value known bytes

@@ -1,6 +1,6 @@
 -- A bare value shows itself.
-use Rattle.std.proofs.Common.{◌≡◌, ℕ, ◌+◌, Bool, true, false, eqb, leb, ◌&&◌, ◌||◌, List, [], ◌∷◌, ◌++◌, ◌≤◌, length, drop, ⊎_elim, None, refl, sym, ap, ◌∙◌, arith}
-use Rattle.std.proofs.lemmas.Bool.{cases_lt, cond-false, eqb-true, false≢true, le-ltb, leb-true}
+use Rattle.std.proofs.Common.{◌≡◌, ℕ, ◌+◌, Bool, true, eqb, leb, ◌||◌, List, [], ◌∷◌, ◌++◌, ◌≤◌, length, drop, ⊎_elim, None, sym, ap, ◌∙◌, arith}
+use Rattle.std.proofs.lemmas.Bool.{and_parts, cases_lt, cond-false, eqb-true, false≢true, le-ltb, leb-true}
 use Rattle.std.proofs.Math.ListN.{drop_of_length-le}
 use Rattle.std.proofs.lemmas.List.{drop-drop}
 use Rattle.std.proofs.lemmas.Str.{chars_past_char, encodes-chars, encode_ascii}
@@ -15,13 +15,8 @@ use Rattle.mailparse.specs.Value.{shown_value}
 use Rattle.mailparse.specs.private.Plain.{IsBare, cuts_value}
 use Rattle.mailparse.proofs.lemmas.ValuePlain.{graphic_no_whitespace, shown_value-line}
 
--- both of two tests
-both : (s t : Bool) → (s && t) ≡ true → (s ≡ true) × (t ≡ true)
-both true t h = (refl, h)
-both false t h = absurd (false≢true h)
-
 graphic : (b : ℕ) → is_ascii_graphic b ≡ true → (33 ≤ b) × (b ≤ 126)
-graphic b h = let range = both (leb 33 b) (leb b 126) h in (leb-true 33 b range.0, leb-true b 126 range.1)
+graphic b h = let range = and_parts (leb 33 b) (leb b 126) h in (leb-true 33 b range.0, leb-true b 126 range.1)
 
 -- nothing is trimmed where the first character is visible
 trim_start-visible : (text : List ℕ) → IsUtf8 text → begins is_ascii_graphic text ≡ true → trim_start text ≡ text
@@ -43,8 +38,8 @@ feed_cuts (b ∷ rest) h = ap (λ t. t || eqb b 63) h
 -- the byte after the first of an opening cuts
 opening_cuts : (rest : List ℕ) → begins_opening rest ≡ true → begins cuts_value (drop 1 rest) ≡ true
 opening_cuts [] h = absurd (false≢true h)
-opening_cuts (b ∷ []) h = absurd (false≢true (both (eqb 61 b) _ h).1)
-opening_cuts (b ∷ c ∷ rest) h = ap cuts_value (sym (eqb-true 63 c (both (eqb 63 c) _ (both (eqb 61 b) _ h).1).0))
+opening_cuts (b ∷ []) h = absurd (false≢true (and_parts (eqb 61 b) _ h).1)
+opening_cuts (b ∷ c ∷ rest) h = ap cuts_value (sym (eqb-true 63 c (and_parts (eqb 63 c) _ (and_parts (eqb 61 b) _ h).1).0))
 
 none_placed : (test : List ℕ → Bool) (bytes : List ℕ) → length bytes ≤ first_place test bytes → None ≡ place test bytes
 none_placed test bytes past = sym (cond-false _ _ _ (le-ltb (first_place test bytes) (length bytes) past))

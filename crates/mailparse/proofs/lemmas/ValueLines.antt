@@ -2,6 +2,7 @@
 use Rattle.std.proofs.Common.{◌≡◌, ◌≢◌, ℕ, true, false, eqb, List, [], ◌∷◌, ◌++◌, length, map, refl, sym, ap, ◌∙◌, arith, append_assoc, length-append}
 use Rattle.std.proofs.lemmas.Bool.{ne_eqb, eqb-true, eqb-false}
 use Rattle.std.proofs.lemmas.List.{map_push, length-map}
+use Rattle.std.proofs.lemmas.Simd.{map-map}
 use Rattle.std.specs.Borrow.{Bor}
 use Rattle.std.specs.Str.{trim_start}
 use Rattle.mail_codec.specs.Charset.{Charsets}
@@ -18,11 +19,7 @@ abbrev pub trimmed : List (Bor (List ℕ)) → List (List ℕ)
 trimmed items = map (λ line. trim_start line.now) items
 
 pub trimmed_all : (items : List (Bor (List ℕ))) (all : List (List ℕ)) → map (λ line. line.now) items ≡ all → trimmed items ≡ map trim_start all
-trimmed_all items all e = fuse items ∙ ap (map trim_start) e
-  where
-    fuse : (items : List (Bor (List ℕ))) → map (λ line. trim_start line.now) items ≡ map trim_start (map (λ line. line.now) items)
-    fuse [] = refl
-    fuse (line ∷ items) = ap (λ ls. trim_start line.now ∷ ls) (fuse items)
+trimmed_all items all e = sym (map-map trim_start (λ (line : Bor (List ℕ)). line.now) items) ∙ ap (map trim_start) e
 
 module _ (known : Charsets) where
   -- the first line

@@ -86,12 +86,15 @@ no_opening_found line none =
     ⊎_elim (λ h. absurd (false≢true (sym (none _) ∙ first_place-passes begins_opening line h))) (λ h. omega arith)
     (cases_lt (first_place begins_opening line) (length line))
 
-shown_alone : (line : List ℕ) → shown_tokens (outside_token line ∷ []) ≡ line
-shown_alone line = go (is_all_whitespace line)
+shown_outside : (line : List ℕ) (tokens : List Token) → shown_after None None (outside_token line ∷ tokens) ≡ line ++ shown_tokens tokens
+shown_outside line tokens = by_test (is_all_whitespace line)
   where
-    go : (t : Bool) → shown_after None None (record { kind = cond t whitespace plain_text; shown = line } ∷ []) ≡ line
-    go true = append-nil line
-    go false = append-nil line
+    by_test : (t : Bool) → shown_after None None (record { kind = cond t whitespace plain_text; shown = line } ∷ tokens) ≡ line ++ shown_tokens tokens
+    by_test true = ap (λ r. line ++ r) (settled None (Some whitespace) tokens refl refl)
+    by_test false = ap (λ r. line ++ r) (settled None (Some plain_text) tokens refl refl)
+
+shown_alone : (line : List ℕ) → shown_tokens (outside_token line ∷ []) ≡ line
+shown_alone line = shown_outside line [] ∙ append-nil line
 
 module _ (known : Charsets) where
   -- a line without `=?` is one token
@@ -137,13 +140,6 @@ no_opening_front [] ys none (suc k) = refl
 no_opening_front (x ∷ []) ys none zero = and_right (eqb 61 x) false refl
 no_opening_front (x ∷ y ∷ xs) ys none zero = none 0
 no_opening_front (x ∷ xs) ys none (suc k) = no_opening_front xs ys (λ j. none (suc j)) k
-
-shown_outside : (line : List ℕ) (tokens : List Token) → shown_after None None (outside_token line ∷ tokens) ≡ line ++ shown_tokens tokens
-shown_outside line tokens = by_test (is_all_whitespace line)
-  where
-    by_test : (t : Bool) → shown_after None None (record { kind = cond t whitespace plain_text; shown = line } ∷ tokens) ≡ line ++ shown_tokens tokens
-    by_test true = ap (λ r. line ++ r) (settled None (Some whitespace) tokens refl refl)
-    by_test false = ap (λ r. line ++ r) (settled None (Some plain_text) tokens refl refl)
 
 shown_line_end : (tokens : List Token) → shown_after None None (newline ∷ tokens) ≡ space ∷ shown_tokens tokens
 shown_line_end tokens = ap (λ r. space ∷ r) (settled None (Some line_end) tokens refl refl)

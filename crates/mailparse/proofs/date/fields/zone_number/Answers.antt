@@ -10,19 +10,17 @@ use Rattle.mailparse.specs.private.Date.{HasSizeAtMost}
 use Rattle.mailparse.proofs.lemmas.Date.{size_fits, signed_number-parse, zones-size}
 use Rattle.mailparse.proofs.date.fields.zone_number.Goals as goal
 
-pub returns-in-Some-clause-read : goal.returns-in-Some-clause-read
+pub returns-in-Some : goal.returns-in-Some
 unfolding zone_of
-returns-in-Some-clause-read c =
+returns-in-Some c =
     let none : signed_number c.args.word.now ≡ None = signed_number-parse c.args.word.now c.parse.result c.parse.ensures.value.0 ∙ ap result_ok c.in_default.is in
     let found : look_up zones c.args.word.now ≡ Some c.in-Some.zone = ap (look_up zones) (sym c.as_bytes.ensures.value) ∙ sym c.look_up.ensures ∙ c.in-Some.is in
-    let fits = size_fits 2400 c.in-Some.zone (omega arith) (zones-size c.args.word.now c.in-Some.zone found) in
-    ap (λ s. option_map_or zone_of_number s (zone_named c.args.word.now)) none ∙ ap (λ z. ok_or z invalid_zone) found ∙ ap Ok (sym (to_z-of_z w32 c.in-Some.zone fits))
-
-pub returns-in-Some-clause-bounds : goal.returns-in-Some-clause-bounds
-returns-in-Some-clause-bounds c =
-    let found : look_up zones c.args.word.now ≡ Some c.in-Some.zone = ap (look_up zones) (sym c.as_bytes.ensures.value) ∙ sym c.look_up.ensures ∙ c.in-Some.is in
     let close = zones-size c.args.word.now c.in-Some.zone found in
-    subst (HasSizeAtMost 2400) (sym (to_z-of_z w32 c.in-Some.zone (size_fits 2400 c.in-Some.zone (omega arith) close))) close
+    let same = sym (to_z-of_z w32 c.in-Some.zone (size_fits 2400 c.in-Some.zone (omega arith) close)) in
+    record {
+      read = ap (λ s. option_map_or zone_of_number s (zone_named c.args.word.now)) none ∙ ap (λ z. ok_or z invalid_zone) found ∙ ap Ok same;
+      bounds = subst (HasSizeAtMost 2400) same close;
+    }
 
 pub returns-in-None-clause-read : goal.returns-in-None-clause-read
 unfolding zone_of

@@ -1,11 +1,7 @@
-use Rattle.std.proofs.Common.{◌≡◌, ℕ, true, false, refl, sym, ap, ◌∙◌, ◌<◌, length, subst}
-use Rattle.mailparse.specs.Header.{Header, header_end}
+use Rattle.std.proofs.Common.{◌≡◌, true, false, refl, sym, ◌∙◌, ◌<◌, length, subst}
+use Rattle.mailparse.specs.Header.{header_end}
 use Rattle.mailparse.proofs.lemmas.Header.{has_colon-at, feed_after, key_end-<, header_end-key, header_end-from_feed, header_length-at, header_of-key, header_of-value}
 use Rattle.mailparse.proofs.header.parse.cut_header.Goals as goal
-
--- a header and its length, from their parts
-both : (h k : Header) (n m : ℕ) → h ≡ k → n ≡ m → ◌≡◌ {A = Header × ℕ} (h, n) (k, m)
-both h k n m e f = ap (λ (x : Header). (x, n)) e ∙ ap (λ (y : ℕ). (k, y)) f
 
 pub returns-then-not-is_colon_at : goal.returns-then-not-is_colon_at
 returns-then-not-is_colon_at c =
@@ -13,7 +9,9 @@ returns-then-not-is_colon_at c =
     let key = c.key_end-place.ensures.least in
     let without = has_colon-at raw c.key_end-place.result _ false key c.is_colon_at.ensures c.if-not-is_colon_at.true in
     let at : c.key_end-place.result ≡ header_end raw = key ∙ sym (header_end-key raw without) in
-    both _ _ _ _ (sym (header_of-key raw c.key_end-place.result without at)) (c.length_to.ensures ∙ header_length-at raw c.key_end-place.result at)
+    let is = header_of-key raw c.key_end-place.result without at in
+    let size = c.length_to.ensures ∙ header_length-at raw c.key_end-place.result at in
+    λ i. (sym is i, size i)
 
 pub header_end-end-requires-clause-found : goal.header_end-end-requires-clause-found
 header_end-end-requires-clause-found c =
@@ -30,6 +28,6 @@ returns c =
     let low = subst (λ n. n < length raw) (sym key) (key_end-< raw has) in
     let at : c.header_end-end.result ≡ header_end raw =
     c.header_end-end.ensures.least ∙ header_end-from_feed raw c.key_end-place.result c.line_feed_from.result has key low c.line_feed_from.ensures.least in
-    both _ _ _ _
-    (sym (header_of-value raw c.key_end-place.result c.header_end-end.result has key at _ _ _ refl c.trim_spaces.ensures c.trim_line_ends-value.ensures))
-    (c.length_to-2.ensures ∙ header_length-at raw c.header_end-end.result at)
+    let is = header_of-value raw c.key_end-place.result c.header_end-end.result has key at _ _ _ refl c.trim_spaces.ensures c.trim_line_ends-value.ensures in
+    let size = c.length_to-2.ensures ∙ header_length-at raw c.header_end-end.result at in
+    λ i. (sym is i, size i)

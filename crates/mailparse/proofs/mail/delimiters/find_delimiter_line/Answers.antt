@@ -19,13 +19,12 @@ lines-preserved c =
           (sym c.is_delimiter.ensures ∙ c.lines-test.true) c.in-Some.ensures.least;
     }
 
-pub returns-clause-least : goal.returns-clause-least
-returns-clause-least c =
+pub returns : goal.returns
+returns c =
     let here = sym c.is_delimiter.ensures ∙ c.lines-test.false in
+    let low = c.lines.invariant.low in
     let fits = is_delimiter-fits c.args.dash_boundary.now c.args.raw.now c.args.start c.lines.at c.lines.invariant.within here in
-    delimiter_from-some c.args.dash_boundary.now c.args.raw.now c.args.start c.lines.at c.lines.invariant.low (omega (arith, fits, c.requires.some)) here c.lines.invariant.none
-
-pub returns-clause-bounds : goal.returns-clause-bounds
-returns-clause-bounds c =
-    let here = sym c.is_delimiter.ensures ∙ c.lines-test.false in
-    (c.lines.invariant.low, is_delimiter-fits c.args.dash_boundary.now c.args.raw.now c.args.start c.lines.at c.lines.invariant.within here)
+    record {
+      least = delimiter_from-some c.args.dash_boundary.now c.args.raw.now c.args.start c.lines.at low (omega (arith, fits, c.requires.some)) here c.lines.invariant.none;
+      bounds = (low, fits);
+    }

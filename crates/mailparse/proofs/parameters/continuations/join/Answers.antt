@@ -9,20 +9,8 @@ use Rattle.mailparse.proofs.lemmas.ContinuationsJoining.{most, sections_are, sec
 use Rattle.mailparse.proofs.lemmas.ContinuationsTaken.{next_stands, taken_next, taken_none}
 use Rattle.mailparse.proofs.parameters.continuations.join.Goals as goal
 
-pub returns-in_default-clause-text : goal.returns-in_default-clause-text
-returns-in_default-clause-text g c =
-    let at = stands_at g.C.Decode.text c.args.sections.now in
-    let base = c.args.base.now in
-    let count = c.loop-count.count in
-    let below : count < 2 ^ 64 = let l = c.loop-count-test.true in omega (arith, l) in
-    let name : c.as_str.result.now ≡ section_name base count = c.as_str.ensures.value ∙ c.in_ok-name.ensures.ok in
-    let none = sym (next_stands at (stands_at g.C.Decode.text c.loop-count.sections) base count below c.loop-count.invariant.left) ∙ ap (stands_at g.C.Decode.text c.loop-count.sections) (sym name)
-    ∙ sym c.in_default.ensures.taken in
-    let end = sections_none at base (most_sections - count) count none in
-    IfOk-weaker c.finish.result _ _ (λ text is. is ∙ ap (joined_with g.C.Decode.text c.loop-count.joining) (sym end) ∙ c.loop-count.invariant.text ∙ ap joined (sym (sections_are at c.args.base.now))) c.finish.ensures
-
-pub returns-in_default-clause-left : goal.returns-in_default-clause-left
-returns-in_default-clause-left g c =
+pub returns-in_default : goal.returns-in_default
+returns-in_default g c =
     let at = stands_at g.C.Decode.text c.args.sections.now in
     let base = c.args.base.now in
     let count = c.loop-count.count in
@@ -33,12 +21,15 @@ returns-in_default-clause-left g c =
     let end = sections_none at base (most_sections - count) count none in
     let long = ap length end in
     let whole : count ≡ length (sections_of at base) = omega (arith, long, c.loop-count.invariant.count, ap length (sections_are at base)) in
-    IfOk-weaker c.finish.result _ _
-    (λ text is q.
-    taken_none at base count q (stands_at g.C.Decode.text c.loop-count.sections q) _ (c.loop-count.invariant.left q) none
-    (c.in_default.ensures.left q ∙ ap (λ n. cond (bytes_eq n q) None (stands_at g.C.Decode.text c.loop-count.sections q)) name)
-    ∙ ap (λ n. without_sections at base n q) whole)
-    c.finish.ensures
+    record {
+      text = IfOk-weaker c.finish.result _ _ (λ text is. is ∙ ap (joined_with g.C.Decode.text c.loop-count.joining) (sym end) ∙ c.loop-count.invariant.text ∙ ap joined (sym (sections_are at base))) c.finish.ensures;
+      left = IfOk-weaker c.finish.result _ _
+          (λ text is q.
+          taken_none at base count q (stands_at g.C.Decode.text c.loop-count.sections q) _ (c.loop-count.invariant.left q) none
+          (c.in_default.ensures.left q ∙ ap (λ n. cond (bytes_eq n q) None (stands_at g.C.Decode.text c.loop-count.sections q)) name)
+          ∙ ap (λ n. without_sections at base n q) whole)
+          c.finish.ensures;
+    }
 
 pub loop-count-preserved : goal.loop-count-preserved
 loop-count-preserved g c =
@@ -60,17 +51,14 @@ loop-count-preserved g c =
       count = let long = ap length step in omega (arith, long, c.loop-count.invariant.count);
     }
 
-pub returns-clause-text : goal.returns-clause-text
-returns-clause-text g c =
-    let at = stands_at g.C.Decode.text c.args.sections.now in
-    let end = sections_end at c.args.base.now most_sections c.loop-count.count (omega (arith, most, c.loop-count-test.false)) in
-    IfOk-weaker c.finish-2.result _ _ (λ text is. is ∙ ap (joined_with g.C.Decode.text c.loop-count.joining) (sym end) ∙ c.loop-count.invariant.text ∙ ap joined (sym (sections_are at c.args.base.now))) c.finish-2.ensures
-
-pub returns-clause-left : goal.returns-clause-left
-returns-clause-left g c =
+pub returns : goal.returns
+returns g c =
     let at = stands_at g.C.Decode.text c.args.sections.now in
     let base = c.args.base.now in
     let end = sections_end at base most_sections c.loop-count.count (omega (arith, most, c.loop-count-test.false)) in
     let long = ap length end in
     let whole : c.loop-count.count ≡ length (sections_of at base) = omega (arith, long, c.loop-count.invariant.count, ap length (sections_are at base)) in
-    IfOk-weaker c.finish-2.result _ _ (λ text is q. c.loop-count.invariant.left q ∙ ap (λ n. without_sections at base n q) whole) c.finish-2.ensures
+    record {
+      text = IfOk-weaker c.finish-2.result _ _ (λ text is. is ∙ ap (joined_with g.C.Decode.text c.loop-count.joining) (sym end) ∙ c.loop-count.invariant.text ∙ ap joined (sym (sections_are at base))) c.finish-2.ensures;
+      left = IfOk-weaker c.finish-2.result _ _ (λ text is q. c.loop-count.invariant.left q ∙ ap (λ n. without_sections at base n q) whole) c.finish-2.ensures;
+    }

@@ -4,12 +4,13 @@ use Rattle.mailparse.specs.Pairs.{text_at}
 use Rattle.mailparse.specs.private.Continuations.{names_of_sections}
 use Rattle.mailparse.specs.private.Sections.{stands_at}
 use Rattle.mailparse.proofs.lemmas.ContinuationsResolved.{sections_named, resolved}
-use Rattle.mailparse.proofs.lemmas.StarFree.{free_of, nothing_starred, parameters_are_pairs}
+use Rattle.std.proofs.lemmas.Bool.{not-true}
+use Rattle.mailparse.proofs.lemmas.StarFree.{nothing_starred, parameters_are_pairs}
 use Rattle.mailparse.proofs.parameters.continuations.resolve.Goals as goal
 
 pub returns-then-is_star_free : goal.returns-then-is_star_free
 returns-then-is_star_free g c ps holds q =
-    let free = free_of _ (sym c.is_star_free.ensures ∙ c.if-is_star_free.true) in
+    let free = not-true _ (sym c.is_star_free.ensures ∙ c.if-is_star_free.true) in
     holds q ∙ sym (parameters_are_pairs (g.K.KnownCharsets.known c.args.known.now) ps (λ name some. sym (holds name) ∙ nothing_starred c.args.pairs name free some) q)
 
 pub returns : goal.returns
