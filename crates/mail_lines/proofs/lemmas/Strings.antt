@@ -1,6 +1,6 @@
 -- Lemmas on JSON text, and on items with commas.
-use Rattle.std.proofs.Common.{◌≡◌, ℕ, zero, suc, ◌+◌, ◌<◌, ◌≤◌, Bool, true, false, List, [], ◌∷◌, ◌++◌, length, drop, get_or, min, ℤ, pos, negsuc, Option, String, Global, FitsSigned, w64, decimal, arith, string_bytes, map, refl, sym, ap, subst, ◌∙◌, append_assoc, add-one, drop-cons}
-use Rattle.std.proofs.KnownBytes.{Appends-nil, Appends-trans}
+use Rattle.std.proofs.Common.{◌≡◌, ℕ, suc, ◌+◌, ◌<◌, ◌≤◌, Bool, true, false, List, [], ◌∷◌, ◌++◌, length, drop, get_or, min, ℤ, pos, negsuc, Option, String, Global, FitsSigned, w64, decimal, arith, string_bytes, map, sym, ap, subst, ◌∙◌, append_assoc, add-one, drop-cons}
+use Rattle.std.proofs.KnownBytes.{Appends-trans}
 use Rattle.std.proofs.lemmas.Bool.{cond-true, cond-false}
 use Rattle.std.proofs.lemmas.List.{append-nil, drop_all}
 use Rattle.std.proofs.lemmas.Str.{chars-nil, chars_past_char, is_utf8-from_IsUtf8, IsUtf8-string_bytes}

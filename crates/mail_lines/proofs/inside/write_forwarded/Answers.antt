@@ -1,6 +1,5 @@
-use Rattle.std.proofs.Common.{◌+◌, drop, map, ap, arith}
+use Rattle.std.proofs.Common.{arith}
 use Rattle.std.proofs.KnownBytes.{Appends-trans}
-use Rattle.std.proofs.lemmas.List.{drop_all}
 use Rattle.mail_data.specs.InnerMailViews.{inner_view}
 use Rattle.mail_lines.specs.Inside.{inner_text}
 use Rattle.mail_lines.proofs.lemmas.Strings.{wrote_item, wrote_items}

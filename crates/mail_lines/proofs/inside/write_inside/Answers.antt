@@ -1,4 +1,4 @@
-use Rattle.std.proofs.Common.{◌+◌, List, [], ◌++◌, drop, map, refl, ap, arith}
+use Rattle.std.proofs.Common.{◌+◌, [], ◌++◌, drop, map, ap, arith}
 use Rattle.std.proofs.KnownBytes.{Appends-nil, Appends-trans}
 use Rattle.std.proofs.lemmas.List.{drop_all}
 use Rattle.mail_data.specs.InnerMailViews.{inner_view}

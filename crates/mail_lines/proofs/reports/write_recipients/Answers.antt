@@ -1,6 +1,5 @@
-use Rattle.std.proofs.Common.{rules, ◌≡◌, ◌+◌, map, drop, ap, arith}
+use Rattle.std.proofs.Common.{rules, ◌≡◌, map, ap, arith}
 use Rattle.std.proofs.KnownBytes.{Appends-trans}
-use Rattle.std.proofs.lemmas.List.{drop_all}
 use Rattle.mailparse.specs.Views.{tree_of}
 use Rattle.mail_data.specs.Bounce.{recipients}
 use Rattle.mail_data.specs.BounceViews.{delivery}
