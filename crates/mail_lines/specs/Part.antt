@@ -167,3 +167,8 @@ AreAfterCommas Is (x ∷ xs) text =
 abbrev pub AreJoined : {A : Type 0} → (A → List ℕ → Type 0) → List A → List ℕ → Type 0
 AreJoined Is [] text = text ≡ []
 AreJoined Is (x ∷ xs) text = (first : List ℕ) × (others : List ℕ) × Is x first × AreAfterCommas Is xs others × (text ≡ first ++ others)
+
+-- a text is that of items, each after a comma, but the first one where it is the first of all
+abbrev pub AreItems : {A : Type 0} → (A → List ℕ → Type 0) → Bool → List A → List ℕ → Type 0
+AreItems Is true xs text = AreJoined Is xs text
+AreItems Is false xs text = AreAfterCommas Is xs text

@@ -2,8 +2,6 @@
 ghost use Rattle.std.specs.Prelude.{◌≡◌, map, option_and_then, option_map, IfOk};
 ghost use Rattle.std.specs.Option.{is_some};
 ghost use Rattle.mailparse.specs.Outcome.{IsMemory, refusal_of};
-ghost use Rattle.mailparse.specs.Views.{placements_of, tree_of};
-ghost use Rattle.mail_data.specs.InnerMails.{places_under};
 ghost use Rattle.mail_data.specs.InnerMailViews.{inner_view};
 ghost use Rattle.mail_lines.specs.Fields.{refusal_text};
 ghost use Rattle.mail_lines.specs.Inside.{AreInside, forwarded_text, inner_text};
@@ -15,12 +13,12 @@ ghost use Rattle.mail_lines.specs.Written.{Writes, WritesOne};
 
 use crate::fields::refusal_text;
 use crate::origin::write_number_or_null;
-use crate::part::write_part;
+use crate::part::write_found;
 use crate::reading::Reading;
 use crate::strings::{write_comma, write_owned, write_text, write_word};
 use mail_data::inner_mails::{InnerMail, places_under};
 use mail_program::Fault;
-use mailparse::{KnownCharsets, MailParseError, ParsedMail, parse_mail_in};
+use mailparse::{KnownCharsets, MailParseError, parse_mail_in};
 use std::alloc::{AllocError, Global};
 use std::io::Write;
 
@@ -64,15 +62,8 @@ fn write_inner_parts<W: Write, K: KnownCharsets>(
     match parse_mail_in(alloc, inner.bytes.as_slice(), known) {
         Ok(mail) => {
             let start = inside_start(start, inner.start);
-            write_places(
-                alloc,
-                out,
-                &mail,
-                inner.path.as_str(),
-                start,
-                known,
-                reading,
-            )
+            let found = places_under(alloc, &mail, inner.path.as_str())?;
+            write_found(alloc, out, found.as_slice(), false, start, known, reading)
         }
         Err(error) => {
             refused(&error)?;
@@ -99,28 +90,6 @@ fn refused(error: &MailParseError) -> Result<(), AllocError>
         MailParseError::Memory(_) => Err(AllocError),
         _ => Ok(()),
     }
-}
-
-/// Writes the objects of the parts of a mail that the part with this path holds, each after a comma.
-fn write_places<W: Write, K: KnownCharsets>(
-    alloc: Global,
-    out: &mut W,
-    mail: &ParsedMail<'_>,
-    path: &str,
-    start: Option<usize>,
-    known: &K,
-    reading: Reading,
-) -> Result<(), Fault>
-    ensures { WritesOne (W.contents out.old) (W.contents out.new) result
-        (AreAfterCommas (IsPartText (reading_of (K.known known.now) reading) start)
-        (places_under path.now (tree_of mail.now) (placements_of mail.now))) }
-{
-    let found = places_under(alloc, mail, path)?;
-    for place in &found {
-        write_word(out, ",")?;
-        write_part(alloc, out, place, start, known, reading)?;
-    }
-    Ok(())
 }
 
 /// Writes the member of the mails inside a mail that begins there.

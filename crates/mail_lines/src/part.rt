@@ -1,5 +1,5 @@
 //! The objects of the parts.
-ghost use Rattle.std.specs.Prelude.{◌&&◌, ◌≡◌, ℕ, List, IfOk, Some, true, false};
+ghost use Rattle.std.specs.Prelude.{◌&&◌, ◌≡◌, ℕ, List, IfOk, Some, map, true, false};
 ghost use Rattle.std.specs.Cow.{cow_slice_items};
 ghost use Rattle.mailparse.specs.Body.{BodyKind, decoded};
 ghost use Rattle.mailparse.specs.BodyViews.{Content, content_of};
@@ -12,7 +12,7 @@ ghost use Rattle.mail_data.specs.lenient.Base64.{base64_front};
 ghost use Rattle.mail_data.specs.lenient.Encoding.{lenient_body_kind};
 ghost use Rattle.mail_data.specs.PlaceViews.{place_view};
 ghost use Rattle.mail_lines.specs.Body.{decoded_size};
-ghost use Rattle.mail_lines.specs.Part.{AreJoined, IsPartText, IsTypeText, body_text, damaged_text};
+ghost use Rattle.mail_lines.specs.Part.{AreItems, AreJoined, IsPartText, IsTypeText, body_text, damaged_text};
 ghost use Rattle.mail_lines.specs.Part.{hash_of, place_in, sha256_text, shown_text};
 ghost use Rattle.mail_lines.specs.Reading.{reading_of};
 ghost use Rattle.mail_program.specs.Hash.{hash_text};
@@ -61,10 +61,41 @@ pub fn write_parts<W: Write, K: KnownCharsets>(
         (places (tree_of mail.now) (placements_of mail.now))) }
 {
     let found = places(alloc, mail)?;
-    let mut is_first = true;
-    for place in &found {
+    write_found(
+        alloc,
+        out,
+        found.as_slice(),
+        true,
+        Some(start),
+        known,
+        reading,
+    )
+}
+
+/// Writes the objects of parts of a mail that begins there, each after a comma, but the first one
+/// where it is the first of all.
+///
+/// # Errors
+///
+/// `Fault::Output` where a write fails, and `Fault::Mail` with `MailParseError::Memory` where it runs
+/// out of memory.
+pub fn write_found<W: Write, K: KnownCharsets>(
+    alloc: Global,
+    out: &mut W,
+    found: &[Place<'_, '_>],
+    begins: bool,
+    start: Option<usize>,
+    known: &K,
+    reading: Reading,
+) -> Result<(), Fault>
+    ensures { WritesOne (W.contents out.old) (W.contents out.new) result
+        (AreItems (IsPartText (reading_of (K.known known.now) reading) start) begins
+        (map place_view found.now)) }
+{
+    let mut is_first = begins;
+    for place in found {
         write_comma(out, is_first)?;
-        write_part(alloc, out, place, Some(start), known, reading)?;
+        write_part(alloc, out, place, start, known, reading)?;
         is_first = false;
     }
     Ok(())

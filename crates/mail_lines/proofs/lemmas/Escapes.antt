@@ -19,6 +19,7 @@ use Rattle.json.specs.Text.{content, plain, prepend, code_unit, short_escape, is
 use Rattle.json.specs.Word.{is_operator, is_space}
 use Rattle.mail_lines.specs.Strings.{is_hidden, character_text, escaped, json_text, utf8_text}
 use Rattle.mail_lines.specs.Values.{is_within_line}
+use Rattle.mail_lines.proofs.lemmas.Strings.{character_plain}
 
 -- what both readers make of a piece of a string, before any text; and no line ends in it
 pub record Passes (bytes piece : List ℕ) : Type 0 where
@@ -222,10 +223,6 @@ one_scalar c ok = and_from _ _ ok refl
 chars-one : (c : ℕ) → IsScalar c → chars (encode_utf8 c) ≡ c ∷ []
 chars-one c ok = ap chars (sym (append-nil (encode_utf8 c))) ∙ chars-encodes (c ∷ []) (one_scalar c ok)
 
-shown_plain : (c : ℕ) → is_hidden c ≡ false → character_text c ≡ encode_utf8 c
-unfolding character_text
-shown_plain c e = cond-false (is_hidden c) _ (encode_utf8 c) e
-
 not_hidden : (c : ℕ) → 160 ≤ c → (c ≡ 8232 → ⊥) → (c ≡ 8233 → ⊥) → is_hidden c ≡ false
 unfolding is_hidden
 not_hidden c big a b = grind arith
@@ -233,7 +230,7 @@ not_hidden c big a b = grind arith
 piece_high : (c : ℕ) → IsScalar c → 160 ≤ c → (c ≡ 8232 → ⊥) → (c ≡ 8233 → ⊥) → piece c ≡ encode_utf8 c
 piece_high c ok big a b =
     ap (λ t. flat_map character_text (chars t)) (escape_high (encode_utf8 c) (encode_high c (omega arith)))
-    ∙ ap (flat_map character_text) (chars-one c ok) ∙ append-nil (character_text c) ∙ shown_plain c (not_hidden c big a b)
+    ∙ ap (flat_map character_text) (chars-one c ok) ∙ append-nil (character_text c) ∙ character_plain c (not_hidden c big a b)
 
 character_passes : (c : ℕ) → IsScalar c → Passes (encode_utf8 c) (piece c)
 character_passes c ok = go (cases_lt c 160) (cases_eq c 8232) (cases_eq c 8233)

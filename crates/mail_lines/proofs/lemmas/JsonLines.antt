@@ -50,7 +50,7 @@ use Rattle.mail_lines.specs.declared.chosen.Form.{Form}
 use Rattle.mail_lines.proofs.lemmas.Strings.{number_text-fits}
 use Rattle.mail_lines.proofs.lemmas.Plain.{are_plain, json_text-plain}
 use Rattle.mail_lines.proofs.lemmas.Texts.{text_of}
-use Rattle.mail_lines.proofs.lemmas.Values.{AreGood, AreWritten, IsGood, IsWritten, all_distinct, before_value, distinct_names, enclosed_written, flag_written, json_line, list_written, mapped_written, member_text, more_written, names, null_written, number_written, object_written, one_written, optional_written, seconds_written, sorted_names, string_written, then_written}
+use Rattle.mail_lines.proofs.lemmas.Values.{AreGood, AreWritten, IsGood, IsWritten, all_distinct, all_then, before_value, distinct_names, enclosed_written, flag_written, json_line, list_written, mapped_written, member_text, more_written, names, null_written, number_written, object_written, one_written, optional_written, seconds_written, sorted_names, string_written, then_written}
 
 -- ---- the members of a type
 
@@ -389,10 +389,6 @@ module _ (known : Charsets) where
 module _ (reading : Reading) where
   -- ---- the mails inside
 
-  goods_then : (d : ℕ) (xs ys : List Json) → AllByRecursion (IsGood d) xs → AllByRecursion (IsGood d) ys → AllByRecursion (IsGood d) (xs ++ ys)
-  goods_then d [] ys h k = k
-  goods_then d (x ∷ xs) ys h k = (h.0, goods_then d xs ys h.1 k)
-
   inside_written : (start : ℕ) (mails : List InnerMail) (text : List ℕ) → AreInside reading start mails text
       → (values : List Json) × AreInsideValues reading start mails values × (text ≡ after_commas text_of values) × AllByRecursion (IsGood 3) values
   inside_written start [] text is = ([], refl, is, tt)
@@ -402,7 +398,7 @@ module _ (reading : Reading) where
         first.0 ++ rest.0,
         (first.0, rest.0, first.1, rest.1, refl),
         is.4 ∙ (λ i. first.2 i ++ rest.2 i) ∙ sym (flat_map-append (λ (j : Json). codes "," ++ text_of j) first.0 rest.0),
-        goods_then 3 first.0 rest.0 first.3 rest.3,
+        all_then (IsGood 3) first.0 rest.0 first.3 rest.3,
       )
 
   -- the list of all parts: the mail's own, and those of the mails inside
@@ -415,7 +411,7 @@ module _ (reading : Reading) where
       let inside = inside_written start mails b h in
       let same : 44 ∷ (a ++ b) ≡ after_commas text_of (own.0 ++ inside.0) =
       (λ i. own.2 i ++ inside.2 i) ∙ sym (flat_map-append (λ (j : Json). codes "," ++ text_of j) own.0 inside.0) in
-      (own.0, inside.0, own.1, inside.1, list_written 3 (own.0 ++ inside.0) (a ++ b) same (goods_then 3 own.0 inside.0 own.3 inside.3))
+      (own.0, inside.0, own.1, inside.1, list_written 3 (own.0 ++ inside.0) (a ++ b) same (all_then (IsGood 3) own.0 inside.0 own.3 inside.3))
 
   inner_written : (d start : ℕ) (inner : InnerMail) → IsWritten (suc d) (inner_value start inner) (inner_text start inner)
   inner_written d start inner =
@@ -503,10 +499,6 @@ line_is_json reading origin (Err refusal) is_clean text is =
 
 one_json_line : (Is : Json → Type 0) (text : List ℕ) → IsOneLine Is text → AreJsonLines text
 one_json_line Is text p = (p.1 ∷ [], ((p.0, p.3), tt), p.4 ∙ sym (append-nil (p.1 ++ codes "\n")))
-
-all_then : (P : List ℕ → Type 0) (xs ys : List (List ℕ)) → AllByRecursion P xs → AllByRecursion P ys → AllByRecursion P (xs ++ ys)
-all_then P [] ys h k = k
-all_then P (x ∷ xs) ys h k = (h.0, all_then P xs ys h.1 k)
 
 lines_then : (a b : List ℕ) → AreJsonLines a → AreJsonLines b → AreJsonLines (a ++ b)
 lines_then a b p q = (

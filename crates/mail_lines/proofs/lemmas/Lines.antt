@@ -1,7 +1,8 @@
 -- Lemmas on the lines of mailboxes.
 use Rattle.std.proofs.Common.{◌≡◌, ℕ, ◌+◌, ◌<◌, ◌≤◌, Bool, true, false, cond, ◌&&◌, List, [], ◌∷◌, ◌++◌, Option, None, Some, Result, length, take, refl, sym, ap, subst, ◌∙◌, append_assoc, arith, length-append, inl, inr}
+use Rattle.std.proofs.Math.Bool.{and_assoc, and-true}
 use Rattle.std.specs.Prelude.{min, not, nat_lt, ◌-◌, ◌^◌}
-use Rattle.std.proofs.lemmas.Bool.{cases_Bool, cases_lt, cond-false, cond-true, false≢true, le-ltb, lt-ltb}
+use Rattle.std.proofs.lemmas.Bool.{cases_lt, false≢true, le-ltb, lt-ltb}
 use Rattle.std.proofs.lemmas.List.{append-nil, length-take-le}
 use Rattle.mail_lines.specs.Reading.{Reading}
 use Rattle.mail_data.specs.Mailbox.{Entry, entry_bytes, front_length}
@@ -17,14 +18,6 @@ use Rattle.mail_lines.specs.Lines.{AreLines, IsFront, IsLine, Lines, WritesLines
 use Rattle.mail_lines.specs.Stream.{Continues}
 use Rattle.mail_lines.specs.declared.chosen.Which.{Which}
 use Rattle.mail_lines.specs.declared.chosen.Which.TheVariants.{Numbered, Within}
-
-pub and_grouped : (a b c : Bool) → (a && (b && c)) ≡ ((a && b) && c)
-and_grouped true b c = refl
-and_grouped false b c = refl
-
-pub and_true : (a : Bool) → (a && true) ≡ a
-and_true true = refl
-and_true false = refl
 
 -- ---- places: those past the greatest number of 64 bits count as it
 
@@ -104,58 +97,26 @@ module _ (reading : Reading) (format : Format) (file : Option (List ℕ)) where
         h.7,
       )
 
-  -- the lines of mails in a range
-  abbrev AreIn : (from to : ℕ) → List Placed → Lines
-  AreIn from to mails = AreLines reading format file None (in_range from to mails)
-
-  -- a mail in the range, and the others
-  in-first : (from to : ℕ) (mail : Placed) (rest : List Placed) (is_clean : Bool) (text : List ℕ) → begins_in from to mail ≡ true
-      → AreLines reading format file None (mail ∷ in_range from to rest) is_clean text → AreIn from to (mail ∷ rest) is_clean text
-  in-first from to mail rest is_clean text is h =
-      subst (λ (ms : List Placed). AreLines reading format file None ms is_clean text) (sym (cond-true (begins_in from to mail) (mail ∷ in_range from to rest) (in_range from to rest) is)) h
-
-  first-in : (from to : ℕ) (mail : Placed) (rest : List Placed) (is_clean : Bool) (text : List ℕ) → begins_in from to mail ≡ true
-      → AreIn from to (mail ∷ rest) is_clean text → AreLines reading format file None (mail ∷ in_range from to rest) is_clean text
-  first-in from to mail rest is_clean text is h =
-      subst (λ (ms : List Placed). AreLines reading format file None ms is_clean text) (cond-true (begins_in from to mail) (mail ∷ in_range from to rest) (in_range from to rest) is) h
-
-  -- a mail outside it
-  out-first : (from to : ℕ) (mail : Placed) (rest : List Placed) (is_clean : Bool) (text : List ℕ) → begins_in from to mail ≡ false
-      → AreIn from to rest is_clean text → AreIn from to (mail ∷ rest) is_clean text
-  out-first from to mail rest is_clean text fails h =
-      subst (λ (ms : List Placed). AreLines reading format file None ms is_clean text) (sym (cond-false (begins_in from to mail) (mail ∷ in_range from to rest) (in_range from to rest) fails)) h
-
-  first-out : (from to : ℕ) (mail : Placed) (rest : List Placed) (is_clean : Bool) (text : List ℕ) → begins_in from to mail ≡ false
-      → AreIn from to (mail ∷ rest) is_clean text → AreIn from to rest is_clean text
-  first-out from to mail rest is_clean text fails h =
-      subst (λ (ms : List Placed). AreLines reading format file None ms is_clean text) (cond-false (begins_in from to mail) (mail ∷ in_range from to rest) (in_range from to rest) fails) h
+  -- the first mail, if it has a line, at another place that counts as the same, and the others
+  first-capped : (has : Bool) (a b : ℕ) (entry : Entry) (f g : List Placed) (is_clean : Bool) (text : List ℕ) → capped a ≡ capped b
+      → ((clean : Bool) (more : List ℕ) → AreLines reading format file None f clean more → AreLines reading format file None g clean more)
+      → AreLines reading format file None (cond has (record { start = a; entry = entry } ∷ f) f) is_clean text
+      → AreLines reading format file None (cond has (record { start = b; entry = entry } ∷ g) g) is_clean text
+  first-capped false a b entry f g is_clean text same others h = others is_clean text h
+  first-capped true a b entry f g is_clean text same others h =
+      let line = subst (λ (o : Origin). IsLine reading o (mail_in format entry.mail) h.0 h.2) (origin-capped file None a b entry same) h.4 in
+      (h.0, h.1, h.2, h.3, line, others h.1 h.3 h.5, h.6, h.7)
 
   in-capped : (from to : ℕ) → from < 2 ^ 64 → to < 2 ^ 64 → (a b : ℕ) (mails : List Entry) (is_clean : Bool) (text : List ℕ) → capped a ≡ capped b
-      → AreIn from to (placed_from a mails) is_clean text → AreIn from to (placed_from b mails) is_clean text
+      → AreLines reading format file None (in_range from to (placed_from a mails)) is_clean text → AreLines reading format file None (in_range from to (placed_from b mails)) is_clean text
   in-capped from to low high a b [] is_clean text same h = h
   in-capped from to low high a b (entry ∷ mails) is_clean text same h =
       let size = length (entry_bytes entry) in
       let later : capped (a + size) ≡ capped (b + size) = sum-capped a b size same in
-      let one : Placed = record { start = a; entry = entry } in
-      let two : Placed = record { start = b; entry = entry } in
-      let begins : begins_in from to one ≡ begins_in from to two = range-capped from to a b low high same in
-      elim (cases_Bool (begins_in from to one)) [
-        | inl is ↦
-            let cut = first-in from to one (placed_from (a + size) mails) is_clean text is h in
-            in-first from to two (placed_from (b + size) mails) is_clean text (sym begins ∙ is) (
-              cut.0,
-              cut.1,
-              cut.2,
-              cut.3,
-              subst (λ (o : Origin). IsLine reading o (mail_in format entry.mail) cut.0 cut.2) (origin-capped file None a b entry same) cut.4,
-              in-capped from to low high (a + size) (b + size) mails cut.1 cut.3 later cut.5,
-              cut.6,
-              cut.7,
-            )
-        | inr fails ↦
-            out-first from to two (placed_from (b + size) mails) is_clean text (sym begins ∙ fails)
-            (in-capped from to low high (a + size) (b + size) mails is_clean text later (first-out from to one (placed_from (a + size) mails) is_clean text fails h))
-      ]
+      let rest = in_range from to (placed_from (b + size) mails) in
+      subst (λ (has : Bool). AreLines reading format file None (cond has (record { start = b; entry = entry } ∷ rest) rest) is_clean text) (range-capped from to a b low high same)
+      (first-capped (begins_in from to (record { start = a; entry = entry })) a b entry (in_range from to (placed_from (a + size) mails)) rest is_clean text same
+      (λ clean more. in-capped from to low high (a + size) (b + size) mails clean more later) h)
 
   pub chosen_capped : (which : Which) → Fits which → (a b : ℕ) (mails : List Entry) (is_clean : Bool) (text : List ℕ) → capped a ≡ capped b
       → AreChosen reading format file which (placed_from a mails) is_clean text → AreChosen reading format file which (placed_from b mails) is_clean text
@@ -163,20 +124,20 @@ module _ (reading : Reading) (format : Format) (file : Option (List ℕ)) where
   chosen_capped (Within from to) fits a b mails is_clean text same h = in-capped from to fits.0 fits.1 a b mails is_clean text same h
 
   -- the line of the first mail, if it has one, and those of the others
+  line-cons : (has : Bool) (mail : Placed) (rest : List Placed) (one others : Bool) (line lines : List ℕ)
+      → OnlyIf has (IsLine reading (origin_at file None mail.start mail.entry) (mail_in format mail.entry.mail)) one line → AreLines reading format file None rest others lines
+      → AreLines reading format file None (cond has (mail ∷ rest) rest) (one && others) (line ++ lines)
+  line-cons true mail rest one others line lines p h = (one, others, line, lines, p, h, refl, refl)
+  line-cons false mail rest one others line lines p h =
+      subst (λ (w : Bool). AreLines reading format file None rest (w && others) (line ++ lines)) (sym p.0)
+      (subst (λ (t : List ℕ). AreLines reading format file None rest others (t ++ lines)) (sym p.1) h)
+
   chosen-cons : (which : Which) (at : ℕ) (entry : Entry) (rest : List Placed) (one others : Bool) (line lines : List ℕ) → IsEntryLine reading format file which at entry one line
       → AreChosen reading format file (next_which which) rest others lines → AreChosen reading format file which (record { start = at; entry = entry } ∷ rest) (one && others) (line ++ lines)
   chosen-cons (Numbered number) at entry rest one others line lines p h = (one, others, line, lines, p, h, refl, refl)
   chosen-cons (Within from to) at entry rest one others line lines p h =
       let mail : Placed = record { start = at; entry = entry } in
-      let Are : Lines = IsLine reading (origin_at file None at entry) (mail_in format entry.mail) in
-      elim (cases_Bool (begins_in from to mail)) [
-        | inl is ↦
-            in-first from to mail rest (one && others) (line ++ lines) is (one, others, line, lines, subst (λ (w : Bool). OnlyIf w Are one line) is p, h, refl, refl)
-        | inr fails ↦
-            let none = subst (λ (w : Bool). OnlyIf w Are one line) fails p in
-            out-first from to mail rest (one && others) (line ++ lines) fails
-            (subst (λ (w : Bool). AreIn from to rest (w && others) (line ++ lines)) (sym none.0) (subst (λ (t : List ℕ). AreIn from to rest others (t ++ lines)) (sym none.1) h))
-      ]
+      line-cons (begins_in from to mail) mail (in_range from to rest) one others line lines p h
 
   -- behind the range nothing is written
   pub chosen_past : (which : Which) (at : ℕ) (mails : List Entry) → is_past which at ≡ true → AreChosen reading format file which (placed_from at mails) true []
@@ -202,7 +163,7 @@ module _ (reading : Reading) (format : Format) (file : Option (List ℕ)) where
       here (one && others) (line ++ lines)
       (subst (λ (es : List Entry). AreChosen reading format file which (placed_from at es) (one && others) (line ++ lines)) (sym e)
       (chosen-cons which at entry (placed_from (at + size) next) one others line lines p rest)) in
-      subst (λ (w : Bool). AreChosen reading format file first (placed_from start all) w ((done ++ line) ++ lines)) (and_grouped is_clean one others)
+      subst (λ (w : Bool). AreChosen reading format file first (placed_from start all) w ((done ++ line) ++ lines)) (sym (and_assoc is_clean one others))
       (subst (λ (t : List ℕ). AreChosen reading format file first (placed_from start all) (is_clean && (one && others)) t) (sym (append_assoc done line lines)) whole)
 
   -- nothing more is written
@@ -210,7 +171,7 @@ module _ (reading : Reading) (format : Format) (file : Option (List ℕ)) where
       → AreChosen reading format file which (placed_from at left) true [] → Continues reading format file first start all which at left is_clean done
       → AreChosen reading format file first (placed_from start all) is_clean done
   lines_stop first start which at all left is_clean done none here =
-      subst (λ (w : Bool). AreChosen reading format file first (placed_from start all) w done) (and_true is_clean)
+      subst (λ (w : Bool). AreChosen reading format file first (placed_from start all) w done) (and-true is_clean)
       (subst (λ (t : List ℕ). AreChosen reading format file first (placed_from start all) (is_clean && true) t) (append-nil done) (here true [] none))
 
   no-mails : (which : Which) → AreChosen reading format file which [] true []

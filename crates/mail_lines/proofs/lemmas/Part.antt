@@ -1,5 +1,5 @@
 -- Lemmas on the texts of parts, and on the parameters of a type.
-use Rattle.std.proofs.Common.{◌≡◌, ℕ, Bool, true, false, List, [], ◌∷◌, ◌++◌, map, Some, Ok, Err, option_map, cond, String, refl, sym, ap, subst, ◌∙◌, append_assoc}
+use Rattle.std.proofs.Common.{◌≡◌, ℕ, Bool, true, false, List, [], ◌∷◌, ◌++◌, map, Option, Some, Result, Ok, Err, option_map, cond, String, refl, sym, ap, subst, ◌∙◌, append_assoc}
 use Rattle.std.proofs.lemmas.List.{append-nil}
 use Rattle.std.proofs.lemmas.Map.Text.{is_eq-slice_cmp}
 use Rattle.std.specs.Prelude.{codes}
@@ -26,39 +26,55 @@ use Rattle.mail_data.specs.lenient.Base64.{base64_front}
 use Rattle.mail_data.specs.Flowed.{flowed_text}
 use Rattle.mail_data.specs.lenient.Encoding.{lenient_body_kind}
 use Rattle.mail_data.specs.lenient.Texts.{BodyText, Read, lenient_bytes, read_or_front, text_read}
-use Rattle.mail_lines.specs.Part.{Lists, AreAfterCommas, AreJoined, body_text, hash_of, read_text, sha256_text, shown_text, text_text}
+use Rattle.mail_lines.specs.Part.{Lists, AreAfterCommas, AreItems, body_text, hash_of, read_text, sha256_text, shown_text, text_text}
 use Rattle.mail_program.specs.Hash.{hash_text}
 use Rattle.mail_lines.specs.Strings.{comma}
+use Rattle.mail_lines.specs.Written.{WritesOne}
+use Rattle.mail_data.specs.PartPlaces.{Place}
+use Rattle.mail_program.specs.declared.fault.Fault.{Fault}
 
 -- ---- the objects, a comma between two
 
--- what was written of items, which any text of those that are left completes; nothing, where the first one is left
-abbrev pub Joins : {A : Type 0} → (A → List ℕ → Type 0) → Bool → (left all : List A) → List ℕ → Type 0
-Joins Is true left all done = (left ≡ all) × (done ≡ [])
-Joins Is false left all done = (rest : List ℕ) → AreAfterCommas Is left rest → AreJoined Is all (done ++ rest)
+-- what was written, which any text of what is left completes
+abbrev pub Completes : (Left All : List ℕ → Type 0) → List ℕ → Type 0
+Completes Left All done = (rest : List ℕ) → Left rest → All (done ++ rest)
+
+pub completes_more : (Left Rest All : List ℕ → Type 0) (done text : List ℕ) → ((rest : List ℕ) → Rest rest → Left (text ++ rest))
+    → Completes Left All done → Completes Rest All (done ++ text)
+completes_more Left Rest All done text step here rest h = subst All (sym (append_assoc done text rest)) (here (text ++ rest) (step rest h))
+
+pub completes_end : (Left All : List ℕ → Type 0) (done : List ℕ) → Left [] → Completes Left All done → All done
+completes_end Left All done none here = subst All (append-nil done) (here [] none)
 
 -- one item more
-pub joins_more : {A : Type 0} (Is : A → List ℕ → Type 0) (is_first : Bool) (x : A) (left rest all : List A) (done text : List ℕ) → left ≡ x ∷ rest
-    → Joins Is is_first left all done → Is x text → Joins Is false rest all (done ++ (comma is_first ++ text))
-joins_more {A = A} Is true x left rest all done text e here is others h =
-    subst (λ (xs : List A). AreJoined Is xs ((done ++ text) ++ others)) (sym e ∙ here.0)
-    (text, others, is, h, ap (λ (d : List ℕ). (d ++ text) ++ others) here.1)
-joins_more {A = A} Is false x left rest all done text e here is others h =
-    let whole = here ((codes "," ++ text) ++ others)
-    (subst (λ (xs : List A). AreAfterCommas Is xs ((codes "," ++ text) ++ others)) (sym e) (text, others, is, h, append_assoc (codes ",") text others)) in
-    subst (AreJoined Is all) (sym (append_assoc done (codes "," ++ text) others)) whole
+item_first : {A : Type 0} (Is : A → List ℕ → Type 0) (is_first : Bool) (x : A) (rest : List A) (text others : List ℕ) → Is x text
+    → AreAfterCommas Is rest others → AreItems Is is_first (x ∷ rest) ((comma is_first ++ text) ++ others)
+item_first Is true x rest text others is h = (text, others, is, h, refl)
+item_first Is false x rest text others is h = (text, others, is, h, append_assoc (codes ",") text others)
+
+pub items_more : {A : Type 0} (Is : A → List ℕ → Type 0) (All : List ℕ → Type 0) (is_first : Bool) (x : A) (left rest : List A) (done text : List ℕ)
+    → left ≡ x ∷ rest → Completes (AreItems Is is_first left) All done → Is x text → Completes (AreAfterCommas Is rest) All (done ++ (comma is_first ++ text))
+items_more {A = A} Is All is_first x left rest done text e here is =
+    completes_more (AreItems Is is_first left) (AreAfterCommas Is rest) All done (comma is_first ++ text)
+    (λ others h. subst (λ (xs : List A). AreItems Is is_first xs ((comma is_first ++ text) ++ others)) (sym e) (item_first Is is_first x rest text others is h)) here
 
 -- no item is left
-pub joins_end : {A : Type 0} (Is : A → List ℕ → Type 0) (is_first : Bool) (left all : List A) (done : List ℕ) → left ≡ [] → Joins Is is_first left all done
-    → AreJoined Is all done
-joins_end {A = A} Is true left all done e here = subst (λ (xs : List A). AreJoined Is xs done) (sym e ∙ here.0) here.1
-joins_end {A = A} Is false left all done e here =
-    subst (AreJoined Is all) (append-nil done) (here [] (subst (λ (xs : List A). AreAfterCommas Is xs []) (sym e) refl))
+no_items : {A : Type 0} (Is : A → List ℕ → Type 0) (is_first : Bool) → AreItems Is is_first [] []
+no_items Is true = refl
+no_items Is false = refl
+
+pub items_end : {A : Type 0} (Is : A → List ℕ → Type 0) (All : List ℕ → Type 0) (is_first : Bool) (left : List A) (done : List ℕ) → left ≡ []
+    → Completes (AreItems Is is_first left) All done → All done
+items_end {A = A} Is All is_first left done e here =
+    completes_end (AreItems Is is_first left) All done (subst (λ (xs : List A). AreItems Is is_first xs []) (sym e) (no_items Is is_first)) here
+
+-- the same parts at the same place by other names
+pub found_as : {T : Type 0} (Are : Option ℕ → List Place → List ℕ → Type 0) (s t : Option ℕ) (xs ys : List Place) (old new : Option (List ℕ)) (r : Result T Fault) → s ≡ t
+    → xs ≡ ys → WritesOne old new r (Are s xs) → WritesOne old new r (Are t ys)
+found_as Are s t xs ys old new r e f h =
+    subst (λ (z : Option ℕ). WritesOne old new r (Are z ys)) e (subst (λ (zs : List Place). WritesOne old new r (Are s zs)) f h)
 
 -- ---- a message and its parts
-
-pub bytes-out : (m : ParsedMail) → (out-ParsedMail m).raw_bytes.now ≡ (root (tree_of m)).bytes
-bytes-out m = ap (λ (t : Tree). (root t).bytes) (sym (fold_out-ParsedMail Tree tree_step m))
 
 pub ctype-out : (m : ParsedMail) → content_type (out-ParsedMail m).ctype ≡ (root (tree_of m)).ctype
 ctype-out m = ap (λ (t : Tree). (root t).ctype) (sym (fold_out-ParsedMail Tree tree_step m))

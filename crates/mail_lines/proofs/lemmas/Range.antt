@@ -1,5 +1,6 @@
 -- Lemmas on the lines of a part of an input.
 use Rattle.std.proofs.Common.{◌≡◌, ℕ, zero, suc, ◌+◌, ◌-◌, ◌<◌, ◌≤◌, Bool, true, false, ◌&&◌, List, [], ◌∷◌, ◌++◌, Option, None, Result, Ok, length, take, drop, refl, sym, ap, subst, ◌∙◌, append_assoc, arith}
+use Rattle.std.proofs.Math.Bool.{and_assoc, and-true}
 use Rattle.std.specs.Prelude.{◌*◌, ◌/◌}
 use Rattle.std.specs.Io.KnownBytes.{Consumes, IsAtEnd}
 use Rattle.std.specs.List.{flat_map, list_all}
@@ -28,7 +29,7 @@ use Rattle.mail_lines.specs.declared.chosen.Which.{Which}
 use Rattle.mail_lines.specs.declared.chosen.Which.TheVariants.{Within}
 use Rattle.mail_lines.specs.declared.chosen.Form.{Form}
 use Rattle.mail_lines.specs.declared.chosen.Form.TheVariants.{Either, Mail, Mailbox}
-use Rattle.mail_lines.proofs.lemmas.Lines.{and_grouped, and_true, capped, chosen_capped}
+use Rattle.mail_lines.proofs.lemmas.Lines.{capped, chosen_capped}
 use Rattle.mail_lines.proofs.lemmas.Stream.{has_left, input_after, input_whole, left_of, none_left}
 
 -- ---- whether an input is a mailbox
@@ -98,7 +99,7 @@ module _ (reading : Reading) (format : Format) (file : Option (List ℕ)) where
     p.3 ++ lines,
     p.4,
     lines-append a b p.1 others p.3 lines p.5 q,
-    ap (λ (w : Bool). w && others) p.6 ∙ sym (and_grouped p.0 p.1 others),
+    ap (λ (w : Bool). w && others) p.6 ∙ and_assoc p.0 p.1 others,
     ap (λ (t : List ℕ). t ++ lines) p.7 ∙ append_assoc p.2 p.3 lines,
   )
 
@@ -123,7 +124,7 @@ module _ (reading : Reading) (format : Format) (file : Option (List ℕ)) where
     p.3 ++ lines,
     p.4,
     subst (λ (ms : List Placed). AreLines reading format file None ms (p.1 && others) (p.3 ++ lines)) e (lines-append a b p.1 others p.3 lines p.5 q),
-    ap (λ (w : Bool). w && others) p.6 ∙ sym (and_grouped p.0 p.1 others),
+    ap (λ (w : Bool). w && others) p.6 ∙ and_assoc p.0 p.1 others,
     ap (λ (t : List ℕ). t ++ lines) p.7 ∙ append_assoc p.2 p.3 lines,
   )
 
@@ -170,7 +171,7 @@ joined-of reading format true file bytes (suc count) are_clean texts parts some 
     (lines-joined reading format file count (λ k. mails (suc k)) (λ k. are_clean (suc k)) (λ k. texts (suc k)) (λ k low. h (suc k) (omega arith)))
 joined-of reading format false file bytes (suc count) are_clean texts parts some h =
     let rest = nothing-joined count (λ k. are_clean (suc k)) (λ k. texts (suc k)) (λ k low. h (suc k) (omega arith)) in
-    let clean : (are_clean 0 && list_all (λ (w : Bool). w) (values_below count (λ k. are_clean (suc k)))) ≡ are_clean 0 = ap (λ (w : Bool). are_clean 0 && w) rest.0 ∙ and_true (are_clean 0) in
+    let clean : (are_clean 0 && list_all (λ (w : Bool). w) (values_below count (λ k. are_clean (suc k)))) ≡ are_clean 0 = ap (λ (w : Bool). are_clean 0 && w) rest.0 ∙ and-true (are_clean 0) in
     let text : texts 0 ++ flat_map (λ (t : List ℕ). t) (values_below count (λ k. texts (suc k))) ≡ texts 0 = ap (λ (t : List ℕ). texts 0 ++ t) rest.1 ∙ append-nil (texts 0) in
     subst (λ (w : Bool). IsMailLine reading file bytes w (texts 0 ++ flat_map (λ (t : List ℕ). t) (values_below count (λ k. texts (suc k))))) (sym clean)
     (subst (λ (t : List ℕ). IsMailLine reading file bytes (are_clean 0) t) (sym text) (h 0 (omega arith)))

@@ -1,5 +1,6 @@
 -- Lemmas on the lines of an input that is read in blocks.
 use Rattle.std.proofs.Common.{◌≡◌, ℕ, Bool, true, false, ◌&&◌, List, [], ◌++◌, Option, None, Some, Result, Ok, Err, length, take, drop, refl, sym, ap, subst, ◌∙◌, append_assoc}
+use Rattle.std.proofs.Math.Bool.{and_assoc}
 use Rattle.std.proofs.KnownBytes.{Consumes-trans}
 use Rattle.std.specs.Io.KnownBytes.{Consumes, IsAtEnd}
 use Rattle.std.proofs.lemmas.Bool.{and_from, false≢true, ltb-true}
@@ -23,7 +24,7 @@ use Rattle.mail_lines.specs.declared.chosen.Which.{Which}
 use Rattle.mail_lines.specs.declared.chosen.Which.TheVariants.{Numbered, Within}
 use Rattle.mail_lines.specs.declared.chosen.Form.{Form}
 use Rattle.mail_lines.specs.declared.chosen.Form.TheVariants.{Either, Mail, Mailbox}
-use Rattle.mail_lines.proofs.lemmas.Lines.{and_grouped, chosen_past, lines_stop}
+use Rattle.mail_lines.proofs.lemmas.Lines.{chosen_past, lines_stop}
 use Rattle.mail_lines.proofs.lemmas.Written.{end_is_fault}
 
 -- ---- what an input is
@@ -180,7 +181,7 @@ module _ (reading : Reading) (format : Format) (file : Option (List ℕ)) where
       let whole =
       here later (are_read && others) (lines ++ last)
       (written later others last (subst (λ (bs : List ℕ). AreChosen reading format file next (placed_from after (entries_in format (bs ++ later))) others last) e h)) in
-      subst (λ (w : Bool). AreChosen reading format file first all w ((done ++ lines) ++ last)) (and_grouped is_clean are_read others)
+      subst (λ (w : Bool). AreChosen reading format file first all w ((done ++ lines) ++ last)) (sym (and_assoc is_clean are_read others))
       (subst (λ (t : List ℕ). AreChosen reading format file first all (is_clean && (are_read && others)) t) (sym (append_assoc done lines last)) whole)
 
   -- the last bytes were read, and the lines of the mails that were left were written

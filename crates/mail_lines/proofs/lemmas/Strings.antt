@@ -1,8 +1,8 @@
 -- Lemmas on JSON text, and on items with commas.
-use Rattle.std.proofs.Common.{◌≡◌, ℕ, zero, suc, ◌+◌, ◌<◌, Bool, true, false, List, [], ◌∷◌, ◌++◌, length, drop, get_or, min, ℤ, pos, negsuc, Option, String, Global, FitsSigned, w64, decimal, arith, string_bytes, map, refl, sym, ap, subst, ◌∙◌, append_assoc, add-one, drop-cons}
-use Rattle.std.proofs.KnownBytes.{Appends-nil, Appends-trans}
+use Rattle.std.proofs.Common.{◌≡◌, ℕ, suc, ◌+◌, ◌<◌, ◌≤◌, Bool, true, false, List, [], ◌∷◌, ◌++◌, length, drop, get_or, min, ℤ, pos, negsuc, Option, String, Global, FitsSigned, w64, decimal, arith, string_bytes, map, sym, ap, subst, ◌∙◌, append_assoc, add-one, drop-cons}
+use Rattle.std.proofs.KnownBytes.{Appends-trans}
 use Rattle.std.proofs.lemmas.Bool.{cond-true, cond-false}
-use Rattle.std.proofs.lemmas.List.{append-nil}
+use Rattle.std.proofs.lemmas.List.{append-nil, drop_all}
 use Rattle.std.proofs.lemmas.Str.{chars-nil, chars_past_char, is_utf8-from_IsUtf8, IsUtf8-string_bytes}
 use Rattle.std.specs.Prelude.{◌^◌, ◌-◌, option_map, codes}
 use Rattle.std.specs.Char.{encode_utf8}
@@ -82,9 +82,6 @@ left_text text false xs = after_commas text xs
 abbrev pub Wrote : {A : Type 0} → (A → List ℕ) → Option (List ℕ) → Option (List ℕ) → Bool → (left all : List A) → Type 0
 Wrote text old new first left all = (done : List ℕ) × Appends old new done × (done ++ left_text text first left ≡ joined text all)
 
-pub wrote_start : {A : Type 0} (text : A → List ℕ) (old : Option (List ℕ)) (left all : List A) → left ≡ all → Wrote text old old true left all
-wrote_start text old left all e = ([], Appends-nil old, ap (λ xs. joined text xs) e)
-
 pub wrote_more : {A : Type 0} (text : A → List ℕ) (old a b c : Option (List ℕ)) (first : Bool) (x : A) (left rest all : List A) → left ≡ x ∷ rest
     → Wrote text old a first left all → Appends a b (comma first) → Appends b c (text x) → Wrote text old c false rest all
 wrote_more text old a b c true x left rest all e here p q =
@@ -97,19 +94,12 @@ wrote_more text old a b c false x left rest all e here p q =
       append_assoc here.0 (codes "," ++ text x) (after_commas text rest) ∙ ap (λ xs. here.0 ++ after_commas text xs) (sym e) ∙ here.2,
     )
 
--- an element of a list, whatever stands for one past its end
-get_any : {A : Type 0} (xs : List A) (i : ℕ) (d : A) → get_or xs i d ≡ get_or xs i (get_or xs i d)
-get_any [] i d = refl
-get_any (x ∷ xs) zero d = refl
-get_any (x ∷ xs) (suc i) d = get_any xs i d
-
 -- the same of the views of elements of a list
-pub wrote_item : {X A : Type 0} (view : X → A) (text : A → List ℕ) (old a b c : Option (List ℕ)) (first : Bool) (xs : List X) (i : ℕ) (d : X) (all : List A)
-    → i < length xs → Wrote text old a first (map view (drop i xs)) all → Appends a b (comma first) → Appends b c (text (view (get_or xs i d)))
+pub wrote_item : {X A : Type 0} (view : X → A) (text : A → List ℕ) (old a b c : Option (List ℕ)) (first : Bool) (xs : List X) (i : ℕ) (x : X) (all : List A)
+    → i < length xs → x ≡ get_or xs i x → Wrote text old a first (map view (drop i xs)) all → Appends a b (comma first) → Appends b c (text (view x))
     → Wrote text old c false (map view (drop (i + 1) xs)) all
-wrote_item view text old a b c first xs i d all h here p q =
-    let x = get_or xs i d in
-    wrote_more text old a b c first (view x) (map view (drop i xs)) (map view (drop (i + 1) xs)) all (ap (map view) (drop_next xs i x h (get_any xs i d))) here p q
+wrote_item view text old a b c first xs i x all h e here p q =
+    wrote_more text old a b c first (view x) (map view (drop i xs)) (map view (drop (i + 1) xs)) all (ap (map view) (drop_next xs i x h e)) here p q
 
 -- nothing is left
 ended : {A : Type 0} (text : A → List ℕ) (old new : Option (List ℕ)) (all : List A) (done left : List ℕ) → left ≡ []
@@ -122,3 +112,7 @@ pub wrote_all : {A : Type 0} (text : A → List ℕ) (old new : Option (List ℕ
     → Wrote text old new first left all → Appends old new (joined text all)
 wrote_all text old new true left all e here = ended text old new all here.0 (joined text left) (ap (λ xs. joined text xs) e) here.1 here.2
 wrote_all text old new false left all e here = ended text old new all here.0 (after_commas text left) (ap (λ xs. after_commas text xs) e) here.1 here.2
+
+pub wrote_items : {X A : Type 0} (view : X → A) (text : A → List ℕ) (old new : Option (List ℕ)) (first : Bool) (xs : List X) (i : ℕ) (all : List A) → length xs ≤ i
+    → Wrote text old new first (map view (drop i xs)) all → Appends old new (joined text all)
+wrote_items view text old new first xs i all h here = wrote_all text old new first (map view (drop i xs)) all (ap (map view) (drop_all i xs h)) here

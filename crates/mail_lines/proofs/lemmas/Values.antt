@@ -95,18 +95,19 @@ seconds_written d z = record { same = refl; good = record { numbers = seconds_te
 
 -- ---- members
 
+-- what holds of the elements of two lists
+pub all_then : {X : Type 0} (P : X → Type 0) (xs ys : List X) → AllByRecursion P xs → AllByRecursion P ys → AllByRecursion P (xs ++ ys)
+all_then P [] ys h k = k
+all_then P (x ∷ xs) ys h k = (h.0, all_then P xs ys h.1 k)
+
 -- the words before the value of a member with a plain name: `,"name":`
 abbrev pub before_value : List ℕ → List ℕ
 before_value name = 44 ∷ 34 ∷ (name ++ (34 ∷ 58 ∷ []))
 
-good_then : (d : ℕ) (ms ns : List Member) → AreGood d ms → AreGood d ns → AreGood d (ms ++ ns)
-good_then d [] ns h k = k
-good_then d (m ∷ ms) ns h k = (h.0, good_then d ms ns h.1 k)
-
 pub then_written : (d : ℕ) (ms ns : List Member) (a b : List ℕ) → AreWritten d ms a → AreWritten d ns b → AreWritten d (ms ++ ns) (a ++ b)
 then_written d ms ns a b p q = record {
   same = (λ i. p.same i ++ q.same i) ∙ sym (flat_map-append (λ m. codes "," ++ member_text m) ms ns);
-  good = good_then d ms ns p.good q.good;
+  good = all_then _ ms ns p.good q.good;
 }
 
 named : (name text : List ℕ) → are_plain name ≡ true → before_value name ++ text ≡ 44 ∷ (json_text name ++ (58 ∷ text))
@@ -212,10 +213,7 @@ members_true (m ∷ ms) =
 
 members_false : (ms : List Member) → members_text false (members_of ms) ≡ drop 1 (after_commas member_text ms) ++ (125 ∷ [])
 members_false [] = refl
-members_false (m ∷ ms) =
-    ap (λ t. json_text m.0 ++ (58 ∷ (text_of m.1 ++ t))) (members_true ms)
-    ∙ sym (append_assoc (member_text m) (after_commas member_text ms) (125 ∷ [])
-    ∙ append_assoc (json_text m.0) (58 ∷ text_of m.1) (after_commas member_text ms ++ (125 ∷ [])))
+members_false (m ∷ ms) = ap (drop 1) (members_true (m ∷ ms))
 
 members_numbers : (d : ℕ) (ms : List Member) → AreGood d ms → MembersLineNumbers (members_of ms)
 members_numbers d [] h = tt

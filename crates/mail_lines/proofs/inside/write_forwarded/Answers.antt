@@ -1,22 +1,18 @@
-use Rattle.std.proofs.Common.{◌+◌, drop, map, ap, arith}
+use Rattle.std.proofs.Common.{arith}
 use Rattle.std.proofs.KnownBytes.{Appends-trans}
-use Rattle.std.proofs.lemmas.List.{drop_all}
 use Rattle.mail_data.specs.InnerMailViews.{inner_view}
 use Rattle.mail_lines.specs.Inside.{inner_text}
-use Rattle.mail_lines.proofs.lemmas.Strings.{drop_next, wrote_all, wrote_more}
+use Rattle.mail_lines.proofs.lemmas.Strings.{wrote_item, wrote_items}
 use Rattle.mail_lines.proofs.lemmas.Written.{writes_then}
 use Rattle.mail_lines.proofs.inside.write_forwarded.Goals as goal
 
 pub loop-mail-preserved : goal.loop-mail-preserved
 loop-mail-preserved g c =
-    let rest = map inner_view (drop (c.loop-mail.mail-index + 1) c.args.mails.now) in
-    let left = ap (map inner_view) (drop_next c.args.mails.now c.loop-mail.mail-index c.mail-item.result (omega arith) c.mail-item.is) in
-    wrote_more (inner_text c.args.start) _ _ _ _ c.loop-mail.is_first (inner_view c.mail-item.result) _ rest _ left c.loop-mail.invariant
-    c.in_ok-write_comma.ensures c.in_ok-write_inner.ensures
+    wrote_item inner_view (inner_text c.args.start) _ _ _ _ c.loop-mail.is_first c.args.mails.now c.loop-mail.mail-index c.mail-item.result _
+    (omega arith) c.mail-item.is c.loop-mail.invariant c.in_ok-write_comma.ensures c.in_ok-write_inner.ensures
 
 pub returns : goal.returns
 returns g c =
-    let none = ap (map inner_view) (drop_all c.loop-mail.mail-index c.args.mails.now (omega arith)) in
-    let all = wrote_all (inner_text c.args.start) _ _ c.loop-mail.is_first _ _ none c.loop-mail.invariant in
+    let all = wrote_items inner_view (inner_text c.args.start) _ _ c.loop-mail.is_first c.args.mails.now c.loop-mail.mail-index _ (omega arith) c.loop-mail.invariant in
     let written = writes_then _ _ _ _ _ _ (Appends-trans _ _ _ _ _ c.in_ok-write_word.ensures all) c.write_word-2.ensures in
     written

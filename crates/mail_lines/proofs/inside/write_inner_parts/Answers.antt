@@ -1,4 +1,4 @@
-use Rattle.std.proofs.Common.{◌≡◌, ℕ, List, [], Ok, Err, refl, sym, ap, subst, ◌∙◌}
+use Rattle.std.proofs.Common.{map, ◌≡◌, ℕ, List, [], Ok, Err, refl, sym, ap, subst, ◌∙◌}
 use Rattle.std.proofs.KnownBytes.{Appends-nil}
 use Rattle.std.specs.String.{string_bytes}
 use Rattle.mailparse.specs.Mail.{read_mail_in}
@@ -10,11 +10,13 @@ use Rattle.mail_lines.specs.Inside.{inside_start}
 use Rattle.mail_lines.specs.Part.{AreAfterCommas, IsPartText}
 use Rattle.mail_lines.specs.Reading.{reading_of}
 use Rattle.mail_lines.proofs.lemmas.Fields.{refused_or_memory}
-use Rattle.mail_lines.proofs.lemmas.Inside.{inside_as, parts-read, parts-refused}
+use Rattle.mail_lines.proofs.lemmas.Part.{found_as}
+use Rattle.mail_data.specs.PlaceViews.{place_view}
+use Rattle.mail_lines.proofs.lemmas.Inside.{parts-read, parts-refused}
 use Rattle.mail_lines.proofs.inside.write_inner_parts.Goals as goal
 
-pub returns-in-Ok : goal.returns-in-Ok
-returns-in-Ok g c =
+pub returns-in_ok-found-in-Ok : goal.returns-in_ok-found-in-Ok
+returns-in_ok-found-in-Ok g c =
     let reading = reading_of (g.K.KnownCharsets.known c.args.known.now) c.args.reading in
     let inner = c.args.inner.now in
     let mail = c.in-Ok.mail in
@@ -22,8 +24,8 @@ returns-in-Ok g c =
     let given : read_mail_in reading.known 100 inner.bytes.items ≡ Ok (tree_of mail) = sym bytes ∙ c.in-Ok.ensures.read in
     let path = ap (λ (p : List ℕ). places_under p (tree_of mail) (placements_of mail)) c.as_str.ensures.value in
     let placed = ap (λ (ps : List Placement). places_under (string_bytes inner.path) (tree_of mail) ps) c.in-Ok.ensures.places in
-    let parts = path ∙ placed ∙ parts-read (string_bytes inner.path) _ (tree_of mail) given in
-    inside_as reading _ _ _ _ _ _ c.write_places.result c.inside_start-start.ensures parts c.write_places.ensures
+    let parts = ap (map place_view) c.as_slice-in-Ok.ensures.value ∙ c.in_ok-found-in-Ok.ensures ∙ path ∙ placed ∙ parts-read (string_bytes inner.path) _ (tree_of mail) given in
+    found_as (λ start. AreAfterCommas (IsPartText reading start)) _ _ _ _ _ _ c.write_found.result c.inside_start-start.ensures parts c.write_found.ensures
 
 pub returns-in_ok-refused-in-Err : goal.returns-in_ok-refused-in-Err
 returns-in_ok-refused-in-Err g c =

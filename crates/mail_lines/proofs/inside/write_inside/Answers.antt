@@ -1,14 +1,14 @@
-use Rattle.std.proofs.Common.{◌+◌, List, [], ◌++◌, drop, map, refl, ap, arith}
+use Rattle.std.proofs.Common.{◌+◌, [], ◌++◌, drop, map, ap, arith}
 use Rattle.std.proofs.KnownBytes.{Appends-nil, Appends-trans}
 use Rattle.std.proofs.lemmas.List.{drop_all}
 use Rattle.mail_data.specs.InnerMailViews.{inner_view}
 use Rattle.mail_lines.specs.Reading.{reading_of}
-use Rattle.mail_lines.proofs.lemmas.Inside.{insides_end, insides_more, insides_start}
+use Rattle.mail_lines.proofs.lemmas.Inside.{insides_end, insides_more}
 use Rattle.mail_lines.proofs.lemmas.Strings.{drop_next}
 use Rattle.mail_lines.proofs.inside.write_inside.Goals as goal
 
 pub loop-mail-init : goal.loop-mail-init
-loop-mail-init g c = ([], Appends-nil _, insides_start (reading_of (g.K.KnownCharsets.known c.args.known.now) c.args.reading) c.args.start _ _ refl)
+loop-mail-init g c = ([], Appends-nil _, λ rest h. h)
 
 pub loop-mail-preserved : goal.loop-mail-preserved
 loop-mail-preserved g c =

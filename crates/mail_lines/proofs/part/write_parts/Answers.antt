@@ -1,36 +1,11 @@
-use Rattle.std.proofs.Common.{◌+◌, Some, List, [], ◌++◌, drop, map, refl, ap, subst, ◌∙◌, arith}
-use Rattle.std.proofs.KnownBytes.{Appends-nil, Appends-trans}
-use Rattle.std.proofs.lemmas.List.{drop_all}
+use Rattle.std.proofs.Common.{◌∙◌, Some, ap, map, refl}
 use Rattle.mail_lines.specs.Reading.{reading_of}
-use Rattle.mail_data.specs.PartPlaces as words
 use Rattle.mail_data.specs.PlaceViews.{place_view}
 use Rattle.mail_lines.specs.Part.{AreJoined, IsPartText}
-use Rattle.mail_lines.specs.Strings.{comma}
-use Rattle.mail_lines.proofs.lemmas.Part.{joins_end, joins_more}
-use Rattle.mail_lines.proofs.lemmas.Strings.{drop_next}
+use Rattle.mail_lines.proofs.lemmas.Part.{found_as}
 use Rattle.mail_lines.proofs.part.write_parts.Goals as goal
-
-pub loop-place-init : goal.loop-place-init
-loop-place-init g c = ([], Appends-nil _, (refl, refl))
-
-pub loop-place-preserved : goal.loop-place-preserved
-loop-place-preserved g c =
-    let here = c.loop-place.invariant in
-    let items = c.deref-place-items.result.now in
-    let left = drop_next items c.loop-place.place-index c.place-item.result (omega arith) c.place-item.is in
-    let part = c.in_ok-write_part.ensures in
-    let first = c.loop-place.is_first in (
-      here.0 ++ (comma first ++ part.0),
-      Appends-trans _ _ _ here.0 (comma first ++ part.0) here.1 (Appends-trans _ _ _ (comma first) part.0 c.in_ok-write_comma.ensures part.2),
-      joins_more (IsPartText (reading_of (g.K.KnownCharsets.known c.args.known.now) c.args.reading) (Some c.args.start)) first (place_view c.place-item.result) _ (map place_view (drop (c.loop-place.place-index + 1) items))
-          (map place_view items) here.0 part.0 (ap (map place_view) left) here.2 part.1,
-    )
 
 pub returns : goal.returns
 returns g c =
-    let here = c.loop-place.invariant in
-    let items = c.deref-place-items.result.now in
-    let none = drop_all c.loop-place.place-index items (omega arith) in
-    let all = joins_end (IsPartText (reading_of (g.K.KnownCharsets.known c.args.known.now) c.args.reading) (Some c.args.start)) c.loop-place.is_first _ (map place_view items) here.0
-    (ap (map place_view) none) here.2 in
-    (here.0, subst (λ (found : List words.Place). AreJoined (IsPartText (reading_of (g.K.KnownCharsets.known c.args.known.now) c.args.reading) (Some c.args.start)) found here.0) (ap (map place_view) c.deref-place-items.ensures.value ∙ c.in_ok-found.ensures) all, here.1)
+    found_as (λ start. AreJoined (IsPartText (reading_of (g.K.KnownCharsets.known c.args.known.now) c.args.reading) start)) _ (Some c.args.start) _ _ _ _ c.write_found.result refl
+    (ap (map place_view) c.as_slice.ensures.value ∙ c.in_ok-found.ensures) c.write_found.ensures
