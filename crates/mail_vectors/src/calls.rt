@@ -1,21 +1,19 @@
 //! The calls of the suite, by topic.
 
 mod addresses;
-mod all_charsets;
 mod bodies;
 mod charsets;
-mod decoders;
 mod encoded_values;
 mod encodings;
 mod errors;
 mod files;
 mod headers;
 mod kinds;
+mod latin1;
 mod lenient;
 mod levels;
 mod lookups;
 mod mailboxes;
-mod mails;
 mod outlines;
 mod parameters;
 mod parts;
@@ -25,6 +23,7 @@ mod sweeps;
 mod tables;
 mod texts;
 mod transfer;
+mod under;
 mod values;
 
 use crate::notation::{Answer, Row};
@@ -41,7 +40,6 @@ fn make_of_the_port(alloc: Global, row: &Row, answer: &mut Answer) -> bool {
     values::make(alloc, row, answer)
         || parameters::make(alloc, row, answer)
         || bodies::make(alloc, row, answer)
-        || mails::make(alloc, row, answer)
         || headers::make(alloc, row, answer)
         || lookups::make(alloc, row, answer)
         || parts::make(alloc, row, answer)
@@ -53,8 +51,7 @@ fn make_of_the_port(alloc: Global, row: &Row, answer: &mut Answer) -> bool {
         || encodings::make(alloc, row, answer)
         || transfer::make(alloc, row, answer)
         || tables::make(alloc, row, answer)
-        || decoders::make(alloc, row, answer)
-        || all_charsets::make(alloc, row, answer)
+        || under::make(alloc, row, answer)
         || sweeps::make(alloc, row, answer)
 }
 

@@ -17,14 +17,14 @@ use mail_address::{
     Address, Group, Mailbox, Member, NewAddress, NewGroup, NewMailbox, WriteError, addresses_of,
     read_addresses, sender_of, write_addresses,
 };
-use mailparse::{MailParseError, parse_mail};
+use mailparse::{KnownCharsets, MailParseError, parse_mail};
 use std::alloc::{AllocError, Global};
 
 /// Makes the call of a row, if it is one of these.
 pub fn make(alloc: Global, row: &Row, answer: &mut Answer) -> bool {
     let outcome = match row.call.as_str() {
-        "addresses" => list_addresses(alloc, row, answer, false),
-        "addresses_with" => list_addresses(alloc, row, answer, true),
+        "addresses" => list_addresses(alloc, row, answer, &()),
+        "addresses_with" => list_addresses(alloc, row, answer, &all_tables()),
         "addresses_of" => list_named(alloc, row, answer),
         "sender_of" => find_sender(alloc, row, answer),
         "write_mailboxes" => write_mailboxes(alloc, row, answer),
@@ -37,14 +37,14 @@ pub fn make(alloc: Global, row: &Row, answer: &mut Answer) -> bool {
 }
 
 /// Writes the elements of a list of addresses.
-fn list_addresses(
+fn list_addresses<K: KnownCharsets>(
     alloc: Global,
     row: &Row,
     answer: &mut Answer,
-    has_tables: bool,
+    known: &K,
 ) -> Result<(), MailParseError> {
     for address in &read_addresses(alloc, row.bytes(0))? {
-        write_address(alloc, address, answer, has_tables);
+        write_address(alloc, address, answer, known);
     }
     Ok(())
 }
@@ -53,7 +53,7 @@ fn list_addresses(
 fn list_named(alloc: Global, row: &Row, answer: &mut Answer) -> Result<(), MailParseError> {
     let mail = parse_mail(alloc, row.bytes(0))?;
     for address in &addresses_of(alloc, &mail.headers, row.text(1))? {
-        write_address(alloc, address, answer, false);
+        write_address(alloc, address, answer, &());
     }
     Ok(())
 }
@@ -62,63 +62,49 @@ fn list_named(alloc: Global, row: &Row, answer: &mut Answer) -> Result<(), MailP
 fn find_sender(alloc: Global, row: &Row, answer: &mut Answer) -> Result<(), MailParseError> {
     let mail = parse_mail(alloc, row.bytes(0))?;
     match sender_of(alloc, &mail.get_headers())? {
-        Some(mailbox) => write_mailbox(alloc, &mailbox, answer, false),
+        Some(mailbox) => write_mailbox(alloc, &mailbox, answer, &()),
         None => answer.word("none"),
     }
     Ok(())
 }
 
 /// Writes an element of the list.
-fn write_address(alloc: Global, address: &Address<'_>, answer: &mut Answer, has_tables: bool) {
+fn write_address<K: KnownCharsets>(
+    alloc: Global,
+    address: &Address<'_>,
+    answer: &mut Answer,
+    known: &K,
+) {
     match address {
-        Address::Mailbox(mailbox) => write_mailbox(alloc, mailbox, answer, has_tables),
-        Address::Group(group) => write_group(alloc, group, answer, has_tables),
+        Address::Mailbox(mailbox) => write_mailbox(alloc, mailbox, answer, known),
+        Address::Group(group) => write_group(alloc, group, answer, known),
         Address::Unknown(unknown) => write_unknown(unknown.text, answer),
     }
 }
 
 /// Writes a group and its members.
-fn write_group(alloc: Global, group: &Group<'_>, answer: &mut Answer, has_tables: bool) {
+fn write_group<K: KnownCharsets>(alloc: Global, group: &Group<'_>, answer: &mut Answer, known: &K) {
     answer.word("group");
-    answer.text_or_refusal(group_name(alloc, group, has_tables));
+    answer.text_or_refusal(group.get_display_name(alloc, known));
     answer.number(group.members.len());
     for member in &group.members {
         match member {
-            Member::Mailbox(mailbox) => write_mailbox(alloc, mailbox, answer, has_tables),
+            Member::Mailbox(mailbox) => write_mailbox(alloc, mailbox, answer, known),
             Member::Unknown(unknown) => write_unknown(unknown.text, answer),
         }
     }
 }
 
-/// The text of a group's name, perhaps under all tables.
-fn group_name(
-    alloc: Global,
-    group: &Group<'_>,
-    has_tables: bool,
-) -> Result<String, MailParseError> {
-    if has_tables {
-        return group.get_display_name(alloc, &all_tables());
-    }
-    group.get_display_name(alloc, &())
-}
-
 /// Writes a mailbox.
-fn write_mailbox(alloc: Global, mailbox: &Mailbox<'_>, answer: &mut Answer, has_tables: bool) {
-    answer.word("mailbox");
-    answer.text_or_refusal(mailbox_name(alloc, mailbox, has_tables));
-    answer.made(mailbox.get_address(alloc));
-}
-
-/// The text of a mailbox's name, perhaps under all tables.
-fn mailbox_name(
+fn write_mailbox<K: KnownCharsets>(
     alloc: Global,
     mailbox: &Mailbox<'_>,
-    has_tables: bool,
-) -> Result<String, MailParseError> {
-    if has_tables {
-        return mailbox.get_display_name(alloc, &all_tables());
-    }
-    mailbox.get_display_name(alloc, &())
+    answer: &mut Answer,
+    known: &K,
+) {
+    answer.word("mailbox");
+    answer.text_or_refusal(mailbox.get_display_name(alloc, known));
+    answer.made(mailbox.get_address(alloc));
 }
 
 /// Writes what is no address.
@@ -176,7 +162,7 @@ fn read_written(alloc: Global, row: &Row, answer: &mut Answer) -> Result<(), Mai
     match written(alloc, row) {
         Ok(value) => {
             for address in &read_addresses(alloc, value.as_slice())? {
-                write_address(alloc, address, answer, false);
+                write_address(alloc, address, answer, &());
             }
             Ok(())
         }

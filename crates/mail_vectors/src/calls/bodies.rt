@@ -5,9 +5,10 @@
 //!   the text of that; each of the last two may be a refusal.
 
 use crate::notation::{Answer, Row};
-use mailparse::body::Body;
+use mailparse::body::{Body, EncodedBody};
 use mailparse::{MailParseError, ParsedContentType};
 use std::alloc::Global;
+use std::collections::BTreeMap;
 
 /// Makes the call of a row, if it is this one.
 pub fn make(alloc: Global, row: &Row, answer: &mut Answer) -> bool {
@@ -31,11 +32,14 @@ pub struct Label {
 impl Label {
     /// The encoding and the charset that two inputs from a place on write.
     pub fn of(alloc: Global, row: &Row, at: usize) -> Result<Label, MailParseError> {
-        let mut ctype = ParsedContentType::default(alloc)?;
-        ctype.charset = String::from_str(alloc, row.text(at.saturating_add(1)))?;
         let encoding = match row.optional_text(at) {
             Some(text) => Some(String::from_str(alloc, text)?),
             None => None,
+        };
+        let ctype = ParsedContentType {
+            mimetype: String::from_str(alloc, "text/plain")?,
+            charset: String::from_str(alloc, row.text(at.saturating_add(1)))?,
+            params: BTreeMap::new(alloc),
         };
         Ok(Label { encoding, ctype })
     }
@@ -50,10 +54,7 @@ impl Label {
 pub fn push_body(alloc: Global, answer: &mut Answer, body: &Body<'_>) {
     push_raw(answer, body);
     match body {
-        Body::Base64(body) | Body::QuotedPrintable(body) => {
-            answer.bytes_or_refusal(body.get_decoded(alloc));
-            answer.text_or_refusal(body.get_decoded_as_string(alloc));
-        }
+        Body::Base64(body) | Body::QuotedPrintable(body) => push_decoded(alloc, answer, body),
         Body::SevenBit(body) | Body::EightBit(body) => {
             answer.bytes(body.get_raw());
             answer.text_or_refusal(body.get_as_string(alloc));
@@ -63,6 +64,11 @@ pub fn push_body(alloc: Global, answer: &mut Answer, body: &Body<'_>) {
             answer.text_or_refusal(body.get_as_string(alloc));
         }
     }
+}
+
+fn push_decoded(alloc: Global, answer: &mut Answer, body: &EncodedBody<'_>) {
+    answer.bytes_or_refusal(body.get_decoded(alloc));
+    answer.text_or_refusal(body.get_decoded_as_string(alloc));
 }
 
 /// Writes the kind of a body, and its bytes as they stand.

@@ -10,8 +10,8 @@ use mail_data::files::{
 };
 use mail_data::places::places;
 use mailparse::{
-    MailParseError, ParsedContentDisposition, ParsedContentType, ParsedMail,
-    parse_content_disposition, parse_content_type, parse_mail, parse_mail_with,
+    KnownCharsets, MailParseError, ParsedContentDisposition, ParsedContentType, ParsedMail,
+    parse_content_disposition, parse_content_type, parse_mail, parse_mail_in,
 };
 use std::alloc::Global;
 use std::collections::BTreeMap;
@@ -19,10 +19,10 @@ use std::collections::BTreeMap;
 /// Makes the call of a row, if it is one of these.
 pub fn make(alloc: Global, row: &Row, answer: &mut Answer) -> bool {
     let outcome = match row.call.as_str() {
-        "attachments" => list_files(alloc, row, answer),
-        "attachments_with" => list_named_files(alloc, row, answer),
-        "file_name" | "is_attachment" | "is_leaf" => look_at(alloc, row, answer),
-        "file_name_with" | "is_attachment_with" => look_at_with(alloc, row, answer),
+        "attachments" => list_files(alloc, row, answer, &()),
+        "attachments_with" => list_files(alloc, row, answer, &all_tables()),
+        "file_name" | "is_attachment" | "is_leaf" => look_at(alloc, row, answer, &()),
+        "file_name_with" | "is_attachment_with" => look_at(alloc, row, answer, &all_tables()),
         "named_file" | "describes_attachment" => describe(alloc, row, answer),
         "filled_parameter" => get_parameter(alloc, row, answer),
         "part_places" => list_places(alloc, row, answer),
@@ -45,21 +45,17 @@ pub fn part_at<'m, 'a>(
     mail.parts(alloc)?.nth(number).ok_or(FORM)
 }
 
-/// `attachments MAIL => PATH NAME BYTES` for each file, NAME as `file_name` returns it.
-fn list_files(alloc: Global, row: &Row, answer: &mut Answer) -> Result<(), MailParseError> {
-    let mail = parse_mail(alloc, row.bytes(0))?;
-    for file in &attachments(alloc, &mail, &())? {
-        write_file(alloc, file, file_name(alloc, file.part, &())?, answer);
-    }
-    Ok(())
-}
-
-/// `attachments_with MAIL => PATH NAME BYTES` likewise, under all tables.
-fn list_named_files(alloc: Global, row: &Row, answer: &mut Answer) -> Result<(), MailParseError> {
-    let mail = parse_mail_with(alloc, row.bytes(0), all_tables())?;
-    for file in &attachments(alloc, &mail, &all_tables())? {
-        let name = file_name(alloc, file.part, &all_tables())?;
-        write_file(alloc, file, name, answer);
+/// `attachments MAIL => PATH NAME BYTES` for each file, NAME as `file_name` returns it; likewise
+/// `attachments_with`, under all tables.
+fn list_files<K: KnownCharsets>(
+    alloc: Global,
+    row: &Row,
+    answer: &mut Answer,
+    known: &K,
+) -> Result<(), MailParseError> {
+    let mail = parse_mail_in(alloc, row.bytes(0), known)?;
+    for file in &attachments(alloc, &mail, known)? {
+        write_file(alloc, file, file_name(alloc, file.part, known)?, answer);
     }
     Ok(())
 }
@@ -71,25 +67,20 @@ fn write_file(alloc: Global, file: &Attachment<'_, '_>, name: Option<String>, an
     answer.bytes_or_refusal(file.part.get_body_raw(alloc));
 }
 
-/// `file_name MAIL PART => NAME`, `is_attachment MAIL PART => TRUTH` and `is_leaf MAIL PART => TRUTH`
-fn look_at(alloc: Global, row: &Row, answer: &mut Answer) -> Result<(), MailParseError> {
-    let mail = parse_mail(alloc, row.bytes(0))?;
+/// `file_name MAIL PART => NAME`, `is_attachment MAIL PART => TRUTH` and `is_leaf MAIL PART => TRUTH`;
+/// likewise `file_name_with` and `is_attachment_with`, under all tables.
+fn look_at<K: KnownCharsets>(
+    alloc: Global,
+    row: &Row,
+    answer: &mut Answer,
+    known: &K,
+) -> Result<(), MailParseError> {
+    let mail = parse_mail_in(alloc, row.bytes(0), known)?;
     let part = part_at(alloc, &mail, row.number(1))?;
     match row.call.as_str() {
-        "file_name" => answer.optional_or_refusal(file_name(alloc, part, &())),
-        "is_attachment" => answer.truth(is_attachment(alloc, part, &())?),
-        _ => answer.truth(is_leaf(part)),
-    }
-    Ok(())
-}
-
-/// `file_name_with MAIL PART => NAME` and `is_attachment_with MAIL PART => TRUTH`, under all tables.
-fn look_at_with(alloc: Global, row: &Row, answer: &mut Answer) -> Result<(), MailParseError> {
-    let mail = parse_mail_with(alloc, row.bytes(0), all_tables())?;
-    let part = part_at(alloc, &mail, row.number(1))?;
-    match row.call.as_str() {
-        "file_name_with" => answer.optional_or_refusal(file_name(alloc, part, &all_tables())),
-        _ => answer.truth(is_attachment(alloc, part, &all_tables())?),
+        "file_name" | "file_name_with" => answer.optional_or_refusal(file_name(alloc, part, known)),
+        "is_leaf" => answer.truth(is_leaf(part)),
+        _ => answer.truth(is_attachment(alloc, part, known)?),
     }
     Ok(())
 }

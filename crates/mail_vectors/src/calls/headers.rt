@@ -12,6 +12,7 @@
 use crate::notation::{Answer, Row};
 use mailparse::{MailHeader, MailParseError, parse_header, parse_headers};
 use std::alloc::Global;
+use std::borrow::CowStr;
 
 /// Makes the call of a row, if it is one of these.
 pub fn make(alloc: Global, row: &Row, answer: &mut Answer) -> bool {
@@ -77,12 +78,17 @@ fn push_second(answer: &mut Answer, pair: &[MailHeader<'_>]) {
     }
 }
 
-/// Writes what a call says of a header.
 fn push_texts(alloc: Global, row: &Row, answer: &mut Answer) -> Result<(), MailParseError> {
     let (header, _) = parse_header(row.bytes(0))?;
-    match row.call.as_str() {
+    push_text(alloc, row.call.as_str(), answer, &header);
+    Ok(())
+}
+
+/// Writes what a call says of a header.
+fn push_text(alloc: Global, call: &str, answer: &mut Answer, header: &MailHeader<'_>) {
+    match call {
         "get_key" => answer.text_or_refusal(header.get_key(alloc)),
-        "get_key_ref" => answer.cow(&header.get_key_ref(alloc)?),
+        "get_key_ref" => push_key(answer, header.get_key_ref(alloc)),
         "strict_value" => push_strict(answer, header.get_value_utf8(alloc)),
         "debug_header" => answer.made(format!(in alloc; "{header:?}")),
         _ => {
@@ -91,7 +97,13 @@ fn push_texts(alloc: Global, row: &Row, answer: &mut Answer) -> Result<(), MailP
             answer.text_or_refusal(header.get_value_utf8(alloc));
         }
     }
-    Ok(())
+}
+
+fn push_key(answer: &mut Answer, key: Result<CowStr<'_>, MailParseError>) {
+    match key {
+        Ok(key) => answer.cow(&key),
+        Err(error) => answer.refusal(error),
+    }
 }
 
 /// Writes a text, or the text that the refusal holds.

@@ -9,7 +9,7 @@
 //!   no more headers, bytes of bodies, and parts at three bytes each, than it has bytes. Each other
 //!   length stands before the count, with the refusal, or with the word `more`.
 
-use crate::calls::parts::Held;
+use crate::calls::parts::{Held, count_parts};
 use crate::notation::{Answer, FORM, Row};
 use mailparse::{MAX_LEVELS, MailParseError, ParsedMail, parse_mail, parse_mail_limited};
 use std::alloc::Global;
@@ -34,13 +34,13 @@ fn count_under(alloc: Global, raw: &[u8], levels: u8) -> Result<usize, MailParse
         return Err(FORM);
     }
     let mail = parse_mail_limited(alloc, raw, levels)?;
-    Ok(mail.parts(alloc)?.count().saturating_sub(1))
+    Ok(count_parts(alloc, &mail)?.saturating_sub(1))
 }
 
 /// How many parts a mail has, parts of parts among them.
 fn count_of(alloc: Global, raw: &[u8]) -> Result<usize, MailParseError> {
     let mail = parse_mail(alloc, raw)?;
-    Ok(mail.parts(alloc)?.count().saturating_sub(1))
+    Ok(count_parts(alloc, &mail)?.saturating_sub(1))
 }
 
 fn push_levels(alloc: Global, answer: &mut Answer, raw: &[u8]) {

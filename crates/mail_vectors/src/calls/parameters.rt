@@ -18,25 +18,23 @@ use std::collections::BTreeMap;
 
 /// Makes the call of a row, if it is one of these.
 pub fn make(alloc: Global, row: &Row, answer: &mut Answer) -> bool {
-    let outcome = match row.call.as_str() {
+    match row.call.as_str() {
         "parse_content_type" => push_parsed_type(answer, parse_content_type(alloc, row.text(0))),
         "parse_content_disposition" => {
-            push_parsed_disposition(answer, parse_content_disposition(alloc, row.text(0)))
+            push_parsed_disposition(answer, parse_content_disposition(alloc, row.text(0)));
         }
         "parse_many_parameters" => push_many(alloc, answer, row.number(0)),
         _ => return false,
-    };
-    answer.end(outcome);
+    }
     true
 }
 
 /// Writes the type that a call returned.
-pub fn push_parsed_type(
-    answer: &mut Answer,
-    found: Result<ParsedContentType, MailParseError>,
-) -> Result<(), MailParseError> {
-    push_type(answer, &found?);
-    Ok(())
+pub fn push_parsed_type(answer: &mut Answer, found: Result<ParsedContentType, MailParseError>) {
+    match found {
+        Ok(ctype) => push_type(answer, &ctype),
+        Err(error) => answer.refusal(error),
+    }
 }
 
 /// Writes a type.
@@ -50,9 +48,11 @@ pub fn push_type(answer: &mut Answer, ctype: &ParsedContentType) {
 pub fn push_parsed_disposition(
     answer: &mut Answer,
     found: Result<ParsedContentDisposition, MailParseError>,
-) -> Result<(), MailParseError> {
-    push_disposition(answer, &found?);
-    Ok(())
+) {
+    match found {
+        Ok(disposition) => push_disposition(answer, &disposition),
+        Err(error) => answer.refusal(error),
+    }
 }
 
 /// Writes a disposition.
@@ -87,14 +87,21 @@ fn many_parameters(alloc: Global, count: usize) -> Result<ParsedContentType, Mai
 }
 
 /// Writes how many parameters a type has that was made with so many, and the last of them.
-fn push_many(alloc: Global, answer: &mut Answer, count: usize) -> Result<(), MailParseError> {
-    let found = many_parameters(alloc, count)?;
-    answer.number(found.params.len());
-    let name = format!(in alloc; "n{}", count.saturating_sub(1))?;
-    answer.text(name.as_str());
-    match found.params.get(name.as_str()) {
-        Some(value) => answer.text(value.as_str()),
-        None => answer.word("none"),
+fn push_many(alloc: Global, answer: &mut Answer, count: usize) {
+    match many_parameters(alloc, count) {
+        Ok(found) => push_last(alloc, answer, &found, count.saturating_sub(1)),
+        Err(error) => answer.refusal(error),
     }
-    Ok(())
+}
+
+/// Writes how many parameters a type has, and the one with this number.
+fn push_last(alloc: Global, answer: &mut Answer, found: &ParsedContentType, number: usize) {
+    answer.number(found.params.len());
+    match format!(in alloc; "n{number}") {
+        Ok(name) => {
+            answer.text(name.as_str());
+            answer.optional_text(found.params.get(name.as_str()).map(String::as_str));
+        }
+        Err(error) => answer.refusal(MailParseError::from(error)),
+    }
 }

@@ -1,6 +1,9 @@
 //! The calls on mails and on their parts. Each answers for the mail and then for each of its parts,
 //! each before its own parts, where nothing else is said; a mail that is refused is an answer, too.
 //!
+//! - `mail MAIL => NODE..`. A NODE is `part`, how many parts it has, its type and the label of its
+//!   charset; `header` with a key and its value for each header; and then its body as in the calls on
+//!   bodies.
 //! - `nodes MAIL => part SUBPARTS HEADERS MIMETYPE BODY`, the body as text.
 //! - `types MAIL => MIMETYPE CHARSET`.
 //! - `get_raw_bytes MAIL => part RAW BLOCK HEADERS`: the bytes of the part, those of its block with the
@@ -16,6 +19,7 @@
 //!   bytes of the block; `without_parts MAIL => COUNT`; `under_charset MAIL LABEL => TEXT`: the body
 //!   when the charset of the type was set.
 
+use crate::calls::bodies::push_body;
 use crate::calls::headers::push_field;
 use crate::calls::parameters::push_parsed_disposition;
 use crate::notation::{Answer, Row};
@@ -25,7 +29,8 @@ use std::alloc::Global;
 /// Makes the call of a row, if it is one of these.
 pub fn make(alloc: Global, row: &Row, answer: &mut Answer) -> bool {
     let outcome = match row.call.as_str() {
-        "nodes"
+        "mail"
+        | "nodes"
         | "types"
         | "get_raw_bytes"
         | "get_body"
@@ -41,21 +46,21 @@ pub fn make(alloc: Global, row: &Row, answer: &mut Answer) -> bool {
     true
 }
 
+/// How many messages a mail holds, itself among them.
+pub fn count_parts(alloc: Global, mail: &ParsedMail<'_>) -> Result<usize, MailParseError> {
+    Ok(mail.parts(alloc)?.count())
+}
+
 /// Writes what a call says of each part.
 fn push_parts(alloc: Global, row: &Row, answer: &mut Answer) -> Result<(), MailParseError> {
     let mail = parse_mail(alloc, row.bytes(0))?;
     for part in mail.parts(alloc)? {
-        push_part(alloc, answer, row.call.as_str(), part)?;
+        push_part(alloc, answer, row.call.as_str(), part);
     }
     Ok(())
 }
 
-fn push_part(
-    alloc: Global,
-    answer: &mut Answer,
-    call: &str,
-    part: &ParsedMail<'_>,
-) -> Result<(), MailParseError> {
+fn push_part(alloc: Global, answer: &mut Answer, call: &str, part: &ParsedMail<'_>) {
     match call {
         "nodes" => push_node(alloc, answer, part),
         "types" => {
@@ -65,12 +70,28 @@ fn push_part(
         "get_raw_bytes" => push_raw_bytes(answer, part),
         "get_body" => answer.text_or_refusal(part.get_body(alloc)),
         "get_body_raw" => answer.bytes_or_refusal(part.get_body_raw(alloc)),
+        "mail" => push_fields(alloc, answer, part),
         _ => {
             answer.word("part");
-            return push_parsed_disposition(answer, part.get_content_disposition(alloc));
+            push_parsed_disposition(answer, part.get_content_disposition(alloc));
         }
     }
-    Ok(())
+}
+
+fn push_fields(alloc: Global, answer: &mut Answer, part: &ParsedMail<'_>) {
+    answer.word("part");
+    answer.number(part.subparts.len());
+    answer.text(part.ctype.mimetype.as_str());
+    answer.text(part.ctype.charset.as_str());
+    for header in &part.headers {
+        answer.word("header");
+        answer.text_or_refusal(header.get_key(alloc));
+        answer.text_or_refusal(header.get_value(alloc));
+    }
+    match part.get_body_encoded(alloc) {
+        Ok(body) => push_body(alloc, answer, &body),
+        Err(error) => answer.refusal(error),
+    }
 }
 
 fn push_node(alloc: Global, answer: &mut Answer, part: &ParsedMail<'_>) {
@@ -92,7 +113,7 @@ fn push_raw_bytes(answer: &mut Answer, part: &ParsedMail<'_>) {
 fn push_whole(alloc: Global, row: &Row, answer: &mut Answer) -> Result<(), MailParseError> {
     let mail = parse_mail(alloc, row.bytes(0))?;
     match row.call.as_str() {
-        "count_parts" => answer.number(mail.parts(alloc)?.count()),
+        "count_parts" => answer.number_or_refusal(count_parts(alloc, &mail)),
         "next_parts" => return push_next(alloc, answer, &mail, row.number(1)),
         "held" => return push_held(alloc, answer, &mail),
         "get_headers" => push_listed(answer, &mail),
@@ -175,24 +196,36 @@ fn push_listed(answer: &mut Answer, mail: &ParsedMail<'_>) {
 fn push_changed(alloc: Global, row: &Row, answer: &mut Answer) -> Result<(), MailParseError> {
     let mut mail = parse_mail(alloc, row.bytes(0))?;
     match row.call.as_str() {
-        "without_headers" => {
-            let headers = &mut mail.headers;
-            headers.clear();
-            let block = mail.get_headers();
-            let raw = block.get_raw_bytes();
-            answer.number(block.into_iter().count());
-            answer.bytes(raw);
-        }
-        "without_parts" => {
-            let subparts = &mut mail.subparts;
-            subparts.clear();
-            answer.number(mail.parts(alloc)?.count());
-        }
-        _ => {
-            let ctype = &mut mail.ctype;
-            ctype.charset = String::from_str(alloc, row.text(1))?;
-            answer.text_or_refusal(mail.get_body(alloc));
-        }
+        "without_headers" => push_without_headers(answer, &mut mail),
+        "without_parts" => push_without_parts(alloc, answer, &mut mail),
+        _ => return push_under_charset(alloc, row, answer, &mut mail),
     }
+    Ok(())
+}
+
+fn push_without_headers(answer: &mut Answer, mail: &mut ParsedMail<'_>) {
+    let headers = &mut mail.headers;
+    headers.clear();
+    let block = mail.get_headers();
+    let raw = block.get_raw_bytes();
+    answer.number(block.into_iter().count());
+    answer.bytes(raw);
+}
+
+fn push_without_parts(alloc: Global, answer: &mut Answer, mail: &mut ParsedMail<'_>) {
+    let subparts = &mut mail.subparts;
+    subparts.clear();
+    answer.number_or_refusal(count_parts(alloc, mail));
+}
+
+fn push_under_charset(
+    alloc: Global,
+    row: &Row,
+    answer: &mut Answer,
+    mail: &mut ParsedMail<'_>,
+) -> Result<(), MailParseError> {
+    let ctype = &mut mail.ctype;
+    ctype.charset = String::from_str(alloc, row.text(1))?;
+    answer.text_or_refusal(mail.get_body(alloc));
     Ok(())
 }

@@ -15,15 +15,14 @@
 //! body_with TABLES ENCODING LABEL BODY => TEXT
 //! mail_with TABLES OTHERS MAIL => error .. | for each part SUBPARTS MIMETYPE CHARSET, NAME VALUE..,
 //!     header KEY VALUE.., DISPOSITION, NAME VALUE.., TEXT
+//! tables MAIL => the same, where TABLES and OTHERS are `all`
 //! ```
 //!
 //! DISPOSITION is `inline`, `attachment`, `form-data`, or `extension` and its name. `mail_with`
 //! parses under the tables, and reads what was parsed under the others.
 
 use crate::calls::bodies::Label;
-use crate::calls::parameters::{
-    push_disposition, push_parsed_disposition, push_parsed_type, push_type,
-};
+use crate::calls::parameters::{push_parsed_disposition, push_parsed_type, push_type};
 use crate::calls::values::raw_header;
 use crate::notation::{Answer, Row};
 use mail_charsets::TABLES;
@@ -50,6 +49,7 @@ pub fn make(alloc: Global, row: &Row, answer: &mut Answer) -> bool {
         | "parse_content_disposition_with"
         | "body_with"
         | "mail_with" => choose_tables(alloc, row, answer),
+        "tables" => write_mail(alloc, answer, row.bytes(0), all_tables(), all_tables()),
         _ => return false,
     };
     answer.end(outcome);
@@ -78,11 +78,11 @@ fn call_with(
         "decode_with" | "decode_without_bom_handling_with" => decode(alloc, row, answer, tables),
         "get_value_with" => answer.text_or_refusal(value_of(alloc, row, tables)),
         "parse_content_type_with" => {
-            return push_parsed_type(answer, parse_content_type_with(alloc, row.text(1), tables));
+            push_parsed_type(answer, parse_content_type_with(alloc, row.text(1), tables));
         }
         "parse_content_disposition_with" => {
             let found = parse_content_disposition_with(alloc, row.text(1), tables);
-            return push_parsed_disposition(answer, found);
+            push_parsed_disposition(answer, found);
         }
         "body_with" => answer.text_or_refusal(body_text(alloc, row, tables)),
         _ => return read_mail(alloc, row, answer, tables),
@@ -231,7 +231,7 @@ fn read_mail(
 }
 
 /// Adds a mail and its parts, parsed under tables, and read under others.
-pub fn write_mail(
+fn write_mail(
     alloc: Global,
     answer: &mut Answer,
     raw: &[u8],
@@ -240,7 +240,7 @@ pub fn write_mail(
 ) -> Result<(), MailParseError> {
     let mail = parse_mail_with(alloc, raw, tables)?;
     for part in mail.parts(alloc)? {
-        write_part(alloc, answer, part, others)?;
+        write_part(alloc, answer, part, others);
     }
     Ok(())
 }
@@ -251,7 +251,7 @@ fn write_part(
     answer: &mut Answer,
     part: &ParsedMail<'_>,
     tables: &[SingleByteTable<'_>],
-) -> Result<(), MailParseError> {
+) {
     answer.word("part");
     answer.number(part.subparts.len());
     push_type(answer, &part.ctype);
@@ -260,7 +260,6 @@ fn write_part(
         answer.text_or_refusal(header.get_key(alloc));
         answer.text_or_refusal(header.get_value_with(alloc, tables));
     }
-    push_disposition(answer, &part.get_content_disposition_with(alloc, tables)?);
+    push_parsed_disposition(answer, part.get_content_disposition_with(alloc, tables));
     answer.text_or_refusal(part.get_body_with(alloc, tables));
-    Ok(())
 }

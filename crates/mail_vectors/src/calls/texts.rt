@@ -8,14 +8,16 @@ use mail_data::flowed::{flowed_text, unflowed};
 use mail_data::forwarding::{forwarded, forwarded_bytes, mails_inside};
 use mail_data::inner_mails::{InnerMail, inner_mails, places_under};
 use mail_data::texts::{text_part, text_type};
-use mailparse::{MAX_LEVELS, MailParseError, ParsedMail, parse_mail, parse_mail_with};
+use mailparse::{
+    KnownCharsets, MAX_LEVELS, MailParseError, parse_mail, parse_mail_in, parse_mail_with,
+};
 use std::alloc::Global;
 
 /// Makes the call of a row, if it is one of these.
 pub fn make(alloc: Global, row: &Row, answer: &mut Answer) -> bool {
     let outcome = match row.call.as_str() {
-        "text_part" => find_text(alloc, row, answer),
-        "text_part_with" => find_text_with(alloc, row, answer),
+        "text_part" => find_text(alloc, row, answer, &()),
+        "text_part_with" => find_text(alloc, row, answer, &all_tables()),
         "forwarded" => read_forwarded(alloc, row, answer),
         "forwarded_with" => read_forwarded_with(alloc, row, answer),
         "forwarded_bytes" => copy_forwarded(alloc, row, answer),
@@ -34,21 +36,16 @@ pub fn make(alloc: Global, row: &Row, answer: &mut Answer) -> bool {
     true
 }
 
-/// `text_part MAIL => TEXT`, the text that `get_body` returns of the part.
-fn find_text(alloc: Global, row: &Row, answer: &mut Answer) -> Result<(), MailParseError> {
-    let mail = parse_mail(alloc, row.bytes(0))?;
-    match text_part(alloc, &mail, &())? {
-        Some(part) => answer.text_or_refusal(part.get_body(alloc)),
-        None => answer.word("none"),
-    }
-    Ok(())
-}
-
-/// `text_part_with MAIL => TEXT` likewise, under all tables.
-fn find_text_with(alloc: Global, row: &Row, answer: &mut Answer) -> Result<(), MailParseError> {
-    let mail = parse_mail_with(alloc, row.bytes(0), all_tables())?;
-    match text_part(alloc, &mail, &all_tables())? {
-        Some(part) => answer.text_or_refusal(part.get_body_with(alloc, all_tables())),
+/// `text_part MAIL => TEXT`, the text of the part's body; likewise `text_part_with`, under all tables.
+fn find_text<K: KnownCharsets>(
+    alloc: Global,
+    row: &Row,
+    answer: &mut Answer,
+    known: &K,
+) -> Result<(), MailParseError> {
+    let mail = parse_mail_in(alloc, row.bytes(0), known)?;
+    match text_part(alloc, &mail, known)? {
+        Some(part) => answer.text_or_refusal(part.get_body_in(alloc, known)),
         None => answer.word("none"),
     }
     Ok(())
