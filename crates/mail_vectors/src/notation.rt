@@ -75,16 +75,7 @@ impl Row {
     /// Reads the inputs, the answer and the marks.
     fn take_items(&mut self, alloc: Global, text: &str) -> Result<(), MailParseError> {
         let mut items = Items::new(alloc);
-        let mut rest = text.trim_start();
-        for _turn in 0..text.len() {
-            if rest.is_empty() {
-                break;
-            }
-            rest = items.take(alloc, self, rest)?.trim_start();
-        }
-        if items.part == Part::Inputs {
-            return Err(FORM);
-        }
+        items.take_all(alloc, self, text)?;
         self.want(items.list.as_slice())
     }
 
@@ -196,6 +187,22 @@ impl Items {
         }
     }
 
+    /// Takes the inputs, the answer and the marks.
+    fn take_all(&mut self, alloc: Global, row: &mut Row, text: &str) -> Result<(), MailParseError> {
+        let mut rest = text.trim_start();
+        for _turn in 0..text.len() {
+            if rest.is_empty() {
+                break;
+            }
+            rest = self.take(alloc, row, rest)?.trim_start();
+        }
+        if self.part == Part::Inputs {
+            Err(FORM)
+        } else {
+            Ok(())
+        }
+    }
+
     /// Takes the text or word at the front of a text, and returns what follows it.
     fn take<'t>(
         &mut self,
@@ -221,13 +228,15 @@ impl Items {
         self.last.clear();
         push_decoded(&mut self.last, raw)?;
         if !self.is_joined {
-            self.list.push(Item {
-                is_text: true,
-                bytes: Vec::new(alloc),
-            })?;
+            self.add(true, Vec::new(alloc))?;
         }
         self.is_joined = false;
         self.append(1)
+    }
+
+    /// Adds an item.
+    fn add(&mut self, is_text: bool, bytes: Vec<u8>) -> Result<(), MailParseError> {
+        Ok(self.list.push(Item { is_text, bytes })?)
     }
 
     /// Takes a word, which may be a sign of the notation.
@@ -261,11 +270,7 @@ impl Items {
             return self.append(count.saturating_sub(1));
         }
         let bytes = word.as_bytes().to_vec(alloc)?;
-        self.list.push(Item {
-            is_text: false,
-            bytes,
-        })?;
-        Ok(())
+        self.add(false, bytes)
     }
 
     /// Adds the last quoted text to the last item so many times.
@@ -303,15 +308,16 @@ fn push_escape(bytes: &mut Vec<u8>, piece: &str) -> Result<(), MailParseError> {
     let Some((letter, rest)) = piece.split_at_checked(1) else {
         return Err(FORM);
     };
-    match letter {
-        "n" => push_both(bytes, b'\n', rest),
-        "r" => push_both(bytes, b'\r', rest),
-        "t" => push_both(bytes, b'\t', rest),
-        "0" => push_both(bytes, 0, rest),
-        "x" => push_byte(bytes, rest),
-        "u" => push_char(bytes, rest),
-        _ => Err(FORM),
-    }
+    let byte = match letter {
+        "n" => b'\n',
+        "r" => b'\r',
+        "t" => b'\t',
+        "0" => 0,
+        "x" => return push_byte(bytes, rest),
+        "u" => return push_char(bytes, rest),
+        _ => return Err(FORM),
+    };
+    push_both(bytes, byte, rest)
 }
 
 /// Adds a byte and what follows it.
@@ -393,6 +399,19 @@ impl Answer {
         } else {
             Ok(())
         }
+    }
+
+    /// The answer, if it is whole.
+    pub fn whole(self) -> Result<Answer, MailParseError> {
+        match self.outcome() {
+            Ok(()) => Ok(self),
+            Err(error) => Err(error),
+        }
+    }
+
+    /// Says that the row is none of the suite.
+    pub fn reject(&mut self) {
+        self.is_malformed = true;
     }
 
     /// The answer as it is written.

@@ -1,7 +1,7 @@
 //! A replay of the rows of a file.
 
 use crate::calls;
-use crate::notation::{Answer, FORM, Row};
+use crate::notation::{Answer, Row};
 use mailparse::MailParseError;
 use std::alloc::{AllocError, Global};
 
@@ -107,22 +107,25 @@ impl Tally {
         outcome: Result<Answer, MailParseError>,
     ) -> Result<(), AllocError> {
         match outcome {
-            Ok(answer) => {
-                if answer.as_bytes() == row.wanted.as_bytes() {
-                    self.passed = self.passed.saturating_add(1);
-                    return Ok(());
-                }
-                let wanted = row.wanted.as_bytes().escape_ascii();
-                let found = answer.as_bytes().escape_ascii();
-                let what = format!(in alloc; "wants {wanted}\n    finds {found}")?;
-                self.fail(row.name.as_str(), what.as_str())
-            }
+            Ok(answer) => self.compare(alloc, row, answer.as_bytes()),
             Err(MailParseError::Memory(e)) => Err(e),
             Err(fault) => {
                 let what = format!(in alloc; "{fault}")?;
                 self.fail(row.name.as_str(), what.as_str())
             }
         }
+    }
+
+    /// Counts a row whose call returned this.
+    fn compare(&mut self, alloc: Global, row: &Row, found: &[u8]) -> Result<(), AllocError> {
+        let wanted = row.wanted.as_bytes();
+        if found == wanted {
+            self.passed = self.passed.saturating_add(1);
+            return Ok(());
+        }
+        let (wanted, found) = (wanted.escape_ascii(), found.escape_ascii());
+        let what = format!(in alloc; "wants {wanted}\n    finds {found}")?;
+        self.fail(row.name.as_str(), what.as_str())
     }
 
     /// Counts a row that failed, and says how.
@@ -139,11 +142,8 @@ impl Tally {
 /// What the call of a row returns, unless memory ran out or there is no such call with such inputs.
 fn returned(alloc: Global, row: &Row) -> Result<Answer, MailParseError> {
     let mut answer = Answer::new(alloc, row)?;
-    let is_made = calls::make(alloc, row, &mut answer);
-    answer.outcome()?;
-    if is_made && row.fits() {
-        Ok(answer)
-    } else {
-        Err(FORM)
+    if !calls::make(alloc, row, &mut answer) || !row.fits() {
+        answer.reject();
     }
+    answer.whole()
 }

@@ -14,8 +14,8 @@
 use crate::calls::tables::all_tables;
 use crate::notation::{Answer, Row};
 use mail_address::{
-    Address, Group, Mailbox, Member, NewAddress, NewGroup, NewMailbox, WriteError, addresses_of,
-    read_addresses, sender_of, write_addresses,
+    Address, AddressList, Group, Mailbox, Member, NewAddress, NewGroup, NewMailbox, WriteError,
+    addresses_of, read_addresses, sender_of, write_addresses,
 };
 use mailparse::{KnownCharsets, MailParseError, parse_mail};
 use std::alloc::{AllocError, Global};
@@ -43,17 +43,28 @@ fn list_addresses<K: KnownCharsets>(
     answer: &mut Answer,
     known: &K,
 ) -> Result<(), MailParseError> {
-    for address in &read_addresses(alloc, row.bytes(0))? {
+    let list = read_addresses(alloc, row.bytes(0))?;
+    write_list(alloc, &list, answer, known);
+    Ok(())
+}
+
+fn write_list<K: KnownCharsets>(
+    alloc: Global,
+    list: &AddressList<'_>,
+    answer: &mut Answer,
+    known: &K,
+) {
+    for address in list {
         write_address(alloc, address, answer, known);
     }
-    Ok(())
 }
 
 /// Writes the elements of all headers with a name.
 fn list_named(alloc: Global, row: &Row, answer: &mut Answer) -> Result<(), MailParseError> {
     let mail = parse_mail(alloc, row.bytes(0))?;
-    for address in &addresses_of(alloc, &mail.headers, row.text(1))? {
-        write_address(alloc, address, answer, &());
+    match addresses_of(alloc, &mail.headers, row.text(1)) {
+        Ok(list) => write_list(alloc, &list, answer, &()),
+        Err(error) => answer.refusal(error),
     }
     Ok(())
 }
@@ -61,9 +72,10 @@ fn list_named(alloc: Global, row: &Row, answer: &mut Answer) -> Result<(), MailP
 /// Writes the sender of a mail.
 fn find_sender(alloc: Global, row: &Row, answer: &mut Answer) -> Result<(), MailParseError> {
     let mail = parse_mail(alloc, row.bytes(0))?;
-    match sender_of(alloc, &mail.get_headers())? {
-        Some(mailbox) => write_mailbox(alloc, &mailbox, answer, &()),
-        None => answer.word("none"),
+    match sender_of(alloc, &mail.get_headers()) {
+        Ok(Some(mailbox)) => write_mailbox(alloc, &mailbox, answer, &()),
+        Ok(None) => answer.word("none"),
+        Err(error) => answer.refusal(error),
     }
     Ok(())
 }
@@ -161,8 +173,9 @@ fn write_group_of(alloc: Global, row: &Row, answer: &mut Answer) -> Result<(), M
 fn read_written(alloc: Global, row: &Row, answer: &mut Answer) -> Result<(), MailParseError> {
     match written(alloc, row) {
         Ok(value) => {
-            for address in &read_addresses(alloc, value.as_slice())? {
-                write_address(alloc, address, answer, &());
+            match read_addresses(alloc, value.as_slice()) {
+                Ok(list) => write_list(alloc, &list, answer, &()),
+                Err(error) => answer.refusal(MailParseError::from(error)),
             }
             Ok(())
         }

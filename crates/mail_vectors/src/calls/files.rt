@@ -8,12 +8,12 @@ use mail_data::files::{
     Attachment, attachments, describes_attachment, file_name, filled_parameter, is_attachment,
     is_leaf, named_file, safe_file_name,
 };
-use mail_data::places::places;
+use mail_data::places::{Place, places};
 use mailparse::{
     KnownCharsets, MailParseError, ParsedContentDisposition, ParsedContentType, ParsedMail,
     parse_content_disposition, parse_content_type, parse_mail, parse_mail_in,
 };
-use std::alloc::Global;
+use std::alloc::{AllocError, Global};
 use std::collections::BTreeMap;
 
 /// Makes the call of a row, if it is one of these.
@@ -54,17 +54,25 @@ fn list_files<K: KnownCharsets>(
     known: &K,
 ) -> Result<(), MailParseError> {
     let mail = parse_mail_in(alloc, row.bytes(0), known)?;
-    for file in &attachments(alloc, &mail, known)? {
-        write_file(alloc, file, file_name(alloc, file.part, known)?, answer);
+    match attachments(alloc, &mail, known) {
+        Ok(files) => write_files(alloc, files.as_slice(), answer, known),
+        Err(error) => answer.refusal(error),
     }
     Ok(())
 }
 
-/// Writes a file and its name.
-fn write_file(alloc: Global, file: &Attachment<'_, '_>, name: Option<String>, answer: &mut Answer) {
-    answer.text(file.path.as_str());
-    answer.optional_text(name.as_deref());
-    answer.bytes_or_refusal(file.part.get_body_raw(alloc));
+/// Writes files.
+fn write_files<K: KnownCharsets>(
+    alloc: Global,
+    files: &[Attachment<'_, '_>],
+    answer: &mut Answer,
+    known: &K,
+) {
+    for file in files {
+        answer.text(file.path.as_str());
+        answer.optional_or_refusal(file_name(alloc, file.part, known));
+        answer.bytes_or_refusal(file.part.get_body_raw(alloc));
+    }
 }
 
 /// `file_name MAIL PART => NAME`, `is_attachment MAIL PART => TRUTH` and `is_leaf MAIL PART => TRUTH`;
@@ -76,7 +84,17 @@ fn look_at<K: KnownCharsets>(
     known: &K,
 ) -> Result<(), MailParseError> {
     let mail = parse_mail_in(alloc, row.bytes(0), known)?;
-    let part = part_at(alloc, &mail, row.number(1))?;
+    look_at_part(alloc, row, answer, &mail, known)
+}
+
+fn look_at_part<K: KnownCharsets>(
+    alloc: Global,
+    row: &Row,
+    answer: &mut Answer,
+    mail: &ParsedMail<'_>,
+    known: &K,
+) -> Result<(), MailParseError> {
+    let part = part_at(alloc, mail, row.number(1))?;
     match row.call.as_str() {
         "file_name" | "file_name_with" => answer.optional_or_refusal(file_name(alloc, part, known)),
         "is_leaf" => answer.truth(is_leaf(part)),
@@ -89,9 +107,19 @@ fn look_at<K: KnownCharsets>(
 fn describe(alloc: Global, row: &Row, answer: &mut Answer) -> Result<(), MailParseError> {
     let disposition = disposition_of(alloc, row)?;
     let ctype = type_of(alloc, row, 1)?;
+    Ok(write_described(alloc, row, answer, &disposition, &ctype)?)
+}
+
+fn write_described(
+    alloc: Global,
+    row: &Row,
+    answer: &mut Answer,
+    disposition: &ParsedContentDisposition,
+    ctype: &ParsedContentType,
+) -> Result<(), AllocError> {
     match row.call.as_str() {
-        "named_file" => answer.optional_text(named_file(alloc, &disposition, &ctype)?.as_deref()),
-        _ => answer.truth(describes_attachment(alloc, &disposition, &ctype)?),
+        "named_file" => answer.optional_text(named_file(alloc, disposition, ctype)?.as_deref()),
+        _ => answer.truth(describes_attachment(alloc, disposition, ctype)?),
     }
     Ok(())
 }
@@ -127,12 +155,19 @@ fn get_parameter(alloc: Global, row: &Row, answer: &mut Answer) -> Result<(), Ma
 /// where its body does.
 fn list_places(alloc: Global, row: &Row, answer: &mut Answer) -> Result<(), MailParseError> {
     let mail = parse_mail(alloc, row.bytes(0))?;
-    for place in &places(alloc, &mail)? {
+    match places(alloc, &mail) {
+        Ok(found) => write_places(answer, found.as_slice()),
+        Err(error) => answer.refusal(MailParseError::from(error)),
+    }
+    Ok(())
+}
+
+fn write_places(answer: &mut Answer, places: &[Place<'_, '_>]) {
+    for place in places {
         answer.text(place.path.as_str());
         answer.number(place.byte_range.start);
         answer.number(place.byte_range.end);
         answer.number(place.body_range.start);
         answer.number(place.body_range.end);
     }
-    Ok(())
 }

@@ -27,7 +27,8 @@ use std::alloc::Global;
 /// Makes the call of a row, if it is one of these.
 pub fn make(alloc: Global, row: &Row, answer: &mut Answer) -> bool {
     let outcome = match row.call.as_str() {
-        "debug_content_type" | "default_content_type" => show_type(alloc, row, answer),
+        "debug_content_type" => show_type(alloc, row, answer),
+        "default_content_type" => show_default_type(alloc, answer),
         "debug_content_disposition" | "debug_default_disposition" => {
             show_disposition(alloc, row, answer)
         }
@@ -44,15 +45,16 @@ pub fn make(alloc: Global, row: &Row, answer: &mut Answer) -> bool {
 }
 
 fn show_type(alloc: Global, row: &Row, answer: &mut Answer) -> Result<(), MailParseError> {
-    let found = match row.call.as_str() {
-        "debug_content_type" => parse_content_type(alloc, row.text(0))?,
-        _ => ParsedContentType::default(alloc)?,
-    };
-    if row.call.as_str() == "default_content_type" {
-        answer.text(found.mimetype.as_str());
-        answer.text(found.charset.as_str());
-        answer.number(found.params.len());
-    }
+    let found = parse_content_type(alloc, row.text(0))?;
+    answer.made(format!(in alloc; "{found:?}"));
+    Ok(())
+}
+
+fn show_default_type(alloc: Global, answer: &mut Answer) -> Result<(), MailParseError> {
+    let found = ParsedContentType::default(alloc)?;
+    answer.text(found.mimetype.as_str());
+    answer.text(found.charset.as_str());
+    answer.number(found.params.len());
     answer.made(format!(in alloc; "{found:?}"));
     Ok(())
 }
@@ -69,9 +71,22 @@ fn show_disposition(alloc: Global, row: &Row, answer: &mut Answer) -> Result<(),
 fn push_default(alloc: Global, answer: &mut Answer) -> Result<(), MailParseError> {
     let found = ParsedContentDisposition::default(alloc);
     push_disposition(answer, &found);
-    answer.truth(found.disposition.clone(alloc)? == found.disposition);
+    push_equal_copy(alloc, answer, &found, &found);
     answer.truth(found.disposition == DispositionType::default());
     Ok(())
+}
+
+/// Writes whether a copy of a kind is equal to another kind.
+fn push_equal_copy(
+    alloc: Global,
+    answer: &mut Answer,
+    first: &ParsedContentDisposition,
+    second: &ParsedContentDisposition,
+) {
+    match first.disposition.clone(alloc) {
+        Ok(copy) => answer.truth(copy == second.disposition),
+        Err(error) => answer.refusal(error),
+    }
 }
 
 fn push_type(alloc: Global, row: &Row, answer: &mut Answer) -> Result<(), MailParseError> {
@@ -95,7 +110,7 @@ fn push_equal(alloc: Global, row: &Row, answer: &mut Answer) -> Result<(), MailP
     let first = parse_content_disposition(alloc, row.text(0))?;
     let second = parse_content_disposition(alloc, row.text(1))?;
     answer.truth(first.disposition == second.disposition);
-    answer.truth(first.disposition.clone(alloc)? == second.disposition);
+    push_equal_copy(alloc, answer, &first, &second);
     Ok(())
 }
 
@@ -122,14 +137,20 @@ fn show_ids(alloc: Global, row: &Row, answer: &mut Answer) -> Result<(), MailPar
 
 fn copy_ids(alloc: Global, row: &Row, answer: &mut Answer) -> Result<(), MailParseError> {
     let mut list = list_of(alloc, row, 0, row.count())?;
-    let copy = list.clone(alloc)?;
-    answer.truth(copy == list);
+    match list.clone(alloc) {
+        Ok(copy) => compare_copy(answer, &mut list, &copy),
+        Err(error) => answer.refusal(error),
+    }
+    Ok(())
+}
+
+fn compare_copy(answer: &mut Answer, list: &mut MessageIdList, copy: &MessageIdList) {
+    answer.truth(*copy == *list);
     answer.optional_text(list.pop().as_deref());
-    answer.truth(copy == list);
+    answer.truth(*copy == *list);
     answer.texts(list.0.as_slice());
     answer.word("copy");
     answer.texts(copy.0.as_slice());
-    Ok(())
 }
 
 fn compare_ids(alloc: Global, row: &Row, answer: &mut Answer) -> Result<(), MailParseError> {

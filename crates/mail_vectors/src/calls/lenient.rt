@@ -38,22 +38,36 @@ fn read_front(alloc: Global, row: &Row, answer: &mut Answer) -> Result<(), MailP
 /// `quoted-printable`. The whole mail is part 0.
 fn read_body(alloc: Global, row: &Row, answer: &mut Answer) -> Result<(), MailParseError> {
     let mail = parse_mail(alloc, row.bytes(0))?;
-    let part = part_at(alloc, &mail, row.number(1))?;
-    let body = lenient_body(alloc, part)?;
-    push_raw(answer, &body);
-    if let Body::Base64(body) | Body::QuotedPrintable(body) = &body {
-        answer.bytes_or_refusal(body.get_decoded(alloc));
+    match part_at(alloc, &mail, row.number(1)) {
+        Ok(part) => write_body(alloc, answer, lenient_body(alloc, part)),
+        Err(error) => answer.refusal(error),
     }
     Ok(())
+}
+
+fn write_body(alloc: Global, answer: &mut Answer, body: Result<Body<'_>, MailParseError>) {
+    match body {
+        Ok(body) => {
+            push_raw(answer, &body);
+            if let Body::Base64(body) | Body::QuotedPrintable(body) = &body {
+                answer.bytes_or_refusal(body.get_decoded(alloc));
+            }
+        }
+        Err(error) => answer.refusal(error),
+    }
 }
 
 /// `body_text MAIL => TEXT CHARSET DAMAGED` of the whole mail, under all tables.
 fn read_text(alloc: Global, row: &Row, answer: &mut Answer) -> Result<(), MailParseError> {
     let mail = parse_mail(alloc, row.bytes(0))?;
-    let read = body_text(alloc, &mail, &all_tables())?;
-    answer.text(read.text.as_str());
-    answer.text(read.charset.as_str());
-    answer.truth(read.is_damaged);
+    match body_text(alloc, &mail, &all_tables()) {
+        Ok(read) => {
+            answer.text(read.text.as_str());
+            answer.text(read.charset.as_str());
+            answer.truth(read.is_damaged);
+        }
+        Err(error) => answer.refusal(error),
+    }
     Ok(())
 }
 

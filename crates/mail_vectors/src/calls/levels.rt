@@ -9,7 +9,7 @@
 //!   no more headers, bytes of bodies, and parts at three bytes each, than it has bytes. Each other
 //!   length stands before the count, with the refusal, or with the word `more`.
 
-use crate::calls::parts::{Held, count_parts};
+use crate::calls::parts::{Held, count_below};
 use crate::notation::{Answer, FORM, Row};
 use mailparse::{MAX_LEVELS, MailParseError, ParsedMail, parse_mail, parse_mail_limited};
 use std::alloc::Global;
@@ -34,13 +34,13 @@ fn count_under(alloc: Global, raw: &[u8], levels: u8) -> Result<usize, MailParse
         return Err(FORM);
     }
     let mail = parse_mail_limited(alloc, raw, levels)?;
-    Ok(count_parts(alloc, &mail)?.saturating_sub(1))
+    count_below(alloc, &mail)
 }
 
 /// How many parts a mail has, parts of parts among them.
 fn count_of(alloc: Global, raw: &[u8]) -> Result<usize, MailParseError> {
     let mail = parse_mail(alloc, raw)?;
-    Ok(count_parts(alloc, &mail)?.saturating_sub(1))
+    count_below(alloc, &mail)
 }
 
 fn push_levels(alloc: Global, answer: &mut Answer, raw: &[u8]) {
@@ -102,10 +102,15 @@ fn is_read(alloc: Global, answer: &mut Answer, front: &[u8]) -> bool {
 /// Whether the front of a mail holds no more than its bytes.
 fn outcome(alloc: Global, front: &[u8]) -> Result<bool, MailParseError> {
     let mail = parse_mail(alloc, front)?;
-    read_bodies(alloc, &mail)?;
-    let held = Held::of(alloc, &mail)?;
+    Ok(bytes_held(alloc, &mail)? <= front.len())
+}
+
+/// How many bytes a mail must have at least to hold what it does.
+fn bytes_held(alloc: Global, mail: &ParsedMail<'_>) -> Result<usize, MailParseError> {
+    read_bodies(alloc, mail)?;
+    let held = Held::of(alloc, mail)?;
     let bytes = held.headers.saturating_add(held.bytes);
-    Ok(bytes.saturating_add(held.parts.saturating_mul(3)) <= front.len())
+    Ok(bytes.saturating_add(held.parts.saturating_mul(3)))
 }
 
 /// Reads the bytes that each body stands for, as far as it is Base64 where it says so.

@@ -9,7 +9,7 @@
 //! names of it, of those in NAMES.
 
 use crate::notation::{Answer, Row};
-use mailparse::{MailHeader, MailHeaderMap, MailParseError, parse_headers, parse_mail};
+use mailparse::{MailHeader, MailHeaderMap, MailParseError, ParsedMail, parse_headers, parse_mail};
 use std::alloc::{AllocError, Global};
 
 /// Makes the call of a row, if it is one of these.
@@ -29,11 +29,15 @@ pub fn make(alloc: Global, row: &Row, answer: &mut Answer) -> bool {
 
 fn look_up(alloc: Global, row: &Row, answer: &mut Answer) -> Result<(), MailParseError> {
     let mail = parse_mail(alloc, row.bytes(0))?;
+    push_both(alloc, row, answer, &mail);
+    Ok(())
+}
+
+fn push_both(alloc: Global, row: &Row, answer: &mut Answer, mail: &ParsedMail<'_>) {
     answer.word("list");
     push_found(alloc, row, answer, &mail.headers);
     answer.word("block");
     push_found(alloc, row, answer, &mail.get_headers());
-    Ok(())
 }
 
 /// Writes what a call finds by a name.
@@ -62,43 +66,56 @@ fn push_headers(
 ) {
     match found {
         Ok(headers) if call == "count_headers" => answer.number(headers.len()),
-        Ok(headers) => {
-            for header in &headers {
-                answer.bytes(header.get_value_raw());
-            }
-        }
+        Ok(headers) => push_values(answer, headers.as_slice()),
         Err(error) => answer.refusal(error),
     }
 }
 
-fn push_names_of_each(alloc: Global, row: &Row, answer: &mut Answer) -> Result<(), MailParseError> {
-    let mut names = String::new(alloc);
-    for character in row.text(1).chars() {
-        write!(names, "K{character}{BETWEEN}")?;
+fn push_values(answer: &mut Answer, headers: &[&MailHeader<'_>]) {
+    for header in headers {
+        answer.bytes(header.get_value_raw());
     }
+}
+
+fn push_names_of_each(alloc: Global, row: &Row, answer: &mut Answer) -> Result<(), MailParseError> {
+    let names = names_of(alloc, row.text(1))?;
     for byte in row.bytes(0) {
-        push_names(alloc, answer, &[b'k', *byte, b':', b'v'], names.as_str())?;
+        push_names(alloc, answer, &[b'k', *byte, b':', b'v'], names.as_str());
     }
     Ok(())
+}
+
+/// The names that end in one of these characters.
+fn names_of(alloc: Global, characters: &str) -> Result<String, AllocError> {
+    let mut names = String::new(alloc);
+    for character in characters.chars() {
+        write!(names, "K{character}{BETWEEN}")?;
+    }
+    Ok(names)
 }
 
 /// What stands after each name: no character of a key.
 const BETWEEN: char = '\u{20AC}';
 
 /// Writes the characters that follow `K` in names of this header.
-fn push_names(
+fn push_names(alloc: Global, answer: &mut Answer, raw: &[u8], names: &str) {
+    match parse_headers(alloc, raw) {
+        Ok((headers, _)) => answer.made(names_among(alloc, &headers, names)),
+        Err(error) => answer.refusal(error),
+    }
+}
+
+/// The characters that follow `K` in names of these headers.
+fn names_among(
     alloc: Global,
-    answer: &mut Answer,
-    raw: &[u8],
+    headers: &Vec<MailHeader<'_>>,
     names: &str,
-) -> Result<(), MailParseError> {
-    let (headers, _) = parse_headers(alloc, raw)?;
+) -> Result<String, AllocError> {
     let mut found = String::new(alloc);
     for name in names.split(BETWEEN) {
-        push_if_named(&mut found, &headers, name)?;
+        push_if_named(&mut found, headers, name)?;
     }
-    answer.text(found.as_str());
-    Ok(())
+    Ok(found)
 }
 
 fn push_if_named(

@@ -10,6 +10,7 @@ mod compare;
 mod steps;
 
 use crate::calls::levels::least_levels;
+use crate::calls::parts::count_parts;
 use crate::notation::{Answer, Row};
 use compare::is_message_of;
 use mail_laws::render::{Outline, is_well_formed, render};
@@ -38,16 +39,25 @@ pub fn make(alloc: Global, row: &Row, answer: &mut Answer) -> bool {
 ///   third.
 fn write_all(alloc: Global, row: &Row, answer: &mut Answer) -> Result<(), MailParseError> {
     let outline = outline_of(alloc, row)?;
-    match row.call.as_str() {
-        "render" => answer.bytes_or_refusal(render(alloc, &outline)),
-        "is_well_formed" => answer.truth(is_well_formed(alloc, &outline)?),
-        "read_outline" => return read_back(alloc, &outline, answer),
+    write_of(alloc, row.call.as_str(), &outline, answer)
+}
+
+fn write_of(
+    alloc: Global,
+    call: &str,
+    outline: &Outline,
+    answer: &mut Answer,
+) -> Result<(), MailParseError> {
+    match call {
+        "render" => answer.bytes_or_refusal(render(alloc, outline)),
+        "is_well_formed" => answer.truth(is_well_formed(alloc, outline)?),
+        "read_outline" => return read_back(alloc, outline, answer),
         _ => {
-            answer.bytes_or_refusal(render(alloc, &outline));
-            let is_well_formed = is_well_formed(alloc, &outline)?;
+            answer.bytes_or_refusal(render(alloc, outline));
+            let is_well_formed = is_well_formed(alloc, outline)?;
             answer.truth(is_well_formed);
             if is_well_formed {
-                return read_back(alloc, &outline, answer);
+                return read_back(alloc, outline, answer);
             }
         }
     }
@@ -57,10 +67,19 @@ fn write_all(alloc: Global, row: &Row, answer: &mut Answer) -> Result<(), MailPa
 /// Writes LEVELS and PARTS.
 fn read_back(alloc: Global, outline: &Outline, answer: &mut Answer) -> Result<(), MailParseError> {
     let bytes = render(alloc, outline)?;
-    let levels = least_levels(alloc, bytes.as_slice())?;
-    if is_read_under(alloc, outline, bytes.as_slice(), levels)? {
+    read_bytes(alloc, outline, bytes.as_slice(), answer)
+}
+
+fn read_bytes(
+    alloc: Global,
+    outline: &Outline,
+    bytes: &[u8],
+    answer: &mut Answer,
+) -> Result<(), MailParseError> {
+    let levels = least_levels(alloc, bytes)?;
+    if is_read_under(alloc, outline, bytes, levels)? {
         answer.number(usize::from(levels));
-        write_mail(alloc, outline, bytes.as_slice(), answer)
+        write_mail(alloc, outline, bytes, answer)
     } else {
         answer.word("differs");
         Ok(())
@@ -86,10 +105,10 @@ fn write_mail(
     answer: &mut Answer,
 ) -> Result<(), MailParseError> {
     let mail = parse_mail(alloc, bytes)?;
-    if is_message_of(alloc, outline, &mail)? {
-        answer.number(mail.parts(alloc)?.count());
-    } else {
-        answer.word("differs");
+    match is_message_of(alloc, outline, &mail) {
+        Ok(true) => answer.number_or_refusal(count_parts(alloc, &mail)),
+        Ok(false) => answer.word("differs"),
+        Err(error) => answer.refusal(error),
     }
     Ok(())
 }

@@ -51,6 +51,11 @@ pub fn count_parts(alloc: Global, mail: &ParsedMail<'_>) -> Result<usize, MailPa
     Ok(mail.parts(alloc)?.count())
 }
 
+/// How many parts a mail has, parts of parts among them.
+pub fn count_below(alloc: Global, mail: &ParsedMail<'_>) -> Result<usize, MailParseError> {
+    Ok(count_parts(alloc, mail)?.saturating_sub(1))
+}
+
 /// Writes what a call says of each part.
 fn push_parts(alloc: Global, row: &Row, answer: &mut Answer) -> Result<(), MailParseError> {
     let mail = parse_mail(alloc, row.bytes(0))?;
@@ -112,11 +117,20 @@ fn push_raw_bytes(answer: &mut Answer, part: &ParsedMail<'_>) {
 /// Writes what a call says of the whole mail.
 fn push_whole(alloc: Global, row: &Row, answer: &mut Answer) -> Result<(), MailParseError> {
     let mail = parse_mail(alloc, row.bytes(0))?;
+    push_of_whole(alloc, row, answer, &mail)
+}
+
+fn push_of_whole(
+    alloc: Global,
+    row: &Row,
+    answer: &mut Answer,
+    mail: &ParsedMail<'_>,
+) -> Result<(), MailParseError> {
     match row.call.as_str() {
-        "count_parts" => answer.number_or_refusal(count_parts(alloc, &mail)),
-        "next_parts" => return push_next(alloc, answer, &mail, row.number(1)),
-        "held" => return push_held(alloc, answer, &mail),
-        "get_headers" => push_listed(answer, &mail),
+        "count_parts" => answer.number_or_refusal(count_parts(alloc, mail)),
+        "next_parts" => return push_next(alloc, answer, mail, row.number(1)),
+        "held" => return push_held(alloc, answer, mail),
+        "get_headers" => push_listed(answer, mail),
         "debug_headers" => {
             let block = mail.get_headers();
             answer.made(format!(in alloc; "{block:?}"));

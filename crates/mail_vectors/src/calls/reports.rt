@@ -3,7 +3,7 @@
 use crate::notation::{Answer, Row};
 use mail_data::archive::{message_id, parents};
 use mail_data::bounce::{Recipient, original_message_id, recipients};
-use mailparse::{MailParseError, parse_mail};
+use mailparse::{MailParseError, ParsedMail, parse_mail};
 use std::alloc::Global;
 
 /// Makes the call of a row, if it is one of these.
@@ -26,11 +26,20 @@ pub fn make(alloc: Global, row: &Row, answer: &mut Answer) -> bool {
 /// Writes what a call says of a mail.
 fn read_mail(alloc: Global, row: &Row, answer: &mut Answer) -> Result<(), MailParseError> {
     let mail = parse_mail(alloc, row.bytes(0))?;
-    match row.call.as_str() {
-        "recipients" => write_recipients(answer, recipients(alloc, &mail, &())?.as_slice()),
-        "original_message_id" => answer.optional_or_refusal(original_message_id(alloc, &mail, &())),
-        "message_id" => answer.optional_or_refusal(message_id(alloc, &mail, &())),
-        _ => answer.texts_or_refusal(parents(alloc, &mail, &())),
+    write_of(alloc, row.call.as_str(), answer, &mail)
+}
+
+fn write_of(
+    alloc: Global,
+    call: &str,
+    answer: &mut Answer,
+    mail: &ParsedMail<'_>,
+) -> Result<(), MailParseError> {
+    match call {
+        "recipients" => write_recipients(answer, recipients(alloc, mail, &())?.as_slice()),
+        "original_message_id" => answer.optional_or_refusal(original_message_id(alloc, mail, &())),
+        "message_id" => answer.optional_or_refusal(message_id(alloc, mail, &())),
+        _ => answer.texts_or_refusal(parents(alloc, mail, &())),
     }
     Ok(())
 }

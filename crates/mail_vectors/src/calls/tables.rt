@@ -206,7 +206,15 @@ fn body_text(
     tables: &[SingleByteTable<'_>],
 ) -> Result<String, MailParseError> {
     let label = Label::of(alloc, row, 1)?;
-    match label.body(row.bytes(3)) {
+    text_of(alloc, &label.body(row.bytes(3)), tables)
+}
+
+fn text_of(
+    alloc: Global,
+    body: &Body<'_>,
+    tables: &[SingleByteTable<'_>],
+) -> Result<String, MailParseError> {
+    match body {
         Body::Base64(body) | Body::QuotedPrintable(body) => {
             body.get_decoded_as_string_with(alloc, tables)
         }
@@ -239,8 +247,17 @@ fn write_mail(
     others: &[SingleByteTable<'_>],
 ) -> Result<(), MailParseError> {
     let mail = parse_mail_with(alloc, raw, tables)?;
+    write_parts(alloc, answer, &mail, others)
+}
+
+fn write_parts(
+    alloc: Global,
+    answer: &mut Answer,
+    mail: &ParsedMail<'_>,
+    tables: &[SingleByteTable<'_>],
+) -> Result<(), MailParseError> {
     for part in mail.parts(alloc)? {
-        write_part(alloc, answer, part, others);
+        write_part(alloc, answer, part, tables);
     }
     Ok(())
 }

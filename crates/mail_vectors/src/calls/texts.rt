@@ -7,44 +7,71 @@ use crate::notation::{Answer, Row};
 use mail_data::flowed::{flowed_text, unflowed};
 use mail_data::forwarding::{forwarded, forwarded_bytes, mails_inside};
 use mail_data::inner_mails::{InnerMail, inner_mails, places_under};
+use mail_data::places::Place;
 use mail_data::texts::{text_part, text_type};
-use mailparse::{
-    KnownCharsets, MAX_LEVELS, MailParseError, parse_mail, parse_mail_in, parse_mail_with,
-};
-use std::alloc::Global;
+use mailparse::{KnownCharsets, MAX_LEVELS, MailParseError, ParsedMail, parse_mail_in};
+use std::alloc::{AllocError, Global};
 
 /// Makes the call of a row, if it is one of these.
 pub fn make(alloc: Global, row: &Row, answer: &mut Answer) -> bool {
-    let outcome = match row.call.as_str() {
-        "text_part" => find_text(alloc, row, answer, &()),
-        "text_part_with" => find_text(alloc, row, answer, &all_tables()),
-        "forwarded" => read_forwarded(alloc, row, answer),
-        "forwarded_with" => read_forwarded_with(alloc, row, answer),
-        "forwarded_bytes" => copy_forwarded(alloc, row, answer),
-        "mails_inside" => list_mails(alloc, row, answer),
-        "text_type" => {
-            answer.text(text_type(row.text(0)));
-            Ok(())
+    match row.call.as_str() {
+        "text_part" | "forwarded" | "forwarded_bytes" | "mails_inside" | "last_inner_mail" => {
+            read_mail(alloc, row, answer, &());
         }
-        "inner_mails" => list_inner(alloc, row, answer),
-        "last_inner_mail" => find_last_inner(alloc, row, answer),
+        "text_part_with" | "forwarded_with" | "inner_mails" | "flowed_text" => {
+            read_mail(alloc, row, answer, &all_tables());
+        }
+        "text_type" => answer.text(text_type(row.text(0))),
         "unflowed" => join_lines(alloc, row, answer),
-        "flowed_text" => read_flowed(alloc, row, answer),
         _ => return false,
-    };
-    answer.end(outcome);
+    }
     true
 }
 
-/// `text_part MAIL => TEXT`, the text of the part's body; likewise `text_part_with`, under all tables.
-fn find_text<K: KnownCharsets>(
+/// `unflowed TEXT DELETES => TEXT`, where DELETES is 1 for `delsp=yes` and otherwise 0.
+fn join_lines(alloc: Global, row: &Row, answer: &mut Answer) {
+    answer.made(unflowed(alloc, row.text(0), row.number(1) == 1));
+}
+
+/// Reads a mail, and writes what a call says of it. The calls that end in `_with`, `inner_mails` and
+/// `flowed_text` are made under all tables.
+fn read_mail<K: KnownCharsets>(alloc: Global, row: &Row, answer: &mut Answer, known: &K) {
+    match parse_mail_in(alloc, row.bytes(0), known) {
+        Ok(mail) => {
+            let outcome = write_of(alloc, row, answer, &mail, known);
+            answer.end(outcome);
+        }
+        Err(error) => answer.refusal(error),
+    }
+}
+
+fn write_of<K: KnownCharsets>(
     alloc: Global,
     row: &Row,
     answer: &mut Answer,
+    mail: &ParsedMail<'_>,
     known: &K,
 ) -> Result<(), MailParseError> {
-    let mail = parse_mail_in(alloc, row.bytes(0), known)?;
-    match text_part(alloc, &mail, known)? {
+    match row.call.as_str() {
+        "text_part" | "text_part_with" => find_text(alloc, answer, mail, known),
+        "forwarded" => read_forwarded(alloc, row, answer, mail, known),
+        "forwarded_with" => read_named_forwarded(alloc, answer, mail, known),
+        "forwarded_bytes" => copy_forwarded(alloc, answer, mail),
+        "mails_inside" => list_mails(alloc, row, answer, mail, known),
+        "inner_mails" => list_inner(alloc, answer, mail, known),
+        "last_inner_mail" => find_last_inner(alloc, answer, mail, known),
+        _ => read_flowed(alloc, answer, mail, known),
+    }
+}
+
+/// `text_part MAIL => TEXT`, the text of the part's body, and likewise `text_part_with`; or `none`.
+fn find_text<K: KnownCharsets>(
+    alloc: Global,
+    answer: &mut Answer,
+    mail: &ParsedMail<'_>,
+    known: &K,
+) -> Result<(), MailParseError> {
+    match text_part(alloc, mail, known)? {
         Some(part) => answer.text_or_refusal(part.get_body_in(alloc, known)),
         None => answer.word("none"),
     }
@@ -53,10 +80,15 @@ fn find_text<K: KnownCharsets>(
 
 /// `forwarded MAIL PART LEVELS => BODY`, the bytes that `get_body_raw` returns of the mail inside,
 /// or `none`. The whole mail is part 0.
-fn read_forwarded(alloc: Global, row: &Row, answer: &mut Answer) -> Result<(), MailParseError> {
-    let mail = parse_mail(alloc, row.bytes(0))?;
-    let part = part_at(alloc, &mail, row.number(1))?;
-    match forwarded(alloc, part, row.levels(2).min(MAX_LEVELS), &())? {
+fn read_forwarded<K: KnownCharsets>(
+    alloc: Global,
+    row: &Row,
+    answer: &mut Answer,
+    mail: &ParsedMail<'_>,
+    known: &K,
+) -> Result<(), MailParseError> {
+    let part = part_at(alloc, mail, row.number(1))?;
+    match forwarded(alloc, part, row.levels(2).min(MAX_LEVELS), known)? {
         Some(inside) => answer.bytes_or_refusal(inside.get_body_raw(alloc)),
         None => answer.word("none"),
     }
@@ -64,19 +96,16 @@ fn read_forwarded(alloc: Global, row: &Row, answer: &mut Answer) -> Result<(), M
 }
 
 /// `forwarded_with MAIL => NAME BODY`, the parameter `name` of the mail inside or `none`, and the
-/// bytes of its body, under all tables; or `none`.
-fn read_forwarded_with(
+/// bytes of its body; or `none`.
+fn read_named_forwarded<K: KnownCharsets>(
     alloc: Global,
-    row: &Row,
     answer: &mut Answer,
+    mail: &ParsedMail<'_>,
+    known: &K,
 ) -> Result<(), MailParseError> {
-    let mail = parse_mail_with(alloc, row.bytes(0), all_tables())?;
-    match forwarded(alloc, &mail, MAX_LEVELS, &all_tables())? {
+    match forwarded(alloc, mail, MAX_LEVELS, known)? {
         Some(inside) => {
-            match inside.ctype.params.get("name") {
-                Some(name) => answer.text(name.as_str()),
-                None => answer.word("none"),
-            }
+            answer.optional_text(inside.ctype.params.get("name").map(String::as_str));
             answer.bytes_or_refusal(inside.get_body_raw(alloc));
         }
         None => answer.word("none"),
@@ -85,72 +114,97 @@ fn read_forwarded_with(
 }
 
 /// `forwarded_bytes MAIL => BYTES`, or `none`.
-fn copy_forwarded(alloc: Global, row: &Row, answer: &mut Answer) -> Result<(), MailParseError> {
-    let mail = parse_mail(alloc, row.bytes(0))?;
-    match forwarded_bytes(alloc, &mail)? {
+fn copy_forwarded(
+    alloc: Global,
+    answer: &mut Answer,
+    mail: &ParsedMail<'_>,
+) -> Result<(), MailParseError> {
+    match forwarded_bytes(alloc, mail)? {
         Some(bytes) => answer.bytes(bytes.as_slice()),
         None => answer.word("none"),
     }
     Ok(())
 }
 
-/// `unflowed TEXT DELETES => TEXT`, where DELETES is 1 for `delsp=yes` and otherwise 0.
-fn join_lines(alloc: Global, row: &Row, answer: &mut Answer) -> Result<(), MailParseError> {
-    answer.made(unflowed(alloc, row.text(0), row.number(1) == 1));
-    Ok(())
-}
-
-/// `flowed_text MAIL => TEXT` of the whole mail, under all tables.
-fn read_flowed(alloc: Global, row: &Row, answer: &mut Answer) -> Result<(), MailParseError> {
-    let mail = parse_mail(alloc, row.bytes(0))?;
-    answer.text(flowed_text(alloc, &mail, &all_tables())?.text.as_str());
+/// `flowed_text MAIL => TEXT` of the whole mail.
+fn read_flowed<K: KnownCharsets>(
+    alloc: Global,
+    answer: &mut Answer,
+    mail: &ParsedMail<'_>,
+    known: &K,
+) -> Result<(), MailParseError> {
+    answer.text(flowed_text(alloc, mail, known)?.text.as_str());
     Ok(())
 }
 
 /// `mails_inside MAIL MOST => BYTES` for each mail.
-fn list_mails(alloc: Global, row: &Row, answer: &mut Answer) -> Result<(), MailParseError> {
-    let mail = parse_mail(alloc, row.bytes(0))?;
-    for inside in &mails_inside(alloc, &mail, row.levels(1), &())? {
+fn list_mails<K: KnownCharsets>(
+    alloc: Global,
+    row: &Row,
+    answer: &mut Answer,
+    mail: &ParsedMail<'_>,
+    known: &K,
+) -> Result<(), MailParseError> {
+    for inside in &mails_inside(alloc, mail, row.levels(1), known)? {
         answer.bytes(inside.as_slice());
     }
     Ok(())
 }
 
-/// `inner_mails MAIL => PATH START` for each mail, under all tables, START `none` where it stands
-/// nowhere, and then `COUNT PATH..` of its parts, or its refusal.
-fn list_inner(alloc: Global, row: &Row, answer: &mut Answer) -> Result<(), MailParseError> {
-    let mail = parse_mail_with(alloc, row.bytes(0), all_tables())?;
-    for inside in &inner_mails(alloc, &mail, &all_tables())? {
+/// `inner_mails MAIL => PATH START` for each mail, START `none` where it stands nowhere, and then
+/// `COUNT PATH..` of its parts, or its refusal.
+fn list_inner<K: KnownCharsets>(
+    alloc: Global,
+    answer: &mut Answer,
+    mail: &ParsedMail<'_>,
+    known: &K,
+) -> Result<(), MailParseError> {
+    for inside in &inner_mails(alloc, mail, known)? {
         answer.text(inside.path.as_str());
         answer.optional_number(inside.start);
-        list_places(alloc, inside, answer)?;
+        list_places(alloc, inside, answer, known);
     }
     Ok(())
 }
 
 /// Writes how a mail inside is refused, or how many parts it has and their paths.
-fn list_places(
+fn list_places<K: KnownCharsets>(
     alloc: Global,
     inside: &InnerMail,
     answer: &mut Answer,
-) -> Result<(), MailParseError> {
+    known: &K,
+) {
     if let Some(error) = &inside.error {
-        answer.error(format!(in alloc; "{error}")?.as_str());
-        return Ok(());
+        answer.word("error");
+        answer.made(format!(in alloc; "{error}"));
+        return;
     }
-    let mail = parse_mail_with(alloc, inside.bytes.as_slice(), all_tables())?;
-    let places = places_under(alloc, &mail, inside.path.as_str())?;
-    answer.number(places.len());
-    for place in &places {
-        answer.text(place.path.as_str());
+    match parse_mail_in(alloc, inside.bytes.as_slice(), known) {
+        Ok(mail) => write_paths(answer, places_under(alloc, &mail, inside.path.as_str())),
+        Err(error) => answer.refusal(error),
     }
-    Ok(())
+}
+
+fn write_paths(answer: &mut Answer, places: Result<Vec<Place<'_, '_>>, AllocError>) {
+    match places {
+        Ok(places) => {
+            answer.number(places.len());
+            for place in &places {
+                answer.text(place.path.as_str());
+            }
+        }
+        Err(error) => answer.refusal(MailParseError::from(error)),
+    }
 }
 
 /// `last_inner_mail MAIL => COUNT PATH`: how many mails are inside, and the path of the last one.
-fn find_last_inner(alloc: Global, row: &Row, answer: &mut Answer) -> Result<(), MailParseError> {
-    let mail = parse_mail(alloc, row.bytes(0))?;
-    let found = inner_mails(alloc, &mail, &())?;
+fn find_last_inner<K: KnownCharsets>(
+    alloc: Global,
+    answer: &mut Answer,
+    mail: &ParsedMail<'_>,
+    known: &K,
+) -> Result<(), MailParseError> {
+    let found = inner_mails(alloc, mail, known)?;
     answer.number(found.len());
     if let Some(inside) = found.as_slice().last() {
         answer.text(inside.path.as_str());

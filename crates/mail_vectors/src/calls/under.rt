@@ -122,7 +122,15 @@ fn body_text<K: KnownCharsets>(
     known: &K,
 ) -> Result<String, MailParseError> {
     let label = Label::of(alloc, row, 1)?;
-    match label.body(row.bytes(3)) {
+    text_of(alloc, &label.body(row.bytes(3)), known)
+}
+
+fn text_of<K: KnownCharsets>(
+    alloc: Global,
+    body: &Body<'_>,
+    known: &K,
+) -> Result<String, MailParseError> {
+    match body {
         Body::Base64(body) | Body::QuotedPrintable(body) => {
             body.get_decoded_as_string_in(alloc, known)
         }
