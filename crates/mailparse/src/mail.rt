@@ -1,19 +1,22 @@
 //! Reading a message: its header block, its type, its body and its parts.
-ghost use Rattle.std.specs.Prelude.{◌≡◌, ◌<◌, ◌≤◌, ◌+◌, ◌^◌, length, IfOk, IsErr, Ok};
+ghost use Rattle.std.specs.Prelude.{◌≡◌, ◌<◌, ◌≤◌, ◌+◌, ◌^◌, ◌∷◌, length, map, slice_range, take, IfOk, IsErr, Ok};
+ghost use Rattle.std.specs.List.{flat_map};
 ghost use Rattle.mail_codec.specs.Charset.{four_charsets};
 ghost use Rattle.mail_codec.specs.Tables.{charsets_with};
 ghost use Rattle.mailparse.specs.Block.{header_count, read_headers};
 ghost use Rattle.mailparse.specs.Bound.{IsBounded};
-ghost use Rattle.mailparse.specs.Mail.{read_levels, read_mail, read_mail_in};
+ghost use Rattle.mailparse.specs.Mail.{forest, read_levels, read_mail, read_mail_in, tree};
 ghost use Rattle.mailparse.specs.Outcome.{Answers, AnswersOrMemory};
 ghost use Rattle.mailparse.specs.Placement.{placements};
-ghost use Rattle.mailparse.specs.Views.{placements_of, tree_of};
+ghost use Rattle.mailparse.specs.Views.{content_type, placements_of, tree_of};
 
 mod delimiters;
 mod message;
 mod types;
 
+use crate::content_type::ParsedContentType;
 use crate::error::MailParseError;
+use crate::header::MailHeader;
 use crate::headers::block::parse_headers;
 use delimiters::{cut_part, cut_preamble};
 use mail_codec::charset::{KnownCharsets, SingleByteTable};
@@ -257,6 +260,42 @@ pub fn parse_mail_limited_in<'a, K: KnownCharsets>(
     parse_mail_recursive(alloc, raw, 0, false, levels + 1, known)
 }
 
+/// The message that starts at this offset of the mail, by what was read of it: its body stands from
+/// `index` to `end`, and its header block before it.
+#[inline(always)]
+fn message_of<'a>(
+    raw: &'a [u8],
+    offset: usize,
+    headers: Vec<MailHeader<'a>>,
+    ctype: ParsedContentType,
+    index: usize,
+    end: usize,
+    subparts: Vec<ParsedMail<'a>>,
+) -> ParsedMail<'a>
+    requires within { offset + length raw.now < 2 ^ 64 }
+    requires index { index ≤ end }
+    requires end { end ≤ length raw.now }
+    ensures read { tree_of result ≡ tree (record {
+        bytes = raw.now; block = take index raw.now; headers = headers.entry.items;
+        ctype = content_type ctype; body = slice_range raw.now index end;
+        }) (forest (map tree_of subparts.entry.items)) }
+    ensures places { placements_of result ≡ record {
+        whole = record { start = offset; end = offset + length raw.now };
+        body = record { start = offset + index; end = offset + end };
+        } ∷ flat_map (λ places. places) (map placements_of subparts.entry.items) }
+{
+    ParsedMail {
+        raw_bytes: raw,
+        header_bytes: &raw[..index],
+        headers,
+        ctype,
+        body_bytes: &raw[index..end],
+        subparts,
+        range: offset..offset + raw.len(),
+        body_range: offset + index..offset + end,
+    }
+}
+
 /// Reads a message with at most `levels` levels, including its own, that starts at this offset of
 /// the mail.
 fn parse_mail_recursive<'a, K: KnownCharsets>(
@@ -280,16 +319,8 @@ fn parse_mail_recursive<'a, K: KnownCharsets>(
     let (headers, index) = parse_headers(alloc, raw)?;
     let ctype = node_type(alloc, &headers, in_digest, known)?;
     let Some(feed_and_dash_boundary) = feed_and_dash_boundary_of(alloc, &ctype)? else {
-        return Ok(ParsedMail {
-            raw_bytes: raw,
-            header_bytes: &raw[..index],
-            headers,
-            ctype,
-            body_bytes: &raw[index..],
-            subparts: Vec::new(alloc),
-            range: offset..offset + raw.len(),
-            body_range: offset + index..offset + raw.len(),
-        });
+        let parts = Vec::new(alloc);
+        return Ok(message_of(raw, offset, headers, ctype, index, raw.len(), parts));
     };
     let is_digest = is_digest(&ctype);
     let (end, first) = cut_preamble(raw, index, feed_and_dash_boundary.as_slice());
@@ -302,14 +333,5 @@ fn parse_mail_recursive<'a, K: KnownCharsets>(
         subparts.push(parse_mail_recursive(alloc, part, begin, is_digest, levels - 1, known)?)?;
         next = after;
     }
-    Ok(ParsedMail {
-        raw_bytes: raw,
-        header_bytes: &raw[..index],
-        headers,
-        ctype,
-        body_bytes: &raw[index..end],
-        subparts,
-        range: offset..offset + raw.len(),
-        body_range: offset + index..offset + end,
-    })
+    Ok(message_of(raw, offset, headers, ctype, index, end, subparts))
 }

@@ -6,9 +6,8 @@ use Rattle.std.proofs.lemmas.Result.{err_from_is_err_and}
 use Rattle.mailparse.specs.Block.{read_headers}
 use Rattle.mailparse.specs.Delimiters.{end_from, first_part, next_part}
 use Rattle.mailparse.specs.Mail.{Tree, tree, Forest, no_parts, forest, dash_boundary_of, read_levels}
-use Rattle.mailparse.specs.Views.{content_type, placements_step, tree_step, tree_of}
+use Rattle.mailparse.specs.Views.{content_type, tree_of}
 use Rattle.mailparse.specs.declared.mail.message.ParsedMail.{ParsedMail}
-use Rattle.mailparse.specs.declared.mail.message.ParsedMail.TheFolds.{fold-roll-ParsedMail}
 use Rattle.mailparse.proofs.lemmas.Refusal.{read_map}
 use Rattle.mailparse.proofs.lemmas.Outcome.{IsRefusal-along, IsRefusalOrMemory-along}
 use Rattle.mailparse.proofs.lemmas.Mail.{with_trees, parts_from, parts_step, parts_refused, parts_end, read_levels-none, read_levels-refused, read_levels-leaf, read_levels-whole, feed_and_dash_boundary_none, feed_and_dash_boundary_some, IsFeedAndDashBoundary-of}
@@ -48,10 +47,10 @@ returns-in_default-clause-read g t c =
     let some : 0 < c.args.levels = omega (arith, c.if-levels-eq0.false) in
     let type = sym c.in_ok-ctype.ensures in
     let nothing : None ≡ option_map (λ dash_boundary. 10 ∷ dash_boundary) (dash_boundary_of ctype) = sym (ap (option_map (λ (l : Vec ℕ). l.items)) c.in_default.is) ∙ c.in_ok-feed_and_dash_boundary.ensures in
-    let parts : forest (map tree_of c.new.result.items) ≡ no_parts = ap (λ (ms : List ParsedMail). forest (map tree_of ms)) c.new.ensures.items in
+    let parts : forest (map tree_of c.new-parts.result.items) ≡ no_parts = ap (λ (ms : List ParsedMail). forest (map tree_of ms)) c.new-parts.ensures.items in
     read_levels-leaf (g.K.KnownCharsets.known c.args.known.now) c.args.levels c.args.in_digest raw headers index ctype some c.in_ok-headers.ensures.read type (feed_and_dash_boundary_none (dash_boundary_of ctype) nothing)
     ∙ ap (λ (f : Forest). Ok (tree (record { bytes = raw; block = take index raw; headers = headers; ctype = ctype; body = slice_range raw index (length raw) }) f)) (sym parts)
-    ∙ ap Ok (sym (fold-roll-ParsedMail Tree tree_step _))
+    ∙ ap Ok (sym c.message_of.ensures.read)
 
 pub cut_preamble-end-requires-clause-feed_and_dash_boundary : goal.cut_preamble-end-requires-clause-feed_and_dash_boundary
 cut_preamble-end-requires-clause-feed_and_dash_boundary g t c =
@@ -134,7 +133,7 @@ returns-clause-read g t c =
     let done = subst (λ (o : Option ℕ). with_trees (map tree_of c.loop-next.subparts.items) (parts_from (g.K.KnownCharsets.known c.args.known.now) levels digest (drop 1 feed_and_dash_boundary) raw o) ≡ all) c.in_default-next.is c.loop-next.invariant.all in
     whole ∙ ap (read_map (tree (record { bytes = raw; block = take index raw; headers = headers; ctype = ctype; body = slice_range raw index end })))
     (parts_end (g.K.KnownCharsets.known c.args.known.now) levels digest (drop 1 feed_and_dash_boundary) raw (map tree_of c.loop-next.subparts.items) all done)
-    ∙ ap Ok (sym (fold-roll-ParsedMail Tree tree_step _))
+    ∙ ap Ok (sym c.message_of-2.ensures.read)
 
 -- a message whose body ends at a place
 own : ℕ → ℕ → ℕ → ℕ → Placement
@@ -151,13 +150,13 @@ returns-in_default-clause-places g t c =
     let body = slice_range raw index (length raw) in
     let within : index ≤ length raw = omega (arith, c.in_ok-headers.ensures.bounds) in
     let nothing : None ≡ option_map (λ dash_boundary. 10 ∷ dash_boundary) (dash_boundary_of ctype) = sym (ap (option_map (λ (l : Vec ℕ). l.items)) c.in_default.is) ∙ c.in_ok-feed_and_dash_boundary.ensures in
-    let parts : forest (map tree_of c.new.result.items) ≡ no_parts = ap (λ (ms : List ParsedMail). forest (map tree_of ms)) c.new.ensures.items in
-    let none : all_placed c.new.result.items ≡ [] = ap all_placed c.new.ensures.items in
-    fold-roll-ParsedMail (List Placement) placements_step _
+    let parts : forest (map tree_of c.new-parts.result.items) ≡ no_parts = ap (λ (ms : List ParsedMail). forest (map tree_of ms)) c.new-parts.ensures.items in
+    let none : all_placed c.new-parts.result.items ≡ [] = ap all_placed c.new-parts.ensures.items in
+    c.message_of.ensures.places
     ∙ ap (λ (places : List Placement). own offset (length raw) index (length raw) ∷ places) none
     ∙ placed_leaf offset raw headers index ctype body within (feed_and_dash_boundary_none (dash_boundary_of ctype) nothing)
     ∙ ap (λ (f : Forest). placements offset (tree (record { bytes = raw; block = take index raw; headers = headers; ctype = ctype; body = body }) f)) (sym parts)
-    ∙ ap (placements offset) (sym (fold-roll-ParsedMail Tree tree_step _))
+    ∙ ap (placements offset) (sym c.message_of.ensures.read)
 
 pub returns-clause-places : goal.returns-clause-places
 unfolding own
@@ -178,8 +177,8 @@ returns-clause-places g t c =
     (made c.in_ok-feed_and_dash_boundary.field-0 c.in-Some.feed_and_dash_boundary _ c.in-Some.is c.in_ok-feed_and_dash_boundary.ensures)).0 in
     let ends : end ≡ end_from dash_boundary raw index index = c.cut_preamble-end.ensures.end ∙ ap (λ (l : List ℕ). end_from (drop 1 l) raw index index) c.as_slice.ensures.value in
     let done = subst (λ (o : Option ℕ). ArePlaced offset dash_boundary raw first o subparts) c.in_default-next.is c.loop-next.invariant.placed in
-    fold-roll-ParsedMail (List Placement) placements_step _
+    c.message_of-2.ensures.places
     ∙ ap (λ (places : List Placement). own offset (length raw) index end ∷ places) (placed_end offset dash_boundary raw first subparts done)
     ∙ ap (λ n. own offset (length raw) index n ∷ placements_in offset (part_ranges dash_boundary raw first) (forest (map tree_of subparts))) ends
     ∙ placed_whole offset raw headers index ctype (slice_range raw index end) within dash_boundary (forest (map tree_of subparts)) delimiter
-    ∙ ap (placements offset) (sym (fold-roll-ParsedMail Tree tree_step _))
+    ∙ ap (placements offset) (sym c.message_of-2.ensures.read)
