@@ -1,5 +1,6 @@
-use Rattle.std.proofs.Common.{◌≡◌, ℕ, ◌+◌, ◌-◌, ◌<◌, ◌≤◌, ◌∷◌, [], ◌++◌, List, Option, Some, None, option_map, length, map, take, drop, slice_range, Ok, refl, sym, ap, ◌∙◌, subst, arith}
+use Rattle.std.proofs.Common.{◌≡◌, ℕ, ◌+◌, ◌-◌, ◌<◌, ◌≤◌, ◌∷◌, [], ◌++◌, List, Option, Some, None, option_map, length, map, take, drop, slice_range, IsErr, Ok, refl, sym, ap, ◌∙◌, subst, arith}
 use Rattle.std.specs.Global.{Vec}
+use Rattle.std.proofs.lemmas.Bool.{false≢true}
 use Rattle.std.proofs.lemmas.List.{map-append}
 use Rattle.std.proofs.lemmas.Option.{IfSome_then}
 use Rattle.std.proofs.lemmas.Result.{err_from_is_err_and}
@@ -37,6 +38,25 @@ returns-in_err-headers-clause-no_alloc g t c = λ some none refused.
     let raw = c.args.raw.now in
     rw (p.1, p.2) (IsRefusal-along c.in_err-headers.field-0.0 (read_headers raw) (read_levels (g.K.KnownCharsets.known c.args.known.now) c.args.levels c.args.in_digest raw)
     (λ r e. read_levels-refused (g.K.KnownCharsets.known c.args.known.now) c.args.levels c.args.in_digest raw r some e) (c.in_err-headers.ensures.no_alloc none))
+
+-- what is said of memory where the headers were refused says nothing where they were read
+pub returns-in_err-ctype-clause-no_alloc : goal.returns-in_err-ctype-clause-no_alloc
+returns-in_err-ctype-clause-no_alloc g t c = λ some none refused. absurd (false≢true (subst IsErr c.in_ok-headers.ensures.read refused))
+
+pub returns-in_err-feed_and_dash_boundary-clause-no_alloc : goal.returns-in_err-feed_and_dash_boundary-clause-no_alloc
+returns-in_err-feed_and_dash_boundary-clause-no_alloc g t c = λ some none refused. absurd (false≢true (subst IsErr c.in_ok-headers.ensures.read refused))
+
+pub returns-in_default-clause-no_alloc : goal.returns-in_default-clause-no_alloc
+returns-in_default-clause-no_alloc g t c = λ some none refused. absurd (false≢true (subst IsErr c.in_ok-headers.ensures.read refused))
+
+pub returns-in_err-parse_mail_recursive-clause-no_alloc : goal.returns-in_err-parse_mail_recursive-clause-no_alloc
+returns-in_err-parse_mail_recursive-clause-no_alloc g t c = λ some none refused. absurd (false≢true (subst IsErr c.in_ok-headers.ensures.read refused))
+
+pub returns-in_err-push-clause-no_alloc : goal.returns-in_err-push-clause-no_alloc
+returns-in_err-push-clause-no_alloc g t c = λ some none refused. absurd (false≢true (subst IsErr c.in_ok-headers.ensures.read refused))
+
+pub returns-clause-no_alloc : goal.returns-clause-no_alloc
+returns-clause-no_alloc g t c = λ some none refused. absurd (false≢true (subst IsErr c.in_ok-headers.ensures.read refused))
 
 pub returns-in_default-clause-read : goal.returns-in_default-clause-read
 returns-in_default-clause-read g t c =
