@@ -1,6 +1,6 @@
 #!/bin/sh
 # refuse_memory.sh [PART]: refuses the calls for memory of the programs one by one, and looks at how
-# these end then. PART is `programs`, `one` or `following`; without it all are done, one after another.
+# these end then. PART is `programs`, `ample`, `one` or `following`; without it all are done, one after another.
 #
 # `programs`: for N from 1 on it refuses the Nth call alone, and then the Nth and every one after it, until a
 # run meets no refusal:
@@ -18,7 +18,7 @@
 # refused: first the first call of the row is refused, then the second one, and so on; with `following` the
 # calls that follow are refused too. Each row has to return the right answer in the end, and memory has to
 # have run out in it exactly as often as a call was refused. In a row that is marked so no call may ask for
-# memory. `one` also replays all rows, the long ones too, with ample memory.
+# memory. `ample`: it replays all rows, the long ones too, with ample memory.
 #
 # It prints for each input how many calls for memory there were, how many runs met a refusal, and
 # how these ended; and each run that failed. The last line is `N passed, N failed`; the status is
@@ -27,7 +27,7 @@ arguments='[PART]'
 . "$(dirname "$0")/prelude.sh"
 part=${1:-all}
 case $part in
-    all | programs | one | following) ;;
+    all | programs | ample | one | following) ;;
     *) usage "there is no part $part" ;;
 esac
 make_work
@@ -185,12 +185,14 @@ case $part in
 esac
 [ "$part" = programs ] || vectors=$("$here/program.sh" mail_vectors)
 case $part in
-    all | one)
+    all | ample)
         cd "$top/crates/mail_vectors/data"
         # shellcheck disable=SC2046
         run_suite 'with ample memory' $(cat ../args)
-        suite at
         ;;
+esac
+case $part in
+    all | one) suite at ;;
 esac
 case $part in
     all | following) suite from ;;
