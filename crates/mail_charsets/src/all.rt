@@ -7,7 +7,8 @@ ghost use Rattle.mail_charsets.specs.All.{any_text, charsets_of};
 use crate::encoding::Encoding;
 use crate::indexes::Indexes;
 use crate::single_byte::{ISO_8859_TABLES, OTHER_TABLES, WINDOWS_TABLES};
-use mail_codec::charset::{BuiltInOrTable, Decode, KnownCharsets, SingleByteTable};
+use mail_codec::charset::BuiltInOrTable;
+use mailparse::{Decode, KnownCharsets, SingleByteTable};
 use std::alloc::{AllocError, Global};
 
 /// One of the four charsets of `mail_codec`, that of a table, or an encoding of this crate.
@@ -61,13 +62,14 @@ impl AllCharsets<'static> {
     ///
     /// ```rust
     /// use mail_charsets::AllCharsets;
-    /// use mail_codec::charset::{Decode, KnownCharsets};
+    /// use mailparse::{Decode, KnownCharsets, parse_mail_in};
     ///
     /// let all = AllCharsets::standard();
     /// let korean = all.for_label(b"ks_c_5601-1987").ok_or("an unknown label")?;
     /// assert_eq!(rt; korean.decode(alloc, b"\xC7\xD1")?.as_str(), "한");
-    /// let russian = all.for_label(b"koi8-r").ok_or("an unknown label")?;
-    /// assert_eq!(rt; russian.decode(alloc, b"\xC4\xC1")?.as_str(), "да");
+    /// let raw = b"Content-Type: text/plain; charset=koi8-r\n\n\xC4\xC1";
+    /// let mail = parse_mail_in(alloc, raw, &all)?;
+    /// assert_eq!(rt; mail.get_body_in(alloc, &all)?.as_str(), "да");
     /// ```
     pub fn standard() -> AllCharsets<'static> {
         AllCharsets {
