@@ -6,6 +6,7 @@ ghost use Rattle.mailparse.specs.Outcome.{AnswersOrMemory, IsMemory};
 ghost use Rattle.mailparse.specs.Views.{tree_of};
 ghost use Rattle.mail_data.specs.Bounce.{after_block, after_type, block_at, block_length, blocks};
 ghost use Rattle.mail_data.specs.Bounce.{deliveries, delivery_in, fields, has_original, has_status};
+ghost use Rattle.mail_data.specs.Bounce.{has_type};
 ghost use Rattle.mail_data.specs.Bounce.{address_of, original_message_id, recipients, report_part};
 ghost use Rattle.mail_data.specs.Bounce.{text_of, typed_text_of};
 ghost use Rattle.mail_data.specs.BounceViews.{delivery};
@@ -132,7 +133,7 @@ pub fn original_message_id<K: KnownCharsets>(
 fn status_part<'m, 'a>(mail: &'m ParsedMail<'a>) -> Option<&'m ParsedMail<'a>>
     ensures { tree_found result ≡ report_part has_status (tree_of mail.now) }
 {
-    if mail.ctype.mimetype.as_str() != "multipart/report" {
+    if !has_type(mail, "multipart/report") {
         return None;
     }
     for part in &mail.subparts {
@@ -147,7 +148,7 @@ fn status_part<'m, 'a>(mail: &'m ParsedMail<'a>) -> Option<&'m ParsedMail<'a>>
 fn original_part<'m, 'a>(mail: &'m ParsedMail<'a>) -> Option<&'m ParsedMail<'a>>
     ensures { tree_found result ≡ report_part has_original (tree_of mail.now) }
 {
-    if mail.ctype.mimetype.as_str() != "multipart/report" {
+    if !has_type(mail, "multipart/report") {
         return None;
     }
     for part in &mail.subparts {
@@ -162,19 +163,24 @@ fn original_part<'m, 'a>(mail: &'m ParsedMail<'a>) -> Option<&'m ParsedMail<'a>>
 fn has_status(part: &ParsedMail<'_>) -> bool
     ensures { result ≡ has_status (root (tree_of part.now)) }
 {
-    let mimetype = part.ctype.mimetype.as_str();
-    mimetype == "message/delivery-status" || mimetype == "message/global-delivery-status"
+    has_type(part, "message/delivery-status") || has_type(part, "message/global-delivery-status")
 }
 
 /// Whether a part is the returned mail or its headers.
 fn has_original(part: &ParsedMail<'_>) -> bool
     ensures { result ≡ has_original (root (tree_of part.now)) }
 {
-    let mimetype = part.ctype.mimetype.as_str();
-    mimetype == "message/rfc822"
-        || mimetype == "text/rfc822-headers"
-        || mimetype == "message/global"
-        || mimetype == "message/global-headers"
+    has_type(part, "message/rfc822")
+        || has_type(part, "text/rfc822-headers")
+        || has_type(part, "message/global")
+        || has_type(part, "message/global-headers")
+}
+
+/// Whether a message has this type.
+fn has_type(message: &ParsedMail<'_>, mimetype: &str) -> bool
+    ensures { result ≡ has_type mimetype.now (root (tree_of message.now)) }
+{
+    message.ctype.mimetype.as_str() == mimetype
 }
 
 /// What the status of a delivery says of each recipient.
