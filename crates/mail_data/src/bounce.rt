@@ -6,14 +6,13 @@ ghost use Rattle.mailparse.specs.Outcome.{AnswersOrMemory, IsMemory};
 ghost use Rattle.mailparse.specs.Views.{tree_of};
 ghost use Rattle.mail_data.specs.Bounce.{after_block, after_type, block_at, block_length, blocks};
 ghost use Rattle.mail_data.specs.Bounce.{deliveries, delivery_in, fields, has_original, has_status};
-ghost use Rattle.mail_data.specs.Bounce.{has_type};
 ghost use Rattle.mail_data.specs.Bounce.{address_of, original_message_id, recipients, report_part};
 ghost use Rattle.mail_data.specs.Bounce.{text_of, typed_text_of};
 ghost use Rattle.mail_data.specs.BounceViews.{delivery};
 ghost use Rattle.mail_data.specs.TextViews.{tree_found};
 
 use crate::archive::id_among;
-use crate::forwarding::raw_body;
+use crate::forwarding::{has_type, raw_body};
 use crate::lenient::without_comments;
 use crate::lines::{empty_line, is_empty_line, line_place};
 use mail_codec::charset::KnownCharsets;
@@ -174,13 +173,6 @@ fn has_original(part: &ParsedMail<'_>) -> bool
         || has_type(part, "text/rfc822-headers")
         || has_type(part, "message/global")
         || has_type(part, "message/global-headers")
-}
-
-/// Whether a message has this type.
-fn has_type(message: &ParsedMail<'_>, mimetype: &str) -> bool
-    ensures { result ≡ has_type mimetype.now (root (tree_of message.now)) }
-{
-    message.ctype.mimetype.as_str() == mimetype
 }
 
 /// What the status of a delivery says of each recipient.
