@@ -19,3 +19,4 @@ pub mod CountedMails
 pub mod CountedFound
 pub mod MailboxFormats
 pub mod QuotedLines
+pub mod Texts

@@ -12,7 +12,7 @@ ghost use Rattle.mail_data.specs.BounceViews.{delivery};
 ghost use Rattle.mail_data.specs.TextViews.{tree_found};
 
 use crate::archive::id_among;
-use crate::forwarding::raw_body;
+use crate::forwarding::{has_type, raw_body};
 use crate::lenient::without_comments;
 use crate::lines::{empty_line, is_empty_line, line_place};
 use mail_codec::charset::KnownCharsets;
@@ -132,7 +132,7 @@ pub fn original_message_id<K: KnownCharsets>(
 fn status_part<'m, 'a>(mail: &'m ParsedMail<'a>) -> Option<&'m ParsedMail<'a>>
     ensures { tree_found result ≡ report_part has_status (tree_of mail.now) }
 {
-    if mail.ctype.mimetype.as_str() != "multipart/report" {
+    if !has_type(mail, "multipart/report") {
         return None;
     }
     for part in &mail.subparts {
@@ -147,7 +147,7 @@ fn status_part<'m, 'a>(mail: &'m ParsedMail<'a>) -> Option<&'m ParsedMail<'a>>
 fn original_part<'m, 'a>(mail: &'m ParsedMail<'a>) -> Option<&'m ParsedMail<'a>>
     ensures { tree_found result ≡ report_part has_original (tree_of mail.now) }
 {
-    if mail.ctype.mimetype.as_str() != "multipart/report" {
+    if !has_type(mail, "multipart/report") {
         return None;
     }
     for part in &mail.subparts {
@@ -162,19 +162,17 @@ fn original_part<'m, 'a>(mail: &'m ParsedMail<'a>) -> Option<&'m ParsedMail<'a>>
 fn has_status(part: &ParsedMail<'_>) -> bool
     ensures { result ≡ has_status (root (tree_of part.now)) }
 {
-    let mimetype = part.ctype.mimetype.as_str();
-    mimetype == "message/delivery-status" || mimetype == "message/global-delivery-status"
+    has_type(part, "message/delivery-status") || has_type(part, "message/global-delivery-status")
 }
 
 /// Whether a part is the returned mail or its headers.
 fn has_original(part: &ParsedMail<'_>) -> bool
     ensures { result ≡ has_original (root (tree_of part.now)) }
 {
-    let mimetype = part.ctype.mimetype.as_str();
-    mimetype == "message/rfc822"
-        || mimetype == "text/rfc822-headers"
-        || mimetype == "message/global"
-        || mimetype == "message/global-headers"
+    has_type(part, "message/rfc822")
+        || has_type(part, "text/rfc822-headers")
+        || has_type(part, "message/global")
+        || has_type(part, "message/global-headers")
 }
 
 /// What the status of a delivery says of each recipient.

@@ -1,5 +1,6 @@
 //! Mails inside mails.
 ghost use Rattle.std.specs.Prelude.{◌≡◌, ◌≤◌, ◌||◌, ◌++◌, option_map, IfErr, IfOk, OnOk, Ok};
+ghost use Rattle.std.specs.Str.{bytes_eq};
 ghost use Rattle.mailparse.specs.Mail.{root};
 ghost use Rattle.mailparse.specs.Outcome.{AnswersOrMemory, IsMemory};
 ghost use Rattle.mailparse.specs.Views.{tree_of};
@@ -231,8 +232,14 @@ fn mail_inside<'m, K: KnownCharsets>(
 pub(crate) fn forwards(part: &ParsedMail<'_>) -> bool
     ensures { result ≡ forwards (root (tree_of part.now)) }
 {
-    let mimetype = part.ctype.mimetype.as_str();
-    mimetype == "message/rfc822" || mimetype == "message/global"
+    has_type(part, "message/rfc822") || has_type(part, "message/global")
+}
+
+/// Whether a message has this type.
+pub(crate) fn has_type(message: &ParsedMail<'_>, mimetype: &str) -> bool
+    ensures { result ≡ bytes_eq (root (tree_of message.now)).ctype.mimetype mimetype.now }
+{
+    message.ctype.mimetype.as_str() == mimetype
 }
 
 /// The bytes of the body of a part, as they stand.

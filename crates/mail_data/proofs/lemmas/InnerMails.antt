@@ -62,7 +62,7 @@ refused-is (Generic text) given passed is = (generic text.now, refl, is)
 refused-is (Memory e) given passed is = absurd (passed tt)
 
 -- what a step adds, before those that are left
-next : {A B : Type 0} (f : A → List B) (done new all : List B) (x : A) (left rest : List A) (xs : List B) → left ≡ x ∷ rest → f x ≡ xs → new ≡ done ++ xs
+pub next : {A B : Type 0} (f : A → List B) (done new all : List B) (x : A) (left rest : List A) (xs : List B) → left ≡ x ∷ rest → f x ≡ xs → new ≡ done ++ xs
     → done ++ flat_map f left ≡ all → new ++ flat_map f rest ≡ all
 next {A = A} {B = B} f done new all x left rest xs is one made here =
     ap (λ (t : List B). t ++ flat_map f rest) (made ∙ ap (λ (t : List B). done ++ t) (sym one))

@@ -48,8 +48,7 @@ pub fn base64_front(alloc: Global, body: &[u8]) -> Result<Base64Front, AllocErro
     ensures same { (bytes : List ℕ) → base64 (without_ascii_whitespace body.now) ≡ Ok bytes →
         IfOk result (λ front. front_of front ≡ record { bytes = bytes; fault = None }) }
 {
-    let front = read_front(alloc, body)?;
-    Ok(front)
+    read_front(alloc, body)
 }
 
 /// What can be read of a body.

@@ -46,8 +46,7 @@ pub fn lenient_body<'m>(alloc: Global, part: &'m ParsedMail<'_>) -> Result<Body<
         IfOk result (IsBody (body_kind node) (content_of node)) }
     ensures only_memory { IfErr result IsMemory }
 {
-    let body = body_named(alloc, part)?;
-    Ok(body)
+    body_named(alloc, part)
 }
 
 /// The body of a part in that encoding.
