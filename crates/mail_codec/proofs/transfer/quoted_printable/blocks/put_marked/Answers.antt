@@ -7,6 +7,15 @@ use Rattle.mail_codec.proofs.lemmas.Vectors.{no_mark}
 use Rattle.mail_codec.proofs.lemmas.QuotedPrintableMarks.{mark_there, marks_later, plain-empty, plain-joined, plain-sign, plain-to_end, plain-to_mark}
 use Rattle.mail_codec.proofs.transfer.quoted_printable.blocks.put_marked.Goals as goal
 
+-- the first mark lies before the end
+inside : (text : List ℕ) (end start at next rest count : ℕ) → end ≤ start + 64 → start ≤ at → at ≤ next → rest ≡ lane_mask is_mark (take (end - next) (drop next text))
+    → ((test : ℕ → Bool) (bytes : List ℕ) → length bytes ≤ 64 → rest ≡ lane_mask test bytes → (count ≡ first_place (begins test) bytes) × (count < length bytes))
+    → next + count < end
+inside text end start at next rest count near later ahead marks least =
+    let few = length-take (end - next) (drop next text) in
+    let first = least is_mark (take (end - next) (drop next text)) (omega (arith, few, near)) marks in
+    omega (arith, few, first.1)
+
 -- what the first mark from the next place on says of the text, and what is left of the marks
 record FirstMark (text : List ℕ) (at end mark left : ℕ) : Type 0 where
   plain : IsPlain text at mark
@@ -27,6 +36,74 @@ first_mark text at end next rest count left plain marks near least after =
       sign = mark_there text next (end - next) count first.0 first.1;
       later = λ k next' rest' is shift. marks_later text (next + count) end k next' left rest' is shift (marks_later text next end count (next + count) rest left refl after marks);
     }
+
+pub bounds-text-mark : goal.bounds-text-mark
+bounds-text-mark c =
+    omega (arith, c.requires.within,
+    inside c.args.text.now c.args.end c.args.start.at c.marks.read.at c.marks.next c.marks.rest c.first_mark-count.result c.requires.near.1 c.marks.invariant.later c.marks.invariant.ahead c.marks.invariant.left c.first_mark-count.ensures.least)
+
+pub put_line_end-read-requires-clause-within : goal.put_line_end-read-requires-clause-within
+put_line_end-read-requires-clause-within c =
+    omega (arith, c.requires.within,
+    inside c.args.text.now c.args.end c.args.start.at c.marks.read.at c.marks.next c.marks.rest c.first_mark-count.result c.requires.near.1 c.marks.invariant.later c.marks.invariant.ahead c.marks.invariant.left c.first_mark-count.ensures.least)
+
+pub put_line_end-read-requires-clause-room : goal.put_line_end-read-requires-clause-room
+put_line_end-read-requires-clause-room c =
+    omega (arith, c.marks.invariant.room,
+    inside c.args.text.now c.args.end c.args.start.at c.marks.read.at c.marks.next c.marks.rest c.first_mark-count.result c.requires.near.1 c.marks.invariant.later c.marks.invariant.ahead c.marks.invariant.left c.first_mark-count.ensures.least)
+
+pub escape_at-requires-clause-within : goal.escape_at-requires-clause-within
+escape_at-requires-clause-within c =
+    omega (arith, c.requires.within,
+    inside c.args.text.now c.args.end c.args.start.at c.marks.read.at c.marks.next c.marks.rest c.first_mark-count.result c.requires.near.1 c.marks.invariant.later c.marks.invariant.ahead c.marks.invariant.left c.first_mark-count.ensures.least)
+
+pub after_soft_break-after-requires : goal.after_soft_break-after-requires
+after_soft_break-after-requires c =
+    omega (arith, c.requires.within,
+    inside c.args.text.now c.args.end c.args.start.at c.marks.read.at c.marks.next c.marks.rest c.first_mark-count.result c.requires.near.1 c.marks.invariant.later c.marks.invariant.ahead c.marks.invariant.left c.first_mark-count.ensures.least)
+
+pub put_soft_break-read-requires-clause-within : goal.put_soft_break-read-requires-clause-within
+put_soft_break-read-requires-clause-within c =
+    omega (arith, c.requires.within, c.after_soft_break-after.ensures.bounds,
+    inside c.args.text.now c.args.end c.args.start.at c.marks.read.at c.marks.next c.marks.rest c.first_mark-count.result c.requires.near.1 c.marks.invariant.later c.marks.invariant.ahead c.marks.invariant.left c.first_mark-count.ensures.least)
+
+pub put_soft_break-read-requires-clause-room : goal.put_soft_break-read-requires-clause-room
+put_soft_break-read-requires-clause-room c =
+    omega (arith, c.marks.invariant.room,
+    inside c.args.text.now c.args.end c.args.start.at c.marks.read.at c.marks.next c.marks.rest c.first_mark-count.result c.requires.near.1 c.marks.invariant.later c.marks.invariant.ahead c.marks.invariant.left c.first_mark-count.ensures.least)
+
+pub put_escape-read-requires-clause-within : goal.put_escape-read-requires-clause-within
+put_escape-read-requires-clause-within c =
+    omega (arith, c.requires.within,
+    inside c.args.text.now c.args.end c.args.start.at c.marks.read.at c.marks.next c.marks.rest c.first_mark-count.result c.requires.near.1 c.marks.invariant.later c.marks.invariant.ahead c.marks.invariant.left c.first_mark-count.ensures.least)
+
+pub put_escape-read-requires-clause-room : goal.put_escape-read-requires-clause-room
+put_escape-read-requires-clause-room c =
+    omega (arith, c.marks.invariant.room,
+    inside c.args.text.now c.args.end c.args.start.at c.marks.read.at c.marks.next c.marks.rest c.first_mark-count.result c.requires.near.1 c.marks.invariant.later c.marks.invariant.ahead c.marks.invariant.left c.first_mark-count.ensures.least)
+
+pub bounds-text-next : goal.bounds-text-next
+bounds-text-next c =
+    omega (arith, c.requires.within,
+    inside c.args.text.now c.args.end c.args.start.at c.marks.read.at c.marks.next c.marks.rest c.first_mark-count.result c.requires.near.1 c.marks.invariant.later c.marks.invariant.ahead c.marks.invariant.left c.first_mark-count.ensures.least)
+
+pub bounds-text-next-else-text-next-ne61 : goal.bounds-text-next-else-text-next-ne61
+bounds-text-next-else-text-next-ne61 c =
+    omega (arith, c.requires.within,
+    inside c.args.text.now c.args.end c.args.start.at c.marks.read.at c.marks.next c.marks.rest c.first_mark-count.result c.requires.near.1 c.marks.invariant.later c.marks.invariant.ahead c.marks.invariant.left c.first_mark-count.ensures.least)
+
+pub put_more_escapes-read-requires-clause-within : goal.put_more_escapes-read-requires-clause-within
+put_more_escapes-read-requires-clause-within c =
+    omega (arith, c.requires.within, c.put_escape-read.ensures.after,
+    inside c.args.text.now c.args.end c.args.start.at c.marks.read.at c.marks.next c.marks.rest c.first_mark-count.result c.requires.near.1 c.marks.invariant.later c.marks.invariant.ahead c.marks.invariant.left c.first_mark-count.ensures.least)
+
+pub put_more_escapes-read-requires-clause-room : goal.put_more_escapes-read-requires-clause-room
+put_more_escapes-read-requires-clause-room c =
+    omega (arith, c.marks.invariant.room, c.put_escape-read.ensures.fits, c.put_escape-read.ensures.after, c.put_escape-read.auto.output,
+    inside c.args.text.now c.args.end c.args.start.at c.marks.read.at c.marks.next c.marks.rest c.first_mark-count.result c.requires.near.1 c.marks.invariant.later c.marks.invariant.ahead c.marks.invariant.left c.first_mark-count.ensures.least)
+
+pub put_soft_break-read-requires-clause-soft : goal.put_soft_break-read-requires-clause-soft
+put_soft_break-read-requires-clause-soft c = c.after_soft_break-after.ensures.soft c.if-after-mark.false
 
 pub put_line_end-read-requires-clause-plain : goal.put_line_end-read-requires-clause-plain
 put_line_end-read-requires-clause-plain c =
