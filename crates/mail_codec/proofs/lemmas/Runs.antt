@@ -1,6 +1,6 @@
 -- Bytes copied without those that end a run.
-use Rattle.std.proofs.Common.{◌≡◌, ℕ, zero, suc, ◌+◌, ◌≤◌, ◌<◌, Bool, not, List, [], ◌∷◌, ◌++◌, length, take, drop, refl, sym, ap, ◌∙◌, arith, inl, inr, filter}
-use Rattle.std.proofs.lemmas.List.{append_assoc, drop-drop, length-drop, length-take-le, take-take}
+use Rattle.std.proofs.Common.{◌≡◌, ℕ, zero, suc, ◌+◌, ◌≤◌, ◌<◌, Bool, true, false, not, slice_set, get_or, List, [], ◌∷◌, ◌++◌, length, take, drop, refl, sym, ap, ◌∙◌, arith, inl, inr, filter}
+use Rattle.std.proofs.lemmas.List.{append_assoc, drop-drop, drop_more, take-set, take_more_set, length-drop, length-take-le, take-take}
 use Rattle.std.proofs.lemmas.Bool.{cases_Bool}
 use lib.Lanes.{put_chunk}
 use Rattle.mail_codec.specs.Places.{first_place, begins}
@@ -31,6 +31,13 @@ kept_front ends (suc n) (x ∷ xs) h e = elim (cases_Bool (ends x)) [
   | inl t ↦ let here : 0 ≡ suc n = rw t at e in absurd (omega arith)
   | inr t ↦ let past : suc (first_place (begins ends) (take n xs)) ≡ suc n = rw t at e in rw t (ap (λ (r : List ℕ). x ∷ r) (kept_front ends n xs (omega arith) (omega arith)))
 ]
+
+-- one byte that ends no run, and one that does
+kept_one : (end : RunEnd) (b : ℕ) (xs : List ℕ) → ends_run end b ≡ false → without_ends end (b ∷ xs) ≡ b ∷ without_ends end xs
+kept_one end b xs e = rw e refl
+
+ended_one : (end : RunEnd) (b : ℕ) (xs : List ℕ) → ends_run end b ≡ true → without_ends end (b ∷ xs) ≡ without_ends end xs
+ended_one end b xs e = rw e refl
 
 -- ---- what has been written, up to a place
 
@@ -82,3 +89,34 @@ module _ (end : RunEnd) (bytes output : List ℕ) (len at : ℕ) (h : Kept end b
       written_more (put_chunk len output vector) place (place + 1) (omega arith) (omega arith) (take place (drop at bytes))
       (stored_after len place output vector (omega (arith, vector_long fits)) (omega (arith, vector_long fits)) ∙ ap (λ (r : List ℕ). take len output ++ r) (take-take place 16 (drop at bytes) (omega arith)))
       (rw same at (runs_first (ends_run end) (drop at bytes)))
+
+  -- a byte that was stored
+  pub byte_kept : at < length bytes → len < length output → ends_run end (get_or bytes at 0) ≡ false
+      → Kept end bytes (slice_set output len (get_or bytes at 0)) (len + 1) (at + 1)
+  byte_kept lt room free =
+      let b : ℕ = get_or bytes at 0 in
+      let next : List ℕ = drop (at + 1) bytes in
+      let low = h.few in
+      record {
+        within = omega arith;
+        few = omega arith;
+        so_far =
+            ap (λ (r : List ℕ). r ++ without_ends end next) (take_more_set output len b room)
+            ∙ append_assoc (take len output) (b ∷ []) (without_ends end next)
+            ∙ ap (λ (r : List ℕ). take len output ++ r) (sym (ap (without_ends end) (drop_more bytes at 0 lt) ∙ kept_one end b next free))
+            ∙ h.so_far;
+      }
+
+  -- and one that is written over, since a run ends with it
+  pub byte_ended : (b : ℕ) → at < length bytes → ends_run end (get_or bytes at 0) ≡ true → Kept end bytes (slice_set output len b) len (at + 1)
+  byte_ended b lt ended =
+      let next : List ℕ = drop (at + 1) bytes in
+      let low = h.few in
+      record {
+        within = omega arith;
+        few = omega arith;
+        so_far =
+            ap (λ (r : List ℕ). r ++ without_ends end next) (take-set output len b)
+            ∙ ap (λ (r : List ℕ). take len output ++ r) (sym (ap (without_ends end) (drop_more bytes at 0 lt) ∙ ended_one end (get_or bytes at 0) next ended))
+            ∙ h.so_far;
+      }

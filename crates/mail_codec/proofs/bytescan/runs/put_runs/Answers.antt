@@ -6,6 +6,21 @@ use Rattle.mail_codec.proofs.lemmas.Runs.{vector_kept, vector_ended}
 use Rattle.mail_codec.proofs.lemmas.Written.{written_rest}
 use Rattle.mail_codec.proofs.bytescan.runs.put_runs.Goals as goal
 
+pub overflow_add-len : goal.overflow_add-len
+overflow_add-len c =
+    let lane = lane_is (ends_run c.args.end) c.args.bytes.now c.vectors.at _ _ (omega (arith, c.vectors.invariant.within)) c.end_lanes.ensures c.first_lane-place.ensures in
+    omega (arith, lane.1, c.vectors.invariant.few)
+
+pub overflow_add-at : goal.overflow_add-at
+overflow_add-at c =
+    let lane = lane_is (ends_run c.args.end) c.args.bytes.now c.vectors.at _ _ (omega (arith, c.vectors.invariant.within)) c.end_lanes.ensures c.first_lane-place.ensures in
+    omega (arith, lane.1)
+
+pub overflow_add-at-then-place-ne-LANES : goal.overflow_add-at-then-place-ne-LANES
+overflow_add-at-then-place-ne-LANES c =
+    let lane = lane_is (ends_run c.args.end) c.args.bytes.now c.vectors.at _ _ (omega (arith, c.vectors.invariant.within)) c.end_lanes.ensures c.first_lane-place.ensures in
+    omega (arith, lane.1)
+
 pub vectors-preserved-then-place-ne-LANES : goal.vectors-preserved-then-place-ne-LANES
 vectors-preserved-then-place-ne-LANES c =
     let h = c.vectors.invariant in

@@ -2,6 +2,16 @@ use Rattle.std.proofs.Common.{◌==◌, ◌-◌, length, sym, arith}
 use Rattle.mail_codec.proofs.lemmas.PlacesSearches.{lane_is, lane_found, lane_passed, last_chunk}
 use Rattle.mail_codec.proofs.bytescan.single.vectors_len.Goals as goal
 
+pub overflow_add-result : goal.overflow_add-result
+overflow_add-result c =
+    let lane = lane_is (λ b. b == c.args.wanted) c.args.bytes.now c.vectors.at _ _ (omega arith) c.equal_lanes.ensures c.first_lane-place.ensures in
+    omega (arith, lane.1)
+
+pub overflow_add-result-2 : goal.overflow_add-result-2
+overflow_add-result-2 c =
+    let lane = lane_is (λ b. b == c.args.wanted) c.args.bytes.now (length c.args.bytes.now - 16) _ _ (omega (arith, c.requires)) c.equal_lanes-2.ensures c.first_lane.ensures in
+    omega (arith, lane.1)
+
 pub returns-then-place-ne-LANES-clause-least : goal.returns-then-place-ne-LANES-clause-least
 returns-then-place-ne-LANES-clause-least c =
     lane_found (λ b. b == c.args.wanted) c.args.bytes.now c.vectors.at _ _ (omega arith) c.equal_lanes.ensures c.first_lane-place.ensures _ c.vectors.invariant c.if-place-ne-LANES.true

@@ -5,6 +5,11 @@ use Rattle.mail_codec.proofs.lemmas.Written.{stored_lanes}
 use Rattle.mail_codec.proofs.lemmas.CharsetSingleByte.{ascii_more}
 use Rattle.mail_codec.proofs.charset.single_byte.put_ascii.Goals as goal
 
+pub overflow_add-result : goal.overflow_add-result
+overflow_add-result c =
+    let lane = lane_is (λ b. nat_le 128 b) c.args.bytes.now c.vectors.at _ _ (omega (arith, c.vectors.invariant.within)) c.lanes_from.ensures c.first_lane-place.ensures in
+    omega (arith, lane.1)
+
 pub returns-then-place-ne-LANES-clause-bounds : goal.returns-then-place-ne-LANES-clause-bounds
 returns-then-place-ne-LANES-clause-bounds c =
     let lane = lane_is (λ b. nat_le 128 b) c.args.bytes.now c.vectors.at _ _ (omega (arith, c.vectors.invariant.within)) c.lanes_from.ensures c.first_lane-place.ensures in
