@@ -276,13 +276,16 @@ fn message_of<'a>(
     requires index { index ≤ end }
     requires end { end ≤ length raw.now }
     ensures read { tree_of result ≡ tree (record {
-        bytes = raw.now; block = take index raw.now; headers = headers.entry.items;
-        ctype = content_type ctype; body = slice_range raw.now index end;
-        }) (forest (map tree_of subparts.entry.items)) }
+      bytes = raw.now;
+      block = take index raw.now;
+      headers = headers.entry.items;
+      ctype = content_type ctype;
+      body = slice_range raw.now index end;
+    }) (forest (map tree_of subparts.entry.items)) }
     ensures places { placements_of result ≡ record {
-        whole = record { start = offset; end = offset + length raw.now };
-        body = record { start = offset + index; end = offset + end };
-        } ∷ flat_map (λ places. places) (map placements_of subparts.entry.items) }
+      whole = record { start = offset; end = offset + length raw.now };
+      body = record { start = offset + index; end = offset + end };
+    } ∷ flat_map (λ places. places) (map placements_of subparts.entry.items) }
 {
     ParsedMail {
         raw_bytes: raw,

@@ -39,68 +39,112 @@ first_mark text at end next rest count left plain marks near least after =
 
 pub bounds-text-mark : goal.bounds-text-mark
 bounds-text-mark c =
-    omega (arith, c.requires.within,
-    inside c.args.text.now c.args.end c.args.start.at c.marks.read.at c.marks.next c.marks.rest c.first_mark-count.result c.requires.near.1 c.marks.invariant.later c.marks.invariant.ahead c.marks.invariant.left c.first_mark-count.ensures.least)
+    omega (
+      arith,
+      c.requires.within,
+      inside c.args.text.now c.args.end c.args.start.at c.marks.read.at c.marks.next c.marks.rest c.first_mark-count.result c.requires.near.1 c.marks.invariant.later c.marks.invariant.ahead c.marks.invariant.left c.first_mark-count.ensures.least,
+    )
 
 pub put_line_end-read-requires-clause-within : goal.put_line_end-read-requires-clause-within
 put_line_end-read-requires-clause-within c =
-    omega (arith, c.requires.within,
-    inside c.args.text.now c.args.end c.args.start.at c.marks.read.at c.marks.next c.marks.rest c.first_mark-count.result c.requires.near.1 c.marks.invariant.later c.marks.invariant.ahead c.marks.invariant.left c.first_mark-count.ensures.least)
+    omega (
+      arith,
+      c.requires.within,
+      inside c.args.text.now c.args.end c.args.start.at c.marks.read.at c.marks.next c.marks.rest c.first_mark-count.result c.requires.near.1 c.marks.invariant.later c.marks.invariant.ahead c.marks.invariant.left c.first_mark-count.ensures.least,
+    )
 
 pub put_line_end-read-requires-clause-room : goal.put_line_end-read-requires-clause-room
 put_line_end-read-requires-clause-room c =
-    omega (arith, c.marks.invariant.room,
-    inside c.args.text.now c.args.end c.args.start.at c.marks.read.at c.marks.next c.marks.rest c.first_mark-count.result c.requires.near.1 c.marks.invariant.later c.marks.invariant.ahead c.marks.invariant.left c.first_mark-count.ensures.least)
+    omega (
+      arith,
+      c.marks.invariant.room,
+      inside c.args.text.now c.args.end c.args.start.at c.marks.read.at c.marks.next c.marks.rest c.first_mark-count.result c.requires.near.1 c.marks.invariant.later c.marks.invariant.ahead c.marks.invariant.left c.first_mark-count.ensures.least,
+    )
 
 pub escape_at-requires-clause-within : goal.escape_at-requires-clause-within
 escape_at-requires-clause-within c =
-    omega (arith, c.requires.within,
-    inside c.args.text.now c.args.end c.args.start.at c.marks.read.at c.marks.next c.marks.rest c.first_mark-count.result c.requires.near.1 c.marks.invariant.later c.marks.invariant.ahead c.marks.invariant.left c.first_mark-count.ensures.least)
+    omega (
+      arith,
+      c.requires.within,
+      inside c.args.text.now c.args.end c.args.start.at c.marks.read.at c.marks.next c.marks.rest c.first_mark-count.result c.requires.near.1 c.marks.invariant.later c.marks.invariant.ahead c.marks.invariant.left c.first_mark-count.ensures.least,
+    )
 
 pub after_soft_break-after-requires : goal.after_soft_break-after-requires
 after_soft_break-after-requires c =
-    omega (arith, c.requires.within,
-    inside c.args.text.now c.args.end c.args.start.at c.marks.read.at c.marks.next c.marks.rest c.first_mark-count.result c.requires.near.1 c.marks.invariant.later c.marks.invariant.ahead c.marks.invariant.left c.first_mark-count.ensures.least)
+    omega (
+      arith,
+      c.requires.within,
+      inside c.args.text.now c.args.end c.args.start.at c.marks.read.at c.marks.next c.marks.rest c.first_mark-count.result c.requires.near.1 c.marks.invariant.later c.marks.invariant.ahead c.marks.invariant.left c.first_mark-count.ensures.least,
+    )
 
 pub put_soft_break-read-requires-clause-within : goal.put_soft_break-read-requires-clause-within
 put_soft_break-read-requires-clause-within c =
-    omega (arith, c.requires.within, c.after_soft_break-after.ensures.bounds,
-    inside c.args.text.now c.args.end c.args.start.at c.marks.read.at c.marks.next c.marks.rest c.first_mark-count.result c.requires.near.1 c.marks.invariant.later c.marks.invariant.ahead c.marks.invariant.left c.first_mark-count.ensures.least)
+    omega (
+      arith,
+      c.requires.within,
+      c.after_soft_break-after.ensures.bounds,
+      inside c.args.text.now c.args.end c.args.start.at c.marks.read.at c.marks.next c.marks.rest c.first_mark-count.result c.requires.near.1 c.marks.invariant.later c.marks.invariant.ahead c.marks.invariant.left c.first_mark-count.ensures.least,
+    )
 
 pub put_soft_break-read-requires-clause-room : goal.put_soft_break-read-requires-clause-room
 put_soft_break-read-requires-clause-room c =
-    omega (arith, c.marks.invariant.room,
-    inside c.args.text.now c.args.end c.args.start.at c.marks.read.at c.marks.next c.marks.rest c.first_mark-count.result c.requires.near.1 c.marks.invariant.later c.marks.invariant.ahead c.marks.invariant.left c.first_mark-count.ensures.least)
+    omega (
+      arith,
+      c.marks.invariant.room,
+      inside c.args.text.now c.args.end c.args.start.at c.marks.read.at c.marks.next c.marks.rest c.first_mark-count.result c.requires.near.1 c.marks.invariant.later c.marks.invariant.ahead c.marks.invariant.left c.first_mark-count.ensures.least,
+    )
 
 pub put_escape-read-requires-clause-within : goal.put_escape-read-requires-clause-within
 put_escape-read-requires-clause-within c =
-    omega (arith, c.requires.within,
-    inside c.args.text.now c.args.end c.args.start.at c.marks.read.at c.marks.next c.marks.rest c.first_mark-count.result c.requires.near.1 c.marks.invariant.later c.marks.invariant.ahead c.marks.invariant.left c.first_mark-count.ensures.least)
+    omega (
+      arith,
+      c.requires.within,
+      inside c.args.text.now c.args.end c.args.start.at c.marks.read.at c.marks.next c.marks.rest c.first_mark-count.result c.requires.near.1 c.marks.invariant.later c.marks.invariant.ahead c.marks.invariant.left c.first_mark-count.ensures.least,
+    )
 
 pub put_escape-read-requires-clause-room : goal.put_escape-read-requires-clause-room
 put_escape-read-requires-clause-room c =
-    omega (arith, c.marks.invariant.room,
-    inside c.args.text.now c.args.end c.args.start.at c.marks.read.at c.marks.next c.marks.rest c.first_mark-count.result c.requires.near.1 c.marks.invariant.later c.marks.invariant.ahead c.marks.invariant.left c.first_mark-count.ensures.least)
+    omega (
+      arith,
+      c.marks.invariant.room,
+      inside c.args.text.now c.args.end c.args.start.at c.marks.read.at c.marks.next c.marks.rest c.first_mark-count.result c.requires.near.1 c.marks.invariant.later c.marks.invariant.ahead c.marks.invariant.left c.first_mark-count.ensures.least,
+    )
 
 pub bounds-text-next : goal.bounds-text-next
 bounds-text-next c =
-    omega (arith, c.requires.within,
-    inside c.args.text.now c.args.end c.args.start.at c.marks.read.at c.marks.next c.marks.rest c.first_mark-count.result c.requires.near.1 c.marks.invariant.later c.marks.invariant.ahead c.marks.invariant.left c.first_mark-count.ensures.least)
+    omega (
+      arith,
+      c.requires.within,
+      inside c.args.text.now c.args.end c.args.start.at c.marks.read.at c.marks.next c.marks.rest c.first_mark-count.result c.requires.near.1 c.marks.invariant.later c.marks.invariant.ahead c.marks.invariant.left c.first_mark-count.ensures.least,
+    )
 
 pub bounds-text-next-else-text-next-ne61 : goal.bounds-text-next-else-text-next-ne61
 bounds-text-next-else-text-next-ne61 c =
-    omega (arith, c.requires.within,
-    inside c.args.text.now c.args.end c.args.start.at c.marks.read.at c.marks.next c.marks.rest c.first_mark-count.result c.requires.near.1 c.marks.invariant.later c.marks.invariant.ahead c.marks.invariant.left c.first_mark-count.ensures.least)
+    omega (
+      arith,
+      c.requires.within,
+      inside c.args.text.now c.args.end c.args.start.at c.marks.read.at c.marks.next c.marks.rest c.first_mark-count.result c.requires.near.1 c.marks.invariant.later c.marks.invariant.ahead c.marks.invariant.left c.first_mark-count.ensures.least,
+    )
 
 pub put_more_escapes-read-requires-clause-within : goal.put_more_escapes-read-requires-clause-within
 put_more_escapes-read-requires-clause-within c =
-    omega (arith, c.requires.within, c.put_escape-read.ensures.after,
-    inside c.args.text.now c.args.end c.args.start.at c.marks.read.at c.marks.next c.marks.rest c.first_mark-count.result c.requires.near.1 c.marks.invariant.later c.marks.invariant.ahead c.marks.invariant.left c.first_mark-count.ensures.least)
+    omega (
+      arith,
+      c.requires.within,
+      c.put_escape-read.ensures.after,
+      inside c.args.text.now c.args.end c.args.start.at c.marks.read.at c.marks.next c.marks.rest c.first_mark-count.result c.requires.near.1 c.marks.invariant.later c.marks.invariant.ahead c.marks.invariant.left c.first_mark-count.ensures.least,
+    )
 
 pub put_more_escapes-read-requires-clause-room : goal.put_more_escapes-read-requires-clause-room
 put_more_escapes-read-requires-clause-room c =
-    omega (arith, c.marks.invariant.room, c.put_escape-read.ensures.fits, c.put_escape-read.ensures.after, c.put_escape-read.auto.output,
-    inside c.args.text.now c.args.end c.args.start.at c.marks.read.at c.marks.next c.marks.rest c.first_mark-count.result c.requires.near.1 c.marks.invariant.later c.marks.invariant.ahead c.marks.invariant.left c.first_mark-count.ensures.least)
+    omega (
+      arith,
+      c.marks.invariant.room,
+      c.put_escape-read.ensures.fits,
+      c.put_escape-read.ensures.after,
+      c.put_escape-read.auto.output,
+      inside c.args.text.now c.args.end c.args.start.at c.marks.read.at c.marks.next c.marks.rest c.first_mark-count.result c.requires.near.1 c.marks.invariant.later c.marks.invariant.ahead c.marks.invariant.left c.first_mark-count.ensures.least,
+    )
 
 pub put_soft_break-read-requires-clause-soft : goal.put_soft_break-read-requires-clause-soft
 put_soft_break-read-requires-clause-soft c = c.after_soft_break-after.ensures.soft c.if-after-mark.false
