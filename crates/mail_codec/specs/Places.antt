@@ -25,8 +25,8 @@ begins test [] = false
 begins test (b ∷ rest) = test b
 
 -- the bytes begin with that text
-abbrev pub stands : List ℕ → List ℕ → Bool
-stands text bytes = starts_with nat_eq bytes text
+abbrev pub has_prefix : List ℕ → List ℕ → Bool
+has_prefix text bytes = starts_with nat_eq bytes text
 
 -- the least place whose rest passes the test, where there is one
 abbrev pub place : (List ℕ → Bool) → List ℕ → Option ℕ
@@ -40,7 +40,7 @@ byte_place bytes byte = place (begins (λ b. b == byte)) bytes
 
 -- the first place where a text stands, and none for the empty text
 abbrev pub text_place : List ℕ → List ℕ → Option ℕ
-text_place bytes text = if length text == 0 then None else place (stands text) bytes
+text_place bytes text = if length text == 0 then None else place (has_prefix text) bytes
 
 -- p is the least place whose rest passes the test, or the length where no place's rest does
 pub record IsFirstPlace (test : List ℕ → Bool) (bytes : List ℕ) (p : ℕ) : Type 0 where

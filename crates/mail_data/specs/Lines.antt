@@ -1,11 +1,11 @@
 -- Lines of bytes, which end in LF or CR LF: where one starts, and which is empty.
 use Rattle.std.specs.Prelude.{ℕ, suc, ◌-◌, Bool, ◌&&◌, ◌||◌, ◌==◌, min, nat_lt, List, [], ◌∷◌, length, drop, if◌then◌else◌}
 use Rattle.mail_codec.specs.Ascii.{line_feed, carriage_return}
-use Rattle.mail_codec.specs.Places.{begins, first_place, least, stands}
+use Rattle.mail_codec.specs.Places.{begins, first_place, least, has_prefix}
 
 -- the bytes of the empty line that stands here: LF or CR LF, or none
 unfoldable pub empty_line : List ℕ → ℕ
-empty_line bytes = if stands (line_feed ∷ []) bytes then 1 else (if stands (carriage_return ∷ line_feed ∷ []) bytes then 2 else 0)
+empty_line bytes = if has_prefix (line_feed ∷ []) bytes then 1 else (if has_prefix (carriage_return ∷ line_feed ∷ []) bytes then 2 else 0)
 
 -- an empty line stands here
 abbrev pub is_empty_line : List ℕ → Bool

@@ -2,7 +2,7 @@
 use Rattle.std.specs.Prelude.{ℕ, Bool, true, false, ◌&&◌, ◌==◌, List, [], ◌∷◌, take, drop, if◌then◌else◌}
 use Rattle.std.specs.List.{prefix_len}
 use Rattle.mail_codec.specs.Ascii.{line_feed}
-use Rattle.mail_codec.specs.Places.{stands}
+use Rattle.mail_codec.specs.Places.{has_prefix}
 use Rattle.mail_data.specs.Lines.{line_length}
 use Rattle.mail_data.specs.Separator.{mark}
 
@@ -15,7 +15,7 @@ quote_length bytes = prefix_len (λ b. b == greater_than) bytes
 
 -- after any number of `>`, none among them, stands `From `
 unfoldable pub is_marked : List ℕ → Bool
-is_marked bytes = stands mark (drop (quote_length bytes) bytes)
+is_marked bytes = has_prefix mark (drop (quote_length bytes) bytes)
 
 -- after one `>` or more stands `From `
 abbrev pub is_quoted : List ℕ → Bool

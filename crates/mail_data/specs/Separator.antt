@@ -6,7 +6,7 @@ use Rattle.std.specs.Cmp.Lexicographic.{pointwise}
 use Rattle.std.specs.List.{list_all, list_any, prefix_len}
 use Rattle.std.specs.Str.{bytes_eq}
 use Rattle.mail_codec.specs.Ascii.{digit_0, space}
-use Rattle.mail_codec.specs.Places.{stands, trimmed_at_start}
+use Rattle.mail_codec.specs.Places.{has_prefix, trimmed_at_start}
 use Rattle.mail_data.specs.Lines.{line_length}
 
 -- what a separator begins with
@@ -88,4 +88,4 @@ has_time (b ∷ rest) = (b == space && is_time_at rest) || has_time rest
 
 -- a separator stands at the front: a line that begins with `From ` and has a time
 unfoldable pub is_separator : List ℕ → Bool
-is_separator bytes = stands mark bytes && has_time (take (line_length bytes) bytes)
+is_separator bytes = has_prefix mark bytes && has_time (take (line_length bytes) bytes)

@@ -35,7 +35,7 @@ module _ (dash_boundary bytes : List ℕ) (body : ℕ) where
   -- p is the first delimiter at or after a place
   pub record IsFirstFrom (from p : ℕ) : Type 0 where
     pub after : from ≤ p
-    pub stands : HasDelimiterAt p
+    pub is_delimiter : HasDelimiterAt p
     pub before : NoneBetween from p
 
   -- the line of the delimiter at p ends with the LF at l, the first after the dash-boundary

@@ -8,7 +8,7 @@ use Rattle.base64.specs.Rfc4648.{encode}
 use Rattle.mail_codec.specs.Ascii.{carriage_return, line_feed, space}
 use Rattle.mail_codec.specs.Base64.{alphabet, padding}
 use Rattle.mail_codec.specs.Charset.{Charsets, four_charsets}
-use Rattle.mail_codec.specs.Places.{stands, text_place}
+use Rattle.mail_codec.specs.Places.{has_prefix, text_place}
 
 -- a printable byte of ASCII or a space
 abbrev pub is_plain_byte : ℕ → Bool
@@ -16,7 +16,7 @@ is_plain_byte b = is_ascii_graphic b || b == space
 
 -- whether a value is plain: such bytes, without a space at its start and without `=?`
 abbrev pub is_plain_value : List ℕ → Bool
-is_plain_value value = list_all is_plain_byte value && (not (stands (codes " ") value) && is_none (text_place value (codes "=?")))
+is_plain_value value = list_all is_plain_byte value && (not (has_prefix (codes " ") value) && is_none (text_place value (codes "=?")))
 
 -- ---- the words of a text
 

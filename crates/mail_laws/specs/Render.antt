@@ -8,7 +8,7 @@ use Rattle.std.specs.Option.{option_map_or}
 use Rattle.std.specs.Str.{bytes_eq, is_utf8, str_eq_ignore_ascii_case, str_to_ascii_lowercase}
 use Rattle.mail_codec.specs.Ascii.{line_feed, colon}
 use Rattle.mail_codec.specs.Charset.{Charsets}
-use Rattle.mail_codec.specs.Places.{is_empty, stands, text_place}
+use Rattle.mail_codec.specs.Places.{is_empty, has_prefix, text_place}
 use Rattle.mail_codec.specs.QuotedPrintable.{cr_lf}
 use Rattle.mailparse.specs.Header.{Header}
 use Rattle.mailparse.specs.ContentType.{ContentType, content_type_in, default_type}
@@ -121,7 +121,7 @@ mimetype_of text = str_to_ascii_lowercase (value_of text)
 -- 5. where there is a body, the mimetype of the first `Content-Type`, if there is one, does not begin with `multipart`
 abbrev pub is_not_multipart : OutlineTree → Bool
 is_not_multipart (leaf headers body) =
-    option_map_or (λ h. not (stands (codes "multipart") (mimetype_of h.value))) (type_header headers) true
+    option_map_or (λ h. not (has_prefix (codes "multipart") (mimetype_of h.value))) (type_header headers) true
 is_not_multipart (branch headers boundary parts) = true
 
 -- 6. where there are parts, there is one or more
@@ -133,7 +133,7 @@ has_some_part (branch headers boundary (outline_and part parts)) = true
 -- the dash-boundary stands at the start of the bytes or after a LF in them
 abbrev pub holds_delimiter : List ℕ → List ℕ → Bool
 holds_delimiter boundary bytes =
-    stands (dash_boundary boundary) bytes || is_some (text_place bytes (line_feed ∷ dash_boundary boundary))
+    has_prefix (dash_boundary boundary) bytes || is_some (text_place bytes (line_feed ∷ dash_boundary boundary))
 
 -- no part, as it is written, holds a delimiter
 abbrev pub hold_no_delimiter : List ℕ → OutlineForest → Bool

@@ -6,7 +6,7 @@ use Rattle.std.specs.Map.{lookup}
 use Rattle.std.specs.Ordering.{nat_cmp}
 use Rattle.std.specs.Str.{bytes_eq}
 use Rattle.mail_codec.specs.Charset.{Charsets}
-use Rattle.mail_codec.specs.Places.{stands}
+use Rattle.mail_codec.specs.Places.{has_prefix}
 use Rattle.mailparse.specs.Body.{BodyKind}
 use Rattle.mailparse.specs.BodyViews.{Content, content_of}
 use Rattle.mailparse.specs.ContentType.{ContentType}
@@ -65,7 +65,7 @@ is_attachment part disposition = is_leaf part && describes_attachment dispositio
 -- a part of this disposition has a text that is to be read: it is not marked as an attachment, has no parts, and its type is that of a text
 abbrev pub is_read : Tree → Disposition → Bool
 is_read part disposition =
-    not (is_attachment_disposition disposition.kind) && is_leaf part && stands (codes "text/") (text_type (root part).ctype.mimetype)
+    not (is_attachment_disposition disposition.kind) && is_leaf part && has_prefix (codes "text/") (text_type (root part).ctype.mimetype)
 
 -- the members of a disposition, of a file's name, and of whether the part is an attachment
 abbrev pub disposition_text : Disposition → Node → Bool → List ℕ

@@ -5,7 +5,7 @@
 use Rattle.std.specs.Prelude.{ℕ, zero, suc, ◌+◌, ◌-◌, Bool, ◌||◌, ◌&&◌, ◌==◌, nat_lt, List, length, drop, map, filter_map, Option, Some, None, option_map, codes, if◌then◌else◌}
 use Rattle.std.specs.Option.{option_map_or}
 use Rattle.mail_codec.specs.Ascii.{line_feed, carriage_return}
-use Rattle.mail_codec.specs.Places.{begins, stands, byte_place, least, values_below}
+use Rattle.mail_codec.specs.Places.{begins, has_prefix, byte_place, least, values_below}
 use Rattle.mailparse.specs.Header.{is_line_feed}
 use Rattle.mailparse.specs.Options.{◌>>=◌}
 use Rattle.mailparse.specs.Ranges.{Range}
@@ -22,7 +22,7 @@ starts_line bytes start p = p == start || begins is_line_feed (drop (p - 1) byte
 
 -- a delimiter stands at p: the dash-boundary stands there, and a line starts there
 abbrev pub is_delimiter : List ℕ → List ℕ → ℕ → ℕ → Bool
-is_delimiter dash_boundary bytes start p = starts_line bytes start p && stands dash_boundary (drop p bytes)
+is_delimiter dash_boundary bytes start p = starts_line bytes start p && has_prefix dash_boundary (drop p bytes)
 
 -- the first delimiter at or after a start
 unfoldable pub delimiter_from : List ℕ → List ℕ → ℕ → Option ℕ
@@ -40,7 +40,7 @@ part_after dash_boundary bytes p = line_after bytes (p + length dash_boundary)
 abbrev pub is_close_delimiter : List ℕ → List ℕ → ℕ → Bool
 is_close_delimiter dash_boundary bytes p =
     let rest = drop (p + length dash_boundary) bytes in
-    nat_lt (length rest) 2 || stands (codes "--") rest
+    nat_lt (length rest) 2 || has_prefix (codes "--") rest
 
 -- where the first part starts that follows a preamble from i on: after the first delimiter, which may look like a close-delimiter
 abbrev pub first_part : List ℕ → List ℕ → ℕ → Option ℕ

@@ -4,7 +4,7 @@ use Rattle.std.specs.Prelude.{ℕ, suc, Bool, false, ◌&&◌, ◌||◌, not, �
 use Rattle.std.specs.List.{list_all}
 use Rattle.mail_codec.specs.Ascii.{is_blank, line_feed, carriage_return, space, colon}
 use Rattle.mail_codec.specs.Latin1.{latin1_text}
-use Rattle.mail_codec.specs.Places.{first_place, place_from, begins, stands, is_empty}
+use Rattle.mail_codec.specs.Places.{first_place, place_from, begins, has_prefix, is_empty}
 use Rattle.mailparse.specs.Refusal.{Refusal, empty_string, leading_space}
 
 -- a byte that ends a key
@@ -66,5 +66,5 @@ header_of raw = record { key = take (key_end raw) raw; value = slice_range raw (
 unfoldable pub read_header : List ℕ → Result (Header × ℕ) Refusal
 read_header raw =
     if is_empty raw then Err empty_string
-    else (if stands (space ∷ []) raw then Err leading_space
+    else (if has_prefix (space ∷ []) raw then Err leading_space
     else Ok (header_of raw, header_length raw))

@@ -4,7 +4,7 @@ use Rattle.std.specs.Prelude.{ℕ, zero, suc, Bool, false, List, [], ◌∷◌, 
 use Rattle.std.specs.Option.{option_map_or}
 use Rattle.std.specs.Str.{bytes_eq, str_to_ascii_lowercase}
 use Rattle.mail_codec.specs.Charset.{Charsets, four_charsets}
-use Rattle.mail_codec.specs.Places.{stands}
+use Rattle.mail_codec.specs.Places.{has_prefix}
 use Rattle.mailparse.specs.Refusal.{◌>>=◌, recursion_limit, Reads}
 use Rattle.mailparse.specs.Header.{Header}
 use Rattle.mailparse.specs.Block.{HeaderList, read_headers}
@@ -106,7 +106,7 @@ is_digest ctype = bytes_eq ctype.mimetype (codes "multipart/digest")
 -- the dash-boundary of this type's parts, if there may be parts: `--` and the boundary
 abbrev pub dash_boundary_of : ContentType → Option (List ℕ)
 dash_boundary_of ctype =
-    if stands (codes "multipart") ctype.mimetype
+    if has_prefix (codes "multipart") ctype.mimetype
     then option_map (λ boundary. codes "--" ++ boundary) (ctype.params (codes "boundary"))
     else None
 

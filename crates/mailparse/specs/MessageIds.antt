@@ -3,7 +3,7 @@ use Rattle.std.specs.Prelude.{ℕ, Bool, ◌&&◌, ◌==◌, List, [], ◌∷◌
 use Rattle.std.specs.List.{slice_split, join_with_byte, list_any, before_first}
 use Rattle.std.specs.Str.{trim_start}
 use Rattle.mail_codec.specs.Ascii.{space, less_than, greater_than}
-use Rattle.mail_codec.specs.Places.{is_empty, stands}
+use Rattle.mail_codec.specs.Places.{is_empty, has_prefix}
 use Rattle.mailparse.specs.Refusal.{◌>>=◌, Reads, Refusal, generic}
 
 -- no `<` where an id was wanted
@@ -20,7 +20,7 @@ is_closing b = b == greater_than
 
 -- whether bytes begin with an id's `<`, after whitespace
 abbrev pub opens_id : List ℕ → Bool
-opens_id bytes = stands (codes "<") (trim_start bytes)
+opens_id bytes = has_prefix (codes "<") (trim_start bytes)
 
 -- the id of a piece that ends at a `>`: after whitespace and a `<`
 abbrev pub id_of_piece : List ℕ → List ℕ

@@ -8,7 +8,7 @@ use Rattle.std.specs.Option.{option_map_or}
 use Rattle.std.specs.Str.{chars}
 use Rattle.mail_codec.specs.Ascii.{quote, opening_parenthesis, closing_parenthesis, comma, less_than, greater_than}
 use Rattle.mail_codec.specs.Charset.{Charsets}
-use Rattle.mail_codec.specs.Places.{stands, place_from}
+use Rattle.mail_codec.specs.Places.{has_prefix, place_from}
 use Rattle.mailparse.specs.EncodedWord.{word_text}
 
 -- what a token is: text that is not encoded, whitespace throughout (or empty), the end of a line, or an encoded word that decodes
@@ -36,11 +36,11 @@ boundary_before line v = begins_with_boundary (reverse (chars (take v line)))
 
 -- whether bytes begin with `=?`
 abbrev pub begins_opening : List ℕ → Bool
-begins_opening = stands (codes "=?")
+begins_opening = has_prefix (codes "=?")
 
 -- whether bytes begin with `?=`, and either end there or have a boundary as the next character
 abbrev pub begins_closing : List ℕ → Bool
-begins_closing bytes = stands (codes "?=") bytes && begins_with_boundary (chars (drop 2 bytes))
+begins_closing bytes = has_prefix (codes "?=") bytes && begins_with_boundary (chars (drop 2 bytes))
 
 -- the least place at or after s where `=?` stands, or the line's length
 abbrev pub opening : List ℕ → ℕ → ℕ

@@ -6,7 +6,7 @@ use Rattle.std.specs.Str.Lines.{lines}
 use Rattle.mail_codec.specs.Ascii.{space, tilde}
 use Rattle.mail_codec.specs.Charset.{Charsets, four_charsets}
 use Rattle.mail_codec.specs.Latin1.{latin1_text}
-use Rattle.mail_codec.specs.Places.{stands}
+use Rattle.mail_codec.specs.Places.{has_prefix}
 use Rattle.mailparse.specs.EncodedWord.{word_text}
 use Rattle.mailparse.specs.Refusal.{Refusal, value_not_utf8}
 use Rattle.mailparse.specs.Tokens.{TokenKind, plain_text, whitespace, line_end, decoded_word, TokenRange, inside, is_all_whitespace, token_ranges}
@@ -119,5 +119,5 @@ strict_value bytes = if is_utf8 bytes then Ok (shown_value four_charsets bytes) 
 -- a value that is plain: printable ASCII that does not begin with a space and holds no `=?`
 pub record IsPlain (value : List ℕ) : Type 0 where
   pub printable : All (λ b. (space ≤ b) × (b ≤ tilde)) value
-  pub no_space : stands (codes " ") value ≡ false
-  pub no_opening : (k : ℕ) → stands (codes "=?") (drop k value) ≡ false
+  pub no_space : has_prefix (codes " ") value ≡ false
+  pub no_opening : (k : ℕ) → has_prefix (codes "=?") (drop k value) ≡ false

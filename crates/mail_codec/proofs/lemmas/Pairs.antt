@@ -3,7 +3,7 @@ use Rattle.std.proofs.Common.{◌≡◌, ℕ, zero, suc, ◌+◌, ◌<◌, ◌�
 use Rattle.std.proofs.lemmas.Bool.{cases_eq, cases_lt, ne_eqb}
 use Rattle.std.proofs.lemmas.List.{drop-drop, length-drop, length-map, length-take-le}
 use Rattle.std.proofs.lemmas.Simd.{length-zip2, mask_l-mod, zip2_splat}
-use Rattle.mail_codec.specs.Places.{first_place, begins, stands}
+use Rattle.mail_codec.specs.Places.{first_place, begins, has_prefix}
 use Rattle.mail_codec.specs.private.Vectors.{is_set, lane_mask, pair_flags}
 use Rattle.std.specs.Int.{w64, trailing_zeros}
 use Rattle.mail_codec.proofs.lemmas.Places.{PassedTo, first_place-≤, first_place-drop}
@@ -46,8 +46,8 @@ last_and true false = refl
 last_and false t = refl
 
 -- the pair stands at the front of two bytes
-stands_pair : (a c x y : ℕ) (rest : List ℕ) → stands (a ∷ c ∷ []) (x ∷ y ∷ rest) ≡ (x == a && y == c)
-stands_pair a c x y rest = last_and (a == x) (c == y) ∙ (λ i. swapped a x i && swapped c y i)
+has_prefix_pair : (a c x y : ℕ) (rest : List ℕ) → has_prefix (a ∷ c ∷ []) (x ∷ y ∷ rest) ≡ (x == a && y == c)
+has_prefix_pair a c x y rest = last_and (a == x) (c == y) ∙ (λ i. swapped a x i && swapped c y i)
 
 -- the flags at the front of bytes
 abbrev pub flags : ℕ → ℕ → ℕ → List ℕ → List ℕ
@@ -59,32 +59,32 @@ set_cond false = refl
 
 -- where none of them is set, the search goes on after them
 free_flags : (a c n : ℕ) (bytes : List ℕ) → n + 1 ≤ length bytes → first_place (begins is_set) (flags a c n bytes) ≡ n
-    → first_place (stands (a ∷ c ∷ [])) bytes ≡ n + first_place (stands (a ∷ c ∷ [])) (drop n bytes)
+    → first_place (has_prefix (a ∷ c ∷ [])) bytes ≡ n + first_place (has_prefix (a ∷ c ∷ [])) (drop n bytes)
 free_flags a c zero bytes h e = omega arith
 free_flags a c (suc n) [] h e = absurd (omega arith)
 free_flags a c (suc n) (x ∷ []) h e = absurd (omega arith)
-free_flags a c (suc n) (x ∷ y ∷ rest) h e = go (x == a && y == c) (stands_pair a c x y rest) (sym (ap (λ t. cond t 0 (suc (first_place (begins is_set) (flags a c n (y ∷ rest))))) (set_cond (x == a && y == c))) ∙ e) (free_flags a c n (y ∷ rest) (omega arith))
+free_flags a c (suc n) (x ∷ y ∷ rest) h e = go (x == a && y == c) (has_prefix_pair a c x y rest) (sym (ap (λ t. cond t 0 (suc (first_place (begins is_set) (flags a c n (y ∷ rest))))) (set_cond (x == a && y == c))) ∙ e) (free_flags a c n (y ∷ rest) (omega arith))
   where
-    go : (v : Bool) → stands (a ∷ c ∷ []) (x ∷ y ∷ rest) ≡ v → cond v 0 (suc (first_place (begins is_set) (flags a c n (y ∷ rest)))) ≡ suc n
-        → (first_place (begins is_set) (flags a c n (y ∷ rest)) ≡ n → first_place (stands (a ∷ c ∷ [])) (y ∷ rest) ≡ n + first_place (stands (a ∷ c ∷ [])) (drop n (y ∷ rest)))
-        → first_place (stands (a ∷ c ∷ [])) (x ∷ y ∷ rest) ≡ suc n + first_place (stands (a ∷ c ∷ [])) (drop n (y ∷ rest))
+    go : (v : Bool) → has_prefix (a ∷ c ∷ []) (x ∷ y ∷ rest) ≡ v → cond v 0 (suc (first_place (begins is_set) (flags a c n (y ∷ rest)))) ≡ suc n
+        → (first_place (begins is_set) (flags a c n (y ∷ rest)) ≡ n → first_place (has_prefix (a ∷ c ∷ [])) (y ∷ rest) ≡ n + first_place (has_prefix (a ∷ c ∷ [])) (drop n (y ∷ rest)))
+        → first_place (has_prefix (a ∷ c ∷ [])) (x ∷ y ∷ rest) ≡ suc n + first_place (has_prefix (a ∷ c ∷ [])) (drop n (y ∷ rest))
     go true t e more = absurd (omega arith)
     go false t e more = rw t (let r = more (omega arith) in omega arith)
 
 -- where one is set, the first tells the place
 found_flags : (a c n : ℕ) (bytes : List ℕ) → n + 1 ≤ length bytes → first_place (begins is_set) (flags a c n bytes) < n
-    → first_place (stands (a ∷ c ∷ [])) bytes ≡ first_place (begins is_set) (flags a c n bytes)
+    → first_place (has_prefix (a ∷ c ∷ [])) bytes ≡ first_place (begins is_set) (flags a c n bytes)
 found_flags a c zero bytes h e = absurd (omega arith)
 found_flags a c (suc n) [] h e = absurd (omega arith)
 found_flags a c (suc n) (x ∷ []) h e = absurd (omega arith)
 found_flags a c (suc n) (x ∷ y ∷ rest) h e =
     let same : first_place (begins is_set) (flags a c (suc n) (x ∷ y ∷ rest)) ≡ cond (x == a && y == c) 0 (suc (first_place (begins is_set) (flags a c n (y ∷ rest))))
     = ap (λ t. cond t 0 (suc (first_place (begins is_set) (flags a c n (y ∷ rest))))) (set_cond (x == a && y == c)) in
-    go (x == a && y == c) (stands_pair a c x y rest) (omega arith) (found_flags a c n (y ∷ rest) (omega arith)) ∙ sym same
+    go (x == a && y == c) (has_prefix_pair a c x y rest) (omega arith) (found_flags a c n (y ∷ rest) (omega arith)) ∙ sym same
   where
-    go : (v : Bool) → stands (a ∷ c ∷ []) (x ∷ y ∷ rest) ≡ v → cond v 0 (suc (first_place (begins is_set) (flags a c n (y ∷ rest)))) < suc n
-        → (first_place (begins is_set) (flags a c n (y ∷ rest)) < n → first_place (stands (a ∷ c ∷ [])) (y ∷ rest) ≡ first_place (begins is_set) (flags a c n (y ∷ rest)))
-        → first_place (stands (a ∷ c ∷ [])) (x ∷ y ∷ rest) ≡ cond v 0 (suc (first_place (begins is_set) (flags a c n (y ∷ rest))))
+    go : (v : Bool) → has_prefix (a ∷ c ∷ []) (x ∷ y ∷ rest) ≡ v → cond v 0 (suc (first_place (begins is_set) (flags a c n (y ∷ rest)))) < suc n
+        → (first_place (begins is_set) (flags a c n (y ∷ rest)) < n → first_place (has_prefix (a ∷ c ∷ [])) (y ∷ rest) ≡ first_place (begins is_set) (flags a c n (y ∷ rest)))
+        → first_place (has_prefix (a ∷ c ∷ [])) (x ∷ y ∷ rest) ≡ cond v 0 (suc (first_place (begins is_set) (flags a c n (y ∷ rest))))
     go true t e more = rw t refl
     go false t e more = rw t (ap suc (more (omega arith)))
 
@@ -107,7 +107,7 @@ flags_at_long a c bytes at h =
     length-zip2 {C = ℕ} (λ b d. cond (b == a && d == c) 1 0) (front bytes at) (front bytes (at + 1)) (front_long bytes at (omega arith) ∙ sym (front_long bytes (at + 1) (omega arith))) ∙ front_long bytes at (omega arith)
 
 -- one byte has no pair
-alone : (a c : ℕ) (rest : List ℕ) → length rest ≡ 1 → first_place (stands (a ∷ c ∷ [])) rest ≡ 1
+alone : (a c : ℕ) (rest : List ℕ) → length rest ≡ 1 → first_place (has_prefix (a ∷ c ∷ [])) rest ≡ 1
 alone a c [] h = absurd (omega arith)
 alone a c (x ∷ []) h = by_first (a == x)
   where
@@ -117,11 +117,11 @@ alone a c (x ∷ []) h = by_first (a == x)
 alone a c (x ∷ y ∷ rest) h = absurd (omega arith)
 
 -- the last 65 bytes, of which some were passed over before
-pub last_pairs : (a c : ℕ) (bytes : List ℕ) (at last : ℕ) → PassedTo (stands (a ∷ c ∷ [])) bytes (first_place (stands (a ∷ c ∷ [])) bytes) at
-    → last + 65 ≡ length bytes → last ≤ at → PassedTo (stands (a ∷ c ∷ [])) bytes (first_place (stands (a ∷ c ∷ [])) bytes) last
+pub last_pairs : (a c : ℕ) (bytes : List ℕ) (at last : ℕ) → PassedTo (has_prefix (a ∷ c ∷ [])) bytes (first_place (has_prefix (a ∷ c ∷ [])) bytes) at
+    → last + 65 ≡ length bytes → last ≤ at → PassedTo (has_prefix (a ∷ c ∷ [])) bytes (first_place (has_prefix (a ∷ c ∷ [])) bytes) last
 last_pairs a c bytes at last h ends back =
     let later = h.later in
-    let seen = first_place-drop (stands (a ∷ c ∷ [])) bytes last (omega arith) in
+    let seen = first_place-drop (has_prefix (a ∷ c ∷ [])) bytes last (omega arith) in
     record { within = omega arith; later = omega arith }
 
 -- what the mask of the pairs at a place tells
@@ -146,7 +146,7 @@ module _ (a c : ℕ) (bytes : List ℕ) (at mask : ℕ) (fits : at + 65 ≤ leng
   pub pair_within : mask ≢ 0 → trailing_zeros w64 mask < 64
   pair_within some = (first some).1
 
-  pub pair_found : (answer : ℕ) → PassedTo (stands (a ∷ c ∷ [])) bytes answer at → mask ≢ 0 → at + trailing_zeros w64 mask ≡ answer
+  pub pair_found : (answer : ℕ) → PassedTo (has_prefix (a ∷ c ∷ [])) bytes answer at → mask ≢ 0 → at + trailing_zeros w64 mask ≡ answer
   pair_found answer h some =
       let is = first some in
       let here = found_flags a c 64 (drop at bytes) (omega (arith, fits, length-drop at bytes)) (omega (arith, same, is.0, is.1)) in
@@ -154,17 +154,17 @@ module _ (a c : ℕ) (bytes : List ℕ) (at mask : ℕ) (fits : at + 65 ≤ leng
       omega (arith, same, is.0, here, later)
 
   -- where there is none, the search goes on after 64
-  pub pair_passed : (answer : ℕ) → PassedTo (stands (a ∷ c ∷ [])) bytes answer at → mask ≡ 0 → PassedTo (stands (a ∷ c ∷ [])) bytes answer (at + 64)
+  pub pair_passed : (answer : ℕ) → PassedTo (has_prefix (a ∷ c ∷ [])) bytes answer at → mask ≡ 0 → PassedTo (has_prefix (a ∷ c ∷ [])) bytes answer (at + 64)
   pair_passed answer h none =
       let free = no_mark is_set (flags_at a c bytes at) mask marks none in
       let on = free_flags a c 64 (drop at bytes) (omega (arith, fits, length-drop at bytes)) (sym same ∙ sym free ∙ long) in
       let later = h.later in
-      let there = ap (first_place (stands (a ∷ c ∷ []))) (drop-drop 64 at bytes) in
+      let there = ap (first_place (has_prefix (a ∷ c ∷ []))) (drop-drop 64 at bytes) in
       record { within = omega (arith, fits); later = omega (arith, there, later, on) }
 
   -- no pair is left after the last 65 bytes
-  pub pair_absent : PassedTo (stands (a ∷ c ∷ [])) bytes (first_place (stands (a ∷ c ∷ [])) bytes) at → at + 65 ≡ length bytes → mask ≡ 0
-      → length bytes ≡ first_place (stands (a ∷ c ∷ [])) bytes
+  pub pair_absent : PassedTo (has_prefix (a ∷ c ∷ [])) bytes (first_place (has_prefix (a ∷ c ∷ [])) bytes) at → at + 65 ≡ length bytes → mask ≡ 0
+      → length bytes ≡ first_place (has_prefix (a ∷ c ∷ [])) bytes
   pair_absent h ends none =
       let on = pair_passed _ h none in
       let later = on.later in

@@ -4,7 +4,7 @@ use Rattle.std.specs.Prelude.{nat_eq}
 use Rattle.std.specs.List.{position_or_len, starts_with}
 use Rattle.std.proofs.lemmas.Bool.{cases_Bool, cases_lt, lt-ltb}
 use Rattle.std.proofs.lemmas.List.{drop_more, drop-drop}
-use Rattle.mail_codec.specs.Places.{first_place, place_from, begins, stands, place, least, IsFirstPlace}
+use Rattle.mail_codec.specs.Places.{first_place, place_from, begins, has_prefix, place, least, IsFirstPlace}
 
 -- ---- the least number
 
@@ -130,8 +130,8 @@ first_place-begins test (b ∷ rest) = elim (cases_Bool (test b)) [
 ]
 
 -- a text that stands there, as std's `starts_with` tells it
-pub stands-starts_with : (text bytes : List ℕ) → starts_with nat_eq bytes text ≡ stands text bytes
-stands-starts_with text bytes = refl
+pub has_prefix-starts_with : (text bytes : List ℕ) → starts_with nat_eq bytes text ≡ has_prefix text bytes
+has_prefix-starts_with text bytes = refl
 
 -- ---- at or after a start
 

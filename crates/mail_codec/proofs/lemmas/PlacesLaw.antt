@@ -5,7 +5,7 @@ use Rattle.std.proofs.lemmas.Bool.Decides.{Decides-eqb}
 use Rattle.std.proofs.lemmas.Slice.Eq.{slice_eq-Decides}
 use Rattle.std.proofs.Math.Seq.{take-nil}
 use Rattle.std.proofs.lemmas.List.{drop-drop, length-drop, drop_all}
-use Rattle.mail_codec.specs.Places.{first_place, place_from, begins, stands, place, byte_place, text_place, HasByteAt, HasTextAt, IsFirstOf, IsFirstPlaceFrom}
+use Rattle.mail_codec.specs.Places.{first_place, place_from, begins, has_prefix, place, byte_place, text_place, HasByteAt, HasTextAt, IsFirstOf, IsFirstPlaceFrom}
 use Rattle.mail_codec.proofs.lemmas.Places.{true_not_false, first_place-passes, first_place-before, begins-at, place_from_bounds}
 
 -- ---- the least place at or after a start
@@ -89,9 +89,9 @@ byte_place-says bytes byte = place_says (HasByteAt bytes byte) (begins (λ b. b 
 
 -- ---- a text
 
-stands_says : (text bytes : List ℕ) → (stands text bytes ≡ true → take (length text) bytes ≡ text) × (take (length text) bytes ≡ text → stands text bytes ≡ true)
-stands_says text bytes =
-    let decides = slice_eq-Decides Decides-eqb text (take (length text) bytes) (stands text bytes) refl in
+has_prefix_says : (text bytes : List ℕ) → (has_prefix text bytes ≡ true → take (length text) bytes ≡ text) × (take (length text) bytes ≡ text → has_prefix text bytes ≡ true)
+has_prefix_says text bytes =
+    let decides = slice_eq-Decides Decides-eqb text (take (length text) bytes) (has_prefix text bytes) refl in
     (λ h. sym (decides.0 h), λ e. decides.1 (sym e))
 
 -- a text that stands at a place has the place within the bytes
@@ -113,6 +113,6 @@ text_place-says bytes (b ∷ rest) found =
     let text : List ℕ = b ∷ rest in
     let some : text ≢ [] = λ e. cc e in
     let not_empty : (length text == 0) ≡ false = ne_eqb (length text) 0 (λ e. absurd (omega arith)) in
-    rw not_empty (place_says (HasTextAt bytes text) (stands text) bytes
-    (λ p has. (text_within bytes text p some has.1, (stands_says text (drop p bytes)).1 has.1))
-    (λ p has. (some, (stands_says text (drop p bytes)).0 has.1)) found)
+    rw not_empty (place_says (HasTextAt bytes text) (has_prefix text) bytes
+    (λ p has. (text_within bytes text p some has.1, (has_prefix_says text (drop p bytes)).1 has.1))
+    (λ p has. (some, (has_prefix_says text (drop p bytes)).0 has.1)) found)

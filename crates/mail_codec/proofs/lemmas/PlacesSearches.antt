@@ -7,7 +7,7 @@ use Rattle.std.proofs.lemmas.Bool.{and_parts, cases_Bool, cases_lt, lt-ltb, le-l
 use Rattle.std.proofs.lemmas.List.{drop-drop, length-drop, length-take-le, take_all}
 use Rattle.std.proofs.lemmas.Nat.{le_or_l, le_or_r}
 use Rattle.std.proofs.Math.Nat.{mul-suc}
-use Rattle.mail_codec.specs.Places.{first_place, begins, place, stands, text_place}
+use Rattle.mail_codec.specs.Places.{first_place, begins, place, has_prefix, text_place}
 use Rattle.std.proofs.lemmas.Bool.Decides.{nat_tests, Decides-eqb}
 use Rattle.mail_codec.specs.private.Vectors.{lane_mask}
 use Rattle.mail_codec.specs.private.Words.{IsMask}
@@ -145,15 +145,15 @@ PassedTo-weaker weak strong implies bytes rest answer at n h is place =
 
 -- ---- a text found by its first byte
 
-stands_begins : (needle rest : List ℕ) → 0 < length needle → stands needle rest ≡ true → begins (λ b. b == get_or needle 0 0) rest ≡ true
-stands_begins [] rest some h = absurd (omega arith)
-stands_begins (n ∷ needle) [] some h = h
-stands_begins (n ∷ needle) (b ∷ rest) some h = (Decides-eqb b n).1 (sym ((Decides-eqb n b).0 (and_parts (n == b) _ h).0))
+has_prefix_begins : (needle rest : List ℕ) → 0 < length needle → has_prefix needle rest ≡ true → begins (λ b. b == get_or needle 0 0) rest ≡ true
+has_prefix_begins [] rest some h = absurd (omega arith)
+has_prefix_begins (n ∷ needle) [] some h = h
+has_prefix_begins (n ∷ needle) (b ∷ rest) some h = (Decides-eqb b n).1 (sym ((Decides-eqb n b).0 (and_parts (n == b) _ h).0))
 
 -- up to the first place of its first byte, the text stands nowhere
-pub PassedTo-first_byte : (needle bytes rest : List ℕ) (answer at n : ℕ) → 0 < length needle → PassedTo (stands needle) bytes answer at
-    → rest ≡ drop at bytes → n ≡ first_place (begins (λ b. b == get_or needle 0 0)) rest → PassedTo (stands needle) bytes answer (at + n)
-PassedTo-first_byte needle bytes rest answer at n some = PassedTo-weaker (begins (λ b. b == get_or needle 0 0)) (stands needle) (λ r. stands_begins needle r some) bytes rest answer at n
+pub PassedTo-first_byte : (needle bytes rest : List ℕ) (answer at n : ℕ) → 0 < length needle → PassedTo (has_prefix needle) bytes answer at
+    → rest ≡ drop at bytes → n ≡ first_place (begins (λ b. b == get_or needle 0 0)) rest → PassedTo (has_prefix needle) bytes answer (at + n)
+PassedTo-first_byte needle bytes rest answer at n some = PassedTo-weaker (begins (λ b. b == get_or needle 0 0)) (has_prefix needle) (λ r. has_prefix_begins needle r some) bytes rest answer at n
 
 -- what a place that was found says of the first place, and what it says that none was found
 pub place_some : (test : List ℕ → Bool) (bytes : List ℕ) (p : ℕ) → Some p ≡ place test bytes → (p ≡ first_place test bytes) × (first_place test bytes < length bytes)
@@ -170,8 +170,8 @@ place_none test bytes h = elim (cases_lt (first_place test bytes) (length bytes)
 
 -- a place of the text's first byte
 pub candidate : (needle bytes rest : List ℕ) (answer first at passed : ℕ) → 0 < length needle → first ≡ get_or needle 0 0
-    → PassedTo (stands needle) bytes answer at → rest ≡ drop at bytes → Some passed ≡ place (begins (λ b. b == first)) rest
-    → PassedTo (stands needle) bytes answer (at + passed) × (at + passed < length bytes)
+    → PassedTo (has_prefix needle) bytes answer at → rest ≡ drop at bytes → Some passed ≡ place (begins (λ b. b == first)) rest
+    → PassedTo (has_prefix needle) bytes answer (at + passed) × (at + passed < length bytes)
 candidate needle bytes rest answer first at passed some is h there found =
     let p = place_some (begins (λ b. b == first)) rest passed found in
     let same : Path (ℕ → Bool) (λ b. b == first) (λ b. b == get_or needle 0 0) = λ i b. b == is i in
@@ -182,16 +182,16 @@ candidate needle bytes rest answer first at passed some is h there found =
 
 -- no more place of the text's first byte
 pub no_candidate : (needle bytes rest : List ℕ) (first at : ℕ) → 0 < length needle → first ≡ get_or needle 0 0
-    → PassedTo (stands needle) bytes (first_place (stands needle) bytes) at → rest ≡ drop at bytes → None ≡ place (begins (λ b. b == first)) rest
-    → first_place (stands needle) bytes ≡ length bytes
+    → PassedTo (has_prefix needle) bytes (first_place (has_prefix needle) bytes) at → rest ≡ drop at bytes → None ≡ place (begins (λ b. b == first)) rest
+    → first_place (has_prefix needle) bytes ≡ length bytes
 no_candidate needle bytes rest first at some is h there none =
     let p = place_none (begins (λ b. b == first)) rest none in
     let same : Path (ℕ → Bool) (λ b. b == first) (λ b. b == get_or needle 0 0) = λ i b. b == is i in
     let len = length-drop at bytes in
     let l = ap length there in
     let w = h.within in
-    let on = PassedTo-first_byte needle bytes rest (first_place (stands needle) bytes) at (length rest) some h there (sym p ∙ ap (λ t. first_place (begins t) rest) same) in
-    let le = first_place-≤ (stands needle) bytes in
+    let on = PassedTo-first_byte needle bytes rest (first_place (has_prefix needle) bytes) at (length rest) some h there (sym p ∙ ap (λ t. first_place (begins t) rest) same) in
+    let le = first_place-≤ (has_prefix needle) bytes in
     let later = on.later in
     omega arith
 
@@ -200,14 +200,14 @@ not_empty : (text : List ℕ) → 0 < length text → (length text == 0) ≡ fal
 not_empty [] h = absurd (omega arith)
 not_empty (b ∷ text) h = grind (arith, nat_tests)
 
-pub text_found : (needle bytes : List ℕ) (p : ℕ) → 0 < length needle → PassedTo (stands needle) bytes (first_place (stands needle) bytes) p
-    → p < length bytes → stands needle (drop p bytes) ≡ true → Some p ≡ text_place bytes needle
+pub text_found : (needle bytes : List ℕ) (p : ℕ) → 0 < length needle → PassedTo (has_prefix needle) bytes (first_place (has_prefix needle) bytes) p
+    → p < length bytes → has_prefix needle (drop p bytes) ≡ true → Some p ≡ text_place bytes needle
 text_found needle bytes p some h low here =
-    rw (not_empty needle some) (sym (place-found (stands needle) bytes p h low here))
+    rw (not_empty needle some) (sym (place-found (has_prefix needle) bytes p h low here))
 
-pub text_absent : (needle bytes : List ℕ) → 0 < length needle → first_place (stands needle) bytes ≡ length bytes → None ≡ text_place bytes needle
+pub text_absent : (needle bytes : List ℕ) → 0 < length needle → first_place (has_prefix needle) bytes ≡ length bytes → None ≡ text_place bytes needle
 text_absent needle bytes some e =
-    rw (not_empty needle some, le-ltb (first_place (stands needle) bytes) (length bytes) (omega arith)) refl
+    rw (not_empty needle some, le-ltb (first_place (has_prefix needle) bytes) (length bytes) (omega arith)) refl
 
 pub first_item : (needle : List ℕ) (x : ℕ) → Some x ≡ slice_get needle 0 → (0 < length needle) × (x ≡ get_or needle 0 0)
 first_item [] x h = absurd (cc)

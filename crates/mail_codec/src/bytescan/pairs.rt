@@ -3,7 +3,7 @@
 //! Their vectors have 64 lanes, where the others have sixteen: a processor whose vectors are shorter
 //! takes several for each, and there is one branch for 64 bytes.
 ghost use Rattle.std.specs.Prelude.{◌≡◌, ◌+◌, ◌<◌, ◌≤◌, ◌∷◌, [], length, take, drop};
-ghost use Rattle.mail_codec.specs.Places.{first_place, stands};
+ghost use Rattle.mail_codec.specs.Places.{first_place, has_prefix};
 ghost use Rattle.mail_codec.specs.private.Vectors.{is_set, lane_mask, pair_flags};
 
 use crate::vectors::marks::pair_lanes;
@@ -16,7 +16,7 @@ pub(super) const WIDE: usize = 64;
 /// last pair of vectors ends with the bytes, and some of these may have been looked at before.
 pub(super) fn pair_len(bytes: &[u8], first: u8, second: u8) -> usize
     requires { 64 < length bytes.now }
-    ensures least { result ≡ first_place (stands (first ∷ second ∷ [])) bytes.now }
+    ensures least { result ≡ first_place (has_prefix (first ∷ second ∷ [])) bytes.now }
     ensures bounds { result ≤ length bytes.now }
 {
     let last = bytes.len() - WIDE - 1;

@@ -12,12 +12,12 @@ use Rattle.mailparse.specs.Mail.{Node}
 use Rattle.mail_data.specs.Archive.{ids_of, parents, without_repeats}
 
 -- an id stands among others
-abbrev pub stands_among : List ℕ → List (List ℕ) → Bool
-stands_among id ids = list_any (λ other. bytes_eq other id) ids
+abbrev pub is_among_ids : List ℕ → List (List ℕ) → Bool
+is_among_ids id ids = list_any (λ other. bytes_eq other id) ids
 
 -- an id, unless it stands among others
 abbrev pub unless_among : List ℕ → List (List ℕ) → List (List ℕ)
-unless_among id ids = cond (stands_among id ids) [] (id ∷ [])
+unless_among id ids = cond (is_among_ids id ids) [] (id ∷ [])
 
 -- one id more
 pub without_repeats-push : (ids : List (List ℕ)) (id : List ℕ) → without_repeats (ids ++ id ∷ []) ≡ without_repeats ids ++ unless_among id ids
@@ -25,17 +25,17 @@ without_repeats-push [] id = refl
 without_repeats-push (first ∷ ids) id =
     ap (λ (l : List (List ℕ)). first ∷ filter (λ other. not (bytes_eq first other)) l) (without_repeats-push ids id)
     ∙ ap (λ (l : List (List ℕ)). first ∷ l) (filter-append (λ other. not (bytes_eq first other)) (without_repeats ids) (unless_among id ids))
-    ∙ ap (λ (l : List (List ℕ)). first ∷ (filter (λ other. not (bytes_eq first other)) (without_repeats ids) ++ l)) (pick (bytes_eq first id) (stands_among id ids) refl)
+    ∙ ap (λ (l : List (List ℕ)). first ∷ (filter (λ other. not (bytes_eq first other)) (without_repeats ids) ++ l)) (pick (bytes_eq first id) (is_among_ids id ids) refl)
   where
-    pick : (is stands : Bool) → bytes_eq first id ≡ is → filter (λ other. not (bytes_eq first other)) (cond stands [] (id ∷ [])) ≡ cond (is || stands) [] (id ∷ [])
+    pick : (is is_kept : Bool) → bytes_eq first id ≡ is → filter (λ other. not (bytes_eq first other)) (cond is_kept [] (id ∷ [])) ≡ cond (is || is_kept) [] (id ∷ [])
     pick true true e = refl
     pick false true e = refl
     pick true false e = ap (λ b. cond (not b) (id ∷ []) []) e
     pick false false e = ap (λ b. cond (not b) (id ∷ []) []) e
 
 -- what stands among ids and one more
-pub stands_among-push : (ids : List (List ℕ)) (id other : List ℕ) → stands_among other (ids ++ id ∷ []) ≡ cond (bytes_eq id other) true (stands_among other ids)
-stands_among-push ids id other = list_any-append (λ one. bytes_eq one other) ids (id ∷ []) ∙ pick (stands_among other ids) (bytes_eq id other)
+pub is_among_ids-push : (ids : List (List ℕ)) (id other : List ℕ) → is_among_ids other (ids ++ id ∷ []) ≡ cond (bytes_eq id other) true (is_among_ids other ids)
+is_among_ids-push ids id other = list_any-append (λ one. bytes_eq one other) ids (id ∷ []) ∙ pick (is_among_ids other ids) (bytes_eq id other)
   where
     pick : (a b : Bool) → (a || (b || false)) ≡ cond b true a
     pick true true = refl
@@ -80,23 +80,23 @@ without_repeats-distinct (id ∷ ids) = (apart id (without_repeats ids), distinc
 
 -- ---- the ids that were kept
 
-pub kept-new : (ids kept new : List (List ℕ)) (id : List ℕ) (added : Bool) → kept ≡ without_repeats ids → added ≡ not (stands_among id ids) → added ≡ true → new ≡ kept ++ id ∷ []
+pub kept-new : (ids kept new : List (List ℕ)) (id : List ℕ) (added : Bool) → kept ≡ without_repeats ids → added ≡ not (is_among_ids id ids) → added ≡ true → new ≡ kept ++ id ∷ []
     → new ≡ without_repeats (ids ++ id ∷ [])
 kept-new ids kept new id added before is holds push =
-    push ∙ ap (λ (l : List (List ℕ)). l ++ id ∷ []) before ∙ ap (λ b. without_repeats ids ++ cond b [] (id ∷ [])) (sym (not-true (stands_among id ids) (sym is ∙ holds)))
+    push ∙ ap (λ (l : List (List ℕ)). l ++ id ∷ []) before ∙ ap (λ b. without_repeats ids ++ cond b [] (id ∷ [])) (sym (not-true (is_among_ids id ids) (sym is ∙ holds)))
     ∙ sym (without_repeats-push ids id)
 
-pub kept-old : (ids kept : List (List ℕ)) (id : List ℕ) (added : Bool) → kept ≡ without_repeats ids → added ≡ not (stands_among id ids) → added ≡ false
+pub kept-old : (ids kept : List (List ℕ)) (id : List ℕ) (added : Bool) → kept ≡ without_repeats ids → added ≡ not (is_among_ids id ids) → added ≡ false
     → kept ≡ without_repeats (ids ++ id ∷ [])
 kept-old ids kept id added before is fails =
-    before ∙ sym (append-nil (without_repeats ids)) ∙ ap (λ b. without_repeats ids ++ cond b [] (id ∷ [])) (sym (not-false (stands_among id ids) (sym is ∙ fails)))
+    before ∙ sym (append-nil (without_repeats ids)) ∙ ap (λ b. without_repeats ids ++ cond b [] (id ∷ [])) (sym (not-false (is_among_ids id ids) (sym is ∙ fails)))
     ∙ sym (without_repeats-push ids id)
 
 -- what was seen, after one id more
-pub seen-next : (ids : List (List ℕ)) (id key q : List ℕ) (old new : Bool) → key ≡ id → new ≡ cond (bytes_eq key q) true old → old ≡ stands_among q ids
-    → new ≡ stands_among q (ids ++ id ∷ [])
+pub seen-next : (ids : List (List ℕ)) (id key q : List ℕ) (old new : Bool) → key ≡ id → new ≡ cond (bytes_eq key q) true old → old ≡ is_among_ids q ids
+    → new ≡ is_among_ids q (ids ++ id ∷ [])
 seen-next ids id key q old new same is before =
-    is ∙ ap (λ (k : List ℕ). cond (bytes_eq k q) true old) same ∙ ap (cond (bytes_eq id q) true) before ∙ sym (stands_among-push ids id q)
+    is ∙ ap (λ (k : List ℕ). cond (bytes_eq k q) true old) same ∙ ap (cond (bytes_eq id q) true) before ∙ sym (is_among_ids-push ids id q)
 
 -- ---- the parents of a mail
 

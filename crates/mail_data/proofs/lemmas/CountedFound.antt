@@ -11,7 +11,7 @@ use Rattle.mail_data.specs.Lines.{after_empty_line, after_line, empty_line, is_e
 use Rattle.mail_data.specs.Mailbox.{Entry, after_by, is_before_text, mail_length, next_by, next_entry}
 use Rattle.mail_data.specs.Separator.{is_separator}
 use Rattle.mail_data.proofs.lemmas.Lines.{first_place-more, has_feed, is_line, line_length-more, line_length-some_bytes, starts-stays}
-use Rattle.mail_data.proofs.lemmas.Mailbox.{mail_length-≤, mails, stands-some}
+use Rattle.mail_data.proofs.lemmas.Mailbox.{mail_length-≤, mails, has_prefix-some}
 use Rattle.mail_data.proofs.lemmas.MailboxFound.{before-text, found, separator-stays, settled-by}
 use Rattle.mail_data.proofs.lemmas.MailboxJoined.{Joined, Stays, drop-joined, joined-by}
 
@@ -175,7 +175,7 @@ kept bytes more known marked past =
     let body = after_line bytes in
     let rest = after_by counted_length body in
     let next = next_by counted_length bytes in
-    let some = line_length-some_bytes next (stands-some next marked) in
+    let some = line_length-some_bytes next (has_prefix-some next marked) in
     let next_size = length-drop (empty_line rest) rest in
     let rest_size = length-drop (counted_length body) body in
     let body_size = length-drop (line_length bytes) bytes in

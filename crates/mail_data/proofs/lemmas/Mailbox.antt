@@ -72,15 +72,15 @@ after_opens bytes = elim (cases_Bool (nat_lt (mail_length bytes) (length bytes))
       ap (λ (r : List ℕ). opens (after_empty_line r)) none ∙ ap opens after_empty_line-nil
 ]
 
-pub stands-some : (bytes : List ℕ) → is_separator bytes ≡ true → 0 < length bytes
+pub has_prefix-some : (bytes : List ℕ) → is_separator bytes ≡ true → 0 < length bytes
 unfolding is_separator
-stands-some [] h = absurd (false≢true h)
-stands-some (b ∷ bytes) h = omega arith
+has_prefix-some [] h = absurd (false≢true h)
+has_prefix-some (b ∷ bytes) h = omega arith
 
 -- each mail takes some bytes
 pub next-shorter : (length_of : List ℕ → ℕ) (bytes : List ℕ) → is_separator bytes ≡ true → length (next_by length_of bytes) < length bytes
 next-shorter length_of bytes h =
-    let low = stands-some bytes h in
+    let low = has_prefix-some bytes h in
     let some = line_length-some_bytes bytes low in
     let body = after_line bytes in
     let after = after_by length_of body in

@@ -4,7 +4,7 @@ use Rattle.std.specs.Prelude.{nat_lt, ◌==◌}
 use Rattle.std.specs.Cmp.Lexicographic.{same_text}
 use Rattle.std.proofs.lemmas.Bool.{and_parts, cases_Bool, cases_lt, cond-false, cond_both, eqb-true, false≢true, ltb-true, ne_eqb}
 use Rattle.std.proofs.lemmas.List.{append_assoc, drop-append-le, drop-drop, drop_all, take-append-drop}
-use Rattle.mail_codec.specs.Places.{begins, first_place, stands}
+use Rattle.mail_codec.specs.Places.{begins, first_place, has_prefix}
 use Rattle.mail_codec.proofs.lemmas.Places.{first_place-passes, least-passes, true_not_false}
 use Rattle.mail_data.specs.Lines.{after_empty_line, after_line, empty_line, line_length, line_place, starts_line}
 use Rattle.mail_data.specs.Mailbox.{EndsEmpty, Entry, IsEmptyLine, after_mail, ends_mail, entries, entries_by, entry_at, entry_by, front_length, has_front, is_before_text, mail_length, next_by, next_entry, settled_entry}
@@ -42,9 +42,9 @@ Shape rest n = nat_lt 0 n ≡ true → IsEmptyLine (take n rest)
 empty_line-shape : (rest : List ℕ) → Shape rest (empty_line rest)
 unfolding empty_line
 empty_line-shape rest =
-    cond_both (stands (10 ∷ []) rest) 1 (cond (stands (13 ∷ 10 ∷ []) rest) 2 0) (Shape rest)
+    cond_both (has_prefix (10 ∷ []) rest) 1 (cond (has_prefix (13 ∷ 10 ∷ []) rest) 2 0) (Shape rest)
     (λ lf some. inl (sym (same_text (10 ∷ []) (take 1 rest) (sym lf))))
-    (λ other. cond_both (stands (13 ∷ 10 ∷ []) rest) 2 0 (Shape rest)
+    (λ other. cond_both (has_prefix (13 ∷ 10 ∷ []) rest) 2 0 (Shape rest)
     (λ cr some. inr (sym (same_text (13 ∷ 10 ∷ []) (take 2 rest) (sym cr)))) (λ none some. absurd (false≢true some)))
 
 -- ---- the bytes of the mail at the front, where a separator follows it

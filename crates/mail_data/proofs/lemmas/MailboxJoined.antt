@@ -5,7 +5,7 @@ use Rattle.std.specs.List.{list_any}
 use Rattle.std.proofs.lemmas.Bool.{and_left, cases_Bool, cases_lt, eqb-true, or_parts, or_right}
 use Rattle.std.proofs.lemmas.List.{append_assoc, drop-append-le, drop-drop, drop_all, take-append-le}
 use Rattle.std.proofs.Math.Seq.{drop-append_seam, drop-append-add}
-use Rattle.mail_codec.specs.Places.{begins, first_place, is_empty, stands}
+use Rattle.mail_codec.specs.Places.{begins, first_place, is_empty, has_prefix}
 use Rattle.mail_codec.proofs.lemmas.Places.{first_place-past, least-before, least-is, least-passes, true_not_false}
 use Rattle.mail_data.specs.Lines.{after_empty_line, after_line, empty_line, line_length, line_place, starts_line}
 use Rattle.mail_data.specs.Mailbox.{EndsEmpty, Entry, IsEmptyLine, after_by, after_mail, ends_mail, entries, entries_from, entry_at, entry_by, mail_length, next_by, next_entry}
@@ -84,23 +84,23 @@ joined-by length_of bytes more separator line mail end =
     record { separator = separator; entry = same; next = ap after_empty_line rest_more ∙ drop-joined empty_line rest more end }
 
 -- a text without a LF stands in bytes with a LF, or does not, whatever follows them
-stands-more : (text bytes more : List ℕ) → list_any (λ t. t == 10) text ≡ false → first_place (begins (λ b. b == 10)) bytes < length bytes
-    → stands text (bytes ++ more) ≡ stands text bytes
-stands-more [] bytes more none low = refl
-stands-more (t ∷ text) [] more none low = absurd (omega arith)
-stands-more (t ∷ text) (b ∷ bytes) more none low = elim (cases_Bool (nat_eq t b)) [
+has_prefix-more : (text bytes more : List ℕ) → list_any (λ t. t == 10) text ≡ false → first_place (begins (λ b. b == 10)) bytes < length bytes
+    → has_prefix text (bytes ++ more) ≡ has_prefix text bytes
+has_prefix-more [] bytes more none low = refl
+has_prefix-more (t ∷ text) [] more none low = absurd (omega arith)
+has_prefix-more (t ∷ text) (b ∷ bytes) more none low = elim (cases_Bool (nat_eq t b)) [
   | inl e ↦
       let parts = or_parts (t == 10) (list_any (λ t. t == 10) text) none in
       let past = first_place-past (begins (λ b. b == 10)) b bytes (ap (λ (x : ℕ). x == 10) (sym (eqb-true t b e)) ∙ parts.0) in
-      ap (λ (f : Bool). nat_eq t b && f) (stands-more text bytes more parts.1 (omega arith))
-  | inr n ↦ and_left (nat_eq t b) (stands text (bytes ++ more)) n ∙ sym (and_left (nat_eq t b) (stands text bytes) n)
+      ap (λ (f : Bool). nat_eq t b && f) (has_prefix-more text bytes more parts.1 (omega arith))
+  | inr n ↦ and_left (nat_eq t b) (has_prefix text (bytes ++ more)) n ∙ sym (and_left (nat_eq t b) (has_prefix text bytes) n)
 ]
 
 pub is_separator-more : (bytes more : List ℕ) → first_place (begins (λ b. b == 10)) bytes < length bytes → is_separator (bytes ++ more) ≡ is_separator bytes
 unfolding is_separator
 is_separator-more bytes more low =
-    ap (λ (t : Bool). t && has_time (take (line_length (bytes ++ more)) (bytes ++ more))) (stands-more mark bytes more refl low)
-    ∙ ap (λ (line : List ℕ). stands mark bytes && has_time line)
+    ap (λ (t : Bool). t && has_time (take (line_length (bytes ++ more)) (bytes ++ more))) (has_prefix-more mark bytes more refl low)
+    ∙ ap (λ (line : List ℕ). has_prefix mark bytes && has_time line)
     (take-joined line_length bytes more (record { same = line_length-more bytes more low; within = line_length-≤ bytes }))
 
 line-stays : (front more : List ℕ) → Stays line_length (closed front) more

@@ -10,7 +10,7 @@ use Rattle.mail_data.specs.Lines.{after_line}
 use Rattle.mail_data.specs.Mailbox.{EndsEmpty, Entry, IsEmptyLine, entries, entries_from, entry_at, entry_bytes, front_length, mail_length, next_entry}
 use Rattle.mail_data.specs.MailboxParts.{Placed, begins_in, in_range, placed, placed_at, placed_from}
 use Rattle.mail_data.specs.Separator.{is_separator}
-use Rattle.mail_data.proofs.lemmas.Mailbox.{after_opens, entries-here, entries-none, entries-some, entry-spans, front-opens, front_length-none, mailbox-spans, next-shorter, nothing, opens, stands-some}
+use Rattle.mail_data.proofs.lemmas.Mailbox.{after_opens, entries-here, entries-none, entries-some, entry-spans, front-opens, front_length-none, mailbox-spans, next-shorter, nothing, opens, has_prefix-some}
 use Rattle.mail_data.proofs.lemmas.MailboxFound.{after-front, cut-found, front-next}
 use Rattle.mail_data.proofs.lemmas.MailboxJoined.{all-joined, ends-later, entries-joined, front-joined, unmarked-nil}
 use Rattle.mail_data.proofs.lemmas.MailboxParts.{front_length-≤}
@@ -154,7 +154,7 @@ next-drop bytes p =
 
 search : (n : ℕ) (bytes : List ℕ) (start p low to : ℕ) → length (drop p bytes) ≤ n → 3 ≤ low → is_separator (drop p bytes) ≡ true → p ≤ length bytes → Begins bytes p
     → NoneOr (placed_from (start + p) (entries_from (drop p bytes))) (start + low) to bytes low
-search zero bytes start p low to fits some is within before = let more = stands-some (drop p bytes) is in absurd (omega arith)
+search zero bytes start p low to fits some is within before = let more = has_prefix-some (drop p bytes) is in absurd (omega arith)
 search (suc n) bytes start p low to fits some is within before = elim (cases_lt p low) [
   | inr past ↦ behind past before
   | inl lower ↦
@@ -296,11 +296,11 @@ range-cases front rest to smaller = elim (search-all rest (length front) 3 to (o
 
 range-same : (n : ℕ) (front rest : List ℕ) (to : ℕ) → length rest ≤ n → Same front rest to
 range-same zero front rest to fits = range-cases front rest to (λ p some mark.
-    let more = stands-some (drop p rest) mark.marked in
+    let more = has_prefix-some (drop p rest) mark.marked in
     let left = length-drop p rest in
     absurd (omega arith))
 range-same (suc n) front rest to fits = range-cases front rest to (λ p some mark.
-    let more = stands-some (drop p rest) mark.marked in
+    let more = has_prefix-some (drop p rest) mark.marked in
     let left = length-drop p rest in
     let size = length-take-le p rest mark.within in
     range-step front rest to p some mark (range-same n front (take p rest) to (omega arith)))

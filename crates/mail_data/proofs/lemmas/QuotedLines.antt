@@ -4,7 +4,7 @@ use Rattle.std.specs.Prelude.{◌==◌, min, nat_eq}
 use Rattle.std.specs.List.{list_any, prefix_len}
 use Rattle.std.proofs.lemmas.Bool.{cases_Bool, eqb-true, and_left, and_parts, and_right, or_parts, or_right}
 use Rattle.std.proofs.lemmas.List.{append_assoc, take_rest}
-use Rattle.mail_codec.specs.Places.{begins, first_place, stands}
+use Rattle.mail_codec.specs.Places.{begins, first_place, has_prefix}
 use Rattle.mail_data.specs.Lines.{after_line, line_length, starts_line}
 use Rattle.mail_data.specs.QuotedLines.{first_line, is_marked, is_quoted, quote_length, quoted, quoted_from, unquoted, unquoted_from, unquoted_line}
 use Rattle.mail_data.specs.Separator.{mark}
@@ -83,17 +83,17 @@ line-shorter rest n none is fails same =
 -- ---- a quoted mail
 
 -- a text without a LF stands where it stood
-stands-quoted : (text rest : List ℕ) → list_any (λ t. t == 10) text ≡ false → stands text (quoted_from false rest) ≡ stands text rest
-stands-quoted [] rest h = refl
-stands-quoted (t ∷ text) [] h = refl
-stands-quoted (t ∷ text) (b ∷ rest) h = elim (cases_Bool (nat_eq t b)) [
+has_prefix-quoted : (text rest : List ℕ) → list_any (λ t. t == 10) text ≡ false → has_prefix text (quoted_from false rest) ≡ has_prefix text rest
+has_prefix-quoted [] rest h = refl
+has_prefix-quoted (t ∷ text) [] h = refl
+has_prefix-quoted (t ∷ text) (b ∷ rest) h = elim (cases_Bool (nat_eq t b)) [
   | inl e ↦
       let same : t ≡ b = eqb-true t b e in
       let none = or_parts (t == 10) (list_any (λ t. t == 10) text) h in
       let no_feed : (b == 10) ≡ false = ap (λ (x : ℕ). x == 10) (sym same) ∙ none.0 in
-      ap (λ (f : Bool). nat_eq t b && stands text (quoted_from f rest)) no_feed
-      ∙ ap (λ (f : Bool). nat_eq t b && f) (stands-quoted text rest none.1)
-  | inr n ↦ and_left (nat_eq t b) (stands text (quoted_from (b == 10) rest)) n ∙ sym (and_left (nat_eq t b) (stands text rest) n)
+      ap (λ (f : Bool). nat_eq t b && has_prefix text (quoted_from f rest)) no_feed
+      ∙ ap (λ (f : Bool). nat_eq t b && f) (has_prefix-quoted text rest none.1)
+  | inr n ↦ and_left (nat_eq t b) (has_prefix text (quoted_from (b == 10) rest)) n ∙ sym (and_left (nat_eq t b) (has_prefix text rest) n)
 ]
 
 marked-past : (b : ℕ) (rest : List ℕ) → (b == 62) ≡ true → is_marked (b ∷ rest) ≡ is_marked rest
@@ -101,11 +101,11 @@ unfolding is_marked quote_length
 marked-past b rest e =
     let n = prefix_len (λ b. b == 62) rest in
     let one : 1 + n ≡ suc n = omega arith in
-    ap (λ (t : Bool). stands mark (drop (cond t (1 + n) 0) (b ∷ rest))) e ∙ ap (λ (k : ℕ). stands mark (drop k (b ∷ rest))) one
+    ap (λ (t : Bool). has_prefix mark (drop (cond t (1 + n) 0) (b ∷ rest))) e ∙ ap (λ (k : ℕ). has_prefix mark (drop k (b ∷ rest))) one
 
-marked-here : (b : ℕ) (rest : List ℕ) → (b == 62) ≡ false → is_marked (b ∷ rest) ≡ stands mark (b ∷ rest)
+marked-here : (b : ℕ) (rest : List ℕ) → (b == 62) ≡ false → is_marked (b ∷ rest) ≡ has_prefix mark (b ∷ rest)
 unfolding is_marked quote_length
-marked-here b rest e = ap (λ (t : Bool). stands mark (drop (cond t (1 + prefix_len (λ b. b == 62) rest) 0) (b ∷ rest))) e
+marked-here b rest e = ap (λ (t : Bool). has_prefix mark (drop (cond t (1 + prefix_len (λ b. b == 62) rest) 0) (b ∷ rest))) e
 
 marked-quoted : (rest : List ℕ) → is_marked (quoted_from false rest) ≡ is_marked rest
 marked-quoted [] = refl
@@ -113,7 +113,7 @@ marked-quoted (b ∷ rest) = elim (cases_Bool (b == 62)) [
   | inl e ↦
       marked-past b (quoted_from (b == 10) rest) e ∙ ap (λ (f : Bool). is_marked (quoted_from f rest)) (quote-no_feed b e) ∙ marked-quoted rest
       ∙ sym (marked-past b rest e)
-  | inr n ↦ marked-here b (quoted_from (b == 10) rest) n ∙ stands-quoted mark (b ∷ rest) refl ∙ sym (marked-here b rest n)
+  | inr n ↦ marked-here b (quoted_from (b == 10) rest) n ∙ has_prefix-quoted mark (b ∷ rest) refl ∙ sym (marked-here b rest n)
 ]
 
 returns : (starts : Bool) (bytes : List ℕ) → unquoted_from starts (quoted_from starts bytes) ≡ bytes

@@ -7,7 +7,7 @@ use Rattle.std.proofs.lemmas.Bool.{cond-true, cond-false, cases_lt, cases_eq, ca
 use Rattle.std.proofs.lemmas.Bool.Decides.{Decides-eqb}
 use Rattle.std.proofs.lemmas.List.{drop_all}
 use Rattle.std.proofs.lemmas.Slice.Eq.{slice_eq-Decides}
-use Rattle.mail_codec.specs.Places.{begins, stands, byte_place, least, HasByteAt, IsFirstOf}
+use Rattle.mail_codec.specs.Places.{begins, has_prefix, byte_place, least, HasByteAt, IsFirstOf}
 use Rattle.mail_codec.proofs.lemmas.Places.{begins-at, least-before, true_not_false}
 use Rattle.mail_codec.proofs.lemmas.PlacesLaw.{byte_place-says}
 use Rattle.mailparse.specs.Header.{is_line_feed}
@@ -25,11 +25,11 @@ byte-from : (bytes : List ℕ) (b p : ℕ) → begins (λ x. x == b) (drop p byt
 byte-from bytes b p h = ⊎_elim (λ low. (low, eqb-true _ b (sym (begins-at (λ x. x == b) bytes p low) ∙ h)))
     (λ high. absurd (false≢true (sym (ap (begins (λ x. x == b)) (drop_all p bytes high)) ∙ h))) (cases_lt p (length bytes))
 
-stands-there : (text bytes : List ℕ) → take (length text) bytes ≡ text → stands text bytes ≡ true
-stands-there text bytes e = (slice_eq-Decides Decides-eqb text (take (length text) bytes) (stands text bytes) refl).1 (sym e)
+has_prefix-there : (text bytes : List ℕ) → take (length text) bytes ≡ text → has_prefix text bytes ≡ true
+has_prefix-there text bytes e = (slice_eq-Decides Decides-eqb text (take (length text) bytes) (has_prefix text bytes) refl).1 (sym e)
 
-stands-from : (text bytes : List ℕ) → stands text bytes ≡ true → take (length text) bytes ≡ text
-stands-from text bytes h = sym ((slice_eq-Decides Decides-eqb text (take (length text) bytes) (stands text bytes) refl).0 h)
+has_prefix-from : (text bytes : List ℕ) → has_prefix text bytes ≡ true → take (length text) bytes ≡ text
+has_prefix-from text bytes h = sym ((slice_eq-Decides Decides-eqb text (take (length text) bytes) (has_prefix text bytes) refl).0 h)
 
 -- a byte of the rest from a place on
 rest-byte : (bytes : List ℕ) (b q k : ℕ) → HasByteAt (drop q bytes) b k → HasByteAt bytes b (q + k)
@@ -135,13 +135,13 @@ module _ (d bytes : List ℕ) (body : ℕ) where
 
   has-delimiter : (s p : ℕ) → LineStarts s → s ≤ p → p < length bytes → is_delimiter d bytes s p ≡ true → HasDelimiterAt d bytes body p
   has-delimiter s p start low high h =
-      let parts = and_parts (starts_line bytes s p) (stands d (drop p bytes)) h in
+      let parts = and_parts (starts_line bytes s p) (has_prefix d (drop p bytes)) h in
       let before = body-before s start in
-      record { in_body = omega arith; within = high; line = line-of s p start low parts.0; begins = stands-from d (drop p bytes) parts.1 }
+      record { in_body = omega arith; within = high; line = line-of s p start low parts.0; begins = has_prefix-from d (drop p bytes) parts.1 }
 
   delimiter-is : (s p : ℕ) → LineStarts s → s ≤ p → HasDelimiterAt d bytes body p → is_delimiter d bytes s p ≡ true
   delimiter-is s p start low has =
-      and_from (starts_line bytes s p) (stands d (drop p bytes)) (line-is s p start low has.line) (stands-there d (drop p bytes) has.begins)
+      and_from (starts_line bytes s p) (has_prefix d (drop p bytes)) (line-is s p start low has.line) (has_prefix-there d (drop p bytes) has.begins)
 
   not-delimiter : (s p : ℕ) → LineStarts s → s ≤ p → p < length bytes → ¬ HasDelimiterAt d bytes body p → is_delimiter d bytes s p ≡ false
   not-delimiter s p start low high not =
@@ -152,14 +152,14 @@ module _ (d bytes : List ℕ) (body : ℕ) where
       let least = delimiter_from-out d bytes s p e in
       record {
         after = least.low;
-        stands = has-delimiter s p start least.low least.high least.passes;
+        is_delimiter = has-delimiter s p start least.low least.high least.passes;
         before = λ k from to has. true_not_false (delimiter-is s k start from has) (least.before k from to);
       }
 
   first-is : (s p : ℕ) → LineStarts s → IsFirstFrom d bytes body s p → delimiter_from d bytes s ≡ Some p
   first-is s p start first =
-      let high = first.stands.within in
-      sym (delimiter_from-some d bytes s p first.after high (delimiter-is s p start first.after first.stands)
+      let high = first.is_delimiter.within in
+      sym (delimiter_from-some d bytes s p first.after high (delimiter-is s p start first.after first.is_delimiter)
       (λ k low to. not-delimiter s k start low (omega arith) (first.before k low to)))
 
   none-out : (s : ℕ) → LineStarts s → delimiter_from d bytes s ≡ None → NoneBetween d bytes body s (length bytes)
@@ -171,7 +171,7 @@ module _ (d bytes : List ℕ) (body : ℕ) where
 
   -- a delimiter that is the first from a start of a line on has nothing or a LF before it
   line-before : (s q : ℕ) → LineStarts s → IsFirstFrom d bytes body s q → (q ≡ s) ⊎ ((s < q) × HasByteAt bytes 10 (q - 1))
-  line-before s q start first = by_place (cases_eq q s) first.stands.line
+  line-before s q start first = by_place (cases_eq q s) first.is_delimiter.line
     where
       by_place : (q ≡ s) ⊎ (q ≡ s → ⊥) → (q ≡ body) ⊎ HasByteAt bytes 10 (q - 1) → (q ≡ s) ⊎ ((s < q) × HasByteAt bytes 10 (q - 1))
       by_place (inl same) line = inl same
@@ -224,16 +224,16 @@ module _ (d bytes : List ℕ) (body : ℕ) where
   closes-is : (p : ℕ) → Closes d bytes body p → is_close_delimiter d bytes p ≡ true
   closes-is p (inl short) =
       let len = length-drop (p + length d) bytes in
-      or_left (nat_lt (length (drop (p + length d) bytes)) 2) (stands (codes "--") (drop (p + length d) bytes)) (lt-ltb (length (drop (p + length d) bytes)) 2 (omega arith))
+      or_left (nat_lt (length (drop (p + length d) bytes)) 2) (has_prefix (codes "--") (drop (p + length d) bytes)) (lt-ltb (length (drop (p + length d) bytes)) 2 (omega arith))
   closes-is p (inr dashes) =
-      or_right (nat_lt (length (drop (p + length d) bytes)) 2) (stands (codes "--") (drop (p + length d) bytes)) (stands-there (codes "--") (drop (p + length d) bytes) dashes.1)
+      or_right (nat_lt (length (drop (p + length d) bytes)) 2) (has_prefix (codes "--") (drop (p + length d) bytes)) (has_prefix-there (codes "--") (drop (p + length d) bytes) dashes.1)
 
   closes-out : (p : ℕ) → is_close_delimiter d bytes p ≡ true → Closes d bytes body p
   closes-out p h =
       let rest = drop (p + length d) bytes in
       let len = length-drop (p + length d) bytes in
       ⊎_elim (λ short. inl (omega arith))
-      (λ long. inr ((λ e. absurd (cc)), stands-from (codes "--") rest (sym (ap (λ t. t || stands (codes "--") rest) (le-ltb (length rest) 2 long)) ∙ h)))
+      (λ long. inr ((λ e. absurd (cc)), has_prefix-from (codes "--") rest (sym (ap (λ t. t || has_prefix (codes "--") rest) (le-ltb (length rest) 2 long)) ∙ h)))
       (cases_lt (length rest) 2)
 
   open-is : (p : ℕ) → ¬ Closes d bytes body p → is_close_delimiter d bytes p ≡ false
@@ -276,8 +276,8 @@ module _ (d bytes : List ℕ) (body : ℕ) where
           let fit = ends-fit bytes (suc l) q (line-before (suc l) q (line-starts p l low ends) first) in
           let after = ends.after in
           let from = first.after in
-          let in_body = first.stands.in_body in
-          let within = first.stands.within in
+          let in_body = first.is_delimiter.in_body in
+          let within = first.is_delimiter.within in
           next_delimiter ends first (λ closes. true_not_false (closes-is q closes) e) fit (ih q in_body within (omega arith))
 
       by_delimiter : (l : ℕ) → EndsLine d bytes body p l → (o : Option ℕ) → delimiter_from d bytes (suc l) ≡ o → FollowFrom n
@@ -331,7 +331,7 @@ module _ (d bytes : List ℕ) (body : ℕ) where
       let after = after-is p l ends in
       let by = ranges-by (suc l) (Some q) (part_after d bytes q) (first-is (suc l) q (line-starts p l low ends) first)
       (ap (λ t. if t then None else part_after d bytes q) (open-is q not)) in
-      let rest = follow-only more first.stands.in_body in
+      let rest = follow-only more first.is_delimiter.in_body in
       let is = ends-is bytes (suc l) q e end in (
         ap (λ (ps : List ℕ). q ∷ ps) rest.0 ∙ sym (ap (λ o. found (part_ranges d bytes o)) after ∙ by.0),
         ap (λ k. range (suc l) k ∷ parts) is ∙ ap (λ (rs : List Range). range (suc l) (before_line_end bytes (suc l) q) ∷ rs) rest.1
@@ -360,7 +360,7 @@ module _ (d bytes : List ℕ) (body : ℕ) where
       by_delimiter (Some p) e =
           let first = first-out body p (inl refl) e in
           let fit = ends-fit bytes body p (line-before body p (inl refl) first) in
-          first_delimiter first fit (follow-fits (suc (length bytes)) p first.stands.in_body first.stands.within (omega arith))
+          first_delimiter first fit (follow-fits (suc (length bytes)) p first.is_delimiter.in_body first.is_delimiter.within (omega arith))
 
   cut-by : (o : Option ℕ) → delimiter_from d bytes body ≡ o
       → (delimiters d bytes body ≡ cons_option o (found (part_ranges d bytes (first_after o))))
@@ -379,7 +379,7 @@ module _ (d bytes : List ℕ) (body : ℕ) where
       (sym (by.0 ∙ ap found left), sym (by.1 ∙ ap (cut (range body body)) left))
   cut-is (first_delimiter {p = p} {e = e} {places = places} {parts = parts} first end follow) =
       let by = cut-by (Some p) (first-is body p (inl refl) first) in
-      let rest = follow-only follow first.stands.in_body in
+      let rest = follow-only follow first.is_delimiter.in_body in
       let is = ends-is bytes body p e end in (
         ap (λ (ps : List ℕ). p ∷ ps) rest.0 ∙ sym by.0,
         ap (λ k. cut (range body k) parts) is ∙ ap (cut (range body (before_line_end bytes body p))) rest.1 ∙ sym by.1,

@@ -18,7 +18,7 @@ use Rattle.mail_codec.specs.Charset.{Charsets, four_charsets, text_of}
 use Rattle.mail_codec.specs.Tables.{charsets_with, has_label, table_text}
 use Rattle.mail_codec.specs.declared.charset.built_in.Charset.TheVariants.{Utf8}
 use Rattle.mail_codec.specs.declared.charset.tables.SingleByteTable.{SingleByteTable}
-use Rattle.mail_codec.specs.Places.{first_place, stands}
+use Rattle.mail_codec.specs.Places.{first_place, has_prefix}
 use Rattle.mail_codec.proofs.lemmas.CharsetUtf8.{encode_two, encode_three, encode_four}
 use Rattle.mail_codec.proofs.lemmas.Places.{first_place-before}
 use Rattle.mailparse.specs.Tokens.{whitespace, decoded_word}
@@ -250,11 +250,11 @@ pub plain_is : (value : List ℕ) → is_plain_value value ≡ true → IsPlain 
 plain_is value h =
     let first = and_parts _ _ h in
     let second = and_parts _ _ first.1 in
-    let none = none_found (first_place (stands (codes "=?")) value) (length value) second.1 in
+    let none = none_found (first_place (has_prefix (codes "=?")) value) (length value) second.1 in
     record {
       printable = each {P = λ b. (32 ≤ b) × (b ≤ 126)} is_plain_byte plain_byte value first.0;
       no_space = not-true _ second.0;
-      no_opening = λ k. ⊎_elim (λ lt. first_place-before (stands (codes "=?")) value k (omega arith)) (λ past. ap (stands (codes "=?")) (drop_all k value past)) (cases_lt k (length value));
+      no_opening = λ k. ⊎_elim (λ lt. first_place-before (has_prefix (codes "=?")) value k (omega arith)) (λ past. ap (has_prefix (codes "=?")) (drop_all k value past)) (cases_lt k (length value));
     }
 
 -- whatever charsets are known, a plain value shows itself

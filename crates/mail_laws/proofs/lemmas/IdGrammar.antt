@@ -3,7 +3,7 @@ use Rattle.std.proofs.Common.{◌≡◌, ◌≢◌, ◌⊎◌, inl, inr, ℕ, Bo
 use Rattle.std.specs.Str.{trim_start}
 use Rattle.std.proofs.lemmas.Bool.{eqb-true, false≢true}
 use Rattle.std.proofs.lemmas.List.Folds.{list_any-append}
-use Rattle.mail_codec.specs.Places.{is_empty, stands}
+use Rattle.mail_codec.specs.Places.{is_empty, has_prefix}
 use Rattle.mailparse.specs.MessageIds.{id_not_closed, id_not_opened, id_of_piece, ids_at_end, ids_of_pieces, is_closing, message_ids, opens_id, with_id}
 use Rattle.mailparse.specs.Refusal.{Refusal}
 use Rattle.mailparse.proofs.lemmas.MessageIds.{pieces_step, split_none}
@@ -34,12 +34,12 @@ read_not_opened : (piece rest : List ℕ) → HoldsNoClosing piece → opens_id 
 read_not_opened piece rest free shut = read_piece piece rest free ∙ ap (λ t. cond t (with_id (id_of_piece piece) (message_ids rest)) (Err id_not_opened)) shut
 
 at_end_whitespace : (text : List ℕ) → trim_start text ≡ [] → ids_at_end text ≡ Ok []
-at_end_whitespace text whitespace = ap (λ (t : List ℕ). cond (is_empty t) (Ok []) (cond (stands (60 ∷ []) t) (Err id_not_closed) (Err id_not_opened))) whitespace
+at_end_whitespace text whitespace = ap (λ (t : List ℕ). cond (is_empty t) (Ok []) (cond (has_prefix (60 ∷ []) t) (Err id_not_closed) (Err id_not_opened))) whitespace
 
 pub form_is_read : {text : List ℕ} {ids : List (List ℕ)} → AreIds text ids → message_ids text ≡ Ok ids
 form_is_read {text = text} (no_ids free whitespace) = read_last text free ∙ at_end_whitespace text whitespace
 form_is_read {text = text} (one_more opened id rest {ids = ids} cut free trimmed others) =
-    let opens : opens_id opened ≡ true = ap (stands (60 ∷ [])) trimmed in
+    let opens : opens_id opened ≡ true = ap (has_prefix (60 ∷ [])) trimmed in
     let is : id_of_piece opened ≡ id = ap (drop 1) trimmed in
     ap message_ids cut ∙ read_opened opened rest free opens ∙ ap (λ i. with_id i (message_ids rest)) is ∙ ap (with_id id) (form_is_read others)
 
@@ -51,7 +51,7 @@ filled (b ∷ text) some = refl
 at_end_shut : (text : List ℕ) → trim_start text ≢ [] → opens_id text ≡ false → ids_at_end text ≡ Err id_not_opened
 at_end_shut text some shut = rw (filled (trim_start text) some, shut) refl
 
-opens_filled : (t : List ℕ) → stands (60 ∷ []) t ≡ true → is_empty t ≡ false
+opens_filled : (t : List ℕ) → has_prefix (60 ∷ []) t ≡ true → is_empty t ≡ false
 opens_filled [] h = absurd (false≢true h)
 opens_filled (b ∷ t) h = refl
 
@@ -79,7 +79,7 @@ Form text = ((ids : List (List ℕ)) × AreIds text ids) ⊎ ((refusal : Refusal
 append_free : (piece : List ℕ) (b : ℕ) → HoldsNoClosing piece → is_closing b ≡ false → HoldsNoClosing (piece ++ b ∷ [])
 append_free piece b h e = list_any-append is_closing piece (b ∷ []) ∙ ap (λ t. t || (is_closing b || false)) h ∙ ap (λ t. t || false) e
 
-opened_is : (t : List ℕ) → stands (60 ∷ []) t ≡ true → t ≡ 60 ∷ drop 1 t
+opened_is : (t : List ℕ) → has_prefix (60 ∷ []) t ≡ true → t ≡ 60 ∷ drop 1 t
 opened_is [] h = absurd (false≢true h)
 opened_is (b ∷ t) h = go (eqb 60 b) refl
   where

@@ -8,7 +8,7 @@ use Rattle.std.proofs.lemmas.List.{get_or-take}
 use Rattle.std.proofs.lemmas.List.Elements.{All-cons, All-head, All-tail}
 use Rattle.std.proofs.lemmas.List.Folds.{list_any_none}
 use Rattle.std.proofs.lemmas.List.Sums.{fails_before_first, passes_at_first, split_at_first}
-use Rattle.mail_codec.specs.Places.{is_empty, stands}
+use Rattle.mail_codec.specs.Places.{is_empty, has_prefix}
 use Rattle.std.proofs.lemmas.Str.{IsCharBoundary-before_ascii, IsUtf8-take, chars-encodes, chars-nil, encode_ascii}
 use Rattle.mailparse.specs.MessageIds.{id_not_closed, id_not_opened, id_of_piece, ids_of_pieces, is_closing, message_ids, opens_id, with_id, written_ids}
 use Rattle.mailparse.specs.Refusal.{Refusal}
@@ -58,7 +58,7 @@ one_id : (s : Bool) (id rest : List ℕ) → IsUtf8 id → HoldsNoClosing id
     → ids_of_pieces (slice_split is_closing (front s (60 ∷ (id ++ 62 ∷ rest)))) ≡ with_id id (ids_of_pieces (slice_split is_closing rest))
 one_id s id rest utf8 free =
     let trimmed = opened_both s id utf8 in
-    let opens : opens_id (front s (60 ∷ id)) ≡ true = ap (stands (60 ∷ [])) trimmed in
+    let opens : opens_id (front s (60 ∷ id)) ≡ true = ap (has_prefix (60 ∷ [])) trimmed in
     let is : id_of_piece (front s (60 ∷ id)) ≡ id = ap (drop 1) trimmed in
     ap (λ t. ids_of_pieces (slice_split is_closing t)) (sym (front_append s id (62 ∷ rest)))
     ∙ ap ids_of_pieces (split_at (front s (60 ∷ id)) rest (front_free s id free))
@@ -80,7 +80,7 @@ unfolding trim_start
 empty_ends = ap (λ k. ending (encode_utf8_all (skip_leading_whitespace k))) chars-nil
   where
     ending : List ℕ → Result (List (List ℕ)) Refusal
-    ending trimmed = cond (is_empty trimmed) (Ok []) (cond (stands (60 ∷ []) trimmed) (Err id_not_closed) (Err id_not_opened))
+    ending trimmed = cond (is_empty trimmed) (Ok []) (cond (has_prefix (60 ∷ []) trimmed) (Err id_not_closed) (Err id_not_opened))
 
 reads_from : (ids : List (List ℕ)) (id : List ℕ) (s : Bool) → All IsUtf8 (id ∷ ids) → All HoldsNoClosing (id ∷ ids)
     → ids_of_pieces (slice_split is_closing (front s (written_ids (id ∷ ids)))) ≡ Ok (id ∷ ids)

@@ -5,7 +5,7 @@ use Rattle.std.proofs.lemmas.Bool.{false≢true, and_parts, and_left, eq-eqb, ne
 use Rattle.std.proofs.lemmas.Bool.Decides.{nat_tests}
 use Rattle.std.proofs.lemmas.List.{drop_at, take_at}
 use Rattle.mail_codec.specs.Ascii.{is_blank}
-use Rattle.mail_codec.specs.Places.{first_place, begins, stands, is_empty}
+use Rattle.mail_codec.specs.Places.{first_place, begins, has_prefix, is_empty}
 use Rattle.mail_codec.proofs.lemmas.Places.{first_place-here, first_place-past}
 use Rattle.mail_codec.specs.QuotedPrintable.{cr_lf}
 use Rattle.mailparse.specs.Header.{Header, ends_key, ends_header, is_line_end, key_end, has_colon, header_end, header_length, header_of}
@@ -50,7 +50,7 @@ value_passed b bs h =
     and_left (is_line_end b) _ (is_line_end-false b (λ e. absurd (omega (arith, low))) (λ e. absurd (omega (arith, low))))
 
 -- the value starts after one space
-value_begins : (value rest : List ℕ) → stands (codes " ") value ≡ false → first_place (begins (λ b. not (eqb b 32))) (value ++ 13 ∷ rest) ≡ 0
+value_begins : (value rest : List ℕ) → has_prefix (codes " ") value ≡ false → first_place (begins (λ b. not (eqb b 32))) (value ++ 13 ∷ rest) ≡ 0
 value_begins [] rest h = refl
 value_begins (v ∷ value) rest h =
     first_place-here (begins (λ b. not (eqb b 32))) (v ∷ (value ++ 13 ∷ rest))
@@ -87,7 +87,7 @@ last_feed rest no_blank = ap suc (first_place-here ends_header (10 ∷ rest) (ap
 
 -- a value that a header can carry: no space begins it, it ends before the CR LF after it, and all of it is the header's value
 pub record IsValue (value : List ℕ) : Type 0 where
-  pub no_space : stands (codes " ") value ≡ false
+  pub no_space : has_prefix (codes " ") value ≡ false
   pub ends : (rest : List ℕ) → begins is_blank rest ≡ false → first_place ends_header (value ++ 13 ∷ 10 ∷ rest) ≡ length value + 1
   pub whole : first_place (list_all is_line_end) (value ++ 13 ∷ []) ≡ length value
 
@@ -103,7 +103,7 @@ plain_is_value value plain =
     let trimmed : first_place (list_all is_line_end) (value ++ 13 ∷ []) ≡ length value + 0 =
     first_place-over (list_all is_line_end) is_plain_byte value_passed value (13 ∷ []) parts.0 in
     record {
-      no_space = not-true (stands (codes " ") value) (and_parts (not (stands (codes " ") value)) _ parts.1).0;
+      no_space = not-true (has_prefix (codes " ") value) (and_parts (not (has_prefix (codes " ") value)) _ parts.1).0;
       ends = λ rest no_blank. first_place-over ends_header is_plain_byte plain_passed value (13 ∷ 10 ∷ rest) parts.0
           ∙ ap (λ n. length value + n) (last_feed rest no_blank);
       whole = trimmed ∙ omega arith;

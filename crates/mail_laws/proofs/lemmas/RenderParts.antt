@@ -5,7 +5,7 @@ use Rattle.std.specs.List.{list_all}
 use Rattle.std.specs.Option.{option_map_or}
 use Rattle.std.proofs.lemmas.Bool.{cond-true, cond-false, cases_lt, cases_eq, lt-ltb, le-ltb, eq-eqb, and_parts, and_from, and_left, not-true}
 use Rattle.std.proofs.lemmas.List.{drop-drop, drop-append-le, drop_all, drop_at, take_at}
-use Rattle.mail_codec.specs.Places.{stands, begins, place, byte_place}
+use Rattle.mail_codec.specs.Places.{has_prefix, begins, place, byte_place}
 use Rattle.mail_codec.proofs.lemmas.Places.{first_place-before}
 use Rattle.mail_codec.proofs.lemmas.PlacesSearches.{place_none}
 use Rattle.mailparse.specs.Ranges.{Range, slice}
@@ -22,23 +22,23 @@ abbrev pub no_return : ℕ → Bool
 no_return b = not (eqb b 13)
 
 -- a text without CR stands before a CR only where it stands by itself
-stands-before : (text front rest : List ℕ) → list_all no_return text ≡ true → stands text (front ++ 13 ∷ rest) ≡ stands text front
-stands-before [] front rest free = refl
-stands-before (x ∷ text) [] rest free =
-    and_left (eqb x 13) (stands text rest) (not-true (eqb x 13) (and_parts (no_return x) (list_all no_return text) free).0)
-stands-before (x ∷ text) (b ∷ front) rest free =
-    ap (λ t. eqb x b && t) (stands-before text front rest (and_parts (no_return x) (list_all no_return text) free).1)
+has_prefix-before : (text front rest : List ℕ) → list_all no_return text ≡ true → has_prefix text (front ++ 13 ∷ rest) ≡ has_prefix text front
+has_prefix-before [] front rest free = refl
+has_prefix-before (x ∷ text) [] rest free =
+    and_left (eqb x 13) (has_prefix text rest) (not-true (eqb x 13) (and_parts (no_return x) (list_all no_return text) free).0)
+has_prefix-before (x ∷ text) (b ∷ front) rest free =
+    ap (λ t. eqb x b && t) (has_prefix-before text front rest (and_parts (no_return x) (list_all no_return text) free).1)
 
-stands-self : (text rest : List ℕ) → stands text (text ++ rest) ≡ true
-stands-self [] rest = refl
-stands-self (x ∷ text) rest = and_from (eqb x x) (stands text (text ++ rest)) (eq-eqb x x refl) (stands-self text rest)
+has_prefix-self : (text rest : List ℕ) → has_prefix text (text ++ rest) ≡ true
+has_prefix-self [] rest = refl
+has_prefix-self (x ∷ text) rest = and_from (eqb x x) (has_prefix text (text ++ rest)) (eq-eqb x x refl) (has_prefix-self text rest)
 
 -- a search that finds nothing passes over all places
-pub stands-nowhere : (x : ℕ) (text bytes : List ℕ) → is_some (place (stands (x ∷ text)) bytes) ≡ false → (k : ℕ) → stands (x ∷ text) (drop k bytes) ≡ false
-stands-nowhere x text bytes none k =
-    let whole = place_none (stands (x ∷ text)) bytes (not_some (place (stands (x ∷ text)) bytes) none) in
-    ⊎_elim (λ low. first_place-before (stands (x ∷ text)) bytes k (omega (arith, low, whole)))
-    (λ high. ap (stands (x ∷ text)) (drop_all k bytes high)) (cases_lt k (length bytes))
+pub has_prefix-nowhere : (x : ℕ) (text bytes : List ℕ) → is_some (place (has_prefix (x ∷ text)) bytes) ≡ false → (k : ℕ) → has_prefix (x ∷ text) (drop k bytes) ≡ false
+has_prefix-nowhere x text bytes none k =
+    let whole = place_none (has_prefix (x ∷ text)) bytes (not_some (place (has_prefix (x ∷ text)) bytes) none) in
+    ⊎_elim (λ low. first_place-before (has_prefix (x ∷ text)) bytes k (omega (arith, low, whole)))
+    (λ high. ap (has_prefix (x ∷ text)) (drop_all k bytes high)) (cases_lt k (length bytes))
 
 -- ---- what follows a delimiter
 
@@ -71,8 +71,8 @@ written-after_delimiter d (p ∷ ps) = refl
 
 -- a part that holds no delimiter
 pub record IsClear (d part : List ℕ) : Type 0 where
-  pub first : stands d part ≡ false
-  pub later : (k : ℕ) → stands (10 ∷ d) (drop k part) ≡ false
+  pub first : has_prefix d part ≡ false
+  pub later : (k : ℕ) → has_prefix (10 ∷ d) (drop k part) ≡ false
 
 abbrev pub AreClear : List ℕ → List (List ℕ) → Type 0
 AreClear d [] = Unit {0}
@@ -91,20 +91,20 @@ module _ (x : ℕ) (text : List ℕ) (free : list_all no_return (x ∷ text) ≡
         let b = length-append text more in
         sym (length-drop s bytes) ∙ ap length there ∙ a ∙ omega arith
 
-    in_part : (k : ℕ) → k ≤ length part → stands (10 ∷ x ∷ text) (drop k (part ++ 13 ∷ rest)) ≡ false
+    in_part : (k : ℕ) → k ≤ length part → has_prefix (10 ∷ x ∷ text) (drop k (part ++ 13 ∷ rest)) ≡ false
     in_part k low =
-        ap (stands (10 ∷ x ∷ text)) (drop-append-le k part (13 ∷ rest) low)
-        ∙ stands-before (10 ∷ x ∷ text) (drop k part) rest free ∙ clear.later k
+        ap (has_prefix (10 ∷ x ∷ text)) (drop-append-le k part (13 ∷ rest) low)
+        ∙ has_prefix-before (10 ∷ x ∷ text) (drop k part) rest free ∙ clear.later k
 
     no_delimiter : NoDelimiter (x ∷ text) bytes s (s + length part + 2)
     no_delimiter k low high =
         ⊎_elim (λ same. subst (λ p. is_delimiter (x ∷ text) bytes s p ≡ false) (sym same)
-        (is_delimiter-start (x ∷ text) bytes s ∙ ap (stands (x ∷ text)) there ∙ stands-before (x ∷ text) part rest free ∙ clear.first))
+        (is_delimiter-start (x ∷ text) bytes s ∙ ap (has_prefix (x ∷ text)) there ∙ has_prefix-before (x ∷ text) part rest free ∙ clear.first))
         (λ other.
         let i = k - 1 - s in
         let less : s + i ≡ k - 1 = omega (arith, low, other) in
         is_delimiter-line (x ∷ text) bytes s k (omega (arith, low, other))
-        ∙ ap (stands (10 ∷ x ∷ text)) (further bytes (part ++ 13 ∷ rest) s i (k - 1) there less)
+        ∙ ap (has_prefix (10 ∷ x ∷ text)) (further bytes (part ++ 13 ∷ rest) s i (k - 1) there less)
         ∙ in_part i (omega (arith, low, other, high)))
         (cases_eq k s)
 
@@ -120,8 +120,8 @@ module _ (x : ℕ) (text : List ℕ) (free : list_all no_return (x ∷ text) ≡
     delimiter : is_delimiter (x ∷ text) bytes s (s + length part + 2) ≡ true
     delimiter =
         is_delimiter-line (x ∷ text) bytes s (s + length part + 2) (omega arith)
-        ∙ ap (stands (10 ∷ x ∷ text)) (at_feed (s + length part + 2 - 1) (omega arith))
-        ∙ stands-self (10 ∷ x ∷ text) more
+        ∙ ap (has_prefix (10 ∷ x ∷ text)) (at_feed (s + length part + 2 - 1) (omega arith))
+        ∙ has_prefix-self (10 ∷ x ∷ text) more
 
     found : delimiter_from (x ∷ text) bytes s ≡ Some (s + length part + 2)
     found =
@@ -155,8 +155,8 @@ module _ (x : ℕ) (text : List ℕ) (free : list_all no_return (x ∷ text) ≡
     next_by_delimiter =
         ap (option_and_then (λ p. if is_close_delimiter (x ∷ text) bytes p then None else part_after (x ∷ text) bytes p)) found
 
-    closes : is_close_delimiter (x ∷ text) bytes (s + length part + 2) ≡ (nat_lt (length more) 2 || stands (codes "--") more)
-    closes = ap (λ (r : List ℕ). nat_lt (length r) 2 || stands (codes "--") r) (drop_to_delimiter (s + length part + 2 + length (x ∷ text)) refl)
+    closes : is_close_delimiter (x ∷ text) bytes (s + length part + 2) ≡ (nat_lt (length more) 2 || has_prefix (codes "--") more)
+    closes = ap (λ (r : List ℕ). nat_lt (length r) 2 || has_prefix (codes "--") r) (drop_to_delimiter (s + length part + 2 + length (x ∷ text)) refl)
 
   -- the parts from one on are those that are written there
   ranges-written : (ps : List (List ℕ)) (bytes part : List ℕ) (s : ℕ) → IsClear (x ∷ text) part → AreClear (x ∷ text) ps
@@ -175,7 +175,7 @@ module _ (x : ℕ) (text : List ℕ) (free : list_all no_return (x ∷ text) ≡
       let more = 13 ∷ 10 ∷ (p ++ 13 ∷ 10 ∷ written (x ∷ text) ps) in
       let q = s + length part + 2 + length (x ∷ text) in
       let goes_on : is_close_delimiter (x ∷ text) bytes (s + length part + 2) ≡ false =
-      closes bytes part more s clear there ∙ ap (λ t. t || stands (codes "--") more) (le-ltb (length more) 2 (omega arith)) in
+      closes bytes part more s clear there ∙ ap (λ t. t || has_prefix (codes "--") more) (le-ltb (length more) 2 (omega arith)) in
       let at : drop q bytes ≡ more = drop_to_delimiter bytes part more s clear there q refl in
       let next : next_part (x ∷ text) bytes s ≡ Some (q + 2) =
       next_by_delimiter bytes part more s clear there ∙ cond-false _ _ _ goes_on
@@ -189,7 +189,7 @@ module _ (x : ℕ) (text : List ℕ) (free : list_all no_return (x ∷ text) ≡
   -- what is written is cut into its parts, and nothing stands before them
   module _ (bytes : List ℕ) (i : ℕ) (part : List ℕ) (ps : List (List ℕ)) (all : AreClear (x ∷ text) (part ∷ ps)) (there : drop i bytes ≡ written (x ∷ text) (part ∷ ps)) where
     first_delimiter : delimiter_from (x ∷ text) bytes i ≡ Some i
-    first_delimiter = sym (starts_delimiter (x ∷ text) bytes i (omega arith) (ap (stands (x ∷ text)) there ∙ stands-self (x ∷ text) (13 ∷ 10 ∷ (part ++ 13 ∷ 10 ∷ written (x ∷ text) ps))))
+    first_delimiter = sym (starts_delimiter (x ∷ text) bytes i (omega arith) (ap (has_prefix (x ∷ text)) there ∙ has_prefix-self (x ∷ text) (13 ∷ 10 ∷ (part ++ 13 ∷ 10 ∷ written (x ∷ text) ps))))
 
     preamble_end : end_from (x ∷ text) bytes i i ≡ i
     preamble_end =

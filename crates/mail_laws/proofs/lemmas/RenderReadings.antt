@@ -9,7 +9,7 @@ use Rattle.std.proofs.lemmas.Bool.Decides.{nat_tests}
 use Rattle.std.proofs.lemmas.List.{append_cancel_left, drop_at, map-append, take_at, take_all}
 use lib.Pointwise.{bytes_decides}
 use Rattle.mail_codec.specs.Charset.{Charsets, four_charsets}
-use Rattle.mail_codec.specs.Places.{is_empty, place, stands, text_place}
+use Rattle.mail_codec.specs.Places.{is_empty, place, has_prefix, text_place}
 use Rattle.mailparse.specs.Refusal.{◌>>=◌, Reads, recursion_limit}
 use Rattle.mailparse.specs.Header.{Header}
 use Rattle.mailparse.specs.Block.{HeaderList, read_headers}
@@ -23,7 +23,7 @@ use Rattle.mail_laws.specs.Render.{OutlineTree, OutlineForest, leaf, branch, no_
 use Rattle.mail_laws.proofs.lemmas.RenderHeaders.{read_headers-written}
 use Rattle.mail_laws.proofs.lemmas.Encode.{list_all-weaker}
 use Rattle.mail_laws.proofs.lemmas.RenderValues.{AreShown, headers_again, known_first, known_others, same_headers, written_are_shown, written_are_values, written_keys}
-use Rattle.mail_laws.proofs.lemmas.RenderParts.{no_return, stands-nowhere, written, IsClear, AreClear, body-written, parts-written}
+use Rattle.mail_laws.proofs.lemmas.RenderParts.{no_return, has_prefix-nowhere, written, IsClear, AreClear, body-written, parts-written}
 use Rattle.mail_laws.proofs.lemmas.RenderTypes.{node_type-written, no_parts-leaf, type-branch}
 
 -- ---- the parts of an outline, as they are written
@@ -39,11 +39,11 @@ rendered_parts-written boundary (outline_and part parts) =
 
 IsClear-from : (boundary bytes : List ℕ) → holds_delimiter boundary bytes ≡ false → IsClear (dash_boundary boundary) bytes
 IsClear-from boundary bytes none =
-    let parts = or_parts (stands (dash_boundary boundary) bytes) (is_some (text_place bytes (10 ∷ dash_boundary boundary))) none in
+    let parts = or_parts (has_prefix (dash_boundary boundary) bytes) (is_some (text_place bytes (10 ∷ dash_boundary boundary))) none in
     let some : eqb (length (10 ∷ dash_boundary boundary)) 0 ≡ false = ne_eqb _ 0 (λ e. absurd (omega arith)) in
-    let nowhere : is_some (place (stands (10 ∷ dash_boundary boundary)) bytes) ≡ false =
-    ap (λ (o : Option ℕ). is_some o) (sym (cond-false (eqb (length (10 ∷ dash_boundary boundary)) 0) None (place (stands (10 ∷ dash_boundary boundary)) bytes) some)) ∙ parts.1 in
-    record { first = parts.0; later = stands-nowhere 10 (dash_boundary boundary) bytes nowhere }
+    let nowhere : is_some (place (has_prefix (10 ∷ dash_boundary boundary)) bytes) ≡ false =
+    ap (λ (o : Option ℕ). is_some o) (sym (cond-false (eqb (length (10 ∷ dash_boundary boundary)) 0) None (place (has_prefix (10 ∷ dash_boundary boundary)) bytes) some)) ∙ parts.1 in
+    record { first = parts.0; later = has_prefix-nowhere 10 (dash_boundary boundary) bytes nowhere }
 
 AreClear-from : (boundary : List ℕ) (parts : OutlineForest) → hold_no_delimiter boundary parts ≡ true → AreClear (dash_boundary boundary) (renderings parts)
 AreClear-from boundary no_outlines none = tt

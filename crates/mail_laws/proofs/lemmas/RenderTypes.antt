@@ -9,7 +9,7 @@ use Rattle.std.proofs.lemmas.Str.{encodes-IsAscii}
 use Rattle.std.proofs.lemmas.Str.Ascii.{IsAscii-from_all}
 use lib.Pointwise.{bytes_decides}
 use Rattle.mail_codec.specs.Charset.{Charsets}
-use Rattle.mail_codec.specs.Places.{stands}
+use Rattle.mail_codec.specs.Places.{has_prefix}
 use Rattle.mailparse.specs.Header.{Header}
 use Rattle.mailparse.specs.Map.{has_key}
 use Rattle.mailparse.specs.Value.{lenient_value_in}
@@ -61,18 +61,18 @@ module _ (known : Charsets) where
   -- ---- what the type says of parts
 
   -- a type that does not begin with `multipart` has no parts
-  no_parts-named : (text : List ℕ) → stands (codes "multipart") (mimetype_of text) ≡ false → dash_boundary_of (content_type_in known text) ≡ None
+  no_parts-named : (text : List ℕ) → has_prefix (codes "multipart") (mimetype_of text) ≡ false → dash_boundary_of (content_type_in known text) ≡ None
   unfolding content_type_in
-  no_parts-named text other = cond-false (stands (codes "multipart") (mimetype_of text)) _ None other
+  no_parts-named text other = cond-false (has_prefix (codes "multipart") (mimetype_of text)) _ None other
 
-  pub no_parts-leaf : (headers : List Header) → option_map_or (λ h. not (stands (codes "multipart") (mimetype_of h.value))) (type_header headers) true ≡ true
+  pub no_parts-leaf : (headers : List Header) → option_map_or (λ h. not (has_prefix (codes "multipart") (mimetype_of h.value))) (type_header headers) true ≡ true
       → dash_boundary_of (type_of known headers) ≡ None
   no_parts-leaf headers other = go (type_header headers) other
     where
-      go : (o : Option Header) → option_map_or (λ h. not (stands (codes "multipart") (mimetype_of h.value))) o true ≡ true
+      go : (o : Option Header) → option_map_or (λ h. not (has_prefix (codes "multipart") (mimetype_of h.value))) o true ≡ true
           → dash_boundary_of (option_map_or (λ h. content_type_in known h.value) o default_type) ≡ None
       go None e = refl
-      go (Some h) e = no_parts-named h.value (not-true (stands (codes "multipart") (mimetype_of h.value)) e)
+      go (Some h) e = no_parts-named h.value (not-true (has_prefix (codes "multipart") (mimetype_of h.value)) e)
 
   -- the type that names a boundary of letters and digits
   IsAlphanumeric-from : (boundary : List ℕ) → list_all is_ascii_alphanumeric boundary ≡ true → IsAlphanumeric boundary

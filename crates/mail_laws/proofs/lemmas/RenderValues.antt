@@ -7,7 +7,7 @@ use Rattle.std.proofs.lemmas.Bool.{and_parts, cond-true, cond-false, false_from_
 use Rattle.std.proofs.lemmas.Str.{IsUtf8-from_is_utf8, is_utf8-from_IsUtf8}
 use Rattle.mail_codec.specs.Ascii.{is_blank}
 use Rattle.mail_codec.specs.Charset.{Charsets, four_charsets}
-use Rattle.mail_codec.specs.Places.{first_place, begins, stands}
+use Rattle.mail_codec.specs.Places.{first_place, begins, has_prefix}
 use Rattle.mail_codec.proofs.lemmas.Places.{first_place-past}
 use Rattle.mailparse.specs.Header.{Header, ends_header, is_line_end}
 use Rattle.mailparse.specs.Value.{lenient_value_in}
@@ -60,7 +60,7 @@ words_whole (w ∷ v ∷ ws) h =
     let size = words_length w v ws in
     omega arith
 
-words_no_space : (ws : List (List ℕ)) → stands (codes " ") (word_lines ws) ≡ false
+words_no_space : (ws : List (List ℕ)) → has_prefix (codes " ") (word_lines ws) ≡ false
 words_no_space [] = refl
 words_no_space (w ∷ []) = refl
 words_no_space (w ∷ v ∷ ws) = refl

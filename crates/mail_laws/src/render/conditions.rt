@@ -4,7 +4,7 @@ ghost use Rattle.std.specs.Char.{is_ascii_alphanumeric};
 ghost use Rattle.std.specs.List.{list_all};
 ghost use Rattle.std.specs.Option.{option_map_or};
 ghost use Rattle.std.specs.Str.{bytes_eq, is_utf8, str_eq_ignore_ascii_case};
-ghost use Rattle.mail_codec.specs.Places.{is_empty, stands};
+ghost use Rattle.mail_codec.specs.Places.{is_empty, has_prefix};
 ghost use Rattle.mailparse.specs.Outcome.{AnswersOrMemory};
 ghost use Rattle.mail_laws.specs.Boundaries.{boundary_type};
 ghost use Rattle.mail_laws.specs.Render.{depth, holds_delimiter, is_key, mimetype_of, type_header};
@@ -131,7 +131,7 @@ pub(super) fn is_not_multipart(
 ) -> Result<bool, MailParseError>
     requires texts { list_all (λ h. is_utf8 h.value) (headers_seen headers.now) ≡ true }
     ensures { AnswersOrMemory (λ answer. answer) result (Ok (option_map_or
-        (λ h. not (stands (codes "multipart") (mimetype_of h.value)))
+        (λ h. not (has_prefix (codes "multipart") (mimetype_of h.value)))
         (type_header (headers_seen headers.now)) true)) }
 {
     let Some(value) = type_value(headers) else {

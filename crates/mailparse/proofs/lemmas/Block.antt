@@ -5,8 +5,8 @@ use Rattle.std.proofs.lemmas.Bool.{cases_lt, false≢true, not-false, not-true}
 use Rattle.std.proofs.Math.Bool.{or-true}
 use Rattle.std.proofs.lemmas.List.{drop-drop}
 use Rattle.std.proofs.Math.ListN.{drop_of_length-le}
-use Rattle.mail_codec.specs.Places.{stands, is_empty, values_below}
-use Rattle.mail_codec.proofs.lemmas.Places.{least-is, least-before, least-passes, stands-starts_with}
+use Rattle.mail_codec.specs.Places.{has_prefix, is_empty, values_below}
+use Rattle.mail_codec.proofs.lemmas.Places.{least-is, least-before, least-passes, has_prefix-starts_with}
 use Rattle.mailparse.specs.Refusal.{Refusal, empty_string, leading_space, lone_carriage_return}
 use Rattle.mailparse.specs.Header.{Header, header_of, header_length, read_header}
 use Rattle.mailparse.proofs.lemmas.Places.{not_empty}
@@ -108,14 +108,14 @@ with_front front place (Err refusal) = Err refusal
 abbrev pub end_at : List Header → ℕ → List ℕ → Result HeaderList Refusal
 end_at found place stop =
     cond (headers_end stop) (Ok (record { headers = found; index = place + blank_line stop }))
-    (cond (stands (13 ∷ []) stop) (Err lone_carriage_return) (Err leading_space))
+    (cond (has_prefix (13 ∷ []) stop) (Err lone_carriage_return) (Err leading_space))
 
 read_headers-end_at : (raw : List ℕ) → read_headers raw ≡ end_at (values_below (header_count raw) (λ j. header_of (rest_at raw j))) (header_place raw (header_count raw)) (rest_at raw (header_count raw))
 unfolding read_headers
 read_headers-end_at raw = refl
 
 end_at-front : (front found : List Header) (n place : ℕ) (stop : List ℕ) → with_front front n (end_at found place stop) ≡ end_at (front ++ found) (n + place) stop
-end_at-front front found n place stop = by_end (headers_end stop) (stands (13 ∷ []) stop)
+end_at-front front found n place stop = by_end (headers_end stop) (has_prefix (13 ∷ []) stop)
   where
     by_end : (ended returned : Bool) →
         with_front front n (cond ended (Ok (record { headers = found; index = place + blank_line stop })) (cond returned (Err lone_carriage_return) (Err leading_space)))
@@ -153,24 +153,24 @@ with_front-front front more n m (Err refusal) = refl
 
 -- what ends the block, by the bytes in front
 module _ (raw : List ℕ) where
-  stands-there : (text : List ℕ) (v : Bool) → starts_with nat_eq raw text ≡ v → stands text raw ≡ v
-  stands-there text v e = sym (stands-starts_with text raw) ∙ e
+  has_prefix-there : (text : List ℕ) (v : Bool) → starts_with nat_eq raw text ≡ v → has_prefix text raw ≡ v
+  has_prefix-there text v e = sym (has_prefix-starts_with text raw) ∙ e
 
   pub block_end-feed : starts_with nat_eq raw (10 ∷ []) ≡ true → block_end raw ≡ Ok (Some 1)
   unfolding block_end headers_end blank_line
-  block_end-feed feed = rw (stands-there (10 ∷ []) true feed, or-true (is_empty raw)) refl
+  block_end-feed feed = rw (has_prefix-there (10 ∷ []) true feed, or-true (is_empty raw)) refl
 
   pub block_end-return_feed : starts_with nat_eq raw (10 ∷ []) ≡ false → starts_with nat_eq raw (13 ∷ 10 ∷ []) ≡ true → block_end raw ≡ Ok (Some 2)
   unfolding block_end headers_end blank_line
-  block_end-return_feed feed both = rw (stands-there (10 ∷ []) false feed, stands-there (13 ∷ 10 ∷ []) true both, or-true (is_empty raw)) refl
+  block_end-return_feed feed both = rw (has_prefix-there (10 ∷ []) false feed, has_prefix-there (13 ∷ 10 ∷ []) true both, or-true (is_empty raw)) refl
 
   pub block_end-return : 0 < length raw → starts_with nat_eq raw (10 ∷ []) ≡ false → starts_with nat_eq raw (13 ∷ 10 ∷ []) ≡ false → starts_with nat_eq raw (13 ∷ []) ≡ true → block_end raw ≡ Err lone_carriage_return
   unfolding block_end headers_end blank_line
-  block_end-return h feed both return = rw (not_empty raw h, stands-there (10 ∷ []) false feed, stands-there (13 ∷ 10 ∷ []) false both, stands-there (13 ∷ []) true return) refl
+  block_end-return h feed both return = rw (not_empty raw h, has_prefix-there (10 ∷ []) false feed, has_prefix-there (13 ∷ 10 ∷ []) false both, has_prefix-there (13 ∷ []) true return) refl
 
   pub block_end-none : 0 < length raw → starts_with nat_eq raw (10 ∷ []) ≡ false → starts_with nat_eq raw (13 ∷ 10 ∷ []) ≡ false → starts_with nat_eq raw (13 ∷ []) ≡ false → block_end raw ≡ Ok None
   unfolding block_end headers_end blank_line
-  block_end-none h feed both return = rw (not_empty raw h, stands-there (10 ∷ []) false feed, stands-there (13 ∷ 10 ∷ []) false both, stands-there (13 ∷ []) false return) refl
+  block_end-none h feed both return = rw (not_empty raw h, has_prefix-there (10 ∷ []) false feed, has_prefix-there (13 ∷ 10 ∷ []) false both, has_prefix-there (13 ∷ []) false return) refl
 
 pub block_end-empty : (raw : List ℕ) → length raw ≡ 0 → block_end raw ≡ Ok (Some 0)
 unfolding block_end headers_end blank_line
@@ -178,19 +178,19 @@ block_end-empty [] h = refl
 block_end-empty (b ∷ raw) h = absurd (omega arith)
 
 -- the same by tests
-module _ (raw : List ℕ) (h r : Bool) (ends : headers_end raw ≡ h) (return : stands (13 ∷ []) raw ≡ r) where
+module _ (raw : List ℕ) (h r : Bool) (ends : headers_end raw ≡ h) (return : has_prefix (13 ∷ []) raw ≡ r) where
   block_end-at : block_end raw ≡ cond h (Ok (Some (blank_line raw))) (cond r (Err lone_carriage_return) (Ok None))
   unfolding block_end
   block_end-at = rw (ends, return) refl
 
-  has_header-at : (s : Bool) → stands (32 ∷ []) raw ≡ s → has_header raw ≡ (not h && (not r && not s))
+  has_header-at : (s : Bool) → has_prefix (32 ∷ []) raw ≡ s → has_header raw ≡ (not h && (not r && not s))
   unfolding has_header
   has_header-at s leads = rw (ends, return, leads) refl
 
   read_headers-at : has_header raw ≡ false → read_headers raw ≡ cond h (Ok (record { headers = []; index = 0 + blank_line raw })) (cond r (Err lone_carriage_return) (Err leading_space))
   read_headers-at none = read_headers-none raw none ∙ (rw (ends, return) refl)
 
-read_header-at : (raw : List ℕ) (s : Bool) → is_empty raw ≡ false → stands (32 ∷ []) raw ≡ s → read_header raw ≡ cond s (Err leading_space) (Ok (header_of raw, header_length raw))
+read_header-at : (raw : List ℕ) (s : Bool) → is_empty raw ≡ false → has_prefix (32 ∷ []) raw ≡ s → read_header raw ≡ cond s (Err leading_space) (Ok (header_of raw, header_length raw))
 unfolding read_header
 read_header-at raw s some leads = rw (some, leads) refl
 
@@ -207,9 +207,9 @@ data Front (raw : List ℕ) : Type 0 where
   header : block_end raw ≡ Ok None → read_header raw ≡ Ok (header_of raw, header_length raw) → has_header raw ≡ true → Front raw
 
 front_of : (raw : List ℕ) → Front raw
-front_of raw = by_tests (headers_end raw) (stands (13 ∷ []) raw) (stands (32 ∷ []) raw) refl refl refl
+front_of raw = by_tests (headers_end raw) (has_prefix (13 ∷ []) raw) (has_prefix (32 ∷ []) raw) refl refl refl
   where
-    by_tests : (h r s : Bool) → headers_end raw ≡ h → stands (13 ∷ []) raw ≡ r → stands (32 ∷ []) raw ≡ s → Front raw
+    by_tests : (h r s : Bool) → headers_end raw ≡ h → has_prefix (13 ∷ []) raw ≡ r → has_prefix (32 ∷ []) raw ≡ s → Front raw
     by_tests true r s ends return leads = ended_there (block_end-at raw true r ends return) (read_headers-at raw true r ends return (has_header-at raw true r ends return s leads) ∙ ap (λ n. Ok (record { headers = []; index = n })) (zero-add (blank_line raw)))
     by_tests false true s ends return leads = returned (block_end-at raw false true ends return) (read_headers-at raw false true ends return (has_header-at raw false true ends return s leads))
     by_tests false false true ends return leads =
@@ -287,7 +287,7 @@ blank_line-≤ : (raw : List ℕ) → blank_line raw ≤ length raw
 unfolding blank_line
 blank_line-≤ [] = omega arith
 blank_line-≤ (b ∷ []) = blank_line-one (eqb 10 b) (eqb 13 b)
-blank_line-≤ (b ∷ d ∷ raw) = let two : cond (stands (10 ∷ []) (b ∷ d ∷ raw)) 1 (cond (stands (13 ∷ 10 ∷ []) (b ∷ d ∷ raw)) 2 0) ≤ 2 = blank_line-at (stands (10 ∷ []) (b ∷ d ∷ raw)) (stands (13 ∷ 10 ∷ []) (b ∷ d ∷ raw)) in omega arith
+blank_line-≤ (b ∷ d ∷ raw) = let two : cond (has_prefix (10 ∷ []) (b ∷ d ∷ raw)) 1 (cond (has_prefix (13 ∷ 10 ∷ []) (b ∷ d ∷ raw)) 2 0) ≤ 2 = blank_line-at (has_prefix (10 ∷ []) (b ∷ d ∷ raw)) (has_prefix (13 ∷ 10 ∷ []) (b ∷ d ∷ raw)) in omega arith
 
 pub block_end-≤ : (raw : List ℕ) (taken : ℕ) → block_end raw ≡ Ok (Some taken) → taken ≤ length raw
 block_end-≤ raw taken e =
@@ -323,15 +323,15 @@ block_read raw = record {
 }
 
 read_headers-is : (raw : List ℕ) (block : HeaderList) → read_headers raw ≡ Ok block → block_read raw ≡ block
-read_headers-is raw block e = by_tests (headers_end stop) (stands (13 ∷ []) stop) refl refl
+read_headers-is raw block e = by_tests (headers_end stop) (has_prefix (13 ∷ []) stop) refl refl
   where
     stop : List ℕ
     stop = rest_at raw (header_count raw)
 
-    at : (h r : Bool) → headers_end stop ≡ h → stands (13 ∷ []) stop ≡ r → cond h (Ok (block_read raw)) (cond r (Err lone_carriage_return) (Err leading_space)) ≡ Ok block
+    at : (h r : Bool) → headers_end stop ≡ h → has_prefix (13 ∷ []) stop ≡ r → cond h (Ok (block_read raw)) (cond r (Err lone_carriage_return) (Err leading_space)) ≡ Ok block
     at h r ends return = sym (read_headers-end_at raw ∙ (rw (ends, return) refl)) ∙ e
 
-    by_tests : (h r : Bool) → headers_end stop ≡ h → stands (13 ∷ []) stop ≡ r → block_read raw ≡ block
+    by_tests : (h r : Bool) → headers_end stop ≡ h → has_prefix (13 ∷ []) stop ≡ r → block_read raw ≡ block
     by_tests true r ends return = let f = at true r ends return in cc
     by_tests false true ends return = let f = at false true ends return in absurd (cc)
     by_tests false false ends return = let f = at false false ends return in absurd (cc)
@@ -353,9 +353,9 @@ read_headers-bounded raw block e =
 -- a header that is read takes at least one byte and at most all
 pub read_header-bounds : (raw : List ℕ) (found : Header × ℕ) → read_header raw ≡ Ok found → (0 < found.1) × (found.1 ≤ length raw)
 read_header-bounds [] found e = let f : ◌≡◌ {A = Result (Header × ℕ) Refusal} (Err empty_string) (Ok found) = sym (read_header-empty [] refl) ∙ e in absurd (cc)
-read_header-bounds (b ∷ raw) found e = by_test (stands (32 ∷ []) (b ∷ raw)) refl
+read_header-bounds (b ∷ raw) found e = by_test (has_prefix (32 ∷ []) (b ∷ raw)) refl
   where
-    by_test : (s : Bool) → stands (32 ∷ []) (b ∷ raw) ≡ s → (0 < found.1) × (found.1 ≤ suc (length raw))
+    by_test : (s : Bool) → has_prefix (32 ∷ []) (b ∷ raw) ≡ s → (0 < found.1) × (found.1 ≤ suc (length raw))
     by_test true leads = let f : ◌≡◌ {A = Result (Header × ℕ) Refusal} (Err leading_space) (Ok found) = sym (read_header-at (b ∷ raw) true refl leads) ∙ e in absurd (cc)
     by_test false leads =
         let same : found ≡ (header_of (b ∷ raw), header_length (b ∷ raw)) = let f : ◌≡◌ {A = Result (Header × ℕ) Refusal} (Ok (header_of (b ∷ raw), header_length (b ∷ raw))) (Ok found) = sym (read_header-at (b ∷ raw) false refl leads) ∙ e in cc in

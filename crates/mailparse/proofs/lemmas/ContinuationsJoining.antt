@@ -46,17 +46,17 @@ number_next number k = omega arith
 from_number : (at : List ℕ → Option Section) (base : List ℕ) (most number : ℕ) (test : ℕ → Bool) (f : ℕ → Option Section)
     → ((k : ℕ) → test k ≡ is_missing at base (number + k)) → ((k : ℕ) → f k ≡ at (section_name base (number + k)))
     → flat_map option_to_list (values_below (least test most) f) ≡ sections_from at base most number
-from_number at base zero number test f missing stands = refl
-from_number at base (suc most) number test f missing stands =
+from_number at base zero number test f missing present = refl
+from_number at base (suc most) number test f missing present =
     go (at (section_name base number)) refl
     (from_number at base most (suc number) (λ k. test (suc k)) (λ k. f (suc k)) (λ k. missing (suc k) ∙ ap (is_missing at base) (number_next number k))
-    (λ k. stands (suc k) ∙ ap (λ n. at (section_name base n)) (number_next number k)))
+    (λ k. present (suc k) ∙ ap (λ n. at (section_name base n)) (number_next number k)))
   where
     here : number + 0 ≡ number
     here = omega arith
 
     first : f 0 ≡ at (section_name base number)
-    first = stands 0 ∙ ap (λ n. at (section_name base n)) here
+    first = present 0 ∙ ap (λ n. at (section_name base n)) here
 
     tested : test 0 ≡ not (is_some (at (section_name base number)))
     tested = missing 0 ∙ ap (is_missing at base) here

@@ -15,7 +15,7 @@ use Rattle.mailparse.specs.Continuations.{is_base, is_first_of, joined_at, param
 use Rattle.mailparse.specs.ExtendedValues.{section_at, is_extended, name_under, starred}
 use Rattle.mailparse.specs.Sections.{is_text}
 use Rattle.mailparse.specs.private.Continuations.{names_in, names_of_sections}
-use Rattle.mailparse.specs.private.Sections.{section_view, sections_at, stands_at}
+use Rattle.mailparse.specs.private.Sections.{section_view, sections_at, stored_section}
 use Rattle.mailparse.specs.Pairs.{Texts, last_of, text_at}
 use Rattle.mailparse.specs.private.Filled.{holds_name}
 use Rattle.mailparse.specs.declared.parameters.sections.Sections.{Sections}
@@ -126,7 +126,7 @@ entry_named m q h = true_from_ne_false _ (λ is. some_of _ (unnamed q m is) h)
 holds_both : (xs ys : List (List ℕ)) (q : List ℕ) → holds_name (xs ++ ys) q ≡ (holds_name xs q || holds_name ys q)
 holds_both xs ys q = list_any-append (λ n. bytes_eq n q) xs ys
 
-pub sections_named : {C : Type 0} (reads : C → List ℕ → List ℕ) (sections : Sections C) (q : List ℕ) → is_some (stands_at reads sections q) ≡ true → holds_name (names_of_sections sections) q ≡ true
+pub sections_named : {C : Type 0} (reads : C → List ℕ → List ℕ) (sections : Sections C) (q : List ℕ) → is_some (stored_section reads sections q) ≡ true → holds_name (names_of_sections sections) q ≡ true
 sections_named {C} reads sections q h = holds_both (names_in sections.texts) (names_in sections.extended) q ∙ go (get_by_text sections.extended q) refl h
   where
     go : (o : Option (Section C)) → get_by_text sections.extended q ≡ o → is_some (option_or (option_map (section_view reads) (get_by_text sections.extended q)) (option_map words.text (text_at sections.texts q))) ≡ true
@@ -137,7 +137,7 @@ sections_named {C} reads sections q h = holds_both (names_in sections.texts) (na
         (sym (is_some_map string_bytes (get_by_text sections.texts q)) ∙ sym (is_some_map words.text (text_at sections.texts q))
         ∙ sym (ap (λ o. is_some (option_or (option_map (section_view reads) o) (option_map words.text (text_at sections.texts q)))) is) ∙ some))
 
-pub named_sections : {C : Type 0} (reads : C → List ℕ → List ℕ) (sections : Sections C) (q : List ℕ) → holds_name (names_of_sections sections) q ≡ true → is_some (stands_at reads sections q) ≡ true
+pub named_sections : {C : Type 0} (reads : C → List ℕ → List ℕ) (sections : Sections C) (q : List ℕ) → holds_name (names_of_sections sections) q ≡ true → is_some (stored_section reads sections q) ≡ true
 named_sections reads sections q h =
     ⊎_elim
     (λ text. second (sections_at reads sections.extended q) _ (is_some_map words.text (text_at sections.texts q) ∙ is_some_map string_bytes (get_by_text sections.texts q) ∙ named q sections.texts text))

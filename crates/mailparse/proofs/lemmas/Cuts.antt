@@ -7,7 +7,7 @@ use Rattle.std.specs.Char.{IsScalar, encode_utf8, is_whitespace}
 use Rattle.std.specs.List.{list_all}
 use Rattle.std.specs.Str.{chars, trim_start, encode_utf8_all, skip_leading_whitespace, IsUtf8, IsCharBoundary}
 use Rattle.mailparse.specs.private.Cuts.{IsCut, IsOpening, KeepsClosing}
-use Rattle.mail_codec.specs.Places.{stands, place_from}
+use Rattle.mail_codec.specs.Places.{has_prefix, place_from}
 use Rattle.mailparse.specs.Tokens.{whitespace, plain_text, opening, closing, begins_closing, begins_with_boundary, is_boundary, is_all_whitespace}
 use Rattle.mailparse.specs.Value.{outside_token}
 use Rattle.mail_codec.proofs.lemmas.Places.{place_from_same, place_from_here, place_from_next, place_from_passes}
@@ -27,24 +27,24 @@ KeepsClosing_none line k above below = absurd (omega arith)
 
 -- ---- pairs of bytes
 
-closing_is_pair : (rest : List ℕ) → begins_closing rest ≡ true → stands (63 ∷ 61 ∷ []) rest ≡ true
-closing_is_pair rest h = (and_parts (stands (63 ∷ 61 ∷ []) rest) (begins_with_boundary (chars (drop 2 rest))) h).0
+closing_is_pair : (rest : List ℕ) → begins_closing rest ≡ true → has_prefix (63 ∷ 61 ∷ []) rest ≡ true
+closing_is_pair rest h = (and_parts (has_prefix (63 ∷ 61 ∷ []) rest) (begins_with_boundary (chars (drop 2 rest))) h).0
 
 -- the end of a word is sought from the next `?=` on
-pub closing_from_pair : (line : List ℕ) (s at : ℕ) → s ≤ length line → place_from (stands (63 ∷ 61 ∷ [])) line s ≡ at
-    → (at ≤ length line) × (place_from (stands (63 ∷ 61 ∷ [])) line at ≡ at) × (closing line at ≡ closing line s)
-closing_from_pair line s at fits e = place_from_via (stands (63 ∷ 61 ∷ [])) begins_closing closing_is_pair line s at fits e
+pub closing_from_pair : (line : List ℕ) (s at : ℕ) → s ≤ length line → place_from (has_prefix (63 ∷ 61 ∷ [])) line s ≡ at
+    → (at ≤ length line) × (place_from (has_prefix (63 ∷ 61 ∷ [])) line at ≡ at) × (closing line at ≡ closing line s)
+closing_from_pair line s at fits e = place_from_via (has_prefix (63 ∷ 61 ∷ [])) begins_closing closing_is_pair line s at fits e
 
-pair_here : (line : List ℕ) (at : ℕ) → at < length line → place_from (stands (63 ∷ 61 ∷ [])) line at ≡ at → stands (63 ∷ 61 ∷ []) (drop at line) ≡ true
+pair_here : (line : List ℕ) (at : ℕ) → at < length line → place_from (has_prefix (63 ∷ 61 ∷ [])) line at ≡ at → has_prefix (63 ∷ 61 ∷ []) (drop at line) ≡ true
 pair_here line at some found =
-    let pair = stands (63 ∷ 61 ∷ []) in
+    let pair = has_prefix (63 ∷ 61 ∷ []) in
     subst (λ v. pair (drop v line) ≡ true) found (place_from_passes pair line at (omega arith) (λ e. absurd (omega arith)))
 
 closing_beside : (line : List ℕ) (at : ℕ) → begins_with_boundary (chars (drop 2 (drop at line))) ≡ begins_with_boundary (chars (drop (at + 2) line))
 closing_beside line at = ap (λ rest. begins_with_boundary (chars rest)) (drop-drop 2 at line)
 
 -- a `?=` with a boundary after it is the end of a word
-pub closing_here : (line : List ℕ) (at : ℕ) → at < length line → place_from (stands (63 ∷ 61 ∷ [])) line at ≡ at
+pub closing_here : (line : List ℕ) (at : ℕ) → at < length line → place_from (has_prefix (63 ∷ 61 ∷ [])) line at ≡ at
     → begins_with_boundary (chars (drop (at + 2) line)) ≡ true → closing line at ≡ at
 closing_here line at some found beside =
     place_from_here begins_closing line at some (and_from _ _ (pair_here line at some found) (closing_beside line at ∙ beside))
@@ -53,7 +53,7 @@ closing_here line at some found beside =
 pub closing_next : (line : List ℕ) (at : ℕ) → at < length line → begins_with_boundary (chars (drop (at + 2) line)) ≡ false
     → closing line at ≡ closing line (at + 1)
 closing_next line at some beside =
-    place_from_next begins_closing line at some (and_right (stands (63 ∷ 61 ∷ []) (drop at line)) _ (closing_beside line at ∙ beside))
+    place_from_next begins_closing line at some (and_right (has_prefix (63 ∷ 61 ∷ []) (drop at line)) _ (closing_beside line at ∙ beside))
 
 -- ---- characters beside a word
 
@@ -114,14 +114,14 @@ outside_token-text text e =
 
 -- ---- where a line may be cut
 
-pair_cut : (a b : ℕ) (line : List ℕ) (s v : ℕ) → IsUtf8 line → a < 128 → b < 128 → s ≤ length line → place_from (stands (a ∷ b ∷ [])) line s ≡ v
+pair_cut : (a b : ℕ) (line : List ℕ) (s v : ℕ) → IsUtf8 line → a < 128 → b < 128 → s ≤ length line → place_from (has_prefix (a ∷ b ∷ [])) line s ≡ v
     → v ≢ length line → IsCut line v
 pair_cut a b line s v utf8 first second fits e some =
-    let stands = pair_stands a b line s v fits e some in
+    let has_prefix = pair_stands a b line s v fits e some in
     record {
-      fits = stands.1;
-      before = IsCharBoundary-before_ascii line v (omega arith) (omega (arith, stands.2));
-      after = boundary_after line v b utf8 stands.1 stands.3 second;
+      fits = has_prefix.1;
+      before = IsCharBoundary-before_ascii line v (omega arith) (omega (arith, has_prefix.2));
+      after = boundary_after line v b utf8 has_prefix.1 has_prefix.3 second;
     }
 
 pub opening_found : (line : List ℕ) (s v : ℕ) → IsUtf8 line → s ≤ length line → opening line s ≡ v → v ≢ length line → IsOpening line s v
@@ -135,11 +135,11 @@ opening_found line s v utf8 fits e some =
 
 pub closing_cut : (line : List ℕ) (s e : ℕ) → IsUtf8 line → s ≤ length line → closing line s ≡ e → e ≢ length line → IsCut line e
 closing_cut line s e utf8 fits at some =
-    let stands = closing_stands line s e fits at some in
+    let has_prefix = closing_stands line s e fits at some in
     record {
-      fits = stands.1;
-      before = IsCharBoundary-before_ascii line e (omega arith) (omega (arith, stands.2));
-      after = boundary_after line e 61 utf8 stands.1 stands.3 (lit< tt);
+      fits = has_prefix.1;
+      before = IsCharBoundary-before_ascii line e (omega arith) (omega (arith, has_prefix.2));
+      after = boundary_after line e 61 utf8 has_prefix.1 has_prefix.3 (lit< tt);
     }
 
 -- ---- the character before a place

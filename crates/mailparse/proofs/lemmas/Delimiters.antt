@@ -5,7 +5,7 @@ use Rattle.std.proofs.lemmas.Bool.{cond-true, cond-false, cases_lt, cases_eq, lt
 use Rattle.std.proofs.Math.Bool.{and-false}
 use Rattle.std.proofs.lemmas.List.{drop-drop}
 use Rattle.bstr.specs.Find.{OccursAt, FindsNeedle}
-use Rattle.mail_codec.specs.Places.{stands, begins, first_place, least, byte_place, text_place, values_below}
+use Rattle.mail_codec.specs.Places.{has_prefix, begins, first_place, least, byte_place, text_place, values_below}
 use Rattle.mail_codec.proofs.lemmas.Places.{least-is, least-before, least-passes, first_place-before, first_place-passes}
 use Rattle.mailparse.specs.Header.{is_line_feed}
 use Rattle.mailparse.specs.Delimiters.{least_from, starts_line, is_delimiter, delimiter_from, line_after, part_after, is_close_delimiter, next_part, part_start, part_starts, part_range}
@@ -73,24 +73,24 @@ reads_more : (x b : ℕ) (text rest : List ℕ) → x ≡ b → ((j : ℕ) → j
 reads_more x b text rest same h zero low = sym same
 reads_more x b text rest same h (suc j) low = h j (omega arith)
 
-pub stands_reads : (text rest : List ℕ) → stands text rest ≡ true → (length text ≤ length rest) × ((j : ℕ) → j < length text → get_or rest j 0 ≡ get_or text j 0)
-stands_reads [] rest h = (omega arith, λ j low. absurd (omega arith))
-stands_reads (x ∷ text) [] h = absurd (false≢true h)
-stands_reads (x ∷ text) (b ∷ rest) h =
-    let parts = and_parts (eqb x b) (stands text rest) h in
-    let more = stands_reads text rest parts.1 in
+pub has_prefix_reads : (text rest : List ℕ) → has_prefix text rest ≡ true → (length text ≤ length rest) × ((j : ℕ) → j < length text → get_or rest j 0 ≡ get_or text j 0)
+has_prefix_reads [] rest h = (omega arith, λ j low. absurd (omega arith))
+has_prefix_reads (x ∷ text) [] h = absurd (false≢true h)
+has_prefix_reads (x ∷ text) (b ∷ rest) h =
+    let parts = and_parts (eqb x b) (has_prefix text rest) h in
+    let more = has_prefix_reads text rest parts.1 in
     (omega (arith, more.0), reads_more x b text rest (eqb-true x b parts.0) more.1)
 
-pub reads_stands : (text rest : List ℕ) → length text ≤ length rest → ((j : ℕ) → j < length text → get_or rest j 0 ≡ get_or text j 0) → stands text rest ≡ true
+pub reads_stands : (text rest : List ℕ) → length text ≤ length rest → ((j : ℕ) → j < length text → get_or rest j 0 ≡ get_or text j 0) → has_prefix text rest ≡ true
 reads_stands [] rest fits h = refl
 reads_stands (x ∷ text) [] fits h = absurd (omega arith)
 reads_stands (x ∷ text) (b ∷ rest) fits h =
-    and_from (eqb x b) (stands text rest) (eq-eqb x b (sym (h 0 (omega arith)))) (reads_stands text rest (omega arith) (λ j low. h (suc j) (omega arith)))
+    and_from (eqb x b) (has_prefix text rest) (eq-eqb x b (sym (h 0 (omega arith)))) (reads_stands text rest (omega arith) (λ j low. h (suc j) (omega arith)))
 
 -- where a delimiter stands, all of it stands within the bytes
 pub is_delimiter-fits : (dash_boundary bytes : List ℕ) (start p : ℕ) → p ≤ length bytes → is_delimiter dash_boundary bytes start p ≡ true → p + length dash_boundary ≤ length bytes
 is_delimiter-fits dash_boundary bytes start p within h =
-    let fits = (stands_reads dash_boundary (drop p bytes) (and_parts (starts_line bytes start p) (stands dash_boundary (drop p bytes)) h).1).0 in
+    let fits = (has_prefix_reads dash_boundary (drop p bytes) (and_parts (starts_line bytes start p) (has_prefix dash_boundary (drop p bytes)) h).1).0 in
     let len = length-drop p bytes in
     omega arith
 
@@ -121,45 +121,45 @@ somewhere f at (Some k) e = let same : Some at ≡ Some (f k) = e in (k, refl, c
 
 -- ---- a search for the LF and the delimiter after it
 
-feed_and : (dash_boundary rest : List ℕ) → stands (10 ∷ dash_boundary) rest ≡ (begins is_line_feed rest && stands dash_boundary (drop 1 rest))
+feed_and : (dash_boundary rest : List ℕ) → has_prefix (10 ∷ dash_boundary) rest ≡ (begins is_line_feed rest && has_prefix dash_boundary (drop 1 rest))
 feed_and dash_boundary [] = refl
-feed_and dash_boundary (b ∷ rest) = ap (λ t. t && stands dash_boundary rest) (eqb_swap 10 b)
+feed_and dash_boundary (b ∷ rest) = ap (λ t. t && has_prefix dash_boundary rest) (eqb_swap 10 b)
 
 -- past the start a delimiter stands where a LF and the delimiter stand one place before
-pub is_delimiter-line : (dash_boundary bytes : List ℕ) (start p : ℕ) → start < p → is_delimiter dash_boundary bytes start p ≡ stands (10 ∷ dash_boundary) (drop (p - 1) bytes)
+pub is_delimiter-line : (dash_boundary bytes : List ℕ) (start p : ℕ) → start < p → is_delimiter dash_boundary bytes start p ≡ has_prefix (10 ∷ dash_boundary) (drop (p - 1) bytes)
 is_delimiter-line dash_boundary bytes start p later =
     let other : eqb p start ≡ false = ne_eqb p start (λ e. absurd (omega (arith, later))) in
     let there : drop 1 (drop (p - 1) bytes) ≡ drop p bytes = drop-drop 1 (p - 1) bytes ∙ ap (λ n. drop n bytes) (omega arith) in
-    ap (λ t. (t || begins is_line_feed (drop (p - 1) bytes)) && stands dash_boundary (drop p bytes)) other
-    ∙ ap (λ rest. begins is_line_feed (drop (p - 1) bytes) && stands dash_boundary rest) (sym there)
+    ap (λ t. (t || begins is_line_feed (drop (p - 1) bytes)) && has_prefix dash_boundary (drop p bytes)) other
+    ∙ ap (λ rest. begins is_line_feed (drop (p - 1) bytes) && has_prefix dash_boundary rest) (sym there)
     ∙ sym (feed_and dash_boundary (drop (p - 1) bytes))
 
-stands_occurs : (text bytes : List ℕ) (k : ℕ) → k ≤ length bytes → stands text (drop k bytes) ≡ true → OccursAt bytes text k
-stands_occurs text bytes k within h =
-    let reads = stands_reads text (drop k bytes) h in
+has_prefix_occurs : (text bytes : List ℕ) (k : ℕ) → k ≤ length bytes → has_prefix text (drop k bytes) ≡ true → OccursAt bytes text k
+has_prefix_occurs text bytes k within h =
+    let reads = has_prefix_reads text (drop k bytes) h in
     let len = length-drop k bytes in
     record { fits = omega (arith, reads.0); reads = λ j low. sym (get_or-drop k bytes j 0) ∙ reads.1 j low }
 
-occurs_stands : (text bytes : List ℕ) (k : ℕ) → OccursAt bytes text k → stands text (drop k bytes) ≡ true
+occurs_stands : (text bytes : List ℕ) (k : ℕ) → OccursAt bytes text k → has_prefix text (drop k bytes) ≡ true
 occurs_stands text bytes k h =
     let fits = h.fits in
     let len = length-drop k bytes in
     reads_stands text (drop k bytes) (omega arith) (λ j low. get_or-drop k bytes j 0 ∙ h.reads j low)
 
 -- the start itself is one where the delimiter stands
-pub is_delimiter-start : (dash_boundary bytes : List ℕ) (start : ℕ) → is_delimiter dash_boundary bytes start start ≡ stands dash_boundary (drop start bytes)
-is_delimiter-start dash_boundary bytes start = ap (λ t. (t || begins is_line_feed (drop (start - 1) bytes)) && stands dash_boundary (drop start bytes)) (eq-eqb start start refl)
+pub is_delimiter-start : (dash_boundary bytes : List ℕ) (start : ℕ) → is_delimiter dash_boundary bytes start start ≡ has_prefix dash_boundary (drop start bytes)
+is_delimiter-start dash_boundary bytes start = ap (λ t. (t || begins is_line_feed (drop (start - 1) bytes)) && has_prefix dash_boundary (drop start bytes)) (eq-eqb start start refl)
 
 -- none stands up to a place before which the LF and the delimiter occur nowhere
-none_to : (dash_boundary bytes : List ℕ) (start to : ℕ) → start ≤ length bytes → to ≤ length (drop start bytes) → stands dash_boundary (drop start bytes) ≡ false
+none_to : (dash_boundary bytes : List ℕ) (start to : ℕ) → start ≤ length bytes → to ≤ length (drop start bytes) → has_prefix dash_boundary (drop start bytes) ≡ false
     → ((k : ℕ) → 0 ≤ k → k < to → OccursAt (drop start bytes) (10 ∷ dash_boundary) k → ⊥) → NoDelimiter dash_boundary bytes start (suc (start + to))
 none_to dash_boundary bytes start to within fits first none k low high =
     ⊎_elim (λ same. subst (λ p. is_delimiter dash_boundary bytes start p ≡ false) (sym same) (is_delimiter-start dash_boundary bytes start ∙ first))
     (λ other.
     let i = k - 1 - start in
     let there : drop i (drop start bytes) ≡ drop (k - 1) bytes = drop-drop i start bytes ∙ ap (λ n. drop n bytes) (omega (arith, other)) in
-    is_delimiter-line dash_boundary bytes start k (omega (arith, other)) ∙ ap (stands (10 ∷ dash_boundary)) (sym there)
-    ∙ false_from_ne_true _ (λ e. none i (omega arith) (omega (arith, other)) (stands_occurs (10 ∷ dash_boundary) (drop start bytes) i (omega arith) e)))
+    is_delimiter-line dash_boundary bytes start k (omega (arith, other)) ∙ ap (has_prefix (10 ∷ dash_boundary)) (sym there)
+    ∙ false_from_ne_true _ (λ e. none i (omega arith) (omega (arith, other)) (has_prefix_occurs (10 ∷ dash_boundary) (drop start bytes) i (omega arith) e)))
     (cases_eq k start)
 
 -- ---- a search from one line that begins with the dash-boundary's first byte to the next
@@ -170,33 +170,33 @@ both_and true false u h = refl
 both_and false t u h = refl
 
 -- a LF and the dash-boundary stand only where the LF and the dash-boundary's first byte do
-pub stands_pair : (dash_boundary rest : List ℕ) → 0 < length dash_boundary → stands (10 ∷ get_or dash_boundary 0 0 ∷ []) rest ≡ false → stands (10 ∷ dash_boundary) rest ≡ false
-stands_pair [] rest some h = absurd (omega arith)
-stands_pair (x ∷ dash_boundary) [] some h = refl
-stands_pair (x ∷ dash_boundary) (b ∷ []) some h = and-false (eqb 10 b)
-stands_pair (x ∷ dash_boundary) (b ∷ c ∷ rest) some h = both_and (eqb 10 b) (eqb x c) (stands dash_boundary rest) h
+pub has_prefix_pair : (dash_boundary rest : List ℕ) → 0 < length dash_boundary → has_prefix (10 ∷ get_or dash_boundary 0 0 ∷ []) rest ≡ false → has_prefix (10 ∷ dash_boundary) rest ≡ false
+has_prefix_pair [] rest some h = absurd (omega arith)
+has_prefix_pair (x ∷ dash_boundary) [] some h = refl
+has_prefix_pair (x ∷ dash_boundary) (b ∷ []) some h = and-false (eqb 10 b)
+has_prefix_pair (x ∷ dash_boundary) (b ∷ c ∷ rest) some h = both_and (eqb 10 b) (eqb x c) (has_prefix dash_boundary rest) h
 
 -- where the two bytes are found, both stand within the bytes
 pub pair_within : (a b p : ℕ) (bytes : List ℕ) → Some p ≡ text_place bytes (a ∷ b ∷ []) → p + 2 ≤ length bytes
 pair_within a b p bytes e =
-    let found = place_some (stands (a ∷ b ∷ [])) bytes p e in
-    let reads = stands_reads (a ∷ b ∷ []) (drop p bytes)
-    (subst (λ n. stands (a ∷ b ∷ []) (drop n bytes) ≡ true) (sym found.0) (first_place-passes (stands (a ∷ b ∷ [])) bytes found.1)) in
+    let found = place_some (has_prefix (a ∷ b ∷ [])) bytes p e in
+    let reads = has_prefix_reads (a ∷ b ∷ []) (drop p bytes)
+    (subst (λ n. has_prefix (a ∷ b ∷ []) (drop n bytes) ≡ true) (sym found.0) (first_place-passes (has_prefix (a ∷ b ∷ [])) bytes found.1)) in
     let len = length-drop p bytes in
     omega (arith, reads.0)
 
 -- none stands at a place, nor up to the next LF with the dash-boundary's first byte
 no_delimiter_past : (dash_boundary bytes : List ℕ) (start at j : ℕ) → 0 < length dash_boundary → start ≤ at → NoDelimiter dash_boundary bytes start at → is_delimiter dash_boundary bytes start at ≡ false
-    → first_place (stands (10 ∷ get_or dash_boundary 0 0 ∷ [])) (drop at bytes) ≡ j → NoDelimiter dash_boundary bytes start (suc (at + j))
+    → first_place (has_prefix (10 ∷ get_or dash_boundary 0 0 ∷ [])) (drop at bytes) ≡ j → NoDelimiter dash_boundary bytes start (suc (at + j))
 no_delimiter_past dash_boundary bytes start at j some after none here first k low high =
     ⊎_elim (λ below. none k low below)
     (λ above. ⊎_elim (λ same. subst (λ p. is_delimiter dash_boundary bytes start p ≡ false) (sym same) here)
     (λ other.
-    let pair = stands (10 ∷ get_or dash_boundary 0 0 ∷ []) in
+    let pair = has_prefix (10 ∷ get_or dash_boundary 0 0 ∷ []) in
     let i = k - 1 - at in
     let there : drop i (drop at bytes) ≡ drop (k - 1) bytes = drop-drop i at bytes ∙ ap (λ n. drop n bytes) (omega (arith, other)) in
     let fails : pair (drop i (drop at bytes)) ≡ false = first_place-before pair (drop at bytes) i (omega (arith, first, other)) in
-    is_delimiter-line dash_boundary bytes start k (omega (arith, other)) ∙ stands_pair dash_boundary (drop (k - 1) bytes) some (ap pair (sym there) ∙ fails))
+    is_delimiter-line dash_boundary bytes start k (omega (arith, other)) ∙ has_prefix_pair dash_boundary (drop (k - 1) bytes) some (ap pair (sym there) ∙ fails))
     (cases_eq k at))
     (cases_lt k at)
 
@@ -208,7 +208,7 @@ no_delimiter_left dash_boundary bytes start at some after within none here e k l
     let pair = 10 ∷ get_or dash_boundary 0 0 ∷ [] in
     let len = length-drop at bytes in
     no_delimiter_past dash_boundary bytes start at (length (drop at bytes)) some after none here
-    (place_none (stands pair) (drop at bytes) (nowhere (λ k. suc (at + k)) (text_place (drop at bytes) pair) e)) k low (omega arith)
+    (place_none (has_prefix pair) (drop at bytes) (nowhere (λ k. suc (at + k)) (text_place (drop at bytes) pair) e)) k low (omega arith)
 
 -- the next such line
 pub no_delimiter_to_line : (dash_boundary bytes : List ℕ) (start at next : ℕ) → 0 < length dash_boundary → start ≤ at → NoDelimiter dash_boundary bytes start at
@@ -218,12 +218,12 @@ no_delimiter_to_line dash_boundary bytes start at next some after none here e =
     let pair = 10 ∷ get_or dash_boundary 0 0 ∷ [] in
     let there = somewhere (λ k. suc (at + k)) next (text_place (drop at bytes) pair) e in
     subst (NoDelimiter dash_boundary bytes start) (sym there.2)
-    (no_delimiter_past dash_boundary bytes start at there.0 some after none here (sym (place_some (stands pair) (drop at bytes) there.0 there.1).0))
+    (no_delimiter_past dash_boundary bytes start at there.0 some after none here (sym (place_some (has_prefix pair) (drop at bytes) there.0 there.1).0))
 
 -- ---- a search for the LF and the delimiter after it, by the kit's search
 
 -- where the search found nothing
-pub found_nowhere : (dash_boundary bytes : List ℕ) (start : ℕ) → start ≤ length bytes → stands dash_boundary (drop start bytes) ≡ false → FindsNeedle (drop start bytes) (10 ∷ dash_boundary) 0 None
+pub found_nowhere : (dash_boundary bytes : List ℕ) (start : ℕ) → start ≤ length bytes → has_prefix dash_boundary (drop start bytes) ≡ false → FindsNeedle (drop start bytes) (10 ∷ dash_boundary) 0 None
     → None ≡ delimiter_from dash_boundary bytes start
 found_nowhere dash_boundary bytes start within first none =
     let len = length-drop start bytes in
@@ -231,23 +231,23 @@ found_nowhere dash_boundary bytes start within first none =
     none_to dash_boundary bytes start (length (drop start bytes)) within (omega arith) first (λ j least small occurs. none j least (omega arith) occurs) k low (omega arith))
 
 -- where it found a place
-pub found_line : (dash_boundary bytes : List ℕ) (start k : ℕ) → 0 < length dash_boundary → start ≤ length bytes → stands dash_boundary (drop start bytes) ≡ false → FindsNeedle (drop start bytes) (10 ∷ dash_boundary) 0 (Some k)
+pub found_line : (dash_boundary bytes : List ℕ) (start k : ℕ) → 0 < length dash_boundary → start ≤ length bytes → has_prefix dash_boundary (drop start bytes) ≡ false → FindsNeedle (drop start bytes) (10 ∷ dash_boundary) 0 (Some k)
     → (Some (start + k + 1) ≡ delimiter_from dash_boundary bytes start) × (start + k + 1 + length dash_boundary ≤ length bytes)
 found_line dash_boundary bytes start k some within first found =
     let len = length-drop start bytes in
     let fits = found.1.fits in
     let there : drop k (drop start bytes) ≡ drop (start + k + 1 - 1) bytes = drop-drop k start bytes ∙ ap (λ n. drop n bytes) (omega arith) in
     let at : is_delimiter dash_boundary bytes start (start + k + 1) ≡ true =
-    is_delimiter-line dash_boundary bytes start (start + k + 1) (omega arith) ∙ ap (stands (10 ∷ dash_boundary)) (sym there) ∙ occurs_stands (10 ∷ dash_boundary) (drop start bytes) k found.1 in (
+    is_delimiter-line dash_boundary bytes start (start + k + 1) (omega arith) ∙ ap (has_prefix (10 ∷ dash_boundary)) (sym there) ∙ occurs_stands (10 ∷ dash_boundary) (drop start bytes) k found.1 in (
       delimiter_from-some dash_boundary bytes start (start + k + 1) (omega arith) (omega arith) at
           (λ j low high. none_to dash_boundary bytes start k within (omega arith) first (λ i least small occurs. found.0.before i least small occurs) j low (omega arith)),
       omega arith,
     )
 
 -- where the delimiter stands at the start
-pub starts_delimiter : (dash_boundary bytes : List ℕ) (start : ℕ) → 0 < length dash_boundary → stands dash_boundary (drop start bytes) ≡ true → Some start ≡ delimiter_from dash_boundary bytes start
+pub starts_delimiter : (dash_boundary bytes : List ℕ) (start : ℕ) → 0 < length dash_boundary → has_prefix dash_boundary (drop start bytes) ≡ true → Some start ≡ delimiter_from dash_boundary bytes start
 starts_delimiter dash_boundary bytes start some h =
-    let fits = (stands_reads dash_boundary (drop start bytes) h).0 in
+    let fits = (has_prefix_reads dash_boundary (drop start bytes) h).0 in
     let len = length-drop start bytes in
     delimiter_from-some dash_boundary bytes start start (omega arith) (omega arith) (is_delimiter-start dash_boundary bytes start ∙ h) (λ k low high. absurd (omega arith))
 

@@ -134,10 +134,10 @@ module _ (known : Charsets) where
   pub word_whole : (inside label rest encoding encoded bytes text : List ℕ) (decode : List ℕ → List ℕ) → IsCutAtMark inside label rest
       → IsCutAtMark rest encoding encoded → known label ≡ Some decode → encoded_bytes encoding encoded ≡ Some bytes → text ≡ decode bytes
       → Some text ≡ word_text known inside
-  word_whole inside label rest encoding encoded bytes text decode first second some stands reads =
+  word_whole inside label rest encoding encoded bytes text decode first second some has_prefix reads =
       sym (word_parts inside label rest encoding encoded first second
       ∙ ap (option_and_then (λ text. option_and_then (λ bytes. Some (text bytes)) (encoded_bytes encoding encoded))) some
-      ∙ ap (option_and_then (λ bytes. Some (decode bytes))) stands
+      ∙ ap (option_and_then (λ bytes. Some (decode bytes))) has_prefix
       ∙ ap Some (sym reads))
 
 -- ---- the pieces between the `_`, as a loop joins them

@@ -2,7 +2,7 @@
 use Rattle.std.proofs.Common.{◌≡◌, ℕ, zero, suc, ◌-◌, ◌<◌, ◌≤◌, Bool, true, false, List, [], ◌∷◌, ◌++◌, length, map, take, drop, slice_range, Option, Some, None, option_map, Ok, Err, refl, sym, ap, ◌∙◌, subst, arith, Result}
 use Rattle.std.specs.Prelude.{codes, if◌then◌else◌}
 use Rattle.mail_codec.specs.Charset.{Charsets}
-use Rattle.mail_codec.specs.Places.{stands}
+use Rattle.mail_codec.specs.Places.{has_prefix}
 use Rattle.mailparse.specs.Refusal.{◌>>=◌, Refusal, Reads, recursion_limit}
 use Rattle.mailparse.specs.Header.{Header}
 use Rattle.mailparse.specs.Block.{HeaderList, read_headers}
@@ -190,7 +190,7 @@ feed_and_dash_boundary_none (Some dash_boundary) e = let clash : None ≡ Some (
 
 -- a dash-boundary has at least the two bytes in front of the boundary
 pub dash_boundary_of-length : (ctype : ContentType) (dash_boundary : List ℕ) → dash_boundary_of ctype ≡ Some dash_boundary → 2 ≤ length dash_boundary
-dash_boundary_of-length ctype dash_boundary e = by_tests (stands (codes "multipart") ctype.mimetype) (ctype.params (codes "boundary")) e
+dash_boundary_of-length ctype dash_boundary e = by_tests (has_prefix (codes "multipart") ctype.mimetype) (ctype.params (codes "boundary")) e
   where
     by_tests : (t : Bool) (o : Option (List ℕ)) → if t then option_map (λ b. codes "--" ++ b) o else None ≡ Some dash_boundary → 2 ≤ length dash_boundary
     by_tests false o h = let clash : None ≡ Some dash_boundary = h in absurd (cc)

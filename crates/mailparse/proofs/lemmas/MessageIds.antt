@@ -18,7 +18,7 @@ use Rattle.std.specs.Str.Pattern.{FindsCharPrefix, StripsPrefix}
 use Rattle.std.proofs.lemmas.List.Folds.{list_any_at}
 use Rattle.std.proofs.lemmas.List.Splits.{slice_split_first, slice_split_none}
 use Rattle.std.proofs.lemmas.Bool.{false_from_ne_true, false≢true, ne_eqb, lt-ltb, le-ltb}
-use Rattle.mail_codec.specs.Places.{stands}
+use Rattle.mail_codec.specs.Places.{has_prefix}
 use Rattle.mailparse.proofs.lemmas.EncodedWord.{any_from_place, join_next, split_some}
 
 -- ids before those of a text
@@ -104,9 +104,9 @@ message_ids-next text piece after id cut opened =
 pub opens_from_strip : (piece text : List ℕ) (r : Option (Bor (List ℕ))) → text ≡ trim_start piece
     → MatchOption r (FindsCharPrefix 60 text None) (λ x. StripsPrefix (FindsCharPrefix 60) text x.now)
     → MatchOption r (opens_id piece ≡ false) (λ id. IsOpenedId piece id.now)
-opens_from_strip piece text None e h = ap (stands (60 ∷ [])) (sym e) ∙ go text h
+opens_from_strip piece text None e h = ap (has_prefix (60 ∷ [])) (sym e) ∙ go text h
   where
-    go : (text : List ℕ) → ((rest : List ℕ) → text ≢ encode_utf8 60 ++ rest) → stands (60 ∷ []) text ≡ false
+    go : (text : List ℕ) → ((rest : List ℕ) → text ≢ encode_utf8 60 ++ rest) → has_prefix (60 ∷ []) text ≡ false
     go [] h = refl
     go (b ∷ text) h = ap (λ t. t && true) (ne_eqb 60 b (λ p. h text (ap (λ c. c ∷ text) (sym p) ∙ ap (λ r. r ++ text) (sym (encode_ascii 60 (lit< tt))))))
 opens_from_strip piece text (Some x) e h =
@@ -114,7 +114,7 @@ opens_from_strip piece text (Some x) e h =
     let front : text ≡ 60 ∷ drop n text = h.1.split ∙ ap (λ r. r ++ drop n text) (encode_ascii 60 (lit< tt)) in
     let one : n ≡ 1 = h.1.ends in
     record {
-      opens = ap (stands (60 ∷ [])) (sym e ∙ front);
+      opens = ap (has_prefix (60 ∷ [])) (sym e ∙ front);
       is = h.2 ∙ ap (λ k. drop k text) one ∙ ap (drop 1) e;
     }
 

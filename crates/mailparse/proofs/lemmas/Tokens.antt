@@ -8,13 +8,13 @@ use Rattle.std.specs.Option.{option_map_or}
 use Rattle.std.proofs.Math.Nat.{sub-zero}
 use Rattle.mailparse.specs.EncodedWord.{word_text}
 use Rattle.mail_codec.specs.Charset.{Charsets}
-use Rattle.mail_codec.specs.Places.{stands, place_from}
+use Rattle.mail_codec.specs.Places.{has_prefix, place_from}
 use Rattle.mailparse.specs.Tokens.{TokenRange, TokenGroup, IsTokenGroup, no_opening, no_boundary, no_closing, decodes, stays_text, AreTokensFrom, last_group, next_group, AreTokens, begins_closing, opening, closing, boundary_before, outside_range, text_range, inside, token_group_at, group_of_opening, group_of_word, tokens_within, token_ranges, Adjoin, token_source}
 use Rattle.mail_codec.proofs.lemmas.Places.{place_from_bounds, place_from_passes}
 
 -- ---- how far a group goes
 
-begins_two : (a b : ℕ) (bytes : List ℕ) → stands (a ∷ b ∷ []) bytes ≡ true
+begins_two : (a b : ℕ) (bytes : List ℕ) → has_prefix (a ∷ b ∷ []) bytes ≡ true
     → (2 ≤ length bytes) × (get_or bytes 0 0 ≡ a) × (get_or bytes 1 0 ≡ b)
 begins_two a b [] h = cc
 begins_two a b (c ∷ []) h = absurd (false≢true (sym (and_right (eqb a c) false refl) ∙ h))
@@ -24,20 +24,20 @@ begins_two a b (c ∷ d ∷ bytes) h =
     (omega arith, sym (eqb-true a c parts.0), sym (eqb-true b d second.0))
 
 -- where what begins with two bytes is found they stand, within the line
-stands_where : (test : List ℕ → Bool) (a b : ℕ) → ((rest : List ℕ) → test rest ≡ true → stands (a ∷ b ∷ []) rest ≡ true) → (line : List ℕ) (s v : ℕ) → s ≤ length line → place_from test line s ≡ v → v ≢ length line
+has_prefix_where : (test : List ℕ → Bool) (a b : ℕ) → ((rest : List ℕ) → test rest ≡ true → has_prefix (a ∷ b ∷ []) rest ≡ true) → (line : List ℕ) (s v : ℕ) → s ≤ length line → place_from test line s ≡ v → v ≢ length line
     → (s ≤ v) × (v + 2 ≤ length line) × (get_or line v 0 ≡ a) × (get_or line (v + 1) 0 ≡ b)
-stands_where test a b begins line s v h e some =
+has_prefix_where test a b begins line s v h e some =
     let bounds = place_from_bounds test line s h in
-    let stands : test (drop v line) ≡ true = subst (λ v. test (drop v line) ≡ true) e (place_from_passes test line s h (λ i. some (sym e ∙ i))) in
-    let two = begins_two a b (drop v line) (begins (drop v line) stands) in
+    let has_prefix : test (drop v line) ≡ true = subst (λ v. test (drop v line) ≡ true) e (place_from_passes test line s h (λ i. some (sym e ∙ i))) in
+    let two = begins_two a b (drop v line) (begins (drop v line) has_prefix) in
     let len = length-drop v line in
     let first = get_or-drop v line 0 0 in
     let second = get_or-drop v line 1 0 in
     (omega arith, omega arith, ap (λ n. get_or line n 0) (omega arith) ∙ sym first ∙ two.1, sym second ∙ two.2)
 
-pub pair_stands : (a b : ℕ) (line : List ℕ) (s v : ℕ) → s ≤ length line → place_from (stands (a ∷ b ∷ [])) line s ≡ v → v ≢ length line
+pub pair_stands : (a b : ℕ) (line : List ℕ) (s v : ℕ) → s ≤ length line → place_from (has_prefix (a ∷ b ∷ [])) line s ≡ v → v ≢ length line
     → (s ≤ v) × (v + 2 ≤ length line) × (get_or line v 0 ≡ a) × (get_or line (v + 1) 0 ≡ b)
-pair_stands a b = stands_where (stands (a ∷ b ∷ [])) a b (λ rest h. h)
+pair_stands a b = has_prefix_where (has_prefix (a ∷ b ∷ [])) a b (λ rest h. h)
 
 -- where `=?` is found it stands, within the line
 pub opening_stands : (line : List ℕ) (s v : ℕ) → s ≤ length line → opening line s ≡ v → v ≢ length line
@@ -47,7 +47,7 @@ opening_stands = pair_stands 61 63
 -- where `?=` is found it stands, within the line, with a boundary after it
 pub closing_stands : (line : List ℕ) (s e : ℕ) → s ≤ length line → closing line s ≡ e → e ≢ length line
     → (s ≤ e) × (e + 2 ≤ length line) × (get_or line e 0 ≡ 63) × (get_or line (e + 1) 0 ≡ 61)
-closing_stands = stands_where begins_closing 63 61 (λ rest h. (and_parts _ _ h).0)
+closing_stands = has_prefix_where begins_closing 63 61 (λ rest h. (and_parts _ _ h).0)
 
 -- a `=?` and the `?=` after it
 both_stand : (line : List ℕ) (s v e : ℕ) → s ≤ length line → opening line s ≡ v → v ≢ length line → closing line (v + 2) ≡ e → e ≢ length line → (s ≤ v) × (v + 2 ≤ e) × (e + 2 ≤ length line)

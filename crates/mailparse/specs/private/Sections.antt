@@ -18,5 +18,5 @@ abbrev pub sections_at : {C Y : Type 0} → (C → List ℕ → List ℕ) → BT
 sections_at reads m name = option_map (section_view reads) (get_by_text m name)
 
 -- what stands at each name: what its extended value gives, otherwise its text
-abbrev pub stands_at : {C : Type 0} → (C → List ℕ → List ℕ) → Sections C → List ℕ → Option words.Section
-stands_at reads sections name = option_or (sections_at reads sections.extended name) (option_map words.text (text_at sections.texts name))
+abbrev pub stored_section : {C : Type 0} → (C → List ℕ → List ℕ) → Sections C → List ℕ → Option words.Section
+stored_section reads sections name = option_or (sections_at reads sections.extended name) (option_map words.text (text_at sections.texts name))

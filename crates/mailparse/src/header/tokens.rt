@@ -1,7 +1,7 @@
 //! The tokens of one line of a header's value (RFC 2047, sections 2 and 4).
 ghost use Rattle.std.specs.Prelude.{◌≡◌, ◌≢◌, ◌≤◌, [], ◌∷◌, length, reverse, MatchOption, OnOk};
 ghost use Rattle.std.specs.Str.{chars};
-ghost use Rattle.mail_codec.specs.Places.{stands, place_from};
+ghost use Rattle.mail_codec.specs.Places.{has_prefix, place_from};
 ghost use Rattle.mailparse.specs.Tokens.{begins_with_boundary, closing, is_boundary, opening};
 ghost use Rattle.mailparse.specs.Value.{line_tokens, outside_token};
 ghost use Rattle.mailparse.specs.private.Cuts.{IsCut, IsOpening, KeepsClosing};
@@ -54,7 +54,7 @@ fn outside_token(text: &str) -> HeaderToken<'_>
 /// The least place at or after `from` where these two bytes stand, or the length if they do not.
 fn find_pair(bytes: &[u8], from: usize, first: u8, second: u8) -> usize
     requires within { from ≤ length bytes.now }
-    ensures { result ≡ place_from (stands (first ∷ second ∷ [])) bytes.now from }
+    ensures { result ≡ place_from (has_prefix (first ∷ second ∷ [])) bytes.now from }
 {
     match bytescan::find_pair(&bytes[from..], first, second) {
         Some(place) => from + place,

@@ -6,7 +6,7 @@ ghost use Rattle.mailparse.specs.Continuations.{joined, joined_at, parameters_in
 ghost use Rattle.mailparse.specs.Pairs.{last_of, text_at};
 ghost use Rattle.mailparse.specs.Sections.{alone};
 ghost use Rattle.mailparse.specs.private.Continuations.{base_of_section_0, bases_of_sections_0, has_star, joined_text, left_by, names_in, names_of_sections, without_sections};
-ghost use Rattle.mailparse.specs.private.Sections.{section_view, sections_at, stands_at};
+ghost use Rattle.mailparse.specs.private.Sections.{section_view, sections_at, stored_section};
 
 mod joining;
 
@@ -25,10 +25,10 @@ fn join<C: Decode>(
     base: &str,
 ) -> Result<String, AllocError>
     ensures text { IfOk result (λ text. string_bytes text
-        ≡ joined (sections_of (stands_at C.text sections.old) base.now)) }
-    ensures left { OnOk result ((q : List ℕ) → stands_at C.text sections.new q
-        ≡ without_sections (stands_at C.text sections.old) base.now
-        (length (sections_of (stands_at C.text sections.old) base.now)) q) }
+        ≡ joined (sections_of (stored_section C.text sections.old) base.now)) }
+    ensures left { OnOk result ((q : List ℕ) → stored_section C.text sections.new q
+        ≡ without_sections (stored_section C.text sections.old) base.now
+        (length (sections_of (stored_section C.text sections.old) base.now)) q) }
 {
     let mut joining = Joining::new(alloc);
     let mut count: u64 = 0;
@@ -46,7 +46,7 @@ fn join<C: Decode>(
 /// The base of a name with the number 0, if no text stands there.
 fn base_of_section_0<'n, C: Decode>(sections: &Sections<C>, name: &'n str) -> Option<&'n str>
     ensures { option_map (λ base. base.now) result
-        ≡ base_of_section_0 (stands_at C.text sections.now) name.now }
+        ≡ base_of_section_0 (stored_section C.text sections.now) name.now }
 {
     let (base, number) = numbered(name)?;
     if number != 0 {
@@ -66,7 +66,7 @@ fn add_bases<C: Decode, X>(
     bases: &mut Vec<String>,
 ) -> Result<(), AllocError>
     ensures { OnOk result (map string_bytes bases.new.items ≡ map string_bytes bases.old.items
-        ++ bases_of_sections_0 (stands_at C.text sections.now) (names_in named.now)) }
+        ++ bases_of_sections_0 (stored_section C.text sections.now) (names_in named.now)) }
 {
     for (name, _) in named {
         if let Some(base) = base_of_section_0(sections, name.as_str()) {
@@ -79,7 +79,7 @@ fn add_bases<C: Decode, X>(
 /// The bases, some more than once.
 fn bases_of<C: Decode>(alloc: Global, sections: &Sections<C>) -> Result<Vec<String>, AllocError>
     ensures { IfOk result (λ bases. map string_bytes bases.items
-        ≡ bases_of_sections_0 (stands_at C.text sections.now) (names_of_sections sections.now)) }
+        ≡ bases_of_sections_0 (stored_section C.text sections.now) (names_of_sections sections.now)) }
 {
     let mut bases = Vec::new(alloc);
     add_bases(alloc, sections, &sections.texts, &mut bases)?;
@@ -94,9 +94,9 @@ fn joined_bases<C: Decode>(
     bases: Vec<String>,
 ) -> Result<BTreeMap<String, String>, AllocError>
     ensures texts { IfOk result (λ found. (q : List ℕ) → text_at found q
-        ≡ joined_text (stands_at C.text sections.old) (map string_bytes bases.items) q) }
-    ensures left { OnOk result ((q : List ℕ) → stands_at C.text sections.new q
-        ≡ left_by (stands_at C.text sections.old) (map string_bytes bases.items) q) }
+        ≡ joined_text (stored_section C.text sections.old) (map string_bytes bases.items) q) }
+    ensures left { OnOk result ((q : List ℕ) → stored_section C.text sections.new q
+        ≡ left_by (stored_section C.text sections.old) (map string_bytes bases.items) q) }
 {
     let mut texts = BTreeMap::new(alloc);
     for base in bases {
@@ -157,7 +157,7 @@ fn left_and_joined<C: Decode>(
     sections: Sections<C>,
 ) -> Result<BTreeMap<String, String>, AllocError>
     ensures { IfOk result (λ texts. (q : List ℕ) → text_at texts q
-        ≡ joined_at (stands_at C.text sections) (names_of_sections sections) q) }
+        ≡ joined_at (stored_section C.text sections) (names_of_sections sections) q) }
 {
     let bases = bases_of(alloc, &sections)?;
     let mut sections = sections;

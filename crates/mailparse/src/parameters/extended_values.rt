@@ -7,7 +7,7 @@ ghost use Rattle.mailparse.specs.ExtendedValues.{reading_of, section_at, text_in
 ghost use Rattle.mailparse.specs.Pairs.{text_at};
 ghost use Rattle.mailparse.specs.private.ExtendedValues.{IsReading, extended_section, extended_view, names_read, read_section, reading_by, reading_view};
 ghost use Rattle.mailparse.specs.private.Filled.{holds_name};
-ghost use Rattle.mailparse.specs.private.Sections.{section_view, stands_at};
+ghost use Rattle.mailparse.specs.private.Sections.{section_view, stored_section};
 ghost use Rattle.percent_encoding.specs.Percent.{percent_decode};
 
 mod charset_sources;
@@ -149,7 +149,7 @@ pub(super) fn read_sections<K: KnownCharsets>(
     pairs: BTreeMap<String, String>,
     known: &K,
 ) -> Result<Sections<K::Decoder>, AllocError>
-    ensures { IfOk result (λ sections. (q : List ℕ) → stands_at K.Decoder.text sections q
+    ensures { IfOk result (λ sections. (q : List ℕ) → stored_section K.Decoder.text sections q
         ≡ section_at (K.known known.now) (text_at pairs) q) }
 {
     let readings = readings(alloc, &pairs, known)?;

@@ -3,7 +3,7 @@
 ghost use Rattle.std.specs.Prelude.{◌≡◌, ℕ, List, None, option_map, if◌then◌else◌};
 ghost use Rattle.std.specs.Str.{bytes_eq};
 ghost use Rattle.mailparse.specs.Sections.{is_text, numbered};
-ghost use Rattle.mailparse.specs.private.Sections.{section_view, stands_at};
+ghost use Rattle.mailparse.specs.private.Sections.{section_view, stored_section};
 
 use mail_codec::charset::Decode;
 use std::collections::BTreeMap;
@@ -29,7 +29,7 @@ pub(super) struct Sections<C: Decode> {
 impl<C: Decode> Sections<C> {
     /// Whether a text stands at a name.
     pub(super) fn has_text(&self, name: &str) -> bool
-        ensures { result ≡ is_text (stands_at C.text self.now name.now) }
+        ensures { result ≡ is_text (stored_section C.text self.now name.now) }
     {
         match self.extended.get(name) {
             Some(Section::Text(_)) => true,
@@ -40,9 +40,9 @@ impl<C: Decode> Sections<C> {
 
     /// Takes what stands at a name.
     pub(super) fn take(&mut self, name: &str) -> Option<Section<C>>
-        ensures taken { option_map (section_view C.text) result ≡ stands_at C.text self.old name.now }
-        ensures left { (q : List ℕ) → stands_at C.text self.new q ≡
-            (if bytes_eq name.now q then None else stands_at C.text self.old q) }
+        ensures taken { option_map (section_view C.text) result ≡ stored_section C.text self.old name.now }
+        ensures left { (q : List ℕ) → stored_section C.text self.new q ≡
+            (if bytes_eq name.now q then None else stored_section C.text self.old q) }
     {
         let text = self.texts.remove(name);
         if let Some(section) = self.extended.remove(name) {

@@ -1,6 +1,6 @@
 use Rattle.std.proofs.Common.{sym, ◌∙◌, arith}
 use Rattle.std.proofs.lemmas.List.{take_rest}
-use Rattle.mail_codec.specs.Places.{stands}
+use Rattle.mail_codec.specs.Places.{has_prefix}
 use Rattle.mail_codec.proofs.lemmas.Places.{PassedTo-more}
 use Rattle.mail_codec.proofs.lemmas.PlacesSearches.{first_item, candidate, no_candidate, text_absent, text_found}
 use Rattle.mail_codec.proofs.bytescan.find.Goals as goal
@@ -33,7 +33,7 @@ pub candidates-preserved : goal.candidates-preserved
 candidates-preserved c =
     let first = first_item c.args.needle.now c.in_ok-first.field-0.now c.in_ok-first.ensures.value in
     let at = candidate c.args.needle.now c.args.haystack.now _ _ _ c.candidates.at _ first.0 first.1 c.candidates.invariant (take_rest c.args.haystack.now c.candidates.at) c.in-Some.ensures in
-    PassedTo-more (stands c.args.needle.now) c.args.haystack.now _ _ at.0 at.1 (rw take_rest at (sym c.starts_with.ensures.value ∙ c.if-starts_with.false))
+    PassedTo-more (has_prefix c.args.needle.now) c.args.haystack.now _ _ at.0 at.1 (rw take_rest at (sym c.starts_with.ensures.value ∙ c.if-starts_with.false))
 
 pub returns : goal.returns
 returns c =

@@ -1,7 +1,7 @@
 use Rattle.std.proofs.Common.{rules, ◌≡◌, ℕ, true, not, List, Bor, Ok, ap, sym, ◌∙◌}
 use Rattle.std.specs.Prelude.{codes, option_map, string_bytes}
 use Rattle.std.specs.Option.{option_map_or}
-use Rattle.mail_codec.specs.Places.{stands}
+use Rattle.mail_codec.specs.Places.{has_prefix}
 use Rattle.mail_laws.specs.Render.{mimetype_of, type_header}
 use Rattle.mail_laws.specs.RenderViews.{headers_seen}
 use Rattle.mail_laws.proofs.lemmas.RenderConditions.{by_value, found_text, mimetype_named, mimetype_read}
@@ -14,11 +14,11 @@ returns-in_default-from_utf8 c =
 
 pub returns : goal.returns
 returns c =
-    let test = λ (v : List ℕ). not (stands (codes "multipart") (mimetype_of v)) in
+    let test = λ (v : List ℕ). not (has_prefix (codes "multipart") (mimetype_of v)) in
     let found = sym c.type_value.ensures ∙ ap (option_map (λ (v : Bor (List ℕ)). v.now)) c.in-Some.is in
     let text = c.in-Ok.ensures.cases.0 in
     let mimetype = sym (mimetype_named c.in-Ok.text.now) ∙ mimetype_read _ _ c.in_ok-ctype.ensures in
-    let starts : stands (codes "multipart") (string_bytes c.in_ok-ctype.ctype.mimetype) ≡ c.starts_with.result = search rules in
+    let starts : has_prefix (codes "multipart") (string_bytes c.in_ok-ctype.ctype.mimetype) ≡ c.starts_with.result = search rules in
     ap (λ b. Ok b)
     (by_value test true (type_header (headers_seen c.args.headers.now)) ∙ ap (λ o. option_map_or test o true) found ∙ ap test (sym text)
-    ∙ ap (λ m. not (stands (codes "multipart") m)) mimetype ∙ ap not starts)
+    ∙ ap (λ m. not (has_prefix (codes "multipart") m)) mimetype ∙ ap not starts)

@@ -1,5 +1,5 @@
 use Rattle.std.proofs.Common.{sym, ap, subst, ◌∙◌, codes}
-use Rattle.mail_codec.specs.Places.{place, begins, stands}
+use Rattle.mail_codec.specs.Places.{place, begins, has_prefix}
 use Rattle.mailparse.proofs.lemmas.Places.{not_some}
 use Rattle.mailparse.proofs.lemmas.ValueBare.{shown_value-bare}
 use Rattle.mailparse.proofs.lemmas.ValuePlain.{shown_value-line, trim_start-whole}
@@ -11,7 +11,7 @@ returns-in-None-clause-value c = λ known.
     shown_value-line known c.args.text.now c.trim_start-line.result.now
     (not_some _ (sym c.is_some.ensures ∙ c.if-is_some.false) ∙ c.find_byte.ensures ∙ ap (place (begins _)) c.as_bytes-2.ensures.value)
     c.trim_start-line.ensures.trim
-    (sym c.in-None.is ∙ c.find.ensures ∙ ap (place (stands (codes "=?"))) c.as_bytes-3.ensures.value)
+    (sym c.in-None.is ∙ c.find.ensures ∙ ap (place (has_prefix (codes "=?"))) c.as_bytes-3.ensures.value)
 
 pub returns-in-None-clause-same : goal.returns-in-None-clause-same
 returns-in-None-clause-same c = trim_start-whole c.args.text.now c.trim_start-line.result.now c.trim_start-line.ensures.value

@@ -1,14 +1,14 @@
 use Rattle.std.proofs.Common.{◌≡◌, ℕ, ◌-◌, ◌∷◌, List, Option, Some, None, length, take, drop, sym, ap, ◌∙◌, subst}
 use Rattle.std.proofs.lemmas.List.{take_rest}
 use Rattle.bstr.specs.Find.{FindsNeedle}
-use Rattle.mail_codec.specs.Places.{stands}
+use Rattle.mail_codec.specs.Places.{has_prefix}
 use Rattle.mailparse.proofs.lemmas.Delimiters.{found_line, found_nowhere, starts_delimiter}
 use Rattle.mailparse.proofs.mail.delimiters.find_delimiter.Goals as goal
 
 -- the delimiter stands at the start, as the test of the code says
-tested : (raw feed_and_dash_boundary : List ℕ) (start : ℕ) → stands (take (length feed_and_dash_boundary - 1) (drop 1 feed_and_dash_boundary)) (take (length raw - start) (drop start raw)) ≡ stands (drop 1 feed_and_dash_boundary) (drop start raw)
+tested : (raw feed_and_dash_boundary : List ℕ) (start : ℕ) → has_prefix (take (length feed_and_dash_boundary - 1) (drop 1 feed_and_dash_boundary)) (take (length raw - start) (drop start raw)) ≡ has_prefix (drop 1 feed_and_dash_boundary) (drop start raw)
 tested raw feed_and_dash_boundary start =
-    ap (λ (dash_boundary : List ℕ). stands dash_boundary (take (length raw - start) (drop start raw))) (take_rest feed_and_dash_boundary 1) ∙ ap (stands (drop 1 feed_and_dash_boundary)) (take_rest raw start)
+    ap (λ (dash_boundary : List ℕ). has_prefix dash_boundary (take (length raw - start) (drop start raw))) (take_rest feed_and_dash_boundary 1) ∙ ap (has_prefix (drop 1 feed_and_dash_boundary)) (take_rest raw start)
 
 -- what the search found, in the words of the lemmas
 sought : (raw feed_and_dash_boundary : List ℕ) (start : ℕ) (r : Option ℕ) → feed_and_dash_boundary ≡ 10 ∷ drop 1 feed_and_dash_boundary → FindsNeedle (take (length raw - start) (drop start raw)) feed_and_dash_boundary 0 r

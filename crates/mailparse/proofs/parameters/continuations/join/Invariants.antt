@@ -2,16 +2,16 @@
 use Rattle.std.proofs.Common.{◌≡◌, ◌≤◌, ◌-◌, ◌+◌, ℕ, List, length}
 use Rattle.mailparse.specs.Continuations.{joined, most_sections}
 use Rattle.mailparse.specs.private.Continuations.{joined_with, without_sections}
-use Rattle.mailparse.specs.private.Sections.{stands_at}
+use Rattle.mailparse.specs.private.Sections.{stored_section}
 use Rattle.mailparse.proofs.lemmas.ContinuationsJoining.{sections_from}
 use Rattle.mailparse.proofs.parameters.continuations.join.Given as goal
 
 abbrev pub invariant-loop-count : goal.invariant-loop-count
 invariant-loop-count g l = record {
   bound : l.count ≤ 18446744073709551615;
-  left : (q : List ℕ) → stands_at g.C.Decode.text l.sections q ≡ without_sections (stands_at g.C.Decode.text l.initial.sections) l.base l.count q;
-  text : joined_with g.C.Decode.text l.joining (sections_from (stands_at g.C.Decode.text l.initial.sections) l.base (most_sections - l.count) l.count) ≡ joined (sections_from (stands_at g.C.Decode.text l.initial.sections) l.base most_sections 0);
-  count : l.count + length (sections_from (stands_at g.C.Decode.text l.initial.sections) l.base (most_sections - l.count) l.count) ≡ length (sections_from (stands_at g.C.Decode.text l.initial.sections) l.base most_sections 0);
+  left : (q : List ℕ) → stored_section g.C.Decode.text l.sections q ≡ without_sections (stored_section g.C.Decode.text l.initial.sections) l.base l.count q;
+  text : joined_with g.C.Decode.text l.joining (sections_from (stored_section g.C.Decode.text l.initial.sections) l.base (most_sections - l.count) l.count) ≡ joined (sections_from (stored_section g.C.Decode.text l.initial.sections) l.base most_sections 0);
+  count : l.count + length (sections_from (stored_section g.C.Decode.text l.initial.sections) l.base (most_sections - l.count) l.count) ≡ length (sections_from (stored_section g.C.Decode.text l.initial.sections) l.base most_sections 0);
 }
 
 abbrev pub decreases-loop-count : goal.decreases-loop-count

@@ -3,7 +3,7 @@ use Rattle.std.proofs.lemmas.List.{map_push}
 use Rattle.std.specs.String.{string_bytes}
 use Rattle.mailparse.specs.Continuations.{joined, sections_of}
 use Rattle.mailparse.specs.private.Continuations.{joined_text, left_by, without_sections}
-use Rattle.mailparse.specs.private.Sections.{stands_at}
+use Rattle.mailparse.specs.private.Sections.{stored_section}
 use Rattle.mailparse.specs.Pairs.{text_at}
 use Rattle.mailparse.specs.private.Filled.{holds_name}
 use Rattle.mailparse.proofs.lemmas.Filled.{stored}
@@ -13,8 +13,8 @@ use Rattle.mailparse.proofs.parameters.continuations.joined_bases.Goals as goal
 
 pub loop-base-preserved-in_ok-insert-2 : goal.loop-base-preserved-in_ok-insert-2
 loop-base-preserved-in_ok-insert-2 g c =
-    let at = stands_at g.C.Decode.text c.args.sections.now in
-    let now = stands_at g.C.Decode.text c.loop-base.sections in
+    let at = stored_section g.C.Decode.text c.args.sections.now in
+    let now = stored_section g.C.Decode.text c.loop-base.sections in
     let base = string_bytes c.in-Some.base in
     let bases = map string_bytes c.loop-base.yielded in
     let pushed = sym (map_push string_bytes c.loop-base.yielded c.in-Some.base) in
@@ -36,7 +36,7 @@ loop-base-preserved-in_ok-insert-2 g c =
 
 pub loop-base-preserved : goal.loop-base-preserved
 loop-base-preserved g c =
-    let at = stands_at g.C.Decode.text c.args.sections.now in
+    let at = stored_section g.C.Decode.text c.args.sections.now in
     let base = string_bytes c.in-Some.base in
     let bases = map string_bytes c.loop-base.yielded in
     let pushed = sym (map_push string_bytes c.loop-base.yielded c.in-Some.base) in
@@ -45,5 +45,5 @@ loop-base-preserved g c =
     ∙ ap (λ n. is_some (text_at c.loop-base.texts n)) (sym c.as_str.ensures.value) ∙ is_some_map string_bytes _ ∙ sym c.if-not-contains_key.ensures in
     record {
       texts = λ q. joined_again at bases base q (text_at c.loop-base.texts q) (c.loop-base.invariant.texts q) held ∙ ap (λ bs. joined_text at bs q) pushed;
-      left = λ q. left_again at bases base q (stands_at g.C.Decode.text c.loop-base.sections q) held (c.loop-base.invariant.left q) ∙ ap (λ bs. left_by at bs q) pushed;
+      left = λ q. left_again at bases base q (stored_section g.C.Decode.text c.loop-base.sections q) held (c.loop-base.invariant.left q) ∙ ap (λ bs. left_by at bs q) pushed;
     }
