@@ -3,11 +3,13 @@
 
 A library is a crate of crates.txt that has src/lib.rt; static ones are left out. Of each public item the page has
 the signature, the first sentence of its doc comment and the clauses of its contract; of a law, its name and what it
-says. With --check it writes nothing and compares the page with the sources: the last line is then
-`N passed, N failed`, and the status is 1 where they differ.
+says. With --check it writes nothing, and checks that the page is what the sources give, that it has each name that one
+crate imports from another, and each implementation of a public trait. The last line is then `N passed, N failed`, and
+the exit status is 1 if a check fails.
 """
 import argparse
 import difflib
+import functools
 import os
 import re
 import sys
@@ -20,18 +22,21 @@ INTRODUCTION = """\
 # Public types and calls, with their contracts
 
 Made by `tools/make_api.py` from the sources; do not edit it. Each item has the first sentence of its doc comment, which
-goes on in the source with the errors, the memory that a call takes, and examples. What takes memory has an argument
+goes on in the source with the errors, the allocations of the call, and examples. A call that allocates takes
 `alloc: Global` and returns a `Result`.
 
-Below a call stand the clauses of its contract, each proved for every input. `result` is what the call returns, and
-`x.now` the value of `x` at the call. `Answers view result given` says that the result, as the view shows it, is what
-the definition gives, its refusals included; `AnswersOrMemory` says the same unless memory runs out. `GivesText`,
+Each call is followed by the clauses of its contract, each proved for every input. `result` is what the call returns,
+and `x.now` the value of `x` at the call. `Answers view result given` says that the result, as the view shows it, is
+what the definition gives, including its refusals; `AnswersOrMemory` says the same unless memory runs out. `GivesText`,
 `GivesTexts`, `ReadsText` and `ReadsBytes` are `AnswersOrMemory` for texts and bytes. `IfOk` and `IfErr` speak of one
-kind of result alone. The definitions stand in the `specs` folder of each crate.
+kind of result only. The definitions are in the `specs` directory of each crate.
 """
 # an item of some indentation: its doc comment, its attributes, its first words, and all before its body
 ITEM = r"^((?:{0}///[^\n]*\n)*)((?:{0}#\[[^\n]*\n)*){0}({1})(.*?)(?:;| ?\{{\}}?|\n{0}\{{\}}?)$"
 FIELD = r"^((?:    ///[^\n]*\n)*)(?:    #\[[^\n]*\n)*    {}(?:,| (\{{\n.*?\n    \}}),)$"
+ASSOCIATED = r"^((?:    ///[^\n]*\n)*)    type (\w+[^\n]*);$"
+# the head of an implementation of a trait, after its type parameters
+IMPLEMENTS = re.compile(r"^ (?:\w+::)*(\w+(?:<[^\n]*>)?) for ([^\n]+?)(?: where [^\n]*)? \{", re.MULTILINE)
 CLAUSE = re.compile(r"\b(ensures|requires)\*? ?(\w*) ?\{ ?(.*?) ?\}(?= (?:ensures|requires)\b|$)")
 # what only contracts see
 GHOST_TRAITS = {"Model"}
@@ -57,6 +62,62 @@ def is_static(crate):
 def libraries():
     """The crates that are libraries, lowest first, without static ones."""
     return [name for name in crates() if root_of(name) and not is_static(name)]
+
+
+def sources(crate):
+    """The texts of a crate's source files."""
+    for folder, _, names in sorted(os.walk(os.path.join(TOP, "crates", crate, "src"))):
+        for name in sorted(names):
+            if name.endswith(".rt"):
+                yield text_of(os.path.join(folder, name))
+
+
+def after_parameters(text):
+    """What follows the type parameters that a text begins with, if it does."""
+    depth = 0
+    for at, sign in enumerate(text):
+        depth += {"<": 1, ">": -1}.get(sign, 0) if text[at - 1] != "-" else 0
+        if depth == 0:
+            return text[at + 1 :] if sign == ">" else text
+    return text
+
+
+def defines(kinds, name, crate):
+    """Whether a crate defines an item of that name, public or not."""
+    return any(re.search(rf"^(?:pub(?:\(\w+\))? )?(?:{kinds}) {name}\b", text, re.MULTILINE) for text in sources(crate))
+
+
+@functools.lru_cache(maxsize=None)
+def implementations(crate):
+    """The implementations of traits in a crate: trait and type, as the sources write them."""
+    pairs = []
+    for text in sources(crate):
+        for rest in re.split(r"^impl", text, flags=re.MULTILINE)[1:]:
+            head = IMPLEMENTS.match(after_parameters(rest))
+            pairs += [head.groups()] if head else []
+    return pairs
+
+
+def base(text):
+    """The name of a type or trait without its path and parameters, or nothing for a reference or a tuple."""
+    name = re.match(r"(?:\w+::)*(\w+)(?:<|$)", text)
+    return name.group(1) if name else ""
+
+
+def implemented(item, crate, public):
+    """The traits that a type of that crate implements, or the public types that implement a trait of it."""
+    is_trait = item.kind == "trait"
+    kinds = "trait" if is_trait else "struct|enum"
+    names = []
+    for other in libraries():
+        if other != crate and (crate not in crates()[other] or defines(kinds, item.name, other)):
+            continue
+        for trait, implementer in implementations(other):
+            if base(trait if is_trait else implementer) != item.name or base(trait) in GHOST_TRAITS:
+                continue
+            is_private = base(implementer) not in public and defines("struct|enum", base(implementer) or "-", other)
+            names += [] if is_private else [implementer if is_trait else trait]
+    return list(dict.fromkeys(item.traits + names))
 
 
 def found(pattern, text):
@@ -101,9 +162,6 @@ class Module:
             item = Item(kind, f"{kind} {rest}", doc, attributes)
             self.items.append(item)
             item.members = members(self.body(rf"pub {kind} {item.name}\b"), kind)
-            traits = found(rf"^impl(?:<[^>]*>)? (?:\w+::)?(\S[^\n]*) for {item.name}\b[^\n]* \{{$", self.text)
-            item.traits += [trait for trait in traits if trait not in GHOST_TRAITS]
-            item.traits += found(rf"^impl(?:<[^>]*>)? {item.name} for ([^\n]*) \{{$", self.text)
             item.members += members(self.body(rf"impl(?:<[^>]*>)? {item.name}\b(?! for)"), "impl")
 
     def body(self, begin):
@@ -128,7 +186,9 @@ def members(body, kind):
     """The public members in the body of a type, an implementation or a trait."""
     if kind in ("impl", "trait"):
         calls = found(ITEM.format("    ", "pub fn " if kind == "impl" else "fn "), body)
-        return [Item("fn", f"fn {rest}", doc) for doc, _, _, rest in calls]
+        types = found(ASSOCIATED, body) if kind == "trait" else []
+        types = [Item("type", f"type {text}", doc) for doc, text in types]
+        return types + [Item("fn", f"fn {rest}", doc) for doc, _, _, rest in calls]
     fields = found(FIELD.format(r"pub (\w+: [^\n]*?)" if kind == "struct" else r"(\w+(?:\([^\n]*\))?)"), body)
     return [Item("field", f"{text} {without_comments(rest)}".strip(), doc) for doc, text, rest in fields]
 
@@ -165,19 +225,19 @@ def entry(item):
     return lines
 
 
-def type_lines(item):
-    """The lines of a type or a trait."""
+def type_lines(item, traits):
+    """The lines of a type or a trait, with the traits or types that belong to it."""
     lines = ["", f"### `{item.signature}`", "", *wrapped(item.sentence())]
     if item.members:
         lines += ["", *(line for member in item.members for line in entry(member))]
-    if item.traits:
+    if traits:
         word = "Implemented for" if item.kind == "trait" else "Implements"
-        lines += ["", *wrapped(f"{word} {', '.join(f'`{trait}`' for trait in item.traits)}.")]
+        lines += ["", *wrapped(f"{word} {', '.join(f'`{trait}`' for trait in traits)}.")]
     return lines
 
 
-def module_lines(name, doc, items):
-    """The lines of a public module."""
+def module_lines(name, doc, items, public):
+    """The lines of a public module; `public` has the names of all public items of its crate and those above it."""
     lines = ["", f"## `{name}`", "", *wrapped(Item("mod", name, doc).sentence())]
     entries = [item for item in items if item.kind in ("const", "fn")]
     if entries:
@@ -187,18 +247,41 @@ def module_lines(name, doc, items):
         lines += wrapped(f"- `{item.name}`: {item.paragraph()}", "  ") if is_law else entry(item)
     for item in items:
         if item not in entries:
-            lines += type_lines(item)
+            lines += type_lines(item, implemented(item, name.split("::")[0], public))
     return lines
 
 
 def page():
     """The text of the page."""
+    modules = [module for crate in libraries() for module in crate_modules(crate)]
+    public = {item.name for _, _, items in modules for item in items}
     lines = INTRODUCTION.rstrip("\n").split("\n")
     lines += ["", *wrapped("Libraries, lowest first: " + ", ".join(f"[{name}](#{name})" for name in libraries()) + ".")]
-    for crate in libraries():
-        for name, doc, items in crate_modules(crate):
-            lines += module_lines(name, doc, items)
+    for name, doc, items in modules:
+        lines += module_lines(name, doc, items, public)
     return "\n".join(lines) + "\n"
+
+
+def imported():
+    """The names that a crate imports from a library, each with that library."""
+    for crate in crates():
+        for text in sources(crate):
+            for library, names in found(r"^use (\w+)::(?:\w+::)*((?:\{[^{}]*\}|\w+)(?: as \w+)?);", text):
+                if library in libraries() and library != crate:
+                    yield from ((library, name) for name in re.findall(r"(?<!as )\b(?!as\b|self\b)\w+", names))
+
+
+def are_complete(text):
+    """For each name that is imported, and for each implementation of a public trait: whether the page has it."""
+    for library, name in sorted(set(imported())):
+        yield f"{PAGE}: {name} of {library} is missing", re.search(rf"\b{name}\b", text) is not None
+    sections = {base(head): rest for head, rest in re.findall(r"^### `trait (\w+).*?`$(.*?)(?=^#|\Z)", text, re.M | re.S)}
+    for crate in libraries():
+        for head in {line for text in sources(crate) for line in re.findall(r"^impl\b.* for .*(?= \{$)", text, re.M)}:
+            trait, implementer = head.rsplit(" for ", 1)
+            trait = re.sub(r"<[^<>]*>$", "", trait).split("::")[-1].split()[-1]
+            if trait in sections and re.search(rf"^### `(?:struct|enum) {base(implementer) or '-'}\b", text, re.M):
+                yield f"{PAGE}: {trait} for {implementer} is missing", f"`{implementer}`" in " ".join(sections[trait].split())
 
 
 def main():
@@ -211,7 +294,7 @@ def main():
         return 0
     kept, made = text_of(PAGE).split("\n"), page().split("\n")
     print("\n".join(difflib.unified_diff(kept, made, PAGE, "the sources", lineterm="")))
-    return finish([(f"{PAGE}: it is not what the sources give", kept == made)])
+    return finish([(f"{PAGE}: it is not what the sources give", kept == made), *are_complete("\n".join(made))])
 
 
 if __name__ == "__main__":
