@@ -19,10 +19,10 @@ from concurrent.futures import ProcessPoolExecutor
 from shared.programs import built_program
 from suite import Row, line_of
 
-PART = 5_000  # so many values are made by one process
+PART = 5_000  # the number of values that one process makes
 ATOM = rb"[^\x00-\x20\x7f\"(),.:;<>@\[\]\\]+"
-# The letters of tokens: w whitespace or a comment, a an atom, q a quoted string, l a domain literal, < what
-# stands in angle brackets, o any other; and . @ , ; : for themselves.
+# The letters of tokens: w whitespace or a comment, a an atom, q a quoted string, l a domain literal, < text
+# in angle brackets, o any other; and . @ , ; : are themselves.
 PLAIN = re.compile(
     rb'(?P<w>[ \t\r\n]+)|(?P<a>' + ATOM + rb')|(?P<q>"(?:[^"\\]|\\.)*")|(?P<l>\[(?:[^\[\]\\]|\\.)*\])'
     rb"|(?P<m>[.@,;:])|(?P<o>\\.|.)", re.S
@@ -36,7 +36,7 @@ GROUP = re.compile(r"([^,;:]*):([^:;]*);w*[,;]?")
 SINGLE = re.compile(r"([^,;]*)[,;]?")
 MEMBER = re.compile(r"([^,]*),?")
 
-# Encoded words, and what they stand for.
+# Encoded words, and their texts.
 WORDS = {
     b"=?utf-8?q?boss=40corp=2Ecom_=3Cboss=40corp=2Ecom=3E=2C?=": "boss@corp.com <boss@corp.com>,",
     b"=?UTF-8?Q?=22=2C?=": '",',
@@ -72,7 +72,7 @@ def comment_end(raw, at):
 
 
 def token_at(raw, at, in_angles):
-    """The letter and the end of the token that stands there."""
+    """The letter and the end of the token there."""
     found = PLAIN.match(raw, at)
     kind = found.lastgroup
     if kind == "m":
@@ -123,7 +123,7 @@ class Text:
 
 
 def meaning(letter, raw):
-    """What a token stands for."""
+    """The text of a token."""
     if letter == "q":
         return re.sub(rb"\\(.)", rb"\1", raw[1:-1], flags=re.S)
     return b"" if letter == "w" else raw
@@ -214,7 +214,7 @@ def single_of(text):
 
 
 def parts_of(text, pattern):
-    """What stands before each mark, by a pattern whose first group that is."""
+    """The text before each separator, which is the first group of a pattern."""
     at = 0
     while at < len(text.word):
         found = pattern.match(text.word, at)
@@ -275,7 +275,7 @@ def made_value(chance):
 
 
 def made_rows(part):
-    """So many rows, made from a seed."""
+    """`count` rows, made from a seed."""
     seed, count = part
     chance = random.Random(seed)
     values = [made_value(chance) for _ in range(count)]

@@ -6,7 +6,7 @@ in the order of MANIFEST, have to be byte for byte what mail_json writes in one 
 killed in the middle of a part. The second is broken off, and goes on. In the third a part kills every worker that reads
 it, and a file cannot be read: it ends with status 1 and names both, and the next run completes it. Then the shards are
 loaded and searched, before and after the small mailbox changed. At last the commands of docs/SCRIPTS.md for GNU parallel
-run as they stand there.
+run unchanged.
 
 It takes about 30 s. The last line is `N passed, N failed`; the status is 1 where a comparison failed.
 """
@@ -36,11 +36,11 @@ MAILS = 2000 * SCALE
 PART = "all.mbox (--part 9/30)"
 # as mail_json, but that a part may kill its worker, once or always, and that each run may take longer
 STAND_IN = """#!/bin/sh
-[ ! -e '{folder}/slow' ] || sleep 0.1
+[ ! -e '{directory}/slow' ] || sleep 0.1
 case $* in
     '--part 9/30 '*)
-        if [ -e '{folder}/deadly' ]; then
-            [ -e '{folder}/always' ] || rm '{folder}/deadly'
+        if [ -e '{directory}/deadly' ]; then
+            [ -e '{directory}/always' ] || rm '{directory}/deadly'
             '{json}' "$@" | head -c 100000
             kill -9 "$PPID"
             exit 1
@@ -61,22 +61,22 @@ SMALL = (
 UNREAD = ("mails/no.mbox.gz", "mails/caf\udce9")
 CHANGED = b"Subject: Changed\nMessage-ID: <4@small>\n\nAn okapi.\n"
 
-# after so many more deaths a part is given up; dask's own number is 3
+# after this number of further deaths a part is given up; dask's own number is 3
 DASK = {"DASK_DISTRIBUTED__SCHEDULER__ALLOWED_FAILURES": "1"}
 # on a machine with other work dask speaks of heartbeats that came late, which is not what is compared
 QUIET = {"DASK_LOGGING__DISTRIBUTED": "critical"}
 
 
 def write(path, data=b""):
-    """Writes a file, in a folder that is made where it has to be."""
+    """Writes a file, in a directory that is made where it has to be."""
     os.makedirs(os.path.dirname(path), exist_ok=True)
     with open(path, "wb") as file:
         file.write(data)
 
 
-def make_archive(folder):
+def make_archive(directory):
     """Makes the archive; returns the calls of mail_json that read it."""
-    mails = os.path.join(folder, "mails")
+    mails = os.path.join(directory, "mails")
     write(f"{mails}/all.mbox", mailbox(SCALE))
     write(f"{mails}/one.eml", b"Subject: one\nMessage-ID: <one>\n\nunique\n")
     write(f"{mails}/small.mbox", b"".join(FROM + mail + b"\n" for mail in SMALL))
@@ -91,11 +91,11 @@ def make_archive(folder):
     ]
 
 
-def dask(stack, folder, name, *words):
+def dask(stack, directory, name, *words):
     """Starts a program of dask, which ends with the stack; what it says goes to a file of this name."""
-    log = stack.enter_context(open(os.path.join(folder, name), "wb"))
+    log = stack.enter_context(open(os.path.join(directory, name), "wb"))
     process = subprocess.Popen(
-        [sys.executable, "-m", "dask", *words], cwd=folder, stdout=log, stderr=log, env={**os.environ, **DASK}
+        [sys.executable, "-m", "dask", *words], cwd=directory, stdout=log, stderr=log, env={**os.environ, **DASK}
     )
     stack.callback(process.wait)
     stack.callback(process.terminate)
@@ -112,7 +112,7 @@ def wait_for(condition, what):
 
 
 def shards(out):
-    """The shards of a folder, and when each was written."""
+    """The shards of a directory, and when each was written."""
     return {path: os.stat(path).st_mtime_ns for path in glob.glob(os.path.join(out, "*.jsonl"))}
 
 
@@ -129,14 +129,14 @@ def lines(out):
 class Runs:
     """Runs of the programs over an archive."""
 
-    def __init__(self, folder, scheduler):
-        self.folder = folder
-        self.words = [os.path.join(folder, "mails"), "--program", os.path.join(folder, "mail_json"), "--bytes", "2000000"]
+    def __init__(self, directory, scheduler):
+        self.directory = directory
+        self.words = [os.path.join(directory, "mails"), "--program", os.path.join(directory, "mail_json"), "--bytes", "2000000"]
         self.scheduler = scheduler
 
     def start(self, name, *words):
-        """Starts index_archive.py, which writes to the folder of this name."""
-        words = [os.path.join(EXAMPLES, "index_archive.py"), os.path.join(self.folder, name), *self.words, *words]
+        """Starts index_archive.py, which writes to the directory of this name."""
+        words = [os.path.join(EXAMPLES, "index_archive.py"), os.path.join(self.directory, name), *self.words, *words]
         environment = {**os.environ, **QUIET}
         return subprocess.Popen([sys.executable, *words], stdout=subprocess.DEVNULL, stderr=subprocess.PIPE, env=environment)
 
@@ -148,7 +148,7 @@ class Runs:
 
     def call(self, name, *words):
         """What another program writes."""
-        return subprocess.run([sys.executable, os.path.join(EXAMPLES, name), *words], capture_output=True, cwd=self.folder, check=False)
+        return subprocess.run([sys.executable, os.path.join(EXAMPLES, name), *words], capture_output=True, cwd=self.directory, check=False)
 
     def search(self, *words):
         """The subjects of the mails that a search finds."""
@@ -158,8 +158,8 @@ class Runs:
         return [line.split("\t")[2] for line in ended.stdout.decode().splitlines()]
 
     def path(self, name):
-        """The path of a file or folder."""
-        return os.path.join(self.folder, name)
+        """The path of a file or directory."""
+        return os.path.join(self.directory, name)
 
 
 def check_killed(runs, wanted, workers):
@@ -272,14 +272,14 @@ def check_lists(runs):
         same(ended.stdout.decode(), wanted, f"addresses in lists: {words}")
 
 
-def check_parallel(folder, program):
+def check_parallel(directory, program):
     """What docs/SCRIPTS.md says of GNU parallel, word for word."""
     fence = next(fence.lines for fence in fences_of(text_of("docs/SCRIPTS.md")) if any("read_part.sh" in line for line in fence.lines))
     commands = [line for line in fence if not line.startswith("sbatch ")]
-    place = os.path.join(folder, "parallel")
+    place = os.path.join(directory, "parallel")
     os.mkdir(place)
     os.symlink(os.path.join(TOP, "examples"), os.path.join(place, "examples"))
-    os.symlink(os.path.join(folder, "mails", "all.mbox"), os.path.join(place, "all.mbox"))
+    os.symlink(os.path.join(directory, "mails", "all.mbox"), os.path.join(place, "all.mbox"))
     ended = subprocess.run(["bash", "-ec", "\n".join(commands)], cwd=place, env={**os.environ, "BUILT": "only"}, check=False)
     same((ended.returncode, len(commands)), (0, 2), "GNU parallel")
     if ended.returncode == 0:
@@ -295,28 +295,28 @@ def main():
     program = built_program("mail_json")
     signal.signal(signal.SIGTERM, lambda *_: sys.exit(1))
     with contextlib.ExitStack() as stack:
-        folder = stack.enter_context(tempfile.TemporaryDirectory())
-        address = os.path.join(folder, "address")
-        dask(stack, folder, "scheduler.log", "scheduler", "--host", "127.0.0.1", "--port", "0", "--dashboard-address", "127.0.0.1:0", "--scheduler-file", address)
-        worker = ["worker", "--scheduler-file", address, "--nthreads", "1", "--no-dashboard", "--local-directory", folder]
-        workers = [dask(stack, folder, f"worker{number}.log", *worker, "--no-nanny") for number in (1, 2)]
-        write(os.path.join(folder, "mail_json"), STAND_IN.format(folder=folder, json=program).encode())
-        os.chmod(os.path.join(folder, "mail_json"), 0o755)
-        calls = make_archive(folder)
+        directory = stack.enter_context(tempfile.TemporaryDirectory())
+        address = os.path.join(directory, "address")
+        dask(stack, directory, "scheduler.log", "scheduler", "--host", "127.0.0.1", "--port", "0", "--dashboard-address", "127.0.0.1:0", "--scheduler-file", address)
+        worker = ["worker", "--scheduler-file", address, "--nthreads", "1", "--no-dashboard", "--local-directory", directory]
+        workers = [dask(stack, directory, f"worker{number}.log", *worker, "--no-nanny") for number in (1, 2)]
+        write(os.path.join(directory, "mail_json"), STAND_IN.format(directory=directory, json=program).encode())
+        os.chmod(os.path.join(directory, "mail_json"), 0o755)
+        calls = make_archive(directory)
         wanted = b"".join(subprocess.run([program, *words], stdout=subprocess.PIPE, check=False).stdout for words in calls)
         same(wanted.count(b"\n"), MAILS + 10, "the lines of one process")
         wait_for(lambda: os.path.exists(address), "the scheduler")
         with open(address, encoding="utf-8") as file:
-            runs = Runs(folder, json.load(file)["address"])
+            runs = Runs(directory, json.load(file)["address"])
         check_killed(runs, wanted, workers)
-        dask(stack, folder, "nanny.log", *worker)
+        dask(stack, directory, "nanny.log", *worker)
         check_broken(runs, wanted)
         check_faults(runs, wanted)
         print(check_loaded(runs, MAILS + 9), end="")
         check_searched(runs)
         check_changed(runs)
         check_lists(runs)
-        check_parallel(folder, program)
+        check_parallel(directory, program)
     return finish(judged)
 
 

@@ -3,7 +3,7 @@
 
 Each encoding is given every pair of bytes, each followed by several others, every sequence of four bytes
 at the borders of its classes of bytes, and sequences by chance; gb18030 also every sequence of four
-bytes, EUC-JP every three that begin with 8F, and ISO-2022-JP escapes in any order. They stand in one
+bytes, EUC-JP every three that begin with 8F, and ISO-2022-JP escapes in any order. They are in one
 text, with a line feed between two. What the end of the text cuts off is compared one by one. The last
 line is `N passed, N failed`, N being sequences, and the status is 1 where one failed.
 
@@ -76,12 +76,12 @@ def endings(label):
             yield first + second
 
 
-def build_oracle(folder):
-    """Builds the program of tools/charset_oracle in a folder, and returns its path."""
+def build_oracle(directory):
+    """Builds the program of tools/charset_oracle in a directory, and returns its path."""
     if not shutil.which("cargo") or not any(name.startswith("encoding_rs-") for name in
                                             (os.listdir(REGISTRY) if os.path.isdir(REGISTRY) else ())):
         sys.exit("check_charsets.py: wants cargo and encoding_rs: apt-get install cargo librust-encoding-rs-dev")
-    source = os.path.join(folder, "charset_oracle")
+    source = os.path.join(directory, "charset_oracle")
     shutil.copytree(os.path.join(TOOLS, "charset_oracle"), source)
     subprocess.run(["cargo", "build", "--offline", "--release", "-q",
                     "--config", 'source.crates-io.replace-with="debian"',
@@ -90,7 +90,7 @@ def build_oracle(folder):
 
 
 def oracle_texts(oracle, label, records):
-    """The texts of records by encoding_rs; a record of more than 65,535 bytes stands alone."""
+    """The texts of records by encoding_rs; a record of more than 65,535 bytes is sent alone."""
     given = label.encode() + b"\n" + b"".join(struct.pack("<H", len(record)) + record for record in records)
     output = subprocess.run([oracle], input=given, stdout=subprocess.PIPE, check=True).stdout
     texts, at = [], 0
@@ -143,8 +143,8 @@ def main():
         parser.error(f"there is no encoding {unknown[0]} to compare")
     program = arguments.program or built_program("mail_speed")
     total = failed = 0
-    with tempfile.TemporaryDirectory() as folder:
-        oracle = arguments.oracle or build_oracle(folder)
+    with tempfile.TemporaryDirectory() as directory:
+        oracle = arguments.oracle or build_oracle(directory)
         for label in arguments.labels or BORDERS:
             count, wrong = compare(program, oracle, label)
             total, failed = total + count, failed + wrong

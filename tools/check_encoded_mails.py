@@ -3,7 +3,7 @@
 
 Of each encoding Python's email package and codecs write COUNT mails into one mailbox, by chance from a seed: the
 subject and the sender's display name in encoded words, several where they are long; a text in 7bit, 8bit, base64 or
-quoted-printable; and in half of them a file, whose name is an encoded word, a starred parameter, which may stand in
+quoted-printable; and in half of them a file, whose name is an encoded word, a starred parameter, which may be in
 sections, or both. What the package does not write is written by hand: labels that Python does not know, short words,
 sections, and words of ISO-2022-JP that do not go back to ASCII. The subject, the name, the text and the names of the
 file have to come back as they went in.
@@ -224,9 +224,9 @@ def read_of(mail):
     return found
 
 
-def compare(program, folder, name, mails):
+def compare(program, directory, name, mails):
     """Prints what differs in the mails of an encoding; returns how many members were compared, and how many differ."""
-    path = os.path.join(folder, f"{name}.mbox")
+    path = os.path.join(directory, f"{name}.mbox")
     with open(path, "wb") as file:
         file.writelines(SEPARATOR + data + b"\n" for data, _wanted in mails)
     ended = subprocess.run([program, "--mbox", path], stdout=subprocess.PIPE, check=False)
@@ -261,11 +261,11 @@ def main():
         parser.error(f"{asked.count} is no count")
     program = asked.program or built_program("mail_json")
     passed = failed = 0
-    with tempfile.TemporaryDirectory() as folder:
+    with tempfile.TemporaryDirectory() as directory:
         for name in asked.names or known:
             rng = random.Random(f"{asked.seed} {name}")
             mails = [mail_of(rng, known[name]) for _ in range(asked.count)]
-            well, wrong = compare(program, folder, name, mails)
+            well, wrong = compare(program, directory, name, mails)
             passed, failed = passed + well, failed + wrong
     print(f"{passed} passed, {failed} failed")
     sys.exit(failed > 0)

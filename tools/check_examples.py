@@ -1,9 +1,9 @@
 #!/usr/bin/env python3
 """Runs the examples of the doc comments of every library, and those of docs/CALLING.md.
 
-Each fence ```rust becomes a test of its own: the lines as they stand, in a function that has the runtime `rt`
+Each fence ```rust becomes a test of its own: the lines unchanged, in a function that has the runtime `rt`
 and its allocator `alloc`, and in which `?` passes every error on. `rt try --test` builds and runs them all,
-without a proof, in a folder that is deleted afterwards. A fence with `fn main` is a program and has to be the
+without a proof, in a directory that is deleted afterwards. A fence with `fn main` is a program and has to be the
 README's, which tools/try_outside.sh runs. Each public call has to have an example, and the heading `# Errors`
 exactly where it returns a `Result`. There may be no other fences.
 
@@ -27,7 +27,7 @@ DOC = re.compile(r"^\s*//[/!] ?(.*)$")
 
 
 class Example:
-    """A fence of a file: where it stands, and its lines."""
+    """A fence of a file: its line number, and its lines."""
 
     def __init__(self, path, fence):
         self.place = f"{path}:{fence.number}"
@@ -52,11 +52,11 @@ class Example:
 
 
 def examples():
-    """All examples, by the files in which they stand."""
+    """All examples, by file."""
     for crate in libraries():
-        for folder, _, names in sorted(os.walk(os.path.join(TOP, "crates", crate, "src"))):
+        for directory, _, names in sorted(os.walk(os.path.join(TOP, "crates", crate, "src"))):
             for name in sorted(names):
-                path = os.path.relpath(os.path.join(folder, name), TOP)
+                path = os.path.relpath(os.path.join(directory, name), TOP)
                 lines = [(number, DOC.match(line)) for number, line in enumerate(text_of(path).split("\n"), 1)]
                 for fence in fences([(number, match.group(1).rstrip()) for number, match in lines if match]):
                     yield Example(path, fence)
@@ -76,13 +76,13 @@ def comment_faults():
                 yield f"{module}::{name} has no example, or `# Errors` in the wrong place", is_well
 
 
-def write_crates(folder, tests):
-    """Writes a repository with the libraries and a crate of the examples; returns that crate's folder."""
+def write_crates(directory, tests):
+    """Writes a repository with the libraries and a crate of the examples; returns that crate's directory."""
     kept = [line for line in text_of("crates.txt").split("\n") if line.split(":")[0] in libraries()]
     for crate in libraries():
-        there = os.path.join(folder, "crates", crate)
+        there = os.path.join(directory, "crates", crate)
         shutil.copytree(os.path.join(TOP, "crates", crate), there, ignore=shutil.ignore_patterns("out", "edits"))
-    source = os.path.join(folder, "crates", "examples", "src")
+    source = os.path.join(directory, "crates", "examples", "src")
     os.makedirs(source)
     files = {example.name + ".rt": example.source() for example in tests}
     root = "".join(f"\n#[cfg(test)]\nmod {example.name};\n" for example in tests)
@@ -95,10 +95,10 @@ def write_crates(folder, tests):
 
 
 def ran(tests):
-    """For each example where it stands, and whether it passed; where they do not build, none has."""
-    with tempfile.TemporaryDirectory() as folder:
+    """The position of each example, and whether it passed; if they do not build, none has."""
+    with tempfile.TemporaryDirectory() as directory:
         command = ["rt", "try", "--test"]
-        run = subprocess.run(command, cwd=write_crates(folder, tests), text=True, capture_output=True, check=False)
+        run = subprocess.run(command, cwd=write_crates(directory, tests), text=True, capture_output=True, check=False)
     output = run.stdout + run.stderr
     passed = set(re.findall(r"^test (\w+)::\w+ \.\.\. ok$", output, re.MULTILINE))
     if run.returncode != 0:

@@ -4,8 +4,8 @@
 The mails are those of samples/, but for parts.eml, whose line `--bX` is no delimiter for Python, and made ones: one
 with files of many lengths, each under the name of its length; one with a part of each of many types, without names;
 forwarded mails inside one another, plain and encoded; and a multipart whose delimiter never comes. All are read twice
-into one folder, where the second time each name is taken. A mail with files of one name, one of them damaged, is read
-into a folder of its own, where the names and errors have to be those that are written here. Of the made ones each part that Python's `walk` or
+into one directory, where the second time each name is taken. A mail with files of one name, one of them damaged, is read
+into a directory of its own, where the names and errors have to be those that are written here. Of the made ones each part that Python's `walk` or
 `iter_attachments` gives has to be there too, but for texts that readers show, and the endings have to be those that
 Python's `mimetypes` has for the type.
 

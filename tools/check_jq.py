@@ -1,7 +1,7 @@
 #!/usr/bin/env python3
 """Runs the commands of docs/SCRIPTS.md that begin with `$ `, and compares what they write with the page.
 
-They run in the folder of the repository, by bash, with the built mail_json. Where jq is not installed, it
+They run in the directory of the repository, by bash, with the built mail_json. Where jq is not installed, it
 says so, which counts as failed. The last line is `N passed, N failed`; the status is 1 where a comparison failed.
 """
 import argparse

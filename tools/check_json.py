@@ -4,7 +4,7 @@
 The mails are those of samples/, and made ones: with control characters, with surrogates in UTF-8, with a
 refused body, of 100 levels and of 101, of 100,000 parts, of parts at places that are known, and mailboxes,
 which are also read in parts. Python's json reads each line, which may hold no control character (U+0000
-to U+001F, U+007F to U+009F) and no U+2028 or U+2029, whose members stand in their order, and which has to
+to U+001F, U+007F to U+009F) and no U+2028 or U+2029, whose members are in their order, and which must
 be as docs/mail_json.schema.json says.
 
 The last line is `N passed, N failed`; the status is 1 where a comparison failed.
@@ -186,11 +186,11 @@ def check_faults():
     found = objects([], b" x", 3, "a refused mail")
     same([(value["start"], value["end"], value["error"]) for value in found], [(0, 2, SPACE)], "a refused mail")
     raw = b"From: =?utf-8?q?a=2C?=\n <a@b>\nTo: \xe9\nReply-To: c@d\nBcc: e@f\nSender: g@h\n\n"
-    found = objects([], raw, 0, "values as they stand")[0]["raw"]
+    found = objects([], raw, 0, "raw values")[0]["raw"]
     wanted = {
         "from": "=?utf-8?q?a=2C?=\n <a@b>", "to": "\xe9", "cc": None, "bcc": "e@f", "reply_to": "c@d", "sender": "g@h",
     }
-    same((found, list(found)), (wanted, list(wanted)), "values as they stand")
+    same((found, list(found)), (wanted, list(wanted)), "raw values")
 
 
 def check_addresses():
@@ -217,7 +217,7 @@ def check_addresses():
 
 
 def check_forwarded():
-    """Mails inside mails: their parts, where they stand, and those that are encoded or refused."""
+    """Mails inside mails: their parts, their ranges, and those that are encoded or refused."""
     inner = b"Subject: in\nContent-Type: multipart/mixed; boundary=c\n\n--c\n\ntext\n--c\nContent-Disposition: attachment\n\nfile\n--c--\n"
     part = b"--b\nContent-Type: message/%b\nContent-Transfer-Encoding: %b\n\n%b\n"
     start = b"Content-Type: multipart/mixed; boundary=b\n\n"
@@ -231,9 +231,9 @@ def check_forwarded():
     same([part_["path"] for part_ in found["parts"]], paths, "parts of mails inside")
     for path, text, object_ in zip(paths[5:], [None, "text", None, None, "text", None, "body"], found["parts"][5:]):
         same((object_["text"], object_["attachment"]), (text, path in ("1.2", "2.2")), f"a part of a mail inside, {path}")
-        same(object_["start"] is None, path.startswith("2"), f"where a part of a mail inside stands, {path}")
+        same(object_["start"] is None, path.startswith("2"), f"the range of a part of a mail inside, {path}")
     whole = found["parts"][5]
-    same((FROM + data)[whole["start"]:whole["end"]], inner, "where a mail inside stands")
+    same((FROM + data)[whole["start"]:whole["end"]], inner, "the range of a mail inside")
     deep = b"Content-Type: message/rfc822\n\n" * 120 + b"Subject: end\n\n"
     found = objects([], deep, 0, "mails inside one another")[0]
     same((len(found["forwarded"]), found["parts"][-1]["path"]), (99, ".".join(["1"] * 100)), "mails inside one another")
@@ -257,7 +257,7 @@ def check_options():
 
 
 def nested(levels):
-    """A mail with parts so many levels below it."""
+    """A mail with parts down to that level."""
     start = b"Content-Type: multipart/mixed; boundary=b%03d\n\n--b%03d\n"
     return b"".join(start % (level, level) for level in range(levels)) + b"\nend"
 
@@ -408,7 +408,7 @@ def begin(data, line):
 
 
 def made_mailbox(random_):
-    """A mailbox of short mails, some of them refused or not separated, perhaps behind other lines."""
+    """A mailbox of short mails, some of them refused or not separated, perhaps after other lines."""
     end = random_.choice([b"\n", b"\r\n"])
     fronts = [b"", b"", b"", end, b"junk" + end, b"Subject: 1" + end + end + b"one" + end + end]
     data = random_.choice(fronts)
@@ -429,13 +429,13 @@ def compare_parts(name, data, words, counts):
         found = []
         for number in range(1, count + 1):
             what = f"{data!r:.300}, part {number} of {count}"
-            first, behind = len(data) * (number - 1) // count, len(data) * number // count
+            first, after = len(data) * (number - 1) // count, len(data) * number // count
             ended = run([*words, "--part", f"{number}/{count}", name])
             part = lines(ended.stdout, what)
             wanted = [
                 {**line, "number": None}
                 for line in whole
-                if (number == 1 if line["number"] is None else first <= begin(data, line) < behind)
+                if (number == 1 if line["number"] is None else first <= begin(data, line) < after)
             ]
             same(part, wanted, what)
             same((ended.returncode, ended.stderr), (3 if any("error" in line for line in wanted) else 0, b""), what)
@@ -446,8 +446,8 @@ def compare_parts(name, data, words, counts):
 def check_parts():
     """Parts of files: together they are the whole, and each mail is in the part in which its separator begins."""
     random_ = random.Random(97)
-    with tempfile.TemporaryDirectory() as folder:
-        name = os.path.join(folder, "file")
+    with tempfile.TemporaryDirectory() as directory:
+        name = os.path.join(directory, "file")
         for turn in range(24):
             words = [[], ["--mbox"], ["--mbox=rd"]][turn % 3]
             compare_parts(name, made_mailbox(random_), words, range(1, 8))
@@ -464,11 +464,11 @@ def check_parts():
         told = re.fullmatch(rb"mail_json: .*/file: (\d+) bytes\n", ended.stderr)
         judge(told and 2**26 <= int(told[1]) < 2**26 + 2**20, "how far a part is")
         same(run(["--progress", "--part", "2/2", name]).stderr, b"", "how far a short part is")
-        os.mkfifo(os.path.join(folder, "pipe"))
+        os.mkfifo(os.path.join(directory, "pipe"))
         wrong = [["--part"], ["--part", "1/2"], ["--part", "1/2", "-"], ["--part", "1/2", name, "-"]]
         wrong += [["--part", word, name] for word in ("0/2", "3/2", "0/0", "1", "1/", "/1", "+1/2", "1/+2", "-1/2", "1/2/3", "a/b", "", "1 /2")]
         wrong += [["--part", "1/2", option, name] for option in ("--mail", "--mbox=cl")]
-        wrong += [["--mail", "--part", "1/2", name], ["--part", "1/2", folder], ["--part", "1/2", name, os.path.join(folder, "pipe")]]
+        wrong += [["--mail", "--part", "1/2", name], ["--part", "1/2", directory], ["--part", "1/2", name, os.path.join(directory, "pipe")]]
         for words in wrong:
             ended = run(words)
             judge(ended.returncode == 2 and not ended.stdout and ended.stderr, f"{words} is refused")
@@ -506,35 +506,35 @@ def check_calls():
 
 
 def check_folders(names, both):
-    """A closed pipe, folders, and names that are not UTF-8."""
+    """A closed pipe, directories, and names that are not UTF-8."""
     launcher = os.path.join(TOP, "mail_json")
-    with tempfile.TemporaryDirectory() as folder:
-        many = os.path.join(folder, "many.mbox")
+    with tempfile.TemporaryDirectory() as directory:
+        many = os.path.join(directory, "many.mbox")
         with open(many, "wb") as file:
             file.write((FROM + b"Subject: 1\n\none\n\n") * 20_000)
         ended = subprocess.run(f"'{PROGRAM}' '{many}' | head -n 1 | wc -l", shell=True, capture_output=True, timeout=60)
         same((ended.stdout.strip(), ended.stderr), (b"1", b""), "a pipe that is closed")
-        link = os.path.join(folder, "link")
+        link = os.path.join(directory, "link")
         os.symlink(launcher, link)
-        ended = subprocess.run([link, *names], capture_output=True, cwd=folder, timeout=60)
+        ended = subprocess.run([link, *names], capture_output=True, cwd=directory, timeout=60)
         same(ended.stdout, both, "through a symbolic link")
         for name in ("cur", "new", "tmp"):
-            os.makedirs(os.path.join(folder, "maildir", name))
+            os.makedirs(os.path.join(directory, "maildir", name))
         for name in ("cur/2:2,S", "cur/10:2,", "new/1", "tmp/3", "cur/.hidden"):
-            with open(os.path.join(folder, "maildir", name), "wb") as file:
+            with open(os.path.join(directory, "maildir", name), "wb") as file:
                 file.write(FROM + b"Subject: " + name.encode() + b"\n\n")
-        same(subjects([os.path.join(folder, "maildir")], b"", 0, "a Maildir"), ["cur/10:2,", "cur/2:2,S", "new/1"], "a Maildir")
-        found = objects([os.path.join(folder, "maildir", "cur")], b"", 0, "a folder of mails")
-        wanted = [os.path.join(folder, "maildir", "cur", name) for name in ("10:2,", "2:2,S")]
-        same([value["file"] for value in found], wanted, "a folder of mails")
-        with open(os.path.join(folder, "mail.gz"), "wb") as file:
+        same(subjects([os.path.join(directory, "maildir")], b"", 0, "a Maildir"), ["cur/10:2,", "cur/2:2,S", "new/1"], "a Maildir")
+        found = objects([os.path.join(directory, "maildir", "cur")], b"", 0, "a directory of mails")
+        wanted = [os.path.join(directory, "maildir", "cur", name) for name in ("10:2,", "2:2,S")]
+        same([value["file"] for value in found], wanted, "a directory of mails")
+        with open(os.path.join(directory, "mail.gz"), "wb") as file:
             file.write(b"\x1f\x8b")
-        ended = run([os.path.join(folder, "mail.gz")])
+        ended = run([os.path.join(directory, "mail.gz")])
         judge(ended.returncode == 1 and b"compressed" in ended.stderr, "a compressed file")
-        bad = os.path.join(os.fsencode(folder), b"caf\xe9.eml")
+        bad = os.path.join(os.fsencode(directory), b"caf\xe9.eml")
         ended = subprocess.run([launcher, names[0], bad, names[1]], capture_output=True, timeout=60)
         found = [value["file"] for value in lines(ended.stdout, "a name that is not UTF-8")]
-        wanted = [names[0], f"{folder}/caf\ufffd.eml (a name that is not UTF-8)", names[1]]
+        wanted = [names[0], f"{directory}/caf\ufffd.eml (a name that is not UTF-8)", names[1]]
         same((ended.returncode, found), (1, wanted), "a name that is not UTF-8")
 
 

@@ -2,9 +2,9 @@
 """Compares the pages with the repository.
 
 On every page each link has to lead to a file, or to a heading, that is there; and each path in backquotes that
-begins with a folder of the top has to be there. On the pages that claim something of the sources each name in
+begins with a directory of the top has to be there. On the pages that claim something of the sources each name in
 backquotes that has a `_` or a `::` inside has to be declared in a source, a definition or crates.txt. A fence of
-the README that names its source, as in ```rust crates/mailparse/src/mail.rt, has lines that stand there word for
+the README that names its source, as in ```rust crates/mailparse/src/mail.rt, has lines that occur there word for
 word and one after another.
 
 It prints what is wrong. Each link, path, name and fence counts for one; the last line is `N passed, N failed`,
@@ -63,7 +63,7 @@ def names(text, declared):
 
 
 def quotes(text):
-    """For each fence that names its source what it is, and whether its lines stand there."""
+    """For each fence that names its source: its description, and whether the source has its lines."""
     for fence in fences_of(text):
         if len(fence.words) == 2:
             source = "\n".join(line.strip() for line in text_of(fence.words[1]).split("\n"))

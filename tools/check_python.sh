@@ -21,7 +21,7 @@ wheel() {
             'import rocktray; assert rocktray.parse(b"Subject: Hi\n\n").subject == "Hi"')
 }
 
-# checkout: pip installs the folder of the checkout
+# checkout: pip installs the directory of the checkout
 checkout() {
     "$python_of_wheel" -m pip install --no-index --quiet --force-reinstall "$top/python" &&
         (cd "$work" && env -u PYTHONPATH -u ROCKTRAY_LIBRARY "$python_of_wheel" -c 'import rocktray; rocktray.parse(b"")')

@@ -1,6 +1,6 @@
 #!/bin/sh
-# check_scripts.sh: calls each script of this folder, and mail_show, mail_json and mail_extract through
-# symbolic links from another folder, with `--help` and with wrong arguments; a program also with a file that
+# check_scripts.sh: calls each script of this directory, and mail_show, mail_json and mail_extract through
+# symbolic links from another directory, with `--help` and with wrong arguments; a program also with a file that
 # is missing.
 #
 # A call for help has to write to standard output alone and end with status 0. Another call has to write to
@@ -34,7 +34,7 @@ check_calls() {
     check 2 err "$1" --no-such-option
 }
 
-# fresh COMMAND..: runs it where the folder `into` is empty
+# fresh COMMAND..: runs it where the directory `into` is empty
 fresh() {
     rm -rf into
     mkdir into

@@ -75,7 +75,7 @@ REFUSED = [
 
 
 def moves(size, step):
-    """How many calls move so many bytes."""
+    """The number of calls that move `count` bytes."""
     return -(-size // step)
 
 
@@ -85,7 +85,7 @@ def shown(message, text, reads, writes):
 
 
 class Show:
-    """The program under the library, with the library, the program's input and the report in a folder."""
+    """The program under the library, with the library, the program's input and the report in a directory."""
 
     def __init__(self, program, work):
         self.program = program

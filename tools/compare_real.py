@@ -1,7 +1,7 @@
 #!/usr/bin/env python3
 """Compares what mail_json, mail_jobs and mail_extract make of real mails with what Python's email package does.
 
-Each PLACE is a mail, a mailbox (a file that begins with `From `) or a folder of such files. The mails are read
+Each PATH is a mail, a mailbox (a file that begins with `From `) or a directory of such files. The mails are read
 for five jobs: the index (subject, the addresses of from, to and cc, date, id), the texts of parts and the attachments
 (names and sizes), both those of forwarded mails too, the bytes that mail_extract saves, and whether these have all that
 `iter_attachments` gives, the recipients that a delivery report says were not reached, and the threads (the ids of the
@@ -54,19 +54,19 @@ class Refused:
         return f"refused: {self.why}"
 
 
-def files_of(places):
-    """The files of all places, in order."""
-    for place in places:
-        if not os.path.isdir(place):
-            yield place
-        for folder, folders, names in os.walk(place):
-            folders.sort()
-            yield from (os.path.join(folder, name) for name in sorted(names))
+def files_of(paths):
+    """The files of all paths, in order."""
+    for root in paths:
+        if not os.path.isdir(root):
+            yield root
+        for directory, directories, names in os.walk(root):
+            directories.sort()
+            yield from (os.path.join(directory, name) for name in sorted(names))
 
 
-def mails_at(places):
-    """The mails of all places, each with its name."""
-    for path in files_of(places):
+def mails_at(paths):
+    """The mails of all paths, each with its name."""
+    for path in files_of(paths):
         with open(path, "rb") as file:
             data = file.read()
         if data.startswith(b"From "):
@@ -76,7 +76,7 @@ def mails_at(places):
 
 
 def quoted(mail):
-    """A mail as it stands in a mailbox."""
+    """A mail as a mailbox has it."""
     mail = re.sub(rb"(?m)^From ", b">From ", mail)
     return mail if mail.endswith(b"\n") else mail + b"\n"
 
@@ -101,7 +101,7 @@ def records(output):
 
 
 def once(texts):
-    """The texts, each where it stands first."""
+    """The texts, each at its first occurrence."""
     return list(dict.fromkeys(texts))
 
 
@@ -219,11 +219,11 @@ def differs(item, here, there):
 def saved_by(program, mailbox):
     """The bytes of the files that mail_extract saves of a mailbox: by the number of the mail, and by the path."""
     found = collections.defaultdict(dict)
-    with tempfile.TemporaryDirectory() as folder:
-        for line in ran([program, "--into", folder], mailbox).splitlines():
+    with tempfile.TemporaryDirectory() as directory:
+        for line in ran([program, "--into", directory], mailbox).splitlines():
             saved = json.loads(line)
             if saved["saved"] is not None:
-                with open(os.path.join(folder, saved["saved"]), "rb") as file:
+                with open(os.path.join(directory, saved["saved"]), "rb") as file:
                     found[saved["number"]][saved["path"]] = file.read()
     return found
 
@@ -273,18 +273,18 @@ def compare(batch, programs, counts):
 
 
 def main():
-    """Compares the mails of all places."""
+    """Compares the mails of all paths."""
     parser = argparse.ArgumentParser(description=__doc__, formatter_class=argparse.RawDescriptionHelpFormatter)
     parser.add_argument("--show", metavar="N", type=int, default=3, help="how many mails to show for each item, 3")
-    parser.add_argument("places", metavar="PLACE", nargs="+", help="a mail, a mailbox, or a folder of them")
+    parser.add_argument("paths", metavar="PATH", nargs="+", help="a mail, a mailbox, or a directory of them")
     asked = parser.parse_args()
-    missing = [place for place in asked.places if not os.path.exists(place)]
+    missing = [path for path in asked.paths if not os.path.exists(path)]
     if missing:
         parser.error(f"{missing[0]} is not there")
     programs = {name: built_program(name) for name in ("mail_json", "mail_jobs", "mail_extract")}
     counts = Counts(asked.show)
     batch = []
-    for name, mail in mails_at(asked.places):
+    for name, mail in mails_at(asked.paths):
         batch.append((name, quoted(mail)))
         if len(batch) == BATCH:
             compare(batch, programs, counts)

@@ -1,6 +1,6 @@
 #!/bin/sh
 # fail_streams.sh: runs mail_show, mail_json and mail_extract where standard input, a file or output fails:
-# closed, a folder, missing, full, a pipe that nobody reads. A run passes that ends with status 1 and says on
+# closed, a directory, missing, full, a pipe that nobody reads. A run passes that ends with status 1 and says on
 # standard error what failed and why, in the system's words; one whose standard error is closed too,
 # with status 1. No run may end by a signal. Where a file cannot be saved, or not to its end, the line of
 # mail_extract has to say so, and nothing of the file may stay.
@@ -17,9 +17,9 @@ mail=$top/samples/attachment.eml
 # a mail whose text is longer than a pipe holds
 yes 'A: b' | head -n 100000 > "$work/long"
 
-# what the system says of a file that is not open, of a folder, of a device that is full, and so on
+# what the system says of a file that is not open, of a directory, of a device that is full, and so on
 closed='Bad file descriptor (os error 9)'
-folder='Is a directory (os error 21)'
+directory='Is a directory (os error 21)'
 missing='No such file or directory (os error 2)'
 full='No space left on device (os error 28)'
 unread='Broken pipe (os error 32)'
@@ -44,7 +44,7 @@ inputs() {
     run <&- > "$work/out"
     judge 'input closed' "$name: input failed: $closed"
     run < "$work" > "$work/out"
-    judge 'input is a folder' "$name: input failed: $folder"
+    judge 'input is a directory' "$name: input failed: $directory"
     run 0> "$work/only-written" > "$work/out"
     judge 'input can only be written' "$name: input failed: $closed"
 }
@@ -119,10 +119,10 @@ program() {
 
 program mail_show "$show" 1 "mail_show: output failed: $unread"
 run "$work" > "$work/out"
-judge 'a file is a folder' "$name: input failed: $folder"
+judge 'a file is a directory' "$name: input failed: $directory"
 program mail_json "$json" 3 ''
 
-# mail_extract into an empty folder, and its many lines of mails that are refused
+# mail_extract into an empty directory, and its many lines of mails that are refused
 cat > "$work/extract" << END
 #!/bin/sh
 rm -rf "$work/into"
@@ -134,10 +134,10 @@ yes 'From a Thu Jan  1 00:00:00 1970
  x
 ' | head -n 4000 > "$work/long"
 program mail_extract "$work/extract" 3 ''
-run --into no/such/folder < "$mail" > "$work/out"
-judge 'the folder is missing' "$name: no/such/folder: $missing"
+run --into no/such/directory < "$mail" > "$work/out"
+judge 'the directory is missing' "$name: no/such/directory: $missing"
 run --into "$mail" < "$mail" > "$work/out"
-judge 'the folder is a file' "$name: $mail: not a directory"
+judge 'the directory is a file' "$name: $mail: not a directory"
 
 # unsaved WHAT WHY: the last run saved nothing, and the line of the one file says why
 unsaved() {
@@ -155,7 +155,7 @@ unsaved() {
     yes | head -c 9000
 } > "$work/large"
 run --into /proc < "$work/large" > "$work/out"
-unsaved 'a folder that takes no file' "$missing"
+unsaved 'a directory that takes no file' "$missing"
 (
     # a write past the limit fails within the file, since the signal is ignored
     trap '' XFSZ

@@ -1,21 +1,21 @@
 #!/bin/sh
-# fetch_real.sh FOLDER: takes mails out of Debian's source packages, the test data of mail software, and
-# puts them into FOLDER, which must not be there, in a folder for each package.
+# fetch_real.sh DIRECTORY: takes mails out of Debian's source packages, the test data of mail software, and
+# puts them into DIRECTORY, which must not be there, in a directory for each package.
 #
 # It needs apt-get, tar and a way to Debian's registry, and changes nothing of the system. Of each package it
 # takes the upstream source alone, of the first of some releases whose archive is there. A file counts as a mail
-# if it stands among tests and its first line is a header, or a separator of a mailbox. A package that cannot
+# if it is among tests and its first line is a header, or a separator of a mailbox. A package that cannot
 # be fetched is left out and named. The mails are not ours: commit none of them.
 #
 # The last line is `N mails of M packages`; the status is 1 where there is none.
-arguments='FOLDER'
+arguments='DIRECTORY'
 . "$(dirname "$0")/prelude.sh"
 packages='python3.11 notmuch gmime kmime kf5-messagelib rspamd spamassassin maildir-utils mailman3
     libmime-tools-perl libemail-mime-perl libmail-box-perl libmail-deliverystatus-bounceparser-perl'
 releases='bookworm trixie sid'
 [ ! -e "$1" ] || usage "$1 is there"
 mkdir "$1" 2> /dev/null || usage "$1 cannot be made"
-folder=$(cd "$1" && pwd)
+directory=$(cd "$1" && pwd)
 make_work
 cd "$work"
 mkdir -p lists/partial cache/archives/partial
@@ -44,9 +44,9 @@ fetch() {
     return 1
 }
 
-# take NAME: puts the mails of an unpacked source into the folder, numbered in the order of their paths
+# take NAME: puts the mails of an unpacked source into the directory, numbered in the order of their paths
 take() {
-    mkdir -p "$folder/$1"
+    mkdir -p "$directory/$1"
     number=0
     find source -type f -size -2000k | LC_ALL=C sort > files
     while read -r file; do
@@ -57,11 +57,11 @@ take() {
         if head -n 1 "$file" | LC_ALL=C grep -aqE '^(From |[A-Za-z][A-Za-z0-9-]*:( |$))' &&
             head -n 60 "$file" | LC_ALL=C grep -aqiE '^(from|to|date|subject|received|message-id|content-type|mime-version):'; then
             number=$((number + 1))
-            cp "$file" "$folder/$1/$(printf '%04d' "$number")-$(basename "$file")"
+            cp "$file" "$directory/$1/$(printf '%04d' "$number")-$(basename "$file")"
         fi
     done < files
     echo "$1: $number mails" >&2
-    [ "$number" -gt 0 ] || rmdir "$folder/$1"
+    [ "$number" -gt 0 ] || rmdir "$directory/$1"
 }
 
 apt update
@@ -69,11 +69,11 @@ taken=0
 for name in $packages; do
     if fetch "$name"; then
         take "$name"
-        [ ! -d "$folder/$name" ] || taken=$((taken + 1))
+        [ ! -d "$directory/$name" ] || taken=$((taken + 1))
     else
         echo "$name could not be fetched: $(tail -n 1 log)" >&2
     fi
 done
-mails=$(find "$folder" -type f | wc -l)
+mails=$(find "$directory" -type f | wc -l)
 echo "$mails mails of $taken packages"
 [ "$mails" -gt 0 ]

@@ -1,5 +1,5 @@
 #!/bin/sh
-# load_json.sh [GIGABYTES]: pipes a mailbox of 4 GB, or so many, into `mail_json --mbox`. The mailbox is
+# load_json.sh [GIGABYTES]: pipes a mailbox of 4 GB, or of GIGABYTES, into `mail_json --mbox`. The mailbox is
 # made on the fly, one of 20,000 mails again and again, and what is written goes to a count of its lines.
 # It prints the seconds, those until the first line came, the most memory that the program held, and how
 # many lines it wrote.

@@ -43,7 +43,7 @@ GHOST_TRAITS = {"Model"}
 
 
 def crates():
-    """The crates, lowest first, with what each stands on."""
+    """The crates, lowest first, with the dependencies of each."""
     lines = re.findall(r"^(\w+)[^:#\n]*:(.*)", text_of("crates.txt"), re.MULTILINE)
     return {name: below.split() for name, below in lines}
 
@@ -66,10 +66,10 @@ def libraries():
 
 def sources(crate):
     """The texts of a crate's source files."""
-    for folder, _, names in sorted(os.walk(os.path.join(TOP, "crates", crate, "src"))):
+    for directory, _, names in sorted(os.walk(os.path.join(TOP, "crates", crate, "src"))):
         for name in sorted(names):
             if name.endswith(".rt"):
-                yield text_of(os.path.join(folder, name))
+                yield text_of(os.path.join(directory, name))
 
 
 def after_parameters(text):
@@ -151,7 +151,7 @@ class Module:
     """A source file: its doc comment, its public items, and what it takes from other files."""
 
     def __init__(self, path):
-        self.folder = os.path.dirname(path) if path.endswith("lib.rt") else path.removesuffix(".rt")
+        self.directory = os.path.dirname(path) if path.endswith("lib.rt") else path.removesuffix(".rt")
         self.text = text_of(path)
         self.doc = "".join(found(r"^//![^\n]*\n", self.text))
         self.modules = found(r"^pub mod (\w+);", self.text)
@@ -170,7 +170,7 @@ class Module:
 
     def inner(self, path):
         """The source file of a module below this one."""
-        return os.path.join(self.folder, *path.split("::")) + ".rt"
+        return os.path.join(self.directory, *path.split("::")) + ".rt"
 
     def public_items(self):
         """The public items: its own, and what it takes from other files of the crate."""

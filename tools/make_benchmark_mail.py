@@ -20,12 +20,12 @@ TEXT = (
 
 
 def fill(piece, size):
-    """So many bytes of the piece again and again, whole pieces only."""
+    """The piece repeated up to that many bytes, whole pieces only."""
     return piece * int(size // len(piece))
 
 
 def words(rng, count):
-    """So many words, with a space between them."""
+    """That many words, with a space between them."""
     return b" ".join(rng.choice(WORDS) for _ in range(count))
 
 
@@ -139,7 +139,7 @@ def parts(body, boundary=b"b"):
 
 
 def keys(template, count):
-    """A type with so many parameters, in which the template's number counts."""
+    """A type with that many parameters, numbered by the template."""
     return typed(b"x; " + b"; ".join(template % n for n in range(int(count))))
 
 
@@ -154,7 +154,7 @@ def stars(size):
 
 
 def long_indexes(count):
-    """A type with so many sections whose numbers have 100,000 digits."""
+    """A type with that many sections whose numbers have 100,000 digits."""
     return typed(b"x; " + b"; ".join(b"f*%d%s=a" % (n, b"0" * 100_000) for n in range(1, int(count) + 1)))
 
 
@@ -231,7 +231,7 @@ def main():
     )
     parser.add_argument("kind", metavar="KIND", choices=KINDS, help="which mail, see below")
     parser.add_argument("scale", metavar="SCALE", type=scale_of, nargs="?", default=1, help="how many times the size")
-    parser.add_argument("--files", metavar="FOLDER", help="write each mail of a mailbox to a file in this folder")
+    parser.add_argument("--files", metavar="DIRECTORY", help="write each mail of a mailbox to a file in this directory")
     asked = parser.parse_args()
     if asked.files is None:
         sys.stdout.buffer.write(KINDS[asked.kind][1](asked.scale))

@@ -1,5 +1,5 @@
 #!/bin/sh
-# make_c_library.sh PREFIX: installs the C library into the folder PREFIX: lib/librocktray.so,
+# make_c_library.sh PREFIX: installs the C library into the directory PREFIX: lib/librocktray.so,
 # include/rocktray.h and lib/pkgconfig/rocktray.pc. It prints where the library is.
 #
 # Where crates/mail_c/out/libmail_c.a is missing or older than a source, the crate is proved and the
@@ -8,7 +8,7 @@
 # needs the C library alone.
 arguments='PREFIX'
 . "$(dirname "$0")/prelude.sh"
-[ -d "$(dirname "$1")" ] || usage "there is no folder $(dirname "$1")"
+[ -d "$(dirname "$1")" ] || usage "there is no directory $(dirname "$1")"
 crate=$top/crates/mail_c
 archive=$crate/out/libmail_c.a
 version=$(sed -n 's/^pub const VERSION: .* = "\(.*\)";$/\1/p' "$top/crates/mail_program/src/command.rt")

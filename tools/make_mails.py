@@ -1,5 +1,5 @@
 #!/usr/bin/env python3
-"""Writes mails to compare readers on into a folder.
+"""Writes mails to compare readers on into a directory.
 
 They are made by a grammar, with faults on purpose, and by changes to mails that were made before:
 parts in parts, digests, wrong or absent closing delimiters, boundaries that begin other boundaries or
@@ -127,7 +127,7 @@ def leaf(rng, eol):
 
 
 def mail(rng, levels, outer):
-    """A mail or a part with at most so many levels below it, inside parts with those boundaries."""
+    """A mail or a part with at most that many levels below it, inside parts with those boundaries."""
     eol = rng.choice(["\n", "\r\n", "\r\n"])
     if levels == 0 or rng.random() < 0.3:
         return leaf(rng, eol)
@@ -207,11 +207,11 @@ def main():
     parser = argparse.ArgumentParser(description=__doc__, formatter_class=argparse.RawDescriptionHelpFormatter)
     parser.add_argument("count", metavar="COUNT", type=int, help="how many mails")
     parser.add_argument("seed", metavar="SEED", type=int, help="a number to make them from")
-    parser.add_argument("folder", metavar="FOLDER", help="the folder, which is made where it is missing")
+    parser.add_argument("directory", metavar="DIRECTORY", help="the directory, which is made where it is missing")
     asked = parser.parse_args()
-    os.makedirs(asked.folder, exist_ok=True)
+    os.makedirs(asked.directory, exist_ok=True)
     for number, data in enumerate(mails(asked.count, asked.seed)):
-        with open(os.path.join(asked.folder, f"{number:06}.eml"), "wb") as file:
+        with open(os.path.join(asked.directory, f"{number:06}.eml"), "wb") as file:
             file.write(data)
 
 

@@ -125,7 +125,7 @@ class Outline:
         return 1 + sum(part.count() for part in self.parts or [])
 
     def depth(self):
-        """The greatest level at which an outline stands in it."""
+        """The greatest level of an outline in it."""
         return max((1 + part.depth() for part in self.parts or []), default=0)
 
     def has_good_headers(self):
@@ -142,7 +142,7 @@ class Outline:
         if not self.has_good_headers():
             return False
         if self.parts is None:
-            # What stands before a semicolon or a quote in front of the word is no `multipart`.
+            # Text before a semicolon, or a quote before the word, makes no `multipart`.
             return not types or not text_of(types[0]).strip(WHITE).encode("utf-8").lower().startswith(b"multipart")
         start = b"--" + self.boundary
         return (
@@ -167,7 +167,7 @@ class Maker:
         self.texts = texts
 
     def pick(self, good, bad, odds):
-        """One of the good ones, or once in so many one of the bad ones."""
+        """One of the good ones, or once in that many one of the bad ones."""
         return self.random.choice(bad if self.random.randrange(odds) == 0 else good)
 
     def headers(self, odds):
@@ -208,7 +208,7 @@ class Maker:
         return Outline(headers, boundary=boundary, parts=[self.outline(levels - 1, odds) for _ in range(count)])
 
     def outline(self, levels, odds):
-        """An outline of at most so many levels."""
+        """An outline of at most that many levels."""
         if levels == 0 or self.random.randrange(3) == 0:
             return self.leaf(odds)
         return self.branch(levels, odds)

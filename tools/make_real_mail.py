@@ -1,7 +1,7 @@
 #!/usr/bin/env python3
 """Writes real mails to standard output: as the parts of one mail, or as a mailbox.
 
-Each PLACE is a mail, a mailbox (a file that begins with `From `) or a folder of such files, as the one that
+Each PATH is a mail, a mailbox (a file that begins with `From `) or a directory of such files, as the one that
 tools/fetch_real.sh makes. The mails are taken in an order that is mixed, the same in each run, each that still fits
 into SIZE. A mail that mail_speed refuses to read is left out: as a part it would have all refused.
 
@@ -32,10 +32,10 @@ def is_read(reader, mail):
     return subprocess.run([reader, "1", "parse"], input=mail, stdout=silent, stderr=silent, check=False).returncode == 0
 
 
-def chosen(places, size):
+def chosen(paths, size):
     """The mails that are taken."""
     reader = built_program("mail_speed")
-    mails = sorted((os.path.basename(path), mail) for path, mail in mails_at(places))
+    mails = sorted((os.path.basename(path), mail) for path, mail in mails_at(paths))
     random.Random(SEED).shuffle(mails)
     left = size
     for _path, mail in mails:
@@ -56,7 +56,7 @@ def as_mailbox(mails):
 
 
 def levels_of(path):
-    """On which level a part with this path stands, from 1."""
+    """The level of a part with this path, from 1."""
     return path.count(".") + 2 if path else 1
 
 
@@ -74,12 +74,12 @@ def main():
     parser = argparse.ArgumentParser(description=__doc__, formatter_class=argparse.RawDescriptionHelpFormatter)
     parser.add_argument("--size", metavar="SIZE", type=int, default=6_000_000, help="how many bytes, else 6,000,000")
     parser.add_argument("form", metavar="FORM", choices=["parts", "mailbox"], help="`parts` or `mailbox`")
-    parser.add_argument("places", metavar="PLACE", nargs="+", help="where the mails are")
+    parser.add_argument("paths", metavar="PATH", nargs="+", help="where the mails are")
     asked = parser.parse_args()
-    missing = [place for place in asked.places if not os.path.exists(place)]
+    missing = [path for path in asked.paths if not os.path.exists(path)]
     if missing:
         parser.error(f"{missing[0]} is not there")
-    mails = list(chosen(asked.places, asked.size))
+    mails = list(chosen(asked.paths, asked.size))
     if not mails:
         parser.error(f"no mail has {asked.size} bytes or less")
     is_mailbox = asked.form == "mailbox"

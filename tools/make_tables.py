@@ -1,7 +1,7 @@
 #!/usr/bin/env python3
 """Makes the tables of single bytes of crates/mail_charsets from the sources of the Rust crate encoding_rs.
 
-SOURCES is its folder `src`, as Debian's package librust-encoding-rs-dev has it, which holds the
+SOURCES is its directory `src`, as Debian's package librust-encoding-rs-dev has it, which holds the
 indexes and the labels of the WHATWG Encoding Standard; `rt fmt` then sets the lines. With --check it
 writes nothing and says whether the file is what the sources give; then the last line is
 `N passed, N failed`, and the status is 1 where it is not. What Python's codecs read under each table
@@ -259,7 +259,7 @@ def main():
     parser = argparse.ArgumentParser(description=__doc__, formatter_class=argparse.RawDescriptionHelpFormatter)
     parser.add_argument("--check", action="store_true", help="write nothing, and compare")
     parser.add_argument("--indexes", metavar="ORACLE", help="make the indexes")
-    parser.add_argument("sources", metavar="SOURCES", help="the folder `src` of encoding_rs")
+    parser.add_argument("sources", metavar="SOURCES", help="the directory `src` of encoding_rs")
     arguments = parser.parse_args()
     if not os.path.isfile(os.path.join(arguments.sources, "data.rs")):
         parser.error("no file data.rs in %s" % arguments.sources)

@@ -1,5 +1,5 @@
 #!/usr/bin/env python3
-"""Makes the wheel of the Python module in a folder, and prints its path.
+"""Makes the wheel of the Python module in a directory, and prints its path.
 
 `pip install --no-index` of it works on any machine with this processor and a C library (glibc) that is new enough. The
 library in it is made by make_c_library.sh, which needs the kit, or is the one that ROCKTRAY_LIBRARY names.
@@ -13,17 +13,17 @@ from pathlib import Path
 
 def main():
     parser = argparse.ArgumentParser(description=__doc__, formatter_class=argparse.RawDescriptionHelpFormatter)
-    parser.add_argument("folder", metavar="FOLDER", help="where the wheel goes; it is made where it is missing")
-    folder = parser.parse_args().folder
-    if not os.path.isdir(os.path.dirname(os.path.abspath(folder))):
-        parser.error(f"there is no folder for {folder}")
+    parser.add_argument("directory", metavar="DIRECTORY", help="where the wheel goes; it is made where it is missing")
+    directory = parser.parse_args().directory
+    if not os.path.isdir(os.path.dirname(os.path.abspath(directory))):
+        parser.error(f"there is no directory for {directory}")
     source = Path(__file__).resolve().parent.parent / "python" / "make_wheel.py"
     spec = importlib.util.spec_from_file_location("wheel", source)
     wheel = importlib.util.module_from_spec(spec)
     sys.dont_write_bytecode = True
     spec.loader.exec_module(wheel)
-    os.makedirs(folder, exist_ok=True)
-    print(os.path.join(folder, wheel.build_wheel(folder)))
+    os.makedirs(directory, exist_ok=True)
+    print(os.path.join(directory, wheel.build_wheel(directory)))
 
 
 if __name__ == "__main__":

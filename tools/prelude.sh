@@ -1,12 +1,12 @@
-# What each script of this folder begins with. A script has its help as the comment at its head; it
-# names its arguments, in brackets those that may be left out, with two dots one that may stand more
+# What each script of this directory begins with. A script has its help as the comment at its head; it
+# names its arguments, in brackets those that may be left out, with two dots one that may occur more
 # than once, and then sources this file:
 #
 #     arguments='[--OPTION] NAME [ORACLE]'
 #     . "$(dirname "$0")/prelude.sh"
 #
 # `--help` prints the help. Too few or too many arguments, and an unknown option, end the script with
-# status 2. What it sets: `script` (its name), `here` (this folder), `top` (the repository), `passed`
+# status 2. What it sets: `script` (its name), `here` (this directory), `top` (the repository), `passed`
 # and `failed`.
 set -eu
 script=$(basename "$(readlink -f "$0")")
@@ -54,7 +54,7 @@ check_arguments() {
     done
     least=0
     most=0
-    set -f # what stands in brackets is no pattern for files
+    set -f # text in brackets is not a pattern for files
     for word in $arguments; do
         case $word in
             '[-'*) ;;
@@ -79,7 +79,7 @@ number() {
     [ "$1" -ge "$2" ] || usage "$1 is less than $2"
 }
 
-# make_work: makes `work`, a folder that goes when the script ends
+# make_work: makes `work`, a directory that goes when the script ends
 make_work() {
     work=$(mktemp -d)
     trap 'rm -rf "$work"' EXIT
@@ -153,8 +153,8 @@ least() {
     sort -n | head -n 1
 }
 
-# seconds TURNS LIMIT COMMAND..: the least time of so many runs on the file `input`, each of which
-# gets so many seconds at most; or in words that a run took longer, or failed
+# seconds TURNS LIMIT COMMAND..: the least time of TURNS runs on the file `input`, each of which
+# gets LIMIT seconds at most; or a text that a run took longer, or failed
 seconds() {
     turns=$1
     limit=$2

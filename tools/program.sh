@@ -1,5 +1,5 @@
 #!/bin/sh
-# program.sh NAME: prints where the program of the crate NAME is, a folder crates/NAME with
+# program.sh NAME: prints where the program of the crate NAME is, a directory crates/NAME with
 # src/main.rt.
 #
 # Where the program is missing or older than a source, the crate is proved and the program built

@@ -23,7 +23,7 @@ def codec(label):
 
 
 def without_surrogates(text):
-    """A text whose surrogates stand for bytes; those that are no UTF-8 are Latin-1 by docs/RULES.md."""
+    """A text whose surrogates are bytes; bytes that are not UTF-8 are Latin-1 by docs/RULES.md."""
     raw = text.encode("utf-8", "surrogateescape")
     try:
         return raw.decode("utf-8")
@@ -216,7 +216,7 @@ SEPARATOR = (
 
 
 def mails_of(mailbox):
-    """The mails of a mailbox, cut as docs/RULES.md says; what stands before the first is left out."""
+    """The mails of a mailbox, cut as docs/RULES.md says; text before the first is left out."""
     starts = list(re.finditer(rb"(?:\A|(?:\A|(?<=\n))\r?\n)" + SEPARATOR, mailbox))
     last = re.search(rb"(?<=\n)\r?\n\Z", mailbox)
     ends = [found.start() for found in starts[1:]] + [last.start() if last else len(mailbox)]

@@ -15,7 +15,7 @@ SHOWN = [chr(it) if 32 <= it < 127 and it not in b"\"\\" else f"\\x{it:02X}" for
 
 @dataclass
 class Row:
-    """A row: where it stands, its call, the inputs and the wanted items, and its marks. A text is bytes, and a
+    """A row: its position, its call, the inputs and the wanted items, and its marks. A text is bytes, and a
     word is str."""
 
     place: str
@@ -30,7 +30,7 @@ class Row:
 
 
 def decoded(raw):
-    """The bytes that a text in quotes stands for."""
+    """The bytes of a text in quotes."""
     parts, at = [], 0
     for found in ESCAPE.finditer(raw):
         code, byte, plain = found.groups()

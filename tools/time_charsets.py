@@ -53,8 +53,8 @@ def main():
     parser.add_argument("--rounds", metavar="N", default="5")
     arguments = parser.parse_args()
     program = arguments.program or built_program("mail_speed")
-    with tempfile.TemporaryDirectory() as folder:
-        oracle = arguments.oracle or build_oracle(folder)
+    with tempfile.TemporaryDirectory() as directory:
+        oracle = arguments.oracle or build_oracle(directory)
         for label, codec, first, last in TEXTS:
             text = text_of(codec, first, last)
             run = subprocess.run([program, arguments.rounds, label], input=text, stdout=subprocess.DEVNULL,

@@ -6,7 +6,7 @@
 # each LF.
 #
 # With ORACLE, a program whose command `bench N` reads a mail from standard input and prints a line
-# `full ..`, the time of reading it and decoding its body, its times on the same bodies stand beside;
+# `full ..`, the time of reading it and decoding its body, its times on the same bodies are shown beside;
 # and those of the crate memchr, where its command `search N` prints them.
 arguments='[ORACLE]'
 . "$(dirname "$0")/prelude.sh"

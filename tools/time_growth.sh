@@ -8,8 +8,8 @@
 #
 # Reading takes work linear in the size (times a logarithm for parameters), so twice the size takes
 # about twice the instructions. valgrind's callgrind counts them, the same in each run; where there
-# is no valgrind, the least time of 15 runs stands for them. With ORACLE, a program
-# whose command `show` reads a mail from standard input, its time on the smallest stands beside; it
+# is no valgrind, the least time of 15 runs is taken instead. With ORACLE, a program
+# whose command `show` reads a mail from standard input, its time on the smallest is shown too; it
 # gets at most a minute.
 #
 # It needs GNU time (/usr/bin/time).
@@ -30,7 +30,7 @@ kinds='openings broken-words semicolons quotes escaped-quotes keys starred-keys 
     starred-continuations growing-stars long-indexes percent-escapes delimiters line-feeds dashes
     close-delimiters levels empty-parts prefixes empty-boundary boundary-of-lines'
 
-# processor_time TURNS: the least processor time in seconds of so many runs on the file `input`, which
+# processor_time TURNS: the least processor time in seconds of TURNS runs on the file `input`, which
 # does not count what else the machine does; nothing where a run fails
 processor_time() {
     python3 - "$1" "$show" "$work/input" << 'END'

@@ -3,7 +3,7 @@
 # the same members (read_by_email.py): on a mail with a large attachment, on many small mails in one, on
 # headers alone, and on a mailbox of 20,000 mails. It prints the least of the rounds, of which there are
 # 3, or ROUNDS, and how many times the time of mail_json Python takes; both are timed in turn. Beside it
-# stands the most memory that a run of mail_json held.
+# is the peak memory of a run of mail_json.
 #
 # It needs GNU time (/usr/bin/time) and 200 MB of disk. The status is 1 where a run failed.
 arguments=

@@ -5,8 +5,8 @@
 # for each byte, counted by valgrind's callgrind: the same in each run, also on a machine with other work to do.
 #
 # The mails are made: a large attachment, many small mails in one and the same in a mailbox, headers alone, and
-# quoted-printable, a text and escapes alone. With REAL=FOLDER in the environment real ones come first, out of the
-# folder that fetch_real.sh made: a mail of 6 MB, whose parts they are, one of 300 kB, and a mailbox of 6 MB. The
+# quoted-printable, a text and escapes alone. With REAL=DIRECTORY in the environment real ones come first, out of the
+# directory that fetch_real.sh made: a mail of 6 MB, whose parts they are, one of 300 kB, and a mailbox of 6 MB. The
 # mails of a mailbox are read one at a time, as an index reads them.
 #
 # The columns: `Here` is mail_speed; `Beside` is another build of it, where BESIDE=PROGRAM names one; `The crate` is
@@ -27,7 +27,7 @@ take_oracle "$@"
 turns=${TURNS:-16}
 number "$turns" 1
 [ -z "${BESIDE:-}" ] || [ -x "$BESIDE" ] || usage "$BESIDE is no program"
-[ -z "${REAL:-}" ] || [ -d "$REAL" ] || usage "$REAL is no folder"
+[ -z "${REAL:-}" ] || [ -d "$REAL" ] || usage "$REAL is no directory"
 if [ "$unit" = instructions ] && ! command -v valgrind > /dev/null; then
     usage 'counting instructions needs valgrind'
 fi
@@ -207,7 +207,7 @@ made() {
     row "$what" "$@"
 }
 
-# real WHAT SIZE FORM WORK..: the row of real mails of so many bytes; a FORM is `parts` or `mailbox`
+# real WHAT SIZE FORM WORK..: the row of real mails of SIZE bytes; a FORM is `parts` or `mailbox`
 real() {
     what=$1
     size=$2
@@ -249,7 +249,7 @@ if [ -n "${REAL:-}" ]; then
     real 'one mail' 300000 parts parse all
     real 'a mailbox' "$mailbox" mailbox mailbox-parse mailbox-all
 else
-    leave_out 'real mail' 'REAL=FOLDER names no folder of fetch_real.sh'
+    leave_out 'real mail' 'REAL=DIRECTORY names no directory of fetch_real.sh'
 fi
 made 'an attachment' attachment parse all
 made 'small mails in one' small parse all

@@ -4,7 +4,7 @@
 Each reads a mail and then everything: subject, sender, recipients, date, ids, all headers decoded, and of each part its
 type, name, bytes and text. Printed are the microseconds for each mail, the least of the rounds, which go in turn, and how many
 times as long email takes. The mails are the samples, those of a mailbox of 2,000 mails of 5 kB, and mails with an
-attachment of 20 MB; with FOLDER also the real mails there (fetch_real.sh).
+attachment of 20 MB; with DIRECTORY also the real mails there (fetch_real.sh).
 
 The module is that of PYTHONPATH, or of python/ with the library that ROCKTRAY_LIBRARY names.
 """
@@ -127,12 +127,12 @@ def show(name, mails, rounds):
 
 def benchmark_mails(kind):
     """The mails that make_benchmark_mail.py makes."""
-    with tempfile.TemporaryDirectory() as folder:
-        files = ["--files", folder] if kind == "mailbox" else []
+    with tempfile.TemporaryDirectory() as directory:
+        files = ["--files", directory] if kind == "mailbox" else []
         made = subprocess.run(
             [sys.executable, os.path.join(TOP, "tools", "make_benchmark_mail.py"), *files, kind], stdout=subprocess.PIPE, check=True
         )
-        return [contents(path) for path in sorted(glob.glob(f"{folder}/*"))] if files else [made.stdout]
+        return [contents(path) for path in sorted(glob.glob(f"{directory}/*"))] if files else [made.stdout]
 
 
 def contents(path):
@@ -143,17 +143,17 @@ def contents(path):
 def main():
     reader = argparse.ArgumentParser(description=__doc__, formatter_class=argparse.RawDescriptionHelpFormatter)
     reader.add_argument("--rounds", type=int, default=5, metavar="N", help="how many rounds (5)")
-    reader.add_argument("folder", nargs="?", metavar="FOLDER", help="a folder of mails, as fetch_real.sh makes it")
+    reader.add_argument("directory", nargs="?", metavar="DIRECTORY", help="a directory of mails, as fetch_real.sh makes it")
     words = reader.parse_args()
-    if words.folder is not None and not os.path.isdir(words.folder):
-        reader.error(f"{words.folder} is no folder")
+    if words.directory is not None and not os.path.isdir(words.directory):
+        reader.error(f"{words.directory} is no directory")
     sys.path.append(os.path.join(TOP, "python"))
     samples = [contents(path) for path in sorted(glob.glob(f"{TOP}/samples/*.eml"))]
     show("samples", samples * 20, words.rounds)
     show("mailbox", benchmark_mails("mailbox")[:500], words.rounds)
     show("attachment", benchmark_mails("attachment"), words.rounds)
-    if words.folder:
-        paths = sorted(it for it in glob.glob(f"{words.folder}/**", recursive=True) if os.path.isfile(it))
+    if words.directory:
+        paths = sorted(it for it in glob.glob(f"{words.directory}/**", recursive=True) if os.path.isfile(it))
         show("real", [contents(path) for path in paths], words.rounds)
 
 

@@ -1,11 +1,11 @@
 #!/usr/bin/env python3
 """Tries the edits that must fail: each changes the body of a function, and the prover has to refuse it.
 
-The edits of a module stand in crates/CRATE/edits/MODULE.txt, with an empty line between two. A line `file: src/..`
+The edits of a module are in crates/CRATE/edits/MODULE.txt, with an empty line between two. A line `file: src/..`
 holds until the next one. An edit has lines `name:`, `function:` (what it changes, as `rt check` prints it; several
-where it is a constant that they use) and pairs of lines `old:`, whose text stands once in the file, and `new:`.
+where it is a constant that they use) and pairs of lines `old:`, whose text occurs once in the file, and `new:`.
 
-The edits of a crate are tried together, as far as no two change one function: a body is proved against the contracts
+The edits of a crate are tried together, provided that no two change one function: a body is proved against the contracts
 of what it calls, so such edits do not touch one another. A check proves what they change and what that calls, over
 libraries that are proved here, from what `rt check` kept, or with --ci over those that a run of `rt ci` leaves. An
 edit passes if each of its functions is refused for a goal, and not only because its proof names what is gone; all
@@ -53,7 +53,7 @@ def edits_in(crate, text):
 
 
 def replaced(file, before, pairs):
-    """The text of a file with all pairs replaced, each of which stands in it once."""
+    """The text of a file with all pairs replaced, each of which occurs in it once."""
     text = before
     for old, new in sorted(pairs, key=lambda it: -before.find(it[0])):
         at = before.find(old)
@@ -87,13 +87,13 @@ def judge(edits, text):
         waits = rest and not own and (status == "no proof" or kind != "fn")
         goals = [goal for it in re.findall("did not prove ([^;]*)", own) for goal in re.findall("`([^`]+)`", it)]
         found[name] = None if status == "proved" or waits else goals
-    folders = {"proofs/" + it.partition("::")[2].replace("::", "/"): it for it in found}
-    for folder, place, what in ERROR.findall(text):
-        name = folders.get(folder.replace("+", ""))
+    directories = {"proofs/" + it.partition("::")[2].replace("::", "/"): it for it in found}
+    for directory, place, what in ERROR.findall(text):
+        name = directories.get(directory.replace("+", ""))
         if name:
             found[name] = (found[name] or []) + [f"{place}: {what[:150]}"] * (not IS_GONE.search(what))
         elif not FOLLOWS.search(what):
-            others.append(f"{folder}/{place}: {what[:150]}")
+            others.append(f"{directory}/{place}: {what[:150]}")
     changed = {it for edit in edits for it in edit.functions}
     others += [name for name, goals in found.items() if goals is not None and name not in changed]
     if others:
@@ -106,7 +106,7 @@ def judge(edits, text):
 
 
 def stamps_in(top):
-    """By which text rt knows each library of a repository again; none where the kit does not tell it in this way."""
+    """The text by which rt recognizes each library of a repository; nothing if the kit does not give it this way."""
     kit = Path(subprocess.run(["rt", "doc"], stdout=subprocess.PIPE, text=True, check=True).stdout.strip()).parent
     sys.path.insert(0, f"{kit}/bin")
     try:
@@ -120,15 +120,15 @@ def stamps_in(top):
 class Run:
     """A copy of the repository with its libraries; and of each edit whether it passed."""
 
-    def __init__(self, room, jobs, ci):
+    def __init__(self, scratch, jobs, ci):
         listed = dict(re.findall(r"^(\w+)[^:#\n]*:(.*)", (TOP / "crates.txt").read_text("utf-8"), re.M))
         self.deps = {name: [it for it in below.split() if it in listed] for name, below in listed.items()}
-        self.room, self.lanes, self.libraries = room, threading.Semaphore(jobs), {}
-        self.copy(TOP, f"{room}/base", [] if ci else self.deps, shutil.copy2)
-        self.ci, self.stamps, self.passed = ci, stamps_in(f"{room}/base") if ci else {}, []
+        self.scratch, self.lanes, self.libraries = scratch, threading.Semaphore(jobs), {}
+        self.copy(TOP, f"{scratch}/base", [] if ci else self.deps, shutil.copy2)
+        self.ci, self.stamps, self.passed = ci, stamps_in(f"{scratch}/base") if ci else {}, []
 
     def below(self, crate):
-        """All that the crate stands on."""
+        """All that the crate depends on."""
         return set(self.deps[crate]).union(*map(self.below, self.deps[crate]))
 
     def copy(self, top, to, proved, how):
@@ -153,7 +153,7 @@ class Run:
         """Has a library in the base, once those below it are there: that of `rt ci`, or one that is proved here."""
         for it in self.deps[crate]:
             self.libraries[it].result()
-        made, has_ended = Path(f"{self.room}/base/crates/{crate}/out/rlib"), crate not in self.stamps
+        made, has_ended = Path(f"{self.scratch}/base/crates/{crate}/out/rlib"), crate not in self.stamps
         while not has_ended:
             has_ended = os.path.exists(f"{self.ci}.status")
             if re.search(rf"^rt: {crate} (proved$|is kept)", Path(f"{self.ci}.log").read_text("utf-8", "replace"), re.M):
@@ -161,13 +161,13 @@ class Run:
                 (made / "stamp").write_text(self.stamps[crate], "utf-8")
                 return
             time.sleep(2)
-        said = self.rt("proved as it is", crate, f"{self.room}/base", "lib", jobs=2)
+        said = self.rt("proved as it is", crate, f"{self.scratch}/base", "lib", jobs=2)
         if not (made / "stamp").exists():
             sys.exit(f"{crate} is not proved as it is: {said[-300:]}")
 
     def try_batch(self, crate, edits):
         """Checks in the crate's copy what these edits change, and says what comes of each."""
-        top, before, pairs = f"{self.room}/{crate}", {}, {}
+        top, before, pairs = f"{self.scratch}/{crate}", {}, {}
         for file, *pair in {change for edit in edits for change in edit.changes}:
             pairs.setdefault(Path(f"{top}/crates/{crate}/{file}"), []).append(pair)
         only = [word for edit in edits for it in edit.functions for word in ("--only", it)]
@@ -188,10 +188,10 @@ class Run:
 
     def try_crate(self, crate, edits, archive):
         """Tries the edits of a crate, each batch over what was proved before it; builds the crate first for an archive."""
-        proved, top = self.below(crate) | (set() if self.ci else {crate} & set(self.libraries)), f"{self.room}/{crate}"
+        proved, top = self.below(crate) | (set() if self.ci else {crate} & set(self.libraries)), f"{self.scratch}/{crate}"
         for it in proved:
             self.libraries[it].result()
-        self.copy(f"{self.room}/base", top, proved, os.link)
+        self.copy(f"{self.scratch}/base", top, proved, os.link)
         if archive and Path(archive).name == f"lib{crate}.a":
             self.rt("built", crate, top, "lib", jobs=2)
             shutil.copyfile(f"{top}/crates/{crate}/out/lib{crate}.a", f"{archive}.part")
@@ -238,9 +238,9 @@ def main():
     edits = [edit for path in paths for edit in edits_in(path.parts[-3], path.read_text("utf-8"))]
     for it in set(words.names) - {it.crate for it in edits} - {it.name for it in edits}:
         reader.error(f"there is no crate with edits, and no edit, of the name {it}")
-    with tempfile.TemporaryDirectory(prefix="try-edits-") as room:
-        signal.signal(signal.SIGTERM, lambda *_: (shutil.rmtree(room, ignore_errors=True), os._exit(1)))
-        run = Run(room, words.jobs, words.ci)
+    with tempfile.TemporaryDirectory(prefix="try-edits-") as scratch:
+        signal.signal(signal.SIGTERM, lambda *_: (shutil.rmtree(scratch, ignore_errors=True), os._exit(1)))
+        run = Run(scratch, words.jobs, words.ci)
         run.try_all([it for it in edits if not words.names or {it.crate, it.name} & set(words.names)], words.archive)
     print(f"{run.passed.count(True)} passed, {run.passed.count(False)} failed")
     return 1 if False in run.passed else 0

@@ -3,7 +3,7 @@
 #
 # Its commands, its program and what this prints are taken from the README's text. The commands copy the
 # library and write crates.txt; the program is built and run by `rt try`, without a proof. The section has
-# to name the logic of the kit that is installed, whatever that kit's own name is. The folder is made outside
+# to name the logic of the kit that is installed, whatever that kit's own name is. The directory is made outside
 # the repository and deleted afterwards.
 #
 # It prints what failed. The last line is `N passed, N failed`; the status is 1 where one failed.
@@ -46,7 +46,7 @@ runs_program() {
     in_mine "$(fence console | sed -n 's/^\$ //p')" > "$work/printed" 2> "$work/said"
 }
 
-# prints_that: does the program print what stands in the README?
+# prints_that: does the program print what the README shows?
 prints_that() {
     fence console | grep -v '^\$ ' | diff - "$work/printed"
 }

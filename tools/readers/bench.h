@@ -1,4 +1,4 @@
-/* What the readers of this folder share: the command `bench ROUNDS WORK..`, as README.md says. */
+/* What the readers of this directory share: the command `bench ROUNDS WORK..`, as README.md says. */
 #ifndef BENCH_H
 #define BENCH_H
 
@@ -10,7 +10,7 @@
 #include <string.h>
 #include <time.h>
 
-/* What is timed: reads so many bytes. Returns how much that made, so that no compiler leaves it out. */
+/* The timed work on `size` bytes. Returns how much it made, so that no compiler leaves it out. */
 typedef size_t (*reading)(const char *bytes, size_t length);
 
 /* A work and its name. */
@@ -22,12 +22,12 @@ struct work {
 /* The whole of standard input, and its length; ends the program where it cannot be read. */
 static inline char *bench_input(size_t *length)
 {
-    size_t room = 1 << 20, used = 0, read;
-    char *bytes = (char *)malloc(room);
-    while (bytes && (read = fread(bytes + used, 1, room - used, stdin)) > 0) {
+    size_t capacity = 1 << 20, used = 0, read;
+    char *bytes = (char *)malloc(capacity);
+    while (bytes && (read = fread(bytes + used, 1, capacity - used, stdin)) > 0) {
         used += read;
-        if (used == room)
-            bytes = (char *)realloc(bytes, room *= 2);
+        if (used == capacity)
+            bytes = (char *)realloc(bytes, capacity *= 2);
     }
     if (!bytes || ferror(stdin)) {
         fprintf(stderr, "standard input cannot be read\n");
@@ -44,7 +44,7 @@ static inline int bench_order(const void *left, const void *right)
     return (one > other) - (one < other);
 }
 
-/* Times so many rounds of a work, and prints the least and the median, in nanoseconds for each byte. */
+/* Times `rounds` rounds of a work, and prints the least and the median, in nanoseconds for each byte. */
 static inline void bench_work(const struct work *work, const char *bytes, size_t length, size_t rounds)
 {
     double *times = (double *)malloc(rounds * sizeof *times);

@@ -42,7 +42,7 @@ def read_all(data):
 
 
 def mails_of(mailbox):
-    """The mails of a mailbox: what stands behind each line that begins with `From `."""
+    """The mails of a mailbox: the text after each line that begins with `From `."""
     separators = list(SEPARATOR.finditer(mailbox))
     ends = [found.start() for found in separators[1:]] + [len(mailbox)]
     return [mailbox[found.end():end] for found, end in zip(separators, ends)]

@@ -5,7 +5,7 @@ from dataclasses import dataclass, field
 
 @dataclass
 class Fence:
-    """A fence: the number of the line where it begins, the words that stand there, and the lines inside."""
+    """A fence: the number of its first line, the words of that line, and the lines inside."""
 
     number: int
     words: list

@@ -30,7 +30,7 @@ fn all(input: &[u8]) -> usize {
     })
 }
 
-/// The mails of a mailbox: what stands behind each line that begins with `From `.
+/// The mails of a mailbox: the text after each line that begins with `From `.
 fn mails(mailbox: &[u8]) -> impl Iterator<Item = &[u8]> {
     let mut left = mailbox.starts_with(b"From ").then_some(mailbox);
     std::iter::from_fn(move || {
@@ -67,7 +67,7 @@ fn lines(input: &[u8]) -> usize {
     count
 }
 
-/// Writes the times of so many rounds of the works of these names on a mail or a mailbox; of `parse`,
+/// Writes the times of `rounds` rounds of the works of these names on a mail or a mailbox; of `parse`,
 /// `full` and `all` where none is named.
 pub fn bench(out: &mut String, input: &[u8], rounds: usize, names: &[String]) {
     let works: [Work; 5] = [
@@ -87,7 +87,7 @@ pub fn bench(out: &mut String, input: &[u8], rounds: usize, names: &[String]) {
     }
 }
 
-/// Writes the times of so many rounds of each search.
+/// Writes the times of `rounds` rounds of each search.
 pub fn search(out: &mut String, input: &[u8], rounds: usize) {
     times(out, &[("absent", absent), ("lines", lines)], input, rounds);
 }
@@ -95,7 +95,7 @@ pub fn search(out: &mut String, input: &[u8], rounds: usize) {
 /// A work and its name.
 type Work = (&'static str, fn(&[u8]) -> usize);
 
-/// Writes the times of so many rounds of each work.
+/// Writes the times of `rounds` rounds of each work.
 fn times(out: &mut String, works: &[Work], input: &[u8], rounds: usize) {
     for (name, work) in works {
         let mut times: Vec<f64> = (0..rounds.max(1))

@@ -98,7 +98,7 @@ pub fn ids(out: &mut String, found: Result<MessageIdList, MailParseError>) {
     }
 }
 
-/// The bytes of a body as they stand in the mail.
+/// The bytes of a body, not decoded.
 pub fn raw_of<'a>(body: &Body<'a>) -> &'a [u8] {
     match body {
         Body::Base64(body) | Body::QuotedPrintable(body) => body.get_raw(),
@@ -135,7 +135,7 @@ pub fn body_of(out: &mut String, encoding: &str, label: &str, raw: &[u8]) {
     body(out, &Body::new(raw, &ctype, &encoding));
 }
 
-/// The lines of a range: where it stands in the input, its length and its hash.
+/// The lines of a range: its offset in the input, its length and its hash.
 fn range(out: &mut String, word: &str, input: &[u8], part: &[u8]) {
     let start = part.as_ptr() as usize - input.as_ptr() as usize;
     let _ = writeln!(out, "at {word} {start} {}", start + part.len());
