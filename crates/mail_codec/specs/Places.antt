@@ -1,6 +1,6 @@
 -- Places in a list of bytes, counted from 0, and the least place with a property; this crate's own
 -- words.
-use Rattle.std.specs.Prelude.{◌≡◌, ◌≢◌, ℕ, zero, suc, ◌+◌, ◌-◌, ◌<◌, ◌≤◌, Bool, true, false, not, ◌==◌, nat_eq, nat_lt, filter, List, [], ◌∷◌, length, take, drop, slice_index, Option, None, Some, if◌then◌else◌}
+use Rattle.std.specs.Prelude.{◌≡◌, ◌≢◌, ◌⊎◌, ℕ, zero, suc, ◌+◌, ◌-◌, ◌<◌, ◌≤◌, Bool, true, false, not, ◌==◌, ◌||◌, nat_eq, nat_lt, filter, List, [], ◌∷◌, length, take, drop, slice_index, Option, None, Some, if◌then◌else◌}
 use Rattle.std.specs.Char.{is_ascii_whitespace}
 use Rattle.std.specs.List.{starts_with, prefix_len, suffix_len}
 
@@ -38,6 +38,10 @@ place test bytes =
 abbrev pub byte_place : List ℕ → ℕ → Option ℕ
 byte_place bytes byte = place (begins (λ b. b == byte)) bytes
 
+-- the first place of either of two bytes
+abbrev pub either_place : List ℕ → ℕ → ℕ → Option ℕ
+either_place bytes first second = place (begins (λ b. b == first || b == second)) bytes
+
 -- the first place where a text stands, and none for the empty text
 abbrev pub text_place : List ℕ → List ℕ → Option ℕ
 text_place bytes text = if length text == 0 then None else place (has_prefix text) bytes
@@ -59,6 +63,11 @@ pub record IsFirstPlaceFrom (test : List ℕ → Bool) (bytes : List ℕ) (s p :
 -- the byte stands at place p
 abbrev pub HasByteAt : List ℕ → ℕ → ℕ → Type 0
 HasByteAt bytes byte p = (p < length bytes) × (slice_index bytes p ≡ byte)
+
+-- one of the two bytes is at place p
+abbrev pub HasEitherAt : List ℕ → ℕ → ℕ → ℕ → Type 0
+HasEitherAt bytes first second p =
+    (p < length bytes) × ((slice_index bytes p ≡ first) ⊎ (slice_index bytes p ≡ second))
 
 -- the text, which is not empty, stands at place p
 abbrev pub HasTextAt : List ℕ → List ℕ → ℕ → Type 0

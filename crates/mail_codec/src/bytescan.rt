@@ -1,12 +1,14 @@
 //! Searches in bytes. Places are byte numbers counted from 0.
 ghost use Rattle.std.specs.Prelude.{◌≡◌, ◌∷◌, [], IfOk};
-ghost use Rattle.mail_codec.specs.Places.{byte_place, text_place, without_ascii_whitespace};
+ghost use Rattle.mail_codec.specs.Places.{byte_place, either_place, text_place, without_ascii_whitespace};
 
+mod either;
 mod pairs;
 pub(crate) mod runs;
 mod single;
 pub(crate) mod words;
 
+use either::either_len;
 use pairs::{WIDE, pair_len};
 use runs::{RunEnd, push_runs};
 use single::byte_len;
@@ -28,6 +30,29 @@ pub fn find_byte(haystack: &[u8], byte: u8) -> Option<usize>
     ensures { result ≡ byte_place haystack.now byte }
 {
     let place = byte_len(haystack, byte);
+    if place == haystack.len() {
+        return None;
+    }
+    Some(place)
+}
+
+/// Returns the first offset of `first` or `second` in `haystack`, or `None` if neither occurs.
+///
+/// Does not allocate.
+///
+/// # Examples
+///
+/// ```rust
+/// use mail_codec::bytescan::find_either;
+///
+/// assert_eq!(rt; find_either(b"a: b\n", b'\n', b':'), Some(1));
+/// assert_eq!(rt; find_either(b"a: b\n", b';', b'='), None);
+/// ```
+#[inline(always)]
+pub fn find_either(haystack: &[u8], first: u8, second: u8) -> Option<usize>
+    ensures { result ≡ either_place haystack.now first second }
+{
+    let place = either_len(haystack, first, second);
     if place == haystack.len() {
         return None;
     }

@@ -3,7 +3,7 @@
 //! Each function does nothing; its contract is the law.
 ghost use Rattle.std.specs.Prelude.{◌≡◌, ◌↔◌, ◌<◌, ◌≤◌, ℕ, Bool, true, List, Option, Ok, Err, length, slice_index};
 ghost use Rattle.mail_codec.specs.Base64.{base64, IsBase64, IsBase64Fault};
-ghost use Rattle.mail_codec.specs.Places.{byte_place, first_place, place_from, text_place, HasByteAt, HasTextAt, IsFirstOf, IsFirstPlace, IsFirstPlaceFrom};
+ghost use Rattle.mail_codec.specs.Places.{byte_place, either_place, first_place, place_from, text_place, HasByteAt, HasEitherAt, HasTextAt, IsFirstOf, IsFirstPlace, IsFirstPlaceFrom};
 ghost use Rattle.mail_codec.specs.Utf7.{is_direct, utf7_text};
 ghost use Rattle.mail_codec.specs.QuotedPrintable.{AreLines, IsQuotedPrintable, Line, lines_of, quoted_printable};
 
@@ -24,11 +24,13 @@ pub fn place_from_is_least()
         IsFirstPlaceFrom test bytes s p → p ≡ place_from test bytes s }
 {}
 
-/// What `find_byte` and `find` return is the first place where the byte, or the text, stands, and
-/// `None` exactly where it stands nowhere; the empty text stands nowhere.
+/// `find_byte`, `find_either` and `find` return the first offset of the byte, of either byte or of
+/// the text, and `None` exactly if it does not occur; the empty text never occurs.
 pub fn searches_find_first_places()
     ensures byte { (bytes : List ℕ) (byte : ℕ) (found : Option ℕ) →
         (found ≡ byte_place bytes byte) ↔ IsFirstOf (HasByteAt bytes byte) found }
+    ensures either { (bytes : List ℕ) (first second : ℕ) (found : Option ℕ) →
+        (found ≡ either_place bytes first second) ↔ IsFirstOf (HasEitherAt bytes first second) found }
     ensures text { (bytes : List ℕ) (text : List ℕ) (found : Option ℕ) →
         (found ≡ text_place bytes text) ↔ IsFirstOf (HasTextAt bytes text) found }
 {}

@@ -22,9 +22,6 @@ use std::marker::Model;
 use std::{fmt, str};
 use value::{value_of, value_ref};
 
-/// How many bytes a vector has.
-const LANES: usize = 16;
-
 /// A header of a message (RFC 5322, section 2.2): the bytes of its key and of its value, as they
 /// appear in the message.
 #[derive(Drop)]

@@ -1,11 +1,11 @@
 -- The least place at or after a start, and what the searches return, in words of places.
-use Rattle.std.proofs.Common.{◌≡◌, ◌≢◌, ℕ, ◌+◌, ◌-◌, ◌<◌, ◌≤◌, ◌==◌, Bool, true, false, List, [], ◌∷◌, length, take, drop, Option, Some, None, refl, sym, ap, ◌∙◌, subst, arith, inl, inr, ◌↔◌}
-use Rattle.std.proofs.lemmas.Bool.{cases_lt, lt-ltb, le-ltb, eq-eqb, eqb-true, ne_eqb}
+use Rattle.std.proofs.Common.{◌≡◌, ◌≢◌, ◌⊎◌, ℕ, ◌+◌, ◌-◌, ◌<◌, ◌≤◌, ◌==◌, ◌||◌, get_or, Bool, true, false, List, [], ◌∷◌, length, take, drop, Option, Some, None, refl, sym, ap, ◌∙◌, subst, arith, inl, inr, ◌↔◌}
+use Rattle.std.proofs.lemmas.Bool.{cases_lt, lt-ltb, le-ltb, eq-eqb, eqb-true, ne_eqb, or_cases, or_left, or_right}
 use Rattle.std.proofs.lemmas.Bool.Decides.{Decides-eqb}
 use Rattle.std.proofs.lemmas.Slice.Eq.{slice_eq-Decides}
 use Rattle.std.proofs.Math.Seq.{take-nil}
 use Rattle.std.proofs.lemmas.List.{drop-drop, length-drop, drop_all}
-use Rattle.mail_codec.specs.Places.{first_place, place_from, begins, has_prefix, place, byte_place, text_place, HasByteAt, HasTextAt, IsFirstOf, IsFirstPlaceFrom}
+use Rattle.mail_codec.specs.Places.{first_place, place_from, begins, has_prefix, place, byte_place, either_place, text_place, HasByteAt, HasEitherAt, HasTextAt, IsFirstOf, IsFirstPlaceFrom}
 use Rattle.mail_codec.proofs.lemmas.Places.{true_not_false, first_place-passes, first_place-before, begins-at, place_from_bounds}
 
 -- ---- the least place at or after a start
@@ -86,6 +86,22 @@ pub byte_place-says : (bytes : List ℕ) (byte : ℕ) (found : Option ℕ) → (
 byte_place-says bytes byte = place_says (HasByteAt bytes byte) (begins (λ b. b == byte)) bytes
     (λ p has. (has.0, begins-at (λ b. b == byte) bytes p has.0 ∙ eq-eqb _ byte has.1))
     (λ p has. (has.0, eqb-true _ byte (sym (begins-at (λ b. b == byte) bytes p has.0) ∙ has.1)))
+
+-- ---- either of two bytes
+
+pub either_place-says : (bytes : List ℕ) (first second : ℕ) (found : Option ℕ) → (found ≡ either_place bytes first second) ↔ IsFirstOf (HasEitherAt bytes first second) found
+either_place-says bytes first second =
+    let test : ℕ → Bool = λ b. b == first || b == second in
+    place_says (HasEitherAt bytes first second) (begins test) bytes
+    (λ p has. (has.0, begins-at test bytes p has.0 ∙ is_either (get_or bytes p 0) has.1))
+    (λ p has. (has.0, either_is (get_or bytes p 0) (sym (begins-at test bytes p has.0) ∙ has.1)))
+  where
+    is_either : (b : ℕ) → (b ≡ first) ⊎ (b ≡ second) → (b == first || b == second) ≡ true
+    is_either b (inl e) = or_left (b == first) (b == second) (eq-eqb b first e)
+    is_either b (inr e) = or_right (b == first) (b == second) (eq-eqb b second e)
+
+    either_is : (b : ℕ) → (b == first || b == second) ≡ true → (b ≡ first) ⊎ (b ≡ second)
+    either_is b h = elim (or_cases (b == first) (b == second) h) [ inl e ↦ inl (eqb-true b first e) | inr e ↦ inr (eqb-true b second e) ]
 
 -- ---- a text
 

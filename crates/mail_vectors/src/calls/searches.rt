@@ -2,6 +2,7 @@
 //!
 //! ```text
 //! find_byte BYTES BYTE.. => PLACE | none ..
+//! find_either BYTES PAIR => PLACE | none
 //! find BYTES NEEDLE => PLACE | none
 //! find_pair BYTES PAIR => PLACE | none
 //! strip_ascii_whitespace BYTES => KEPT
@@ -18,14 +19,14 @@
 
 use super::sweeps::{Runs, push_times};
 use crate::notation::{Answer, Row};
-use mail_codec::bytescan::{find, find_byte, find_pair, strip_ascii_whitespace};
+use mail_codec::bytescan::{find, find_byte, find_either, find_pair, strip_ascii_whitespace};
 use mailparse::MailParseError;
 use std::alloc::{AllocError, Global};
 
 /// Makes the call of a row, if it is one of these.
 pub fn make(alloc: Global, row: &Row, answer: &mut Answer) -> bool {
     let outcome = match row.call.as_str() {
-        "find_byte" | "find" | "find_pair" => {
+        "find_byte" | "find_either" | "find" | "find_pair" => {
             find_all(row, answer);
             Ok(())
         }
@@ -52,6 +53,7 @@ fn find_all(row: &Row, answer: &mut Answer) {
 pub fn place(row: &Row, call: &str, bytes: &[u8], needle: &[u8]) -> Option<usize> {
     match (call, needle) {
         ("find_byte", [byte]) => find_byte(bytes, *byte),
+        ("find_either", [first, second]) => find_either(bytes, *first, *second),
         ("find_pair", [first, second]) => find_pair(bytes, *first, *second),
         ("find", needle) => find(bytes, needle),
         _ => {

@@ -1,109 +1,19 @@
 -- Lemmas on the places of one header, for the searches that find them.
-use Rattle.std.proofs.Common.{◌≡◌, ℕ, suc, ◌+◌, ◌-◌, ◌<◌, ◌≤◌, Bool, true, false, ◌&&◌, ◌||◌, not, cond, eqb, min, Some, None, List, [], ◌∷◌, ◌++◌, length, take, drop, get_or, Ok, Err, refl, sym, ap, subst, ◌∙◌, inl, inr, ⊎_elim, arith, ne_eqb, add-one, slice_range, append_assoc, length-append, length-drop, length-take}
+use Rattle.std.proofs.Common.{◌≡◌, ℕ, suc, ◌+◌, ◌-◌, ◌<◌, ◌≤◌, Bool, true, false, ◌&&◌, not, cond, eqb, min, List, [], ◌∷◌, ◌++◌, length, take, drop, get_or, Ok, Err, refl, sym, ap, subst, ◌∙◌, inl, inr, arith, ne_eqb, add-one, slice_range, append_assoc, length-append, length-drop, length-take}
 use Rattle.std.specs.List.{list_all}
-use Rattle.std.proofs.lemmas.Bool.{and_parts, cases_lt, eqb-true, false≢true}
-use Rattle.std.proofs.lemmas.List.{drop_more, drop-take, drop-drop, take-take, get_or-take}
+use Rattle.std.proofs.lemmas.Bool.{and_parts, cases_lt, false≢true}
+use Rattle.std.proofs.lemmas.List.{drop_more, drop-take, drop-drop, take-take}
 use Rattle.std.proofs.Math.ListN.{drop_of_length-le}
 use Rattle.std.proofs.Math.Seq.{take-append_seam}
 use Rattle.mail_codec.specs.Ascii.{colon, is_blank}
-use Rattle.mail_codec.specs.Places.{first_place, place, place_from, begins, IsFirstPlace}
-use Rattle.mail_codec.proofs.lemmas.Places.{first_place-≤, first_place-here, first_place-past, first_place-passes, first_place-before, first_place-is_first, IsFirstPlace-unique, begins-at, place_from_here, place_from_next, place_from_passes}
+use Rattle.mail_codec.specs.Places.{first_place, place, place_from, begins}
+use Rattle.mail_codec.proofs.lemmas.Places.{first_place-≤, first_place-here, first_place-past, begins-at, place_from_here, place_from_next, place_from_passes}
 use Rattle.mailparse.specs.Header.{ends_key, Header, is_line_end, is_line_feed, ends_header, key_end, has_colon, header_end, value_start, value_end, header_of, header_length, read_header}
 use Rattle.mailparse.specs.Refusal.{empty_string, leading_space}
 use Rattle.mailparse.proofs.lemmas.Places.{place_from_via}
-use Rattle.mail_codec.proofs.lemmas.PlacesSearches.{place_none, place_some}
-
--- ---- the first LF and the first colon before it
-
-abbrev pub first_feed : List ℕ → ℕ
-first_feed raw = first_place (begins is_line_feed) raw
 
 abbrev pub is_colon : ℕ → Bool
 is_colon b = eqb b 58
-
--- no byte before the first LF is one
-before_feed : (raw : List ℕ) (k : ℕ) → k < first_feed raw → eqb (get_or raw k 0) 10 ≡ false
-before_feed raw k low =
-    let within = first_place-≤ (begins is_line_feed) raw in
-    sym (begins-at is_line_feed raw k (omega arith)) ∙ first_place-before (begins is_line_feed) raw k low
-
--- the same of colons before a place up to which the bytes hold none
-before_colon : (raw : List ℕ) (e p k : ℕ) → e ≤ length raw → first_place (begins is_colon) (take e raw) ≡ p → k < p → eqb (get_or raw k 0) 58 ≡ false
-before_colon raw e p k fits at low =
-    let len = length-take e raw in
-    let within = first_place-≤ (begins is_colon) (take e raw) in
-    ap is_colon (sym (get_or-take e raw k 0 (omega arith)))
-    ∙ sym (begins-at is_colon (take e raw) k (omega arith))
-    ∙ first_place-before (begins is_colon) (take e raw) k (omega arith)
-
-passed_key : (raw : List ℕ) (k : ℕ) → k < length raw → eqb (get_or raw k 0) 58 ≡ false → eqb (get_or raw k 0) 10 ≡ false → begins ends_key (drop k raw) ≡ false
-passed_key raw k low no_colon no_feed = begins-at ends_key raw k low ∙ ap (λ t. t || eqb (get_or raw k 0) 10) no_colon ∙ no_feed
-
-key_end-is : (raw : List ℕ) (p : ℕ) → IsFirstPlace (begins ends_key) raw p → key_end raw ≡ p
-unfolding key_end
-key_end-is raw p first = IsFirstPlace-unique (begins ends_key) raw (key_end raw) p (first_place-is_first (begins ends_key) raw) first
-
--- without a colon before the first LF, the key ends there
-pub key_of_line : (raw : List ℕ) → None ≡ place (begins is_colon) (take (first_feed raw) raw) → (key_end raw ≡ first_feed raw) × (has_colon raw ≡ false)
-unfolding has_colon
-key_of_line raw e = (key, colonless)
-  where
-    fits : first_feed raw ≤ length raw
-    fits = first_place-≤ (begins is_line_feed) raw
-
-    len : length (take (first_feed raw) raw) ≡ first_feed raw
-    len = length-take (first_feed raw) raw ∙ omega (arith, fits)
-
-    none : first_place (begins is_colon) (take (first_feed raw) raw) ≡ first_feed raw
-    none = place_none (begins is_colon) (take (first_feed raw) raw) e ∙ len
-
-    feed : first_feed raw < length raw → get_or raw (first_feed raw) 0 ≡ 10
-    feed low = eqb-true _ _ (sym (begins-at is_line_feed raw (first_feed raw) low) ∙ first_place-passes (begins is_line_feed) raw low)
-
-    key : key_end raw ≡ first_feed raw
-    key = key_end-is raw (first_feed raw) (record {
-      within = fits;
-      passes = λ low. begins-at ends_key raw (first_feed raw) low ∙ ap ends_key (feed low);
-      before = λ k low. passed_key raw k (omega (arith, fits)) (before_colon raw (first_feed raw) (first_feed raw) k fits none low) (before_feed raw k low);
-    })
-
-    at_feed : begins is_colon (drop (first_feed raw) raw) ≡ false
-    at_feed = ⊎_elim (λ low. begins-at is_colon raw (first_feed raw) low ∙ ap is_colon (feed low)) (λ past. ap (begins is_colon) (drop_of_length-le raw past)) (cases_lt (first_feed raw) (length raw))
-
-    colonless : begins is_colon (drop (key_end raw) raw) ≡ false
-    colonless = ap (λ n. begins is_colon (drop n raw)) key ∙ at_feed
-
--- a colon before the first LF ends the key
-pub key_of_colon : (raw : List ℕ) (p : ℕ) → Some p ≡ place (begins is_colon) (take (first_feed raw) raw)
-    → (key_end raw ≡ p) × (has_colon raw ≡ true) × (p < first_feed raw)
-unfolding has_colon
-key_of_colon raw p e = (key, ap (λ n. begins is_colon (drop n raw)) key ∙ at_colon, low)
-  where
-    fits : first_feed raw ≤ length raw
-    fits = first_place-≤ (begins is_line_feed) raw
-
-    some : (first_place (begins is_colon) (take (first_feed raw) raw) ≡ p) × (p < length (take (first_feed raw) raw))
-    some = let found = place_some (begins is_colon) (take (first_feed raw) raw) p e in let at = found.0 in let below = found.1 in (sym at, omega arith)
-
-    low : p < first_feed raw
-    low = let len = length-take (first_feed raw) raw in let below = some.1 in omega arith
-
-    at_colon : begins is_colon (drop p raw) ≡ true
-    at_colon =
-        begins-at is_colon raw p (omega (arith, low, fits)) ∙ ap is_colon (sym (get_or-take (first_feed raw) raw p 0 low))
-        ∙ sym (begins-at is_colon (take (first_feed raw) raw) p some.1)
-        ∙ ap (λ n. begins is_colon (drop n (take (first_feed raw) raw))) (sym some.0)
-        ∙ first_place-passes (begins is_colon) (take (first_feed raw) raw) (let below = some.1 in let at = some.0 in omega arith)
-
-    is_58 : eqb (get_or raw p 0) 58 ≡ true
-    is_58 = sym (begins-at is_colon raw p (omega (arith, low, fits))) ∙ at_colon
-
-    key : key_end raw ≡ p
-    key = key_end-is raw p (record {
-      within = omega (arith, low, fits);
-      passes = λ within. begins-at ends_key raw p within ∙ ap (λ t. t || eqb (get_or raw p 0) 10) is_58;
-      before = λ k below. passed_key raw k (omega (arith, low, fits)) (before_colon raw (first_feed raw) p k fits some.0 below) (before_feed raw k (omega (arith, low)));
-    })
 
 -- ---- the end of a header
 

@@ -3,14 +3,13 @@ ghost use Rattle.std.specs.Prelude.{◌≡◌, ◌==◌, ◌<◌, ◌≤◌, suc
 ghost use Rattle.std.specs.List.{list_all};
 ghost use Rattle.mail_codec.specs.Ascii.{colon, is_blank, space};
 ghost use Rattle.mail_codec.specs.Places.{first_place, place_from, begins};
-ghost use Rattle.mailparse.specs.Header.{ends_key, is_line_end, is_line_feed, key_end, ends_header};
+ghost use Rattle.mailparse.specs.Header.{is_line_end, is_line_feed, key_end, ends_header};
 ghost use Rattle.mailparse.specs.Header.{header_of, header_length, read_header};
 ghost use Rattle.mailparse.specs.Outcome.{Answers};
 
-use super::{LANES, MailHeader};
+use super::MailHeader;
 use crate::error::MailParseError;
-use mail_codec::bytescan::find_byte;
-use std::simd::prelude::*;
+use mail_codec::bytescan::{find_byte, find_either};
 
 /// Reads the header at the front of `raw`, and returns it with the number of bytes that it takes
 /// up, including its line end (RFC 5322, sections 2.2 and 2.2.3).
@@ -64,62 +63,14 @@ fn cut_header(raw: &[u8]) -> (MailHeader<'_>, usize)
     (MailHeader { key, value }, length_to(raw, end))
 }
 
-/// Where the key ends: at the first colon or LF, or at the end of the bytes. Most keys have fewer
-/// bytes than a vector.
+/// Returns where the key ends: at the first colon or LF, or at the end of the bytes.
 fn key_end(raw: &[u8]) -> usize
     ensures least { result ≡ key_end raw.now }
     ensures bounds { result ≤ length raw.now }
 {
-    if raw.len() >= LANES {
-        let place = lane_of_key_end(u8x16::from_slice(raw));
-        if place != LANES {
-            return place;
-        }
-    }
-    far_key_end(raw)
-}
-
-/// The same, vector by vector.
-#[inline(never)]
-fn far_key_end(raw: &[u8]) -> usize
-    ensures least { result ≡ key_end raw.now }
-    ensures bounds { result ≤ length raw.now }
-{
-    let mut at = 0;
-    'vectors: while raw.len() - at >= LANES {
-        let place = lane_of_key_end(u8x16::from_slice(&raw[at..]));
-        if place != LANES {
-            return at + place;
-        }
-        at += LANES;
-    }
-    at + short_key_end(&raw[at..])
-}
-
-/// The first place of a colon or a LF in sixteen bytes, or 16 where there is neither.
-#[inline(always)]
-fn lane_of_key_end(bytes: u8x16) -> usize
-    ensures { result ≡ first_place (begins ends_key) bytes }
-{
-    let marks = bytes.simd_eq(u8x16::splat(b':')) | bytes.simd_eq(u8x16::splat(b'\n'));
-    let mask = marks.to_bitmask();
-    if mask == 0 {
-        LANES
-    } else {
-        mask.trailing_zeros() as usize
-    }
-}
-
-/// Where the key ends in fewer bytes than a vector has, by a search for the LF and then for the
-/// colon.
-fn short_key_end(raw: &[u8]) -> usize
-    ensures least { result ≡ key_end raw.now }
-    ensures bounds { result ≤ length raw.now }
-{
-    let line_end = line_feed_from(raw, 0);
-    match find_byte(&raw[..line_end], b':') {
+    match find_either(raw, b':', b'\n') {
         Some(place) => place,
-        None => line_end,
+        None => raw.len(),
     }
 }
 

@@ -9,7 +9,7 @@ ghost use Rattle.mailparse.specs.private.Shown.{Shows, token_view};
 
 use super::encoded_word::decode_word;
 use super::shown::{HeaderToken, ShownValue};
-use mail_codec::bytescan;
+use mail_codec::bytescan::find_pair;
 use mail_codec::charset::KnownCharsets;
 use std::alloc::{AllocError, Global};
 
@@ -51,12 +51,13 @@ fn outside_token(text: &str) -> HeaderToken<'_>
     }
 }
 
-/// The least place at or after `from` where these two bytes stand, or the length if they do not.
-fn find_pair(bytes: &[u8], from: usize, first: u8, second: u8) -> usize
+/// Returns the first offset at or after `from` of `first` followed by `second`, or the length if
+/// there is none.
+fn find_two(bytes: &[u8], from: usize, first: u8, second: u8) -> usize
     requires within { from ≤ length bytes.now }
     ensures { result ≡ place_from (has_prefix (first ∷ second ∷ [])) bytes.now from }
 {
-    match bytescan::find_pair(&bytes[from..], first, second) {
+    match find_pair(&bytes[from..], first, second) {
         Some(place) => from + place,
         None => bytes.len(),
     }
@@ -69,7 +70,7 @@ fn find_opening(line: &str, from: usize) -> Option<usize>
         (λ v. IsOpening line.now from v) }
 {
     let bytes = line.as_bytes();
-    let open = find_pair(bytes, from, b'=', b'?');
+    let open = find_two(bytes, from, b'=', b'?');
     if open == bytes.len() {
         None
     } else {
@@ -83,12 +84,12 @@ fn find_closing(line: &str, from: usize) -> usize
     ensures { result ≡ closing line.now from }
 {
     let bytes = line.as_bytes();
-    let mut at = find_pair(bytes, from, b'?', b'=');
+    let mut at = find_two(bytes, from, b'?', b'=');
     while at < bytes.len() {
         if begins_with_boundary(&line[at + 2..]) {
             return at;
         }
-        at = find_pair(bytes, at + 1, b'?', b'=');
+        at = find_two(bytes, at + 1, b'?', b'=');
     }
     at
 }

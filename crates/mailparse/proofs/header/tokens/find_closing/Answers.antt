@@ -8,8 +8,8 @@ use Rattle.mailparse.proofs.header.tokens.find_closing.Goals as goal
 
 pub loop-at-init : goal.loop-at-init
 loop-at-init c =
-    let found : place_from (has_prefix (63 ∷ 61 ∷ [])) c.args.line.now c.args.from ≡ c.find_pair-at.result = cc in
-    let p = closing_from_pair c.args.line.now c.args.from c.find_pair-at.result c.requires.within found in
+    let found : place_from (has_prefix (63 ∷ 61 ∷ [])) c.args.line.now c.args.from ≡ c.find_two-at.result = cc in
+    let p = closing_from_pair c.args.line.now c.args.from c.find_two-at.result c.requires.within found in
     record { in_line = p.0; found = p.1; same = p.2 }
 
 pub range_from-requires : goal.range_from-requires
@@ -29,8 +29,8 @@ loop-at-preserved c =
     let at : c.loop-at.at < length c.args.line.now = omega arith in
     let beside : begins_with_boundary (chars (drop (c.loop-at.at + 2) c.args.line.now)) ≡ false = cc in
     let next : c.loop-at.at + 1 ≤ length c.args.line.now = omega arith in
-    let found : place_from (has_prefix (63 ∷ 61 ∷ [])) c.args.line.now (c.loop-at.at + 1) ≡ c.find_pair-at-in-loop-at.result = cc in
-    let p = closing_from_pair c.args.line.now (c.loop-at.at + 1) c.find_pair-at-in-loop-at.result next found in
+    let found : place_from (has_prefix (63 ∷ 61 ∷ [])) c.args.line.now (c.loop-at.at + 1) ≡ c.find_two-at-in-loop-at.result = cc in
+    let p = closing_from_pair c.args.line.now (c.loop-at.at + 1) c.find_two-at-in-loop-at.result next found in
     record {
       in_line = p.0;
       found = p.1;
