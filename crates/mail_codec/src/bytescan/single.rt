@@ -2,7 +2,7 @@
 ghost use Rattle.std.specs.Prelude.{◌≡◌, ◌≤◌, ◌+◌, ◌==◌, length, take, drop};
 ghost use Rattle.mail_codec.specs.Places.{begins, first_place};
 
-use super::words::{equal_mask, first_marked};
+use super::words::{equal_mask, first_match_byte};
 use crate::vectors::LANES;
 use crate::vectors::marks::{equal_lanes, first_lane, wide_equal_lanes};
 use std::simd::prelude::*;
@@ -105,7 +105,7 @@ fn words_len(bytes: &[u8], wanted: u8) -> usize
     for word in words {
         let mask = equal_mask(word, wanted);
         if mask != 0 {
-            return at + first_marked(mask);
+            return at + first_match_byte(mask);
         }
         at += 8;
     }

@@ -1,8 +1,8 @@
-//! Words of eight bytes, all of which are tested at once: a mask has a bit for each that passes.
+//! Words of eight bytes, all of which are tested at once: a mask has a bit set for each match.
 //!
-//! Only the lowest bit of a mask is exact: a subtraction may borrow from the byte above, which then
-//! may be marked falsely.
-ghost use Rattle.std.specs.Prelude.{◌/◌, ◌≡◌, ◌≤◌, ◌==◌, ◌||◌, nat_lt};
+//! Only the lowest set bit of a mask is exact: a subtraction may borrow from the byte above it, whose
+//! bit may then be set falsely.
+ghost use Rattle.std.specs.Prelude.{◌/◌, ◌≡◌, ◌==◌, ◌||◌};
 ghost use Rattle.std.specs.Int.{w64, to_le_bytes, trailing_zeros};
 ghost use Rattle.mail_codec.specs.private.Words.{IsMask};
 
@@ -12,24 +12,15 @@ const ONES: u64 = 0x0101_0101_0101_0101;
 /// A word of eight bytes of which only the top bit is set.
 const TOPS: u64 = 0x8080_8080_8080_8080;
 
-/// Marks the bytes of the word that are below `bound`.
-#[inline(always)]
-fn below_mask(word: u64, bound: u8) -> u64
-    requires { bound ≤ 127 }
-    ensures { IsMask (λ b. nat_lt b bound) (to_le_bytes w64 word) result }
-{
-    word.wrapping_sub(ONES.wrapping_mul(bound as u64)) & !word & TOPS
-}
-
-/// Marks the bytes of the word that are 0.
+/// Returns the mask of the bytes of the word that are 0.
 #[inline(always)]
 fn zero_byte_mask(word: u64) -> u64
     ensures { IsMask (λ b. b == 0) (to_le_bytes w64 word) result }
 {
-    below_mask(word, 1)
+    word.wrapping_sub(ONES) & !word & TOPS
 }
 
-/// Marks those of eight bytes that are `wanted`.
+/// Returns the mask of those of eight bytes that are `wanted`.
 #[inline(always)]
 pub(crate) fn equal_mask(bytes: &[u8; 8], wanted: u8) -> u64
     ensures { IsMask (λ b. b == wanted) bytes.now result }
@@ -37,7 +28,7 @@ pub(crate) fn equal_mask(bytes: &[u8; 8], wanted: u8) -> u64
     zero_byte_mask(u64::from_le_bytes(*bytes) ^ ONES.wrapping_mul(wanted as u64))
 }
 
-/// Marks those of eight bytes that are `first` or `second`.
+/// Returns the mask of those of eight bytes that are `first` or `second`.
 #[inline(always)]
 pub(crate) fn either_mask(bytes: &[u8; 8], first: u8, second: u8) -> u64
     ensures { IsMask (λ b. b == first || b == second) bytes.now result }
@@ -45,9 +36,9 @@ pub(crate) fn either_mask(bytes: &[u8; 8], first: u8, second: u8) -> u64
     equal_mask(bytes, first) | equal_mask(bytes, second)
 }
 
-/// The place of the byte that the lowest bit of a mask marks.
+/// Returns the index of the byte that the lowest set bit of a mask stands for.
 #[inline(always)]
-pub(crate) fn first_marked(mask: u64) -> usize
+pub(crate) fn first_match_byte(mask: u64) -> usize
     ensures { result ≡ trailing_zeros w64 mask / 8 }
 {
     mask.trailing_zeros() as usize / 8

@@ -8,7 +8,7 @@ ghost use Rattle.mail_codec.specs.private.QuotedPrintable.{is_mark, HasNoEscape,
 
 mod blocks;
 
-use crate::bytescan::words::{either_mask, first_marked};
+use crate::bytescan::words::{either_mask, first_match_byte};
 use crate::vectors::LANES;
 use crate::vectors::marks::{either_lanes, first_lane};
 use blocks::put_blocks;
@@ -302,7 +302,7 @@ fn put_words(output: &mut [u8], bytes: &[u8]) -> usize
         output[at..at + 8].copy_from_slice(word);
         let mask = either_mask(word, b'=', b'\n');
         if mask != 0 {
-            return at + first_marked(mask);
+            return at + first_match_byte(mask);
         }
         at += 8;
     }

@@ -9,13 +9,13 @@ pub returns-then-mask-ne0-clause-written : goal.returns-then-mask-ne0-clause-wri
 returns-then-mask-ne0-clause-written c =
     let is = word_is is_mark c.args.bytes.now _ c.loop-word.word-index c.loop-word.at _ c.as_chunks.ensures.front (omega arith) c.loop-word.invariant.place c.either_mask-mask.ensures in
     let found = word_found is_mark c.args.bytes.now _ c.loop-word.word-index _ _ c.as_chunks.ensures.front (omega arith) c.loop-word.invariant.place c.either_mask-mask.ensures _ c.loop-word.invariant.passed c.if-mask-ne0.true in
-    word_copied c.loop-word.at _ c.first_marked.result c.loop-word.output c.copy_from_slice.new.self c.args.bytes.now c.loop-word.invariant.written (omega arith) (c.copy_from_slice.ensures.after ∙ is) (omega arith)
-    (omega (arith, found.1, c.first_marked.ensures))
+    word_copied c.loop-word.at _ c.first_match_byte.result c.loop-word.output c.copy_from_slice.new.self c.args.bytes.now c.loop-word.invariant.written (omega arith) (c.copy_from_slice.ensures.after ∙ is) (omega arith)
+    (omega (arith, found.1, c.first_match_byte.ensures))
 
 pub returns-then-mask-ne0-clause-least : goal.returns-then-mask-ne0-clause-least
 returns-then-mask-ne0-clause-least c =
     let found = word_found is_mark c.args.bytes.now _ c.loop-word.word-index _ _ c.as_chunks.ensures.front (omega arith) c.loop-word.invariant.place c.either_mask-mask.ensures _ c.loop-word.invariant.passed c.if-mask-ne0.true in
-    omega (arith, found.0, c.first_marked.ensures)
+    omega (arith, found.0, c.first_match_byte.ensures)
 
 pub loop-word-preserved : goal.loop-word-preserved
 loop-word-preserved c =
