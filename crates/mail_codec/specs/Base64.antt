@@ -1,33 +1,33 @@
--- Base64 as mail carries it: the groups of four of RFC 4648, section 4. That line ends are dropped
--- wherever they stand, that padded groups may stand anywhere, and that bits which make no whole
--- byte are ignored, is this crate's own rule.
+-- Base64 as mail carries it: the groups of four of RFC 4648, section 4. It is this crate's own rule
+-- that line ends are dropped everywhere, that padded groups may occur anywhere, and that bits which
+-- do not make a whole byte are ignored.
 use Rattle.std.specs.Prelude.{◌≡◌, ℕ, suc, ◌+◌, ◌*◌, ◌/◌, ◌%◌, ◌^◌, ◌<◌, ◌==◌, Bool, not, ◌||◌, if◌then◌else◌, List, [], ◌∷◌, ◌++◌, length, take, drop, filter, slice_index, codes, All, Option, Some, None, Result, Ok, Err}
 use Rattle.std.specs.List.{flat_map, position}
 use Rattle.std.specs.Global.{Vec}
 use Rattle.mail_codec.specs.Ascii.{line_feed, carriage_return, equals_sign}
 
--- The 64 letters, in the order of their values (RFC 4648, table 1).
+-- the 64 letters, in the order of their values (RFC 4648, table 1)
 abbrev pub alphabet : List ℕ
 alphabet = codes "ABCDEFGHIJKLMNOPQRSTUVWXYZabcdefghijklmnopqrstuvwxyz0123456789+/"
 
--- The letter of a value below 64.
+-- the letter of a value below 64
 abbrev pub letter : ℕ → ℕ
 letter value = slice_index alphabet value
 
--- `=`, which stands where a group has no letter.
+-- `=`, which takes the place of a missing letter of a group
 abbrev pub padding : ℕ
 padding = equals_sign
 
--- The number of 24 bits that the values of four letters make.
+-- the number of 24 bits that the values of four letters make
 abbrev pub group_number : ℕ → ℕ → ℕ → ℕ → ℕ
 group_number a b c d = a * 2 ^ 18 + b * 2 ^ 12 + c * 2 ^ 6 + d
 
--- The three bytes of a number of 24 bits, the highest first.
+-- the three bytes of a number of 24 bits, the highest first
 abbrev pub three_bytes : ℕ → List ℕ
 three_bytes n = (n / 2 ^ 16) ∷ (n / 2 ^ 8 % 2 ^ 8) ∷ (n % 2 ^ 8) ∷ []
 
--- A group and its bytes: four letters stand for three bytes, three letters and `=` for two, two
--- letters and `==` for one. The bits of a missing letter count 0.
+-- a group and its bytes: four letters stand for three bytes, three letters and `=` for two, two
+-- letters and `==` for one; the bits of a missing letter count as 0
 pub data IsGroup (group bytes : List ℕ) : Type 0 where
   four_letters : (a b c d : ℕ) → a < 64 → b < 64 → c < 64 → d < 64
       → group ≡ letter a ∷ letter b ∷ letter c ∷ letter d ∷ []
@@ -39,27 +39,27 @@ pub data IsGroup (group bytes : List ℕ) : Type 0 where
       → group ≡ letter a ∷ letter b ∷ padding ∷ padding ∷ []
       → bytes ≡ take 1 (three_bytes (group_number a b 0 0)) → IsGroup group bytes
 
--- A byte that is neither CR nor LF.
+-- a byte that is neither CR nor LF
 abbrev pub is_kept : ℕ → Bool
 is_kept b = not (b == carriage_return || b == line_feed)
 
--- A text without its CR and LF.
+-- a text without its CR and LF
 abbrev pub without_line_ends : List ℕ → List ℕ
 without_line_ends text = filter is_kept text
 
--- The text stands for the bytes: without CR and LF it is groups one after another, and the bytes
--- are theirs, in order.
+-- the text stands for the bytes: without CR and LF it is a sequence of groups, and the bytes are
+-- theirs, in order
 abbrev pub IsBase64 : List ℕ → List ℕ → Type 0
 IsBase64 text bytes = (groups : List (List ℕ × List ℕ))
     × All (λ g. IsGroup g.0 g.1) groups
     × (without_line_ends text ≡ flat_map (λ g. g.0) groups)
     × (bytes ≡ flat_map (λ g. g.1) groups)
 
--- Group number n of a text without line ends, counted from 0: four bytes, or what is left.
+-- group n of a text without line ends, counted from 0: four bytes, or what is left
 abbrev pub group_at : List ℕ → ℕ → List ℕ
 group_at letters n = take 4 (drop (4 * n) letters)
 
--- The fault of a text is the number of its first group that stands for no bytes.
+-- the fault of a text is the index of its first group that stands for no bytes
 abbrev pub IsBase64Fault : List ℕ → ℕ → Type 0
 IsBase64Fault text n = let letters = without_line_ends text in
     (4 * n < length letters)
@@ -68,16 +68,16 @@ IsBase64Fault text n = let letters = without_line_ends text in
 
 -- ---- the same as functions, which contracts cite
 
--- The value of a letter, if the byte is one.
+-- the value of a letter, if the byte is one
 unfoldable pub letter_value : ℕ → Option ℕ
 letter_value b = position (λ x. x == b) alphabet
 
--- The first n bytes of the group of four values, if all four are there.
+-- the first n bytes of the group of four values, if there are four
 abbrev pub bytes_of_values : ℕ → Option ℕ → Option ℕ → Option ℕ → Option ℕ → Option (List ℕ)
 bytes_of_values n (Some a) (Some b) (Some c) (Some d) = Some (take n (three_bytes (group_number a b c d)))
 bytes_of_values n _ _ _ _ = None
 
--- The bytes of the group of four bytes, if it is a group.
+-- the bytes that four bytes stand for, if they are a group
 unfoldable pub group_bytes : ℕ → ℕ → ℕ → ℕ → Option (List ℕ)
 group_bytes p q r s =
     if not (s == padding)
@@ -86,18 +86,18 @@ group_bytes p q r s =
     then bytes_of_values 2 (letter_value p) (letter_value q) (letter_value r) (Some 0)
     else bytes_of_values 1 (letter_value p) (letter_value q) (Some 0) (Some 0)
 
--- Bytes before those that were read; a fault stays.
+-- bytes before those that were read; a fault stays
 abbrev pub prepend : List ℕ → Result (List ℕ) ℕ → Result (List ℕ) ℕ
 prepend bytes (Ok more) = Ok (bytes ++ more)
 prepend bytes (Err n) = Err n
 
--- A group's bytes and then what is read after it, or the fault at its number.
+-- a group's bytes and then those read after it, or the fault at its index
 abbrev pub after_group : ℕ → Option (List ℕ) → Result (List ℕ) ℕ → Result (List ℕ) ℕ
 after_group n (Some bytes) more = prepend bytes more
 after_group n None more = Err n
 
--- The bytes of the groups of a text without line ends, where the first has number n, or the number
--- of the first invalid one.
+-- the bytes of the groups of a text without line ends, of which the first has index n, or the index
+-- of the first invalid one
 unfoldable pub groups_from : ℕ → List ℕ → Result (List ℕ) ℕ
 groups_from n [] = Ok []
 groups_from n (p ∷ []) = Err n
@@ -106,11 +106,11 @@ groups_from n (p ∷ q ∷ r ∷ []) = Err n
 groups_from n (p ∷ q ∷ r ∷ s ∷ rest)
     = after_group n (group_bytes p q r s) (groups_from (suc n) rest)
 
--- The bytes that a text stands for, or its fault.
+-- the bytes that a text stands for, or its fault
 unfoldable pub base64 : List ℕ → Result (List ℕ) ℕ
 base64 text = groups_from 0 (without_line_ends text)
 
--- What a decoder returns, its bytes as a list.
+-- the result of a decoder, with its bytes as a list
 abbrev pub items_or_fault : Result (Vec ℕ) ℕ → Result (List ℕ) ℕ
 items_or_fault (Ok bytes) = Ok bytes.items
 items_or_fault (Err n) = Err n

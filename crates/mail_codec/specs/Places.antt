@@ -4,8 +4,8 @@ use Rattle.std.specs.Prelude.{◌≡◌, ◌≢◌, ◌⊎◌, ℕ, zero, suc, �
 use Rattle.std.specs.Char.{is_ascii_whitespace}
 use Rattle.std.specs.List.{starts_with, prefix_len, suffix_len}
 
--- the least place from which on the rest of the bytes passes the test, or the length where there is
--- none
+-- the least place such that the rest of the bytes from there onwards passes the test, or the length
+-- if there is none
 abbrev pub first_place : (List ℕ → Bool) → List ℕ → ℕ
 first_place test [] = 0
 first_place test (b ∷ rest) = if test (b ∷ rest) then 0 else suc (first_place test rest)
@@ -28,7 +28,7 @@ begins test (b ∷ rest) = test b
 abbrev pub has_prefix : List ℕ → List ℕ → Bool
 has_prefix text bytes = starts_with nat_eq bytes text
 
--- the least place whose rest passes the test, where there is one
+-- the least place whose rest passes the test, if there is one
 abbrev pub place : (List ℕ → Bool) → List ℕ → Option ℕ
 place test bytes =
     let p = first_place test bytes in
@@ -42,25 +42,24 @@ byte_place bytes byte = place (begins (λ b. b == byte)) bytes
 abbrev pub either_place : List ℕ → ℕ → ℕ → Option ℕ
 either_place bytes first second = place (begins (λ b. b == first || b == second)) bytes
 
--- the first place where a text stands, and none for the empty text
+-- the first place where a text occurs; the empty text does not occur
 abbrev pub text_place : List ℕ → List ℕ → Option ℕ
 text_place bytes text = if length text == 0 then None else place (has_prefix text) bytes
 
--- p is the least place whose rest passes the test, or the length where no place's rest does
+-- p is the least place whose rest passes the test, or the length if no rest does
 pub record IsFirstPlace (test : List ℕ → Bool) (bytes : List ℕ) (p : ℕ) : Type 0 where
   pub within : p ≤ length bytes
   pub passes : p < length bytes → test (drop p bytes) ≡ true
   pub before : (k : ℕ) → k < p → test (drop k bytes) ≡ false
 
--- p is the least place at or after s whose rest passes the test, or the length where no such
--- place's rest does
+-- p is the least place at or after s whose rest passes the test, or the length if no such rest does
 pub record IsFirstPlaceFrom (test : List ℕ → Bool) (bytes : List ℕ) (s p : ℕ) : Type 0 where
   pub after : s ≤ p
   pub within : p ≤ length bytes
   pub passes : p < length bytes → test (drop p bytes) ≡ true
   pub before : (k : ℕ) → s ≤ k → k < p → test (drop k bytes) ≡ false
 
--- the byte stands at place p
+-- the byte is at place p
 abbrev pub HasByteAt : List ℕ → ℕ → ℕ → Type 0
 HasByteAt bytes byte p = (p < length bytes) × (slice_index bytes p ≡ byte)
 
@@ -69,16 +68,16 @@ abbrev pub HasEitherAt : List ℕ → ℕ → ℕ → ℕ → Type 0
 HasEitherAt bytes first second p =
     (p < length bytes) × ((slice_index bytes p ≡ first) ⊎ (slice_index bytes p ≡ second))
 
--- the text, which is not empty, stands at place p
+-- the text, which is not empty, occurs at place p
 abbrev pub HasTextAt : List ℕ → List ℕ → ℕ → Type 0
 HasTextAt bytes text p = (text ≢ []) × (take (length text) (drop p bytes) ≡ text)
 
--- the first place that has something, or `None` where no place has it
+-- the first place with a property, or `None` if no place has it
 abbrev pub IsFirstOf : (ℕ → Type 0) → Option ℕ → Type 0
 IsFirstOf Has (Some p) = Has p × ((k : ℕ) → k < p → ¬ Has k)
 IsFirstOf Has None = (k : ℕ) → ¬ Has k
 
--- the least number below the bound that passes the test, or the bound where there is none
+-- the least number below the bound that passes the test, or the bound if there is none
 abbrev pub least : (ℕ → Bool) → ℕ → ℕ
 least test zero = 0
 least test (suc bound) = if test 0 then 0 else suc (least (λ n. test (suc n)) bound)

@@ -1,4 +1,4 @@
--- Words that private functions alone need; no public clause speaks of them.
+-- Words that only private functions need; no public clause uses them.
 pub mod Runs
 pub mod Words
 pub mod Vectors

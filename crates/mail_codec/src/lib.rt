@@ -1,9 +1,9 @@
 //! Codecs of mail: byte searches, charsets and transfer encodings.
 //!
 //! They work on bytes alone and know nothing of headers and messages, which the crate `mailparse`
-//! reads. What takes memory has the argument `alloc` and returns a `Result`; no call panics.
+//! reads. A call that allocates has the argument `alloc` and returns a `Result`; no call panics.
 //!
-//! The examples stand in a function that has the runtime `rt` and its allocator `alloc`.
+//! The examples assume a function that has the runtime `rt` and its allocator `alloc`.
 //!
 //! # Examples
 //!

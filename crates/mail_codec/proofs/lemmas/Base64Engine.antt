@@ -1,4 +1,4 @@
--- What the engine decodes, in the words of the definition.
+-- The result of the engine in the words of the definition.
 use Rattle.std.proofs.Common.{◌≡◌, ◌≢◌, ℕ, zero, suc, ◌+◌, ◌*◌, ◌/◌, ◌%◌, ◌<◌, true, List, [], ◌∷◌, length, take, Option, Some, None, Result, Ok, Err, refl, sym, ap, ◌∙◌, arith, ◌⊎◌, inl, inr}
 use Rattle.base64.specs.Engines.{standard}
 use Rattle.base64.specs.declared.decode.DecodeError.{DecodeError}
@@ -81,7 +81,7 @@ groups_from-encode n (a ∷ b ∷ c ∷ rest) h =
     ap (groups_from n) (encode-three a b c rest)
     ∙ groups_from-three n a b c (encode alphabet padding true rest) rest (h 0) (h 1) (h 2) (groups_from-encode (suc n) rest (λ i. h (suc (suc (suc i)))))
 
--- what the engine decodes are the groups of the definition
+-- the engine decodes the groups of the definition
 pub groups_from-decode_of : (n : ℕ) (s bytes : List ℕ) → IsBytes s → IsBytes bytes → decode_of standard s ≡ Ok bytes
     → groups_from n s ≡ Ok bytes
 groups_from-decode_of n s bytes hs hb ok =
@@ -183,7 +183,7 @@ slice_passes p q r s x y z h =
     let parts = outcome_passed _ (decoded_bytes_of standard text) (x ∷ y ∷ z ∷ []) h in
     (passes (lone text) (grouped text) _ parts.0 ∙ ap (λ (b : List ℕ). bytes_fit (length b) 3) parts.1, parts.1)
 
--- ---- what decoding four bytes into three says of the bytes' values
+-- ---- the values of four bytes that decode to three
 
 -- four letters decode to the bytes of their values
 decode_of-read : (p q r s a b c d : ℕ) → letter_value p ≡ Some a → letter_value q ≡ Some b → letter_value r ≡ Some c → letter_value s ≡ Some d

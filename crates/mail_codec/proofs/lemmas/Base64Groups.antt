@@ -1,4 +1,4 @@
--- Groups read in parts, and what is absent left out in parts.
+-- Groups read in parts, and absent bytes left out in parts.
 use Rattle.std.proofs.Common.{◌≡◌, ◌≢◌, true, false, ℕ, suc, ◌+◌, ◌-◌, ◌*◌, ◌/◌, ◌%◌, ◌<◌, ◌≤◌, List, [], ◌∷◌, ◌++◌, length, take, drop, slice_index, Option, Some, None, Result, Ok, Err, refl, sym, ap, ◌∙◌, arith, inl, inr, not}
 use Rattle.std.proofs.lemmas.List.{append_assoc, drop_more, length-append, length-take-le, length-drop, take-append-drop, drop-drop}
 use Rattle.std.proofs.lemmas.Bool.{cases_Bool, ne_eqb}
@@ -76,7 +76,7 @@ groups_from-append_err n m (p ∷ q ∷ r ∷ s ∷ xs) ys whole h =
     after_group_err n m (group_bytes p q r s) (groups_from (suc n) xs) (groups_from (suc n) (xs ++ ys)) h
     (groups_from-append_err (suc n) m xs ys (omega (arith, whole)))
 
--- what is too short for a group is a fault
+-- fewer bytes than a group are a fault
 pub groups_from-short : (n : ℕ) (xs : List ℕ) → 0 < length xs → length xs < 4 → groups_from n xs ≡ Err n
 unfolding groups_from
 groups_from-short n [] low high = absurd (omega arith)
@@ -89,7 +89,7 @@ pub groups_from-nil : (n : ℕ) → groups_from n [] ≡ Ok []
 unfolding groups_from
 groups_from-nil n = refl
 
--- the items at a place, and what follows them
+-- the items at a place, and those after them
 pub drop_three : (at : ℕ) (xs : List ℕ) → at + 3 ≤ length xs → drop at xs ≡ slice_index xs at ∷ slice_index xs (at + 1) ∷ slice_index xs (at + 2) ∷ drop (at + 3) xs
 drop_three at xs h =
     let a : drop at xs ≡ slice_index xs at ∷ drop (at + 1) xs = drop_more xs at 0 (omega arith) in
@@ -106,7 +106,7 @@ drop_four at xs h =
     ∙ ap (λ (r : List ℕ). slice_index xs at ∷ slice_index xs (at + 1) ∷ slice_index xs (at + 2) ∷ r)
     (drop_more xs (at + 3) 0 (omega arith) ∙ ap (λ (k : ℕ). slice_index xs (at + 3) ∷ drop k xs) {x = at + 3 + 1} {y = at + 4} (omega arith))
 
--- the group at a place, and what follows it
+-- the group at a place, and the bytes after it
 pub groups_from-drop : (n at : ℕ) (xs : List ℕ) → at + 4 ≤ length xs
     → groups_from n (drop at xs) ≡ after_group n (group_bytes (slice_index xs at) (slice_index xs (at + 1)) (slice_index xs (at + 2)) (slice_index xs (at + 3))) (groups_from (n + 1) (drop (at + 4) xs))
 unfolding groups_from
@@ -123,7 +123,7 @@ pub length-without_ends : (absent : RunEnd) (xs : List ℕ) → length (without_
 length-without_ends absent xs =
     omega (arith, length-filter (λ b. not (ends_run absent b)) xs, count_by-le-length (λ b. not (ends_run absent b)) xs)
 
--- no line end is left where no whitespace is
+-- without whitespace no line end is left
 kept_of : (b : ℕ) → is_ascii_whitespace b ≡ false → is_kept b ≡ true
 kept_of b h =
     let no_13 : b ≢ 13 = λ (e : b ≡ 13). let bad : is_ascii_whitespace 13 ≡ false = rw e at h in cc bad in

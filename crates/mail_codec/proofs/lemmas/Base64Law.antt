@@ -1,4 +1,4 @@
--- What the function gives is in the relation, and nothing else is; likewise for the fault.
+-- The result of the function is in the relation, and no other is; likewise for the fault.
 use Rattle.std.proofs.Common.{◌≡◌, ℕ, zero, suc, ◌+◌, ◌*◌, ◌<◌, List, [], ◌∷◌, ◌++◌, length, take, drop, Option, Some, None, Result, Ok, Err, refl, sym, ap, ◌∙◌, arith, ◌⊎◌, inl, inr, ◌↔◌, All}
 use Rattle.std.specs.List.{flat_map}
 use Rattle.std.proofs.lemmas.Bool.{cases_eq, cases_lt}
@@ -144,7 +144,7 @@ IsFault letters n = (4 * n < length letters)
     × ((bytes : List ℕ) → IsGroup (group_at letters n) bytes → ⊥)
     × ((k : ℕ) → k < n → (bytes : List ℕ) × IsGroup (group_at letters k) bytes)
 
--- what has not four bytes is no group
+-- other than four bytes are no group
 no_short : (group bytes : List ℕ) → length group < 4 → IsGroup group bytes → ⊥
 no_short group bytes short h = absurd (omega (arith, short, ap length (IsGroup-bytes group bytes h).4))
 
@@ -201,7 +201,7 @@ fault_is n m (p ∷ q ∷ r ∷ s ∷ text) h = elim (option_cases (group_bytes 
       (suc more.0, omega (arith, more.1), fault_next p q r s more.0 text some.0 some.1 more.2)
 ]
 
--- what is read has no fault
+-- a text that can be read has no fault
 groups_all : (n : ℕ) (text bytes : List ℕ) → groups_from n text ≡ Ok bytes → (k : ℕ) → 4 * k < length text
     → (b : List ℕ) × IsGroup (group_at text k) b
 unfolding groups_from

@@ -5,7 +5,7 @@ use Rattle.std.proofs.lemmas.Bool.Decides.{nat_tests}
 use Rattle.std.proofs.lemmas.Str.{encodes-append}
 use Rattle.mail_codec.specs.Front.{Taken, chars_after, chars_by, text_by}
 
--- bytes that have been read already are passed over
+-- bytes that have been read already are skipped
 skips : (n : ℕ) (front : List ℕ → Taken) (bs : List ℕ) → chars_after n front bs ≡ chars_after 0 front (drop n bs)
 skips zero front bs = refl
 skips (suc n) front [] = refl

@@ -20,7 +20,7 @@ zero_value : letter_value zero_letter ≡ Some 0
 unfolding letter_value
 zero_value = refl
 
--- what three bytes say of the first of them
+-- the first of three bytes
 cut_values : (n : ℕ) (a b c d : Option ℕ) (bytes : List ℕ) → bytes_of_values 3 a b c d ≡ Some bytes
     → (bytes_of_values n a b c d ≡ Some (take n bytes)) × (length bytes ≡ 3)
 cut_values n (Some a) (Some b) (Some c) (Some d) bytes h =
@@ -31,7 +31,7 @@ cut_values n (Some a) None c d bytes h = cc h
 cut_values n (Some a) (Some b) None d bytes h = cc h
 cut_values n (Some a) (Some b) (Some c) None bytes h = cc h
 
--- what holds where there is no padding, and where there is one or two, always does
+-- a property without padding, and with one or two, always holds
 by_padding : (P : Bool → Bool → Type 0) → ((y : Bool) → P false y) → P true true → P true false → (x y : Bool) → P x y
 by_padding P none two one false y = none y
 by_padding P none two one true true = two
@@ -52,7 +52,7 @@ group_bytes-filled p q r s = elim (cases_Bool (s == padding)) [
   ]
 ]
 
--- so a group that reads once it is filled up stands for the first of its bytes
+-- so a group that reads once it is filled in stands for the first of its bytes
 group_cut : (p q r s : ℕ) (bytes : List ℕ) → group_bytes p q (third r s) (fourth s) ≡ Some bytes
     → (group_bytes p q r s ≡ Some (take (group_len r s) bytes)) × (length bytes ≡ 3)
 group_cut p q r s bytes h =
@@ -67,7 +67,7 @@ front_of c d k len few = (
   drop-append-le 3 c d (omega (arith, len)) ∙ ap (λ (x : List ℕ). x ++ d) (drop_all 3 c (omega (arith, len))),
 )
 
--- where all groups read once they are filled up, the text reads as what is cut of that
+-- if all groups read once they are filled in, the text reads as the bytes cut from theirs
 pub cut_reads : (n : ℕ) (xs bytes : List ℕ) → length xs % 4 ≡ 0 → groups_from n (filled xs) ≡ Ok bytes
     → groups_from n xs ≡ Ok (cut_groups xs bytes)
 unfolding groups_from filled cut_groups
@@ -102,7 +102,7 @@ cut_groups-drop at xs bytes h = rw (drop_four at xs h) refl
 
 -- ---- steps of the loops
 
--- one more group filled up
+-- one more group filled in
 pub fill_step : (xs full next : List ℕ) (number : ℕ) → 4 * number + 4 ≤ length xs
     → next ≡ full ++ slice_index xs (4 * number) ∷ slice_index xs (4 * number + 1) ∷ third (slice_index xs (4 * number + 2)) (slice_index xs (4 * number + 3)) ∷ fourth (slice_index xs (4 * number + 3)) ∷ []
     → next ++ filled (drop (4 * (number + 1)) xs) ≡ full ++ filled (drop (4 * number) xs)
@@ -166,7 +166,7 @@ filled_bytes (p ∷ q ∷ r ∷ s ∷ rest) h (suc (suc zero)) = third_byte r s 
 filled_bytes (p ∷ q ∷ r ∷ s ∷ rest) h (suc (suc (suc zero))) = fourth_byte s (h 3)
 filled_bytes (p ∷ q ∷ r ∷ s ∷ rest) h (suc (suc (suc (suc i)))) = filled_bytes rest (λ j. h (suc (suc (suc (suc j))))) i
 
--- what the engine decodes of the groups that were filled up, into an empty list
+-- the bytes that the engine decodes from the filled groups into an empty list
 pub engine_filled : (n k : ℕ) (letters full given old decoded : List ℕ) → old ≡ [] → given ≡ full → full ≡ filled letters
     → IsBytes letters → IsBytes (drop k decoded) → decode_of standard given ≡ Ok (drop k decoded) → take k decoded ≡ old
     → groups_from n (filled letters) ≡ Ok decoded

@@ -50,7 +50,7 @@ pub first_place-here : (test : List ℕ → Bool) (bytes : List ℕ) → test by
 first_place-here test [] h = refl
 first_place-here test (b ∷ rest) h = rw h refl
 
--- a place that fails is passed over
+-- a place that fails is skipped
 pub first_place-past : (test : List ℕ → Bool) (b : ℕ) (rest : List ℕ) → test (b ∷ rest) ≡ false → first_place test (b ∷ rest) ≡ suc (first_place test rest)
 first_place-past test b rest h = rw h refl
 
@@ -65,7 +65,7 @@ first_place-least : (test : List ℕ → Bool) (bytes : List ℕ) → first_plac
 first_place-least test [] = refl
 first_place-least test (b ∷ rest) = ap (λ n. cond (test (b ∷ rest)) 0 (suc n)) (first_place-least test rest)
 
--- the rest from there on passes
+-- the rest from there onwards passes
 pub first_place-passes : (test : List ℕ → Bool) (bytes : List ℕ) → first_place test bytes < length bytes → test (drop (first_place test bytes) bytes) ≡ true
 first_place-passes test bytes h =
     let is = first_place-least test bytes in
@@ -92,12 +92,12 @@ IsFirstPlace-unique test bytes p q h k =
     let is : (p : ℕ) → IsFirstPlace test bytes p → least (λ k. test (drop k bytes)) (length bytes) ≡ p = λ p h. least-is (λ k. test (drop k bytes)) (length bytes) p h.within h.before h.passes in
     sym (is p h) ∙ is q k
 
--- a search that has come to place i, and whose result is the first place from there on
+-- a search that has come to place i, and whose result is the first place from there onwards
 pub record PassedTo (test : List ℕ → Bool) (bytes : List ℕ) (answer i : ℕ) : Type 0 where
   pub within : i ≤ length bytes
   pub later : answer ≡ i + first_place test (drop i bytes)
 
--- passes over one more
+-- skips one more
 pub PassedTo-more : (test : List ℕ → Bool) (bytes : List ℕ) (answer i : ℕ) → PassedTo test bytes answer i → i < length bytes → test (drop i bytes) ≡ false → PassedTo test bytes answer (i + 1)
 PassedTo-more test bytes answer i h low e =
     let past = first_place-past_at test bytes i low e in
@@ -119,7 +119,7 @@ place-found test bytes i h low e = rw (PassedTo-first test bytes (first_place te
 pub begins-at : (test : ℕ → Bool) (bytes : List ℕ) (i : ℕ) → i < length bytes → begins test (drop i bytes) ≡ test (get_or bytes i 0)
 begins-at test bytes i h = ap (begins test) (drop_more bytes i 0 h)
 
--- a test of single bytes, as std looks for it
+-- a test of single bytes, as std searches for it
 pub first_place-begins : (test : ℕ → Bool) (bytes : List ℕ) → first_place (begins test) bytes ≡ position_or_len test bytes
 first_place-begins test [] = refl
 first_place-begins test (b ∷ rest) = elim (cases_Bool (test b)) [
@@ -129,7 +129,7 @@ first_place-begins test (b ∷ rest) = elim (cases_Bool (test b)) [
       rw (e, one) (ap suc (first_place-begins test rest))
 ]
 
--- a text that stands there, as std's `starts_with` tells it
+-- a text at the front, as std's `starts_with` tests it
 pub has_prefix-starts_with : (text bytes : List ℕ) → starts_with nat_eq bytes text ≡ has_prefix text bytes
 has_prefix-starts_with text bytes = refl
 
@@ -153,7 +153,7 @@ place_from_bounds test bytes s h =
     let len = length-drop s bytes in
     (omega arith, omega arith)
 
--- what stands there passes
+-- the rest there passes
 pub place_from_passes : (test : List ℕ → Bool) (bytes : List ℕ) (s : ℕ) → s ≤ length bytes → place_from test bytes s ≢ length bytes
     → test (drop (place_from test bytes s) bytes) ≡ true
 place_from_passes test bytes s h some =
@@ -177,7 +177,7 @@ pub place_from_here : (test : List ℕ → Bool) (bytes : List ℕ) (s : ℕ) �
     → place_from test bytes s ≡ s
 place_from_here test bytes s h e = omega (arith, first_place-here test (drop s bytes) e)
 
--- a place whose rest fails is passed over
+-- a place whose rest fails is skipped
 pub place_from_next : (test : List ℕ → Bool) (bytes : List ℕ) (s : ℕ) → s < length bytes → test (drop s bytes) ≡ false
     → place_from test bytes s ≡ place_from test bytes (s + 1)
 place_from_next test bytes s h e = omega (arith, first_place-past_at test bytes s h e)

@@ -1,4 +1,4 @@
--- The least place at or after a start, and what the searches return, in words of places.
+-- The least place at or after a start, and the results of the searches, in words of places.
 use Rattle.std.proofs.Common.{◌≡◌, ◌≢◌, ◌⊎◌, ℕ, ◌+◌, ◌-◌, ◌<◌, ◌≤◌, ◌==◌, ◌||◌, get_or, Bool, true, false, List, [], ◌∷◌, length, take, drop, Option, Some, None, refl, sym, ap, ◌∙◌, subst, arith, inl, inr, ◌↔◌}
 use Rattle.std.proofs.lemmas.Bool.{cases_lt, lt-ltb, le-ltb, eq-eqb, eqb-true, ne_eqb, or_cases, or_left, or_right}
 use Rattle.std.proofs.lemmas.Bool.Decides.{Decides-eqb}
@@ -39,7 +39,7 @@ IsFirstPlaceFrom-only test bytes s p h =
 
 -- ---- the first place of all that have something
 
--- what passes a test at a place of the bytes
+-- the rest of the bytes at a place passes a test
 abbrev Passes : (List ℕ → Bool) → List ℕ → ℕ → Type 0
 Passes test bytes p = (p < length bytes) × (test (drop p bytes) ≡ true)
 
@@ -67,7 +67,7 @@ first_once Has (Some p) (Some q) h k = elim (cases_lt p q) [
   ]
 ]
 
--- two ways to say what a place has
+-- two properties of a place that are alike
 first_alike : (Has Had : ℕ → Type 0) → ((p : ℕ) → Has p → Had p) → ((p : ℕ) → Had p → Has p) → (found : Option ℕ) → IsFirstOf Has found → IsFirstOf Had found
 first_alike Has Had to from None h = λ k had. h k (from k had)
 first_alike Has Had to from (Some p) h = (to p h.0, λ k low had. h.1 k low (from k had))
@@ -110,7 +110,7 @@ has_prefix_says text bytes =
     let decides = slice_eq-Decides Decides-eqb text (take (length text) bytes) (has_prefix text bytes) refl in
     (λ h. sym (decides.0 h), λ e. decides.1 (sym e))
 
--- a text that stands at a place has the place within the bytes
+-- a text occurs only at a place within the bytes
 text_within : (bytes text : List ℕ) (p : ℕ) → text ≢ [] → take (length text) (drop p bytes) ≡ text → p < length bytes
 text_within bytes text p some has = elim (cases_lt p (length bytes)) [
   | inl low ↦ low

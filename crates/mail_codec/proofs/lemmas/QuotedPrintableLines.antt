@@ -21,7 +21,7 @@ ends_in-suffix c (x ∷ y ∷ xs) =
     let e : suc (suc (length xs)) - 1 ≡ suc (suc (length xs) - 1) = omega arith in
     ends_in-suffix c (y ∷ xs) ∙ ap (λ (k : ℕ). pointwise nat_eq (drop k (x ∷ y ∷ xs)) (c ∷ [])) (sym e)
 
--- what ends in a byte, and what stands before it
+-- bytes that end in a byte, and those before it
 pub ends_in-push : (c : ℕ) (xs : List ℕ) → ends_in c (xs ++ c ∷ []) ≡ true
 ends_in-push c [] = eq-eqb c c refl
 ends_in-push c (x ∷ []) = eq-eqb c c refl

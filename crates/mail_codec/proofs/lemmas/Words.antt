@@ -191,7 +191,7 @@ lowest_bit m t small here before = go (bit_at-trailing_zeros w64 m some small)
       ]
     ]
 
--- ---- what the flags of a word say
+-- ---- the meaning of the flags of a word
 
 -- each byte that is 0 has its flag set, whatever was borrowed
 zeros_flagged : (bs : List ℕ) → AllBelowBase 256 bs → (c : ℕ) → c ≤ 1 → (k : ℕ) → k < length bs → (get_or bs k 0 == 0) ≡ true → flag_at (flags c bs) k ≡ true
@@ -260,7 +260,7 @@ wrapped : (x k : ℕ) → x < 2 ^ 64 → k < 2 ^ 64
     ⊎ (x ≡ (x + (18446744073709551616 - k % 18446744073709551616)) % 18446744073709551616 + k + 0)
 wrapped x k hx hk = elim (cases_lt x k) [ inl less ↦ inl (omega arith) | inr more ↦ inr (omega arith) ]
 
--- what is left where 1 is subtracted from each byte of a word
+-- a word with 1 subtracted from each byte
 pub zero_mask_is : (word : ℕ) → word < 2 ^ 64
     → IsMask (λ b. b == 0) (to_le_bytes w64 word)
     (bit_and (bit_and ((word + (18446744073709551616 - 72340172838076673 % 18446744073709551616)) % 18446744073709551616) (18446744073709551615 - word)) 9259542123273814144)

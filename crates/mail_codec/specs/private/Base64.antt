@@ -1,11 +1,11 @@
--- How the private functions of the Base64 decoder say what they did; this crate's own words.
+-- Words for the private functions of the Base64 decoder; this crate's own words.
 use Rattle.std.specs.Prelude.{◌≡◌, ℕ, true, false, List, Result, Ok, Err}
 use Rattle.mail_codec.specs.Base64.{padding}
 use Rattle.mail_codec.specs.private.Runs.{ends_run}
 use Rattle.mail_codec.specs.private.Vectors.{is_letter}
 use Rattle.mail_codec.specs.declared.bytescan.runs.RunEnd.{RunEnd}
 
--- the items that a list has now, or the fault
+-- the items of a list, or the fault
 abbrev pub items_unless_fault : Result (Unit {0}) ℕ → List ℕ → Result (List ℕ) ℕ
 items_unless_fault (Ok done) items = Ok items
 items_unless_fault (Err n) items = Err n

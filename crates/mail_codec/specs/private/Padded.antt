@@ -3,18 +3,18 @@ use Rattle.std.specs.Prelude.{ℕ, ◌==◌, ◌&&◌, if◌then◌else◌, List
 use Rattle.mail_codec.specs.Ascii.{upper_a}
 use Rattle.mail_codec.specs.Base64.{padding}
 
--- `A`, the letter whose value is 0.
+-- `A`, the letter whose value is 0
 abbrev pub zero_letter : ℕ
 zero_letter = upper_a
 
--- The third and the fourth byte of a group, its padding filled up.
+-- the third and the fourth byte of a group, with its padding filled in
 abbrev pub third : ℕ → ℕ → ℕ
 third r s = if s == padding && r == padding then zero_letter else r
 
 abbrev pub fourth : ℕ → ℕ
 fourth s = if s == padding then zero_letter else s
 
--- The groups of a text, the padding of each filled up.
+-- the groups of a text, with the padding of each filled in
 unfoldable pub filled : List ℕ → List ℕ
 filled [] = []
 filled (p ∷ []) = []
@@ -22,11 +22,11 @@ filled (p ∷ q ∷ []) = []
 filled (p ∷ q ∷ r ∷ []) = []
 filled (p ∷ q ∷ r ∷ s ∷ rest) = p ∷ q ∷ third r s ∷ fourth s ∷ filled rest
 
--- How many bytes a group stands for, by its third and its fourth byte.
+-- how many bytes a group stands for, by its third and its fourth byte
 abbrev pub group_len : ℕ → ℕ → ℕ
 group_len r s = if s == padding && r == padding then 1 else if s == padding then 2 else 3
 
--- Of three bytes for each group of a text, those that the group stands for.
+-- of three bytes for each group of a text, those that the group stands for
 unfoldable pub cut_groups : List ℕ → List ℕ → List ℕ
 cut_groups [] bytes = []
 cut_groups (p ∷ []) bytes = []

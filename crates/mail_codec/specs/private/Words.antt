@@ -1,17 +1,17 @@
--- Marks of the bytes of a word: eight bytes read as one number, the first the lowest; this crate's
+-- Masks of the bytes of a word: eight bytes read as one number, the first the lowest; this crate's
 -- own words.
 use Rattle.std.specs.Prelude.{◌≡◌, ◌≢◌, ℕ, ◌+◌, ◌*◌, ◌/◌, ◌<◌, ◌↔◌, Bool, true, List, slice_index}
 use Rattle.std.specs.Int.{w64, bit_at, trailing_zeros}
 use Rattle.mail_codec.specs.Places.{first_place, begins}
 
--- The place in a word of the top bit of its byte k.
+-- the index in a word of the top bit of its byte k
 abbrev pub top_bit : ℕ → ℕ
 top_bit k = 8 * k + 7
 
--- A mask tells which of the eight bytes of a word pass the test: it is 0 exactly where none does;
--- otherwise its lowest bit is the top bit of the first that does; the top bit of each that does is
--- set; and no bit is set but top bits of bytes. Above the lowest it may also mark a byte that does
--- not pass.
+-- a mask says which of the eight bytes of a word pass the test: it is 0 exactly if none does;
+-- otherwise its lowest set bit is the top bit of the first that does; the top bit of each that does
+-- is set; and only top bits of bytes are set; above the lowest it may also have the bit of a byte
+-- that does not pass
 pub record IsMask (test : ℕ → Bool) (bytes : List ℕ) (mask : ℕ) : Type 0 where
   pub none : (mask ≡ 0) ↔ (first_place (begins test) bytes ≡ 8)
   pub lowest : mask ≢ 0 → trailing_zeros w64 mask ≡ top_bit (first_place (begins test) bytes)

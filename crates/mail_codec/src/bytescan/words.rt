@@ -1,15 +1,15 @@
 //! Words of eight bytes, all of which are tested at once: a mask has a bit set for each match.
 //!
-//! Only the lowest set bit of a mask is exact: a subtraction may borrow from the byte above it, whose
-//! bit may then be set falsely.
+//! Only the lowest set bit of a mask is exact: a subtraction may borrow from the byte above it,
+//! whose bit may then be set falsely.
 ghost use Rattle.std.specs.Prelude.{◌/◌, ◌≡◌, ◌==◌, ◌||◌};
 ghost use Rattle.std.specs.Int.{w64, to_le_bytes, trailing_zeros};
 ghost use Rattle.mail_codec.specs.private.Words.{IsMask};
 
-/// A word of eight bytes that are 1.
+/// A word of eight bytes, each of them 1.
 const ONES: u64 = 0x0101_0101_0101_0101;
 
-/// A word of eight bytes of which only the top bit is set.
+/// A word of eight bytes with only the top bit set in each.
 const TOPS: u64 = 0x8080_8080_8080_8080;
 
 /// Returns the mask of the bytes of the word that are 0.

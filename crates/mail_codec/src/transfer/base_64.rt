@@ -16,26 +16,26 @@ use base64::DecodeAllocError;
 use base64::engine::general_purpose::STANDARD;
 use std::alloc::{AllocError, Global};
 
-/// How many bytes are decoded before they are appended, where all groups are letters.
+/// The size of the buffer that groups of letters are decoded into before they are appended.
 const BUFFER: usize = 1024;
 
-/// The same of a text of no more bytes than this, as an encoded word has (RFC 2047, section 2): the
-/// buffer is filled with zeros for each.
+/// The size of the buffer for a text of at most this length, such as an encoded word (RFC 2047,
+/// section 2): the buffer is filled with zeros for each text.
 const SHORT: usize = 192;
 
-/// How many bytes of a Base64 text are read at a time, from the first other group on.
+/// The number of bytes of a Base64 text read at a time, from the first other group onwards.
 const WINDOW: usize = 4096;
 
 /// Returns the bytes that a Base64 text stands for (RFC 4648, section 4).
 ///
-/// CR and LF count as absent wherever they stand, groups with padding may stand anywhere, and bits
-/// that make no whole byte are ignored. Takes memory for the bytes, which is reserved at once, and
-/// a few kilobytes for letters on the way.
+/// CR and LF are ignored everywhere, groups with padding may occur anywhere, and bits that do not
+/// make a whole byte are ignored. Allocates the bytes, all at once, and a few kilobytes
+/// temporarily.
 ///
 /// # Errors
 ///
 /// The inner error is the index, counted from 0, of the first invalid group of four; a short last
-/// group is invalid. The outer error comes where it runs out of memory.
+/// group is invalid. The outer error is `AllocError` if it runs out of memory.
 ///
 /// # Examples
 ///
@@ -58,14 +58,13 @@ pub fn decode_base64(alloc: Global, text: &[u8]) -> Result<Result<Vec<u8>, usize
 
 /// Returns the bytes that a Base64 body stands for (RFC 2045, section 6.8).
 ///
-/// All ASCII whitespace counts as absent: space, tab, LF, FF and CR, but not the vertical tab
-/// (0x0B). Otherwise it reads as `decode_base64` does, and takes memory as that does: no copy of
-/// the body is made.
+/// All ASCII whitespace is ignored: space, tab, LF, FF and CR, but not the vertical tab (0x0B).
+/// Otherwise it reads and allocates as `decode_base64` does: the body is not copied.
 ///
 /// # Errors
 ///
 /// The inner error is the index, counted from 0, of the first invalid group of four; a short last
-/// group is invalid. The outer error comes where it runs out of memory.
+/// group is invalid. The outer error is `AllocError` if it runs out of memory.
 ///
 /// # Examples
 ///
@@ -82,9 +81,9 @@ pub fn decode_base64_body(alloc: Global, body: &[u8]) -> Result<Result<Vec<u8>, 
     decode_base64_without(alloc, body, RunEnd::Whitespace, &mut [0u8; BUFFER])
 }
 
-/// The bytes of the groups of a text without what counts as absent: letters are read where they
-/// lie, and from the first other group on a window of the text at a time, but for a group that ends
-/// it. `buffer` is lent to be written over.
+/// Returns the bytes of the groups of a text without its absent bytes. Letters are read in place.
+/// From the first other group onwards a window of the text is read at a time, unless that group
+/// ends the text. `buffer` is scratch space.
 #[inline(always)]
 fn decode_base64_without(
     alloc: Global,
@@ -115,8 +114,8 @@ fn decode_base64_without(
     Ok(Ok(bytes))
 }
 
-/// The bytes, and after them those of the groups of a text from a place on, of which the first has
-/// index `first`: a window of the text at a time.
+/// Returns the bytes in `before` and then those of the groups of the text from `from` onwards, of
+/// which the first has index `first`. Reads a window of the text at a time.
 fn decode_windows(
     alloc: Global,
     before: Vec<u8>,
@@ -155,7 +154,7 @@ fn decode_windows(
     }
 }
 
-/// Drops the letters before place `at`.
+/// Drops the letters before offset `at`.
 fn keep_from(letters: &mut Vec<u8>, at: usize)
     requires within { at ≤ vec_len letters.old }
     ensures { letters.new.items ≡ drop at letters.old.items }
@@ -165,8 +164,8 @@ fn keep_from(letters: &mut Vec<u8>, at: usize)
     letters.truncate(left);
 }
 
-/// Appends the bytes of whole groups, of which the first has index `first`, or returns the index
-/// of the first invalid one. `full` and `decoded` are lent to be written over.
+/// Appends the bytes of whole groups, of which the first has index `first`, or returns the index of
+/// the first invalid one. `full` and `decoded` are scratch space.
 fn decode_groups(
     bytes: &mut Vec<u8>,
     letters: &[u8],
@@ -191,7 +190,7 @@ fn decode_groups(
     }
 }
 
-/// The same as `decode_groups`, a group at a time, so that the first invalid one is found.
+/// Does the same as `decode_groups`, a group at a time, to find the first invalid one.
 fn decode_each_group(
     bytes: &mut Vec<u8>,
     letters: &[u8],
@@ -217,8 +216,8 @@ fn decode_each_group(
     Ok(Ok(()))
 }
 
-/// Appends the bytes of a group and returns true, or returns false where it is invalid. The missing
-/// letters of a group with padding are filled up with `A`, whose value is 0, and their bytes cut
+/// Appends the bytes of a group and returns true, or returns false if it is invalid. The missing
+/// letters of a group with padding are replaced by `A`, whose value is 0, and their bytes are cut
 /// off.
 fn push_group(bytes: &mut Vec<u8>, p: u8, q: u8, r: u8, s: u8) -> Result<bool, AllocError>
     ensures { IfOk result (λ is_group. option_map (λ decoded. bytes.old.items ++ decoded)
@@ -229,8 +228,8 @@ fn push_group(bytes: &mut Vec<u8>, p: u8, q: u8, r: u8, s: u8) -> Result<bool, A
     push_bytes(bytes, p, q, third, fourth, group_len(r, s))
 }
 
-/// Appends the first `len` bytes of four letters and returns true, or returns false where not all
-/// four are letters.
+/// Appends the first `len` bytes of four letters and returns true, or returns false if not all four
+/// are letters.
 fn push_bytes(
     bytes: &mut Vec<u8>,
     p: u8,

@@ -1,4 +1,4 @@
-//! Base64 groups with padding: one alone, and many together.
+//! Base64 groups with padding: a single one, and many together.
 ghost use Rattle.std.specs.Prelude.{◌≡◌, ℕ, Ok, true, false, ◌+◌, ◌*◌, ◌/◌, ◌%◌, ◌≤◌, ◌++◌, length, IfOk, OnOk};
 ghost use Rattle.mail_codec.specs.Base64.{groups_from, prepend};
 ghost use Rattle.mail_codec.specs.private.Base64.{KeepsLetters, KeepsPadding};
@@ -13,10 +13,10 @@ use base64::engine::general_purpose::STANDARD;
 use std::alloc::AllocError;
 use std::simd::prelude::*;
 
-/// Appends the bytes of whole groups and returns true where all of them are groups, some perhaps
-/// padded; otherwise appends nothing and returns false. The engine takes padding in the last group
-/// alone, so the missing letters are filled up, all groups are read at once, and then each is cut.
-/// `full` and `decoded` are lent to be written over, so that all windows share them.
+/// Appends the bytes of whole groups, with or without padding, and returns true if all of them are
+/// valid; otherwise appends nothing and returns false. The engine accepts padding only in the last
+/// group, so missing letters are filled in, all groups are read at once, and then the bytes of each
+/// are cut. `full` and `decoded` are scratch space that all windows share.
 pub(crate) fn decode_padded_groups(
     bytes: &mut Vec<u8>,
     letters: &[u8],
@@ -41,8 +41,9 @@ pub(crate) fn decode_padded_groups(
     }
 }
 
-/// Appends the bytes of a text that is one group, perhaps padded, and returns true; otherwise
-/// appends nothing and returns false. The missing letters are filled up, and their bytes cut off.
+/// Appends the bytes of a text that is one group, with or without padding, and returns true;
+/// otherwise appends nothing and returns false. Missing letters are filled in, and their bytes are
+/// cut off.
 pub(crate) fn push_one_group(bytes: &mut Vec<u8>, text: &[u8]) -> Result<bool, AllocError>
     ensures read { IfOk result (λ is_read. is_read ≡ true → (absent : RunEnd) (n : ℕ)
         → KeepsLetters absent → KeepsPadding absent
@@ -66,7 +67,7 @@ pub(crate) fn push_one_group(bytes: &mut Vec<u8>, text: &[u8]) -> Result<bool, A
     Ok(true)
 }
 
-/// Makes the list whole groups with their padding filled up.
+/// Replaces the content of `full` by the groups with their padding filled in.
 fn fill_up(full: &mut Vec<u8>, letters: &[u8]) -> Result<(), AllocError>
     requires whole { length letters.now % 4 ≡ 0 }
     ensures { OnOk result (full.new.items ≡ filled letters.now) }
@@ -81,7 +82,7 @@ fn fill_up(full: &mut Vec<u8>, letters: &[u8]) -> Result<(), AllocError>
     Ok(())
 }
 
-/// The third and the fourth byte of a group, `A` in the place of padding: its value is 0.
+/// Returns the third and the fourth byte of a group, with `A`, whose value is 0, for padding.
 pub(crate) fn filled_pair(r: u8, s: u8) -> (u8, u8)
     ensures third { result.0 ≡ third r s }
     ensures fourth { result.1 ≡ fourth s }
@@ -95,7 +96,7 @@ pub(crate) fn filled_pair(r: u8, s: u8) -> (u8, u8)
     (b'A', b'A')
 }
 
-/// Appends, of three bytes for each group, those that the group stands for.
+/// Appends, of the three bytes decoded for each group, those that the group stands for.
 fn push_cut_groups(bytes: &mut Vec<u8>, letters: &[u8], decoded: &[u8]) -> Result<(), AllocError>
     requires whole { length letters.now % 4 ≡ 0 }
     requires three { length decoded.now ≡ 3 * (length letters.now / 4) }
@@ -111,7 +112,7 @@ fn push_cut_groups(bytes: &mut Vec<u8>, letters: &[u8], decoded: &[u8]) -> Resul
     Ok(())
 }
 
-/// How many bytes a group stands for, by its third and its fourth byte.
+/// Returns the number of bytes that a group stands for, by its third and its fourth byte.
 pub(crate) fn group_len(r: u8, s: u8) -> usize
     ensures len { result ≡ group_len r s }
     ensures bounds { result ≤ 3 }

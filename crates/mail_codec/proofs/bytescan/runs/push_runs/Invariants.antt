@@ -2,7 +2,7 @@ use Rattle.std.proofs.Common.{◌≡◌, ◌≤◌, ◌-◌, ◌++◌, length, d
 use Rattle.mail_codec.specs.private.Runs.{without_ends}
 use Rattle.mail_codec.proofs.bytescan.runs.push_runs.Given as goal
 
--- what was appended, then what is kept of the rest, is all
+-- the bytes appended, then those kept of the rest, are all
 abbrev pub invariant-buffers : goal.invariant-buffers
 invariant-buffers l = record {
   within : l.at ≤ length l.bytes;

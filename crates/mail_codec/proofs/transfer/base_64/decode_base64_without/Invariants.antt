@@ -3,7 +3,7 @@ use Rattle.mail_codec.specs.Base64.{groups_from, prepend}
 use Rattle.mail_codec.specs.private.Runs.{without_ends}
 use Rattle.mail_codec.proofs.transfer.base_64.decode_base64_without.Given as goal
 
--- the text reads as the bytes so far, and then as what is left
+-- the text reads as the bytes so far, and then as the rest
 abbrev pub invariant-buffers : goal.invariant-buffers
 invariant-buffers l = record {
   within : l.at ≤ length l.text;

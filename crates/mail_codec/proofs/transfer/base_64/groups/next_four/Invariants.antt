@@ -2,7 +2,7 @@ use Rattle.std.proofs.Common.{◌≡◌, ◌<◌, ◌≤◌, ◌+◌, ◌++◌, 
 use Rattle.mail_codec.specs.private.Runs.{without_ends}
 use Rattle.mail_codec.proofs.transfer.base_64.groups.next_four.Given as goal
 
--- the bytes that were found, then those of the rest, are those from the start on
+-- the bytes found, then those of the rest, are those from the start onwards
 abbrev pub invariant-bytes : goal.invariant-bytes
 invariant-bytes l = record {
   long : length l.four ≡ 4;

@@ -1,6 +1,0 @@
-use Rattle.std.proofs.Common.{arith}
-use Rattle.mail_codec.proofs.lemmas.Vectors.{equal_marked}
-use Rattle.mail_codec.proofs.vectors.marks.wide_equal_lanes.Goals as goal
-
-pub returns : goal.returns
-returns c = equal_marked 64 c.args.wanted c.args.bytes (omega arith) c.fits-bytes.0

@@ -1,6 +1,0 @@
-use Rattle.std.proofs.Common.{bit_and}
-use Rattle.std.proofs.lemmas.Simd.{zip2_of_maps}
-use Rattle.mail_codec.proofs.vectors.wide_letters.faults.Goals as goal
-
-pub returns : goal.returns
-returns c = zip2_of_maps bit_and _ _ c.args.bytes c.upper_faults_of.ensures c.lower_faults_of.ensures
