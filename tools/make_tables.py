@@ -1,15 +1,15 @@
 #!/usr/bin/env python3
-"""Makes the tables of single bytes of crates/mail_charsets from the sources of the Rust crate encoding_rs.
+"""Makes the single-byte tables of crates/mail_charsets from the sources of the Rust crate encoding_rs.
 
-SOURCES is its directory `src`, as Debian's package librust-encoding-rs-dev has it, which holds the
-indexes and the labels of the WHATWG Encoding Standard; `rt fmt` then sets the lines. With --check it
-writes nothing and says whether the file is what the sources give; then the last line is
-`N passed, N failed`, and the status is 1 where it is not. What Python's codecs read under each table
-stands in crates/mail_vectors/data/tables.txt.
+SOURCES is its directory `src`, as in Debian's package librust-encoding-rs-dev, which contains the
+indexes and the labels of the WHATWG Encoding Standard. Run `rt fmt` afterwards. With --check it
+writes nothing and reports whether the file is what the sources give; the last line is then
+`N passed, N failed`, and the exit status is 1 if it is not. The texts that Python's codecs read under
+each table are in crates/mail_vectors/data/tables.txt.
 
-With --indexes ORACLE it makes the indexes of its encodings of several bytes instead. ORACLE is the
-program of tools/charset_oracle, which decodes each pair and each four bytes by encoding_rs. Then it
-says how many entries Python's codecs read otherwise; docs/DIFFERENCES.md has the reasons.
+With --indexes ORACLE it makes the indexes of the encodings of several bytes instead. ORACLE is the
+program of tools/charset_oracle, which decodes each pair and each four bytes by encoding_rs. It then
+reports how many entries Python's codecs read differently; docs/DIFFERENCES.md has the reasons.
 """
 import argparse
 import os
@@ -21,7 +21,7 @@ import sys
 TOP = os.path.dirname(os.path.dirname(os.path.abspath(__file__)))
 PATH = os.path.join(TOP, "crates", "mail_charsets", "src", "single_byte.rt")
 INDEX_PATH = os.path.join(TOP, "crates", "mail_charsets", "src", "tables.rt")
-# the name of each encoding in the standard, and that of its characters in encoding_rs
+# the name of each encoding in the standard, and the name of its characters in encoding_rs
 ENCODINGS = [
     ("IBM866", "ibm866"),
     ("ISO-8859-2", "iso_8859_2"),
@@ -54,17 +54,17 @@ ENCODINGS = [
 
 
 def unspaced(text):
-    """A source without what `rt fmt` may change."""
+    """Returns a source without what `rt fmt` may change."""
     return re.sub(r"\s+", "", text).replace(",]", "]").replace(",)", ")")
 
 
 def constant(name):
-    """The name of the constant of an encoding."""
+    """Returns the name of the constant of an encoding."""
     return name.upper().replace("-", "_")
 
 
 def indexes(sources):
-    """The characters of the bytes 80 to FF of each encoding of encoding_rs, with U+FFFD for none."""
+    """Returns the characters of the bytes 80 to FF in each encoding of encoding_rs, with U+FFFD for none."""
     with open(os.path.join(sources, "data.rs"), encoding="utf-8") as file:
         text = file.read()
     text = text[text.index("pub static SINGLE_BYTE_DATA"):]
@@ -77,7 +77,7 @@ def indexes(sources):
 
 
 def labels(sources):
-    """The labels of each encoding, by its name in the standard, in the order of the alphabet."""
+    """Returns the labels of each encoding in alphabetical order, by its name in the standard."""
     with open(os.path.join(sources, "lib.rs"), encoding="utf-8") as file:
         text = file.read()
     encoding = r"pub static (\w+)_INIT: Encoding = Encoding \{\s*name: \"([^\"]+)\""
@@ -94,7 +94,7 @@ def labels(sources):
 
 
 def char_rows(codes):
-    """Characters of a table as lines of source."""
+    """Returns the characters of a table as lines of source."""
     rows = []
     for start in range(0, len(codes), 8):
         row = ", ".join("'\\u{%04X}'" % code for code in codes[start:start + 8])
@@ -103,7 +103,7 @@ def char_rows(codes):
 
 
 def table_source(name, codes, all_labels):
-    """The constant of one encoding."""
+    """Returns the constant of one encoding."""
     lines = ["/// %s." % name]
     lines.append("pub const %s: SingleByteTable<'static> = SingleByteTable {" % constant(name))
     one_line = "    labels: &[%s]," % ", ".join('"%s"' % label for label in all_labels)
@@ -120,13 +120,13 @@ def table_source(name, codes, all_labels):
 
 
 def list_source(text, reach, name, names):
-    """A constant list of tables with a line of documentation."""
+    """Returns a constant list of tables with a line of documentation."""
     head = "%s const %s: [SingleByteTable<'static>; %d] = [" % (reach, name, len(names))
     return ["/// %s" % text, head, *("    %s," % it for it in names), "];", ""]
 
 
 def source_of(sources):
-    """The file of the tables."""
+    """Returns the file of the tables."""
     characters, known = indexes(sources), labels(sources)
     constants = []
     for name, index in ENCODINGS:
@@ -137,16 +137,16 @@ def source_of(sources):
     others = [name for name in names if name not in iso_8859 + windows]
     made = ["//! The tables, made by `tools/make_tables.py`; do not edit them.", ""]
     made += ["use mail_codec::charset::SingleByteTable;", ""]
-    made += list_source("All the tables, in the order in which the standard lists their encodings.", "pub", "TABLES", names)
-    made += list_source("Those of ISO 8859.", "pub(crate)", "ISO_8859_TABLES", iso_8859)
-    made += list_source("Those of Windows.", "pub(crate)", "WINDOWS_TABLES", windows)
-    made += list_source("All others.", "pub(crate)", "OTHER_TABLES", others)
+    made += list_source("All tables, in the order in which the standard lists their encodings.", "pub", "TABLES", names)
+    made += list_source("The tables of ISO 8859.", "pub(crate)", "ISO_8859_TABLES", iso_8859)
+    made += list_source("The tables of Windows.", "pub(crate)", "WINDOWS_TABLES", windows)
+    made += list_source("The other tables.", "pub(crate)", "OTHER_TABLES", others)
     made += ["\n\n".join(constants), ""]
     return "\n".join(made)
 
 
 def decoded(oracle, label, records):
-    """The texts of records in an encoding, by encoding_rs."""
+    """Returns the texts of records in an encoding, decoded by encoding_rs."""
     given = label.encode() + b"\n" + b"".join(struct.pack("<H", len(r)) + r for r in records)
     output = subprocess.run([oracle], input=given, stdout=subprocess.PIPE, check=True).stdout
     texts, at = [], 0
@@ -158,12 +158,12 @@ def decoded(oracle, label, records):
 
 
 def code(text):
-    """The code of a text of one character, and 0 for any other."""
+    """Returns the code of a text of one character, and 0 for any other text."""
     return ord(text) if len(text) == 1 and text != "\uFFFD" else 0
 
 
 def codec_code(codec, record):
-    """The same by a codec of Python."""
+    """Returns the code of a record, decoded by a codec of Python."""
     try:
         return code(record.decode(codec))
     except UnicodeDecodeError:
@@ -171,11 +171,11 @@ def codec_code(codec, record):
 
 
 def span(*ends):
-    """The bytes from the first to the last of each two."""
+    """Returns the bytes from the first to the last of each two."""
     return [byte for first, last in zip(ends[::2], ends[1::2]) for byte in range(first, last + 1)]
 
 
-# each index: its name, its label, its lead bytes, its trail bytes, what stands before each pair, and
+# each index: its name, its label, its lead bytes, its trail bytes, the bytes before each pair, and
 # the codec of Python to compare with
 INDEXES = [
     ("EUC_KR", "euc-kr", span(0x81, 0xFE), span(0x41, 0xFE), b"", "cp949"),
@@ -187,15 +187,15 @@ INDEXES = [
 
 
 def index_of(oracle, row):
-    """The entries of an index, without zeros at its end."""
+    """Returns the entries of an index, without zeros at the end."""
     name, label, leads, trails, before, codec = row
     records = [before + bytes([lead, trail]) for lead in leads for trail in trails]
     entries = [code(text) for text in decoded(oracle, label, records)]
     other = sum(a != codec_code(codec, r) for a, r in zip(entries, records))
-    print("%s: %d characters, of which %s reads %d pairs otherwise" % (
+    print("%s: %d characters; %s reads %d pairs differently" % (
         name, sum(map(bool, entries)), codec, other))
     if name == "JIS_0208":
-        # the characters of private use are reckoned
+        # the characters for private use are computed
         entries[8836:10716] = [0] * 1880
     while not entries[-1]:
         entries.pop()
@@ -203,13 +203,13 @@ def index_of(oracle, row):
 
 
 def ranges_of(oracle):
-    """The pointers of four bytes of gb18030 at which the characters of the plane 0 do not go on."""
+    """Returns the four-byte pointers of gb18030 at which a run of characters of plane 0 begins."""
     records = [bytes([a, b, c, d]) for a in span(0x81, 0xFE) for b in span(0x30, 0x39)
                for c in span(0x81, 0xFE) for d in span(0x30, 0x39)]
     texts = decoded(oracle, "gb18030", records)
     found = [ord(text) if len(text) == 1 else 0 for text in texts]
     other = sum(a != 0xFFFD and a != codec_code("gb18030", r) for a, r in zip(found, records))
-    print("four bytes of gb18030: Python reads %d otherwise" % other)
+    print("four bytes of gb18030: Python reads %d differently" % other)
     assert found[7457] == 0xE7C7 and found[189000:1237576] == list(range(0x10000, 0x110000))
     ranges, after = [], -1
     for pointer, entry in enumerate(found[:39420]):
@@ -221,7 +221,7 @@ def ranges_of(oracle):
 
 
 def array_source(name, words, width, text):
-    """A constant array with a line of documentation, in lines of width words."""
+    """Returns a constant array with a line of documentation, in lines of `width` words."""
     kind = "(u16, u16)" if words[0].startswith("(") else "u16"
     lines = ["/// %s" % text, "#[rattlefmt::skip]", "pub static %s: [%s; %d] = [" % (name, kind, len(words))]
     for start in range(0, len(words), width):
@@ -230,17 +230,17 @@ def array_source(name, words, width, text):
 
 
 def index_source(oracle):
-    """The file of the indexes."""
+    """Returns the file of the indexes."""
     indexes = {row[0]: index_of(oracle, row) for row in INDEXES}
     plane = sorted({entry for entry in indexes["BIG5"] if entry > 0xFFFF})
     assert all(0x20000 <= entry < 0x30000 for entry in plane) and len(plane) <= 0x800
-    place = {entry: 0xD800 + number for number, entry in enumerate(plane)}
-    indexes["BIG5"] = [place.get(entry, entry) for entry in indexes["BIG5"]]
-    # each index has a line for each row: what one lead byte begins, or a row of the standards of JIS
+    references = {entry: 0xD800 + number for number, entry in enumerate(plane)}
+    indexes["BIG5"] = [references.get(entry, entry) for entry in indexes["BIG5"]]
+    # each index has a line for each row: the pairs of one lead byte, or a row of the standards of JIS
     texts = {
         "EUC_KR": (190, "The index of EUC-KR."),
         "GB18030": (190, "The index of GBK and gb18030."),
-        "BIG5": (157, "The index of Big5; from 0xD800 on stand the places in `BIG5_PLANE`."),
+        "BIG5": (157, "The index of Big5; 0xD800 + n refers to entry n of `BIG5_PLANE`."),
         "JIS_0208": (94, "The index of JIS X 0208."),
         "JIS_0212": (94, "The index of JIS X 0212."),
     }
@@ -249,9 +249,9 @@ def index_source(oracle):
         assert all(entry <= 0xFFFF for entry in entries)
         made.append(array_source(name, ["0x%04X" % entry for entry in entries], *texts[name]))
     made.append(array_source("BIG5_PLANE", ["0x%04X" % (entry - 0x20000) for entry in plane], 32,
-                             "The characters of Big5 from U+20000 on, less that number."))
+                             "The characters of Big5 from U+20000 onwards, minus 0x20000."))
     made.append(array_source("GB18030_RANGES", ["(%d, 0x%04X)" % pair for pair in ranges_of(oracle)], 8,
-                             "The ranges of gb18030: a pointer of four bytes, and the character at it."))
+                             "The ranges of gb18030: the first pointer of four bytes, and the character at it."))
     return "\n\n".join(made) + "\n"
 
 

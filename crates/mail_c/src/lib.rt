@@ -26,7 +26,7 @@ use room::{leave, write};
 use std::alloc::Global;
 
 /// The charsets in which mails are read: all those of the Encoding Standard.
-fn charsets() -> AllCharsets<'static> {
+fn charsets() -> AllCharsets {
     AllCharsets::standard()
 }
 

@@ -2,5 +2,4 @@ pub mod Front
 pub mod Few
 pub mod Iso2022Jp
 pub mod XUserDefined
-pub mod All
 pub mod Labels

@@ -1,4 +1,4 @@
--- The encodings with their labels (the WHATWG Encoding Standard, section 4.2), and the text of bytes in each.
+-- The encodings, their labels (the WHATWG Encoding Standard, section 4.2), and the text of bytes in each.
 use Rattle.std.specs.Prelude.{ℕ, ◌+◌, ◌-◌, List, [], ◌∷◌, map, nat_lt, Option, None, option_map, find, codes, encode_utf8_all, if◌then◌else◌}
 use Rattle.mail_codec.specs.Charset.{is_among_labels, replacement, trimmed_label}
 use Rattle.mail_charsets.specs.EucKr.{euc_kr_text}
@@ -60,12 +60,12 @@ labels_by_encoding =
     ∷ (Replacement, replacement_labels)
     ∷ (XUserDefined, x_user_defined_labels) ∷ []
 
--- the encoding that has the label, once that is trimmed at both ends; ASCII case does not count
+-- the encoding that has the label, after trimming it at both ends; ASCII case is ignored
 unfoldable pub encoding_of_label : List ℕ → Option Encoding
 encoding_of_label label =
     option_map (λ row. row.0) (find (λ row. is_among_labels row.1 (trimmed_label label)) labels_by_encoding)
 
--- the same, but none where the label is one of replacement, in which nothing can be read
+-- the same, but none for the labels of replacement, in which nothing can be read
 unfoldable pub readable_encoding : List ℕ → Option Encoding
 readable_encoding label =
     if is_among_labels replacement_labels (trimmed_label label) then None else encoding_of_label label
@@ -75,11 +75,11 @@ abbrev pub replacement_text : List ℕ → List ℕ
 replacement_text [] = []
 replacement_text (byte ∷ bytes) = encode_utf8_all (replacement ∷ [])
 
--- the character of a byte in x-user-defined: from 80 on they stand from U+F780 on (section 14.5)
+-- the character of a byte in x-user-defined: the bytes 80 to FF are the characters from U+F780 onwards (section 14.5)
 abbrev pub x_user_defined_char : ℕ → ℕ
 x_user_defined_char byte = if nat_lt byte 0x80 then byte else 0xF780 + (byte - 0x80)
 
--- the text of bytes in an encoding under indexes; a byte order mark is read as any other bytes are
+-- the text of bytes in an encoding under indexes; a byte order mark is read like any other bytes
 unfoldable pub text_in : Indexes → Encoding → List ℕ → List ℕ
 text_in indexes Gbk bytes = gb18030_text indexes.gb18030.now indexes.gb18030_ranges.now bytes
 text_in indexes Gb18030 bytes = gb18030_text indexes.gb18030.now indexes.gb18030_ranges.now bytes

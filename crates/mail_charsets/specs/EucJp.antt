@@ -9,7 +9,7 @@ use Rattle.mail_charsets.specs.Front.{chars_at, fault, faulty, front_by, whole_o
 abbrev pub euc_jp_is_lead : ℕ → Bool
 euc_jp_is_lead byte = is_in_range 0x8E 0x8F byte || is_in_range 0xA1 0xFE byte
 
--- the other bytes from 80 on are no character
+-- the other bytes from 80 to FF are invalid
 abbrev pub euc_jp_single : ℕ → Option ℕ
 euc_jp_single byte = if euc_jp_is_lead byte then None else Some replacement
 
@@ -22,7 +22,7 @@ abbrev pub euc_jp_chars : List ℕ → ℕ → ℕ → List ℕ
 euc_jp_chars index row column =
     if is_cell row column then chars_at index ((row - 0xA1) * 94 + (column - 0xA1)) else []
 
--- after 8E a byte from A1 to DF is half-width katakana, from U+FF61 on
+-- after 8E, a byte from A1 to DF is half-width katakana, from U+FF61 onwards
 abbrev pub is_katakana : ℕ → ℕ → Bool
 is_katakana lead trail = (lead == 0x8E) && is_in_range 0xA1 0xDF trail
 
@@ -35,7 +35,7 @@ euc_jp_pair index lead trail =
 abbrev pub begins_three : List ℕ → Bool
 begins_three bytes = (slice_index bytes 0 == 0x8F) && is_in_range 0xA1 0xFE (slice_index bytes 1)
 
--- the characters of three bytes are those of JIS X 0212; an ASCII byte that has none with the others is read again
+-- the characters of three bytes are those of JIS X 0212; if there are none, an ASCII byte at the end is read again
 abbrev pub euc_jp_long : List ℕ → List ℕ → Option Taken
 euc_jp_long second bytes =
     if begins_three bytes
@@ -43,7 +43,7 @@ euc_jp_long second bytes =
     whole_or (euc_jp_chars second (slice_index bytes 1) (slice_index bytes 2)) 3 (faulty (slice_index bytes 2) 3))
     else None
 
--- the characters at the front of bytes, and how many bytes they take
+-- the characters at the front of bytes, and the number of bytes they take
 abbrev pub euc_jp_front : List ℕ → List ℕ → List ℕ → Taken
 euc_jp_front index second = front_by (euc_jp_long second) euc_jp_single (euc_jp_pair index)
 

@@ -5,7 +5,7 @@ use Rattle.mail_codec.specs.Charset.{replacement}
 use Rattle.mail_codec.specs.Front.{Taken, text_by}
 use Rattle.mail_charsets.specs.Front.{chars_at, front_by, no_long}
 
--- the bytes 81 to FE are lead bytes, and the others from 80 on are no character
+-- the bytes 81 to FE are lead bytes, and 80 and FF are invalid
 abbrev pub euc_kr_single : ℕ → Option ℕ
 euc_kr_single byte = if is_in_range 0x81 0xFE byte then None else Some replacement
 
@@ -13,7 +13,7 @@ euc_kr_single byte = if is_in_range 0x81 0xFE byte then None else Some replaceme
 abbrev pub euc_kr_pair : List ℕ → ℕ → ℕ → List ℕ
 euc_kr_pair index lead trail = if is_in_range 0x41 0xFE trail then chars_at index ((lead - 0x81) * 190 + (trail - 0x41)) else []
 
--- the characters at the front of bytes, and how many bytes they take
+-- the characters at the front of bytes, and the number of bytes they take
 abbrev pub euc_kr_front : List ℕ → List ℕ → Taken
 euc_kr_front index = front_by no_long euc_kr_single (euc_kr_pair index)
 

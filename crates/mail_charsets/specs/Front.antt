@@ -1,4 +1,4 @@
--- The characters at the front of bytes in an encoding, and how many bytes they take (the WHATWG Encoding Standard, sections 4.1 and 5).
+-- The characters at the front of bytes in an encoding, and the number of bytes they take (the WHATWG Encoding Standard, sections 4.1 and 5).
 use Rattle.std.specs.Prelude.{ℕ, ◌-◌, ◌<◌, ◌≤◌, ◌||◌, ◌==◌, List, [], ◌∷◌, length, slice_index, nat_lt, Option, None, Some, if◌then◌else◌}
 use Rattle.std.specs.Int.{is_in_range}
 use Rattle.mail_codec.specs.Charset.{replacement}
@@ -7,11 +7,11 @@ use Rattle.mail_charsets.specs.declared.front.Characters.{Characters}
 use Rattle.mail_charsets.specs.declared.front.Characters.TheVariants.{Nothing, One, Two}
 use Rattle.mail_charsets.specs.declared.front.Front.{Front}
 
--- of so many bytes at least one is taken, at most four, and no more than there are
+-- of `count` bytes, at least one is taken, at most four, and no more than `count`
 abbrev pub TakesFew : ℕ → Taken → Type 0
 TakesFew count taken = (0 < taken.1) × (taken.1 ≤ count) × (taken.1 ≤ 4)
 
--- so many bytes are no character
+-- `taken` bytes that are invalid
 abbrev pub fault : ℕ → Taken
 fault taken = (replacement ∷ [], taken)
 
@@ -20,27 +20,31 @@ abbrev pub one_or : Option ℕ → Taken → Taken
 one_or None other = other
 one_or (Some character) other = (character ∷ [], 1)
 
--- what is taken for a sequence of more than two bytes, if there is one
+-- a sequence of more than two bytes, if there is one
 abbrev pub long_or : Option Taken → Taken → Taken
 long_or None other = other
 long_or (Some taken) other = taken
 
--- so many bytes with their characters, or another number of bytes that are no character
+-- `taken` bytes with these characters or, if there are none, `faulty` invalid bytes
 abbrev pub whole_or : List ℕ → ℕ → ℕ → Taken
 whole_or [] taken faulty = fault faulty
 whole_or (character ∷ others) taken faulty = (character ∷ others, taken)
 
--- how many of some bytes are no character together: all, but an ASCII byte at their end is read again
+-- how many of `taken` bytes are invalid together: all, except that an ASCII byte at their end is read again
 abbrev pub faulty : ℕ → ℕ → ℕ
 faulty last taken = if nat_lt last 0x80 then taken - 1 else taken
+
+-- the column of a trail byte, where the trail bytes begin at 40 and 7F is left out
+abbrev pub column : ℕ → ℕ
+column trail = if nat_lt trail 0x7F then trail - 0x40 else trail - 0x41
 
 -- a lead byte and the byte after it, with their characters, if they have any
 abbrev pub pair : List ℕ → ℕ → Taken
 pair characters trail = whole_or characters 2 (faulty trail 2)
 
--- The characters at the front where ASCII bytes are themselves: a byte that stands alone has its character by `single`, and any other
--- byte is a lead byte. A lead byte at the end is no character. With the bytes after it a lead byte may begin a longer sequence, and else
--- it has its characters with the byte after it.
+-- The characters at the front, where ASCII bytes are themselves: a byte for which `single` has a character is that character, and any
+-- other byte is a lead byte. A lead byte at the end is invalid. A lead byte may begin a longer sequence with the bytes after it (`long`);
+-- otherwise it has its characters with the byte after it (`pairs`).
 unfoldable pub front_by : (List ℕ → Option Taken) → (ℕ → Option ℕ) → (ℕ → ℕ → List ℕ) → List ℕ → Taken
 front_by long single pairs bytes =
     let byte = slice_index bytes 0 in let trail = slice_index bytes 1 in
@@ -51,20 +55,20 @@ front_by long single pairs bytes =
 abbrev pub no_long : List ℕ → Option Taken
 no_long bytes = None
 
--- the characters of a code: one, or none where it is 0 or a surrogate
+-- the characters of a code: one, or none if it is 0 or a surrogate
 abbrev pub code_chars : ℕ → List ℕ
 code_chars code = if (code == 0) || is_in_range 0xD800 0xDFFF code then [] else code ∷ []
 
--- the characters that an index has at a pointer (section 5): 0 stands where it has none
+-- the characters that an index has at a pointer (section 5): none if the entry is 0
 abbrev pub chars_at : List ℕ → ℕ → List ℕ
 chars_at index pointer = code_chars (slice_index index pointer)
 
--- the characters of the code's enum
+-- the characters of the enum in the code
 abbrev pub characters_of : Characters → List ℕ
 characters_of Nothing = []
 characters_of (One character) = character ∷ []
 characters_of (Two first second) = first ∷ second ∷ []
 
--- what stands at the front, in the words above
+-- the front of the code as the definitions take it
 abbrev pub taken_of : Front → Taken
 taken_of front = (characters_of front.characters, front.taken)

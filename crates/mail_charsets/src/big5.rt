@@ -7,7 +7,7 @@ use crate::encoded::{Encoded, decode};
 use crate::front::{Characters, Front, characters_of_code, entry_at, is_within};
 use std::alloc::{AllocError, Global};
 
-/// The encoding, under its two indexes.
+/// The encoding under its two indexes.
 #[derive(Clone, Copy)]
 struct Big5<'t> {
     index: &'t [u16],
@@ -43,14 +43,14 @@ impl<'t> Encoded for Big5<'t> {
     }
 }
 
-/// Whether the byte may follow a lead byte.
+/// Returns whether the byte may follow a lead byte.
 fn is_trail(byte: u8) -> bool
     ensures { result ≡ big5_is_trail byte }
 {
     is_within(byte, 0x40, 0x7E) || is_within(byte, 0xA1, 0xFE)
 }
 
-/// The number of a trail byte.
+/// Returns the column of a trail byte.
 fn column(trail: u8) -> usize
     ensures value { result ≡ big5_column trail }
     ensures bounds { result ≤ 255 }
@@ -59,7 +59,7 @@ fn column(trail: u8) -> usize
     usize::from(trail.saturating_sub(first))
 }
 
-/// The characters at a pointer.
+/// Returns the characters at a pointer.
 fn characters(index: &[u16], plane: &[u16], pointer: usize) -> Characters
     ensures { characters_of result ≡ big5_chars index.now plane.now pointer }
 {
@@ -72,7 +72,7 @@ fn characters(index: &[u16], plane: &[u16], pointer: usize) -> Characters
     }
 }
 
-/// The characters of an entry of the index.
+/// Returns the characters of an entry of the index.
 fn entry_characters(plane: &[u16], entry: u16) -> Characters
     ensures { characters_of result ≡ big5_entry_chars plane.now entry }
 {
@@ -86,11 +86,11 @@ fn entry_characters(plane: &[u16], entry: u16) -> Characters
 /// 11.1).
 pub(crate) fn decode_big5(
     alloc: Global,
+    bytes: &[u8],
     index: &[u16],
     plane: &[u16],
-    bytes: &[u8],
 ) -> Result<String, AllocError>
     ensures { IfOk result (λ t. string_bytes t ≡ big5_text index.now plane.now bytes.now) }
 {
-    decode(alloc, &Big5 { index, plane }, bytes)
+    decode(alloc, bytes, &Big5 { index, plane })
 }

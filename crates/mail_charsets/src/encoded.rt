@@ -1,12 +1,12 @@
-//! The text of bytes in the encodings in which ASCII bytes are themselves, a front at a time.
+//! Decoding of the encodings in which ASCII bytes are themselves, one character at a time.
 ghost use Rattle.std.specs.Prelude.{◌≡◌, ℕ, ◌<◌, ◌≤◌, ◌++◌, List, Option, length, take, drop, option_map, IsUtf8, IfOk, IfSome, string_bytes};
 ghost use Rattle.mail_codec.specs.Front.{Taken, text_by};
 ghost use Rattle.mail_charsets.specs.Front.{characters_of, front_by, taken_of};
 
 use crate::front::{
-    BUFFER, Characters, Front, MOST, fault, faulty, front_or, push_made, put_characters,
+    BUFFER, Characters, Front, LONGEST, fault, faulty, front_or, push_utf8, put_characters,
 };
-use mail_codec::charset::ascii_blocks_length;
+use mail_codec::charset::decoder::ascii_blocks_length;
 use std::alloc::{AllocError, Global};
 
 /// An encoding in which ASCII bytes are themselves.
@@ -17,16 +17,17 @@ pub(crate) trait Encoded {
 
     ghost long: { Self → List ℕ → Option Taken };
 
-    /// The character of a byte that stands alone, or `None` for a lead byte.
+    /// Returns the character of a single byte, or `None` for a lead byte.
     fn single(&self, byte: u8) -> Option<char>
         requires { 0x80 ≤ byte }
         ensures { result ≡ single self.now byte };
 
-    /// The characters of a lead byte and the byte after it.
+    /// Returns the characters of a lead byte and the byte after it.
     fn pair(&self, lead: u8, trail: u8) -> Characters
         ensures { characters_of result ≡ pairs self.now lead trail };
 
-    /// What is taken for a sequence of more than two bytes.
+    /// Returns the sequence of more than two bytes at the front, or `None` if the bytes do not begin
+    /// one.
     fn long(&self, bytes: &[u8]) -> Option<Front>
         requires { 2 ≤ length bytes.now }
         ensures read { option_map taken_of result ≡ long self.now bytes.now }
@@ -34,11 +35,11 @@ pub(crate) trait Encoded {
         ensures bounds { IfSome result (λ front. front.taken ≤ length bytes.now) };
 }
 
-/// The text of the bytes.
+/// Returns the text of the bytes.
 pub(crate) fn decode<E: Encoded>(
     alloc: Global,
-    encoding: &E,
     bytes: &[u8],
+    encoding: &E,
 ) -> Result<String, AllocError>
     ensures { IfOk result (λ t. string_bytes t ≡ text_by
         (front_by (E.long encoding.now) (E.single encoding.now) (E.pairs encoding.now)) bytes.now) }
@@ -49,21 +50,21 @@ pub(crate) fn decode<E: Encoded>(
     'rest: while !rest.is_empty() {
         let run = ascii_blocks_length(rest);
         if run > 0 {
-            push_made(&mut text, &rest[..run])?;
+            push_utf8(&mut text, &rest[..run])?;
             rest = &rest[run..];
         } else {
-            let (taken, length) = encode_fronts(&mut buffer, encoding, rest);
-            push_made(&mut text, &buffer[..length])?;
+            let (taken, length) = encode_fronts(&mut buffer, rest, encoding);
+            push_utf8(&mut text, &buffer[..length])?;
             rest = &rest[taken..];
         }
     }
     Ok(text)
 }
 
-/// Writes the text of as many fronts as there is room for, and returns how many bytes were read and
+/// Writes the text of as many fronts as fit into the buffer, and returns how many bytes were read and
 /// written.
-fn encode_fronts<E: Encoded>(buffer: &mut [u8], encoding: &E, bytes: &[u8]) -> (usize, usize)
-    requires room { 8 ≤ length buffer.old }
+fn encode_fronts<E: Encoded>(buffer: &mut [u8], bytes: &[u8], encoding: &E) -> (usize, usize)
+    requires capacity { 8 ≤ length buffer.old }
     requires some { 0 < length bytes.now }
     ensures written { text_by
         (front_by (E.long encoding.now) (E.single encoding.now) (E.pairs encoding.now)) bytes.now
@@ -77,16 +78,16 @@ fn encode_fronts<E: Encoded>(buffer: &mut [u8], encoding: &E, bytes: &[u8]) -> (
 {
     let mut taken = 0;
     let mut at = 0;
-    'fronts: while taken < bytes.len() && MOST <= buffer.len() - at {
-        let front = front_of(encoding, &bytes[taken..]);
+    'fronts: while taken < bytes.len() && LONGEST <= buffer.len() - at {
+        let front = front_of(&bytes[taken..], encoding);
         at = put_characters(buffer, at, front.characters);
         taken += front.taken;
     }
     (taken, at)
 }
 
-/// What stands at the front of the bytes.
-fn front_of<E: Encoded>(encoding: &E, bytes: &[u8]) -> Front
+/// Returns the front of the bytes.
+fn front_of<E: Encoded>(bytes: &[u8], encoding: &E) -> Front
     requires { 0 < length bytes.now }
     ensures read { taken_of result ≡
         front_by (E.long encoding.now) (E.single encoding.now) (E.pairs encoding.now) bytes.now }

@@ -12,14 +12,14 @@ use crate::iso_2022_jp::decode_iso_2022_jp;
 use crate::labels;
 use crate::shift_jis::decode_shift_jis;
 use crate::x_user_defined::decode_x_user_defined;
-use mail_codec::charset::is_among;
+use mail_codec::charset::decoder::is_among;
 use std::alloc::{AllocError, Global};
 
-/// An encoding of the WHATWG Encoding Standard that has no table of single bytes, and is none of the
-/// four charsets of `mail_codec`.
+/// An encoding of the WHATWG Encoding Standard that is neither one of the four charsets of
+/// `mail_codec` nor a table of single bytes.
 #[derive(Clone, Copy, Debug, PartialEq, Eq)]
 pub enum Encoding {
-    /// GBK, which is read as gb18030.
+    /// GBK, which decodes as gb18030.
     Gbk,
     /// gb18030.
     Gb18030,
@@ -33,18 +33,18 @@ pub enum Encoding {
     ShiftJis,
     /// EUC-KR.
     EucKr,
-    /// The replacement encoding, for encodings that are not safe to read.
+    /// The replacement encoding, for encodings that are not safe to decode.
     Replacement,
     /// x-user-defined.
     XUserDefined,
 }
 
 impl Encoding {
-    /// Returns the encoding that has the label, or `None` where no encoding here has it (the WHATWG
-    /// Encoding Standard, section 4.2).
+    /// Returns the encoding that has the label, or `None` if no encoding of this crate has it (the
+    /// WHATWG Encoding Standard, section 4.2).
     ///
-    /// ASCII whitespace around the label (space, tab, LF, FF, CR) and ASCII case do not count.
-    /// Takes no memory.
+    /// ASCII whitespace around the label (space, tab, LF, FF, CR) and ASCII case are ignored. Takes
+    /// no memory.
     ///
     /// # Examples
     ///
@@ -61,8 +61,8 @@ impl Encoding {
         encoding_of(label.trim_ascii())
     }
 
-    /// Returns the encoding that has the label, as `for_label` does, or `None` where the label is one
-    /// of the replacement encoding too: the encodings that these labels name are read by nobody here.
+    /// Returns the encoding that has the label, as `for_label` does, but `None` for the labels of the
+    /// replacement encoding, whose texts cannot be read.
     ///
     /// Takes no memory.
     ///
@@ -79,20 +79,20 @@ impl Encoding {
         ensures { result ≡ readable_encoding label.now }
     {
         let trimmed = label.trim_ascii();
-        if is_among(&labels::REPLACEMENT, trimmed) {
+        if is_among(trimmed, &labels::REPLACEMENT) {
             return None;
         }
         encoding_of(trimmed)
     }
 
-    /// Returns the text of the bytes in this encoding under indexes, reading a byte order mark like
-    /// any other bytes (the WHATWG Encoding Standard, sections 10 to 14).
+    /// Returns the text of the bytes in this encoding under the indexes, reading a byte order mark
+    /// like any other bytes (the WHATWG Encoding Standard, sections 10 to 14).
     ///
-    /// What is not a character reads as U+FFFD. Takes memory for the text.
+    /// Invalid bytes decode to U+FFFD. Takes memory for the text.
     ///
     /// # Errors
     ///
-    /// Where it runs out of memory.
+    /// `AllocError` if it runs out of memory.
     ///
     /// # Examples
     ///
@@ -100,33 +100,33 @@ impl Encoding {
     /// use mail_charsets::{Encoding, Indexes};
     ///
     /// let indexes = Indexes::standard();
-    /// let text = Encoding::EucKr.decode_under(alloc, &indexes, b"\xC7\xD1 a")?;
+    /// let text = Encoding::EucKr.decode_under(alloc, b"\xC7\xD1 a", &indexes)?;
     /// assert_eq!(rt; text.as_str(), "한 a");
     /// ```
     pub fn decode_under(
         self,
         alloc: Global,
-        indexes: &Indexes<'_>,
         bytes: &[u8],
+        indexes: &Indexes<'_>,
     ) -> Result<String, AllocError>
         ensures { IfOk result (λ t. string_bytes t ≡ text_in indexes.now self bytes.now) }
     {
         match self {
             Encoding::Gbk | Encoding::Gb18030 => {
-                decode_gb18030(alloc, indexes.gb18030, indexes.gb18030_ranges, bytes)
+                decode_gb18030(alloc, bytes, indexes.gb18030, indexes.gb18030_ranges)
             }
-            Encoding::Big5 => decode_big5(alloc, indexes.big5, indexes.big5_plane, bytes),
-            Encoding::EucJp => decode_euc_jp(alloc, indexes.jis_0208, indexes.jis_0212, bytes),
-            Encoding::Iso2022Jp => decode_iso_2022_jp(alloc, indexes.jis_0208, bytes),
-            Encoding::ShiftJis => decode_shift_jis(alloc, indexes.jis_0208, bytes),
-            Encoding::EucKr => decode_euc_kr(alloc, indexes.euc_kr, bytes),
+            Encoding::Big5 => decode_big5(alloc, bytes, indexes.big5, indexes.big5_plane),
+            Encoding::EucJp => decode_euc_jp(alloc, bytes, indexes.jis_0208, indexes.jis_0212),
+            Encoding::Iso2022Jp => decode_iso_2022_jp(alloc, bytes, indexes.jis_0208),
+            Encoding::ShiftJis => decode_shift_jis(alloc, bytes, indexes.jis_0208),
+            Encoding::EucKr => decode_euc_kr(alloc, bytes, indexes.euc_kr),
             Encoding::Replacement => decode_replacement(alloc, bytes),
             Encoding::XUserDefined => decode_x_user_defined(alloc, bytes),
         }
     }
 }
 
-/// The text of the bytes in the replacement encoding.
+/// Returns the text of the bytes in the replacement encoding.
 fn decode_replacement(alloc: Global, bytes: &[u8]) -> Result<String, AllocError>
     ensures { IfOk result (λ t. string_bytes t ≡ replacement_text bytes.now) }
 {
@@ -138,12 +138,12 @@ fn decode_replacement(alloc: Global, bytes: &[u8]) -> Result<String, AllocError>
     Ok(text)
 }
 
-/// The encoding that has the label, ignoring ASCII case.
+/// Returns the encoding that has the trimmed label, ignoring ASCII case.
 fn encoding_of(label: &[u8]) -> Option<Encoding>
     ensures { result ≡ option_map (λ row. row.0)
         (find (λ row. is_among_labels row.1 label.now) labels_by_encoding) }
 {
-    match labels::ENCODINGS.iter().find(|row| is_among(row.1, label)) {
+    match labels::ENCODINGS.iter().find(|row| is_among(label, row.1)) {
         Some(row) => Some(row.0),
         None => None,
     }

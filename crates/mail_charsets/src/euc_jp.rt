@@ -9,7 +9,7 @@ use crate::front::{
 };
 use std::alloc::{AllocError, Global};
 
-/// The encoding, under the indexes of JIS X 0208 and JIS X 0212.
+/// The encoding under the indexes of JIS X 0208 and JIS X 0212.
 #[derive(Clone, Copy)]
 struct EucJp<'t> {
     index: &'t [u16],
@@ -39,20 +39,20 @@ impl<'t> Encoded for EucJp<'t> {
 
     fn long(&self, bytes: &[u8]) -> Option<Front> {
         if begins_three(bytes) {
-            return Some(three(self.second, bytes));
+            return Some(three(bytes, self.second));
         }
         None
     }
 }
 
-/// Whether the byte is a lead byte.
+/// Returns whether the byte is a lead byte.
 fn is_lead(byte: u8) -> bool
     ensures { result ≡ euc_jp_is_lead byte }
 {
     is_within(byte, 0x8E, 0x8F) || is_within(byte, 0xA1, 0xFE)
 }
 
-/// Whether a lead byte and the byte after it are half-width katakana.
+/// Returns whether a lead byte and the byte after it are half-width katakana.
 fn is_katakana(lead: u8, trail: u8) -> bool
     ensures value { result ≡ is_katakana lead trail }
     ensures bounds { result ≡ true → 0xA1 ≤ trail }
@@ -60,7 +60,7 @@ fn is_katakana(lead: u8, trail: u8) -> bool
     lead == 0x8E && is_within(trail, 0xA1, 0xDF)
 }
 
-/// Whether 8F and a row begin the bytes.
+/// Returns whether the bytes begin with 8F and a row.
 fn begins_three(bytes: &[u8]) -> bool
     requires { 2 ≤ length bytes.now }
     ensures { result ≡ begins_three bytes.now }
@@ -68,7 +68,7 @@ fn begins_three(bytes: &[u8]) -> bool
     bytes[0] == 0x8F && is_within(bytes[1], 0xA1, 0xFE)
 }
 
-/// Whether the bytes are a row and a column.
+/// Returns whether the bytes are a row and a column.
 fn is_cell(row: u8, column: u8) -> bool
     ensures value { result ≡ is_cell row column }
     ensures row_bound { result ≡ true → 0xA1 ≤ row }
@@ -77,7 +77,7 @@ fn is_cell(row: u8, column: u8) -> bool
     is_within(row, 0xA1, 0xFE) && is_within(column, 0xA1, 0xFE)
 }
 
-/// The characters of a row and a column in an index.
+/// Returns the characters of a row and a column in an index.
 fn characters(index: &[u16], row: u8, column: u8) -> Characters
     ensures { characters_of result ≡ euc_jp_chars index.now row column }
 {
@@ -90,8 +90,8 @@ fn characters(index: &[u16], row: u8, column: u8) -> Characters
     Characters::Nothing
 }
 
-/// What stands at the front where 8F and a row are the first two bytes.
-fn three(second: &[u16], bytes: &[u8]) -> Front
+/// Returns the front of bytes that begin with 8F and a row.
+fn three(bytes: &[u8], second: &[u16]) -> Front
     requires { 2 ≤ length bytes.now }
     ensures read { taken_of result ≡ (if nat_lt (length bytes.now) 3 then fault 2 else
         whole_or (euc_jp_chars second.now (slice_index bytes.now 1) (slice_index bytes.now 2)) 3
@@ -113,11 +113,11 @@ fn three(second: &[u16], bytes: &[u8]) -> Front
 /// WHATWG Encoding Standard, section 12.1).
 pub(crate) fn decode_euc_jp(
     alloc: Global,
+    bytes: &[u8],
     index: &[u16],
     second: &[u16],
-    bytes: &[u8],
 ) -> Result<String, AllocError>
     ensures { IfOk result (λ t. string_bytes t ≡ euc_jp_text index.now second.now bytes.now) }
 {
-    decode(alloc, &EucJp { index, second }, bytes)
+    decode(alloc, bytes, &EucJp { index, second })
 }

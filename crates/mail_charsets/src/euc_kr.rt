@@ -7,7 +7,7 @@ use crate::encoded::{Encoded, decode};
 use crate::front::{Characters, Front, characters_at, is_within};
 use std::alloc::{AllocError, Global};
 
-/// The encoding, under an index.
+/// The encoding under an index.
 #[derive(Clone, Copy)]
 struct EucKr<'t> {
     index: &'t [u16],
@@ -44,10 +44,10 @@ impl<'t> Encoded for EucKr<'t> {
 /// Returns the text of the bytes in EUC-KR under an index (the WHATWG Encoding Standard, section 13.1).
 pub(crate) fn decode_euc_kr(
     alloc: Global,
-    index: &[u16],
     bytes: &[u8],
+    index: &[u16],
 ) -> Result<String, AllocError>
     ensures { IfOk result (λ t. string_bytes t ≡ euc_kr_text index.now bytes.now) }
 {
-    decode(alloc, &EucKr { index }, bytes)
+    decode(alloc, bytes, &EucKr { index })
 }

@@ -1,15 +1,15 @@
-//! GBK and gb18030, which are read alike (the WHATWG Encoding Standard, sections 10.1 and 10.2).
+//! GBK and gb18030, which decode alike (the WHATWG Encoding Standard, sections 10.1 and 10.2).
 ghost use Rattle.std.specs.Prelude.{◌≡◌, ◌<◌, ◌≤◌, length, IfOk, string_bytes};
 ghost use Rattle.mail_charsets.specs.Front.{characters_of, taken_of};
-ghost use Rattle.mail_charsets.specs.Gb18030.{four_chars, four_pointer, gb18030_column, gb18030_four, gb18030_is_trail, gb18030_long, gb18030_pair, gb18030_single, gb18030_text, range_code};
+ghost use Rattle.mail_charsets.specs.Gb18030.{four_chars, four_pointer, gb18030_four, gb18030_is_trail, gb18030_long, gb18030_pair, gb18030_single, gb18030_text, range_code};
 
 use crate::encoded::{Encoded, decode};
 use crate::front::{
-    Characters, Front, characters_at, characters_of_code, fault, front_or, is_within,
+    Characters, Front, characters_at, characters_of_code, column, fault, front_or, is_within,
 };
 use std::alloc::{AllocError, Global};
 
-/// The encoding, under an index and ranges.
+/// The encoding under an index and ranges.
 #[derive(Clone, Copy)]
 struct Gb18030<'t> {
     index: &'t [u16],
@@ -45,31 +45,22 @@ impl<'t> Encoded for Gb18030<'t> {
 
     fn long(&self, bytes: &[u8]) -> Option<Front> {
         if is_within(bytes[1], 0x30, 0x39) {
-            Some(four(self.ranges, bytes))
+            Some(four(bytes, self.ranges))
         } else {
             None
         }
     }
 }
 
-/// Whether the byte may follow a lead byte.
+/// Returns whether the byte may follow a lead byte.
 fn is_trail(byte: u8) -> bool
     ensures { result ≡ gb18030_is_trail byte }
 {
     is_within(byte, 0x40, 0x7E) || is_within(byte, 0x80, 0xFE)
 }
 
-/// The number of a trail byte.
-fn column(trail: u8) -> usize
-    ensures value { result ≡ gb18030_column trail }
-    ensures bounds { result ≤ 255 }
-{
-    let first = if trail < 0x7F { 0x40 } else { 0x41 };
-    usize::from(trail.saturating_sub(first))
-}
-
-/// What stands at the front where the second byte is a digit.
-fn four(ranges: &[(u16, u16)], bytes: &[u8]) -> Front
+/// Returns the front of bytes of which the second is a digit.
+fn four(bytes: &[u8], ranges: &[(u16, u16)]) -> Front
     requires { 2 ≤ length bytes.now }
     ensures read { taken_of result ≡ gb18030_four ranges.now bytes.now }
     ensures takes_some { 0 < result.taken }
@@ -90,7 +81,7 @@ fn four(ranges: &[(u16, u16)], bytes: &[u8]) -> Front
     front_or(four_characters(ranges, pointer(bytes)), 4, 4)
 }
 
-/// The pointer of four bytes.
+/// Returns the pointer of four bytes.
 fn pointer(bytes: &[u8]) -> u32
     requires { 4 ≤ length bytes.now }
     ensures { result ≡ four_pointer bytes.now }
@@ -102,7 +93,7 @@ fn pointer(bytes: &[u8]) -> u32
     ((first * 10 + second) * 126 + third) * 10 + fourth
 }
 
-/// The characters at a pointer of four bytes.
+/// Returns the characters at a pointer of four bytes.
 fn four_characters(ranges: &[(u16, u16)], pointer: u32) -> Characters
     ensures { characters_of result ≡ four_chars ranges.now pointer }
 {
@@ -118,7 +109,8 @@ fn four_characters(ranges: &[(u16, u16)], pointer: u32) -> Characters
     characters_of_code(0x1_0000 + (pointer - 189000))
 }
 
-/// The code that is counted on from the last range that begins at the pointer or before it, or 0.
+/// Returns the code at a pointer, counted from the last range that begins at it or before it, or 0 if
+/// none does.
 fn code(ranges: &[(u16, u16)], pointer: u32) -> u32
     requires { pointer < 39420 }
     ensures value { result ≡ range_code ranges.now 0 pointer }
@@ -137,12 +129,12 @@ fn code(ranges: &[(u16, u16)], pointer: u32) -> u32
 /// section 10.2).
 pub(crate) fn decode_gb18030(
     alloc: Global,
+    bytes: &[u8],
     index: &[u16],
     ranges: &[(u16, u16)],
-    bytes: &[u8],
 ) -> Result<String, AllocError>
     ensures { IfOk result
         (λ t. string_bytes t ≡ gb18030_text index.now ranges.now bytes.now) }
 {
-    decode(alloc, &Gb18030 { index, ranges }, bytes)
+    decode(alloc, bytes, &Gb18030 { index, ranges })
 }

@@ -2,18 +2,20 @@
 
 use crate::tables;
 
-/// What an encoding reads its characters from. An index has the code of a character at each pointer,
-/// and 0 where it has none.
-#[derive(Clone, Copy)]
+/// The indexes from which the encodings take their characters. An index maps each pointer to the code
+/// of a character, or to 0 if it has no character there.
+///
+/// As known charsets, they know all encodings of this crate except for replacement.
+#[derive(Clone, Copy, Debug)]
 pub struct Indexes<'t> {
     /// The index of GBK and gb18030.
     pub gb18030: &'t [u16],
-    /// The ranges of gb18030 up to the pointer 39419: pointers of four bytes, rising, each with the
-    /// code of the character at it.
+    /// The ranges of gb18030 up to pointer 39419: pointers of four bytes in ascending order, each with
+    /// the code of its character.
     pub gb18030_ranges: &'t [(u16, u16)],
-    /// The index of Big5, in which 0xD800 + n stands for the entry n of the plane.
+    /// The index of Big5, in which 0xD800 + n refers to entry n of `big5_plane`.
     pub big5: &'t [u16],
-    /// The codes of characters of Big5 from U+20000 on, less that number.
+    /// The codes of the characters of Big5 from U+20000 onwards, minus 0x20000.
     pub big5_plane: &'t [u16],
     /// The index of JIS X 0208.
     pub jis_0208: &'t [u16],

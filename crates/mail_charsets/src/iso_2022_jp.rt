@@ -1,15 +1,15 @@
-//! ISO-2022-JP, in which escapes choose a mode (the WHATWG Encoding Standard, section 12.2).
+//! ISO-2022-JP, in which escape sequences select a mode (the WHATWG Encoding Standard, section 12.2).
 ghost use Rattle.std.specs.Prelude.{◌≡◌, ◌<◌, ◌≤◌, ◌++◌, length, take, drop, IsUtf8, IfOk, IfSome, if◌then◌else◌, [], ◌∷◌, string_bytes};
 ghost use Rattle.mail_charsets.specs.Front.{characters_of, taken_of};
 ghost use Rattle.mail_charsets.specs.Iso2022Jp.{ascii_or, escape, iso_2022_jp_text, jp_chars, jp_front, jp_pair, jp_step, jp_text_from, katakana_or, roman_or};
 
 use crate::front::{
-    BUFFER, Characters, Front, MOST, characters_at, fault, front_or, is_within, offset_char,
-    push_made, put_characters,
+    BUFFER, Characters, Front, LONGEST, characters_at, fault, front_or, is_within, offset_char,
+    push_utf8, put_characters,
 };
 use std::alloc::{AllocError, Global};
 
-/// What the bytes after an escape are.
+/// The kind of the bytes after an escape.
 #[derive(Clone, Copy)]
 enum Mode {
     /// ASCII.
@@ -22,11 +22,12 @@ enum Mode {
     Pairs,
 }
 
-/// What the bytes so far say of those that follow.
+/// The state of the decoder between two bytes.
 #[derive(Clone, Copy)]
 struct State {
+    /// The mode of the bytes that follow.
     mode: Mode,
-    /// Whether an escape stands right before.
+    /// Whether an escape comes right before.
     fresh: bool,
 }
 
@@ -34,8 +35,8 @@ struct State {
 /// Standard, section 12.2).
 pub(crate) fn decode_iso_2022_jp(
     alloc: Global,
-    index: &[u16],
     bytes: &[u8],
+    index: &[u16],
 ) -> Result<String, AllocError>
     ensures { IfOk result (λ t. string_bytes t ≡ iso_2022_jp_text index.now bytes.now) }
 {
@@ -47,28 +48,28 @@ pub(crate) fn decode_iso_2022_jp(
     };
     let mut rest = bytes;
     'rest: while !rest.is_empty() {
-        let written = encode_steps(&mut buffer, index, state, rest);
-        push_made(&mut text, &buffer[..written.made])?;
+        let written = encode_steps(&mut buffer, rest, index, state);
+        push_utf8(&mut text, &buffer[..written.made])?;
         rest = &rest[written.taken..];
         state = written.state;
     }
     Ok(text)
 }
 
-/// What was read and written of the bytes.
+/// What was read and written.
 #[derive(Clone, Copy)]
 struct Written {
-    /// How many bytes were read.
+    /// The number of bytes that were read.
     taken: usize,
-    /// How many bytes of text were written.
+    /// The number of bytes of text that were written.
     made: usize,
     /// The state after them.
     state: State,
 }
 
-/// Writes the text of as many bytes as there is room for.
-fn encode_steps(buffer: &mut [u8], index: &[u16], state: State, bytes: &[u8]) -> Written
-    requires room { 8 ≤ length buffer.old }
+/// Writes the text of as many bytes as fit into the buffer.
+fn encode_steps(buffer: &mut [u8], bytes: &[u8], index: &[u16], state: State) -> Written
+    requires capacity { 8 ≤ length buffer.old }
     requires some { 0 < length bytes.now }
     ensures written { jp_text_from index.now state bytes.now ≡ take result.made buffer.new
         ++ jp_text_from index.now result.state (drop result.taken bytes.now) }
@@ -80,8 +81,8 @@ fn encode_steps(buffer: &mut [u8], index: &[u16], state: State, bytes: &[u8]) ->
     let mut taken = 0;
     let mut at = 0;
     let mut state = state;
-    'steps: while taken < bytes.len() && MOST <= buffer.len() - at {
-        let (front, next) = step(index, state, &bytes[taken..]);
+    'steps: while taken < bytes.len() && LONGEST <= buffer.len() - at {
+        let (front, next) = step(&bytes[taken..], index, state);
         at = put_characters(buffer, at, front.characters);
         taken += front.taken;
         state = next;
@@ -93,8 +94,8 @@ fn encode_steps(buffer: &mut [u8], index: &[u16], state: State, bytes: &[u8]) ->
     }
 }
 
-/// What stands at the front of the bytes, and the state after it.
-fn step(index: &[u16], state: State, bytes: &[u8]) -> (Front, State)
+/// Returns the front of the bytes, and the state after it.
+fn step(bytes: &[u8], index: &[u16], state: State) -> (Front, State)
     requires { 0 < length bytes.now }
     ensures read { (taken_of result.0, result.1) ≡ jp_step index.now state bytes.now }
     ensures takes_some { 0 < result.0.taken }
@@ -103,13 +104,13 @@ fn step(index: &[u16], state: State, bytes: &[u8]) -> (Front, State)
     match escape(bytes) {
         Some(mode) => {
             let front = Front {
-                characters: mark(state.fresh),
+                characters: escape_characters(state.fresh),
                 taken: 3,
             };
             (front, State { mode, fresh: true })
         }
         None => {
-            let front = front_in(index, state.mode, bytes);
+            let front = front_in(bytes, index, state.mode);
             (
                 front,
                 State {
@@ -121,8 +122,8 @@ fn step(index: &[u16], state: State, bytes: &[u8]) -> (Front, State)
     }
 }
 
-/// What an escape adds to the text: U+FFFD where another stands right before it.
-fn mark(fresh: bool) -> Characters
+/// Returns the characters of an escape: U+FFFD if another comes right before it, and none otherwise.
+fn escape_characters(fresh: bool) -> Characters
     ensures { characters_of result ≡ (if fresh then 0xFFFD ∷ [] else []) }
 {
     if fresh {
@@ -132,7 +133,7 @@ fn mark(fresh: bool) -> Characters
     }
 }
 
-/// The mode that an escape at the front begins.
+/// Returns the mode that an escape at the front selects, or `None` if there is no escape.
 fn escape(bytes: &[u8]) -> Option<Mode>
     ensures mode { result ≡ escape bytes.now }
     ensures bounds { IfSome result (λ mode. 3 ≤ length bytes.now) }
@@ -149,8 +150,8 @@ fn escape(bytes: &[u8]) -> Option<Mode>
     }
 }
 
-/// What stands at the front in a mode, where no escape does.
-fn front_in(index: &[u16], mode: Mode, bytes: &[u8]) -> Front
+/// Returns the front in a mode, if it is not an escape.
+fn front_in(bytes: &[u8], index: &[u16], mode: Mode) -> Front
     requires { 0 < length bytes.now }
     ensures read { taken_of result ≡ jp_front index.now mode bytes.now }
     ensures takes_some { 0 < result.taken }
@@ -160,11 +161,11 @@ fn front_in(index: &[u16], mode: Mode, bytes: &[u8]) -> Front
         Mode::Ascii => single(ascii(bytes[0])),
         Mode::Roman => single(roman(bytes[0])),
         Mode::Katakana => single(katakana(bytes[0])),
-        Mode::Pairs => pair(index, bytes),
+        Mode::Pairs => pair(bytes, index),
     }
 }
 
-/// A byte that is a character.
+/// Returns the front of one byte that is this character.
 fn single(character: char) -> Front
     ensures read { taken_of result ≡ (character ∷ [], 1) }
     ensures taken { result.taken ≡ 1 }
@@ -175,7 +176,7 @@ fn single(character: char) -> Front
     }
 }
 
-/// The character of a byte in the mode of ASCII.
+/// Returns the character of a byte in the ASCII mode.
 fn ascii(byte: u8) -> char
     ensures { result ≡ ascii_or byte }
 {
@@ -185,7 +186,7 @@ fn ascii(byte: u8) -> char
     byte as char
 }
 
-/// The character of a byte in the Roman mode.
+/// Returns the character of a byte in the Roman mode.
 fn roman(byte: u8) -> char
     ensures { result ≡ roman_or byte }
 {
@@ -198,7 +199,7 @@ fn roman(byte: u8) -> char
     ascii(byte)
 }
 
-/// The character of a byte in the mode of katakana.
+/// Returns the character of a byte in the katakana mode.
 fn katakana(byte: u8) -> char
     ensures { result ≡ katakana_or byte }
 {
@@ -209,8 +210,8 @@ fn katakana(byte: u8) -> char
     }
 }
 
-/// What stands at the front in the mode of pairs.
-fn pair(index: &[u16], bytes: &[u8]) -> Front
+/// Returns the front in the mode of pairs.
+fn pair(bytes: &[u8], index: &[u16]) -> Front
     requires { 0 < length bytes.now }
     ensures read { taken_of result ≡ jp_pair index.now bytes.now }
     ensures takes_some { 0 < result.taken }
@@ -228,7 +229,7 @@ fn pair(index: &[u16], bytes: &[u8]) -> Front
     front_or(characters(index, bytes[0], bytes[1]), 2, 2)
 }
 
-/// The characters of a row and a column.
+/// Returns the characters of a row and a column.
 fn characters(index: &[u16], row: u8, column: u8) -> Characters
     ensures { characters_of result ≡ jp_chars index.now row column }
 {

@@ -1,4 +1,4 @@
-//! What the definitions mean, as laws over all bytes and all indexes.
+//! The meaning of the definitions, as laws over all bytes and all indexes.
 //!
 //! Each function does nothing; its contract is the law.
 ghost use Rattle.std.specs.Prelude.{◌≡◌, true, ◌∷◌, [], ◌++◌, ℕ, ◌<◌, List, Option, drop, length, slice_index, encode_utf8_all};
@@ -11,7 +11,7 @@ ghost use Rattle.mail_charsets.specs.Big5.{big5_front};
 ghost use Rattle.mail_charsets.specs.EucJp.{euc_jp_front};
 
 /// The text of bytes is that of the characters at their front, and then that of the bytes right
-/// after those that the characters take. So every byte is read once, and none twice.
+/// after those that these characters take. So every byte is read exactly once.
 pub fn every_byte_is_read_once()
     ensures { (front : List ℕ → Taken) (bytes : List ℕ) → 0 < length bytes → 0 < (front bytes).1
         → text_by front bytes
@@ -26,7 +26,8 @@ pub fn ascii_stays_ascii()
         → front_by long single pairs bytes ≡ (slice_index bytes 0 ∷ [], 1) }
 {}
 
-/// The characters at the front take at least one byte, at most four, and no more than there are.
+/// The characters at the front take at least one byte, at most four, and no more than there are
+/// bytes.
 pub fn at_most_four_bytes_are_taken()
     ensures euc_kr { (index bytes : List ℕ) → 0 < length bytes
         → TakesFew (length bytes) (euc_kr_front index bytes) }

@@ -1,10 +1,11 @@
-//! The encodings of the WHATWG Encoding Standard that `mail_codec` leaves out. Those of single bytes
-//! (sections 4.2 and 9) are tables with all their labels. GBK, gb18030, Big5, EUC-JP, ISO-2022-JP,
-//! Shift_JIS and EUC-KR, in which a character may take several bytes, are an `Encoding` each, as are
-//! x-user-defined and the replacement encoding.
+//! The encodings of the WHATWG Encoding Standard that `mail_codec` leaves out. The single-byte
+//! encodings (sections 4.2 and 9) are tables with all their labels. GBK, gb18030, Big5, EUC-JP,
+//! ISO-2022-JP, Shift_JIS and EUC-KR, in which a character may take several bytes, are values of
+//! `Encoding`, as are x-user-defined and the replacement encoding.
 //!
 //! Pass all of the tables, or a few, to the calls of `mailparse` that take tables; a byte that has no
-//! character in an encoding is U+FFFD. `AllCharsets` is all charsets of the standard as one value.
+//! character in an encoding is U+FFFD. `AllCharsets` knows all charsets of the standard; the pair
+//! `(tables, Indexes::standard())` knows the tables of a caller and the encodings of several bytes.
 //!
 //! # Examples
 //!
@@ -14,7 +15,7 @@
 //!
 //! let encoding = Encoding::for_label(b"GB2312").ok_or("an unknown label")?;
 //! let indexes = Indexes::standard();
-//! let text = encoding.decode_under(alloc, &indexes, b"\xC4\xE3\xBA\xC3")?;
+//! let text = encoding.decode_under(alloc, b"\xC4\xE3\xBA\xC3", &indexes)?;
 //! assert_eq!(rt; text.as_str(), "你好");
 //!
 //! let number = table_for_label(b"KOI8-R", &TABLES).ok_or("an unknown label")?;
@@ -40,7 +41,7 @@ mod single_byte;
 mod tables;
 mod x_user_defined;
 
-pub use self::all::{AllCharsets, AnyCharset};
+pub use self::all::{AllCharsets, IndexedEncoding};
 pub use self::encoding::Encoding;
 pub use self::indexes::Indexes;
 pub use self::single_byte::{

@@ -1,13 +1,15 @@
 //! Shift_JIS (the WHATWG Encoding Standard, section 12.3).
 ghost use Rattle.std.specs.Prelude.{◌≡◌, ◌≤◌, IfOk, string_bytes};
 ghost use Rattle.mail_charsets.specs.Front.{no_long, characters_of};
-ghost use Rattle.mail_charsets.specs.ShiftJis.{shift_jis_chars, shift_jis_column, shift_jis_is_lead, shift_jis_is_trail, shift_jis_pair, shift_jis_row, shift_jis_single, shift_jis_text};
+ghost use Rattle.mail_charsets.specs.ShiftJis.{shift_jis_chars, shift_jis_is_lead, shift_jis_is_trail, shift_jis_pair, shift_jis_row, shift_jis_single, shift_jis_text};
 
 use crate::encoded::{Encoded, decode};
-use crate::front::{Characters, Front, characters_at, characters_of_code, is_within, offset_char};
+use crate::front::{
+    Characters, Front, characters_at, characters_of_code, column, is_within, offset_char,
+};
 use std::alloc::{AllocError, Global};
 
-/// The encoding, under the index of JIS X 0208.
+/// The encoding under the index of JIS X 0208.
 #[derive(Clone, Copy)]
 struct ShiftJis<'t> {
     index: &'t [u16],
@@ -47,21 +49,21 @@ impl<'t> Encoded for ShiftJis<'t> {
     }
 }
 
-/// Whether the byte is a lead byte.
+/// Returns whether the byte is a lead byte.
 fn is_lead(byte: u8) -> bool
     ensures { result ≡ shift_jis_is_lead byte }
 {
     is_within(byte, 0x81, 0x9F) || is_within(byte, 0xE0, 0xFC)
 }
 
-/// Whether the byte may follow a lead byte.
+/// Returns whether the byte may follow a lead byte.
 fn is_trail(byte: u8) -> bool
     ensures { result ≡ shift_jis_is_trail byte }
 {
     is_within(byte, 0x40, 0x7E) || is_within(byte, 0x80, 0xFC)
 }
 
-/// The number of a lead byte.
+/// Returns the row of a lead byte.
 fn row(lead: u8) -> usize
     ensures value { result ≡ shift_jis_row lead }
     ensures bounds { result ≤ 255 }
@@ -70,16 +72,7 @@ fn row(lead: u8) -> usize
     usize::from(lead.saturating_sub(first))
 }
 
-/// The number of a trail byte.
-fn column(trail: u8) -> usize
-    ensures value { result ≡ shift_jis_column trail }
-    ensures bounds { result ≤ 255 }
-{
-    let first = if trail < 0x7F { 0x40 } else { 0x41 };
-    usize::from(trail.saturating_sub(first))
-}
-
-/// The characters at a pointer.
+/// Returns the characters at a pointer.
 fn characters(index: &[u16], pointer: usize) -> Characters
     ensures { characters_of result ≡ shift_jis_chars index.now pointer }
 {
@@ -94,10 +87,10 @@ fn characters(index: &[u16], pointer: usize) -> Characters
 /// Standard, section 12.3).
 pub(crate) fn decode_shift_jis(
     alloc: Global,
-    index: &[u16],
     bytes: &[u8],
+    index: &[u16],
 ) -> Result<String, AllocError>
     ensures { IfOk result (λ t. string_bytes t ≡ shift_jis_text index.now bytes.now) }
 {
-    decode(alloc, &ShiftJis { index }, bytes)
+    decode(alloc, bytes, &ShiftJis { index })
 }

@@ -2,7 +2,7 @@
 
 use mail_codec::charset::SingleByteTable;
 
-/// All the tables, in the order in which the standard lists their encodings.
+/// All tables, in the order in which the standard lists their encodings.
 pub const TABLES: [SingleByteTable<'static>; 27] = [
     IBM866,
     ISO_8859_2,
@@ -33,7 +33,7 @@ pub const TABLES: [SingleByteTable<'static>; 27] = [
     X_MAC_CYRILLIC,
 ];
 
-/// Those of ISO 8859.
+/// The tables of ISO 8859.
 pub(crate) const ISO_8859_TABLES: [SingleByteTable<'static>; 13] = [
     ISO_8859_2,
     ISO_8859_3,
@@ -50,7 +50,7 @@ pub(crate) const ISO_8859_TABLES: [SingleByteTable<'static>; 13] = [
     ISO_8859_16,
 ];
 
-/// Those of Windows.
+/// The tables of Windows.
 pub(crate) const WINDOWS_TABLES: [SingleByteTable<'static>; 9] = [
     WINDOWS_874,
     WINDOWS_1250,
@@ -63,7 +63,7 @@ pub(crate) const WINDOWS_TABLES: [SingleByteTable<'static>; 9] = [
     WINDOWS_1258,
 ];
 
-/// All others.
+/// The other tables.
 pub(crate) const OTHER_TABLES: [SingleByteTable<'static>; 5] = [
     IBM866,
     KOI8_R,

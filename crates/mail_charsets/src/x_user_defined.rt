@@ -17,7 +17,7 @@ pub(crate) fn decode_x_user_defined(alloc: Global, bytes: &[u8]) -> Result<Strin
     Ok(text)
 }
 
-/// The character of a byte.
+/// Returns the character of a byte.
 fn character(byte: u8) -> char
     ensures { result ≡ x_user_defined_char byte }
 {

@@ -10,7 +10,6 @@ pub mod Pairs
 pub mod Blocks
 pub mod CharsetUtf8
 pub mod CharsetLabels
-pub mod CharsetMarks
 pub mod CharsetSingleByte
 pub mod Tables
 pub mod CharsetUtf16

@@ -2,7 +2,7 @@
 -- the same for the bytes after those (the WHATWG Encoding Standard, section 4.1).
 use Rattle.std.specs.Prelude.{ℕ, zero, suc, ◌-◌, List, [], ◌∷◌, ◌++◌, encode_utf8_all}
 
--- characters, and how many bytes they take
+-- characters, and the number of bytes they take
 abbrev pub Taken : Type 0
 Taken = List ℕ × ℕ
 

@@ -3,7 +3,6 @@ pub mod Places
 pub mod Latin1
 pub mod Charset
 pub mod Tables
-pub mod Known
 pub mod Front
 pub mod Utf7
 pub mod Base64

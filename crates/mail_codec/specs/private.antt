@@ -4,6 +4,5 @@ pub mod Words
 pub mod Vectors
 pub mod Padded
 pub mod Utf16
-pub mod ByteOrderMarks
 pub mod Base64
 pub mod QuotedPrintable

@@ -75,7 +75,7 @@ struct Saver<'r, R, W> {
     /// Whether lines have the SHA-256 of what was saved.
     hashes: bool,
     /// The charsets that mails are read in.
-    known: AllCharsets<'static>,
+    known: AllCharsets,
     /// What takes the lines.
     out: W,
 }

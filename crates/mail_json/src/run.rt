@@ -249,7 +249,7 @@ fn write_part<R: Read + Seek, W: Write>(
 }
 
 /// The charsets in which mails are read: all those of the Encoding Standard.
-fn charsets() -> AllCharsets<'static> {
+fn charsets() -> AllCharsets {
     AllCharsets::standard()
 }
 

@@ -37,7 +37,7 @@ fn decoded(alloc: Global, label: &str, input: &[u8]) -> Result<usize, MailParseE
 /// The text of the input in the encoding of several bytes that has this label, if one has it.
 pub fn text_of(alloc: Global, label: &str, input: &[u8]) -> Result<Option<String>, AllocError> {
     match Encoding::for_label(label.as_bytes()) {
-        Some(encoding) => Ok(Some(encoding.decode_under(alloc, &Indexes::standard(), input)?)),
+        Some(encoding) => Ok(Some(encoding.decode_under(alloc, input, &Indexes::standard())?)),
         None => Ok(None),
     }
 }

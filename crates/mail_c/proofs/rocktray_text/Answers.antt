@@ -1,5 +1,5 @@
-use Rattle.std.proofs.Common.{◌≡◌, refl, ◌++◌}
-use Rattle.mail_charsets.specs.All.{charsets_of}
+use Rattle.std.proofs.Common.{◌≡◌, refl}
+use Rattle.mail_charsets.specs.All.{all_known}
 use Rattle.mail_c.specs.Calls.{text}
 use Rattle.mail_c.specs.Room.{Found}
 use Rattle.mail_c.proofs.lemmas.Room.{ends, gives}
@@ -7,8 +7,7 @@ use Rattle.mail_c.proofs.rocktray_text.Goals as goal
 
 pub returns : goal.returns
 returns c =
-    let all = c.charsets.result in
-    let known = charsets_of (all.iso_8859.now ++ (all.windows.now ++ all.others.now)) all.indexes in
+    let known = all_known c.charsets.result in
     let given = text known c.args.part.now in
     let found = gives (λ (found : Found). given ≡ found) given c.text.result refl c.text.ensures in
     (known, ends (λ (found : Found). given ≡ found) c.text.result _ _ _ _ _ found c.leave.ensures)

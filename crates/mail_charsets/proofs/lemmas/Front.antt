@@ -52,7 +52,7 @@ text_ascii long single pairs (suc n) (b ∷ bs) low =
     ∙ ap (λ xs. xs ++ text_by (front_by long single pairs) bs) (encodes-IsAscii (b ∷ []) (elim [ zero ↦ low 0 | suc k ↦ omega arith ]))
     ∙ ap (λ xs. b ∷ xs) (text_ascii long single pairs n bs (λ k. low (suc k)))
 
--- what was pushed of the bytes is their text up to there
+-- appending a run of ASCII bytes keeps the whole text
 pub ascii_pushed : (long : List ℕ → Option Taken) (single : ℕ → Option ℕ) (pairs : ℕ → ℕ → List ℕ) (n : ℕ) (bs made pushed : List ℕ) → IsAscii (take n bs)
     → pushed ≡ made ++ take n bs → pushed ++ text_by (front_by long single pairs) (drop n bs) ≡ made ++ text_by (front_by long single pairs) bs
 ascii_pushed long single pairs n bs made pushed low is =
@@ -72,7 +72,7 @@ fewer_left bs n takes some = rw (take_rest, length-drop) (omega (arith, takes, s
 pub some_after : (bs : List ℕ) (n : ℕ) → n < length bs → 0 < length (take (length bs - n) (drop n bs))
 some_after bs n within = rw (take_rest, length-drop) (omega (arith, within))
 
--- one front more is written
+-- one more front is written
 pub text_written : (front : List ℕ → Taken) (bs made pushed total cs : List ℕ) (taken n : ℕ) → total ≡ made ++ text_by front (drop taken bs)
     → pushed ≡ made ++ encode_utf8_all cs → 0 < length (drop taken bs) → 0 < n → (cs, n) ≡ front (drop taken bs)
     → total ≡ pushed ++ text_by front (drop (taken + n) bs)

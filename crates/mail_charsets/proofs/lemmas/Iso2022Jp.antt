@@ -5,7 +5,7 @@ use Rattle.mail_codec.specs.Front.{Taken}
 use Rattle.mail_charsets.specs.Iso2022Jp.{jp_after, jp_step, jp_text_from}
 use Rattle.mail_charsets.specs.declared.iso_2022_jp.State.{State}
 
--- bytes that have been read already are passed over
+-- bytes that have been read already are skipped
 skips : (n : ℕ) (index : List ℕ) (state : State) (bs : List ℕ) → jp_after n index state bs ≡ jp_after 0 index state (drop n bs)
 skips zero index state bs = refl
 skips (suc n) index state [] = refl
@@ -33,14 +33,14 @@ unfolding jp_text_from
 text_done index state made [] total none h = sym (append-nil made) ∙ h
 text_done index state made (b ∷ rest) total none h = absurd (omega (arith, none))
 
--- one step more is written
+-- one more step is written
 pub text_written : (index : List ℕ) (state next : State) (bs made pushed total cs : List ℕ) (taken n : ℕ) → total ≡ made ++ jp_text_from index state (drop taken bs)
     → pushed ≡ made ++ encode_utf8_all cs → 0 < length (drop taken bs) → 0 < n → ((cs, n), next) ≡ jp_step index state (drop taken bs)
     → total ≡ pushed ++ jp_text_from index next (drop (taken + n) bs)
 text_written index state next bs made pushed total cs taken n all one some takes is =
     rw (all, one, text_step index state next (drop taken bs) cs n some takes is, drop-drop, append_assoc) refl
 
--- what was written of the rest is appended
+-- the steps that were written are appended
 pub steps_pushed : (index : List ℕ) (state next : State) (bs made written total : List ℕ) (n : ℕ)
     → jp_text_from index state bs ≡ written ++ jp_text_from index next (drop n bs) → made ++ jp_text_from index state bs ≡ total
     → (made ++ written) ++ jp_text_from index next (drop n bs) ≡ total

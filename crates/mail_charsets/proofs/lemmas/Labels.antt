@@ -1,11 +1,11 @@
--- The encoding that has a label, where labels are held by reference.
+-- The encoding that has a label, among labels behind references.
 use Rattle.std.proofs.Common.{◌≡◌, ◌∙◌, ℕ, Bool, true, false, cond, List, [], ◌∷◌, map, Option, None, Some, option_map, refl, ap, Bor}
 use Rattle.std.specs.Prelude.{find}
 use Rattle.std.proofs.lemmas.Iterator.{YieldsList}
 use Rattle.mail_codec.specs.Charset.{is_among_labels}
 use Rattle.mail_charsets.specs.declared.encoding.Encoding.{Encoding}
 
--- an encoding with its labels, as the code holds them, and as a list
+-- an encoding with its labels, as the code has them, and as a list
 abbrev pub Row : Type 0
 Row = Encoding × Bor (List (Bor (List ℕ)))
 
@@ -27,7 +27,7 @@ listed_found : (label : List ℕ) (rows : List Row)
 listed_found label [] = refl
 listed_found label (row ∷ rows) = one_of (has label row) row _ _ (listed_found label rows)
 
--- what a search through all rows finds
+-- the result of a search through all rows
 pub row_found : {S A : Type 0} {steps : S → Option A → S → Type 0} {v : A → Row} {s : S} {rows : List Row} (label : List ℕ)
     → YieldsList steps v s rows → (row : Option A) → option_map v row ≡ find (has label) rows
     → option_map (λ x. (v x).0) row ≡ option_map (λ r. r.0) (find (λ r. is_among_labels r.1 label) (map row_of rows))

@@ -3,7 +3,7 @@ use Rattle.std.proofs.Common.{◌≡◌, ℕ, ◌+◌, ◌<◌, ◌≤◌, List,
 use Rattle.std.specs.Prelude.{encode_utf8}
 use Rattle.std.proofs.lemmas.List.{drop_all, drop_more}
 
--- the character of one byte more is appended
+-- the character of one more byte is appended
 pub char_pushed : (f : ℕ → ℕ) (bs made total : List ℕ) (i : ℕ) → i < length bs → made ++ encode_utf8_all (map f (drop i bs)) ≡ total
     → (made ++ encode_utf8 (f (get_or bs i 0))) ++ encode_utf8_all (map f (drop (i + 1) bs)) ≡ total
 char_pushed f bs made total i within all =

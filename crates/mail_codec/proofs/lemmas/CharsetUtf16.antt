@@ -14,7 +14,7 @@ first_unit order bs = order (get_or bs 0 0) (get_or bs 1 0)
 abbrev pub second_unit : (ℕ → ℕ → ℕ) → List ℕ → ℕ
 second_unit order bs = order (get_or bs 2 0) (get_or bs 3 0)
 
--- the characters of units, and what an odd last byte adds
+-- the characters of units, and the one of an odd last byte
 abbrev pub chars_of : List ℕ → Bool → List ℕ
 chars_of us odd = utf16_lossy_chars us ++ cond (odd && not (ends_in_high us)) (replacement ∷ []) []
 
@@ -37,7 +37,7 @@ ends_alike : (u : ℕ) (us : List ℕ) → is_high_surrogate u ≡ false → end
 ends_alike u [] low = low
 ends_alike u (v ∷ us) low = refl
 
--- a unit that begins no pair
+-- a unit that does not begin a pair
 lone : (u : ℕ) (us : List ℕ) (odd : Bool) → ¬ (IsPair u (get_or us 0 0)) → ends_in_high (u ∷ us) ≡ ends_in_high us
     → chars_of (u ∷ us) odd ≡ unwrap_or (lone_unit_char u) replacement ∷ chars_of us odd
 lone u us odd single ends = rw (utf16_chars_lone u us single, ends) refl
@@ -45,13 +45,13 @@ lone u us odd single ends = rw (utf16_chars_lone u us single, ends) refl
 lone_unit : (u : ℕ) (us : List ℕ) (odd : Bool) → is_high_surrogate u ≡ false → chars_of (u ∷ us) odd ≡ unwrap_or (lone_unit_char u) replacement ∷ chars_of us odd
 lone_unit u us odd low = lone u us odd (λ p. absurd (true≢false (sym (high_is u p.0 p.1) ∙ low))) (ends_alike u us low)
 
--- a first of a pair with no second after it
+-- a high surrogate without a low one after it
 unpaired : (u v : ℕ) (us : List ℕ) (odd : Bool) → is_high_surrogate u ≡ true → is_low_surrogate v ≡ false → chars_of (u ∷ v ∷ us) odd ≡ replacement ∷ chars_of (v ∷ us) odd
 unpaired u v us odd high other =
     lone u (v ∷ us) odd (λ p. absurd (true≢false (sym (low_is v p.2 p.3) ∙ other))) refl
     ∙ ap (λ o. unwrap_or o replacement ∷ chars_of (v ∷ us) odd) (high_alone u high)
 
--- a first of a pair at the end, with an odd byte or none
+-- a high surrogate at the end, followed by at most one byte
 cut : (u : ℕ) (odd : Bool) → is_high_surrogate u ≡ true → chars_of (u ∷ []) odd ≡ replacement ∷ chars_of [] false
 cut u true high = rw (utf16_chars_lone u [] (λ p. absurd (omega (arith, p.2))), high_alone u high, high) refl
 cut u false high = rw (utf16_chars_lone u [] (λ p. absurd (omega (arith, p.2))), high_alone u high) refl
@@ -96,7 +96,7 @@ chars_paired order (a ∷ b ∷ []) four high low = absurd (omega (arith, four))
 chars_paired order (a ∷ b ∷ d ∷ []) four high low = absurd (omega (arith, four))
 chars_paired order (a ∷ b ∷ d ∷ e ∷ bs) four high low = paired (order a b) (order d e) (units order bs) (has_odd_end bs) high low
 
--- a unit that is a character, and a surrogate that is not the first of a pair
+-- a unit that is a character, and a low surrogate
 character_low : (u : ℕ) → InScalarRange u → is_high_surrogate u ≡ false
 character_low u (inl h) = grind (arith, nat_tests)
 character_low u (inr h) = grind (arith, nat_tests)
@@ -111,7 +111,7 @@ chars_character order bs two range =
     chars_lone order bs two (character_low (first_unit order bs) range)
     ∙ ap (λ o. unwrap_or o replacement ∷ utf_16_chars order (drop 2 bs)) (character_alone (first_unit order bs) range)
 
--- a unit that is not a character, as the range of its values says it
+-- the range of a unit that is not a character
 surrogate_high : (u : ℕ) → OutOfScalarRange u → u < 0xDC00 → is_high_surrogate u ≡ true
 surrogate_high u (inl h) below = high_is u (omega arith) below
 surrogate_high u (inr h) below = absurd (omega arith)
@@ -133,7 +133,7 @@ pub chars_end : (order : ℕ → ℕ → ℕ) (bs : List ℕ) → 2 ≤ length b
     → utf_16_chars order bs ≡ replacement ∷ utf_16_chars order (drop (length bs) bs)
 chars_end order bs two four range below = chars_cut order bs two four (surrogate_high (first_unit order bs) range below)
 
--- what the pair of the first two units gives
+-- the character of the pair that the first two units make
 abbrev pub pair_char : ℕ → ℕ → Option ℕ
 pair_char u v = cond (is_low_surrogate v) (Some (surrogate_pair_char u v)) None
 
@@ -163,7 +163,7 @@ pub chars_done : (order : ℕ → ℕ → ℕ) (made rest total : List ℕ) → 
 chars_done order made [] total none h = sym (append-nil made) ∙ (rw utf16_chars-nil at h)
 chars_done order made (b ∷ rest) total none h = absurd (omega (arith, none))
 
--- one character more is written
+-- one more character is written
 pub chars_written : (order : ℕ → ℕ → ℕ) (bs made pushed total : List ℕ) (taken n character : ℕ)
     → total ≡ made ++ encode_utf8_all (utf_16_chars order (drop taken bs)) → pushed ≡ made ++ encode_utf8 character
     → utf_16_chars order (drop taken bs) ≡ character ∷ utf_16_chars order (drop n (drop taken bs))

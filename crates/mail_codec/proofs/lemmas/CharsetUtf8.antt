@@ -1,4 +1,4 @@
--- A character written into a buffer byte by byte.
+-- A character written into a buffer, byte by byte.
 use Rattle.std.proofs.Common.{◌≡◌, ℕ, ◌+◌, ◌/◌, ◌%◌, ◌<◌, ◌≤◌, List, [], ◌∷◌, ◌++◌, take, set, length, refl, append_assoc, arith, ltb, true, false, length-set}
 use Rattle.std.specs.Char.{encode_utf8}
 use Rattle.std.proofs.lemmas.Bool.Decides.{nat_tests}
@@ -22,7 +22,7 @@ pub encode_four : (c : ℕ) → 65536 ≤ c → encode_utf8 c ≡ (240 + c / 262
 unfolding encode_utf8
 encode_four c from = let more : 128 ≤ c = omega arith in let most : 2048 ≤ c = omega arith in rw (no_less c 128 more, no_less c 2048 most, no_less c 65536 from) refl
 
--- what stands at the front once some bytes are written in a row
+-- the front of a buffer after some bytes are written in a row
 pub stored_two : (xs : List ℕ) (n a b : ℕ) → n + 4 ≤ length xs → take (n + 2) (set (set xs n a) (n + 1) b) ≡ take n xs ++ a ∷ b ∷ []
 stored_two xs n a b h =
     let e : n + 2 ≡ (n + 1) + 1 = omega arith in

@@ -7,16 +7,16 @@ use Rattle.std.specs.Char.Utf16.{utf16_lossy_chars}
 use Rattle.std.proofs.lemmas.Bool.Decides.{nat_tests}
 use Rattle.std.proofs.lemmas.List.Sums.{prefix_len-le-length}
 use Rattle.std.proofs.lemmas.Str.{encodes-append, encodes-IsAscii}
-use Rattle.mail_codec.specs.Charset.{Charsets, ascii_char, is_among_labels, replacement, trimmed_label}
+use Rattle.mail_codec.specs.Charset.{ascii_char, replacement}
 use Rattle.mail_codec.specs.Front.{text_by}
-use Rattle.mail_codec.specs.Utf7.{and_utf_7, ends_whole, four_letters, is_direct, letters_chars, letters_length, shifted, shifted_by, shifted_chars, unit_at, units_count, utf7_front, utf7_text, utf_7_labels}
+use Rattle.mail_codec.specs.Utf7.{ends_whole, four_letters, is_direct, letters_chars, letters_length, shifted, shifted_by, shifted_chars, unit_at, units_count, utf7_front, utf7_text}
 use Rattle.mail_codec.proofs.lemmas.Front.{text_front}
 
--- the unit of a number stands in the letters of its group of eight
-unit_in : (letters : List ℕ) (number place shift : ℕ) → 16 * number / 6 ≡ place → 16 * number % 6 ≡ shift
-    → four_letters letters place / 2 ^ (8 - shift) % 2 ^ 16 ≡ unit_at letters number
+-- a unit lies in the letters of its group of eight
+unit_in : (letters : List ℕ) (number offset shift : ℕ) → 16 * number / 6 ≡ offset → 16 * number % 6 ≡ shift
+    → four_letters letters offset / 2 ^ (8 - shift) % 2 ^ 16 ≡ unit_at letters number
 unfolding unit_at
-unit_in letters number place shift at before = rw (at, before) refl
+unit_in letters number offset shift at before = rw (at, before) refl
 
 pub unit_first : (letters : List ℕ) (number : ℕ) → number % 3 ≡ 0 → four_letters letters (number / 3 * 8) / 256 % 65536 ≡ unit_at letters number
 unit_first letters number is = unit_in letters number (number / 3 * 8) 0 (omega arith) (omega arith)
@@ -27,14 +27,14 @@ unit_second letters number is = unit_in letters number (number / 3 * 8 + 2) 4 (o
 pub unit_third : (letters : List ℕ) (number : ℕ) → number % 3 ≡ 2 → four_letters letters (number / 3 * 8 + 5) / 64 % 65536 ≡ unit_at letters number
 unit_third letters number is = unit_in letters number (number / 3 * 8 + 5) 2 (omega arith) (omega arith)
 
--- the first place that passes, or the length
-place_or : (b : Bool) (a n : ℕ) → nat_lt a n ≡ b → a ≤ n → unwrap_or (cond b (Some a) None) n ≡ a
-place_or true a n is within = refl
-place_or false a n is within = let h : n ≤ a = grind (arith, nat_tests) in omega arith
+-- the first position that passes the test, or the length
+position_or : (b : Bool) (a n : ℕ) → nat_lt a n ≡ b → a ≤ n → unwrap_or (cond b (Some a) None) n ≡ a
+position_or true a n is within = refl
+position_or false a n is within = let h : n ≤ a = grind (arith, nat_tests) in omega arith
 
-pub place_unwrapped : (test : ℕ → Bool) (xs : List ℕ)
+pub position_unwrapped : (test : ℕ → Bool) (xs : List ℕ)
     → unwrap_or (cond (nat_lt (position_or_len test xs) (length xs)) (Some (position_or_len test xs)) None) (length xs) ≡ position_or_len test xs
-place_unwrapped test xs = place_or (nat_lt (position_or_len test xs) (length xs)) (position_or_len test xs) (length xs) refl (prefix_len-le-length (λ x. not (test x)) xs)
+position_unwrapped test xs = position_or (nat_lt (position_or_len test xs) (length xs)) (position_or_len test xs) (length xs) refl (prefix_len-le-length (λ x. not (test x)) xs)
 
 -- the characters of letters that end in a whole unit, and of others
 pub letters_whole : (letters : List ℕ) → ends_whole letters ≡ true
@@ -52,7 +52,7 @@ letters_cut letters is =
     let chars = utf16_lossy_chars (map (unit_at letters) (range_with_len 0 (units_count letters))) in
     sym (ap (λ b. encode_utf8_all (chars ++ cond b [] (replacement ∷ []))) is ∙ encodes-append chars (replacement ∷ []))
 
--- some letters are not none
+-- a plus with letters has their characters
 pub shifted_some : (letters : List ℕ) (is_closed : Bool) → 0 < length letters → letters_chars letters ≡ shifted_chars letters is_closed
 shifted_some [] is_closed some = absurd (omega (arith, some))
 shifted_some (b ∷ bs) is_closed some = refl
@@ -73,25 +73,14 @@ pub front_other : (bs : List ℕ) → ¬ (get_or bs 0 0 ≡ 43) → (ascii_char 
 unfolding utf7_front
 front_other bs other = let h : (get_or bs 0 0 == 43) ≡ false = grind (arith, nat_tests) in rw h refl
 
--- one front more is written
+-- one more front is written
 pub front_pushed : (bs made total : List ℕ) (n : ℕ) → 0 < length bs → 0 < n → n ≡ (utf7_front bs).1 → made ++ utf7_text bs ≡ total
     → (made ++ encode_utf8_all (utf7_front bs).0) ++ utf7_text (drop n bs) ≡ total
 front_pushed bs made total n some takes is all =
     append_assoc made (encode_utf8_all (utf7_front bs).0) (utf7_text (drop n bs))
     ∙ ap (λ xs. made ++ xs) (sym (text_front utf7_front bs ((utf7_front bs).0) n some takes (ap (λ (m : ℕ). ((utf7_front bs).0, m)) is))) ∙ all
 
--- a label that no charset has before
-pub label_known : (charsets : Charsets) (label trimmed : List ℕ) → None ≡ charsets label → trimmed ≡ trimmed_label label
-    → is_among_labels utf_7_labels trimmed ≡ true → Some utf7_text ≡ and_utf_7 charsets label
-label_known charsets label trimmed none trim is =
-    let e : is_among_labels utf_7_labels (trimmed_label label) ≡ true = ap (is_among_labels utf_7_labels) (sym trim) ∙ is in rw (← none, e) refl
-
-pub label_unknown : (charsets : Charsets) (label trimmed : List ℕ) → None ≡ charsets label → trimmed ≡ trimmed_label label
-    → is_among_labels utf_7_labels trimmed ≡ false → None ≡ and_utf_7 charsets label
-label_unknown charsets label trimmed none trim is =
-    let e : is_among_labels utf_7_labels (trimmed_label label) ≡ false = ap (is_among_labels utf_7_labels) (sym trim) ∙ is in rw (← none, e) refl
-
--- direct bytes stay
+-- direct bytes are their own text
 direct_small : (b : ℕ) → is_direct b ≡ true → b < 128
 direct_small b is = grind (arith, nat_tests)
 

@@ -1,33 +1,33 @@
-//! The four charsets that are known without a table.
-ghost use Rattle.std.specs.Prelude.{◌≡◌, find, option_map, IfOk, string_bytes};
-ghost use Rattle.mail_codec.specs.Charset.{charset_of_label, is_among_labels, labels_by_charset, marked_text_of, text_of};
-ghost use Rattle.mail_codec.specs.private.ByteOrderMarks.{split_mark, split_view};
+//! The four built-in charsets.
+ghost use Rattle.std.specs.Prelude.{◌≡◌, ◌≤◌, find, length, option_map, IfOk, IfSome, string_bytes};
+ghost use Rattle.mail_codec.specs.Charset.{charset_of_label, is_among_labels, labels_by_charset, mark_at_start, marked_text_of, text_of};
 
-use super::labels::is_among;
+use super::decoder::is_among;
+use super::known::Decode;
 use super::utf16::ByteOrder;
 use super::{labels, single_byte, utf16};
 use bstr::ByteSlice;
 use std::alloc::{AllocError, Global};
 
-/// A charset whose bytes can be read.
+/// One of the four built-in charsets.
 #[derive(Clone, Copy, Debug, PartialEq, Eq)]
 pub enum Charset {
     /// UTF-8.
     Utf8,
-    /// windows-1252, which the labels of ASCII and Latin-1 mean too.
+    /// windows-1252, also for the labels of ASCII and Latin-1.
     Windows1252,
-    /// UTF-16, the low byte of each unit first.
+    /// UTF-16 with the low byte of each unit first.
     Utf16Le,
-    /// UTF-16, the high byte of each unit first.
+    /// UTF-16 with the high byte of each unit first.
     Utf16Be,
 }
 
 impl Charset {
-    /// Returns the charset that has the label, or `None` where no charset here has it (the WHATWG
+    /// Returns the charset that has the label, or `None` if none of the four has it (the WHATWG
     /// Encoding Standard, section 4.2).
     ///
-    /// ASCII whitespace around the label (space, tab, LF, FF, CR) and ASCII case do not count.
-    /// Takes no memory.
+    /// ASCII whitespace around the label (space, tab, LF, FF, CR) and ASCII case are ignored. Takes
+    /// no memory.
     ///
     /// # Examples
     ///
@@ -44,15 +44,44 @@ impl Charset {
         charset_of(label.trim_ascii())
     }
 
+    /// Returns the charset whose byte order mark the bytes begin with, and the length of the mark,
+    /// or `None` if they begin with no mark (the WHATWG Encoding Standard, section 6).
+    ///
+    /// Takes no memory.
+    ///
+    /// # Examples
+    ///
+    /// ```rust
+    /// use mail_codec::charset::Charset;
+    ///
+    /// assert_eq!(rt; Charset::for_bom(b"\xEF\xBB\xBFa"), Some((Charset::Utf8, 3)));
+    /// assert_eq!(rt; Charset::for_bom(b"a"), None);
+    /// ```
+    pub fn for_bom(bytes: &[u8]) -> Option<(Charset, usize)>
+        ensures mark { result ≡ mark_at_start bytes.now }
+        ensures bounds { IfSome result (λ found. found.1 ≤ length bytes.now) }
+    {
+        if bytes.starts_with(b"\xEF\xBB\xBF") {
+            return Some((Charset::Utf8, 3));
+        }
+        if bytes.starts_with(b"\xFE\xFF") {
+            return Some((Charset::Utf16Be, 2));
+        }
+        if bytes.starts_with(b"\xFF\xFE") {
+            return Some((Charset::Utf16Le, 2));
+        }
+        None
+    }
+
     /// Returns the text of the bytes in this charset, or in the one whose byte order mark they
     /// begin with (the WHATWG Encoding Standard, section 6).
     ///
-    /// A byte order mark is removed, and overrules the charset. What is not a character reads as
-    /// U+FFFD. Takes memory for the text.
+    /// A byte order mark is removed, and overrides the charset. Invalid bytes decode to U+FFFD.
+    /// Takes memory for the text.
     ///
     /// # Errors
     ///
-    /// Where it runs out of memory.
+    /// `AllocError` if it runs out of memory.
     ///
     /// # Examples
     ///
@@ -64,23 +93,21 @@ impl Charset {
     /// let marked = Charset::Windows1252.decode(alloc, b"\xFE\xFF\0a")?;
     /// assert_eq!(rt; marked.as_str(), "a");
     /// ```
+    #[tactic(auto, unfolding(crate::specs::Charset::marked_text_of))]
     pub fn decode(self, alloc: Global, bytes: &[u8]) -> Result<String, AllocError>
         ensures { IfOk result (λ t. string_bytes t ≡ marked_text_of self bytes.now) }
     {
-        match split_mark(bytes) {
-            Some((charset, rest)) => charset.decode_without_bom_handling(alloc, rest),
-            None => self.decode_without_bom_handling(alloc, bytes),
-        }
+        Decode::decode(self, alloc, bytes)
     }
 
     /// Returns the text of the bytes in this charset, reading a byte order mark like any other
     /// bytes (the WHATWG Encoding Standard, sections 8, 9.1 and 14).
     ///
-    /// What is not a character reads as U+FFFD. Takes memory for the text.
+    /// Invalid bytes decode to U+FFFD. Takes memory for the text.
     ///
     /// # Errors
     ///
-    /// Where it runs out of memory.
+    /// `AllocError` if it runs out of memory.
     ///
     /// # Examples
     ///
@@ -102,42 +129,26 @@ impl Charset {
         match self {
             Charset::Utf8 => bytes.to_str_lossy(alloc)?.into_owned(alloc),
             Charset::Windows1252 => single_byte::decode_windows_1252(alloc, bytes),
-            Charset::Utf16Le => utf16::decode(alloc, ByteOrder::Little, bytes),
-            Charset::Utf16Be => utf16::decode(alloc, ByteOrder::Big, bytes),
+            Charset::Utf16Le => utf16::decode(alloc, bytes, ByteOrder::Little),
+            Charset::Utf16Be => utf16::decode(alloc, bytes, ByteOrder::Big),
         }
     }
 }
 
-/// The charset that has the label, ignoring ASCII case.
+/// Returns the charset that has the trimmed label, ignoring ASCII case.
 fn charset_of(label: &[u8]) -> Option<Charset>
     ensures { result ≡ option_map (λ row. row.0)
         (find (λ row. is_among_labels row.1 label.now) labels_by_charset) }
 {
-    if is_among(&labels::UTF_8, label) {
+    if is_among(label, &labels::UTF_8) {
         Some(Charset::Utf8)
-    } else if is_among(&labels::WINDOWS_1252, label) {
+    } else if is_among(label, &labels::WINDOWS_1252) {
         Some(Charset::Windows1252)
-    } else if is_among(&labels::UTF_16_BE, label) {
+    } else if is_among(label, &labels::UTF_16_BE) {
         Some(Charset::Utf16Be)
-    } else if is_among(&labels::UTF_16_LE, label) {
+    } else if is_among(label, &labels::UTF_16_LE) {
         Some(Charset::Utf16Le)
     } else {
         None
     }
-}
-
-/// The charset whose byte order mark the bytes begin with, and the bytes after the mark.
-pub(super) fn split_mark(bytes: &[u8]) -> Option<(Charset, &[u8])>
-    ensures { split_view result ≡ split_mark bytes.now }
-{
-    if let Some(rest) = bytes.strip_prefix(b"\xEF\xBB\xBF") {
-        return Some((Charset::Utf8, rest));
-    }
-    if let Some(rest) = bytes.strip_prefix(b"\xFE\xFF") {
-        return Some((Charset::Utf16Be, rest));
-    }
-    if let Some(rest) = bytes.strip_prefix(b"\xFF\xFE") {
-        return Some((Charset::Utf16Le, rest));
-    }
-    None
 }

@@ -1,22 +1,23 @@
-//! The charsets that a reader of mail knows, by label, and the reading of bytes in one of them.
+//! The charsets that a reader of mail knows, by label, and decoding in one of them.
 //!
-//! Decoders of a caller come in here: a charset that implements `Decode`, and a value that finds
-//! it by its label and implements `KnownCharsets`.
+//! A caller adds a charset of its own by two implementations: `Decode` for the charset, and
+//! `KnownCharsets` for a value that finds it by its label.
 ghost use Rattle.std.specs.Prelude.{◌≡◌, ℕ, List, option_map, IfOk, string_bytes};
-ghost use Rattle.mail_codec.specs.Charset.{Charsets, four_charsets, marked, text_of};
-ghost use Rattle.mail_codec.specs.Known.{built_in_or_table_text};
-ghost use Rattle.mail_codec.specs.Tables.{charsets_with};
+ghost use Rattle.either.specs.Either.{either};
+ghost use Rattle.mail_codec.specs.Charset.{Charsets, four_charsets, known_by_either, marked, text_of};
+ghost use Rattle.mail_codec.specs.Tables.{charsets_with, table_text};
 
-use super::built_in::{Charset, split_mark};
+use super::built_in::Charset;
 use super::tables::{SingleByteTable, table_for_label};
+use either::Either;
 use std::alloc::{AllocError, Global};
 
-/// A charset in which bytes are read: one of the four, a table, or a decoder of the caller.
+/// A charset that decodes bytes: one of the four, a table, or a decoder of the caller.
 ///
-/// A decoder of a caller gives `decode_without_bom_handling`, and in `text` the definition that it
-/// keeps to. The other calls follow from it.
+/// An implementation gives `decode_without_bom_handling`, and in `text` the definition of what it
+/// returns. The other calls have default bodies.
 pub trait Decode: Copy {
-    // The text of bytes in this charset, where a byte order mark is read like any other bytes.
+    // The text of bytes in this charset; a byte order mark is read like any other bytes.
     ghost text: { Self → List ℕ → List ℕ };
 
     /// Returns the text of the bytes in this charset, reading a byte order mark like any other
@@ -26,7 +27,7 @@ pub trait Decode: Copy {
     ///
     /// # Errors
     ///
-    /// Where it runs out of memory.
+    /// `AllocError` if it runs out of memory.
     ///
     /// # Examples
     ///
@@ -42,11 +43,11 @@ pub trait Decode: Copy {
     /// Returns the text of the bytes in this charset, or in the one whose byte order mark they
     /// begin with (the WHATWG Encoding Standard, section 6).
     ///
-    /// A byte order mark is removed, and overrules the charset. Takes memory for the text.
+    /// A byte order mark is removed, and overrides the charset. Takes memory for the text.
     ///
     /// # Errors
     ///
-    /// Where it runs out of memory.
+    /// `AllocError` if it runs out of memory.
     ///
     /// # Examples
     ///
@@ -59,19 +60,19 @@ pub trait Decode: Copy {
     fn decode(self, alloc: Global, bytes: &[u8]) -> Result<String, AllocError>
         ensures { IfOk result (λ t. string_bytes t ≡ marked (text self) bytes.now) }
     {
-        match split_mark(bytes) {
-            Some((charset, rest)) => charset.decode_without_bom_handling(alloc, rest),
+        match Charset::for_bom(bytes) {
+            Some((charset, length)) => charset.decode_without_bom_handling(alloc, &bytes[length..]),
             None => self.decode_without_bom_handling(alloc, bytes),
         }
     }
 
-    /// Returns the text of a list of bytes in this charset, as `decode_without_bom_handling` does.
+    /// Returns the text of a vector of bytes in this charset, as `decode_without_bom_handling` does.
     ///
-    /// Takes memory for the text, unless the charset can use the list's own.
+    /// Takes memory for the text, unless the charset can reuse that of the vector.
     ///
     /// # Errors
     ///
-    /// Where it runs out of memory.
+    /// `AllocError` if it runs out of memory.
     ///
     /// # Examples
     ///
@@ -97,7 +98,7 @@ pub trait Decode: Copy {
 /// The charsets that a reader of mail knows, by label.
 ///
 /// `()` knows the four built-in ones. A slice of `SingleByteTable`s knows the four and then its
-/// tables, in their order.
+/// tables, in order. A pair knows what its first value knows, and then what its second value knows.
 pub trait KnownCharsets {
     /// One of these charsets.
     type Decoder: Decode;
@@ -105,7 +106,7 @@ pub trait KnownCharsets {
     // These charsets: from a label to the text of bytes in the charset that has it, if one has.
     ghost known: { Self → Charsets };
 
-    /// Returns the charset that has the label, or `None` where no charset here has it (the WHATWG
+    /// Returns the charset that has the label, or `None` if none of these has it (the WHATWG
     /// Encoding Standard, section 4.2).
     ///
     /// Takes no memory.
@@ -135,7 +136,7 @@ impl Decode for Charset {
         Charset::decode_without_bom_handling(self, alloc, bytes)
     }
 
-    /// The list becomes the text itself where it is UTF-8 that is read as such.
+    /// The vector becomes the text itself if the charset is UTF-8 and the bytes are valid.
     fn into_text_without_bom_handling(
         self,
         alloc: Global,
@@ -161,17 +162,37 @@ impl KnownCharsets for () {
     }
 }
 
-/// One of the four built-in charsets, or that of a table.
-#[derive(Clone, Copy)]
-pub enum BuiltInOrTable<'t> {
-    /// One of the four.
-    BuiltIn(Charset),
-    /// That of a table.
-    Table(&'t SingleByteTable<'t>),
+impl<'a, 't> Decode for &'a SingleByteTable<'t> {
+    ghost text = { λ table. table_text table.now };
+
+    fn decode_without_bom_handling(
+        self,
+        alloc: Global,
+        bytes: &[u8],
+    ) -> Result<String, AllocError> {
+        SingleByteTable::decode_without_bom_handling(self, alloc, bytes)
+    }
 }
 
-impl<'t> Decode for BuiltInOrTable<'t> {
-    ghost text = { built_in_or_table_text };
+impl<'t> KnownCharsets for &'t [SingleByteTable<'t>] {
+    type Decoder = Either<Charset, &'t SingleByteTable<'t>>;
+
+    ghost known = { λ tables. charsets_with tables.now };
+
+    fn for_label(&self, label: &[u8]) -> Option<Either<Charset, &'t SingleByteTable<'t>>> {
+        if let Some(charset) = Charset::for_label(label) {
+            return Some(Either::Left(charset));
+        }
+        let tables: &'t [SingleByteTable<'t>] = *self;
+        match table_for_label(label, tables) {
+            Some(number) => Some(Either::Right(&tables[number])),
+            None => None,
+        }
+    }
+}
+
+impl<A: Decode, B: Decode> Decode for Either<A, B> {
+    ghost text = { either A.text B.text };
 
     fn decode_without_bom_handling(
         self,
@@ -179,8 +200,8 @@ impl<'t> Decode for BuiltInOrTable<'t> {
         bytes: &[u8],
     ) -> Result<String, AllocError> {
         match self {
-            BuiltInOrTable::BuiltIn(charset) => charset.decode_without_bom_handling(alloc, bytes),
-            BuiltInOrTable::Table(table) => table.decode_without_bom_handling(alloc, bytes),
+            Either::Left(charset) => charset.decode_without_bom_handling(alloc, bytes),
+            Either::Right(charset) => charset.decode_without_bom_handling(alloc, bytes),
         }
     }
 
@@ -190,28 +211,23 @@ impl<'t> Decode for BuiltInOrTable<'t> {
         bytes: Vec<u8>,
     ) -> Result<String, AllocError> {
         match self {
-            BuiltInOrTable::BuiltIn(charset) => {
-                charset.into_text_without_bom_handling(alloc, bytes)
-            }
-            BuiltInOrTable::Table(table) => {
-                table.decode_without_bom_handling(alloc, bytes.as_slice())
-            }
+            Either::Left(charset) => charset.into_text_without_bom_handling(alloc, bytes),
+            Either::Right(charset) => charset.into_text_without_bom_handling(alloc, bytes),
         }
     }
 }
 
-impl<'t> KnownCharsets for &'t [SingleByteTable<'t>] {
-    type Decoder = BuiltInOrTable<'t>;
+impl<A: KnownCharsets, B: KnownCharsets> KnownCharsets for (A, B) {
+    type Decoder = Either<A::Decoder, B::Decoder>;
 
-    ghost known = { λ tables. charsets_with tables.now };
+    ghost known = { λ both. known_by_either (A.known both.0) (B.known both.1) };
 
-    fn for_label(&self, label: &[u8]) -> Option<BuiltInOrTable<'t>> {
-        if let Some(charset) = Charset::for_label(label) {
-            return Some(BuiltInOrTable::BuiltIn(charset));
+    fn for_label(&self, label: &[u8]) -> Option<Either<A::Decoder, B::Decoder>> {
+        if let Some(first) = self.0.for_label(label) {
+            return Some(Either::Left(first));
         }
-        let tables: &'t [SingleByteTable<'t>] = *self;
-        match table_for_label(label, tables) {
-            Some(number) => Some(BuiltInOrTable::Table(&tables[number])),
+        match self.1.for_label(label) {
+            Some(second) => Some(Either::Right(second)),
             None => None,
         }
     }

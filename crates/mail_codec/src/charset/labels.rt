@@ -1,7 +1,4 @@
 //! The labels of the charsets (the WHATWG Encoding Standard, section 4.2).
-ghost use Rattle.std.specs.Prelude.{◌≡◌, map};
-ghost use Rattle.std.specs.Str.{str_eq_ignore_ascii_case};
-ghost use Rattle.mail_codec.specs.Charset.{is_among_labels};
 
 pub(super) static UTF_8: [&str; 6] = [
     "unicode-1-1-utf-8",
@@ -44,30 +41,5 @@ pub(super) static UTF_16_LE: [&str; 7] = [
     "utf-16le",
 ];
 
-/// Those of UTF-7, which the standard leaves out (the IANA registry of character sets).
+/// The labels of UTF-7, which the standard leaves out (the IANA registry of character sets).
 pub(super) static UTF_7: [&str; 3] = ["csunicode11utf7", "unicode-1-1-utf-7", "utf-7"];
-
-/// Returns whether one of the labels is this one, ignoring ASCII case (the WHATWG Encoding Standard,
-/// section 4.2).
-///
-/// Neither the label nor the labels are trimmed. Takes no memory.
-///
-/// # Examples
-///
-/// ```rust
-/// use mail_codec::charset::is_among;
-///
-/// assert!(rt; is_among(&["koi8-r", "koi"], b"KOI8-R"));
-/// assert!(rt; !is_among(&["koi8-r", "koi"], b"koi8-u"));
-/// ```
-pub fn is_among(labels: &[&str], label: &[u8]) -> bool
-    ensures { result ≡ is_among_labels (map (λ x. x.now) labels.now) label.now }
-{
-    labels.iter().any(|known| is_same(label, known.as_bytes()))
-}
-
-fn is_same(label: &[u8], known: &[u8]) -> bool
-    ensures { result ≡ str_eq_ignore_ascii_case label.now known.now }
-{
-    label.eq_ignore_ascii_case(known)
-}

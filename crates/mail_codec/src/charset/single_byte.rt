@@ -3,7 +3,7 @@ ghost use Rattle.std.specs.Prelude.{◌≡◌, ◌*◌, ◌≤◌, ◌↔◌, �
 ghost use Rattle.std.specs.Cow.{cow_str_bytes, IsBorrowedStr};
 ghost use Rattle.mail_codec.specs.Charset.{single_byte_char, windows_1252_char};
 
-use super::encode::put_char;
+use super::decoder::{ascii_blocks_length, put_char};
 use crate::vectors::LANES;
 use crate::vectors::marks::{first_lane, lanes_from};
 use std::alloc::{AllocError, Global};
@@ -11,16 +11,13 @@ use std::borrow::CowStr;
 use std::simd::prelude::*;
 use std::str;
 
-/// The characters of the bytes from 0x80 on, in order.
+/// The characters of the bytes from 0x80 to 0xFF, in order.
 pub(crate) type HighHalf = [char; 128];
 
-/// How many bytes are tested for ASCII together.
-const BLOCK: usize = 16;
-
-/// How many bytes at most are mapped together, where some are not ASCII.
+/// The largest number of bytes that are mapped together if some are not ASCII.
 const MIXED: usize = 256;
 
-/// Those of windows-1252 (the WHATWG Encoding Standard, section 9.1).
+/// The high characters of windows-1252 (the WHATWG Encoding Standard, section 9.1).
 static WINDOWS_1252: HighHalf = [
     '\u{20AC}', '\u{0081}', '\u{201A}', '\u{0192}', '\u{201E}', '\u{2026}', '\u{2020}', '\u{2021}',
     '\u{02C6}', '\u{2030}', '\u{0160}', '\u{2039}', '\u{0152}', '\u{008D}', '\u{017D}', '\u{008F}',
@@ -40,7 +37,7 @@ static WINDOWS_1252: HighHalf = [
     '\u{00F8}', '\u{00F9}', '\u{00FA}', '\u{00FB}', '\u{00FC}', '\u{00FD}', '\u{00FE}', '\u{00FF}',
 ];
 
-/// Those of Latin-1.
+/// The high characters of Latin-1.
 pub(crate) static LATIN_1: HighHalf = [
     '\u{0080}', '\u{0081}', '\u{0082}', '\u{0083}', '\u{0084}', '\u{0085}', '\u{0086}', '\u{0087}',
     '\u{0088}', '\u{0089}', '\u{008A}', '\u{008B}', '\u{008C}', '\u{008D}', '\u{008E}', '\u{008F}',
@@ -60,23 +57,23 @@ pub(crate) static LATIN_1: HighHalf = [
     '\u{00F8}', '\u{00F9}', '\u{00FA}', '\u{00FB}', '\u{00FC}', '\u{00FD}', '\u{00FE}', '\u{00FF}',
 ];
 
-/// U+FFFD for each, since ASCII has none.
+/// The high characters of ASCII: U+FFFD for each byte, since ASCII has none.
 pub(crate) static ASCII: HighHalf = ['\u{FFFD}'; 128];
 
-/// The text of the bytes in windows-1252.
+/// Returns the text of the bytes in windows-1252.
 pub(crate) fn decode_windows_1252(alloc: Global, bytes: &[u8]) -> Result<String, AllocError>
     ensures { IfOk result
         (λ t. string_bytes t ≡ encode_utf8_all (map windows_1252_char bytes.now)) }
 {
-    decode(alloc, &WINDOWS_1252, bytes)?.into_owned(alloc)
+    decode(alloc, bytes, &WINDOWS_1252)?.into_owned(alloc)
 }
 
-/// The text of the bytes, in which a byte below 0x80 is its own character. Where all are, and only
-/// there, it borrows them.
+/// Returns the text of the bytes, in which a byte below 0x80 is its own character. The text borrows
+/// the bytes if and only if all are ASCII.
 pub(crate) fn decode<'a>(
     alloc: Global,
-    high: &HighHalf,
     bytes: &'a [u8],
+    high: &HighHalf,
 ) -> Result<CowStr<'a>, AllocError>
     ensures read { IfOk result
         (λ t. cow_str_bytes t ≡ encode_utf8_all (map (single_byte_char high.now) bytes.now)) }
@@ -88,12 +85,12 @@ pub(crate) fn decode<'a>(
         return Ok(CowStr::Borrowed(unsafe { str::from_utf8_unchecked(bytes) }));
     }
     let mut text = String::with_capacity(alloc, bytes.len())?;
-    push_text(&mut text, high, bytes)?;
+    push_text(&mut text, bytes, high)?;
     Ok(CowStr::Owned(text))
 }
 
 /// Appends the text of the bytes.
-fn push_text(text: &mut String, high: &HighHalf, bytes: &[u8]) -> Result<(), AllocError>
+fn push_text(text: &mut String, bytes: &[u8], high: &HighHalf) -> Result<(), AllocError>
     ensures { OnOk result (string_bytes text.new
         ≡ string_bytes text.old ++ encode_utf8_all (map (single_byte_char high.now) bytes.now)) }
 {
@@ -107,7 +104,7 @@ fn push_text(text: &mut String, high: &HighHalf, bytes: &[u8]) -> Result<(), All
             rest = &rest[run..];
         } else {
             let (block, others) = rest.split_at(rest.len().min(MIXED));
-            let length = encode_block(&mut buffer, high, block);
+            let length = encode_block(&mut buffer, block, high);
             // SAFETY: `encode_block` writes whole characters.
             text.push_str(unsafe { str::from_utf8_unchecked(&buffer[..length]) })?;
             rest = others;
@@ -117,8 +114,8 @@ fn push_text(text: &mut String, high: &HighHalf, bytes: &[u8]) -> Result<(), All
 }
 
 /// Writes the text of the bytes to the front of the buffer, and returns its length.
-fn encode_block(buffer: &mut [u8], high: &HighHalf, bytes: &[u8]) -> usize
-    requires room { 4 * length bytes.now ≤ length buffer.old }
+fn encode_block(buffer: &mut [u8], bytes: &[u8], high: &HighHalf) -> usize
+    requires capacity { 4 * length bytes.now ≤ length buffer.old }
     ensures written { take result buffer.new
         ≡ encode_utf8_all (map (single_byte_char high.now) bytes.now) }
     ensures utf8 { IsUtf8 (take result buffer.new) }
@@ -133,18 +130,17 @@ fn encode_block(buffer: &mut [u8], high: &HighHalf, bytes: &[u8]) -> usize
         if from == bytes.len() {
             return at;
         }
-        at = put_char(buffer, at, character(high, bytes[from]));
+        at = put_char(buffer, at, character(bytes[from], high));
         from += 1;
     }
     at
 }
 
-/// Writes ASCII bytes that stand at the front, and returns how many: those before the first other
-/// byte, but for the last few, which make no whole vector. A vector is written whole before it is
-/// looked at.
+/// Writes the leading ASCII bytes, and returns how many: up to the first other byte, or up to the
+/// last whole vector. A vector is written whole before it is tested.
 #[inline(always)]
 fn put_ascii(output: &mut [u8], bytes: &[u8]) -> usize
-    requires room { length bytes.now ≤ length output.old }
+    requires capacity { length bytes.now ≤ length output.old }
     ensures bounds { result ≤ length bytes.now }
     ensures ascii { IsAscii (take result bytes.now) }
     ensures written { take result output.new ≡ take result bytes.now }
@@ -153,17 +149,17 @@ fn put_ascii(output: &mut [u8], bytes: &[u8]) -> usize
     'vectors: while bytes.len() - at >= LANES {
         let vector = u8x16::from_slice(&bytes[at..]);
         vector.copy_to_slice(&mut output[at..]);
-        let place = first_lane(lanes_from(vector, 0x80));
-        if place != LANES {
-            return at + place;
+        let lane = first_lane(lanes_from(vector, 0x80));
+        if lane != LANES {
+            return at + lane;
         }
         at += LANES;
     }
     at
 }
 
-/// The character of a byte.
-fn character(high: &HighHalf, byte: u8) -> char
+/// Returns the character of a byte.
+fn character(byte: u8, high: &HighHalf) -> char
     ensures { result ≡ single_byte_char high.now byte }
 {
     if byte < 0x80 {
@@ -171,27 +167,4 @@ fn character(high: &HighHalf, byte: u8) -> char
     } else {
         high[byte as usize - 0x80]
     }
-}
-
-/// Returns how many bytes the whole blocks of 16 bytes at the front have that are all ASCII.
-///
-/// So fewer than 16 further ASCII bytes may follow. Takes no memory.
-///
-/// # Examples
-///
-/// ```rust
-/// use mail_codec::charset::ascii_blocks_length;
-///
-/// assert_eq!(rt; ascii_blocks_length(b"sixteen letters and caf\xE9"), 16);
-/// assert_eq!(rt; ascii_blocks_length(b"caf\xE9"), 0);
-/// ```
-pub fn ascii_blocks_length(bytes: &[u8]) -> usize
-    ensures bounds { result ≤ length bytes.now }
-    ensures ascii { IsAscii (take result bytes.now) }
-{
-    let mut at = 0;
-    while BLOCK <= bytes.len() - at && bytes[at..at + BLOCK].is_ascii() {
-        at += BLOCK;
-    }
-    at
 }

@@ -1,23 +1,24 @@
-//! Charsets in which each byte is one character, handed in by the caller as tables.
+//! Charsets in which each byte is one character, as tables of the caller.
 ghost use Rattle.std.specs.Prelude.{◌≡◌, ◌<◌, map, length, IfOk, IfSome, string_bytes};
 ghost use Rattle.std.specs.List.{position};
 ghost use Rattle.mail_codec.specs.Charset.{is_among_labels, marked};
 ghost use Rattle.mail_codec.specs.Tables.{table_of_label, table_text};
 
-use super::built_in::{Charset, split_mark};
-use super::labels::is_among;
+use super::built_in::Charset;
+use super::decoder::is_among;
+use super::known::Decode;
 use super::single_byte;
 use std::alloc::{AllocError, Global};
 
 /// A charset in which each byte is one character: its labels, and the characters of its high bytes.
 ///
-/// A byte below 0x80 is its own character, and byte 0x80 + n is the character `high[n]`. Where a
-/// byte has no character, U+FFFD stands in the table.
-#[derive(Clone, Copy)]
+/// A byte below 0x80 is its own character, and byte 0x80 + n is the character `high[n]`, which is
+/// U+FFFD if the byte has no character.
+#[derive(Clone, Copy, Debug)]
 pub struct SingleByteTable<'t> {
-    /// The labels of the charset, without whitespace around them; ASCII case does not count.
+    /// The labels of the charset, without whitespace around them; ASCII case is ignored.
     pub labels: &'t [&'t str],
-    /// The characters of the bytes from 0x80 on, in order.
+    /// The characters of the bytes from 0x80 to 0xFF, in order.
     pub high: &'t [char; 128],
 }
 
@@ -25,11 +26,11 @@ impl<'t> SingleByteTable<'t> {
     /// Returns the text of the bytes under this table, or in the charset whose byte order mark they
     /// begin with (the WHATWG Encoding Standard, section 6).
     ///
-    /// A byte order mark is removed, and overrules the table. Takes memory for the text.
+    /// A byte order mark is removed, and overrides the table. Takes memory for the text.
     ///
     /// # Errors
     ///
-    /// Where it runs out of memory.
+    /// `AllocError` if it runs out of memory.
     ///
     /// # Examples
     ///
@@ -43,10 +44,7 @@ impl<'t> SingleByteTable<'t> {
     pub fn decode(&self, alloc: Global, bytes: &[u8]) -> Result<String, AllocError>
         ensures { IfOk result (λ t. string_bytes t ≡ marked (table_text self.now) bytes.now) }
     {
-        match split_mark(bytes) {
-            Some((charset, rest)) => charset.decode_without_bom_handling(alloc, rest),
-            None => self.decode_without_bom_handling(alloc, bytes),
-        }
+        Decode::decode(self, alloc, bytes)
     }
 
     /// Returns the text of the bytes under this table, reading a byte order mark like any other
@@ -56,7 +54,7 @@ impl<'t> SingleByteTable<'t> {
     ///
     /// # Errors
     ///
-    /// Where it runs out of memory.
+    /// `AllocError` if it runs out of memory.
     ///
     /// # Examples
     ///
@@ -74,24 +72,24 @@ impl<'t> SingleByteTable<'t> {
     ) -> Result<String, AllocError>
         ensures { IfOk result (λ t. string_bytes t ≡ table_text self.now bytes.now) }
     {
-        single_byte::decode(alloc, self.high, bytes)?.into_owned(alloc)
+        single_byte::decode(alloc, bytes, self.high)?.into_owned(alloc)
     }
 
-    /// Whether the table has the label.
+    /// Returns whether the table has the trimmed label.
     fn has(&self, label: &[u8]) -> bool
         ensures { result
             ≡ is_among_labels (map (λ known. known.now) self.now.labels.now) label.now }
     {
-        is_among(self.labels, label)
+        is_among(label, self.labels)
     }
 }
 
-/// Returns the index, counted from 0, of the table that is used for the label: the first that has
-/// it. Returns `None` if no table has it, or if one of the four charsets has it: these come first,
-/// by this crate's own rule. Labels are matched as in the WHATWG Encoding Standard, section 4.2.
+/// Returns the index of the first table that has the label, counted from 0, or `None` if no table
+/// has it. Also returns `None` if one of the four built-in charsets has it: these come first, by
+/// this crate's own rule. Labels are matched as in the WHATWG Encoding Standard, section 4.2.
 ///
-/// ASCII whitespace around the label (space, tab, LF, FF, CR) and ASCII case do not count; the
-/// labels of the tables are not trimmed. Takes no memory.
+/// ASCII whitespace around the label (space, tab, LF, FF, CR) and ASCII case are ignored; the labels
+/// of the tables are not trimmed. Takes no memory.
 ///
 /// # Examples
 ///
@@ -116,7 +114,7 @@ pub fn table_for_label(label: &[u8], tables: &[SingleByteTable<'_>]) -> Option<u
     }
 }
 
-/// The number of the first table that has the label.
+/// Returns the index of the first table that has the trimmed label.
 fn first_with(tables: &[SingleByteTable<'_>], label: &[u8]) -> Option<usize>
     ensures number { result ≡ position (λ table.
         is_among_labels (map (λ known. known.now) table.labels.now) label.now) tables.now }

@@ -1,27 +1,27 @@
-//! UTF-16, two bytes a unit (the WHATWG Encoding Standard, section 14).
+//! UTF-16, two bytes for each unit (the WHATWG Encoding Standard, section 14).
 ghost use Rattle.std.specs.Prelude.{◌≡◌, ◌<◌, ◌≤◌, ◌∷◌, ◌++◌, length, take, drop, IsUtf8, if◌then◌else◌, IsTrue, IfOk, encode_utf8_all, string_bytes};
 ghost use Rattle.std.specs.Char.Utf16.{is_high_surrogate, is_low_surrogate, surrogate_pair_char};
 ghost use Rattle.mail_codec.specs.Charset.{utf_16_chars};
 ghost use Rattle.mail_codec.specs.private.Utf16.{unit_of};
 
-use super::encode::put_char;
+use super::decoder::put_char;
 use std::alloc::{AllocError, Global};
 use std::str;
 
-/// How many bytes of text are made together.
+/// The number of bytes of text that are written together.
 const BUFFER: usize = 256;
 
 /// Which byte of a unit comes first.
 #[derive(Clone, Copy)]
 pub(crate) enum ByteOrder {
-    /// The low one.
+    /// The low byte.
     Little,
-    /// The high one.
+    /// The high byte.
     Big,
 }
 
 impl ByteOrder {
-    /// The unit of two bytes.
+    /// Returns the unit of two bytes.
     fn unit(self, first: u8, second: u8) -> u16
         ensures { result ≡ unit_of self first second }
     {
@@ -32,8 +32,8 @@ impl ByteOrder {
     }
 }
 
-/// The text of the bytes.
-pub(crate) fn decode(alloc: Global, order: ByteOrder, bytes: &[u8]) -> Result<String, AllocError>
+/// Returns the text of the bytes.
+pub(crate) fn decode(alloc: Global, bytes: &[u8], order: ByteOrder) -> Result<String, AllocError>
     ensures { IfOk result
         (λ t. string_bytes t ≡ encode_utf8_all (utf_16_chars (unit_of order) bytes.now)) }
 {
@@ -41,7 +41,7 @@ pub(crate) fn decode(alloc: Global, order: ByteOrder, bytes: &[u8]) -> Result<St
     let mut buffer = [0; BUFFER];
     let mut rest = bytes;
     'rest: while !rest.is_empty() {
-        let (taken, length) = encode_front(&mut buffer, order, rest);
+        let (taken, length) = encode_front(&mut buffer, rest, order);
         // SAFETY: `encode_front` writes whole characters.
         text.push_str(unsafe { str::from_utf8_unchecked(&buffer[..length]) })?;
         rest = &rest[taken..];
@@ -49,10 +49,10 @@ pub(crate) fn decode(alloc: Global, order: ByteOrder, bytes: &[u8]) -> Result<St
     Ok(text)
 }
 
-/// Writes as many characters as there is room for, and returns how many bytes were read and
+/// Writes as many characters as fit into the buffer, and returns how many bytes were read and
 /// written.
-fn encode_front(buffer: &mut [u8], order: ByteOrder, bytes: &[u8]) -> (usize, usize)
-    requires room { 4 ≤ length buffer.old }
+fn encode_front(buffer: &mut [u8], bytes: &[u8], order: ByteOrder) -> (usize, usize)
+    requires capacity { 4 ≤ length buffer.old }
     requires some { 0 < length bytes.now }
     ensures written { encode_utf8_all (utf_16_chars (unit_of order) bytes.now)
         ≡ take result.1 buffer.new
@@ -65,15 +65,15 @@ fn encode_front(buffer: &mut [u8], order: ByteOrder, bytes: &[u8]) -> (usize, us
     let mut taken = 0;
     let mut at = 0;
     while taken < bytes.len() && 4 <= buffer.len() - at {
-        let (character, length) = first_char(order, &bytes[taken..]);
+        let (character, length) = first_char(&bytes[taken..], order);
         at = put_char(buffer, at, character);
         taken += length;
     }
     (taken, at)
 }
 
-/// The character at the front, and how many bytes it takes.
-fn first_char(order: ByteOrder, bytes: &[u8]) -> (char, usize)
+/// Returns the character at the front, and how many bytes it takes.
+fn first_char(bytes: &[u8], order: ByteOrder) -> (char, usize)
     requires { 0 < length bytes.now }
     ensures chars { utf_16_chars (unit_of order) bytes.now
         ≡ result.0 ∷ utf_16_chars (unit_of order) (drop result.1 bytes.now) }
@@ -91,7 +91,7 @@ fn first_char(order: ByteOrder, bytes: &[u8]) -> (char, usize)
     if 0xDC00 <= unit {
         return (char::REPLACEMENT_CHARACTER, 2);
     }
-    // A high surrogate at the end, with an odd byte after it or with none.
+    // A high surrogate at the end, followed by at most one byte.
     if count < 4 {
         return (char::REPLACEMENT_CHARACTER, count);
     }
@@ -101,7 +101,8 @@ fn first_char(order: ByteOrder, bytes: &[u8]) -> (char, usize)
     }
 }
 
-/// The character of a high surrogate and the unit after it, where that is a low one.
+/// Returns the character of a high surrogate and the unit after it, or `None` if that unit is not a
+/// low surrogate.
 fn pair(high: u16, low: u16) -> Option<char>
     requires { IsTrue (is_high_surrogate high) }
     ensures { result

@@ -1,26 +1,30 @@
-//! UTF-7 (RFC 2152), which is read only where a caller asks for it.
+//! UTF-7 (RFC 2152), which is read only if a caller asks for it.
 ghost use Rattle.std.specs.Prelude.{◌≡◌, true, ◌+◌, ◌<◌, ◌≤◌, ◌*◌, ◌==◌, ◌++◌, length, slice_index, map, encode_utf8_all, IfOk, string_bytes};
 ghost use Rattle.std.specs.List.{range_with_len};
 ghost use Rattle.mail_codec.specs.Charset.{ascii_char};
-ghost use Rattle.mail_codec.specs.Utf7.{and_utf_7, ends_whole, four_letters, is_letter, letter_number, letters_chars, letters_length, number_at, or_utf_7_text, shifted, shifted_chars, unit_at, units_count, utf7_front, utf7_text};
+ghost use Rattle.mail_codec.specs.Utf7.{ends_whole, four_letters, is_letter, letter_number, letters_chars, letters_length, number_at, shifted, shifted_chars, unit_at, units_count, utf7_front, utf7_text, utf_7_charsets};
 
+use super::decoder::is_among;
 use super::known::{Decode, KnownCharsets};
-use super::labels::{self, is_among};
+use super::labels;
 use std::alloc::{AllocError, Global};
 
-/// UTF-7 (RFC 2152).
+/// UTF-7 (RFC 2152), as a charset and as the known charsets that consist of it alone. Its labels are
+/// `csunicode11utf7`, `unicode-1-1-utf-7` and `utf-7`.
 ///
 /// The Encoding Standard forbids it: in a browser, text that looks harmless may read as markup. So
-/// no other value knows it but `WithUtf7`.
+/// it is known only where a caller adds it, as the second value of a pair.
 ///
 /// # Examples
 ///
 /// ```rust
-/// use mail_codec::charset::{Decode, Utf7};
+/// use mail_codec::charset::{Decode, KnownCharsets, Utf7};
 ///
 /// assert_eq!(rt; Utf7.decode(alloc, b"Hi Mom -+Jjo--!")?.as_str(), "Hi Mom -☺-!");
+/// let charset = ((), Utf7).for_label(b"UTF-7").ok_or("an unknown label")?;
+/// assert_eq!(rt; charset.decode(alloc, b"caf+AOk-")?.as_str(), "café");
 /// ```
-#[derive(Clone, Copy)]
+#[derive(Clone, Copy, Debug)]
 pub struct Utf7;
 
 impl Decode for Utf7 {
@@ -35,64 +39,21 @@ impl Decode for Utf7 {
     }
 }
 
-/// A charset that other values know, or UTF-7.
-#[derive(Clone, Copy)]
-pub enum OrUtf7<D> {
-    /// One that others know.
-    Known(D),
-    /// UTF-7.
-    Utf7(Utf7),
-}
+impl KnownCharsets for Utf7 {
+    type Decoder = Utf7;
 
-impl<D: Decode> Decode for OrUtf7<D> {
-    ghost text = { or_utf_7_text D.text };
+    ghost known = { λ _. utf_7_charsets };
 
-    fn decode_without_bom_handling(
-        self,
-        alloc: Global,
-        bytes: &[u8],
-    ) -> Result<String, AllocError> {
-        match self {
-            OrUtf7::Known(charset) => charset.decode_without_bom_handling(alloc, bytes),
-            OrUtf7::Utf7(charset) => charset.decode_without_bom_handling(alloc, bytes),
+    fn for_label(&self, label: &[u8]) -> Option<Utf7> {
+        if is_among(label.trim_ascii(), &labels::UTF_7) {
+            Some(Utf7)
+        } else {
+            None
         }
     }
 }
 
-/// The charsets that another value knows, and then UTF-7 under its labels `csunicode11utf7`,
-/// `unicode-1-1-utf-7` and `utf-7`.
-///
-/// # Examples
-///
-/// ```rust
-/// use mail_codec::charset::{Decode, KnownCharsets, WithUtf7};
-///
-/// let charset = WithUtf7(()).for_label(b"UTF-7").ok_or("an unknown label")?;
-/// assert_eq!(rt; charset.decode(alloc, b"caf+AOk-")?.as_str(), "café");
-/// ```
-#[derive(Clone, Copy)]
-pub struct WithUtf7<K>(pub K);
-
-impl<K: KnownCharsets> KnownCharsets for WithUtf7<K> {
-    type Decoder = OrUtf7<K::Decoder>;
-
-    ghost known = { λ charsets. and_utf_7 (K.known charsets.0) };
-
-    fn for_label(&self, label: &[u8]) -> Option<OrUtf7<K::Decoder>> {
-        match self.0.for_label(label) {
-            Some(charset) => Some(OrUtf7::Known(charset)),
-            None => {
-                if is_among(&labels::UTF_7, label.trim_ascii()) {
-                    Some(OrUtf7::Utf7(Utf7))
-                } else {
-                    None
-                }
-            }
-        }
-    }
-}
-
-/// The text of the bytes.
+/// Returns the text of the bytes.
 fn decode_utf_7(alloc: Global, bytes: &[u8]) -> Result<String, AllocError>
     ensures { IfOk result (λ t. string_bytes t ≡ utf7_text bytes.now) }
 {
@@ -105,7 +66,7 @@ fn decode_utf_7(alloc: Global, bytes: &[u8]) -> Result<String, AllocError>
     Ok(text)
 }
 
-/// Adds the characters at the front of the bytes, and returns how many bytes they take.
+/// Appends the characters at the front of the bytes, and returns how many bytes they take.
 fn push_front(alloc: Global, text: &mut String, bytes: &[u8]) -> Result<usize, AllocError>
     requires { 0 < length bytes.now }
     ensures pushed { IfOk result (λ taken. string_bytes text.new
@@ -121,8 +82,8 @@ fn push_front(alloc: Global, text: &mut String, bytes: &[u8]) -> Result<usize, A
     Ok(1)
 }
 
-/// Adds the characters of a plus and of the bytes after it that belong to it, and returns how many
-/// bytes those are with the plus.
+/// Appends the characters of a plus and of the bytes after it that belong to it, and returns how
+/// many bytes these are, including the plus.
 fn push_shifted(alloc: Global, text: &mut String, bytes: &[u8]) -> Result<usize, AllocError>
     ensures pushed { IfOk result (λ taken. string_bytes text.new
         ≡ string_bytes text.old ++ encode_utf8_all (shifted bytes.now).0) }
@@ -140,15 +101,16 @@ fn push_shifted(alloc: Global, text: &mut String, bytes: &[u8]) -> Result<usize,
     }
 }
 
-/// Whether a minus stands at the place.
-fn is_minus(bytes: &[u8], place: usize) -> bool
-    ensures value { result ≡ (slice_index bytes.now place == 0x2D) }
-    ensures bounds { result ≡ true → place < length bytes.now }
+/// Returns whether the byte at the offset is a minus.
+fn is_minus(bytes: &[u8], offset: usize) -> bool
+    ensures value { result ≡ (slice_index bytes.now offset == 0x2D) }
+    ensures bounds { result ≡ true → offset < length bytes.now }
 {
-    place < bytes.len() && bytes[place] == b'-'
+    offset < bytes.len() && bytes[offset] == b'-'
 }
 
-/// Adds the characters of letters, or, where there are none, a plus if it is closed.
+/// Appends the characters of letters. If there are no letters, appends a plus if it is closed, and
+/// U+FFFD otherwise.
 fn push_letters_or_plus(
     alloc: Global,
     text: &mut String,
@@ -167,7 +129,7 @@ fn push_letters_or_plus(
     text.push(char::REPLACEMENT_CHARACTER)
 }
 
-/// The character of a byte that stands for itself.
+/// Returns the character of a byte outside of letters: itself if it is ASCII, and U+FFFD otherwise.
 fn ascii(byte: u8) -> char
     ensures { result ≡ ascii_char byte }
 {
@@ -178,7 +140,7 @@ fn ascii(byte: u8) -> char
     }
 }
 
-/// How many letters of Base64 stand at the front of the bytes.
+/// Returns the number of leading bytes that are letters of Base64.
 fn letters_length(bytes: &[u8]) -> usize
     ensures value { result ≡ letters_length bytes.now }
     ensures bounds { result ≤ length bytes.now }
@@ -189,14 +151,14 @@ fn letters_length(bytes: &[u8]) -> usize
         .unwrap_or(bytes.len())
 }
 
-/// Whether the byte is a letter of Base64.
+/// Returns whether the byte is a letter of Base64.
 fn is_letter(byte: u8) -> bool
     ensures { result ≡ is_letter byte }
 {
     byte.is_ascii_alphanumeric() || byte == b'+' || byte == b'/'
 }
 
-/// Adds the characters of letters.
+/// Appends the characters of letters.
 fn push_letters(alloc: Global, text: &mut String, letters: &[u8]) -> Result<(), AllocError>
     ensures { IfOk result (λ _. string_bytes text.new
         ≡ string_bytes text.old ++ encode_utf8_all (letters_chars letters.now)) }
@@ -211,7 +173,7 @@ fn push_letters(alloc: Global, text: &mut String, letters: &[u8]) -> Result<(), 
     Ok(())
 }
 
-/// The whole units of letters.
+/// Returns the whole units that letters have.
 fn units(alloc: Global, letters: &[u8]) -> Result<Vec<u16>, AllocError>
     ensures { IfOk result (λ units. units.items
         ≡ map (unit_at letters.now) (range_with_len 0 (units_count letters.now))) }
@@ -226,7 +188,7 @@ fn units(alloc: Global, letters: &[u8]) -> Result<Vec<u16>, AllocError>
     Ok(units)
 }
 
-/// How many whole units letters have: three for each eight letters.
+/// Returns the number of whole units that letters have: three for every eight letters.
 fn units_count(letters: &[u8]) -> usize
     ensures value { result ≡ units_count letters.now }
     ensures bounds { 16 * result ≤ 6 * length letters.now }
@@ -235,14 +197,14 @@ fn units_count(letters: &[u8]) -> usize
     length / 8 * 3 + length % 8 * 3 / 8
 }
 
-/// Whether few bits are left after the last whole unit, and all of them are 0.
+/// Returns whether fewer than six bits are left after the last whole unit, all of them 0.
 fn ends_whole(letters: &[u8]) -> bool
     ensures { result ≡ ends_whole letters.now }
 {
     letters.len() % 8 * 6 % 16 < 6 && unit(letters, units_count(letters)) == 0
 }
 
-/// The unit of a number; bits that are missing count 0.
+/// Returns the unit with this number, counted from 0; missing bits are 0.
 fn unit(letters: &[u8], number: usize) -> u16
     requires { 16 * number ≤ 6 * length letters.now }
     ensures { result ≡ unit_at letters.now number }
@@ -257,31 +219,31 @@ fn unit(letters: &[u8], number: usize) -> u16
     (four_letters(letters, group + 5) / 0x40 % 0x1_0000) as u16
 }
 
-/// The number of the four letters from a place on; those that are missing count 0.
-fn four_letters(letters: &[u8], place: usize) -> u32
-    requires { place ≤ length letters.now }
-    ensures value { result ≡ four_letters letters.now place }
+/// Returns the 24 bits of the four letters from an offset onwards; missing letters are 0.
+fn four_letters(letters: &[u8], offset: usize) -> u32
+    requires { offset ≤ length letters.now }
+    ensures value { result ≡ four_letters letters.now offset }
     ensures bounds { result < 0x100_0000 }
 {
-    let first = number_at(letters, place) * 0x4_0000;
-    let second = number_at(letters, place + 1) * 0x1000;
-    let third = number_at(letters, place + 2) * 0x40;
-    first + second + third + number_at(letters, place + 3)
+    let first = number_at(letters, offset) * 0x4_0000;
+    let second = number_at(letters, offset + 1) * 0x1000;
+    let third = number_at(letters, offset + 2) * 0x40;
+    first + second + third + number_at(letters, offset + 3)
 }
 
-/// The number of the letter at a place, and 0 where there is none.
-fn number_at(letters: &[u8], place: usize) -> u32
-    ensures value { result ≡ number_at letters.now place }
+/// Returns the value of the letter at an offset, and 0 past the end.
+fn number_at(letters: &[u8], offset: usize) -> u32
+    ensures value { result ≡ number_at letters.now offset }
     ensures bounds { result < 64 }
 {
-    if place < letters.len() {
-        u32::from(letter_number(letters[place]))
+    if offset < letters.len() {
+        u32::from(letter_number(letters[offset]))
     } else {
         0
     }
 }
 
-/// The number of a letter, and 0 for any other byte.
+/// Returns the value of a letter, and 0 for any other byte.
 fn letter_number(byte: u8) -> u8
     ensures value { result ≡ letter_number byte }
     ensures bounds { result < 64 }

@@ -9,7 +9,7 @@
 
 use crate::notation::{Answer, Row};
 use mail_charsets::{AllCharsets, Encoding, Indexes};
-use mail_codec::charset::{Decode, KnownCharsets, WithUtf7};
+use mail_codec::charset::{Decode, KnownCharsets, Utf7};
 use std::alloc::Global;
 
 /// Makes the call of a row, if it is one of these.
@@ -53,13 +53,13 @@ fn decode(alloc: Global, row: &Row, answer: &mut Answer) {
     };
     let indexes = Indexes::standard();
     for at in 1..row.count() {
-        answer.made(encoding.decode_under(alloc, &indexes, row.bytes(at)));
+        answer.made(encoding.decode_under(alloc, row.bytes(at), &indexes));
     }
 }
 
 /// The texts of bytes under a label that may be one of UTF-7.
 fn decode_with_utf_7(alloc: Global, row: &Row, answer: &mut Answer) {
-    let Some(charset) = WithUtf7(AllCharsets::standard()).for_label(row.bytes(0)) else {
+    let Some(charset) = (AllCharsets::standard(), Utf7).for_label(row.bytes(0)) else {
         return answer.word("none");
     };
     for at in 1..row.count() {

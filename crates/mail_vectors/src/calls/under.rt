@@ -67,12 +67,7 @@ fn call_under_made_up(
 ) -> Result<(), MailParseError> {
     let made_up = made_up(alloc, text)?;
     let tables = own_tables(alloc, made_up.as_slice())?;
-    let known = AllCharsets {
-        iso_8859: tables.as_slice(),
-        windows: &[],
-        others: &[],
-        indexes: Indexes::standard(),
-    };
+    let known = (tables.as_slice(), Indexes::standard());
     call_under(alloc, row, answer, &known);
     Ok(())
 }

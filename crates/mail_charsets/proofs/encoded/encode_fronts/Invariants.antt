@@ -3,7 +3,7 @@ use Rattle.mail_codec.specs.Front.{text_by}
 use Rattle.mail_charsets.specs.Front.{front_by}
 use Rattle.mail_charsets.proofs.encoded.encode_fronts.Given as goal
 
--- what stands in the buffer, and then the text of the other bytes, is all
+-- the text in the buffer, and then that of the other bytes, is the whole text
 abbrev pub invariant-fronts : goal.invariant-fronts
 invariant-fronts g l =
     let front = front_by (g.E.Encoded.long l.encoding) (g.E.Encoded.single l.encoding) (g.E.Encoded.pairs l.encoding) in record {

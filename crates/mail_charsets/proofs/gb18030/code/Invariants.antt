@@ -2,7 +2,7 @@ use Rattle.std.proofs.Common.{◌≡◌, ◌-◌, ◌<◌, ◌≤◌, length, dr
 use Rattle.mail_charsets.specs.Gb18030.{range_code}
 use Rattle.mail_charsets.proofs.gb18030.code.Given as goal
 
--- the ranges that are left decide
+-- the remaining ranges decide
 abbrev pub invariant-rows : goal.invariant-rows
 invariant-rows l = record {
   within : l.at ≤ length l.ranges;

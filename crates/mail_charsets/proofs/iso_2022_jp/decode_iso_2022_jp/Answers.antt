@@ -14,9 +14,9 @@ pub rest-preserved : goal.rest-preserved
 rest-preserved c =
     let next = c.encode_steps-written.result.state in
     let taken = c.encode_steps-written.result.taken in
-    ap (λ xs. string_bytes c.push_made.new.text ++ jp_text_from c.args.index.now next xs) (take_rest c.rest.rest.now taken)
+    ap (λ xs. string_bytes c.push_utf8.new.text ++ jp_text_from c.args.index.now next xs) (take_rest c.rest.rest.now taken)
     ∙ ap (λ made. made ++ jp_text_from c.args.index.now next (drop taken c.rest.rest.now))
-    c.in_ok-push_made.ensures
+    c.in_ok-push_utf8.ensures
     ∙ steps_pushed c.args.index.now c.rest.state next c.rest.rest.now _ _ _ taken c.encode_steps-written.ensures.written c.rest.invariant
 
 pub rest-init : goal.rest-init
@@ -26,11 +26,11 @@ pub rest-smaller : goal.rest-smaller
 rest-smaller c =
     fewer_left c.rest.rest.now c.encode_steps-written.result.taken c.encode_steps-written.ensures.takes_some (some_left _ (sym c.rest-test.ensures))
 
-pub encode_steps-written-requires-clause-room : goal.encode_steps-written-requires-clause-room
-encode_steps-written-requires-clause-room c = omega (arith, c.rest-test.array_long)
+pub encode_steps-written-requires-clause-capacity : goal.encode_steps-written-requires-clause-capacity
+encode_steps-written-requires-clause-capacity c = omega (arith, c.rest-test.array_long)
 
 pub encode_steps-written-requires-clause-some : goal.encode_steps-written-requires-clause-some
 encode_steps-written-requires-clause-some c = some_left _ (sym c.rest-test.ensures)
 
-pub push_made-requires : goal.push_made-requires
-push_made-requires c = c.encode_steps-written.ensures.utf8
+pub push_utf8-requires : goal.push_utf8-requires
+push_utf8-requires c = c.encode_steps-written.ensures.utf8

@@ -2,7 +2,7 @@ use Rattle.std.proofs.Common.{◌≡◌, ◌-◌, ◌*◌, ◌≤◌, ◌++◌, 
 use Rattle.mail_charsets.specs.Iso2022Jp.{jp_text_from}
 use Rattle.mail_charsets.proofs.iso_2022_jp.encode_steps.Given as goal
 
--- what stands in the buffer, and then the text of the other bytes, is all
+-- the text in the buffer, and then that of the other bytes, is the whole text
 abbrev pub invariant-steps : goal.invariant-steps
 invariant-steps l = record {
   taken_within : l.taken ≤ length l.bytes;

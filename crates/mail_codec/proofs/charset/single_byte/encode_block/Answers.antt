@@ -16,11 +16,11 @@ copied : (high bytes buffer part : List ℕ) (at from run : ℕ) → from ≤ le
     → IsAscii (take run (take (length bytes - from) (drop from bytes))) → take run part ≡ take run (take (length bytes - from) (drop from bytes))
     → at + (length bytes - from) ≤ length buffer → length part ≡ length (take (length buffer - at) (drop at buffer)) → take at buffer ≡ spelled high (take from bytes) → IsUtf8 (take at buffer)
     → Copied high bytes (put_mid at (length buffer - at) buffer part) at from run
-copied high bytes buffer part at from run below fits ascii is room same text utf8 =
+copied high bytes buffer part at from run below fits ascii is capacity same text utf8 =
     let rest = take_rest bytes from in
     let few : from + run ≤ length bytes = omega (arith, below, fits, ap length rest, length-drop from bytes) in
     let low : IsAscii (take run (drop from bytes)) = subst (λ xs. IsAscii (take run xs)) rest ascii in
-    let written = written_rest at run buffer part (omega (arith, few, room)) same (take run (drop from bytes)) (is ∙ ap (take run) rest) in
+    let written = written_rest at run buffer part (omega (arith, few, capacity)) same (take run (drop from bytes)) (is ∙ ap (take run) rest) in
     record {
       few = few;
       text = written ∙ ap (λ xs. xs ++ take run (drop from bytes)) text ∙ spelled_run high bytes from run low;
@@ -30,25 +30,25 @@ copied high bytes buffer part at from run below fits ascii is room same text utf
 pub returns-then-from-bytes-clause-written : goal.returns-then-from-bytes-clause-written
 returns-then-from-bytes-clause-written c =
     let run = copied c.args.high.now c.args.bytes.now c.characters.buffer c.put_ascii-run.new.output c.characters.at c.characters.from c.put_ascii-run.result c.characters.invariant.below c.put_ascii-run.ensures.bounds c.put_ascii-run.ensures.ascii c.put_ascii-run.ensures.written
-    (omega (arith, c.requires.room, c.characters.invariant.within, c.characters.invariant.below)) c.put_ascii-run.auto.output c.characters.invariant.text c.characters.invariant.utf8 in
+    (omega (arith, c.requires.capacity, c.characters.invariant.within, c.characters.invariant.below)) c.put_ascii-run.auto.output c.characters.invariant.text c.characters.invariant.utf8 in
     run.text ∙ ap (spelled c.args.high.now) (take_all _ c.args.bytes.now (omega (arith, c.if-from-bytes.true)))
 
 pub returns-then-from-bytes-clause-utf8 : goal.returns-then-from-bytes-clause-utf8
 returns-then-from-bytes-clause-utf8 c =
     let run = copied c.args.high.now c.args.bytes.now c.characters.buffer c.put_ascii-run.new.output c.characters.at c.characters.from c.put_ascii-run.result c.characters.invariant.below c.put_ascii-run.ensures.bounds c.put_ascii-run.ensures.ascii c.put_ascii-run.ensures.written
-    (omega (arith, c.requires.room, c.characters.invariant.within, c.characters.invariant.below)) c.put_ascii-run.auto.output c.characters.invariant.text c.characters.invariant.utf8 in
+    (omega (arith, c.requires.capacity, c.characters.invariant.within, c.characters.invariant.below)) c.put_ascii-run.auto.output c.characters.invariant.text c.characters.invariant.utf8 in
     run.utf8
 
 pub returns-then-from-bytes-clause-bounds : goal.returns-then-from-bytes-clause-bounds
 returns-then-from-bytes-clause-bounds c =
     let run = copied c.args.high.now c.args.bytes.now c.characters.buffer c.put_ascii-run.new.output c.characters.at c.characters.from c.put_ascii-run.result c.characters.invariant.below c.put_ascii-run.ensures.bounds c.put_ascii-run.ensures.ascii c.put_ascii-run.ensures.written
-    (omega (arith, c.requires.room, c.characters.invariant.within, c.characters.invariant.below)) c.put_ascii-run.auto.output c.characters.invariant.text c.characters.invariant.utf8 in
-    omega (arith, run.few, c.requires.room, c.characters.invariant.within, c.characters.invariant.below)
+    (omega (arith, c.requires.capacity, c.characters.invariant.within, c.characters.invariant.below)) c.put_ascii-run.auto.output c.characters.invariant.text c.characters.invariant.utf8 in
+    omega (arith, run.few, c.requires.capacity, c.characters.invariant.within, c.characters.invariant.below)
 
 pub characters-preserved : goal.characters-preserved
 characters-preserved c =
     let run = copied c.args.high.now c.args.bytes.now c.characters.buffer c.put_ascii-run.new.output c.characters.at c.characters.from c.put_ascii-run.result c.characters.invariant.below c.put_ascii-run.ensures.bounds c.put_ascii-run.ensures.ascii c.put_ascii-run.ensures.written
-    (omega (arith, c.requires.room, c.characters.invariant.within, c.characters.invariant.below)) c.put_ascii-run.auto.output c.characters.invariant.text c.characters.invariant.utf8 in
+    (omega (arith, c.requires.capacity, c.characters.invariant.within, c.characters.invariant.below)) c.put_ascii-run.auto.output c.characters.invariant.text c.characters.invariant.utf8 in
     record {
       below = omega (arith, run.few, c.if-from-bytes.false);
       within = omega (arith, run.few, c.characters.invariant.within, c.put_char-at.ensures.bounds);

@@ -2,7 +2,7 @@ use Rattle.std.proofs.Common.{◌≡◌, ◌*◌, ◌≤◌, ◌-◌, length, ta
 use Rattle.mail_codec.proofs.lemmas.CharsetSingleByte.{spelled}
 use Rattle.mail_codec.proofs.charset.single_byte.encode_block.Given as goal
 
--- the text of the bytes so far stands at the front of the buffer
+-- the text of the bytes so far is at the front of the buffer
 abbrev pub invariant-characters : goal.invariant-characters
 invariant-characters l = record {
   below : l.from ≤ length l.bytes;

@@ -3,7 +3,7 @@ use Rattle.mail_codec.specs.Charset.{utf_16_chars}
 use Rattle.mail_codec.specs.private.Utf16.{unit_of}
 use Rattle.mail_codec.proofs.charset.utf16.encode_front.Given as goal
 
--- what stands in the buffer, and then the text of the other bytes, is all
+-- the text in the buffer, and then that of the other bytes, is the whole text
 abbrev pub invariant-loop-taken : goal.invariant-loop-taken
 invariant-loop-taken l = record {
   taken_within : l.taken ≤ length l.bytes;

@@ -3,7 +3,7 @@ use Rattle.std.specs.Option.{unwrap_or}
 use Rattle.std.proofs.lemmas.Iterator.{YieldsList-from_slice}
 use Rattle.std.proofs.lemmas.Iterator.Search.{position_from_yields_List}
 use Rattle.mail_codec.specs.Utf7.{is_letter}
-use Rattle.mail_codec.proofs.lemmas.Utf7.{place_unwrapped}
+use Rattle.mail_codec.proofs.lemmas.Utf7.{position_unwrapped}
 use Rattle.mail_codec.proofs.charset.utf_7.letters_length.Goals as goal
 
 pub returns-clause-value : goal.returns-clause-value
@@ -11,4 +11,4 @@ returns-clause-value c =
     c.unwrap_or.ensures
     ∙ ap (λ o. unwrap_or o (length c.args.bytes.now))
     (position_from_yields_List (λ b. not (is_letter b)) _ _ c.position.result c.position.ensures.ran (YieldsList-from_slice _ c.iter.ensures.rest) (λ x b q k. search (rules, tests)))
-    ∙ place_unwrapped (λ b. not (is_letter b)) c.args.bytes.now
+    ∙ position_unwrapped (λ b. not (is_letter b)) c.args.bytes.now

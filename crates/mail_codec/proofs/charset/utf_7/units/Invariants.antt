@@ -3,7 +3,7 @@ use Rattle.std.specs.List.{range_with_len}
 use Rattle.mail_codec.specs.Utf7.{unit_at}
 use Rattle.mail_codec.proofs.charset.utf_7.units.Given as goal
 
--- the units so far are those of the first numbers
+-- the units so far are the first `number` ones
 abbrev pub invariant-units : goal.invariant-units
 invariant-units l = record {
   few : l.number ≤ l.count;

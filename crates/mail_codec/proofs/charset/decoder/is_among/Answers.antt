@@ -3,7 +3,7 @@ use Rattle.std.specs.Str.{str_eq_ignore_ascii_case}
 use Rattle.std.proofs.lemmas.Iterator.{YieldsList-from_slice}
 use Rattle.std.proofs.lemmas.Iterator.Search.{any_from_yields_List}
 use Rattle.mail_codec.proofs.lemmas.CharsetLabels.{is_among_labels-referred}
-use Rattle.mail_codec.proofs.charset.labels.is_among.Goals as goal
+use Rattle.mail_codec.proofs.charset.decoder.is_among.Goals as goal
 
 pub returns : goal.returns
 returns c =

@@ -1,5 +1,5 @@
 use Rattle.std.proofs.Common.{◌≤◌, ◌-◌, length, take, IsAscii}
-use Rattle.mail_codec.proofs.charset.single_byte.ascii_blocks_length.Given as goal
+use Rattle.mail_codec.proofs.charset.decoder.ascii_blocks_length.Given as goal
 
 abbrev pub invariant-loop-at : goal.invariant-loop-at
 invariant-loop-at l = (l.at ≤ length l.bytes) × IsAscii (take l.at l.bytes)
