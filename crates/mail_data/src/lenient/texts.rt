@@ -1,7 +1,6 @@
 //! Texts whose label says nothing of their bytes, and damaged ones.
-ghost use Rattle.std.specs.Prelude.{◌≡◌, false, is_some, option_map, IfErr, IfOk, Ok};
+ghost use Rattle.std.specs.Prelude.{◌≡◌, false, is_some, IfErr, IfOk, Ok};
 ghost use Rattle.std.specs.Str.{is_utf8};
-ghost use Rattle.mail_codec.specs.Charset.{mark_at_start};
 ghost use Rattle.mailparse.specs.Body.{BodyKind, in_base64, text_under_in};
 ghost use Rattle.mailparse.specs.BodyViews.{Content, IsBody};
 ghost use Rattle.mailparse.specs.Mail.{root};
@@ -187,8 +186,8 @@ pub fn charset_used<'c, K: KnownCharsets>(
     if !is_known(label, known) {
         return "us-ascii";
     }
-    if let Some(name) = marked_name(bytes) {
-        return name;
+    if let Some((charset, _)) = Charset::for_bom(bytes) {
+        return charset_name(charset);
     }
     if is_default(label) {
         return "windows-1252";
@@ -228,21 +227,16 @@ fn is_known<K: KnownCharsets>(label: &str, known: &K) -> bool
     known.for_label(label.as_bytes()).is_some()
 }
 
-/// The name of the charset whose byte order mark stands at the front.
-fn marked_name(bytes: &[u8]) -> Option<&'static str>
-    ensures { option_map (λ name. name.now) result
-        ≡ option_map (λ mark. charset_name mark.0) (mark_at_start bytes.now) }
+/// Returns the name of a charset.
+fn charset_name(charset: Charset) -> &'static str
+    ensures { result.now ≡ charset_name charset }
 {
-    if bytes.starts_with(b"\xEF\xBB\xBF") {
-        return Some("utf-8");
+    match charset {
+        Charset::Utf8 => "utf-8",
+        Charset::Windows1252 => "windows-1252",
+        Charset::Utf16Le => "utf-16le",
+        Charset::Utf16Be => "utf-16be",
     }
-    if bytes.starts_with(b"\xFE\xFF") {
-        return Some("utf-16be");
-    }
-    if bytes.starts_with(b"\xFF\xFE") {
-        return Some("utf-16le");
-    }
-    None
 }
 
 /// The text of decoded bytes of this type, under its label.
