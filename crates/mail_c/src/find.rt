@@ -8,7 +8,6 @@ ghost use Rattle.mail_c.specs.Room.{Gives, bytes_found};
 
 use mail_data::lenient::{body_text, ids_in, lenient_body, own_ids_in};
 use mail_lines::{Reading, write_recipients, write_single};
-use mailparse::body::Body;
 use mailparse::{
     KnownCharsets, MailHeaderMap, MailParseError, parse_headers, parse_mail, parse_mail_in,
 };
@@ -56,18 +55,13 @@ pub(crate) fn recipients<K: KnownCharsets>(
 }
 
 /// The bytes that the body of a message stands for.
-#[tactic(auto, unfolding(crate::specs::Calls::content, mailparse::specs::Body::decoded))]
+#[tactic(auto, unfolding(crate::specs::Calls::content))]
 pub(crate) fn content(alloc: Global, raw: &[u8]) -> Result<Option<Vec<u8>>, MailParseError>
     ensures { AnswersOrMemory bytes_found result (content raw.now) }
 {
     let mail = parse_mail(alloc, raw)?;
-    match lenient_body(alloc, &mail)? {
-        Body::Base64(body) => Ok(Some(body.get_decoded(alloc)?)),
-        Body::QuotedPrintable(body) => Ok(Some(body.get_decoded(alloc)?)),
-        Body::SevenBit(body) => Ok(Some(body.get_raw().to_vec(alloc)?)),
-        Body::EightBit(body) => Ok(Some(body.get_raw().to_vec(alloc)?)),
-        Body::Binary(body) => Ok(Some(body.get_raw().to_vec(alloc)?)),
-    }
+    let body = lenient_body(alloc, &mail)?;
+    Ok(Some(body.decoded(alloc)?.into_owned(alloc)?))
 }
 
 /// The text of the body of a message.

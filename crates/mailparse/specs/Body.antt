@@ -1,5 +1,5 @@
 -- The body of a message: the transfer encoding that it is in (RFC 2045, section 6), its bytes and its text.
-use Rattle.std.specs.Prelude.{ℕ, List, codes, Option, Some, None, Result, Ok, Err, if◌then◌else◌}
+use Rattle.std.specs.Prelude.{ℕ, Bool, true, false, List, codes, Option, Some, None, Result, Ok, Err, if◌then◌else◌}
 use Rattle.std.specs.Option.{option_map_or}
 use Rattle.std.specs.Str.{bytes_eq}
 use Rattle.mail_codec.specs.Places.{without_ascii_whitespace}
@@ -21,6 +21,14 @@ kind_named (Some name) =
     else (if bytes_eq name (codes "8bit") then in_8bit
     else (if bytes_eq name (codes "binary") then in_binary
     else in_7bit)))
+
+-- the body is encoded: its bytes do not stand for themselves
+abbrev pub is_encoded : BodyKind → Bool
+is_encoded in_base64 = true
+is_encoded in_quoted_printable = true
+is_encoded in_7bit = false
+is_encoded in_8bit = false
+is_encoded in_binary = false
 
 -- what is read or refused as Base64
 abbrev pub base64_bytes : Result (List ℕ) ℕ → Reads (List ℕ)

@@ -57,6 +57,14 @@ body_content (SevenBit b) = text_content b
 body_content (EightBit b) = text_content b
 body_content (Binary b) = binary_content b
 
+-- the transfer encoding of a body
+abbrev pub kind_of : Body → BodyKind
+kind_of (Base64 b) = encoded_kind b
+kind_of (QuotedPrintable b) = encoded_kind b
+kind_of (SevenBit b) = in_7bit
+kind_of (EightBit b) = in_8bit
+kind_of (Binary b) = in_binary
+
 -- the text that names a transfer encoding, if there is one
 abbrev pub name_of : Option (String Global) → Option (List ℕ)
 name_of None = None

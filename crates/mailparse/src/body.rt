@@ -1,7 +1,9 @@
 //! The body of a message: its transfer encoding, its bytes and its text.
-ghost use Rattle.std.specs.Prelude.{◌≡◌};
-ghost use Rattle.mailparse.specs.Body.{BodyKind, kind_named};
-ghost use Rattle.mailparse.specs.BodyViews.{Content, IsBody, body_content, name_of};
+ghost use Rattle.std.specs.Prelude.{◌≡◌, ◌↔◌, true, false, IfOk, IsOk};
+ghost use Rattle.std.specs.Cow.{IsBorrowedSlice, cow_slice_items};
+ghost use Rattle.mailparse.specs.Body.{BodyKind, decoded, is_encoded, kind_named};
+ghost use Rattle.mailparse.specs.BodyViews.{Content, IsBody, body_content, kind_of, name_of};
+ghost use Rattle.mailparse.specs.Outcome.{AnswersOrMemory};
 ghost use Rattle.mailparse.specs.Views.{content_type};
 
 mod binary;
@@ -10,10 +12,14 @@ mod encoded;
 mod text;
 
 use crate::content_type::ParsedContentType;
+use crate::error::MailParseError;
 pub use binary::BinaryBody;
 use content::BodyContent;
+pub(crate) use content::text_under;
 pub use encoded::EncodedBody;
 use encoded::Encoding;
+use std::alloc::Global;
+use std::borrow::CowSlice;
 pub use text::TextBody;
 
 /// A body by its transfer encoding (RFC 2045, section 6).
@@ -104,6 +110,46 @@ impl<'a> Body<'a> {
             Body::Base64(body) | Body::QuotedPrintable(body) => body.get_raw(),
             Body::SevenBit(body) | Body::EightBit(body) => body.get_raw(),
             Body::Binary(body) => body.get_raw(),
+        }
+    }
+
+    /// Returns the decoded bytes of the body: its transfer encoding is undone, and the charset is
+    /// ignored (RFC 2045, section 6).
+    ///
+    /// A body that is not encoded is borrowed from the message, without memory being taken. Takes
+    /// memory for the bytes of any other.
+    ///
+    /// # Errors
+    ///
+    /// `MailParseError::Base64DecodeError` where a body in Base64 is not Base64, with the index,
+    /// counted from 0, of the first invalid group of four; and `MailParseError::Memory` where it
+    /// runs out of memory.
+    ///
+    /// # Examples
+    ///
+    /// ```rust
+    /// use mailparse::parse_mail;
+    ///
+    /// let mail = parse_mail(alloc, b"Content-Transfer-Encoding: base64\n\naGk=")?;
+    /// let body = mail.get_body_encoded(alloc)?;
+    /// assert_eq!(rt; body.decoded(alloc)?.as_slice(), b"hi".as_slice());
+    /// ```
+    #[tactic(auto, unfolding(crate::specs::Body::decoded))]
+    pub fn decoded(&self, alloc: Global) -> Result<CowSlice<'a, u8>, MailParseError>
+        ensures value { AnswersOrMemory cow_slice_items result
+            (decoded (kind_of self.now) (body_content self.now).raw) }
+        ensures made { (kind : BodyKind) (given : Content) → IsBody kind given self.now →
+            AnswersOrMemory cow_slice_items result (decoded kind given.raw) }
+        ensures borrowed { IfOk result (λ bytes.
+            IsBorrowedSlice bytes ↔ is_encoded (kind_of self.now) ≡ false) }
+        ensures no_alloc { is_encoded (kind_of self.now) ≡ false → IsOk result }
+    {
+        match self {
+            Body::Base64(body) | Body::QuotedPrintable(body) => {
+                Ok(CowSlice::Owned(body.get_decoded(alloc)?))
+            }
+            Body::SevenBit(body) | Body::EightBit(body) => Ok(CowSlice::Borrowed(body.get_raw())),
+            Body::Binary(body) => Ok(CowSlice::Borrowed(body.get_raw())),
         }
     }
 }

@@ -5,7 +5,7 @@
 //!   the text of that; each of the last two may be a refusal.
 
 use crate::notation::{Answer, Row};
-use mailparse::body::{Body, EncodedBody};
+use mailparse::body::Body;
 use mailparse::{MailParseError, ParsedContentType};
 use std::alloc::Global;
 use std::collections::BTreeMap;
@@ -53,22 +53,16 @@ impl Label {
 /// Writes a body.
 pub fn push_body(alloc: Global, answer: &mut Answer, body: &Body<'_>) {
     push_raw(answer, body);
-    match body {
-        Body::Base64(body) | Body::QuotedPrintable(body) => push_decoded(alloc, answer, body),
-        Body::SevenBit(body) | Body::EightBit(body) => {
-            answer.bytes(body.get_raw());
-            answer.text_or_refusal(body.get_as_string(alloc));
-        }
-        Body::Binary(body) => {
-            answer.bytes(body.get_raw());
-            answer.text_or_refusal(body.get_as_string(alloc));
-        }
-    }
+    answer.bytes_or_refusal(decoded(alloc, body));
+    answer.text_or_refusal(match body {
+        Body::Base64(body) | Body::QuotedPrintable(body) => body.get_decoded_as_string(alloc),
+        Body::SevenBit(body) | Body::EightBit(body) => body.get_as_string(alloc),
+        Body::Binary(body) => body.get_as_string(alloc),
+    });
 }
 
-fn push_decoded(alloc: Global, answer: &mut Answer, body: &EncodedBody<'_>) {
-    answer.bytes_or_refusal(body.get_decoded(alloc));
-    answer.text_or_refusal(body.get_decoded_as_string(alloc));
+fn decoded(alloc: Global, body: &Body<'_>) -> Result<Vec<u8>, MailParseError> {
+    Ok(body.decoded(alloc)?.into_owned(alloc)?)
 }
 
 /// Writes the kind of a body, and its bytes as they stand.

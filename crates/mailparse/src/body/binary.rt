@@ -6,7 +6,7 @@ ghost use Rattle.mailparse.specs.BodyViews.{binary_content};
 ghost use Rattle.mailparse.specs.Outcome.{GivesText};
 ghost use Rattle.mailparse.specs.Views.{content_type};
 
-use super::content::BodyContent;
+use super::content::{BodyContent, text_under};
 use crate::content_type::ParsedContentType;
 use crate::error::MailParseError;
 use mail_codec::charset::{KnownCharsets, SingleByteTable};
@@ -160,6 +160,7 @@ impl<'a> BinaryBody<'a> {
         ensures { GivesText result (text_under_in (K.known known.now)
             (binary_content self.now).ctype.charset (binary_content self.now).raw) }
     {
-        Ok(self.content.text_of(alloc, self.get_raw(), known)?)
+        let label = self.content.ctype.charset.as_str();
+        Ok(text_under(alloc, label, self.content.raw, known)?)
     }
 }

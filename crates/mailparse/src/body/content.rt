@@ -1,7 +1,6 @@
 //! What every body is made of.
 ghost use Rattle.std.specs.Prelude.{◌≡◌, string_bytes, IfOk};
 ghost use Rattle.mailparse.specs.Body.{text_under_in};
-ghost use Rattle.mailparse.specs.BodyViews.{content};
 
 use crate::content_type::ParsedContentType;
 use mail_codec::charset::{Decode, KnownCharsets, decode_ascii};
@@ -14,21 +13,19 @@ pub(super) struct BodyContent<'a> {
     pub(super) ctype: &'a ParsedContentType,
 }
 
-impl<'a> BodyContent<'a> {
-    /// The text of these bytes under the charset of the type.
-    #[tactic(auto, unfolding(crate::specs::Body::text_under_in))]
-    pub(super) fn text_of<K: KnownCharsets>(
-        &self,
-        alloc: Global,
-        bytes: &[u8],
-        known: &K,
-    ) -> Result<String, AllocError>
-        ensures { IfOk result (λ text. string_bytes text ≡ text_under_in
-            (K.known known.now) (content self.now).ctype.charset bytes.now) }
-    {
-        match known.for_label(self.ctype.charset.as_bytes()) {
-            Some(charset) => charset.decode(alloc, bytes),
-            None => decode_ascii(alloc, bytes)?.into_owned(alloc),
-        }
+/// The text of bytes under the label of a charset.
+#[tactic(auto, unfolding(crate::specs::Body::text_under_in))]
+pub(crate) fn text_under<K: KnownCharsets>(
+    alloc: Global,
+    label: &str,
+    bytes: &[u8],
+    known: &K,
+) -> Result<String, AllocError>
+    ensures { IfOk result (λ text. string_bytes text
+        ≡ text_under_in (K.known known.now) label.now bytes.now) }
+{
+    match known.for_label(label.as_bytes()) {
+        Some(charset) => charset.decode(alloc, bytes),
+        None => decode_ascii(alloc, bytes)?.into_owned(alloc),
     }
 }

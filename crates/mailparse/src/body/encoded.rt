@@ -6,7 +6,7 @@ ghost use Rattle.mailparse.specs.BodyViews.{encoded_content, encoded_kind};
 ghost use Rattle.mailparse.specs.Outcome.{ReadsBytes, ReadsText};
 ghost use Rattle.mailparse.specs.Views.{content_type};
 
-use super::content::BodyContent;
+use super::content::{BodyContent, text_under};
 use crate::content_type::ParsedContentType;
 use crate::error::{Base64Fault, MailParseError};
 use mail_codec::charset::{KnownCharsets, SingleByteTable};
@@ -216,7 +216,8 @@ impl<'a> EncodedBody<'a> {
             (encoded_content self.now).raw) }
     {
         let bytes = self.get_decoded(alloc)?;
-        Ok(self.content.text_of(alloc, bytes.as_slice(), known)?)
+        let label = self.content.ctype.charset.as_str();
+        Ok(text_under(alloc, label, bytes.as_slice(), known)?)
     }
 }
 

@@ -6,7 +6,7 @@ ghost use Rattle.mailparse.specs.Mail.{block_of, body_bytes, body_kind, body_tex
 ghost use Rattle.mailparse.specs.Outcome.{AnswersOrMemory, IsMemory, ReadsText, ReadsBytes};
 ghost use Rattle.mailparse.specs.Views.{disposition, placement_of, tree_of, trees_left};
 
-use crate::body::Body;
+use crate::body::{Body, text_under};
 use crate::content_type::ParsedContentType;
 use crate::disposition::{ParsedContentDisposition, parse_content_disposition_in};
 use crate::error::MailParseError;
@@ -252,7 +252,7 @@ impl<'a> ParsedMail<'a> {
     /// assert_eq!(rt; mail.get_body_in(alloc, &tables.as_slice())?.as_str(), "5 €");
     /// assert_eq!(rt; mail.get_body_in(alloc, &())?.as_str(), "5 \u{FFFD}");
     /// ```
-    #[tactic(auto, unfolding(crate::specs::Body::decoded_text_in, crate::specs::Body::decoded))]
+    #[tactic(auto, unfolding(crate::specs::Body::decoded_text_in))]
     pub fn get_body_in<K: KnownCharsets>(
         &self,
         alloc: Global,
@@ -260,13 +260,10 @@ impl<'a> ParsedMail<'a> {
     ) -> Result<String, MailParseError>
         ensures { ReadsText result (body_text_in (K.known known.now) (root (tree_of self.now))) }
     {
-        match self.get_body_encoded(alloc)? {
-            Body::Base64(body) => body.get_decoded_as_string_in(alloc, known),
-            Body::QuotedPrintable(body) => body.get_decoded_as_string_in(alloc, known),
-            Body::SevenBit(body) => body.get_as_string_in(alloc, known),
-            Body::EightBit(body) => body.get_as_string_in(alloc, known),
-            Body::Binary(body) => body.get_as_string_in(alloc, known),
-        }
+        let body = self.get_body_encoded(alloc)?;
+        let bytes = body.decoded(alloc)?;
+        let label = self.ctype.charset.as_str();
+        Ok(text_under(alloc, label, bytes.as_slice(), known)?)
     }
 
     /// Returns the decoded bytes of the body: its transfer encoding is undone, and the charset is
@@ -288,17 +285,11 @@ impl<'a> ParsedMail<'a> {
     /// let mail = parse_mail(alloc, b"Content-Transfer-Encoding: base64\n\n/w==")?;
     /// assert_eq!(rt; mail.get_body_raw(alloc)?.as_slice(), b"\xFF".as_slice());
     /// ```
-    #[tactic(auto, unfolding(crate::specs::Body::decoded))]
     pub fn get_body_raw(&self, alloc: Global) -> Result<Vec<u8>, MailParseError>
         ensures { ReadsBytes result (body_bytes (root (tree_of self.now))) }
     {
-        match self.get_body_encoded(alloc)? {
-            Body::Base64(body) => body.get_decoded(alloc),
-            Body::QuotedPrintable(body) => body.get_decoded(alloc),
-            Body::SevenBit(body) => Ok(body.get_raw().to_vec(alloc)?),
-            Body::EightBit(body) => Ok(body.get_raw().to_vec(alloc)?),
-            Body::Binary(body) => Ok(body.get_raw().to_vec(alloc)?),
-        }
+        let body = self.get_body_encoded(alloc)?;
+        Ok(body.decoded(alloc)?.into_owned(alloc)?)
     }
 
     /// Returns how the message is to be shown: what its first `Content-Disposition` header says
