@@ -308,34 +308,6 @@ pub fn value_text(alloc: Global, value: &[u8]) -> Result<String, MailParseError>
     header.get_value(alloc)
 }
 
-/// Returns the text that some bytes show as the value of a header, as `get_value_with` reads it
-/// (RFC 2047, section 2).
-///
-/// Takes memory for the text. Control characters stay in it, as with `get_value`.
-///
-/// # Errors
-///
-/// `MailParseError::Memory` where it runs out of memory.
-///
-/// # Examples
-///
-/// ```rust
-/// use mailparse::{SingleByteTable, value_text_with};
-///
-/// let tables = [SingleByteTable { labels: &["x-euro"], high: &['€'; 128] }];
-/// let text = value_text_with(alloc, b"=?X-Euro?Q?5_=80?=", &tables)?;
-/// assert_eq!(rt; text.as_str(), "5 €");
-/// ```
-pub fn value_text_with(
-    alloc: Global,
-    value: &[u8],
-    tables: &[SingleByteTable<'_>],
-) -> Result<String, MailParseError>
-    ensures { GivesText result (lenient_value_in (charsets_with tables.now) value.now) }
-{
-    value_text_in(alloc, value, &tables)
-}
-
 /// Returns the text that some bytes show as the value of a header, as `get_value_in` reads it (RFC
 /// 2047, section 2).
 ///

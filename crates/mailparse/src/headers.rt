@@ -54,13 +54,6 @@ impl<'a> Headers<'a> {
     {
         self.raw_bytes
     }
-
-    /// The headers.
-    pub(crate) fn list(&self) -> &[MailHeader<'a>]
-        ensures { result.now ≡ self.now.headers }
-    {
-        self.headers
-    }
 }
 
 /// Iterates over the headers in the order in which they stand in the message.

@@ -39,7 +39,7 @@ pub use disposition::{
 };
 pub use error::{Base64Fault, MailParseError, QuotedPrintableFault, Wrapped};
 pub use header::parse::parse_header;
-pub use header::{MailHeader, value_text, value_text_in, value_text_with};
+pub use header::{MailHeader, value_text, value_text_in};
 pub use headers::block::parse_headers;
 pub use headers::map::MailHeaderMap;
 pub use mail::{

@@ -135,14 +135,16 @@ same_name key name bytes utf8 =
     small_scalars (b ∷ bs) h = and_from _ _ (cond-true _ _ _ (lt-ltb b 55296 (let small = h 0 in omega arith))) (small_scalars bs (λ i. h (suc i)))
 
 -- where the name is ASCII, the key's bytes are compared with its bytes
-pub same_ascii : (key name : List ℕ) → ((i : ℕ) → get_or key i 0 < 256) → IsUtf8 name → IsAscii name → str_eq_ignore_ascii_case (latin1_text key) name ≡ bytes_eq (map low key) (map low name)
+same_ascii : (key name : List ℕ) → ((i : ℕ) → get_or key i 0 < 256) → IsUtf8 name → IsAscii name → str_eq_ignore_ascii_case (latin1_text key) name ≡ bytes_eq (map low key) (map low name)
 same_ascii key name bytes utf8 ascii = same_name key name bytes utf8 ∙ ap (pointwise eq_ignore_ascii_case key) (chars-IsAscii name ascii) ∙ sym (pointwise_low key name)
 
--- as a test of the bytes tells
-pub told_ascii : (key name : List ℕ) (told : Bool) → ((told ≡ true) ↔ (map low key ≡ map low name)) → told ≡ bytes_eq (map low key) (map low name)
-told_ascii key name told h = by_test told (bytes_eq (map low key) (map low name)) refl refl
+-- and so does a test whether the bytes are equal, ignoring ASCII case
+pub same_tested : (key name bytes : List ℕ) (answer : Bool) → ((i : ℕ) → get_or key i 0 < 256) → IsUtf8 name → IsAscii name → bytes ≡ name
+    → ((answer ≡ true) ↔ (map low key ≡ map low bytes)) → answer ≡ str_eq_ignore_ascii_case (latin1_text key) name
+same_tested key name bytes answer small utf8 ascii same test =
+    by_test answer (bytes_eq (map low key) (map low bytes)) refl refl ∙ ap (λ b. bytes_eq (map low key) (map low b)) same ∙ sym (same_ascii key name small utf8 ascii)
   where
-    by_test : (t u : Bool) → told ≡ t → bytes_eq (map low key) (map low name) ≡ u → told ≡ bytes_eq (map low key) (map low name)
-    by_test true u e f = e ∙ sym ((bytes_decides (map low key) (map low name)).1 (h.0 e))
+    by_test : (t u : Bool) → answer ≡ t → bytes_eq (map low key) (map low bytes) ≡ u → answer ≡ bytes_eq (map low key) (map low bytes)
+    by_test true u e f = e ∙ sym ((bytes_decides (map low key) (map low bytes)).1 (test.0 e))
     by_test false false e f = e ∙ sym f
-    by_test false true e f = absurd (false≢true (sym e ∙ h.1 ((bytes_decides (map low key) (map low name)).0 f)))
+    by_test false true e f = absurd (false≢true (sym e ∙ test.1 ((bytes_decides (map low key) (map low bytes)).0 f)))

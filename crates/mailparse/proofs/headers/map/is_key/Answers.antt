@@ -1,10 +1,16 @@
-use Rattle.std.proofs.Common.{ap, sym, ◌∙◌, arith}
-use Rattle.std.specs.Str.{str_eq_ignore_ascii_case}
-use Rattle.mailparse.proofs.lemmas.Map.{same_ascii, told_ascii}
+use Rattle.std.proofs.Common.{map, sym, ap, rules, ◌∙◌, arith}
+use Rattle.std.specs.Char.{to_ascii_lowercase}
+use lib.Pointwise.{bytes_decides}
+use Rattle.mailparse.proofs.lemmas.Map.{same_tested}
 use Rattle.mailparse.proofs.headers.map.is_key.Goals as goal
 
-pub returns-then-is_ascii : goal.returns-then-is_ascii
-returns-then-is_ascii c =
-    told_ascii c.args.key.now c.as_bytes.result.now c.is_same.result c.is_same.ensures
-    ∙ ap (str_eq_ignore_ascii_case c.args.key.now) c.as_bytes.ensures.value
-    ∙ sym (same_ascii c.args.key.now c.args.name.now (λ i. omega (arith, c.type_inv.key i)) c.utf8.name c.if-is_ascii.ensures.cases)
+pub returns-then-eq : goal.returns-then-eq
+returns-then-eq c =
+    let equal = (bytes_decides c.args.key.now c.as_bytes.result.now).0 (sym c.eq.ensures ∙ c.if-eq.true) in
+    same_tested c.args.key.now c.args.name.now c.as_bytes.result.now c.eq.result (λ i. search rules) c.utf8.name c.if-not-is_ascii.ensures.cases
+    c.as_bytes.ensures.value ((λ _. ap (map to_ascii_lowercase) equal), (λ _. c.if-eq.true))
+
+pub returns-else-eq : goal.returns-else-eq
+returns-else-eq c =
+    same_tested c.args.key.now c.args.name.now c.as_bytes-else-eq.result.now c.eq_ignore_ascii_case.result (λ i. search rules) c.utf8.name
+    c.if-not-is_ascii.ensures.cases c.as_bytes-else-eq.ensures.value c.eq_ignore_ascii_case.ensures.test
