@@ -28,3 +28,4 @@ pub mod QuotedPrintableEscapes
 pub mod QuotedPrintableLines
 pub mod QuotedPrintableMarks
 pub mod QuotedPrintableLaw
+pub mod Calendar

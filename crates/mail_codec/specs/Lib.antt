@@ -7,4 +7,6 @@ pub mod Front
 pub mod Utf7
 pub mod Base64
 pub mod QuotedPrintable
+pub mod Calendar
+pub mod Names
 pub mod private

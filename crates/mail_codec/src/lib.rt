@@ -18,7 +18,9 @@
 #![tactic(auto)]
 
 pub mod bytescan;
+pub mod calendar;
 pub mod charset;
 pub mod laws;
+pub mod names;
 pub mod transfer;
 mod vectors;

@@ -28,6 +28,8 @@ pub use Rattle.mail_codec.specs.Ascii
 pub use Rattle.mail_codec.specs.Places
 pub use Rattle.mail_codec.specs.Base64
 pub use Rattle.mail_codec.specs.Charset
+pub use Rattle.mail_codec.specs.Calendar
+pub use Rattle.mail_codec.specs.Names
 pub use Rattle.mailparse.specs.Block
 pub use Rattle.mailparse.specs.Body
 pub use Rattle.mailparse.specs.BodyViews

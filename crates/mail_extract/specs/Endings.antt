@@ -1,7 +1,7 @@
 -- The endings of the names of files by their types, as those who registered the types name them (IANA, Media Types).
 use Rattle.std.specs.Prelude.{ℕ, List, [], ◌∷◌, codes}
 use Rattle.std.specs.Option.{unwrap_or}
-use Rattle.mailparse.specs.Date.{look_up}
+use Rattle.mail_codec.specs.Names.{look_up}
 use Rattle.mailparse.specs.Mail.{Node}
 
 -- the endings of some types

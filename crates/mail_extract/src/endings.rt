@@ -1,12 +1,12 @@
 //! The endings of the names of files, by their types.
 ghost use Rattle.std.specs.Prelude.{◌≡◌, map, option_map};
-ghost use Rattle.mailparse.specs.Date.{look_up};
+ghost use Rattle.mail_codec.specs.Names.{look_up};
 ghost use Rattle.mailparse.specs.Mail.{root};
 ghost use Rattle.mailparse.specs.Views.{tree_of};
 ghost use Rattle.mail_extract.specs.Endings.{ending_of, endings, type_ending};
 
+use mail_codec::names::look_up;
 use mailparse::ParsedMail;
-use mailparse::names::look_up;
 
 /// The endings of some types, as those who registered the types name them.
 static ENDINGS: [(&str, &str); 20] = [

@@ -32,6 +32,7 @@ pub use Rattle.mailparse.specs.Date
 pub use Rattle.mailparse.specs.MessageIds
 pub use Rattle.mailparse.specs.Views
 pub use Rattle.mail_codec.specs.Ascii
+pub use Rattle.mail_codec.specs.Calendar
 pub use Rattle.mail_codec.specs.Charset
 pub use Rattle.mail_codec.specs.Places
 pub mod Render

@@ -1,11 +1,13 @@
 -- The date of a header in seconds: RFC 5322, sections 3.3 and 4.3, read as leniently as mail is written.
-use Rattle.std.specs.Prelude.{ℕ, zero, suc, ◌+◌, ◌*◌, ◌/◌, ◌%◌, ◌-◌, ◌^◌, Bool, not, ◌&&◌, ◌||◌, ◌==◌, nat_lt, nat_le, List, [], ◌∷◌, take, sum, filter, find, ℤ, pos, negsuc, ◌+ℤ◌, neg_ℤ, Option, Some, None, option_map, is_some, ok_or, unsigned_abs, Ok, Err, codes, if◌then◌else◌}
+use Rattle.std.specs.Prelude.{ℕ, suc, ◌+◌, ◌*◌, ◌/◌, ◌%◌, ◌-◌, ◌^◌, Bool, not, ◌&&◌, ◌||◌, ◌==◌, nat_lt, nat_le, List, [], ◌∷◌, filter, ℤ, pos, negsuc, ◌+ℤ◌, neg_ℤ, Option, Some, None, is_some, ok_or, unsigned_abs, Ok, Err, codes, if◌then◌else◌}
 use Rattle.std.specs.Int.{is_in_range}
 use Rattle.std.specs.List.{slice_split}
 use Rattle.std.specs.Option.{option_map_or}
-use Rattle.std.specs.Str.{all_ascii_digits, str_eq_ignore_ascii_case}
+use Rattle.std.specs.Str.{all_ascii_digits}
 use Rattle.std.specs.Str.Parse.{digits_value, signed_digits_value, without_leading_plus, without_leading_sign}
 use Rattle.mail_codec.specs.Ascii.{space, colon}
+use Rattle.mail_codec.specs.Calendar.{day_number, months}
+use Rattle.mail_codec.specs.Names.{look_up}
 use Rattle.mail_codec.specs.Places.{is_empty}
 use Rattle.mailparse.specs.Refusal.{◌>>=◌, Reads, Refusal, generic}
 
@@ -72,46 +74,7 @@ signed_number word =
     if not (is_empty digits) && (all_ascii_digits digits && fits_32_bits (signed_digits_value 10 word))
     then Some (signed_digits_value 10 word) else None
 
--- what a table has for a word, ignoring ASCII case
-abbrev pub look_up : {A : Type 0} → List (List ℕ × A) → List ℕ → Option A
-look_up table word = option_map (λ row. row.1) (find (λ row. str_eq_ignore_ascii_case word row.0) table)
-
--- Days of the Gregorian calendar.
-
--- a year is a leap year: every fourth, but of the full centuries only every fourth
-abbrev pub is_leap_year : ℕ → Bool
-is_leap_year year = year % 4 == 0 && (not (year % 100 == 0) || year % 400 == 0)
-
--- the days of a year
-abbrev pub year_length : ℕ → ℕ
-year_length year = if is_leap_year year then 366 else 365
-
--- the days of the months of a year, from January on
-abbrev pub month_lengths : ℕ → List ℕ
-month_lengths year =
-    31 ∷ (if is_leap_year year then 29 else 28) ∷ 31 ∷ 30 ∷ 31 ∷ 30 ∷ 31 ∷ 31 ∷ 30 ∷ 31 ∷ 30 ∷ 31 ∷ []
-
--- the days of the first n years from 1970 on
-abbrev pub days_of_years : ℕ → ℕ
-days_of_years zero = 0
-days_of_years (suc n) = days_of_years n + year_length (1970 + n)
-
--- the days from 1 January 1970 to a day, by its year, its month counted from 0, and its number in the month, which may
--- go on past the month's last day
-abbrev pub day_number : ℕ → ℕ → ℕ → ℕ
-day_number year month day = days_of_years (year - 1970) + (sum (take month (month_lengths year)) + (day - 1))
-
 -- Months, years and zones.
-
--- the names of the months, the first three letters and the whole, with the month's number from 0
-abbrev pub months : List (List ℕ × ℕ)
-months =
-    (codes "Jan", 0) ∷ (codes "January", 0) ∷ (codes "Feb", 1) ∷ (codes "February", 1)
-    ∷ (codes "Mar", 2) ∷ (codes "March", 2) ∷ (codes "Apr", 3) ∷ (codes "April", 3)
-    ∷ (codes "May", 4) ∷ (codes "Jun", 5) ∷ (codes "June", 5)
-    ∷ (codes "Jul", 6) ∷ (codes "July", 6) ∷ (codes "Aug", 7) ∷ (codes "August", 7)
-    ∷ (codes "Sep", 8) ∷ (codes "September", 8) ∷ (codes "Oct", 9) ∷ (codes "October", 9)
-    ∷ (codes "Nov", 10) ∷ (codes "November", 10) ∷ (codes "Dec", 11) ∷ (codes "December", 11) ∷ []
 
 -- the month that a word names
 unfoldable pub month_of : List ℕ → Reads ℕ

@@ -4,14 +4,12 @@ ghost use Rattle.mailparse.specs.Date.{date_seconds, date_words, from_hour, from
 ghost use Rattle.mailparse.specs.Outcome.{Answers};
 ghost use Rattle.mailparse.specs.private.Date.{IsFirstNumber, HasSizeAtMost};
 
-pub mod calendar;
 mod fields;
-pub mod names;
 mod words;
 
 use crate::error::MailParseError;
-use calendar::day_number;
 use fields::{month_number, next_number, year_number, zone_seconds};
+use mail_codec::calendar::day_number;
 use words::next_word;
 
 /// Returns the seconds from 1 January 1970, 00:00 UTC, to a date as written in mail (RFC 5322,

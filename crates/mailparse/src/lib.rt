@@ -30,9 +30,6 @@ pub use content_type::{
     ParsedContentType, parse_content_type, parse_content_type_in, parse_content_type_with,
 };
 pub use date::dateparse;
-// For the dates of `mail_data`; no part of the interface.
-#[doc(hidden)]
-pub use date::{calendar, names};
 pub use disposition::{
     DispositionType, ParsedContentDisposition, parse_content_disposition,
     parse_content_disposition_in, parse_content_disposition_with,

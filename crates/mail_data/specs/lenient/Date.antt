@@ -9,7 +9,9 @@ use Rattle.std.specs.Str.{str_eq_ignore_ascii_case}
 use Rattle.std.specs.Str.Parse.{digits_value}
 use Rattle.mail_codec.specs.Ascii.{opening_parenthesis, backslash, comma, colon}
 use Rattle.mail_codec.specs.Places.{is_empty}
-use Rattle.mailparse.specs.Date.{look_up, month_lengths, months, year_length, zone_size}
+use Rattle.mailparse.specs.Date.{zone_size}
+use Rattle.mail_codec.specs.Calendar.{month_lengths, months, year_length}
+use Rattle.mail_codec.specs.Names.{look_up}
 use Rattle.mail_data.specs.lenient.Comments.{depth_after}
 use Rattle.mail_data.specs.declared.lenient.date.error.DateError.{DateError}
 use Rattle.mail_data.specs.declared.lenient.date.error.DateError.TheVariants.{Day, Month, Year, Time, Zone, TrailingText}

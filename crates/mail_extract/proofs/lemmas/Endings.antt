@@ -1,7 +1,7 @@
 -- Lemmas on what a table has for a word.
 use Rattle.std.proofs.Common.{◌≡◌, ℕ, Bool, true, false, List, [], ◌∷◌, map, Option, Some, option_map, refl}
 use Rattle.std.specs.Prelude.{if◌then◌else◌}
-use Rattle.mailparse.specs.Date.{look_up}
+use Rattle.mail_codec.specs.Names.{look_up}
 use Rattle.std.specs.Str.{str_eq_ignore_ascii_case}
 
 -- the first row if it passes, otherwise what is found after it, seen by a view

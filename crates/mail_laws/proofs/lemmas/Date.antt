@@ -3,8 +3,8 @@ use Rattle.std.proofs.Common.{◌≡◌, ℕ, suc, ◌+◌, ◌-◌, ◌*◌, �
 use Rattle.std.specs.List.{list_all}
 use Rattle.std.proofs.lemmas.Bool.{ltb-true}
 use Rattle.std.proofs.lemmas.List.Sums.{AllPass-from_list_all, fold_more}
-use Rattle.mailparse.specs.Date.{day_number, days_of_years, is_leap_year, month_lengths, year_length}
-use Rattle.mailparse.proofs.lemmas.Date.{days_of_years-closed}
+use Rattle.mail_codec.specs.Calendar.{day_number, days_of_years, is_leap_year, month_lengths, year_length}
+use Rattle.mail_codec.proofs.lemmas.Calendar.{days_of_years-closed}
 
 pub leap_days : (year : ℕ) → 1970 ≤ year
     → days_of_years (year - 1970) + ((year - 1) / 100 + 477) ≡ 365 * (year - 1970) + ((year - 1) / 4 + (year - 1) / 400)

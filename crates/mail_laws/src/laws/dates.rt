@@ -1,6 +1,6 @@
 //! Days and their seconds.
 ghost use Rattle.std.specs.Prelude.{◌*◌, ◌+◌, ◌-◌, ◌/◌, ◌<◌, ◌≡◌, ◌≤◌, ℕ, slice_index};
-ghost use Rattle.mailparse.specs.Date.{day_number, days_of_years, month_lengths};
+ghost use Rattle.mail_codec.specs.Calendar.{day_number, days_of_years, month_lengths};
 
 /// The days of the years from 1970 up to a given year, added one by one, are 365 for each year and
 /// one more for each leap year. Every fourth year is a leap year, except that only every fourth of

@@ -1,4 +1,4 @@
--- Dates: numbers that words write, words of a text, and days of years.
+-- Dates: the numbers that words write, and the words of a text.
 use Rattle.std.proofs.Common.{◌≡◌, ℕ, zero, suc, ◌+◌, ◌-◌, ◌*◌, ◌/◌, ◌%◌, ◌^◌, ◌<◌, ◌≤◌, Bool, true, false, cond, not, ◌&&◌, ◌||◌, eqb, ltb, List, [], ◌∷◌, length, take, drop, Option, Some, None, Result, Ok, Err, refl, sym, ap, ◌∙◌, subst, get_or, leb, arith, length-take}
 use Rattle.std.specs.List.{filter, list_all, slice_split, onto_first, prefix_len}
 use Rattle.std.specs.Result.{result_ok}
@@ -13,7 +13,9 @@ use Rattle.std.specs.Str.Parse.{ParsesUnsigned, ParsesSigned, digits_value, sign
 use Rattle.std.proofs.lemmas.Bool.{and_parts, cond-false, false_from_ne_true, not-true, lt-ltb, ltb-true, leb-true, eqb-true, eqb-false, not-false}
 use Rattle.std.proofs.lemmas.Str.Parse.{IsNumeralModel, numerals_by_value, tells_all_ascii_digits}
 use Rattle.mail_codec.specs.Places.{is_empty}
-use Rattle.mailparse.specs.Date.{fits_32_bits, is_separator, look_up, words, zones, date_words, from_hour, from_minute, from_second, from_zone, seconds_of, invalid_hour, invalid_minute, invalid_second, invalid_year, signed_number, number_below, days_of_years, year_length, year_of, year_of_number}
+use Rattle.mailparse.specs.Date.{fits_32_bits, is_separator, words, zones, date_words, from_hour, from_minute, from_second, from_zone, seconds_of, invalid_hour, invalid_minute, invalid_second, invalid_year, signed_number, number_below, year_of, year_of_number}
+use Rattle.mail_codec.specs.Calendar.{days_of_years, year_length}
+use Rattle.mail_codec.specs.Names.{look_up}
 use Rattle.mailparse.specs.private.Date.{HasSizeAtMost, next_number}
 use Rattle.mailparse.specs.Refusal.{◌>>=◌, Reads, Refusal}
 use Rattle.mailparse.proofs.lemmas.Places.{not_empty}
@@ -173,10 +175,6 @@ cut_after_word rest end count = (omega (arith, prefix_len-le-length (λ b. not (
 
 -- ---- tables
 
--- a row as a definition sees it
-abbrev pub row_view : {A : Type 0} → Bor (List ℕ) × A → List ℕ × A
-row_view row = (row.0.now, row.1)
-
 -- a zone that has a name is at most 24 hours from Greenwich
 abbrev is_zone_size : ℤ → Bool
 is_zone_size (pos n) = leb n 2400
@@ -299,28 +297,3 @@ date_words-here word after n h = rw h refl
 
 pub date_words-past : (word : List ℕ) (after : List (List ℕ)) → number_below 256 word ≡ None → date_words (word ∷ after) ≡ date_words after
 date_words-past word after h = rw h refl
-
--- ---- days of years
-
--- what a year adds to the count of leap years
-pub year_counts : (y m : ℕ) → y ≡ m + 1 → year_length y + (y / 100 + (m / 4 + m / 400)) ≡ 365 + (m / 100 + (y / 4 + y / 400))
-year_counts y m next = go (eqb (y % 4) 0) (eqb (y % 100) 0) (eqb (y % 400) 0) refl refl refl
-  where
-    go : (a b c : Bool) → eqb (y % 4) 0 ≡ a → eqb (y % 100) 0 ≡ b → eqb (y % 400) 0 ≡ c
-        → cond (a && (not b || c)) 366 365 + (y / 100 + (m / 4 + m / 400)) ≡ 365 + (m / 100 + (y / 4 + y / 400))
-    go true true true p q r = let a = eqb-true _ _ p in let b = eqb-true _ _ q in let c = eqb-true _ _ r in omega arith
-    go true true false p q r = let a = eqb-true _ _ p in let b = eqb-true _ _ q in let c = eqb-false _ _ r in omega arith
-    go true false true p q r = let b = eqb-false _ _ q in let c = eqb-true _ _ r in absurd (omega arith)
-    go true false false p q r = let a = eqb-true _ _ p in let b = eqb-false _ _ q in let c = eqb-false _ _ r in omega arith
-    go false true c p q r = let a = eqb-false _ _ p in let b = eqb-true _ _ q in absurd (omega arith)
-    go false false true p q r = let b = eqb-false _ _ q in let c = eqb-true _ _ r in absurd (omega arith)
-    go false false false p q r = let a = eqb-false _ _ p in let b = eqb-false _ _ q in let c = eqb-false _ _ r in omega arith
-
--- the closed count
-pub days_of_years-closed : (n : ℕ) → days_of_years n + ((1969 + n) / 100 + 477) ≡ 365 * n + ((1969 + n) / 4 + (1969 + n) / 400)
-days_of_years-closed zero = refl
-days_of_years-closed (suc n) =
-    let before = days_of_years-closed n in
-    let year = year_counts (1970 + n) (1969 + n) (omega arith) in
-    let same : 1969 + suc n ≡ 1970 + n = omega arith in
-    rw same (omega arith)

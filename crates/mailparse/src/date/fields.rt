@@ -5,9 +5,10 @@ ghost use Rattle.mailparse.specs.Outcome.{Answers};
 ghost use Rattle.mailparse.specs.Refusal.{generic};
 ghost use Rattle.mailparse.specs.private.Date.{HasSizeAtMost, next_number};
 
-use super::names::{look_up, month_named};
 use super::words::next_word;
 use crate::error::MailParseError;
+use mail_codec::calendar::month_named;
+use mail_codec::names::look_up;
 
 /// The names of zones, with how far they are east of Greenwich, in hours times 100.
 static ZONES: [(&str, i32); 36] = [

@@ -8,7 +8,7 @@ use Rattle.std.proofs.Math.Nat.{pow-le-pow_right}
 use Rattle.std.proofs.lemmas.Bool.{and_parts, lt-ltb, le-ltb, leb-true}
 use Rattle.std.proofs.lemmas.Int.Digits.{digits_value-lt, digits_value_more}
 use Rattle.std.proofs.lemmas.Str.Parse.{digit_at, digits_value-take-le}
-use Rattle.mailparse.proofs.lemmas.Date.{year_counts}
+use Rattle.mail_codec.proofs.lemmas.Calendar.{year_counts}
 use Rattle.mail_data.specs.lenient.Date.{days_of_years}
 
 -- ---- digits

@@ -2,7 +2,7 @@
 ghost use Rattle.std.specs.Prelude.{◌≡◌, ◌+◌, ◌≤◌, ◌<◌, ◌*◌, ◌^◌};
 ghost use Rattle.mail_data.specs.lenient.Date.{day_number, days_of_years, month_length};
 
-use mailparse::calendar::{days_of_months, is_leap_year};
+use mail_codec::calendar::{days_of_months, is_leap_year};
 
 /// The days of the months of a common year.
 static LENGTHS: [u64; 12] = [31, 28, 31, 30, 31, 30, 31, 31, 30, 31, 30, 31];

@@ -10,7 +10,7 @@ use super::calendar::{day_number, month_length};
 use super::error::DateError;
 use super::numbers::{number_of, small_number};
 use super::whitespace::{after_mark, digits_at, letters_at};
-use mailparse::names::month_named;
+use mail_codec::calendar::month_named;
 
 /// The days from 1 January 1900 to the day at the front, and what follows the year.
 #[tactic(auto, unfolding(crate::specs::lenient::Date::day_at))]

@@ -2,13 +2,13 @@
 ghost use Rattle.std.specs.Prelude.{◌≡◌, ◌≤◌, ◌<◌, ◌^◌, neg_ℤ, pos, ◌≤ℤ◌, option_map, IfOk, IfSome};
 ghost use Rattle.mail_data.specs.lenient.Date.{is_universal, named_zone, offset_at, signed_at, zone_at};
 ghost use Rattle.mail_data.specs.lenient.Date.{zone_names};
-ghost use Rattle.mailparse.specs.Date.{look_up};
+ghost use Rattle.mail_codec.specs.Names.{look_up};
 ghost use Rattle.mail_data.specs.lenient.DateViews.{part_read};
 
 use super::error::DateError;
 use super::numbers::number_of;
 use super::whitespace::{after_mark, digits_at, letters_at};
-use mailparse::names::look_up;
+use mail_codec::names::look_up;
 
 /// The names of zones that are known, with the seconds that each adds: a clock in the west of
 /// Greenwich is behind.

@@ -1,6 +1,6 @@
 use Rattle.std.proofs.Common.{Bor, List, [], ℕ, Option, option_map, sym, ap, ◌∙◌}
 use Rattle.std.specs.Option.{unwrap_or}
-use Rattle.mailparse.specs.Date.{look_up}
+use Rattle.mail_codec.specs.Names.{look_up}
 use Rattle.mail_extract.specs.Endings.{endings}
 use Rattle.mail_extract.proofs.endings.type_ending.Goals as goal
 

@@ -1,6 +1,8 @@
 use Rattle.std.proofs.Common.{sym, ap, ◌∙◌}
 use Rattle.std.specs.Prelude.{ok_or}
-use Rattle.mailparse.specs.Date.{look_up, month_of, months, unrecognized_month}
+use Rattle.mailparse.specs.Date.{month_of, unrecognized_month}
+use Rattle.mail_codec.specs.Calendar.{months}
+use Rattle.mail_codec.specs.Names.{look_up}
 use Rattle.mailparse.proofs.date.fields.month_number.Goals as goal
 
 pub returns-in-Some-clause-read : goal.returns-in-Some-clause-read

@@ -5,7 +5,8 @@ use Rattle.std.specs.Option.{option_map_or}
 use Rattle.std.specs.Result.{result_ok}
 use Rattle.std.proofs.lemmas.Bool.{le-leb, lt-leb}
 use Rattle.std.proofs.lemmas.Int.{to_z-of_z}
-use Rattle.mailparse.specs.Date.{look_up, invalid_zone, signed_number, zone_named, zone_of, zone_of_number, zones}
+use Rattle.mailparse.specs.Date.{invalid_zone, signed_number, zone_named, zone_of, zone_of_number, zones}
+use Rattle.mail_codec.specs.Names.{look_up}
 use Rattle.mailparse.specs.private.Date.{HasSizeAtMost}
 use Rattle.mailparse.proofs.lemmas.Date.{size_fits, signed_number-parse, zones-size}
 use Rattle.mailparse.proofs.date.fields.zone_number.Goals as goal

@@ -1,6 +1,6 @@
 use Rattle.std.proofs.Common.{arith}
-use Rattle.mailparse.proofs.lemmas.Date.{days_of_years-closed}
-use Rattle.mailparse.proofs.date.calendar.days_of_years.Goals as goal
+use Rattle.mail_codec.proofs.lemmas.Calendar.{days_of_years-closed}
+use Rattle.mail_codec.proofs.calendar.days_of_years.Goals as goal
 
 pub returns-clause-value : goal.returns-clause-value
 returns-clause-value c = omega (arith, days_of_years-closed c.args.count)
