@@ -5,33 +5,33 @@ use Rattle.mail_codec.specs.Places.{has_prefix, is_empty, least, values_below}
 use Rattle.mailparse.specs.Refusal.{Refusal, leading_space, lone_carriage_return}
 use Rattle.mailparse.specs.Header.{Header, header_of, header_length}
 
--- the bytes of the blank line that stands here: LF or CR LF, or none
+-- the length of the blank line at the front: LF or CR LF, and 0 without one
 unfoldable pub blank_line : List ℕ → ℕ
 blank_line bytes = if has_prefix (line_feed ∷ []) bytes then 1 else (if has_prefix (carriage_return ∷ line_feed ∷ []) bytes then 2 else 0)
 
--- the headers end here: the bytes are at their end or at the blank line
+-- the headers end here: at the end of the bytes or at the blank line
 unfoldable pub headers_end : List ℕ → Bool
 headers_end bytes = is_empty bytes || nat_lt 0 (blank_line bytes)
 
--- a header stands here
+-- a header begins here
 unfoldable pub has_header : List ℕ → Bool
 has_header bytes = not (headers_end bytes) && (not (has_prefix (carriage_return ∷ []) bytes) && not (has_prefix (space ∷ []) bytes))
 
--- where the header with this number starts: the first at 0, each other where the one before it ends
+-- where the header with this number begins: the first at 0, each other one where the one before it ends
 unfoldable pub header_place : List ℕ → ℕ → ℕ
 header_place raw zero = 0
 header_place raw (suc j) = header_place raw j + header_length (drop (header_place raw j) raw)
 
--- the bytes from there on
+-- the bytes from there onwards
 abbrev pub rest_at : List ℕ → ℕ → List ℕ
 rest_at raw j = drop (header_place raw j) raw
 
--- how many headers there are: the least number at whose place none stands
+-- the number of headers: the least number at whose place no header begins
 unfoldable pub header_count : List ℕ → ℕ
 header_count raw = least (λ j. not (has_header (rest_at raw j))) (length raw)
 
--- what ends the block here: so many bytes of a blank line or of none at the end of the bytes, or a lone CR; nothing
--- where a header is wanted
+-- how the block ends here: with the length of the blank line, 0 at the end of the bytes, or refused for a lone CR; `None`
+-- if a header is expected
 unfoldable pub block_end : List ℕ → Result (Option ℕ) Refusal
 block_end bytes =
     if headers_end bytes then Ok (Some (blank_line bytes))
@@ -42,7 +42,7 @@ pub record HeaderList : Type 0 where
   pub headers : List Header
   pub index : ℕ
 
--- the headers at the front of the bytes, or what stands in the place of one
+-- the headers at the front of the bytes, or the refusal where a header is expected
 unfoldable pub read_headers : List ℕ → Result HeaderList Refusal
 read_headers raw =
     let count = header_count raw in

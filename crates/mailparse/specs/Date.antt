@@ -51,23 +51,23 @@ invalid_zone = generic (codes "Invalid timezone")
 abbrev pub is_separator : ℕ → Bool
 is_separator b = b == space || b == colon
 
--- the words of a text: what stands between separators and is not empty
+-- the words of a text: the texts between separators that are not empty
 abbrev pub words : List ℕ → List (List ℕ)
 words text = filter (λ word. not (is_empty word)) (slice_split is_separator text)
 
--- the number that a word writes in decimal digits, after a `+` or not, if it is below the limit
+-- the number that a word gives in decimal digits, after an optional `+`, if it is below the limit
 unfoldable pub number_below : ℕ → List ℕ → Option ℕ
 number_below limit word =
     let digits = without_leading_plus word in
     if not (is_empty digits) && (all_ascii_digits digits && nat_lt (digits_value 10 digits) limit)
     then Some (digits_value 10 digits) else None
 
--- a number that 32 bits hold, its sign among them
+-- a number that fits in 32 bits with its sign
 abbrev pub fits_32_bits : ℤ → Bool
 fits_32_bits (pos n) = nat_lt n (2 ^ 31)
 fits_32_bits (negsuc n) = nat_lt n (2 ^ 31)
 
--- the number that a word writes in decimal digits, after a `+`, a `-` or neither, if 32 bits hold it
+-- the number that a word gives in decimal digits, after an optional `+` or `-`, if it fits in 32 bits
 unfoldable pub signed_number : List ℕ → Option ℤ
 signed_number word =
     let digits = without_leading_sign word in
@@ -80,25 +80,24 @@ signed_number word =
 unfoldable pub month_of : List ℕ → Reads ℕ
 month_of word = ok_or (look_up months word) unrecognized_month
 
--- the year that a number writes: below 70 it is of the years from 2000, below 100 of those from 1900; from 100
--- to 1969 it is refused
+-- the year that a number gives: below 70 it counts from 2000, and from 70 to 99 from 1900; from 100 to 1969 it is refused
 abbrev pub year_of_number : ℕ → Reads ℕ
 year_of_number n =
     if nat_lt n 70 then Ok (2000 + n) else
     if nat_lt n 100 then Ok (1900 + n) else
     if nat_lt n 1970 then Err disallowed_year else Ok n
 
--- the year that a word writes
+-- the year that a word gives
 unfoldable pub year_of : List ℕ → Reads ℕ
 year_of word = do
   n ← ok_or (number_below (2 ^ 32) word) invalid_year
   year_of_number n
 
--- so far west of Greenwich
+-- an offset of this size west of Greenwich
 abbrev pub west : ℕ → ℤ
 west size = neg_ℤ (pos size)
 
--- the names of zones: how far they are east of Greenwich, or west of it, hours times 100
+-- the names of zones with their offsets from Greenwich, in hours times 100
 abbrev pub zones : List (List ℕ × ℤ)
 zones =
     (codes "UTC", pos 0) ∷ (codes "UT", pos 0) ∷ (codes "GMT", pos 0) ∷ (codes "Z", pos 0)
@@ -111,7 +110,7 @@ zones =
     ∷ (codes "R", pos 500) ∷ (codes "S", pos 600) ∷ (codes "T", pos 700) ∷ (codes "U", pos 800)
     ∷ (codes "V", pos 900) ∷ (codes "W", pos 1000) ∷ (codes "X", pos 1100) ∷ (codes "Y", pos 1200) ∷ []
 
--- a zone that is a number lies from -2400 to 2400
+-- a zone that is a number is from -2400 to 2400
 abbrev pub zone_of_number : ℤ → Reads ℤ
 zone_of_number zone = if nat_le (unsigned_abs zone) 2400 then Ok zone else Err invalid_zone
 
@@ -119,35 +118,35 @@ zone_of_number zone = if nat_le (unsigned_abs zone) 2400 then Ok zone else Err i
 abbrev pub zone_named : List ℕ → Reads ℤ
 zone_named word = ok_or (look_up zones word) invalid_zone
 
--- the zone that a word writes, hours times 100 and minutes: a number, or else a name
+-- the zone that a word gives, as hours times 100 plus minutes: a number, or else a name
 unfoldable pub zone_of : List ℕ → Reads ℤ
 zone_of word = option_map_or zone_of_number (signed_number word) (zone_named word)
 
--- the seconds of a zone's size: its hundreds are hours, what is left is minutes
+-- the seconds of a zone's size: its hundreds are hours, the rest is minutes
 abbrev pub zone_size : ℕ → ℕ
 zone_size n = 3600 * (n / 100) + 60 * (n % 100)
 
--- what a zone adds to the seconds: clocks in the east are ahead, so their zone is taken away
+-- the seconds that a zone adds: clocks in the east are ahead, so their zone is subtracted
 abbrev pub zone_seconds : ℤ → ℤ
 zone_seconds (pos n) = neg_ℤ (pos (zone_size n))
 zone_seconds (negsuc n) = pos (zone_size (suc n))
 
--- The date: each word has its meaning by its place, and words that are not there add nothing. The first refusal refuses all.
+-- The date: the meaning of a word depends on its position, and missing words add nothing. The first refusal refuses the date.
 
--- the seconds of a word that is a number below 256 of units, each of so many seconds
+-- the seconds of a word that is a number below 256, in units of `unit` seconds
 abbrev pub seconds_of : ℕ → Refusal → List ℕ → Reads ℤ
 seconds_of unit refusal word = do
   n ← ok_or (number_below 256 word) refusal
   Ok (pos (unit * n))
 
--- the seconds that the words say from the zone on
+-- the seconds of the words from the zone onwards
 abbrev pub from_zone : List (List ℕ) → Reads ℤ
 from_zone [] = Ok (pos 0)
 from_zone (word ∷ after) = do
   zone ← zone_of word
   Ok (zone_seconds zone)
 
--- from the second on
+-- from the second onwards
 abbrev pub from_second : List (List ℕ) → Reads ℤ
 from_second [] = Ok (pos 0)
 from_second (word ∷ after) = do
@@ -155,7 +154,7 @@ from_second (word ∷ after) = do
   more ← from_zone after
   Ok (seconds +ℤ more)
 
--- from the minute on
+-- from the minute onwards
 abbrev pub from_minute : List (List ℕ) → Reads ℤ
 from_minute [] = Ok (pos 0)
 from_minute (word ∷ after) = do
@@ -163,7 +162,7 @@ from_minute (word ∷ after) = do
   more ← from_second after
   Ok (seconds +ℤ more)
 
--- from the hour on
+-- from the hour onwards
 abbrev pub from_hour : List (List ℕ) → Reads ℤ
 from_hour [] = Ok (pos 0)
 from_hour (word ∷ after) = do
@@ -171,7 +170,7 @@ from_hour (word ∷ after) = do
   more ← from_minute after
   Ok (seconds +ℤ more)
 
--- from the year on, of a day of a month; without a year there are none
+-- from the year onwards, on a day of a month; 0 without a year
 abbrev pub from_year : ℕ → ℕ → List (List ℕ) → Reads ℤ
 from_year month day [] = Ok (pos 0)
 from_year month day (word ∷ after) = do
@@ -179,27 +178,27 @@ from_year month day (word ∷ after) = do
   more ← from_hour after
   Ok (pos (86400 * day_number year month day) +ℤ more)
 
--- from the month on, of a day
+-- from the month onwards, on a day
 abbrev pub from_month : ℕ → List (List ℕ) → Reads ℤ
 from_month day [] = Ok (pos 0)
 from_month day (word ∷ after) = do
   month ← month_of word
   from_year month day after
 
--- a day of a month is 1 to 31, whatever the month
+-- a day of a month is from 1 to 31, whatever the month
 abbrev pub day_of : List ℕ → Reads ℕ
 day_of word = do
   day ← ok_or (number_below 256 word) invalid_day
   if is_in_range 1 31 day then Ok day else Err invalid_day
 
--- from the day on
+-- from the day onwards
 abbrev pub from_day : List (List ℕ) → Reads ℤ
 from_day [] = Ok (pos 0)
 from_day (word ∷ after) = do
   day ← day_of word
   from_month day after
 
--- the words from the first on that reads as a number below 256
+-- the words from the first number below 256 onwards
 abbrev pub date_words : List (List ℕ) → List (List ℕ)
 date_words [] = []
 date_words (word ∷ after) = if is_some (number_below 256 word) then word ∷ after else date_words after

@@ -1,4 +1,4 @@
--- What stands inside an encoded word, between its `=?` and its `?=`: RFC 2047, sections 2 and 4, as this crate reads them.
+-- The inside of an encoded word, between its `=?` and its `?=`: RFC 2047, sections 2 and 4, as this crate reads them.
 use Rattle.std.specs.Prelude.{◌≡◌, ℕ, Bool, true, ◌||◌, List, ◌++◌, length, drop, map, Option, Some, None, codes, if◌then◌else◌, ◌==◌}
 use Rattle.std.specs.List.{before_first, after_first, list_any}
 use Rattle.std.specs.Result.{result_ok}
@@ -9,11 +9,11 @@ use Rattle.mail_codec.specs.Charset.{Charsets}
 use Rattle.mail_codec.specs.QuotedPrintable.{quoted_printable}
 use Rattle.mailparse.specs.Options.{◌>>=◌}
 
--- a question mark, which cuts the inside of a word
+-- a question mark separates the fields of a word
 abbrev pub is_question_mark : ℕ → Bool
 is_question_mark b = b == question_mark
 
--- whether bytes hold a question mark
+-- whether bytes contain a question mark
 abbrev pub has_question_mark : List ℕ → Bool
 has_question_mark bytes = list_any is_question_mark bytes
 
@@ -23,7 +23,7 @@ pub record EncodedWord : Type 0 where
   pub encoding : List ℕ
   pub encoded_text : List ℕ
 
--- the word whose inside is this: it is cut at its first two question marks, if both are there
+-- the word with this inside, which is cut at its first two question marks, if it has two
 abbrev pub word_inside : List ℕ → Option EncodedWord
 word_inside inside =
     let rest = after_first is_question_mark inside in
@@ -39,21 +39,21 @@ word_inside inside =
 abbrev pub spaced : List ℕ → List ℕ
 spaced encoded = map (λ b. if b == underscore then space else b) encoded
 
--- the bytes of an encoded text under Q: a space stands for each `_`; whitespace at the end is set aside, what stands before it is read
--- as quoted-printable, and the whitespace is put back
+-- the bytes of an encoded text under Q, after each `_` is replaced by a space: the text before trailing whitespace is read as
+-- quoted-printable, and the whitespace is kept
 abbrev pub bytes_of_q : List ℕ → List ℕ
 bytes_of_q encoded =
     let kept = trim_end (spaced encoded) in
     quoted_printable kept ++ drop (length kept) (spaced encoded)
 
--- the bytes of an encoded text under an encoding, which is exactly one of `B`, `b`, `Q` and `q`; under B they are there if it is Base64
+-- the bytes of an encoded text under an encoding, one of `B`, `b`, `Q` and `q`; under B there are none if it is not Base64
 abbrev pub encoded_bytes : List ℕ → List ℕ → Option (List ℕ)
 encoded_bytes encoding encoded =
     if bytes_eq encoding (codes "B") || bytes_eq encoding (codes "b") then result_ok (base64 encoded)
     else if bytes_eq encoding (codes "Q") || bytes_eq encoding (codes "q") then Some (bytes_of_q encoded)
     else None
 
--- bytes that hold a question mark, and what stands before and after their first
+-- bytes that contain a question mark, and the bytes before and after the first
 pub record IsCutAtMark (bytes front rest : List ℕ) : Type 0 where
   pub has_mark : has_question_mark bytes ≡ true
   pub before : front ≡ before_first is_question_mark bytes
@@ -61,7 +61,7 @@ pub record IsCutAtMark (bytes front rest : List ℕ) : Type 0 where
 
 -- Under the charsets that are known.
 module _ (known : Charsets) where
-  -- the text of a word, if its charset is known and its encoded text has bytes; no byte order mark is looked for
+  -- the text of a word, if its charset is known and its encoded text can be decoded; a byte order mark is read like any other bytes
   abbrev pub text_of_word : EncodedWord → Option (List ℕ)
   text_of_word word = do
     text ← known word.charset

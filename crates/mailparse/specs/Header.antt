@@ -1,5 +1,5 @@
--- One header at the front of the bytes: where its key, its value and its end stand (RFC 5322, sections 2.2 and
--- 2.2.3, read as leniently as mail is written). Places are counted from the first of the bytes.
+-- One header at the front of the bytes: the places of its key, its value and its end (RFC 5322, sections 2.2 and
+-- 2.2.3, read as leniently as mail is written). Places are counted from the first byte.
 use Rattle.std.specs.Prelude.{ℕ, suc, Bool, false, ◌&&◌, ◌||◌, not, ◌==◌, min, List, [], ◌∷◌, length, take, drop, slice_range, Result, Ok, Err, if◌then◌else◌}
 use Rattle.std.specs.List.{list_all}
 use Rattle.mail_codec.specs.Ascii.{is_blank, line_feed, carriage_return, space, colon}
@@ -19,7 +19,7 @@ is_line_feed b = b == line_feed
 abbrev pub is_line_end : ℕ → Bool
 is_line_end b = b == carriage_return || b == line_feed
 
--- a LF stands here that is the last byte or that no blank follows
+-- a LF that is the last byte or that no blank follows
 abbrev pub ends_header : List ℕ → Bool
 ends_header [] = false
 ends_header (b ∷ rest) = b == line_feed && not (begins is_blank rest)
@@ -32,20 +32,20 @@ key_end raw = first_place (begins ends_key) raw
 unfoldable pub has_colon : List ℕ → Bool
 has_colon raw = begins (λ b. b == colon) (drop (key_end raw) raw)
 
--- the header ends at the first LF after its colon that no blank follows, without a colon where the key
--- ends, and at the end where there is no such LF
+-- the header ends at the first LF after its colon that no blank follows, or at the end of the bytes; without a colon it
+-- ends where the key ends
 unfoldable pub header_end : List ℕ → ℕ
 header_end raw = if has_colon raw then place_from ends_header raw (suc (key_end raw)) else key_end raw
 
--- the bytes that it takes, its LF among them
+-- its length, including its LF
 unfoldable pub header_length : List ℕ → ℕ
 header_length raw = min (suc (header_end raw)) (length raw)
 
--- the value starts after the colon and the spaces there; without a colon it is empty
+-- the value begins after the colon and the spaces after it; without a colon it is empty
 unfoldable pub value_start : List ℕ → ℕ
 value_start raw = if has_colon raw then place_from (begins (λ b. not (b == space))) (take (header_end raw) raw) (suc (key_end raw)) else key_end raw
 
--- it ends where nothing but CR and LF is left before the header's end
+-- it ends where only CR and LF are left before the end of the header
 unfoldable pub value_end : List ℕ → ℕ
 value_end raw = if has_colon raw then place_from (list_all is_line_end) (take (header_end raw) raw) (value_start raw) else key_end raw
 
@@ -58,11 +58,11 @@ pub record Header : Type 0 where
 abbrev pub key_text : Header → List ℕ
 key_text header = latin1_text header.key
 
--- the header at the front of the bytes, by those places
+-- the header at the front of the bytes
 abbrev pub header_of : List ℕ → Header
 header_of raw = record { key = take (key_end raw) raw; value = slice_range raw (value_start raw) (value_end raw) }
 
--- the header at the front of the bytes and its length, or why it is refused
+-- the header at the front of the bytes and its length, or the refusal
 unfoldable pub read_header : List ℕ → Result (Header × ℕ) Refusal
 read_header raw =
     if is_empty raw then Err empty_string

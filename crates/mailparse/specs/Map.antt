@@ -1,4 +1,4 @@
--- Looking headers up by their names (RFC 5322, section 1.2.2, where names ignore ASCII case).
+-- Looking up headers by name, ignoring ASCII case (RFC 5322, section 1.2.2).
 use Rattle.std.specs.Prelude.{ℕ, Bool, List, Option, String, filter, find, map, option_map, string_bytes}
 use Rattle.std.specs.Global.{Global}
 use Rattle.std.specs.Str.{str_eq_ignore_ascii_case}
@@ -6,11 +6,11 @@ use Rattle.mail_codec.specs.Charset.{Charsets, four_charsets}
 use Rattle.mailparse.specs.Header.{Header, key_text}
 use Rattle.mailparse.specs.Value.{lenient_value_in}
 
--- a header has that name: the text of its key and the name are equal, ignoring ASCII case
+-- a header has this name: the text of its key and the name are equal, ignoring ASCII case
 abbrev pub has_key : List ℕ → Header → Bool
 has_key name h = str_eq_ignore_ascii_case (key_text h) name
 
--- the headers that have that name, in the order of the message
+-- the headers that have this name, in the order of the message
 abbrev pub all_with_key : List ℕ → List Header → List Header
 all_with_key name headers = filter (has_key name) headers
 

@@ -1,25 +1,25 @@
--- The refusals of the library, each told from the others; the crate's own rule.
+-- The refusals of the library, which are all distinct; the crate's own rule.
 use Rattle.std.specs.Prelude.{ℕ, List, codes, Result, Ok, Err}
 
--- a refusal that is a plain text, one of an encoding that is a text, or the index of the first invalid Base64 group
+-- a refusal: a plain text, a text about an encoding, or the index of the first invalid Base64 group
 pub data Refusal : Type 0 where
   generic : List ℕ → Refusal
   encoding : List ℕ → Refusal
   base64_fault : ℕ → Refusal
 
--- no bytes where a header was wanted
+-- no bytes where a header is expected
 abbrev pub empty_string : Refusal
 empty_string = generic (codes "Empty string provided")
 
--- a space where a header's key was wanted
+-- a space where the key of a header is expected
 abbrev pub leading_space : Refusal
 leading_space = generic (codes "Header cannot start with a space; it is likely an overhanging line from a previous header")
 
--- a CR that no LF follows where a header or the blank line was wanted
+-- a CR without LF where a header or the blank line is expected
 abbrev pub lone_carriage_return : Refusal
 lone_carriage_return = generic (codes "Headers were followed by an unexpected lone CR character!")
 
--- a value that is not UTF-8 where only UTF-8 is taken
+-- a value that is not UTF-8 where only UTF-8 is accepted
 abbrev pub value_not_utf8 : Refusal
 value_not_utf8 = encoding (codes "Invalid UTF-8 in header value")
 
@@ -27,11 +27,11 @@ value_not_utf8 = encoding (codes "Invalid UTF-8 in header value")
 abbrev pub recursion_limit : Refusal
 recursion_limit = generic (codes "Recursion limit reached")
 
--- what is read, or the refusal that was met first
+-- the result of a reading, or the first refusal
 abbrev pub Reads : Type 0 → Type 0
 Reads A = Result A Refusal
 
--- what is read after something else, unless that was refused
+-- the second reading after the first, unless that was refused
 infixl 10 ◌>>=◌
 abbrev pub ◌>>=◌ : {A B : Type 0} → Reads A → (A → Reads B) → Reads B
 (Ok x) >>= f = f x

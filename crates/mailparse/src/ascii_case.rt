@@ -4,7 +4,7 @@ ghost use Rattle.std.specs.Str.{str_to_ascii_lowercase};
 
 use std::alloc::{AllocError, Global};
 
-/// A text in ASCII lower case.
+/// Returns a text in ASCII lower case.
 pub(crate) fn lower_case(alloc: Global, text: &str) -> Result<String, AllocError>
     ensures { IfOk result (λ lower. string_bytes lower ≡ str_to_ascii_lowercase text.now) }
 {

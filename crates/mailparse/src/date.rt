@@ -15,18 +15,17 @@ use words::next_word;
 /// Returns the seconds from 1 January 1970, 00:00 UTC, to a date as written in mail (RFC 5322,
 /// sections 3.3 and 4.3).
 ///
-/// The words between spaces and colons are a day, a month, a year, an hour, a minute, a second and
-/// a zone, in this order. Anything before the first number below 256 is skipped, and so is anything
-/// after the zone. Words at the end may be missing: a text without a year gives 0. A year below 100
-/// is one from 1970 to 2069, and a day past the end of its month runs into the next month. Takes no
-/// memory.
+/// The words, separated by spaces and colons, are a day, a month, a year, an hour, a minute, a second
+/// and a zone, in this order. Text before the first number below 256 and after the zone is ignored.
+/// Words at the end may be missing: a text without a year gives 0. A year below 100 is one from 1970
+/// to 2069, and a day past the end of its month lies in the next one. Takes no memory.
 ///
 /// # Errors
 ///
-/// `MailParseError::Generic` for the first word that is not valid in its place, with the text:
+/// `MailParseError::Generic` for the first invalid word, with the text:
 ///
-/// - `Invalid day` for a day that is not 1 to 31,
-/// - `Unrecognized month` for a word that names no month,
+/// - `Invalid day` for a day that is not from 1 to 31,
+/// - `Unrecognized month` for a month that is not a known name,
 /// - `Invalid year` for a year that is not a number below 2^32,
 /// - `Disallowed year` for a year from 100 to 1969,
 /// - `Invalid hour`, `Invalid minute` or `Invalid second` for one that is not a number below 256,
@@ -58,7 +57,7 @@ pub fn dateparse(date: &str) -> Result<i64, MailParseError>
     from_year(month, day, rest)
 }
 
-/// The first word that is a number below 256, and the text after it.
+/// Returns the first word that is a number below 256, and the text after it.
 fn first_number(date: &str) -> Option<(u8, &str)>
     ensures { MatchOption result (date_words (words date.now) ≡ [])
         (λ p. IsFirstNumber date.now p.0 p.1.now) }
@@ -73,7 +72,8 @@ fn first_number(date: &str) -> Option<(u8, &str)>
     None
 }
 
-/// The seconds to a day of a month, by the year and the time of day that a text begins with.
+/// Returns the seconds from 1 January 1970 to the year and time that a text begins with, on a day of
+/// a month.
 fn from_year(month: usize, day: u8, text: &str) -> Result<i64, MailParseError>
     requires month { month < 12 }
     requires some { 1 ≤ day }
@@ -87,8 +87,8 @@ fn from_year(month: usize, day: u8, text: &str) -> Result<i64, MailParseError>
     Ok(86_400 * day_number(year, month, day) + time_of_day(rest)?)
 }
 
-/// The seconds of the hour, the minute, the second and the zone that a text begins with, as far as
-/// they are there.
+/// Returns the seconds of the hour, the minute, the second and the zone that a text begins with.
+/// Missing words add nothing.
 fn time_of_day(text: &str) -> Result<i64, MailParseError>
     ensures read { Answers (λ seconds. seconds) result (from_hour (words text.now)) }
     ensures bounds { IfOk result (HasSizeAtMost 1100000) }

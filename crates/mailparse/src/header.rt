@@ -30,7 +30,7 @@ pub struct MailHeader<'a> {
     value: &'a [u8],
 }
 
-/// A contract sees the bytes of its key and of its value.
+/// A contract sees the bytes of the key and of the value.
 impl<'a> Model for MailHeader<'a> {
     ghost Value = { Header };
 
@@ -41,11 +41,11 @@ impl<'a> MailHeader<'a> {
     /// Returns the key as text: one character for each byte, the one with the same number (RFC
     /// 5322, section 2.2; IANA's ISO-8859-1).
     ///
-    /// Takes memory for the text; `get_key_ref` borrows it where it can.
+    /// Takes memory for the text; `get_key_ref` borrows it if it can.
     ///
     /// # Errors
     ///
-    /// `MailParseError::Memory` where it runs out of memory.
+    /// `MailParseError::Memory` if it runs out of memory.
     ///
     /// # Examples
     ///
@@ -69,7 +69,7 @@ impl<'a> MailHeader<'a> {
     ///
     /// # Errors
     ///
-    /// `MailParseError::Memory` where it runs out of memory.
+    /// `MailParseError::Memory` if it runs out of memory.
     ///
     /// # Examples
     ///
@@ -101,7 +101,7 @@ impl<'a> MailHeader<'a> {
     ///
     /// # Errors
     ///
-    /// `MailParseError::Memory` where it runs out of memory.
+    /// `MailParseError::Memory` if it runs out of memory.
     ///
     /// # Examples
     ///
@@ -119,18 +119,12 @@ impl<'a> MailHeader<'a> {
         Ok(self.get_value_ref(alloc)?.into_owned(alloc)?)
     }
 
-    /// Returns the text of the value as `get_value` does, where encoded words may also be in the
-    /// charsets of some tables (RFC 2047, section 2).
-    ///
-    /// The four built-in charsets take precedence over the tables; among the tables, the first
-    /// that has the label is used. Takes memory for the text.
-    ///
-    /// Control characters stay in the text, as with `get_value`: escape them before showing the
-    /// text on a terminal or writing it to a log.
+    /// Returns the text of the value as `get_value_in` does, in the built-in charsets and those of
+    /// the tables (RFC 2047, section 2). Takes memory for the text.
     ///
     /// # Errors
     ///
-    /// `MailParseError::Memory` where it runs out of memory.
+    /// `MailParseError::Memory` if it runs out of memory.
     ///
     /// # Examples
     ///
@@ -140,7 +134,6 @@ impl<'a> MailHeader<'a> {
     /// let tables = [SingleByteTable { labels: &["x-euro"], high: &['€'; 128] }];
     /// let (header, _) = parse_header(b"Subject: =?X-Euro?Q?5_=80?=")?;
     /// assert_eq!(rt; header.get_value_with(alloc, &tables)?.as_str(), "5 €");
-    /// assert_eq!(rt; header.get_value(alloc)?.as_str(), "=?X-Euro?Q?5_=80?=");
     /// ```
     pub fn get_value_with(
         &self,
@@ -153,8 +146,8 @@ impl<'a> MailHeader<'a> {
         self.get_value_in(alloc, &tables)
     }
 
-    /// Returns the text of the value as `get_value` does, where encoded words may be in any charset
-    /// that `known` knows (RFC 2047, section 2).
+    /// Returns the text of the value as `get_value` does, with encoded words in any charset that
+    /// `known` knows (RFC 2047, section 2).
     ///
     /// Takes memory for the text.
     ///
@@ -163,7 +156,7 @@ impl<'a> MailHeader<'a> {
     ///
     /// # Errors
     ///
-    /// `MailParseError::Memory` where it runs out of memory.
+    /// `MailParseError::Memory` if it runs out of memory.
     ///
     /// # Examples
     ///
@@ -185,16 +178,16 @@ impl<'a> MailHeader<'a> {
         Ok(self.get_value_ref_in(alloc, known)?.into_owned(alloc)?)
     }
 
-    /// The text of the value as `get_value` reads it; where it is a part of the value's bytes they
-    /// are borrowed.
+    /// Returns the text of the value as `get_value` does, borrowed if it is a part of the value's
+    /// bytes.
     pub(crate) fn get_value_ref(&self, alloc: Global) -> Result<CowStr<'_>, AllocError>
         ensures { IfOk result (λ text. cow_str_bytes text ≡ lenient_value self.now.value) }
     {
         self.get_value_ref_in(alloc, &())
     }
 
-    /// The text of the value as `get_value_in` reads it; where it is a part of the value's bytes
-    /// they are borrowed.
+    /// Returns the text of the value as `get_value_in` does, borrowed if it is a part of the value's
+    /// bytes.
     pub(crate) fn get_value_ref_in<K: KnownCharsets>(
         &self,
         alloc: Global,
@@ -214,12 +207,12 @@ impl<'a> MailHeader<'a> {
 
     /// Returns the value as text, as `get_value` does, but only if its bytes are UTF-8 (RFC 6532).
     ///
-    /// Takes memory for the text, and none where it refuses the bytes.
+    /// Takes memory for the text, and none if it refuses the bytes.
     ///
     /// # Errors
     ///
-    /// `MailParseError::EncodingError` where the bytes are not UTF-8, and `MailParseError::Memory`
-    /// where it runs out of memory.
+    /// `MailParseError::EncodingError` if the bytes are not UTF-8, and `MailParseError::Memory` if it
+    /// runs out of memory.
     ///
     /// # Examples
     ///
@@ -285,14 +278,14 @@ impl<'a> MailHeader<'a> {
     }
 }
 
-/// Returns the text that some bytes show as the value of a header, as `get_value` reads it (RFC
-/// 5322, section 2.2.3; RFC 2047, sections 2, 4 and 6.2), as for a part of a value.
+/// Returns the text of some bytes as the value of a header, as `get_value` reads it (RFC 5322,
+/// section 2.2.3; RFC 2047, sections 2, 4 and 6.2). The bytes may be a part of a value.
 ///
 /// Takes memory for the text. Control characters stay in it, as with `get_value`.
 ///
 /// # Errors
 ///
-/// `MailParseError::Memory` where it runs out of memory.
+/// `MailParseError::Memory` if it runs out of memory.
 ///
 /// # Examples
 ///
@@ -308,14 +301,14 @@ pub fn value_text(alloc: Global, value: &[u8]) -> Result<String, MailParseError>
     header.get_value(alloc)
 }
 
-/// Returns the text that some bytes show as the value of a header, as `get_value_in` reads it (RFC
-/// 2047, section 2).
+/// Returns the text of some bytes as the value of a header, as `get_value_in` reads it (RFC 2047,
+/// section 2).
 ///
 /// Takes memory for the text. Control characters stay in it, as with `get_value`.
 ///
 /// # Errors
 ///
-/// `MailParseError::Memory` where it runs out of memory.
+/// `MailParseError::Memory` if it runs out of memory.
 ///
 /// # Examples
 ///

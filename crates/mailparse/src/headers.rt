@@ -29,7 +29,7 @@ impl<'a> Model for Headers<'a> {
 }
 
 impl<'a> Headers<'a> {
-    /// The headers of a message and the bytes of their block.
+    /// Makes a block of its bytes and its headers.
     pub(crate) fn new(raw_bytes: &'a [u8], headers: &'a [MailHeader<'a>]) -> Headers<'a>
         ensures { result ≡ record { bytes = raw_bytes.entry.now; headers = headers.entry.now } }
     {
@@ -56,7 +56,7 @@ impl<'a> Headers<'a> {
     }
 }
 
-/// Iterates over the headers in the order in which they stand in the message.
+/// Iterates over the headers in the order of the message.
 impl<'a> IntoIterator for Headers<'a> {
     type Item = &'a MailHeader<'a>;
 

@@ -22,7 +22,7 @@ use std::ops::{Deref, DerefMut};
 #[derive(Debug, Drop)]
 pub struct MessageIdList(pub Vec<String>);
 
-/// Two lists are equal exactly if their ids are, in order.
+/// Two lists are equal if their ids are, in order.
 impl PartialEq for MessageIdList {
     ghost use Rattle.std.specs.Cmp.{on_per, partial_equiv_from_equiv};
     ghost use Rattle.std.specs.Cmp.Lexicographic.{lists_per, nat_list_eq_equiv};
@@ -69,7 +69,7 @@ impl MessageIdList {
     ///
     /// # Errors
     ///
-    /// `MailParseError::Memory` where it runs out of memory.
+    /// `MailParseError::Memory` if it runs out of memory.
     ///
     /// # Examples
     ///
@@ -108,16 +108,16 @@ impl fmt::Display for MessageIdList {
 /// Reads the ids of a header such as `Message-ID`, `In-Reply-To` or `References` (RFC 5322, section
 /// 3.6.4).
 ///
-/// Each id is what stands between a `<` and the first `>` after it. It may be empty, and may hold
-/// whitespace and any other character except `>`. Before, between and after the ids there may be
-/// whitespace and nothing else; a text of only whitespace gives the empty list. Takes memory for
-/// the list and its ids, and none before the first whole id.
+/// Each id is the text between a `<` and the first `>` after it. It may be empty, and may contain
+/// whitespace and any other character except `>`. Only whitespace may surround the ids; a text of
+/// whitespace alone gives the empty list. Takes memory for the list and its ids, and none before the
+/// first whole id.
 ///
 /// # Errors
 ///
 /// The first of these in reading order: `MailParseError::Generic` with the text `Message IDs must
-/// start with <` where something else stands, or with `Message IDs must end with >` where no `>`
-/// follows a `<`; and `MailParseError::Memory` where it runs out of memory.
+/// start with <` if other text comes where an id is expected, or with `Message IDs must end with >`
+/// if no `>` follows a `<`; and `MailParseError::Memory` if it runs out of memory.
 ///
 /// # Examples
 ///
@@ -145,8 +145,8 @@ pub fn msgidparse(alloc: Global, ids: &str) -> Result<MessageIdList, MailParseEr
     Ok(MessageIdList(found))
 }
 
-/// The id that a text begins with, after whitespace, and the text after its `>`; `None` where no
-/// `>` is left.
+/// Returns the id that a text begins with, after whitespace, and the text after its `>`, or `None` if
+/// no `>` is left.
 fn next_id(text: &str) -> Result<Option<(&str, &str)>, MailParseError>
     ensures { MatchResult result (λ found. IsNextIdOrNone text.now found)
         (λ e. IsRefusal e (message_ids text.now)) }
@@ -160,7 +160,7 @@ fn next_id(text: &str) -> Result<Option<(&str, &str)>, MailParseError>
     }
 }
 
-/// What stands before and after the first `>`, if there is one.
+/// Returns the text before and after the first `>`, if there is one.
 fn cut_at_closing(text: &str) -> Option<(&str, &str)>
     ensures { MatchOption result (slice_split is_closing text.now ≡ text.now ∷ [])
         (λ p. IsCutAtClosing text.now p.0.now p.1.now) }
@@ -168,14 +168,14 @@ fn cut_at_closing(text: &str) -> Option<(&str, &str)>
     text.split_once('>')
 }
 
-/// What stands after whitespace and a `<` at the front of a text, if these stand there.
+/// Returns the text after leading whitespace and a `<`, or `None` if no `<` follows the whitespace.
 fn opened_id(text: &str) -> Option<&str>
     ensures { MatchOption result (opens_id text.now ≡ false) (λ id. IsOpenedId text.now id.now) }
 {
     text.trim_start().strip_prefix('<')
 }
 
-/// Refuses what stands after the last `>`, if it is not whitespace.
+/// Refuses the text after the last `>` if it is not whitespace.
 fn check_end(text: &str) -> Result<(), MailParseError>
     ensures { Answers (λ _. []) result (ids_at_end text.now) }
 {

@@ -13,7 +13,7 @@ use Rattle.mailparse.proofs.lemmas.Places.{not_empty}
 use Rattle.mailparse.proofs.lemmas.Header.{header_length-≤, header_length->, read_header-empty}
 use Rattle.mailparse.specs.Block.{HeaderList, blank_line, headers_end, has_header, header_place, rest_at, header_count, block_end, read_headers}
 
--- where a header stands there are bytes
+-- where a header begins there are bytes
 pub has_header-nonempty : (bytes : List ℕ) → has_header bytes ≡ true → 0 < length bytes
 unfolding has_header headers_end
 has_header-nonempty [] h = absurd (false≢true h)
@@ -23,7 +23,7 @@ has_header-none : has_header [] ≡ false
 unfolding has_header headers_end
 has_header-none = refl
 
--- the places lie within the bytes
+-- the places are within the bytes
 pub header_place-≤ : (raw : List ℕ) (j : ℕ) → header_place raw j ≤ length raw
 unfolding header_place
 header_place-≤ raw zero = omega arith
@@ -41,7 +41,7 @@ header_place-≥ raw (suc j) h =
     let more = header_length-> (drop (header_place raw j) raw) (has_header-nonempty (rest_at raw j) (h j (omega arith))) in
     omega arith
 
--- the number of headers is the number at whose place none stands, and before which each place has one
+-- the number of headers: no header begins at its place, and one begins at each place before it
 pub header_count-is : (raw : List ℕ) (n : ℕ) → ((k : ℕ) → k < n → has_header (rest_at raw k) ≡ true) → has_header (rest_at raw n) ≡ false → header_count raw ≡ n
 unfolding header_count
 header_count-is raw n before at =
@@ -90,7 +90,7 @@ header_count-more raw h =
     before zero low = rw rest_at-first h
     before (suc k) low = rw rest_at-more (header_count-before (drop (header_length raw) raw) k (omega arith))
 
--- none where none stands at the front
+-- no headers if none begins at the front
 pub header_count-none : (raw : List ℕ) → has_header raw ≡ false → header_count raw ≡ 0
 header_count-none raw h = header_count-is raw 0 (λ k low. absurd (omega arith)) (rw rest_at-first h)
 
@@ -99,7 +99,7 @@ pub values_below-same : {X : Type 0} (n : ℕ) (f g : ℕ → X) → ((k : ℕ) 
 values_below-same {X = X} zero f g h = refl
 values_below-same {X = X} (suc n) f g h = ap (λ x. x ∷ values_below n (λ k. f (suc k))) (h 0) ∙ ap (λ (xs : List X). g 0 ∷ xs) (values_below-same n (λ k. f (suc k)) (λ k. g (suc k)) (λ k. h (suc k)))
 
--- headers that were read, and then what the rest gives
+-- headers that were read, and then those of the rest
 abbrev pub with_front : List Header → ℕ → Result HeaderList Refusal → Result HeaderList Refusal
 with_front front place (Ok block) = Ok (record { headers = front ++ block.headers; index = place + block.index })
 with_front front place (Err refusal) = Err refusal
@@ -199,7 +199,7 @@ unfolding headers_end
 is_empty-from_headers_end [] e = absurd (false≢true (sym e))
 is_empty-from_headers_end (b ∷ raw) e = refl
 
--- how the bytes in front stand: the block ends there, a lone CR or a space refuses it, or a header stands there
+-- the cases of the bytes at the front: the block ends there, a lone CR or a space refuses it, or a header begins there
 data Front (raw : List ℕ) : Type 0 where
   ended_there : block_end raw ≡ Ok (Some (blank_line raw)) → read_headers raw ≡ Ok (record { headers = []; index = blank_line raw }) → Front raw
   returned : block_end raw ≡ Err lone_carriage_return → read_headers raw ≡ Err lone_carriage_return → Front raw
@@ -226,11 +226,11 @@ block_end-some raw taken e = elim (front_of raw) [ ended_there b h ↦ let same 
 pub block_end-err : (raw : List ℕ) (refusal : Refusal) → block_end raw ≡ Err refusal → read_headers raw ≡ Err refusal
 block_end-err raw refusal e = elim (front_of raw) [ ended_there b h ↦ cc | returned b h ↦ cc | spaced b r h ↦ cc | header b r h ↦ cc ]
 
--- where nothing ends it, what is refused as a header refuses it
+-- if nothing ends it, a refused header refuses it
 pub block_end-header : (raw : List ℕ) (refusal : Refusal) → block_end raw ≡ Ok None → read_header raw ≡ Err refusal → read_headers raw ≡ Err refusal
 block_end-header raw refusal e refused = elim (front_of raw) [ ended_there b h ↦ cc | returned b h ↦ cc | spaced b r h ↦ cc | header b r h ↦ cc ]
 
--- and what is read as one is its first
+-- and a header that is read is its first
 pub block_end-found : (raw : List ℕ) (found : Header × ℕ) → block_end raw ≡ Ok None → read_header raw ≡ Ok found → (has_header raw ≡ true) × (found ≡ (header_of raw, header_length raw))
 block_end-found raw found e read = elim (front_of raw) [ ended_there b h ↦ absurd (cc) | returned b h ↦ absurd (cc) | spaced b r h ↦ absurd (cc) | header b r h ↦ (h, cc) ]
 
@@ -245,7 +245,7 @@ header_count-found raw found e read =
     let is = block_end-found raw found e read in
     header_count-more raw is.0 ∙ ap (λ (f : Header × ℕ). suc (header_count (drop f.1 raw))) (sym is.1)
 
--- its length lies within the bytes, and is not zero
+-- its length is within the bytes, and not zero
 pub header_length-found : (raw : List ℕ) (found : Header × ℕ) → block_end raw ≡ Ok None → read_header raw ≡ Ok found → (0 < found.1) × (found.1 ≤ length raw)
 header_length-found raw found e read =
     let is = block_end-found raw found e read in
@@ -254,7 +254,7 @@ header_length-found raw found e read =
     let high = header_length-≤ raw in
     (omega arith, omega arith)
 
--- the loop over the headers: what was read, and then what the rest gives, is all
+-- the loop over the headers: those that were read and those of the rest are all headers
 module _ (raw : List ℕ) (front : List Header) (place : ℕ) (all : with_front front place (read_headers (drop place raw)) ≡ read_headers raw) where
   pub refused_further : (r : Refusal) → read_headers (drop place raw) ≡ Err r → read_headers raw ≡ Err r
   refused_further r e = sym all ∙ ap (with_front front place) e
@@ -272,7 +272,7 @@ module _ (raw : List ℕ) (front : List Header) (place : ℕ) (all : with_front 
       ∙ ap (with_front front place) (sym (read_headers-found (drop place raw) found e read))
       ∙ all
 
--- the blank line lies within the bytes
+-- the blank line is within the bytes
 blank_line-at : (first both : Bool) → cond first 1 (cond both 2 0) ≤ 2
 blank_line-at true both = omega arith
 blank_line-at false true = omega arith
@@ -315,7 +315,7 @@ length-values_below : {X : Type 0} (n : ℕ) (f : ℕ → X) → length (values_
 length-values_below zero f = refl
 length-values_below (suc n) f = ap suc (length-values_below n (λ k. f (suc k)))
 
--- what a block is that is read: the headers at its places, and the place after the blank line
+-- a block that is read: the headers at its places, and the place after the blank line
 abbrev block_read : List ℕ → HeaderList
 block_read raw = record {
   headers = values_below (header_count raw) (λ j. header_of (rest_at raw j));

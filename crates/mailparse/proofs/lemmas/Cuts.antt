@@ -30,7 +30,7 @@ KeepsClosing_none line k above below = absurd (omega arith)
 closing_is_pair : (rest : List ℕ) → begins_closing rest ≡ true → has_prefix (63 ∷ 61 ∷ []) rest ≡ true
 closing_is_pair rest h = (and_parts (has_prefix (63 ∷ 61 ∷ []) rest) (begins_with_boundary (chars (drop 2 rest))) h).0
 
--- the end of a word is sought from the next `?=` on
+-- the end of a word is sought from the next `?=` onwards
 pub closing_from_pair : (line : List ℕ) (s at : ℕ) → s ≤ length line → place_from (has_prefix (63 ∷ 61 ∷ [])) line s ≡ at
     → (at ≤ length line) × (place_from (has_prefix (63 ∷ 61 ∷ [])) line at ≡ at) × (closing line at ≡ closing line s)
 closing_from_pair line s at fits e = place_from_via (has_prefix (63 ∷ 61 ∷ [])) begins_closing closing_is_pair line s at fits e
@@ -98,12 +98,12 @@ whitespace_chars (c ∷ cs) = go (is_whitespace c) refl (whitespace_chars cs)
         ap (λ t. t && list_all is_whitespace cs) e ∙ sym (encoded_some c (encode_utf8_all cs))
         ∙ ap (λ t. eqb (length (encode_utf8_all (cond t (skip_leading_whitespace cs) (c ∷ cs)))) 0) (sym e)
 
--- a text is whitespace throughout if nothing is left of it once the whitespace at its start is gone
+-- a text is whitespace alone if nothing is left of it without its leading whitespace
 pub is_all_whitespace-trim_start : (text : List ℕ) → is_all_whitespace text ≡ eqb (length (trim_start text)) 0
 unfolding trim_start
 is_all_whitespace-trim_start text = whitespace_chars (chars text)
 
--- the token of what stands outside of all words
+-- the token of a text outside all words
 pub outside_token-whitespace : (text : List ℕ) → eqb (length (trim_start text)) 0 ≡ true → record { kind = whitespace; shown = text } ≡ outside_token text
 outside_token-whitespace text e =
     sym (ap (λ k. record { kind = k; shown = text }) (cond-true _ _ _ (is_all_whitespace-trim_start text ∙ e)))

@@ -1,4 +1,4 @@
--- Dates: the numbers that words write, and the words of a text.
+-- Dates: the words of a text, and the numbers that they give.
 use Rattle.std.proofs.Common.{◌≡◌, ℕ, zero, suc, ◌+◌, ◌-◌, ◌*◌, ◌/◌, ◌%◌, ◌^◌, ◌<◌, ◌≤◌, Bool, true, false, cond, not, ◌&&◌, ◌||◌, eqb, ltb, List, [], ◌∷◌, length, take, drop, Option, Some, None, Result, Ok, Err, refl, sym, ap, ◌∙◌, subst, get_or, leb, arith, length-take}
 use Rattle.std.specs.List.{filter, list_all, slice_split, onto_first, prefix_len}
 use Rattle.std.specs.Result.{result_ok}
@@ -29,7 +29,7 @@ some_digit : (d : List ℕ) → is_empty d ≡ false → 0 < length d
 some_digit [] h = absurd (cc)
 some_digit (c ∷ cs) h = omega arith
 
--- what `parse` reads is what the definition reads
+-- `parse` reads what the definition reads
 pub number_below-parse : {E : Type 0} (k : ℕ) (word : List ℕ) (r : Result ℕ E) → ParsesUnsigned k 10 word r → number_below (2 ^ k) word ≡ result_ok r
 unfolding number_below
 number_below-parse k word (Ok x) h =
@@ -48,7 +48,7 @@ number_below-parse k word (Err e) h =
 abbrev pub year_if_read : Option ℕ → Reads ℕ
 year_if_read n = ok_or n invalid_year >>= year_of_number
 
--- the year that a word writes, by what `parse` read
+-- the year that a word gives, by what `parse` read
 pub year_of-parse : {E : Type 0} (word : List ℕ) (r : Result ℕ E) → ParsesUnsigned 32 10 word r → year_of word ≡ year_if_read (result_ok r)
 unfolding year_of
 year_of-parse word r h = ap year_if_read (number_below-parse 32 word r h)
@@ -58,7 +58,7 @@ year_of-parse word r h = ap year_if_read (number_below-parse 32 word r h)
 past_first : (m b : ℕ) (bytes : List ℕ) → drop (1 + m) (b ∷ bytes) ≡ drop m bytes
 past_first m b bytes = let e : 1 + m ≡ suc m = omega arith in rw e refl
 
--- the first piece of bytes, and what stands from its end on
+-- the first piece of bytes, and the pieces from its end onwards
 abbrev FirstPiece : (ℕ → Bool) → List ℕ → Type 0
 FirstPiece test bytes =
     (more : List (List ℕ))
@@ -104,7 +104,7 @@ words-skip (b ∷ bytes) = go (words-skip bytes) (is_separator b) refl
         ap (λ k. words (drop k (b ∷ bytes))) n ∙ later ∙ sym here
     go later false e = refl
 
--- after them stands a word or nothing
+-- a word or nothing follows them
 after_skip : (bytes : List ℕ) → prefix_len (λ b. not (is_separator b)) (drop (prefix_len is_separator bytes) bytes) ≡ 0
     → drop (prefix_len is_separator bytes) bytes ≡ []
 after_skip [] h = refl
@@ -125,7 +125,7 @@ after_skip (b ∷ bytes) h = go (after_skip bytes) (is_separator b) refl h
         none : 1 + prefix_len (λ b. not (is_separator b)) bytes ≡ 0 → ⊥
         none h = omega arith
 
--- no word where none stands after the separators
+-- no words if nothing follows the separators
 pub words-none : (bytes rest : List ℕ) (start end : ℕ) → start ≡ prefix_len is_separator bytes → rest ≡ drop start bytes
     → end ≡ prefix_len (λ b. not (is_separator b)) rest → end ≡ 0 → words bytes ≡ []
 words-none bytes rest start end at cut length none =
@@ -198,7 +198,7 @@ look_up-size (row ∷ table) word z all h = go (look_up-size table word z) (str_
 pub zones-size : (word : List ℕ) (z : ℤ) → look_up zones word ≡ Some z → HasSizeAtMost 2400 z
 zones-size word z h = look_up-size zones word z refl h
 
--- a number of such a size is one of 32 bits
+-- a number of this size fits in 32 bits
 pub size_fits : (most : ℕ) (z : ℤ) → most < 2 ^ 31 → HasSizeAtMost most z → FitsSigned w32 z
 size_fits most (pos n) lt h = record { sfits = omega (arith, ints, h.0, h.1) }
 size_fits most (negsuc n) lt h = record { sfits = omega (arith, ints, h.0, h.1) }
@@ -291,7 +291,7 @@ from_hour-clock ws ws1 ws2 ws3 h m s hour minute second =
     ∙ ap (plus (Ok (pos (3600 * h)))) (from_minute-next ws1 ws2 m minute ∙ ap (plus (Ok (pos (60 * m)))) (from_second-next ws2 ws3 s second))
     ∙ clock_sum (3600 * h) (60 * m) s (from_zone ws3)
 
--- the words before the first number are passed over
+-- the words before the first number are skipped
 pub date_words-here : (word : List ℕ) (after : List (List ℕ)) (n : ℕ) → number_below 256 word ≡ Some n → date_words (word ∷ after) ≡ word ∷ after
 date_words-here word after n h = rw h refl
 

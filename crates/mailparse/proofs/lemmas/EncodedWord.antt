@@ -23,7 +23,7 @@ join_next c (p ∷ q ∷ pieces) piece h =
     ∙ sym (ap (λ r. r ++ piece) (append_assoc p (c ∷ join_with_byte c (q ∷ pieces)) (c ∷ []))
     ∙ append_assoc p ((c ∷ join_with_byte c (q ∷ pieces)) ++ c ∷ []) piece)
 
--- a space for the byte, put before the pieces of what follows it
+-- a space for the byte, before the pieces of the rest
 join_cons : (c b : ℕ) (pieces : List (List ℕ)) → pieces ≢ [] → join_with_byte c (onto_first b pieces) ≡ b ∷ join_with_byte c pieces
 join_cons c b [] h = absurd (h refl)
 join_cons c b (p ∷ []) h = refl
@@ -45,7 +45,7 @@ split_some test (b ∷ bytes) e = go (test b) e
     go true h = cc
     go false h = onto (slice_split test bytes) h
 
--- the pieces between the `_`, with a space between each two
+-- the pieces between the `_`, joined by spaces
 pub join-spaced : (bytes : List ℕ) → join_with_byte 32 (slice_split (λ b. eqb b 95) bytes) ≡ spaced bytes
 join-spaced [] = refl
 join-spaced (b ∷ bytes) = go (eqb b 95) (join-spaced bytes)
@@ -115,14 +115,14 @@ module _ (known : Charsets) where
       ap (option_and_then (text_of_word known)) (cond-true _ _ _ marked)
       ∙ cc
 
-  -- whose label names no charset
+  -- if its label names no charset
   pub word_no_charset : (inside label rest encoding encoded : List ℕ) → IsCutAtMark inside label rest → IsCutAtMark rest encoding encoded
       → known label ≡ None → None ≡ word_text known inside
   word_no_charset inside label rest encoding encoded first second unknown =
       sym (word_parts inside label rest encoding encoded first second
       ∙ ap (option_and_then (λ text. option_and_then (λ bytes. Some (text bytes)) (encoded_bytes encoding encoded))) unknown)
 
-  -- whose encoded text stands for no bytes
+  -- if its encoded text has no bytes
   pub word_no_bytes : (inside label rest encoding encoded : List ℕ) (decode : List ℕ → List ℕ) → IsCutAtMark inside label rest
       → IsCutAtMark rest encoding encoded → known label ≡ Some decode → encoded_bytes encoding encoded ≡ None → None ≡ word_text known inside
   word_no_bytes inside label rest encoding encoded decode first second some none =
@@ -130,7 +130,7 @@ module _ (known : Charsets) where
       ∙ ap (option_and_then (λ text. option_and_then (λ bytes. Some (text bytes)) (encoded_bytes encoding encoded))) some
       ∙ ap (option_and_then (λ bytes. Some (decode bytes))) none)
 
-  -- whose label names a charset and whose encoded text stands for bytes
+  -- if its label names a charset and its encoded text has bytes
   pub word_whole : (inside label rest encoding encoded bytes text : List ℕ) (decode : List ℕ → List ℕ) → IsCutAtMark inside label rest
       → IsCutAtMark rest encoding encoded → known label ≡ Some decode → encoded_bytes encoding encoded ≡ Some bytes → text ≡ decode bytes
       → Some text ≡ word_text known inside

@@ -40,14 +40,14 @@ pub feed_after : (raw : List ℕ) (place feed : ℕ) → place < length raw → 
 feed_after raw place feed low at =
     let via = place_from_via (begins is_line_feed) ends_header ends_header_is_feed raw (place + 1) feed (omega arith) (sym at) in (via.1, via.2)
 
--- the header's end is sought from there on
+-- the end of the header is sought from there onwards
 pub header_end-from_feed : (raw : List ℕ) (place feed : ℕ) → has_colon raw ≡ true → place ≡ key_end raw → place < length raw
     → feed ≡ place_from (begins is_line_feed) raw (place + 1) → place_from ends_header raw feed ≡ header_end raw
 unfolding header_end
 header_end-from_feed raw place feed has at low is =
     (feed_after raw place feed low is).1 ∙ ap (place_from ends_header raw) {x = place + 1} {y = suc (key_end raw)} (omega (arith, at)) ∙ sym (rw has refl)
 
--- a LF that a blank follows is passed over
+-- a LF that a blank follows is skipped
 pub header_end-continued : (raw : List ℕ) (end : ℕ) → end < length raw → begins is_blank (drop (end + 1) raw) ≡ true
     → place_from ends_header raw end ≡ place_from ends_header raw (end + 1)
 header_end-continued raw end low blank =
@@ -90,7 +90,7 @@ TrimmedTo-last bytes rest front b h cut e =
     let size : length rest ≡ suc (length front) = ap length cut ∙ length-append front (b ∷ []) ∙ omega arith in
     sym (ap (λ n. take n bytes) (place ∙ sym size) ∙ ap (take (length rest)) h.whole ∙ take-append_seam rest h.tail)
 
--- the key ends within the bytes
+-- the end of the key is within the bytes
 pub key_end-≤ : (raw : List ℕ) → key_end raw ≤ length raw
 unfolding key_end
 key_end-≤ raw = first_place-≤ (begins ends_key) raw
@@ -99,12 +99,12 @@ begins-within : (test : ℕ → Bool) (raw : List ℕ) (i : ℕ) → begins test
 begins-within test raw i e =
     elim (cases_lt i (length raw)) [ inl below ↦ below | inr above ↦ absurd (false≢true (subst (λ (xs : List ℕ). begins test xs ≡ true) (drop_of_length-le raw above) e)) ]
 
--- a colon that ends the key stands within the bytes
+-- a colon that ends the key is within the bytes
 pub key_end-< : (raw : List ℕ) → has_colon raw ≡ true → key_end raw < length raw
 unfolding has_colon
 key_end-< raw e = begins-within (λ b. eqb b 58) raw (key_end raw) e
 
--- the header ends within the bytes
+-- the end of the header is within the bytes
 pub header_end-≤ : (raw : List ℕ) → header_end raw ≤ length raw
 unfolding header_end
 header_end-≤ raw = by_colon (has_colon raw) refl
@@ -142,7 +142,7 @@ trimmed_slice raw a e p q order within p_fits q_fits =
     let size : ((a + p) + q) - (a + p) ≡ q = omega arith in
     ap (take q) seam ∙ take-take q ((e - a) - p) (drop (a + p) raw) (omega arith) ∙ ap (λ n. take n (drop (a + p) raw)) (sym size)
 
--- the front of the bytes up to e, from a on
+-- the bytes from a to e
 between : (raw : List ℕ) (a e : ℕ) → a ≤ e → drop a (take e raw) ≡ slice_range raw a e
 between raw a e order =
     let sum : e ≡ a + (e - a) = omega arith in
@@ -152,15 +152,15 @@ between raw a e order =
 abbrev cut : List ℕ → List ℕ
 cut raw = slice_range raw (suc (key_end raw)) (header_end raw)
 
--- how many spaces they begin with
+-- the number of spaces that they begin with
 abbrev spaces : List ℕ → ℕ
 spaces raw = first_place (begins (λ b. not (eqb b 32))) (cut raw)
 
--- how many bytes after those stay
+-- the number of bytes after those that are kept
 abbrev kept : List ℕ → ℕ
 kept raw = first_place (list_all is_line_end) (drop (spaces raw) (cut raw))
 
--- the value of a header with a colon is what stays
+-- the value of a header with a colon is the bytes that are kept
 module _ (raw : List ℕ) (colon : has_colon raw ≡ true) where
   value_start-colon : value_start raw ≡ suc (key_end raw) + spaces raw
   unfolding value_start
@@ -205,7 +205,7 @@ header_of-value raw colon end has at ends after spaceless trimmed is_after is_sp
     parts : List ℕ → List ℕ → Header
     parts key value = record { key = key; value = value }
 
--- the header is read unless the bytes are none or begin with a space
+-- the header is read unless the bytes are empty or begin with a space
 pub read_header-empty : (raw : List ℕ) → length raw ≡ 0 → read_header raw ≡ Err empty_string
 unfolding read_header
 read_header-empty [] e = refl
@@ -230,7 +230,7 @@ pub header_length-> : (raw : List ℕ) → 0 < length raw → 0 < header_length 
 unfolding header_length
 header_length-> raw h = omega arith
 
--- without a colon the value stands, empty, where the key ends
+-- without a colon the value is empty, where the key ends
 no_start : (raw : List ℕ) → has_colon raw ≡ false → value_start raw ≡ key_end raw
 unfolding value_start
 no_start raw e = rw e refl
@@ -239,7 +239,7 @@ no_end : (raw : List ℕ) → has_colon raw ≡ false → value_end raw ≡ key_
 unfolding value_end
 no_end raw e = rw e refl
 
--- a header's key, value and end stand in this order
+-- the key, the value and the end of a header are in this order
 pub value-in_order : (raw : List ℕ) → (key_end raw ≤ value_start raw) × (value_start raw ≤ value_end raw) × (value_end raw ≤ header_length raw)
 unfolding header_length
 value-in_order raw = by_colon (has_colon raw) refl

@@ -116,8 +116,8 @@ pointwise_low [] (y ∷ ys) = refl
 pointwise_low (x ∷ xs) [] = refl
 pointwise_low (x ∷ xs) (y ∷ ys) = ap (λ r. eqb (low x) (low y) && r) (pointwise_low xs ys)
 
--- the text of a key and a name are equal ignoring ASCII case where each byte of the key is the character of the name at the same
--- place, ignoring ASCII case, and neither has more
+-- the text of a key and a name are equal, ignoring ASCII case, if each byte of the key is the character of the name at the same
+-- position, ignoring ASCII case, and both have the same length
 pub same_name : (key name : List ℕ) → ((i : ℕ) → get_or key i 0 < 256) → IsUtf8 name
     → str_eq_ignore_ascii_case (latin1_text key) name ≡ pointwise eq_ignore_ascii_case key (chars name)
 same_name key name bytes utf8 =
@@ -134,11 +134,11 @@ same_name key name bytes utf8 =
     small_scalars [] h = refl
     small_scalars (b ∷ bs) h = and_from _ _ (cond-true _ _ _ (lt-ltb b 55296 (let small = h 0 in omega arith))) (small_scalars bs (λ i. h (suc i)))
 
--- where the name is ASCII, the key's bytes are compared with its bytes
+-- if the name is ASCII, the key is compared with its bytes
 same_ascii : (key name : List ℕ) → ((i : ℕ) → get_or key i 0 < 256) → IsUtf8 name → IsAscii name → str_eq_ignore_ascii_case (latin1_text key) name ≡ bytes_eq (map low key) (map low name)
 same_ascii key name bytes utf8 ascii = same_name key name bytes utf8 ∙ ap (pointwise eq_ignore_ascii_case key) (chars-IsAscii name ascii) ∙ sym (pointwise_low key name)
 
--- and so does a test whether the bytes are equal, ignoring ASCII case
+-- as a test for equal bytes does, ignoring ASCII case
 pub same_tested : (key name bytes : List ℕ) (answer : Bool) → ((i : ℕ) → get_or key i 0 < 256) → IsUtf8 name → IsAscii name → bytes ≡ name
     → ((answer ≡ true) ↔ (map low key ≡ map low bytes)) → answer ≡ str_eq_ignore_ascii_case (latin1_text key) name
 same_tested key name bytes answer small utf8 ascii same test =

@@ -120,7 +120,7 @@ opens_from_strip piece text (Some x) e h =
 
 -- ---- which lists are equal
 
--- strings are equal exactly if their bytes are
+-- strings are equal if and only if their bytes are
 pub same_ids : (a b : List (String Global)) → pointwise string_eq a b ≡ pointwise bytes_eq (map string_bytes a) (map string_bytes b)
 same_ids [] [] = refl
 same_ids [] (y ∷ b) = refl

@@ -1,4 +1,4 @@
--- What is read, as it is seen by a function.
+-- The result of a reading, seen through a function.
 use Rattle.std.proofs.Common.{Ok}
 use Rattle.mailparse.specs.Refusal.{◌>>=◌, Reads}
 

@@ -1,4 +1,4 @@
--- What a reader of a value shows, token by token, over a line and over the lines of a text.
+-- The text that a reader of values makes, token by token, of a line and of the lines of a text.
 use Rattle.std.proofs.Common.{◌≡◌, ◌≢◌, ℕ, ◌+◌, ◌-◌, Bool, true, false, cond, not, Result, Ok, Err, is_ok, OnOk, ◌||◌, ◌&&◌, Option, List, [], ◌∷◌, ◌++◌, length, map, take, reverse, slice_range, Some, None, is_some, unwrap_or, refl, sym, ap, ◌∙◌, subst, arith, append_assoc}
 use Rattle.std.proofs.Math.Nat.{sub-zero}
 use Rattle.std.proofs.lemmas.List.{map-append, append-nil}
@@ -31,9 +31,9 @@ Shows-append before middle after xs ys h i rest = ap (shown_with before) (append
 pub Shows-at : (before after : ShownValue) (xs ys : List Token) → xs ≡ ys → Shows before xs after → Shows before ys after
 Shows-at before after xs ys e h = subst (λ ts. Shows before ts after) e h
 
--- ---- what is held
+-- ---- tokens held back
 
--- the token before the last one counts only where it is a decoded word
+-- the token before the last one matters only if it is a decoded word
 held_alike : (b : Option TokenKind) (before : Option TokenKind) (k : TokenKind) → is_word b ≡ false → is_held b before k ≡ is_held None before k
 held_alike b before plain_text h = refl
 held_alike b before whitespace h = refl
@@ -51,7 +51,7 @@ none_held e b whitespace h i = h
 none_held e b line_end h i = ap (λ w. w || (is_whitespace_token b && is_word e)) h ∙ i
 none_held e b decoded_word h i = refl
 
--- where nothing can be held, all shows as it does at the front
+-- if nothing can be held back, tokens are shown as they are at the front
 pub settled : (e b : Option TokenKind) (tokens : List Token) → is_word b ≡ false → (is_whitespace_token b && is_word e) ≡ false
     → shown_after e b tokens ≡ shown_after None None tokens
 settled e b [] h i = refl
@@ -61,7 +61,7 @@ settled e b (t ∷ tokens) h i =
     ∙ sym (ap (λ held. (cond (not held || is_released t.kind (kinds tokens)) t.shown []) ++ shown_after None (Some t.kind) tokens)
     (none_held None None t.kind refl refl))
 
--- directly after a decoded word nothing before it counts
+-- directly after a decoded word nothing before it matters
 word_alike : (b : Option TokenKind) (tokens : List Token) → shown_after b (Some decoded_word) tokens ≡ shown_after None (Some decoded_word) tokens
 word_alike b [] = refl
 word_alike b (t ∷ tokens) =
@@ -73,18 +73,18 @@ word_alike b (t ∷ tokens) =
     alike line_end = refl
     alike decoded_word = refl
 
--- ---- the tokens that are taken
+-- ---- the tokens that are appended
 
 -- a push that succeeded left the whole
 pub on_push : {T E P : Type 0} (r : Result T E) (new whole old : List ℕ) → new ≡ cond (is_ok r) whole old → (new ≡ whole → P) → OnOk r P
 on_push (Ok x) new whole old e f = f e
 on_push (Err x) new whole old e f = tt
 
--- what is shown so far, and what is shown when these tokens follow
+-- the text so far, and the text if these tokens follow
 abbrev pub shown_of : List ℕ → Held → List Token → List ℕ
 shown_of text h tokens = text ++ shown_held h tokens
 
--- text shows, and releases what is held back
+-- text is shown, and releases what is held back
 pub takes_text : (text t : List ℕ) (h : Held) (rest : List Token)
     → shown_of text h (record { kind = plain_text; shown = t } ∷ rest) ≡ shown_of ((text ++ released h) ++ t) held.Nothing rest
 takes_text text t h rest = ap (λ r. text ++ r) (go h) ∙ sym (append_assoc text (released h) (t ++ shown_after None None rest)) ∙ sym (append_assoc (text ++ released h) t (shown_after None None rest))
@@ -98,7 +98,7 @@ takes_text text t h rest = ap (λ r. text ++ r) (go h) ∙ sym (append_assoc tex
     go (held.Whitespace gap) = ap (λ r. gap.now ++ r) (after (Some whitespace) (Some plain_text) refl refl)
     go (held.LineEnd gap) = ap (λ r. (gap.now ++ 32 ∷ []) ++ r) (after None (Some plain_text) refl refl)
 
--- a decoded word shows, and nothing of what is held back does
+-- a decoded word is shown, and what is held back is not
 pub takes_word : (text t : List ℕ) (h : Held) (rest : List Token)
     → shown_of text h (record { kind = decoded_word; shown = t } ∷ rest) ≡ shown_of (text ++ t) held.Word rest
 takes_word text t h rest = ap (λ r. text ++ r) (go h) ∙ sym (append_assoc text t (shown_after None (Some decoded_word) rest))
@@ -109,7 +109,7 @@ takes_word text t h rest = ap (λ r. text ++ r) (go h) ∙ sym (append_assoc tex
     go (held.Whitespace gap) = ap (λ r. t ++ r) (word_alike (Some whitespace) rest)
     go (held.LineEnd gap) = refl
 
--- and other whitespace shows
+-- and other whitespace is shown
 pub takes_whitespace : (text t : List ℕ) (h : Held) (rest : List Token) → h ≢ held.Word
     → shown_of text h (whitespace_token t ∷ rest) ≡ shown_of (text ++ t) held.Nothing rest
 takes_whitespace text t h rest other = ap (λ r. text ++ r) (go h other) ∙ sym (append_assoc text t (shown_after None None rest))
@@ -123,7 +123,7 @@ takes_whitespace text t h rest other = ap (λ r. text ++ r) (go h other) ∙ sym
     go (held.Whitespace gap) other = after (Some whitespace) refl
     go (held.LineEnd gap) other = after None refl
 
--- a line's end after a decoded word is held back
+-- the end of a line after a decoded word is held back
 pub holds_line_end : (text : List ℕ) (rest : List Token)
     → shown_of text held.Word (newline ∷ rest) ≡ text ++ (cond (is_released line_end (kinds rest)) (32 ∷ []) [] ++ shown_after None None rest)
 holds_line_end text rest =
@@ -146,7 +146,7 @@ holds_whitespace_line_end text gap rest =
     go (line_end ∷ next) r = refl
     go (decoded_word ∷ next) r = refl
 
--- any other line's end shows
+-- any other end of a line is shown
 pub takes_line_end : (text : List ℕ) (h : Held) (rest : List Token) → h ≢ held.Word → ((gap : Bor (List ℕ)) → h ≢ held.Whitespace gap)
     → shown_of text h (newline ∷ rest) ≡ shown_of (text ++ 32 ∷ []) held.Nothing rest
 takes_line_end text h rest other no_whitespace = ap (λ r. text ++ r) (go h other no_whitespace) ∙ sym (append_assoc text (32 ∷ []) (shown_after None None rest))
@@ -158,11 +158,11 @@ takes_line_end text h rest other no_whitespace = ap (λ r. text ++ r) (go h othe
     go (held.Whitespace gap) other no_whitespace = absurd (no_whitespace gap refl)
     go (held.LineEnd gap) other no_whitespace = ap (λ r. 32 ∷ r) (settled None (Some line_end) rest refl refl)
 
--- a reader that starts with nothing shows what the tokens show
+-- a reader that starts with nothing gives the text of the tokens
 pub starts_here : (value : ShownValue) (tokens : List Token) → string_bytes value.text ≡ [] → value.held ≡ held.Nothing → shown_with value tokens ≡ shown_tokens tokens
 starts_here value tokens e h = ap (λ t. shown_of t value.held tokens) e ∙ ap (λ h. shown_of [] h tokens) h
 
--- and what is held back at the end never shows
+-- and what is held back at the end is never shown
 pub ends_here : (value : ShownValue) → shown_with value [] ≡ string_bytes value.text
 ends_here value = ap (λ r. string_bytes value.text ++ r) (go value.held) ∙ append-nil (string_bytes value.text)
   where
@@ -174,7 +174,7 @@ ends_here value = ap (λ r. string_bytes value.text ++ r) (go value.held) ∙ ap
 
 -- Under the charsets that are known.
 module _ (known : Charsets) where
-  -- what stands outside of all words shows itself
+  -- a text outside all words is shown as it is
   pub token_of-outside : (line : List ℕ) (s v : ℕ) → token_of known line (outside_range line s v) ≡ outside_token (slice_range line s v)
   token_of-outside line s v = go (is_all_whitespace (slice_range line s v))
     where
@@ -186,7 +186,7 @@ module _ (known : Charsets) where
 
   -- ---- a line, group by group
 
-  -- the line shows what was shown up to s, and after it the tokens of any ranges that fit the rest of it
+  -- the tokens of the line are those up to s, and then those of any ranges that fit the rest of it
   abbrev pub Completes : List ℕ → ℕ → ShownValue → ShownValue → Type 0
   Completes line s before value =
       (ranges : List TokenRange) → AreTokensFrom known line s ranges → (rest : List Token)
@@ -217,7 +217,7 @@ module _ (known : Charsets) where
       Completes_next line s (v + 2) (text_range s (v + 2) ∷ []) before value new (no_boundary at some out)
       (Shows-at value new _ _ (ap (λ b. record { kind = plain_text; shown = b } ∷ []) b) shows) all
 
-  -- two tokens, the first of which stands outside of all words
+  -- two tokens, the first of which is outside all words
   two_tokens : (line : List ℕ) (s v : ℕ) (value middle new : ShownValue) (first second : Token) (front : List ℕ) (range : TokenRange)
       → first ≡ outside_token front → front ≡ slice_range line s v → second ≡ token_of known line range
       → Shows value (first ∷ []) middle → Shows middle (second ∷ []) new

@@ -23,7 +23,7 @@ begins_two a b (c ∷ d ∷ bytes) h =
     let second = and_parts (eqb b d) true parts.1 in
     (omega arith, sym (eqb-true a c parts.0), sym (eqb-true b d second.0))
 
--- where what begins with two bytes is found they stand, within the line
+-- two bytes that were found are within the line
 has_prefix_where : (test : List ℕ → Bool) (a b : ℕ) → ((rest : List ℕ) → test rest ≡ true → has_prefix (a ∷ b ∷ []) rest ≡ true) → (line : List ℕ) (s v : ℕ) → s ≤ length line → place_from test line s ≡ v → v ≢ length line
     → (s ≤ v) × (v + 2 ≤ length line) × (get_or line v 0 ≡ a) × (get_or line (v + 1) 0 ≡ b)
 has_prefix_where test a b begins line s v h e some =
@@ -39,12 +39,12 @@ pub pair_stands : (a b : ℕ) (line : List ℕ) (s v : ℕ) → s ≤ length lin
     → (s ≤ v) × (v + 2 ≤ length line) × (get_or line v 0 ≡ a) × (get_or line (v + 1) 0 ≡ b)
 pair_stands a b = has_prefix_where (has_prefix (a ∷ b ∷ [])) a b (λ rest h. h)
 
--- where `=?` is found it stands, within the line
+-- a `=?` that was found is within the line
 pub opening_stands : (line : List ℕ) (s v : ℕ) → s ≤ length line → opening line s ≡ v → v ≢ length line
     → (s ≤ v) × (v + 2 ≤ length line) × (get_or line v 0 ≡ 61) × (get_or line (v + 1) 0 ≡ 63)
 opening_stands = pair_stands 61 63
 
--- where `?=` is found it stands, within the line, with a boundary after it
+-- a `?=` that was found is within the line, and a boundary follows it
 pub closing_stands : (line : List ℕ) (s e : ℕ) → s ≤ length line → closing line s ≡ e → e ≢ length line
     → (s ≤ e) × (e + 2 ≤ length line) × (get_or line e 0 ≡ 63) × (get_or line (e + 1) 0 ≡ 61)
 closing_stands = has_prefix_where begins_closing 63 61 (λ rest h. (and_parts _ _ h).0)

@@ -29,6 +29,6 @@ pub strict-refused : (bytes : List ℕ) → (IsUtf8 bytes → ⊥) → strict_va
 unfolding strict_value
 strict-refused bytes none = rw (is_utf8-false bytes none) refl
 
--- where the strict reading is not an error, it is not a refusal
+-- if the strict reading is not an error, it is not a refusal
 pub strict-not_err : (bytes : List ℕ) → IsUtf8 bytes → IsErr (strict_value bytes) → ⊥
 strict-not_err bytes some refused = let f : false ≡ true = subst (λ (r : Result (List ℕ) Refusal). IsErr r) (strict-utf8 bytes some) refused in cc

@@ -1,4 +1,4 @@
--- A bare value shows itself.
+-- A bare value is its own text.
 use Rattle.std.proofs.Common.{◌≡◌, ℕ, ◌+◌, Bool, true, eqb, leb, ◌||◌, List, [], ◌∷◌, ◌++◌, ◌≤◌, length, drop, ⊎_elim, None, sym, ap, ◌∙◌, arith}
 use Rattle.std.proofs.lemmas.Bool.{and_parts, cases_lt, cond-false, eqb-true, false≢true, le-ltb, leb-true}
 use Rattle.std.proofs.Math.ListN.{drop_of_length-le}
@@ -18,7 +18,7 @@ use Rattle.mailparse.proofs.lemmas.ValuePlain.{graphic_no_whitespace, shown_valu
 graphic : (b : ℕ) → is_ascii_graphic b ≡ true → (33 ≤ b) × (b ≤ 126)
 graphic b h = let range = and_parts (leb 33 b) (leb b 126) h in (leb-true 33 b range.0, leb-true b 126 range.1)
 
--- nothing is trimmed where the first character is visible
+-- nothing is trimmed if the first character is visible
 trim_start-visible : (text : List ℕ) → IsUtf8 text → begins is_ascii_graphic text ≡ true → trim_start text ≡ text
 unfolding trim_start
 trim_start-visible [] utf8 h = absurd (false≢true h)
@@ -29,7 +29,7 @@ trim_start-visible (b ∷ text) utf8 h =
     ∙ ap encode_utf8_all (cond-false _ _ _ (graphic_no_whitespace b range.0 range.1) ∙ sym first)
     ∙ encodes-chars (b ∷ text) utf8
 
--- ---- what does not cut a value stands nowhere
+-- ---- no byte cuts a value
 
 feed_cuts : (rest : List ℕ) → begins is_line_feed rest ≡ true → begins cuts_value rest ≡ true
 feed_cuts [] h = h

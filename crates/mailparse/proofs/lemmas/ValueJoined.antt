@@ -11,7 +11,7 @@ use Rattle.mail_codec.proofs.lemmas.Places.{begins-at, first_place-begins, first
 use Rattle.mail_codec.proofs.lemmas.PlacesSearches.{place_none, place_some}
 use Rattle.mailparse.proofs.lemmas.ValuePlain.{no_line_feed, trim_start-nil}
 
--- the lines, joined as a value shows them
+-- the lines, joined as in the text of a value
 abbrev pub joined_text : List ℕ → List ℕ
 joined_text text = join_with_byte space (map trim_start (lines text))
 
@@ -29,7 +29,7 @@ feed_at text place e =
           ∙ first_place-passes (begins (λ b. eqb b 10)) text found.1),
     )
 
--- a line that a LF ends, and those of what follows
+-- a line that a LF ends, and the lines after it
 pub lines_cut : (text : List ℕ) (place : ℕ) → Some place ≡ byte_place text 10 → lines text ≡ strip_carriage_return (take place text) ∷ lines (drop (place + 1) text)
 lines_cut text place e =
     let found = place_some (begins (λ b. eqb b 10)) text place e in

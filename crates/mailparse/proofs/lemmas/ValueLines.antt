@@ -14,7 +14,7 @@ use Rattle.mailparse.proofs.lemmas.Shown.{Shows-append, Shows-at}
 pub more_is_some : {A : Type 0} (xs : List A) (x : A) → false ≡ eqb (length (xs ++ x ∷ [])) 0
 more_is_some xs x = let len = length-append xs (x ∷ []) in sym (ne_eqb _ _ (λ e. absurd (omega arith)))
 
--- the lines of an iterator's items, without the whitespace before their text
+-- the lines of an iterator's items, without their leading whitespace
 abbrev pub trimmed : List (Bor (List ℕ)) → List (List ℕ)
 trimmed items = map (λ line. trim_start line.now) items
 

@@ -1,4 +1,4 @@
--- A plain value shows itself; the strict and the lenient reading agree.
+-- A plain value is its own text; the strict and the lenient reading agree.
 use Rattle.std.proofs.Common.{◌≡◌, ◌≢◌, ◌⊎◌, ℕ, zero, suc, ◌<◌, ◌≤◌, Bool, true, false, cond, eqb, ltb, ◌&&◌, List, [], ◌∷◌, ◌++◌, length, map, take, drop, get_or, None, Some, Ok, Err, refl, zero-add, sym, ap, subst, ◌∙◌, inl, inr, ⊎_elim, arith}
 use Rattle.std.proofs.Math.Nat.{sub-zero}
 use Rattle.std.proofs.lemmas.Bool.{cond-true, cond-false, false≢true, eq-eqb, ne_eqb, cases_lt, or_from, and_left, and_right, le-ltb}
@@ -44,7 +44,7 @@ graphic_no_whitespace b low high =
     (other 8232 (inl (omega arith)))) (other 8233 (inl (omega arith)))) (other 8239 (inl (omega arith)))) (other 8287 (inl (omega arith))))
     (other 12288 (inl (omega arith)))
 
--- such a value is one line
+-- a plain value is one line
 lines_of_plain : (b : ℕ) (value : List ℕ) → Printable (b ∷ value) → lines (b ∷ value) ≡ (b ∷ value) ∷ []
 lines_of_plain b value h =
     ap lines_of_parts (slice_split_none (λ b. eqb b 10) (b ∷ value) (λ k d lt. ne_eqb _ _ (λ e. absurd (omega (arith, (h k d lt).0)))))
@@ -69,7 +69,7 @@ drop_whole zero text whole = refl
 drop_whole (suc n) [] whole = refl
 drop_whole (suc n) (b ∷ text) whole = absurd (omega (arith, whole, length-drop n text))
 
--- a line is the text where it is as long as that
+-- a line as long as the text is the text
 pub trim_start-whole : (text line : List ℕ) → IsTrimStart text line → length line ≡ length text → line ≡ text
 trim_start-whole text line trimmed whole = trimmed.1 ∙ drop_whole trimmed.0 text (sym (ap length trimmed.1) ∙ whole)
 
@@ -117,7 +117,7 @@ module _ (known : Charsets) where
       ∙ ap shown_tokens (line_tokens-plain (b ∷ value) plain.no_opening)
       ∙ shown_alone (b ∷ value)
 
-  -- a text of one line without `=?` shows itself, but for the whitespace at its start
+  -- a text of one line without `=?` is its own text, without its leading whitespace
   pub shown_value-line : (text line : List ℕ) → None ≡ place (begins (λ b. eqb b 10)) text → line ≡ trim_start text → None ≡ place begins_opening line
       → line ≡ shown_value known text
   unfolding shown_value value_tokens
@@ -157,7 +157,7 @@ module _ (known : Charsets) where
       ∙ ap (λ r. line ++ r) (shown_line_end (tokens_of_lines known (next ∷ more))
       ∙ ap (λ r. space ∷ r) (shown_joined (next ∷ more) (λ k. behind (suc k))))
 
-  -- lines without their leading whitespace that hold no `=?` once they are joined are what the value shows
+  -- lines without their leading whitespace are the text of the value if they contain no `=?` when they are joined
   pub shown_value-joined : (text joined : List ℕ) → joined ≡ join_with_byte space (map trim_start (lines text)) → None ≡ place begins_opening joined
       → joined ≡ shown_value known text
   unfolding shown_value value_tokens
@@ -181,6 +181,6 @@ strict_succeeds bytes value h = go (is_utf8 bytes) h
     go true e = cc
     go false e = cc
 
--- so the value reads as itself too
+-- so the value is read as itself
 pub lenient_value-plain : (value : List ℕ) → IsPlain value → lenient_value value ≡ value
 lenient_value-plain value plain = lenient-utf8 four_charsets value (IsUtf8-from_ascii value (printable_ascii value plain.printable)) ∙ shown_value-plain four_charsets value plain

@@ -1,4 +1,4 @@
--- What the private functions of dates tell each other.
+-- The contracts of the private functions of dates.
 use Rattle.std.specs.Prelude.{◌≡◌, ℕ, List, [], ◌∷◌, ℤ, pos, neg_ℤ, ◌≤ℤ◌, Option, Some, None, ok_or, Ok}
 use Rattle.mailparse.specs.Date.{date_words, number_below, words}
 use Rattle.mailparse.specs.Refusal.{◌>>=◌, Reads, Refusal}
@@ -13,7 +13,7 @@ pub record IsFirstNumber (date : List ℕ) (number : ℕ) (rest : List ℕ) : Ty
   pub first : date_words (words date) ≡ word ∷ words rest
   pub reads : number_below 256 word ≡ Some number
 
--- the number below 256 that the first word writes, and the words after it
+-- the number below 256 that the first word gives, and the words after it
 abbrev pub next_number : Refusal → List (List ℕ) → Reads (Option (ℕ × List (List ℕ)))
 next_number refusal [] = Ok None
 next_number refusal (word ∷ after) = do

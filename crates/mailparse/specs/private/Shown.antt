@@ -1,5 +1,4 @@
--- What a reader of a value has made of the tokens so far, and what it holds back until it has seen the next ones; private to the
--- reader of values.
+-- The text that a reader of values has made of the tokens so far, and what it holds back until it has seen the next ones.
 use Rattle.std.specs.Prelude.{◌≡◌, ℕ, List, [], ◌∷◌, ◌++◌, Some, None, string_bytes, if◌then◌else◌}
 use Rattle.mail_codec.specs.Ascii.{space}
 use Rattle.mailparse.specs.Tokens.{plain_text, whitespace, line_end, decoded_word}
@@ -17,14 +16,14 @@ token_view (code.Whitespace gap) = whitespace_token gap.now
 token_view code.Newline = newline
 token_view (code.DecodedWord decoded) = record { kind = decoded_word; shown = string_bytes decoded }
 
--- what is shown of what was held back, where text comes next
+-- the text of what was held back, if text comes next
 abbrev pub released : Held → List ℕ
 released held.Nothing = []
 released held.Word = []
 released (held.Whitespace gap) = gap.now
 released (held.LineEnd gap) = gap.now ++ space ∷ []
 
--- what is shown when these tokens follow: what was held back, where they release it, and what they show themselves
+-- the text if these tokens follow: what was held back, if they release it, and what they are shown as
 abbrev pub shown_held : Held → List Token → List ℕ
 shown_held held.Nothing tokens = shown_after None None tokens
 shown_held held.Word tokens = shown_after None (Some decoded_word) tokens
@@ -35,10 +34,10 @@ shown_held (held.LineEnd gap) tokens =
     (if is_released line_end (kinds tokens) then gap.now ++ space ∷ [] else [])
     ++ shown_after None None tokens
 
--- what a value shows whose tokens so far made this, when these follow
+-- the text of a value whose tokens so far made this, if these tokens follow
 abbrev pub shown_with : ShownValue → List Token → List ℕ
 shown_with value tokens = string_bytes value.text ++ shown_held value.held tokens
 
--- a reader went on over these tokens
+-- a reader appended these tokens
 abbrev pub Shows : ShownValue → List Token → ShownValue → Type 0
 Shows before tokens after = (rest : List Token) → shown_with before (tokens ++ rest) ≡ shown_with after rest

@@ -1,4 +1,4 @@
-//! What the words of a date mean, each by its place.
+//! The words of a date: month, year, hour, minute, second and zone.
 ghost use Rattle.std.specs.Prelude.{◌≡◌, ◌≤◌, ◌<◌, ◌^◌, IfOk, IfSome, option_map};
 ghost use Rattle.mailparse.specs.Date.{from_zone, month_of, words, year_of, zone_of};
 ghost use Rattle.mailparse.specs.Outcome.{Answers};
@@ -10,7 +10,7 @@ use crate::error::MailParseError;
 use mail_codec::calendar::month_named;
 use mail_codec::names::look_up;
 
-/// The names of zones, with how far they are east of Greenwich, in hours times 100.
+/// The names of zones with their offsets east of Greenwich, in hours times 100.
 static ZONES: [(&str, i32); 36] = [
     ("UTC", 0),
     ("UT", 0),
@@ -50,7 +50,7 @@ static ZONES: [(&str, i32); 36] = [
     ("Y", 1200),
 ];
 
-/// The month that a word names, counted from 0.
+/// Returns the month that a word names, counted from 0.
 pub(super) fn month_number(word: &str) -> Result<usize, MailParseError>
     ensures read { Answers (λ month. month) result (month_of word.now) }
     ensures bounds { IfOk result (λ month. month < 12) }
@@ -61,7 +61,7 @@ pub(super) fn month_number(word: &str) -> Result<usize, MailParseError>
     }
 }
 
-/// The year that a word writes: below 70 it is in the years from 2000, from 70 to 99 in those from
+/// Returns the year that a word gives: a number below 70 counts from 2000, one from 70 to 99 from
 /// 1900.
 pub(super) fn year_number(word: &str) -> Result<u32, MailParseError>
     ensures read { Answers (λ year. year) result (year_of word.now) }
@@ -82,8 +82,8 @@ pub(super) fn year_number(word: &str) -> Result<u32, MailParseError>
     Ok(year)
 }
 
-/// The number below 256 that the first word of a text writes, and the text after it; without a
-/// word `None`, and with another word the refusal with this text.
+/// Returns the number below 256 that the first word of a text gives, and the text after it, or
+/// `None` if there is no word. Any other word is refused with the text `refusal`.
 pub(super) fn next_number<'t>(
     text: &'t str,
     refusal: &'static str,
@@ -101,7 +101,7 @@ pub(super) fn next_number<'t>(
     }
 }
 
-/// The seconds that the zone at the front of a text adds.
+/// Returns the seconds that the zone at the front of a text adds.
 pub(super) fn zone_seconds(text: &str) -> Result<i64, MailParseError>
     ensures read { Answers (λ seconds. seconds) result (from_zone (words text.now)) }
     ensures bounds { IfOk result (HasSizeAtMost 100000) }
@@ -115,7 +115,7 @@ pub(super) fn zone_seconds(text: &str) -> Result<i64, MailParseError>
     if zone < 0 { Ok(seconds) } else { Ok(-seconds) }
 }
 
-/// The zone that a word writes, hours times 100 and minutes: a number, or a name.
+/// Returns the zone that a word gives, as hours times 100 plus minutes: a number, or a name.
 fn zone_number(word: &str) -> Result<i32, MailParseError>
     ensures read { Answers (λ zone. zone) result (zone_of word.now) }
     ensures bounds { IfOk result (HasSizeAtMost 2400) }

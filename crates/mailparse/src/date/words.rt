@@ -3,7 +3,7 @@ ghost use Rattle.std.specs.Prelude.{◌≡◌, ◌<◌, ◌≤◌, [], ◌∷◌
 ghost use Rattle.std.specs.List.{prefix_len};
 ghost use Rattle.mailparse.specs.Date.{is_separator, words};
 
-/// The first word of a text, and the text after it.
+/// Returns the first word of a text, and the text after it.
 pub(super) fn next_word(text: &str) -> Option<(&str, &str)>
     ensures first { MatchOption result (words text.now ≡ [])
         (λ p. words text.now ≡ p.0.now ∷ words p.1.now) }
@@ -18,7 +18,7 @@ pub(super) fn next_word(text: &str) -> Option<(&str, &str)>
     Some(rest.split_at(end))
 }
 
-/// How many separators stand at the front.
+/// Returns the number of separators at the front.
 fn separators(bytes: &[u8]) -> usize
     ensures value { result ≡ prefix_len is_separator bytes.now }
     ensures bounds { result ≤ length bytes.now }
@@ -31,7 +31,7 @@ fn separators(bytes: &[u8]) -> usize
     bytes.len()
 }
 
-/// How many bytes stand before the first separator.
+/// Returns the number of bytes before the first separator.
 fn word_length(bytes: &[u8]) -> usize
     ensures value { result ≡ prefix_len (λ b. not (is_separator b)) bytes.now }
     ensures bounds { result ≤ length bytes.now }
@@ -44,7 +44,7 @@ fn word_length(bytes: &[u8]) -> usize
     bytes.len()
 }
 
-/// Whether a byte separates two words.
+/// Returns whether a byte separates two words.
 fn is_separator(byte: u8) -> bool
     ensures { result ≡ is_separator byte }
 {

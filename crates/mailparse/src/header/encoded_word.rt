@@ -8,7 +8,7 @@ use mail_codec::charset::{Decode, KnownCharsets};
 use mail_codec::transfer::{decode_base64, decode_quoted_printable};
 use std::alloc::{AllocError, Global};
 
-/// What stands before and after the first question mark, if there is one.
+/// Returns the text before and after the first question mark, if there is one.
 fn cut_at_question_mark(text: &str) -> Option<(&str, &str)>
     ensures { MatchOption result (has_question_mark text.now ≡ false)
         (λ p. IsCutAtMark text.now p.0.now p.1.now) }
@@ -16,7 +16,7 @@ fn cut_at_question_mark(text: &str) -> Option<(&str, &str)>
     text.split_once('?')
 }
 
-/// The text with a space for each `_`.
+/// Returns a text with a space in place of each `_`.
 fn with_spaces(alloc: Global, encoded: &str) -> Result<String, AllocError>
     ensures { IfOk result (λ text. string_bytes text ≡ spaced encoded.now) }
 {
@@ -33,8 +33,8 @@ fn with_spaces(alloc: Global, encoded: &str) -> Result<String, AllocError>
     Ok(text)
 }
 
-/// The bytes of an encoded text under `Q`: quoted-printable with a space for each `_`, where
-/// whitespace at the end stays.
+/// Decodes an encoded text under `Q`: quoted-printable, with a space for each `_`, that keeps its
+/// trailing whitespace.
 fn decode_q(alloc: Global, encoded: &str) -> Result<Vec<u8>, AllocError>
     ensures { IfOk result (λ bytes. bytes.items ≡ bytes_of_q encoded.now) }
 {
@@ -46,7 +46,7 @@ fn decode_q(alloc: Global, encoded: &str) -> Result<Vec<u8>, AllocError>
     Ok(bytes)
 }
 
-/// The bytes of an encoded text under its encoding, if it has any.
+/// Decodes an encoded text, or returns `None` if the encoding is unknown or the text invalid.
 fn decode_encoded(
     alloc: Global,
     encoding: &str,
@@ -62,8 +62,8 @@ fn decode_encoded(
     }
 }
 
-/// The text of an encoded word, by what stands between its `=?` and its `?=`, if it decodes. A byte
-/// order mark is not looked for.
+/// Returns the text of an encoded word, given the text between its `=?` and its `?=`, or `None` if it
+/// does not decode. A byte order mark is not looked for.
 pub(crate) fn decode_word<K: KnownCharsets>(
     alloc: Global,
     inside: &str,

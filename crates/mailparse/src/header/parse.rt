@@ -1,4 +1,4 @@
-//! Cutting the header at the front of the bytes: where its key, its value and its end stand.
+//! Cutting the header at the front of the bytes into its key and its value.
 ghost use Rattle.std.specs.Prelude.{◌≡◌, ◌==◌, ◌<◌, ◌≤◌, suc, min, not, length, take, drop, IfOk};
 ghost use Rattle.std.specs.List.{list_all};
 ghost use Rattle.mail_codec.specs.Ascii.{colon, is_blank, space};
@@ -21,7 +21,7 @@ use mail_codec::bytescan::{find_byte, find_either};
 ///
 /// `MailParseError::Generic`: with the text `Empty string provided` for the empty input, and with
 /// `Header cannot start with a space; it is likely an overhanging line from a previous header`
-/// where the first byte is a space. Nothing else is refused.
+/// if the first byte is a space. Nothing else is refused.
 ///
 /// # Examples
 ///
@@ -48,7 +48,7 @@ pub fn parse_header(raw: &[u8]) -> Result<(MailHeader<'_>, usize), MailParseErro
     Ok(cut_header(raw))
 }
 
-/// The header at the front of the bytes, and how many bytes it takes.
+/// Returns the header at the front of the bytes, and its length.
 fn cut_header(raw: &[u8]) -> (MailHeader<'_>, usize)
     ensures { result ≡ (header_of raw.now, header_length raw.now) }
 {
@@ -74,14 +74,14 @@ fn key_end(raw: &[u8]) -> usize
     }
 }
 
-/// Whether a colon stands at `place`.
+/// Returns whether the byte at `place` is a colon.
 fn is_colon_at(raw: &[u8], place: usize) -> bool
     ensures { result ≡ begins (λ b. b == colon) (drop place raw.now) }
 {
     matches!(raw.get(place), Some(b':'))
 }
 
-/// The least place of an LF at or after `from`, or the length if there is none.
+/// Returns the offset of the first LF at or after `from`, or the length if there is none.
 fn line_feed_from(raw: &[u8], from: usize) -> usize
     requires within { from ≤ length raw.now }
     ensures least { result ≡ place_from (begins is_line_feed) raw.now from }
@@ -93,8 +93,8 @@ fn line_feed_from(raw: &[u8], from: usize) -> usize
     }
 }
 
-/// Where a header ends, whose first LF after its colon is at `first`: at the first LF from there on
-/// that no space or tab follows, or at the end of the bytes.
+/// Returns the end of a header whose first LF after its colon is at `first`: the first LF from there
+/// onwards that no space or tab follows, or the end of the bytes.
 fn header_end(raw: &[u8], first: usize) -> usize
     requires within { first ≤ length raw.now }
     requires found { place_from (begins is_line_feed) raw.now first ≡ first }
@@ -108,14 +108,14 @@ fn header_end(raw: &[u8], first: usize) -> usize
     end
 }
 
-/// Whether the line that begins at `place` continues the header before it.
+/// Returns whether the line that begins at `place` continues the header before it.
 fn is_continued(raw: &[u8], place: usize) -> bool
     ensures { result ≡ begins is_blank (drop place raw.now) }
 {
     matches!(raw.get(place), Some(b' ' | b'\t'))
 }
 
-/// How many bytes a header takes that ends at `end`, its LF among them.
+/// Returns the length of a header that ends at `end`, including its LF.
 fn length_to(raw: &[u8], end: usize) -> usize
     requires within { end ≤ length raw.now }
     ensures { result ≡ min (suc end) (length raw.now) }
@@ -123,7 +123,7 @@ fn length_to(raw: &[u8], end: usize) -> usize
     if end < raw.len() { end + 1 } else { end }
 }
 
-/// The bytes without the spaces at their front.
+/// Returns the bytes without their leading spaces.
 fn trim_spaces(bytes: &[u8]) -> &[u8]
     ensures { result.now ≡ drop (first_place (begins (λ b. not (b == space))) bytes.now) bytes.now }
 {
@@ -135,7 +135,7 @@ fn trim_spaces(bytes: &[u8]) -> &[u8]
     &bytes[bytes.len()..]
 }
 
-/// The bytes without the CR and LF at their end.
+/// Returns the bytes without the CR and LF at their end.
 fn trim_line_ends(bytes: &[u8]) -> &[u8]
     ensures { result.now ≡ take (first_place (list_all is_line_end) bytes.now) bytes.now }
 {

@@ -1,5 +1,5 @@
-//! What a value shows, as its tokens are read one by one (RFC 2047, section 6.2): what is held back
-//! after a decoded word shows only where text comes next.
+//! The unfolded and decoded text of a value, made token by token. Whitespace and line ends after an
+//! encoded word are held back, and appear only if text comes next (RFC 2047, section 6.2).
 ghost use Rattle.std.specs.Prelude.{◌≡◌, ◌++◌, ◌∷◌, [], List, IfOk, OnOk};
 ghost use Rattle.std.specs.String.{string_bytes};
 ghost use Rattle.mailparse.specs.Value.{Token, newline, shown_tokens, whitespace_token};
@@ -14,26 +14,26 @@ pub(crate) enum HeaderToken<'a> {
     Text(&'a str),
     /// Whitespace throughout, or empty.
     Whitespace(&'a str),
-    /// The end of a line, which shows one space.
+    /// The end of a line, which is shown as one space.
     Newline,
     /// The text of an encoded word.
     DecodedWord(String),
 }
 
-/// What is held back after the last token, until the next one tells whether it shows.
+/// What is held back after the last token, until the next one decides whether it is shown.
 #[derive(Clone, Copy)]
 enum Held<'a> {
-    /// Nothing, and nothing that comes next is held either.
+    /// Nothing, and the next token is not held back either.
     Nothing,
-    /// Nothing yet: whitespace or a line's end directly after a decoded word is held.
+    /// Nothing yet: whitespace or a line end directly after a decoded word is held back.
     Word,
     /// Whitespace after a decoded word.
     Whitespace(&'a str),
-    /// A line's end after a decoded word, with the whitespace between the two.
+    /// A line end after a decoded word, with the whitespace between the two.
     LineEnd(&'a str),
 }
 
-/// What a value shows, as far as its tokens are read.
+/// The unfolded text of a value, up to the last token read.
 #[derive(Drop)]
 pub(crate) struct ShownValue<'a> {
     text: String,
@@ -41,7 +41,7 @@ pub(crate) struct ShownValue<'a> {
 }
 
 impl<'a> ShownValue<'a> {
-    /// Nothing, with room for a text of this length.
+    /// Makes an empty text, with capacity for `length` bytes.
     pub(crate) fn with_capacity(alloc: Global, length: usize) -> Result<ShownValue<'a>, AllocError>
         ensures { IfOk result (λ shown. (tokens : List Token) →
             shown_with shown tokens ≡ shown_tokens tokens) }
@@ -52,14 +52,14 @@ impl<'a> ShownValue<'a> {
         })
     }
 
-    /// The text that shows; what is still held back never does.
+    /// Returns the text. What is still held back is dropped.
     pub(crate) fn into_text(self) -> String
         ensures { string_bytes result ≡ shown_with self.entry [] }
     {
         self.text
     }
 
-    /// Takes the next token.
+    /// Appends the next token.
     pub(crate) fn push(&mut self, token: HeaderToken<'a>) -> Result<(), AllocError>
         ensures { OnOk result (Shows self.old (token_view token.entry ∷ []) self.new) }
     {
@@ -77,7 +77,7 @@ impl<'a> ShownValue<'a> {
         }
     }
 
-    /// Shows what is held back, since text comes next.
+    /// Appends what is held back, since text comes next.
     fn release(&mut self) -> Result<(), AllocError>
         ensures written { OnOk result
             (string_bytes self.new.text ≡ string_bytes self.old.text ++ released self.old.held) }
@@ -95,7 +95,7 @@ impl<'a> ShownValue<'a> {
         Ok(())
     }
 
-    /// Takes whitespace, which is held directly after a decoded word.
+    /// Appends whitespace, or holds it back directly after a decoded word.
     fn push_whitespace(&mut self, gap: &'a str) -> Result<(), AllocError>
         ensures { OnOk result (Shows self.old (whitespace_token gap.entry.now ∷ []) self.new) }
     {
@@ -107,7 +107,7 @@ impl<'a> ShownValue<'a> {
         self.text.push_str(gap)
     }
 
-    /// Takes a line's end, held directly after a decoded word and after whitespace that is held.
+    /// Appends a line end, or holds it back after a decoded word and after whitespace held back.
     fn push_newline(&mut self) -> Result<(), AllocError>
         ensures { OnOk result (Shows self.old (newline ∷ []) self.new) }
     {

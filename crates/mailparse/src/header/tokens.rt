@@ -13,14 +13,14 @@ use mail_codec::bytescan::find_pair;
 use mail_codec::charset::KnownCharsets;
 use std::alloc::{AllocError, Global};
 
-/// Whether a character may stand directly beside an encoded word.
+/// Returns whether a character may be directly beside an encoded word.
 fn is_boundary(c: char) -> bool
     ensures { result ≡ is_boundary c }
 {
     c.is_whitespace() || matches!(c, '"' | '(' | ')' | '<' | '>' | ',')
 }
 
-/// Whether the text is empty or its first character is a boundary.
+/// Returns whether a text is empty or its first character is a boundary.
 fn begins_with_boundary(text: &str) -> bool
     ensures { result ≡ begins_with_boundary (chars text.now) }
 {
@@ -30,7 +30,7 @@ fn begins_with_boundary(text: &str) -> bool
     }
 }
 
-/// Whether the text is empty or its last character is a boundary.
+/// Returns whether a text is empty or its last character is a boundary.
 fn ends_with_boundary(text: &str) -> bool
     ensures { result ≡ begins_with_boundary (reverse (chars text.now)) }
 {
@@ -40,7 +40,7 @@ fn ends_with_boundary(text: &str) -> bool
     }
 }
 
-/// The token of a text outside all encoded words.
+/// Returns the token of a text outside all encoded words.
 fn outside_token(text: &str) -> HeaderToken<'_>
     ensures { token_view result ≡ outside_token text.now }
 {
@@ -63,7 +63,7 @@ fn find_two(bytes: &[u8], from: usize, first: u8, second: u8) -> usize
     }
 }
 
-/// The least place at or after `from` where `=?` stands.
+/// Returns the offset of the first `=?` at or after `from`.
 fn find_opening(line: &str, from: usize) -> Option<usize>
     requires within { from ≤ length line.now }
     ensures { MatchOption result (opening line.now from ≡ length line.now)
@@ -78,7 +78,7 @@ fn find_opening(line: &str, from: usize) -> Option<usize>
     }
 }
 
-/// The least place at or after `from` where `?=` stands with a boundary after it, or the length.
+/// Returns the offset of the first `?=` at or after `from` that a boundary follows, or the length.
 fn find_closing(line: &str, from: usize) -> usize
     requires within { from ≤ length line.now }
     ensures { result ≡ closing line.now from }
@@ -94,8 +94,8 @@ fn find_closing(line: &str, from: usize) -> usize
     at
 }
 
-/// The same as `find_closing`, where `kept` is what an earlier search found, or 0 before the first:
-/// it stays right until the search is past it.
+/// Returns what `find_closing` does. `kept` is the result of an earlier search, or 0 before the
+/// first; it is reused up to its offset.
 fn find_closing_or_keep(line: &str, from: usize, kept: usize) -> usize
     requires within { from ≤ length line.now }
     requires keeps { KeepsClosing line.now from kept }
@@ -109,10 +109,10 @@ fn find_closing_or_keep(line: &str, from: usize, kept: usize) -> usize
     }
 }
 
-/// Takes the tokens of one line, in order.
+/// Appends the tokens of one line, in order.
 ///
-/// Its time is linear in the line's length: the end of a word is kept until the search is past it,
-/// and so is the fact that there is none.
+/// The time is linear in the length of the line: the end of a word, and the fact that there is none,
+/// are kept until the search is past it.
 pub(crate) fn push_line<'a, K: KnownCharsets>(
     alloc: Global,
     line: &'a str,

@@ -1,5 +1,5 @@
-//! The text that a header's value shows: its lines are unfolded (RFC 5322, section 2.2.3) and its
-//! encoded words decoded (RFC 2047, sections 2 and 4).
+//! The text of a header's value: its lines are unfolded (RFC 5322, section 2.2.3) and its encoded
+//! words decoded (RFC 2047, sections 2 and 4).
 ghost use Rattle.std.specs.Prelude.{◌≡◌, ◌==◌, ◌-◌, ◌<◌, ◌∷◌, None, length, map, slice_index, IfOk, IfSome, IsTrue, MatchOption};
 ghost use Rattle.std.specs.Cow.{cow_str_bytes};
 ghost use Rattle.std.specs.List.{join_with_byte};
@@ -19,8 +19,8 @@ use mail_codec::charset::KnownCharsets;
 use std::alloc::{AllocError, Global};
 use std::borrow::CowStr;
 
-/// What a value shows that is one line without `=?`, whatever charsets are known: the line without
-/// its leading whitespace. One search is enough where it is bare.
+/// Returns the text of a value that is one line without `=?`, whatever charsets are known: the line
+/// without its leading whitespace. One search is enough for a bare value.
 #[inline(always)]
 fn plain_line(text: &str) -> Option<&str>
     ensures value { IfSome result (λ line. (known : Charsets) →
@@ -41,7 +41,7 @@ fn plain_line(text: &str) -> Option<&str>
     }
 }
 
-/// What a value with this text shows, borrowed where it is a part of the text.
+/// Returns the text of a value, borrowed if it is a part of `text`.
 pub(crate) fn value_ref<'v, K: KnownCharsets>(
     alloc: Global,
     text: &'v str,
@@ -56,7 +56,7 @@ pub(crate) fn value_ref<'v, K: KnownCharsets>(
     }
 }
 
-/// What a value with this text shows: the text itself where all of it shows as it stands.
+/// Returns the text of a value: `text` itself if nothing in it changes.
 pub(crate) fn value_of<K: KnownCharsets>(
     alloc: Global,
     text: String,
@@ -74,8 +74,7 @@ pub(crate) fn value_of<K: KnownCharsets>(
     String::from_str(alloc, line)
 }
 
-/// What a value with this text shows. Lines without `=?` are joined; all else is read token by
-/// token.
+/// Returns the text of a value. Lines without `=?` are joined; any other value is read token by token.
 fn owned_value<K: KnownCharsets>(alloc: Global, text: &str, known: &K) -> Result<String, AllocError>
     ensures { IfOk result (λ value.
         string_bytes value ≡ shown_value (K.known known.now) text.now) }
@@ -89,7 +88,7 @@ fn owned_value<K: KnownCharsets>(alloc: Global, text: &str, known: &K) -> Result
     unfolded_value(alloc, text, known)
 }
 
-/// The lines of a text without the whitespace at their front, and a space between two of them.
+/// Returns the lines of a text without their leading whitespace, joined by spaces.
 fn joined_lines(alloc: Global, text: &str) -> Result<String, AllocError>
     ensures { IfOk result (λ joined.
         string_bytes joined ≡ join_with_byte space (map trim_start (lines text.now))) }
@@ -108,7 +107,8 @@ fn joined_lines(alloc: Global, text: &str) -> Result<String, AllocError>
     Ok(joined)
 }
 
-/// The first line of a text without its line end, and what stands after it, if a LF ends it.
+/// Returns the first line of a text without its line end, and the text after it, or `None` if no LF
+/// ends it.
 fn cut_line(text: &str) -> Option<(&str, &str)>
     ensures cut { MatchOption result (None ≡ byte_place text.now line_feed)
         (λ cut. lines text.now ≡ cut.0.now ∷ lines cut.1.now) }
@@ -120,7 +120,7 @@ fn cut_line(text: &str) -> Option<(&str, &str)>
     Some((without_return(&text[..place]), rest))
 }
 
-/// A line without the CR at its end, if one stands there.
+/// Returns a line without the CR at its end, if it has one.
 fn without_return(line: &str) -> &str
     ensures { result.now ≡ strip_carriage_return line.now }
 {
@@ -130,7 +130,7 @@ fn without_return(line: &str) -> &str
     line
 }
 
-/// Whether the last byte is a CR.
+/// Returns whether the last byte is a CR.
 fn ends_in_return(line: &[u8]) -> bool
     ensures value { result ≡ (slice_index line.now (length line.now - 1) == carriage_return) }
     ensures some { IsTrue result → 0 < length line.now }
@@ -138,7 +138,7 @@ fn ends_in_return(line: &[u8]) -> bool
     matches!(line.last(), Some(b'\r'))
 }
 
-/// What a value with this text shows, read token by token.
+/// Returns the text of a value, read token by token.
 fn unfolded_value<K: KnownCharsets>(
     alloc: Global,
     text: &str,

@@ -9,16 +9,17 @@ use crate::header::MailHeader;
 use crate::header::parse::parse_header;
 use std::alloc::{AllocError, Global};
 
-/// For how many headers memory is taken at most with the first one. Few blocks have more, so the
-/// list seldom grows.
+/// The number of headers that the list has capacity for, at most, after the first one. Few blocks
+/// have more, so the list seldom grows.
 const FIRST_HEADERS: usize = 16;
 
-/// For each so many bytes of a message memory is taken for one header. Few headers are shorter, and
-/// many small parts so take little memory.
+/// The list has capacity for one header for each `HEADER_BYTES` bytes of the message. Few headers
+/// are shorter, so that many small parts take little memory.
 const HEADER_BYTES: usize = 32;
 
-/// Reads the headers at the front of `raw` up to the blank line that ends them, or to the end of
-/// input, and returns them with the offset just after the blank line (RFC 5322, section 2.1).
+/// Reads the headers at the front of `raw`, up to the blank line that ends them or to the end of
+/// input, and returns them with the offset of the body, just after the blank line (RFC 5322, section
+/// 2.1).
 ///
 /// A blank line is LF or CR LF. Takes memory only for the list of headers.
 ///
@@ -30,20 +31,20 @@ const HEADER_BYTES: usize = 32;
 ///   overhanging line from a previous header`;
 /// - `MailParseError::Generic` with the text `Headers were followed by an unexpected lone CR
 ///   character!`, for a CR without LF where a header or the blank line is expected;
-/// - `MailParseError::Memory` where it runs out of memory.
+/// - `MailParseError::Memory` if it runs out of memory.
 ///
-/// What is refused before the first header is refused without taking memory.
+/// A refusal before the first header takes no memory.
 ///
 /// # Examples
 ///
 /// ```rust
 /// use mailparse::{MailHeaderMap, parse_headers};
 ///
-/// let (headers, index) = parse_headers(alloc, b"Subject: Hi\nTo: you\n\nbody")?;
+/// let (headers, body) = parse_headers(alloc, b"Subject: Hi\nTo: you\n\nbody")?;
 /// assert_eq!(rt; headers.len(), 2);
 /// let to = headers.get_first_value(alloc, "to")?.ok_or("no header")?;
 /// assert_eq!(rt; to.as_str(), "you");
-/// assert_eq!(rt; index, 21);
+/// assert_eq!(rt; body, 21);
 /// ```
 pub fn parse_headers(
     alloc: Global,
@@ -68,8 +69,7 @@ pub fn parse_headers(
     }
 }
 
-/// Adds a header to the list of a message of so many bytes. With the first one memory is taken for
-/// some more.
+/// Adds a header to the list of a message of `bytes` bytes. The first one reserves capacity for more.
 fn push_header<'a>(
     headers: &mut Vec<MailHeader<'a>>,
     header: MailHeader<'a>,
@@ -84,7 +84,8 @@ fn push_header<'a>(
     Ok(())
 }
 
-/// How many bytes the line takes that ends the block here, or `None` where a header is wanted.
+/// Returns the length of the blank line that ends the block here, 0 at the end of input, or `None`
+/// if a header follows.
 fn end_of_block(rest: &[u8]) -> Result<Option<usize>, MailParseError>
     ensures { Answers (λ found. found) result (block_end rest.now) }
 {

@@ -1,4 +1,4 @@
--- The ids so far, and those of the rest, are all ids; once an id was found, the text begins with one.
+-- The ids so far and those of the rest are all ids; once an id was found, the text begins with one.
 use Rattle.std.proofs.Common.{◌≡◌, ◌⊎◌, true, map, length}
 use Rattle.std.specs.Str.{IsUtf8}
 use Rattle.std.specs.String.{string_bytes}

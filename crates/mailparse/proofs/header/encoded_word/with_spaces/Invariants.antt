@@ -1,4 +1,4 @@
--- The text so far is the pieces so far with a space between each two.
+-- The text so far is the pieces so far, joined by spaces.
 use Rattle.std.proofs.Common.{◌≡◌, map, length, eqb}
 use Rattle.std.specs.List.{join_with_byte}
 use Rattle.std.specs.String.{string_bytes}

@@ -1,4 +1,4 @@
--- A LF stands at `end`, or the bytes end there, and the header ends at the first LF from there on that no blank follows.
+-- A LF is at `end`, or the bytes end there, and the header ends at the first LF from there onwards that no blank follows.
 use Rattle.std.proofs.Common.{◌≡◌, ◌≤◌, ◌-◌, length}
 use Rattle.mail_codec.specs.Places.{begins, place_from}
 use Rattle.mailparse.specs.Header.{is_line_feed, ends_header}

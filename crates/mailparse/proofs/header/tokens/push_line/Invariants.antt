@@ -1,4 +1,4 @@
--- The line shows what was shown so far, and after it the tokens of any ranges that fit the line from `start` on.
+-- The tokens of the line are those appended so far, and then those of any ranges that fit the line from `start` onwards.
 use Rattle.std.proofs.Common.{◌≤◌, ◌-◌, ◌+◌, length}
 use Rattle.std.specs.Str.{IsCharBoundary}
 use Rattle.mailparse.specs.private.Cuts.{KeepsClosing}

@@ -1,4 +1,4 @@
--- The value so far is what the lines so far show.
+-- The value so far is the text of the lines so far.
 use Rattle.std.proofs.Common.{◌≡◌, eqb, length}
 use Rattle.mailparse.specs.Value.{tokens_of_lines}
 use Rattle.mailparse.specs.private.Shown.{Shows}

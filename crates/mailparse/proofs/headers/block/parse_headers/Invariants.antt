@@ -3,7 +3,7 @@ use Rattle.mailparse.specs.Block.{read_headers, header_count}
 use Rattle.mailparse.proofs.lemmas.Block.{with_front}
 use Rattle.mailparse.proofs.headers.block.parse_headers.Given as goal
 
--- the headers so far, and then what the rest gives, is all
+-- the headers so far and those of the rest are all headers
 abbrev pub invariant-loop-headers : goal.invariant-loop-headers
 invariant-loop-headers l = record {
   within : l.place ≤ length l.raw;

@@ -1,4 +1,4 @@
--- The new ids, and those that are still to come, are all ids.
+-- The new ids and those that are left are all ids.
 use Rattle.std.proofs.Common.{◌≡◌, ◌++◌, drop, map}
 use Rattle.std.specs.String.{string_bytes}
 use Rattle.mailparse.proofs.message_ids.MessageIdList.clone.Given as goal

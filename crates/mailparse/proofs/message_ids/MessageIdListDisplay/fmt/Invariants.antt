@@ -1,4 +1,4 @@
--- The first id and those that were passed are written.
+-- The first id and those before the current one are written.
 use Rattle.std.proofs.Common.{◌≡◌, ◌<◌, ◌+◌, take, drop, length, map}
 use Rattle.std.specs.Fmt.{HasWritten, IsPlainFormatter}
 use Rattle.std.specs.String.{string_bytes}
