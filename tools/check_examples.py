@@ -5,7 +5,8 @@ Each fence ```rust becomes a test of its own: the lines unchanged, in a function
 and its allocator `alloc`, and in which `?` passes every error on. `rt try --test` builds and runs them all,
 without a proof, in a directory that is deleted afterwards. A fence with `fn main` is a program and has to be the
 README's, which tools/try_outside.sh runs. Each public call has to have an example, and the heading `# Errors`
-exactly where it returns a `Result`. There may be no other fences.
+exactly where it returns a `Result`; one whose name ends in `_with` may refer to the one in `_in` instead. There may
+be no other fences.
 
 It prints what failed. Each example and each public call counts for one; the last line is `N passed, N failed`,
 and the status is 1 where one failed.
@@ -73,7 +74,8 @@ def comment_faults():
             for name, call in calls:
                 has_errors = re.search(r"-> (io::)?Result<", call.signature) is not None
                 is_well = "```rust" in call.doc and ("# Errors" in call.doc) == has_errors
-                yield f"{module}::{name} has no example, or `# Errors` in the wrong place", is_well
+                refers = call.name.endswith("_with") and f"`{call.name.removesuffix('_with')}_in`" in call.doc
+                yield f"{module}::{name} has no example, or `# Errors` in the wrong place", is_well or refers
 
 
 def write_crates(directory, tests):

@@ -125,6 +125,16 @@ def found(pattern, text):
     return re.findall(pattern, text, re.MULTILINE | re.DOTALL)
 
 
+def body_of(begin, text):
+    """The lines inside the braces of the items of a text that begin so at the top level."""
+    return "".join(found(rf"^{begin}[^\n]* \{{\n(.*?)^\}}$", text))
+
+
+def source_folder(path):
+    """The folder `src` that a source file is in."""
+    return re.match(r".*/src(?=/)", path).group()
+
+
 class Item:
     """A public item: what it is, its name, its signature, its clauses, its doc comment, its members and its traits."""
 
@@ -163,10 +173,13 @@ class Module:
             self.items.append(item)
             item.members = members(self.body(rf"pub {kind} {item.name}\b"), kind)
             item.members += members(self.body(rf"impl(?:<[^>]*>)? {item.name}\b(?! for)"), "impl")
+            tables = os.path.join(source_folder(path), "tables.rt")
+            if os.path.isfile(tables) and path != tables:
+                item.members += members(body_of(rf"impl(?:<[^>]*>)? {item.name}\b", text_of(tables)), "impl")
 
     def body(self, begin):
         """The lines inside the braces of what begins so at the top level."""
-        return "".join(found(rf"^{begin}[^\n]* \{{\n(.*?)^\}}$", self.text))
+        return body_of(begin, self.text)
 
     def inner(self, path):
         """The source file of a module below this one."""

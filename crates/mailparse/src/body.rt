@@ -23,19 +23,18 @@ use std::borrow::CowSlice;
 pub use text::TextBody;
 
 /// A body by its transfer encoding (RFC 2045, section 6).
-#[derive(Drop)]
+#[derive(Debug, Drop)]
 pub enum Body<'a> {
     /// A body in Base64 (RFC 2045, section 6.8).
     Base64(EncodedBody<'a>),
     /// A body in quoted-printable (RFC 2045, section 6.7).
     QuotedPrintable(EncodedBody<'a>),
-    /// A body taken as it is: its encoding is `7bit` (RFC 2045, section 2.7), absent or unknown;
-    /// its bytes and line lengths are not checked.
+    /// A body that is not encoded: its encoding is `7bit` (RFC 2045, section 2.7), absent or
+    /// unknown. Its bytes and line lengths are not checked.
     SevenBit(TextBody<'a>),
-    /// A body whose encoding is `8bit`, taken as it is (RFC 2045, section 2.8); its line lengths
-    /// are not checked.
+    /// A body whose encoding is `8bit` (RFC 2045, section 2.8). Its line lengths are not checked.
     EightBit(TextBody<'a>),
-    /// A body whose encoding is `binary`, taken as it is (RFC 2045, section 2.9).
+    /// A body whose encoding is `binary` (RFC 2045, section 2.9).
     Binary(BinaryBody<'a>),
 }
 
@@ -45,7 +44,7 @@ impl<'a> Body<'a> {
     ///
     /// The names are exactly `base64`, `quoted-printable`, `7bit`, `8bit` and `binary`, in lower
     /// case; any other text, or `None`, means `7bit`. Takes no memory.
-    /// `ParsedMail::get_body_encoded` makes the body of a message.
+    /// `ParsedMail::get_body_encoded` returns the body of a message.
     ///
     /// # Examples
     ///
@@ -116,14 +115,14 @@ impl<'a> Body<'a> {
     /// Returns the decoded bytes of the body: its transfer encoding is undone, and the charset is
     /// ignored (RFC 2045, section 6).
     ///
-    /// A body that is not encoded is borrowed from the message, without memory being taken. Takes
-    /// memory for the bytes of any other.
+    /// A body that is not encoded is borrowed and takes no memory. Any other takes memory for the
+    /// decoded bytes.
     ///
     /// # Errors
     ///
-    /// `MailParseError::Base64DecodeError` where a body in Base64 is not Base64, with the index,
-    /// counted from 0, of the first invalid group of four; and `MailParseError::Memory` where it
-    /// runs out of memory.
+    /// `MailParseError::Base64DecodeError` if a body in Base64 is invalid, with the index, counted
+    /// from 0, of the first invalid group of four; and `MailParseError::Memory` if it runs out of
+    /// memory.
     ///
     /// # Examples
     ///

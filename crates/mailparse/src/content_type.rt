@@ -1,6 +1,5 @@
-//! The type of a message's content.
+//! The content type of a message.
 ghost use Rattle.std.specs.Prelude.{◌≡◌, IfOk, Ok, string_bytes};
-ghost use Rattle.mail_codec.specs.Tables.{charsets_with};
 ghost use Rattle.mailparse.specs.ContentType.{charset_named, content_type_in, content_type_of, default_type};
 ghost use Rattle.mailparse.specs.Outcome.{AnswersOrMemory};
 ghost use Rattle.mailparse.specs.Pairs.{text_at};
@@ -9,36 +8,36 @@ ghost use Rattle.mailparse.specs.Views.{content_type};
 use crate::ascii_case::lower_case;
 use crate::error::MailParseError;
 use crate::parameters::parameters;
-use mail_codec::charset::{KnownCharsets, SingleByteTable};
+use mail_codec::charset::KnownCharsets;
 use std::alloc::{AllocError, Global};
 use std::collections::BTreeMap;
 
-/// The type of a message that names none.
+/// The type of a message without a `Content-Type`.
 pub(crate) const DEFAULT_MIMETYPE: &str = "text/plain";
 
-/// The charset of a type that does not say it.
+/// The charset of a type without that parameter.
 pub(crate) const DEFAULT_CHARSET: &str = "us-ascii";
 
-/// The type of a message's content, its charset and its parameters (RFC 2045, section 5).
+/// A content type, with its charset and its parameters (RFC 2045, section 5).
 #[derive(Debug, Drop)]
 pub struct ParsedContentType {
     /// The type and the subtype in ASCII lower case, as `text/plain`.
     pub mimetype: String,
-    /// The label of the charset that a text is in, or `us-ascii` where none was given.
+    /// The label of the charset of a text, or `us-ascii` if none is given.
     pub charset: String,
-    /// All parameters by name in ASCII lower case, including the charset if one was given.
+    /// All parameters by name in ASCII lower case, including the charset if it is given.
     pub params: BTreeMap<String, String>,
 }
 
 impl ParsedContentType {
-    /// Returns the type of a message that names none: `text/plain` in `us-ascii`, without
+    /// Returns the type of a message without a `Content-Type`: `text/plain` in `us-ascii`, without
     /// parameters (RFC 2045, section 5.2).
     ///
     /// Takes memory for the two texts.
     ///
     /// # Errors
     ///
-    /// `MailParseError::Memory` where it runs out of memory.
+    /// `MailParseError::Memory` if it runs out of memory.
     ///
     /// # Examples
     ///
@@ -71,7 +70,7 @@ impl ParsedContentType {
 ///
 /// # Errors
 ///
-/// `MailParseError::Memory` where it runs out of memory.
+/// `MailParseError::Memory` if it runs out of memory.
 ///
 /// # Examples
 ///
@@ -90,44 +89,14 @@ pub fn parse_content_type(alloc: Global, text: &str) -> Result<ParsedContentType
     Ok(read_content_type(alloc, text, &())?)
 }
 
-/// Reads the value of a `Content-Type` header as `parse_content_type` does, where extended
-/// parameters may also be in the charsets of some tables (RFC 2231, section 4).
-///
-/// The four built-in charsets take precedence over the tables; among the tables, the first
-/// that has the label is used. Takes memory for the texts and the parameters.
-///
-/// # Errors
-///
-/// `MailParseError::Memory` where it runs out of memory.
-///
-/// # Examples
-///
-/// ```rust
-/// use mailparse::{SingleByteTable, parse_content_type_with};
-///
-/// let tables = [SingleByteTable { labels: &["x-euro"], high: &['€'; 128] }];
-/// let ctype = parse_content_type_with(alloc, "text/plain; name*=x-euro''5%80", &tables)?;
-/// assert_eq!(rt; ctype.params.get("name").ok_or("no name")?.as_str(), "5€");
-/// ```
-pub fn parse_content_type_with(
-    alloc: Global,
-    text: &str,
-    tables: &[SingleByteTable<'_>],
-) -> Result<ParsedContentType, MailParseError>
-    ensures { AnswersOrMemory content_type result
-        (Ok (content_type_in (charsets_with tables.now) text.now)) }
-{
-    parse_content_type_in(alloc, text, &tables)
-}
-
-/// Reads the value of a `Content-Type` header as `parse_content_type` does, where extended
-/// parameters may be in any charset that `known` knows (RFC 2231, section 4).
+/// Reads the value of a `Content-Type` header as `parse_content_type` does, with extended
+/// parameters in any charset of `known` (RFC 2231, section 4).
 ///
 /// Takes memory for the texts and the parameters.
 ///
 /// # Errors
 ///
-/// `MailParseError::Memory` where it runs out of memory.
+/// `MailParseError::Memory` if it runs out of memory.
 ///
 /// # Examples
 ///
@@ -150,7 +119,7 @@ pub fn parse_content_type_in<K: KnownCharsets>(
     Ok(read_content_type(alloc, text, known)?)
 }
 
-/// The type that the value of a `Content-Type` header names.
+/// Reads the value of a `Content-Type` header.
 pub(crate) fn read_content_type<K: KnownCharsets>(
     alloc: Global,
     text: &str,
@@ -169,7 +138,7 @@ pub(crate) fn read_content_type<K: KnownCharsets>(
     })
 }
 
-/// The charset that the parameters name, or the default one.
+/// Returns the charset of the parameters, or the default one.
 fn charset_of(alloc: Global, params: &BTreeMap<String, String>) -> Result<String, AllocError>
     ensures { IfOk result (λ label. string_bytes label ≡ charset_named (text_at params.now)) }
 {

@@ -1,7 +1,6 @@
 //! How a part of a message is to be shown.
 ghost use Rattle.std.specs.Prelude.{◌≡◌, IfOk, IsOk, Ok};
 ghost use Rattle.std.specs.Str.{str_to_ascii_lowercase};
-ghost use Rattle.mail_codec.specs.Tables.{charsets_with};
 ghost use Rattle.mailparse.specs.Disposition.{IsNamed, default_disposition, disposition_in, disposition_named, disposition_of};
 ghost use Rattle.mailparse.specs.Outcome.{AnswersOrMemory};
 ghost use Rattle.mailparse.specs.Views.{disposition, kind};
@@ -9,16 +8,16 @@ ghost use Rattle.mailparse.specs.Views.{disposition, kind};
 use crate::ascii_case::lower_case;
 use crate::error::MailParseError;
 use crate::parameters::parameters;
-use mail_codec::charset::{KnownCharsets, SingleByteTable};
+use mail_codec::charset::KnownCharsets;
 use std::alloc::{AllocError, Global};
 use std::collections::BTreeMap;
 
 /// The kind of a disposition (RFC 2183, section 2).
 #[derive(Debug, Drop, PartialEq)]
 pub enum DispositionType {
-    /// Shown with the message; also the meaning of an empty text.
+    /// To be shown with the message; an empty text means this too.
     Inline,
-    /// Kept apart from the message, to be opened on demand.
+    /// To be kept apart from the message, and opened on demand.
     Attachment,
     /// A field of a form (RFC 7578, section 4.2).
     FormData,
@@ -46,7 +45,7 @@ impl DispositionType {
     ///
     /// # Errors
     ///
-    /// `MailParseError::Memory` where it runs out of memory.
+    /// `MailParseError::Memory` if it runs out of memory.
     ///
     /// # Examples
     ///
@@ -72,8 +71,8 @@ impl DispositionType {
     }
 }
 
-/// How a message or a part of one is to be shown, and the parameters, such as a name for its file
-/// (RFC 2183, section 2).
+/// How a message or part is to be shown, and the parameters, such as a file name (RFC 2183, section
+/// 2).
 #[derive(Debug, Drop)]
 pub struct ParsedContentDisposition {
     /// The kind of the disposition.
@@ -83,7 +82,8 @@ pub struct ParsedContentDisposition {
 }
 
 impl ParsedContentDisposition {
-    /// Returns the disposition of a message that names none: `Inline`, without parameters.
+    /// Returns the disposition of a message without a `Content-Disposition`: `Inline`, without
+    /// parameters.
     ///
     /// Takes no memory.
     ///
@@ -115,7 +115,7 @@ impl ParsedContentDisposition {
 ///
 /// # Errors
 ///
-/// `MailParseError::Memory` where it runs out of memory.
+/// `MailParseError::Memory` if it runs out of memory.
 ///
 /// # Examples
 ///
@@ -136,45 +136,14 @@ pub fn parse_content_disposition(
     parse_content_disposition_in(alloc, text, &())
 }
 
-/// Reads the value of a `Content-Disposition` header as `parse_content_disposition` does, where
-/// extended parameters may also be in the charsets of some tables (RFC 2231, section 4).
-///
-/// The four built-in charsets take precedence over the tables; among the tables, the first
-/// that has the label is used. Takes memory for the text and the parameters.
-///
-/// # Errors
-///
-/// `MailParseError::Memory` where it runs out of memory.
-///
-/// # Examples
-///
-/// ```rust
-/// use mailparse::{SingleByteTable, parse_content_disposition_with};
-///
-/// let tables = [SingleByteTable { labels: &["x-euro"], high: &['€'; 128] }];
-/// let value = "attachment; filename*=x-euro''5%80.txt";
-/// let shown = parse_content_disposition_with(alloc, value, &tables)?;
-/// assert_eq!(rt; shown.params.get("filename").ok_or("no name")?.as_str(), "5€.txt");
-/// ```
-pub fn parse_content_disposition_with(
-    alloc: Global,
-    text: &str,
-    tables: &[SingleByteTable<'_>],
-) -> Result<ParsedContentDisposition, MailParseError>
-    ensures { AnswersOrMemory disposition result
-        (Ok (disposition_in (charsets_with tables.now) text.now)) }
-{
-    parse_content_disposition_in(alloc, text, &tables)
-}
-
-/// Reads the value of a `Content-Disposition` header as `parse_content_disposition` does, where
-/// extended parameters may be in any charset that `known` knows (RFC 2231, section 4).
+/// Reads the value of a `Content-Disposition` header as `parse_content_disposition` does, with
+/// extended parameters in any charset of `known` (RFC 2231, section 4).
 ///
 /// Takes memory for the text and the parameters.
 ///
 /// # Errors
 ///
-/// `MailParseError::Memory` where it runs out of memory.
+/// `MailParseError::Memory` if it runs out of memory.
 ///
 /// # Examples
 ///
@@ -201,7 +170,7 @@ pub fn parse_content_disposition_in<K: KnownCharsets>(
     })
 }
 
-/// The kind that a text names.
+/// Reads the kind of a disposition.
 fn kind_named(alloc: Global, value: &str) -> Result<DispositionType, AllocError>
     ensures { IfOk result (λ d. kind d ≡ disposition_named (str_to_ascii_lowercase value.now)) }
 {

@@ -1,4 +1,4 @@
-//! What the library refuses.
+//! The errors of the library.
 ghost use Rattle.std.specs.Prelude.{◌≡◌};
 ghost use Rattle.mailparse.specs.Wrapped.{HasSource};
 
@@ -6,19 +6,19 @@ use std::alloc::{AllocError, AllocFailed};
 use std::borrow::CowStr;
 use thiserror::Error;
 
-/// What a call refuses, or that it runs out of memory.
+/// Why a call refuses its input, or that it runs out of memory.
 #[derive(Debug, Drop, Error)]
 pub enum MailParseError {
-    /// A body that is not quoted-printable. No call returns it: every text is read.
+    /// A body that is not quoted-printable. No call returns it, since any text is accepted.
     #[error("QuotedPrintable decode error: {0}")]
     QuotedPrintableDecodeError(QuotedPrintableFault),
     /// A body that is not Base64.
     #[error("Base64 decode error: {0}")]
     Base64DecodeError(Base64Fault),
-    /// Bytes that are not text in the encoding that was asked for; the text says which.
+    /// Bytes that are not text in the required encoding; the text says which.
     #[error("Encoding error: {0}")]
     EncodingError(CowStr<'static>),
-    /// The input is not what the call reads; the text says what is wrong with it.
+    /// Malformed input; the text says what is wrong with it.
     #[error("{0}")]
     Generic(&'static str),
     /// The call runs out of memory.

@@ -1,16 +1,15 @@
 //! Reads mail: headers and the text of their values, types and dispositions with their parameters,
-//! parts inside parts, bodies, dates and message ids.
+//! nested parts, bodies, dates and message ids.
 //!
-//! `parse_mail` reads a whole message. What it returns borrows the bytes of the message; values and
-//! bodies are decoded on demand. `parse_header`, `parse_headers`,
-//! `parse_content_type`, `parse_content_disposition`, `dateparse` and `msgidparse` each read a part
-//! of a message by itself.
+//! `parse_mail` reads a whole message. The result borrows the bytes of the message; values and
+//! bodies are decoded on demand. `parse_header`, `parse_headers`, `parse_content_type`,
+//! `parse_content_disposition`, `dateparse` and `msgidparse` each read a part of a message by
+//! itself.
 //!
-//! No call panics, whatever the bytes are. What takes memory has the argument `alloc` and returns a
-//! `Result`; each call says what else it refuses.
+//! No call panics, whatever the bytes are. A call that allocates takes the argument `alloc` and
+//! returns a `Result`; each call lists the other errors it returns.
 //!
-//! The examples of the calls stand in a function that has the runtime `rt` and its allocator
-//! `alloc`.
+//! The examples run in a function that has the runtime `rt` and its allocator `alloc`.
 #![tactic(auto)]
 
 mod ascii_case;
@@ -25,14 +24,13 @@ mod lossy_text;
 mod mail;
 mod message_ids;
 mod parameters;
+mod tables;
 
-pub use content_type::{
-    ParsedContentType, parse_content_type, parse_content_type_in, parse_content_type_with,
-};
+pub use content_type::{ParsedContentType, parse_content_type, parse_content_type_in};
 pub use date::dateparse;
 pub use disposition::{
     DispositionType, ParsedContentDisposition, parse_content_disposition,
-    parse_content_disposition_in, parse_content_disposition_with,
+    parse_content_disposition_in,
 };
 pub use error::{Base64Fault, MailParseError, QuotedPrintableFault, Wrapped};
 pub use header::parse::parse_header;
@@ -41,7 +39,8 @@ pub use headers::block::parse_headers;
 pub use headers::map::MailHeaderMap;
 pub use mail::{
     MAX_LEVELS, ParsedMail, PartsIterator, parse_mail, parse_mail_in, parse_mail_limited,
-    parse_mail_limited_in, parse_mail_with,
+    parse_mail_limited_in,
 };
 pub use mail_codec::charset::{Decode, KnownCharsets, SingleByteTable, table_for_label};
 pub use message_ids::{MessageIdList, msgidparse};
+pub use tables::{parse_content_disposition_with, parse_content_type_with, parse_mail_with};

@@ -1,9 +1,9 @@
-//! Bytes shown as text, for Debug.
+//! Shows bytes as text, for `Debug`.
 
 use std::fmt;
 use std::fmt::Write;
 
-/// Bytes that show as the Debug text of their lossy UTF-8 text.
+/// Bytes whose `Debug` output is that of their lossy UTF-8 text.
 #[derive(Clone, Copy)]
 pub(crate) struct LossyText<'a>(pub &'a [u8]);
 
@@ -20,7 +20,7 @@ impl fmt::Debug for LossyText<'_> {
     }
 }
 
-/// Writes the text as it stands between the quotes of its Debug text.
+/// Writes the text as it appears between the quotes of its `Debug` output.
 fn write_escaped<W: fmt::Write>(text: &str, f: &mut fmt::Formatter<W>) -> fmt::Result {
     for character in text.chars() {
         write_escaped_character(character, f)?;
@@ -28,7 +28,7 @@ fn write_escaped<W: fmt::Write>(text: &str, f: &mut fmt::Formatter<W>) -> fmt::R
     Ok(())
 }
 
-/// Writes one character as it stands there: a quotation mark is escaped, an apostrophe is not.
+/// Writes one character as it appears there: a quotation mark is escaped, an apostrophe is not.
 fn write_escaped_character<W: fmt::Write>(
     character: char,
     f: &mut fmt::Formatter<W>,

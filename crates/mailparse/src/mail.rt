@@ -1,8 +1,7 @@
-//! Reading a message: its header block, its type, its body and its parts.
+//! Reads a message: its header block, its type, its body and its parts.
 ghost use Rattle.std.specs.Prelude.{◌≡◌, ◌<◌, ◌≤◌, ◌+◌, ◌^◌, ◌∷◌, length, map, slice_range, take, IfOk, IsErr, Ok};
 ghost use Rattle.std.specs.List.{flat_map};
 ghost use Rattle.mail_codec.specs.Charset.{four_charsets};
-ghost use Rattle.mail_codec.specs.Tables.{charsets_with};
 ghost use Rattle.mailparse.specs.Block.{header_count, read_headers};
 ghost use Rattle.mailparse.specs.Bound.{IsBounded};
 ghost use Rattle.mailparse.specs.Mail.{forest, read_levels, read_mail, read_mail_in, tree};
@@ -19,13 +18,13 @@ use crate::error::MailParseError;
 use crate::header::MailHeader;
 use crate::headers::block::parse_headers;
 use delimiters::{cut_part, cut_preamble};
-use mail_codec::charset::{KnownCharsets, SingleByteTable};
+use mail_codec::charset::KnownCharsets;
 pub use message::{ParsedMail, PartsIterator};
 use std::alloc::Global;
-use types::{feed_and_dash_boundary_of, is_digest, node_type};
+use types::{is_digest, line_delimiter_of, node_type};
 
-/// How many levels of parts `parse_mail` reads below a message, and the greatest limit that
-/// `parse_mail_limited` takes.
+/// The number of levels of parts that `parse_mail` reads below a message, and the greatest limit
+/// that `parse_mail_limited` accepts.
 ///
 /// # Examples
 ///
@@ -40,9 +39,9 @@ pub const MAX_LEVELS: u8 = 100;
 /// Reads a message: its header block, and after the blank line its body and its parts (RFC 5322,
 /// section 2.1; RFC 2046, section 5.1).
 ///
-/// A message whose type begins with `multipart` and has a boundary is cut at each line that begins
-/// with `--` and the boundary, up to the close-delimiter. Each part is read as a message in the
-/// same way. Any input, even an empty one, is a message, except in the first three cases under
+/// A message whose type begins with `multipart` and has a boundary is split at each line that
+/// begins with `--` and the boundary, up to the close-delimiter. Each part is read as a message in
+/// the same way. Any input, even an empty one, is a message, except in the first three cases under
 /// Errors.
 ///
 /// Takes memory for the lists of headers and parts and for the types; bodies and values are decoded
@@ -59,9 +58,9 @@ pub const MAX_LEVELS: u8 = 100;
 ///   character!`, for a CR without LF where a header or the blank line is expected;
 /// - `MailParseError::Generic` with the text `Recursion limit reached`, for a part more than 100
 ///   levels below the message (`parse_mail_limited` takes a lower limit);
-/// - `MailParseError::Memory` where it runs out of memory.
+/// - `MailParseError::Memory` if it runs out of memory.
 ///
-/// What is refused before the first header is refused without taking memory.
+/// A message that is refused before its first header takes no memory.
 ///
 /// # Examples
 ///
@@ -98,87 +97,11 @@ pub fn parse_mail(alloc: Global, raw: &[u8]) -> Result<ParsedMail<'_>, MailParse
     parse_mail_limited(alloc, raw, MAX_LEVELS)
 }
 
-/// Reads a message as `parse_mail` does, but the encoded words and the extended parameters of each
-/// `Content-Type` may also be in the charsets of some tables (RFC 2047, section 2; RFC 2231,
-/// section 4).
-///
-/// The four built-in charsets take precedence over the tables; among the tables, the first
-/// that has the label is used. The result does not keep the tables: the calls that end in `_with`
-/// have to be given them again.
-///
-/// Takes memory as `parse_mail` does.
-///
-/// # Errors
-///
-/// Those of `parse_mail`.
-///
-/// # Examples
-///
-/// ```rust
-/// use mailparse::{SingleByteTable, parse_mail, parse_mail_with};
-///
-/// let tables = [SingleByteTable { labels: &["x-euro"], high: &['€'; 128] }];
-/// let raw = "Content-Type: multipart/mixed; boundary*=x-euro''%80\n\n--€\n\none\n--€--\n";
-/// let mail = parse_mail_with(alloc, raw.as_bytes(), &tables)?;
-/// assert_eq!(rt; mail.subparts.len(), 1);
-/// assert_eq!(rt; parse_mail(alloc, raw.as_bytes())?.subparts.len(), 0);
-/// ```
-pub fn parse_mail_with<'a>(
-    alloc: Global,
-    raw: &'a [u8],
-    tables: &[SingleByteTable<'_>],
-) -> Result<ParsedMail<'a>, MailParseError>
-    ensures read { AnswersOrMemory tree_of result
-        (read_mail_in (charsets_with tables.now) 100 raw.now) }
-    ensures bounded { IfOk result (λ mail. IsBounded (tree_of mail) (length raw.now)) }
-    ensures places { IfOk result (λ mail. placements_of mail ≡ placements 0 (tree_of mail)) }
-    ensures no_alloc { header_count raw.now ≡ 0 → IsErr (read_headers raw.now) →
-        Answers tree_of result (read_mail_in (charsets_with tables.now) 100 raw.now) }
-{
-    parse_mail_in(alloc, raw, &tables)
-}
-
-/// Reads a message as `parse_mail` does, but the encoded words and the extended parameters of each
-/// `Content-Type` may be in any charset that `known` knows (RFC 2047, section 2; RFC 2231, section
-/// 4).
-///
-/// The result does not keep the charsets: the calls that end in `_in` have to be given them again.
-///
-/// Takes memory as `parse_mail` does.
-///
-/// # Errors
-///
-/// Those of `parse_mail`.
-///
-/// # Examples
-///
-/// ```rust
-/// use mailparse::{SingleByteTable, parse_mail_in};
-///
-/// let tables = [SingleByteTable { labels: &["x-euro"], high: &['€'; 128] }];
-/// let raw = "Content-Type: multipart/mixed; boundary*=x-euro''%80\n\n--€\n\none\n--€--\n";
-/// let mail = parse_mail_in(alloc, raw.as_bytes(), &tables.as_slice())?;
-/// assert_eq!(rt; mail.subparts.len(), 1);
-/// ```
-pub fn parse_mail_in<'a, K: KnownCharsets>(
-    alloc: Global,
-    raw: &'a [u8],
-    known: &K,
-) -> Result<ParsedMail<'a>, MailParseError>
-    ensures read { AnswersOrMemory tree_of result (read_mail_in (K.known known.now) 100 raw.now) }
-    ensures bounded { IfOk result (λ mail. IsBounded (tree_of mail) (length raw.now)) }
-    ensures places { IfOk result (λ mail. placements_of mail ≡ placements 0 (tree_of mail)) }
-    ensures no_alloc { header_count raw.now ≡ 0 → IsErr (read_headers raw.now) →
-        Answers tree_of result (read_mail_in (K.known known.now) 100 raw.now) }
-{
-    parse_mail_limited_in(alloc, raw, MAX_LEVELS, known)
-}
-
 /// Reads a message as `parse_mail` does, but with parts at most `levels` levels below it.
 ///
 /// The message itself is at level 0, its parts are at level 1, and so on: if `levels` is 0, every
-/// part is refused. A part that is too deep is refused before its headers are read. Whatever is
-/// read under one limit is read the same way under every greater one. The caller proves that
+/// part is refused. A part that is too deep is refused before its headers are read. A message that
+/// is read under one limit is read the same way under every greater one. The caller proves that
 /// `levels` is at most `MAX_LEVELS`.
 ///
 /// Takes memory as `parse_mail` does.
@@ -193,9 +116,9 @@ pub fn parse_mail_in<'a, K: KnownCharsets>(
 ///   character!`, for a CR without LF where a header or the blank line is expected;
 /// - `MailParseError::Generic` with the text `Recursion limit reached`, for a part more than
 ///   `levels` levels below the message;
-/// - `MailParseError::Memory` where it runs out of memory.
+/// - `MailParseError::Memory` if it runs out of memory.
 ///
-/// What is refused before the first header is refused without taking memory.
+/// A message that is refused before its first header takes no memory.
 ///
 /// # Examples
 ///
@@ -260,47 +183,8 @@ pub fn parse_mail_limited_in<'a, K: KnownCharsets>(
     parse_mail_recursive(alloc, raw, 0, false, levels + 1, known)
 }
 
-/// The message that starts at this offset of the mail, by what was read of it: its body stands from
-/// `index` to `end`, and its header block before it.
-#[inline(always)]
-fn message_of<'a>(
-    raw: &'a [u8],
-    offset: usize,
-    headers: Vec<MailHeader<'a>>,
-    ctype: ParsedContentType,
-    index: usize,
-    end: usize,
-    subparts: Vec<ParsedMail<'a>>,
-) -> ParsedMail<'a>
-    requires within { offset + length raw.now < 2 ^ 64 }
-    requires index { index ≤ end }
-    requires end { end ≤ length raw.now }
-    ensures read { tree_of result ≡ tree (record {
-      bytes = raw.now;
-      block = take index raw.now;
-      headers = headers.entry.items;
-      ctype = content_type ctype;
-      body = slice_range raw.now index end;
-    }) (forest (map tree_of subparts.entry.items)) }
-    ensures places { placements_of result ≡ record {
-      whole = record { start = offset; end = offset + length raw.now };
-      body = record { start = offset + index; end = offset + end };
-    } ∷ flat_map (λ places. places) (map placements_of subparts.entry.items) }
-{
-    ParsedMail {
-        raw_bytes: raw,
-        header_bytes: &raw[..index],
-        headers,
-        ctype,
-        body_bytes: &raw[index..end],
-        subparts,
-        range: offset..offset + raw.len(),
-        body_range: offset + index..offset + end,
-    }
-}
-
-/// Reads a message with at most `levels` levels, including its own, that starts at this offset of
-/// the mail.
+/// Reads a message that starts at `offset` of the mail and has at most `levels` levels, counting
+/// its own.
 fn parse_mail_recursive<'a, K: KnownCharsets>(
     alloc: Global,
     raw: &'a [u8],
@@ -319,22 +203,96 @@ fn parse_mail_recursive<'a, K: KnownCharsets>(
     if levels == 0 {
         return Err(MailParseError::Generic("Recursion limit reached"));
     }
-    let (headers, index) = parse_headers(alloc, raw)?;
+    let (headers, body_offset) = parse_headers(alloc, raw)?;
     let ctype = node_type(alloc, &headers, in_digest, known)?;
-    let Some(feed_and_dash_boundary) = feed_and_dash_boundary_of(alloc, &ctype)? else {
+    let Some(line_delimiter) = line_delimiter_of(alloc, &ctype)? else {
         let parts = Vec::new(alloc);
-        return Ok(message_of(raw, offset, headers, ctype, index, raw.len(), parts));
+        return Ok(message_of(raw, offset, headers, ctype, body_offset, raw.len(), parts));
     };
     let is_digest = is_digest(&ctype);
-    let (end, first) = cut_preamble(raw, index, feed_and_dash_boundary.as_slice());
+    let (end, first) = cut_preamble(raw, body_offset, line_delimiter.as_slice());
     let mut subparts = Vec::new(alloc);
     let mut next = first;
     while let Some(start) = next {
-        let (part_end, after) = cut_part(raw, start, feed_and_dash_boundary.as_slice());
+        let (part_end, after) = cut_part(raw, start, line_delimiter.as_slice());
         let part = &raw[start..part_end];
         let begin = offset + start;
         subparts.push(parse_mail_recursive(alloc, part, begin, is_digest, levels - 1, known)?)?;
         next = after;
     }
-    Ok(message_of(raw, offset, headers, ctype, index, end, subparts))
+    Ok(message_of(raw, offset, headers, ctype, body_offset, end, subparts))
+}
+
+/// Returns the message that starts at `offset` of the mail and has these headers, type and parts.
+/// Its body is the range from `body_offset` to `end`, and its header block comes before it.
+#[inline(always)]
+fn message_of<'a>(
+    raw: &'a [u8],
+    offset: usize,
+    headers: Vec<MailHeader<'a>>,
+    ctype: ParsedContentType,
+    body_offset: usize,
+    end: usize,
+    subparts: Vec<ParsedMail<'a>>,
+) -> ParsedMail<'a>
+    requires within { offset + length raw.now < 2 ^ 64 }
+    requires body { body_offset ≤ end }
+    requires end { end ≤ length raw.now }
+    ensures read { tree_of result ≡ tree (record {
+      bytes = raw.now;
+      block = take body_offset raw.now;
+      headers = headers.entry.items;
+      ctype = content_type ctype;
+      body = slice_range raw.now body_offset end;
+    }) (forest (map tree_of subparts.entry.items)) }
+    ensures places { placements_of result ≡ record {
+      whole = record { start = offset; end = offset + length raw.now };
+      body = record { start = offset + body_offset; end = offset + end };
+    } ∷ flat_map (λ places. places) (map placements_of subparts.entry.items) }
+{
+    ParsedMail {
+        raw_bytes: raw,
+        header_bytes: &raw[..body_offset],
+        headers,
+        ctype,
+        body_bytes: &raw[body_offset..end],
+        subparts,
+        range: offset..offset + raw.len(),
+        body_range: offset + body_offset..offset + end,
+    }
+}
+
+/// Reads a message as `parse_mail` does, with the encoded words and the extended parameters of each
+/// `Content-Type` in any charset of `known` (RFC 2047, section 2; RFC 2231, section 4).
+///
+/// The result does not keep the charsets; pass them to each later call that ends in `_in`.
+///
+/// Takes memory as `parse_mail` does.
+///
+/// # Errors
+///
+/// Those of `parse_mail`.
+///
+/// # Examples
+///
+/// ```rust
+/// use mailparse::{SingleByteTable, parse_mail_in};
+///
+/// let tables = [SingleByteTable { labels: &["x-euro"], high: &['€'; 128] }];
+/// let raw = "Content-Type: multipart/mixed; boundary*=x-euro''%80\n\n--€\n\none\n--€--\n";
+/// let mail = parse_mail_in(alloc, raw.as_bytes(), &tables.as_slice())?;
+/// assert_eq!(rt; mail.subparts.len(), 1);
+/// ```
+pub fn parse_mail_in<'a, K: KnownCharsets>(
+    alloc: Global,
+    raw: &'a [u8],
+    known: &K,
+) -> Result<ParsedMail<'a>, MailParseError>
+    ensures read { AnswersOrMemory tree_of result (read_mail_in (K.known known.now) 100 raw.now) }
+    ensures bounded { IfOk result (λ mail. IsBounded (tree_of mail) (length raw.now)) }
+    ensures places { IfOk result (λ mail. placements_of mail ≡ placements 0 (tree_of mail)) }
+    ensures no_alloc { header_count raw.now ≡ 0 → IsErr (read_headers raw.now) →
+        Answers tree_of result (read_mail_in (K.known known.now) 100 raw.now) }
+{
+    parse_mail_limited_in(alloc, raw, MAX_LEVELS, known)
 }

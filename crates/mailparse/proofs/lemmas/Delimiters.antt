@@ -1,4 +1,4 @@
--- Lemmas on delimiters: where the first one stands, and the ranges of the parts.
+-- Lemmas on delimiters: the offset of the first one, and the ranges of the parts.
 use Rattle.std.proofs.Common.{◌≡◌, ℕ, zero, suc, ◌+◌, ◌-◌, ◌<◌, ◌≤◌, Bool, true, false, cond, eqb, List, [], ◌∷◌, ◌&&◌, ◌||◌, length, drop, get_or, Option, Some, None, option_map, refl, sym, ap, ◌∙◌, subst, ⊎_elim, arith, length-drop, get_or-drop, ◌++◌, map}
 use Rattle.std.specs.Prelude.{nat_lt, filter_map, option_and_then, codes, if◌then◌else◌}
 use Rattle.std.proofs.lemmas.Bool.{cond-true, cond-false, cases_lt, cases_eq, lt-ltb, le-ltb, eq-eqb, eqb-true, ne_eqb, and_parts, and_from, false_from_ne_true, false≢true}
@@ -14,7 +14,7 @@ use Rattle.mailparse.specs.Ranges.{Range}
 use Rattle.mailparse.proofs.lemmas.Block.{values_below-same}
 use Rattle.mail_codec.specs.Ascii.{line_feed}
 
--- no delimiter stands from a start up to a place
+-- there is no delimiter from a start up to an offset
 abbrev pub NoDelimiter : List ℕ → List ℕ → ℕ → ℕ → Type 0
 NoDelimiter dash_boundary bytes start to = (k : ℕ) → start ≤ k → k < to → is_delimiter dash_boundary bytes start k ≡ false
 
@@ -63,7 +63,7 @@ least_from-out test start end p e =
     (λ ge. let clash : None ≡ Some p = sym (cond-false (nat_lt k (end - start)) (Some (start + k)) None (le-ltb k (end - start) ge)) ∙ e in absurd (cc))
     (cases_lt k (end - start))
 
--- ---- a text that stands
+-- ---- a text at an offset
 
 eqb_swap : (a b : ℕ) → eqb a b ≡ eqb b a
 eqb_swap a b = ⊎_elim (λ e. ap (λ x. eqb x b) e ∙ ap (λ x. eqb b x) (sym e)) (λ n. ne_eqb a b n ∙ sym (ne_eqb b a (λ e. n (sym e)))) (cases_eq a b)
@@ -87,7 +87,7 @@ reads_stands (x ∷ text) [] fits h = absurd (omega arith)
 reads_stands (x ∷ text) (b ∷ rest) fits h =
     and_from (eqb x b) (has_prefix text rest) (eq-eqb x b (sym (h 0 (omega arith)))) (reads_stands text rest (omega arith) (λ j low. h (suc j) (omega arith)))
 
--- where a delimiter stands, all of it stands within the bytes
+-- a delimiter is wholly within the bytes
 pub is_delimiter-fits : (dash_boundary bytes : List ℕ) (start p : ℕ) → p ≤ length bytes → is_delimiter dash_boundary bytes start p ≡ true → p + length dash_boundary ≤ length bytes
 is_delimiter-fits dash_boundary bytes start p within h =
     let fits = (has_prefix_reads dash_boundary (drop p bytes) (and_parts (starts_line bytes start p) (has_prefix dash_boundary (drop p bytes)) h).1).0 in
@@ -110,7 +110,7 @@ pub delimiter_from-out : (dash_boundary bytes : List ℕ) (start p : ℕ) → de
 unfolding delimiter_from
 delimiter_from-out dash_boundary bytes start p e = least_from-out (is_delimiter dash_boundary bytes start) start (length bytes) p e
 
--- what a search was told that is seen by a function
+-- the result of a search, seen by a function
 nowhere : (f : ℕ → ℕ) (o : Option ℕ) → None ≡ option_map f o → None ≡ o
 nowhere f None e = refl
 nowhere f (Some k) e = cc
@@ -125,7 +125,7 @@ feed_and : (dash_boundary rest : List ℕ) → has_prefix (10 ∷ dash_boundary)
 feed_and dash_boundary [] = refl
 feed_and dash_boundary (b ∷ rest) = ap (λ t. t && has_prefix dash_boundary rest) (eqb_swap 10 b)
 
--- past the start a delimiter stands where a LF and the delimiter stand one place before
+-- after the start, a delimiter is where a LF and the delimiter are one byte before
 pub is_delimiter-line : (dash_boundary bytes : List ℕ) (start p : ℕ) → start < p → is_delimiter dash_boundary bytes start p ≡ has_prefix (10 ∷ dash_boundary) (drop (p - 1) bytes)
 is_delimiter-line dash_boundary bytes start p later =
     let other : eqb p start ≡ false = ne_eqb p start (λ e. absurd (omega (arith, later))) in
@@ -146,11 +146,11 @@ occurs_stands text bytes k h =
     let len = length-drop k bytes in
     reads_stands text (drop k bytes) (omega arith) (λ j low. get_or-drop k bytes j 0 ∙ h.reads j low)
 
--- the start itself is one where the delimiter stands
+-- the start itself is a delimiter if the dash-boundary is there
 pub is_delimiter-start : (dash_boundary bytes : List ℕ) (start : ℕ) → is_delimiter dash_boundary bytes start start ≡ has_prefix dash_boundary (drop start bytes)
 is_delimiter-start dash_boundary bytes start = ap (λ t. (t || begins is_line_feed (drop (start - 1) bytes)) && has_prefix dash_boundary (drop start bytes)) (eq-eqb start start refl)
 
--- none stands up to a place before which the LF and the delimiter occur nowhere
+-- there is none up to an offset before which the LF and the delimiter occur nowhere
 none_to : (dash_boundary bytes : List ℕ) (start to : ℕ) → start ≤ length bytes → to ≤ length (drop start bytes) → has_prefix dash_boundary (drop start bytes) ≡ false
     → ((k : ℕ) → 0 ≤ k → k < to → OccursAt (drop start bytes) (10 ∷ dash_boundary) k → ⊥) → NoDelimiter dash_boundary bytes start (suc (start + to))
 none_to dash_boundary bytes start to within fits first none k low high =
@@ -169,14 +169,14 @@ both_and true true u h = absurd (false≢true (sym h))
 both_and true false u h = refl
 both_and false t u h = refl
 
--- a LF and the dash-boundary stand only where the LF and the dash-boundary's first byte do
+-- a LF and the dash-boundary are only where the LF and the dash-boundary's first byte are
 pub has_prefix_pair : (dash_boundary rest : List ℕ) → 0 < length dash_boundary → has_prefix (10 ∷ get_or dash_boundary 0 0 ∷ []) rest ≡ false → has_prefix (10 ∷ dash_boundary) rest ≡ false
 has_prefix_pair [] rest some h = absurd (omega arith)
 has_prefix_pair (x ∷ dash_boundary) [] some h = refl
 has_prefix_pair (x ∷ dash_boundary) (b ∷ []) some h = and-false (eqb 10 b)
 has_prefix_pair (x ∷ dash_boundary) (b ∷ c ∷ rest) some h = both_and (eqb 10 b) (eqb x c) (has_prefix dash_boundary rest) h
 
--- where the two bytes are found, both stand within the bytes
+-- two bytes that are found are both within the bytes
 pub pair_within : (a b p : ℕ) (bytes : List ℕ) → Some p ≡ text_place bytes (a ∷ b ∷ []) → p + 2 ≤ length bytes
 pair_within a b p bytes e =
     let found = place_some (has_prefix (a ∷ b ∷ [])) bytes p e in
@@ -185,7 +185,7 @@ pair_within a b p bytes e =
     let len = length-drop p bytes in
     omega (arith, reads.0)
 
--- none stands at a place, nor up to the next LF with the dash-boundary's first byte
+-- there is none at an offset, nor up to the next LF with the dash-boundary's first byte
 no_delimiter_past : (dash_boundary bytes : List ℕ) (start at j : ℕ) → 0 < length dash_boundary → start ≤ at → NoDelimiter dash_boundary bytes start at → is_delimiter dash_boundary bytes start at ≡ false
     → first_place (has_prefix (10 ∷ get_or dash_boundary 0 0 ∷ [])) (drop at bytes) ≡ j → NoDelimiter dash_boundary bytes start (suc (at + j))
 no_delimiter_past dash_boundary bytes start at j some after none here first k low high =
@@ -244,7 +244,7 @@ found_line dash_boundary bytes start k some within first found =
       omega arith,
     )
 
--- where the delimiter stands at the start
+-- if the delimiter is at the start
 pub starts_delimiter : (dash_boundary bytes : List ℕ) (start : ℕ) → 0 < length dash_boundary → has_prefix dash_boundary (drop start bytes) ≡ true → Some start ≡ delimiter_from dash_boundary bytes start
 starts_delimiter dash_boundary bytes start some h =
     let fits = (has_prefix_reads dash_boundary (drop start bytes) h).0 in
@@ -310,7 +310,7 @@ part_start-bounds dash_boundary bytes s (suc j) p within e = by_part (part_start
 abbrev pub part_ranges : List ℕ → List ℕ → Option ℕ → List Range
 part_ranges dash_boundary bytes first = map (part_range dash_boundary bytes) (part_starts dash_boundary bytes first)
 
--- where none stands, none follows
+-- if there is none, none follows
 part_start-none : (dash_boundary bytes : List ℕ) (j : ℕ) → part_start dash_boundary bytes None j ≡ None
 part_start-none dash_boundary bytes zero = refl
 part_start-none dash_boundary bytes (suc j) = ap (option_and_then (next_part dash_boundary bytes)) (part_start-none dash_boundary bytes j)

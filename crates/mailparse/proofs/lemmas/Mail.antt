@@ -10,7 +10,7 @@ use Rattle.mailparse.specs.ContentType.{ContentType, content_type_in}
 use Rattle.mailparse.specs.Ranges.{Range, slice}
 use Rattle.mailparse.specs.Delimiters.{first_part, next_part, end_from, Cut, cut_parts}
 use Rattle.mailparse.specs.Mail.{Tree, tree, Forest, no_parts, part_and, forest, is_digest, dash_boundary_of, cut_of, node_with, read_each, read_parts, node_type, read_levels, part_type, trees_within, trees_in}
-use Rattle.mailparse.specs.private.Delimiters.{IsFeedAndDashBoundary}
+use Rattle.mailparse.specs.private.Delimiters.{IsLineDelimiter}
 use Rattle.mailparse.proofs.lemmas.Refusal.{read_map}
 use Rattle.std.specs.Option.{option_map_or}
 use Rattle.mailparse.specs.Map.{first_with_key}
@@ -25,7 +25,7 @@ use Rattle.mailparse.proofs.lemmas.Delimiters.{part_ranges-none, part_ranges-som
 
 -- Under the charsets that are known.
 module _ (known : Charsets) where
-  -- the type of a message whose first `Content-Type` has that text
+  -- the type of a message whose first `Content-Type` has this text
   pub node_type-some : (in_digest : Bool) (headers : List Header) (h : Header) (text : List ℕ) → Some h ≡ first_with_key (codes "Content-Type") headers
       → ◌≡◌ {A = Result (List ℕ) Refusal} (Ok (lenient_value_in known h.value)) (Ok text) → content_type_in known text ≡ node_type known in_digest headers
   unfolding node_type
@@ -34,7 +34,7 @@ module _ (known : Charsets) where
       ap (content_type_in known) (sym same)
       ∙ ap (λ o. option_map_or (λ (x : Header). content_type_in known (lenient_value_in known x.value)) o (part_type in_digest)) first
 
-  -- the type of a message that has none
+  -- the type of a message without a `Content-Type`
   pub node_type-none : (in_digest : Bool) (headers : List Header) → None ≡ first_with_key (codes "Content-Type") headers
       → part_type in_digest ≡ node_type known in_digest headers
   unfolding node_type
@@ -43,30 +43,30 @@ module _ (known : Charsets) where
 
 -- ---- trees
 
--- the message itself, and then those of its parts
+-- the message itself, and then its parts
 pub trees_within-out : (m : ParsedMail) → trees_within (tree_of m) ≡ tree_of m ∷ trees_in (forest (map tree_of (out-ParsedMail m).subparts.items))
 trees_within-out m =
     let e = fold_out-ParsedMail Tree tree_step m in
     ap trees_within e ∙ ap (λ (t : Tree). t ∷ trees_in (forest (map tree_of (out-ParsedMail m).subparts.items))) (sym e)
 
--- ---- what is read of the parts
+-- ---- the readings of the parts
 
--- some parts, and then others
+-- some parts, followed by others
 abbrev pub forest_and : List Tree → Forest → Forest
 forest_and [] rest = rest
 forest_and (t ∷ ts) rest = part_and t (forest_and ts rest)
 
--- a part more
+-- one more part
 pub forest_and-push : (front : List Tree) (t : Tree) (rest : Forest) → forest_and front (part_and t rest) ≡ forest_and (front ++ t ∷ []) rest
 forest_and-push [] t rest = refl
 forest_and-push (u ∷ front) t rest = ap (part_and u) (forest_and-push front t rest)
 
--- and no others
+-- no more parts
 pub forest_and-none : (front : List Tree) → forest_and front no_parts ≡ forest front
 forest_and-none [] = refl
 forest_and-none (u ∷ front) = ap (part_and u) (forest_and-none front)
 
--- parts that were read, and then what is read of the others
+-- parts that were read, followed by the readings of the others
 abbrev pub with_trees : List Tree → Reads Forest → Reads Forest
 with_trees front rest = read_map (forest_and front) rest
 
@@ -76,7 +76,7 @@ with_trees-push front t (Err e) = refl
 
 -- Under the charsets that are known.
 module _ (known : Charsets) where
-  -- what is read of the parts from one on
+  -- the readings of the parts from one on
   abbrev pub parts_from : ℕ → Bool → List ℕ → List ℕ → Option ℕ → Reads Forest
   parts_from levels in_digest dash_boundary raw next = read_each (read_levels known levels in_digest) (map (slice raw) (part_ranges dash_boundary raw next))
 
@@ -92,7 +92,7 @@ module _ (known : Charsets) where
     unfolding part_bytes
     parts_from-some s = ap (λ (rs : List Range). read_each (read_levels known levels in_digest) (map (slice raw) rs)) (part_ranges-some dash_boundary raw s)
 
-    -- a part more
+    -- one more part
     pub parts_step : (front : List Tree) (all : Reads Forest) (s part_end : ℕ) (after : Option ℕ) (t : Tree) → part_end ≡ end_from dash_boundary raw s (length raw)
         → after ≡ next_part dash_boundary raw s → read_levels known levels in_digest (slice_range raw s part_end) ≡ Ok t
         → with_trees front (parts_from levels in_digest dash_boundary raw (Some s)) ≡ all
@@ -139,7 +139,7 @@ module _ (known : Charsets) where
       let less : levels ≡ suc levels - 1 = omega arith in
       ap (λ (n : ℕ). ◌>>=◌ (read_headers raw) (λ block. read_parts known (read_levels known n) raw block (node_type known in_digest block.headers))) less
 
-  -- refused by its own headers
+  -- a message that is refused for its own headers
   pub read_levels-refused : (levels : ℕ) (in_digest : Bool) (raw : List ℕ) (e : Refusal) → 0 < levels → read_headers raw ≡ Err e → read_levels known levels in_digest raw ≡ Err e
   read_levels-refused levels in_digest raw e some refused = read_levels-step levels in_digest raw some ∙ (rw refused refl)
 
@@ -177,18 +177,18 @@ module _ (known : Charsets) where
 
 -- ---- the dash-boundary of a type, and the LF before it
 
-pub feed_and_dash_boundary_some : (feed_and_dash_boundary : List ℕ) (o : Option (List ℕ)) → Some feed_and_dash_boundary ≡ option_map (λ dash_boundary. 10 ∷ dash_boundary) o → (o ≡ Some (drop 1 feed_and_dash_boundary)) × (feed_and_dash_boundary ≡ 10 ∷ drop 1 feed_and_dash_boundary)
-feed_and_dash_boundary_some feed_and_dash_boundary None e = let clash : Some feed_and_dash_boundary ≡ None = e in absurd (cc)
-feed_and_dash_boundary_some feed_and_dash_boundary (Some dash_boundary) e =
-    let here : Some feed_and_dash_boundary ≡ Some (10 ∷ dash_boundary) = e in
-    let same : feed_and_dash_boundary ≡ 10 ∷ dash_boundary = cc in
+pub line_delimiter_some : (line_delimiter : List ℕ) (o : Option (List ℕ)) → Some line_delimiter ≡ option_map (λ dash_boundary. 10 ∷ dash_boundary) o → (o ≡ Some (drop 1 line_delimiter)) × (line_delimiter ≡ 10 ∷ drop 1 line_delimiter)
+line_delimiter_some line_delimiter None e = let clash : Some line_delimiter ≡ None = e in absurd (cc)
+line_delimiter_some line_delimiter (Some dash_boundary) e =
+    let here : Some line_delimiter ≡ Some (10 ∷ dash_boundary) = e in
+    let same : line_delimiter ≡ 10 ∷ dash_boundary = cc in
     (ap (λ (l : List ℕ). Some (drop 1 l)) (sym same), same ∙ ap (λ (l : List ℕ). 10 ∷ drop 1 l) (sym same))
 
-pub feed_and_dash_boundary_none : (o : Option (List ℕ)) → None ≡ option_map (λ dash_boundary. 10 ∷ dash_boundary) o → o ≡ None
-feed_and_dash_boundary_none None e = refl
-feed_and_dash_boundary_none (Some dash_boundary) e = let clash : None ≡ Some (10 ∷ dash_boundary) = e in absurd (cc)
+pub line_delimiter_none : (o : Option (List ℕ)) → None ≡ option_map (λ dash_boundary. 10 ∷ dash_boundary) o → o ≡ None
+line_delimiter_none None e = refl
+line_delimiter_none (Some dash_boundary) e = let clash : None ≡ Some (10 ∷ dash_boundary) = e in absurd (cc)
 
--- a dash-boundary has at least the two bytes in front of the boundary
+-- a dash-boundary has at least the two bytes before the boundary
 pub dash_boundary_of-length : (ctype : ContentType) (dash_boundary : List ℕ) → dash_boundary_of ctype ≡ Some dash_boundary → 2 ≤ length dash_boundary
 dash_boundary_of-length ctype dash_boundary e = by_tests (has_prefix (codes "multipart") ctype.mimetype) (ctype.params (codes "boundary")) e
   where
@@ -200,24 +200,24 @@ dash_boundary_of-length ctype dash_boundary e = by_tests (has_prefix (codes "mul
         let same : codes "--" ++ b ≡ dash_boundary = cc in
         subst (λ (x : List ℕ). 2 ≤ length x) same (omega arith)
 
-pub IsFeedAndDashBoundary-of : (feed_and_dash_boundary : List ℕ) (ctype : ContentType) → Some feed_and_dash_boundary ≡ option_map (λ dash_boundary. 10 ∷ dash_boundary) (dash_boundary_of ctype) → IsFeedAndDashBoundary feed_and_dash_boundary
-IsFeedAndDashBoundary-of feed_and_dash_boundary ctype e =
-    let parts = feed_and_dash_boundary_some feed_and_dash_boundary (dash_boundary_of ctype) e in
-    let long = dash_boundary_of-length ctype (drop 1 feed_and_dash_boundary) parts.0 in
+pub IsLineDelimiter-of : (line_delimiter : List ℕ) (ctype : ContentType) → Some line_delimiter ≡ option_map (λ dash_boundary. 10 ∷ dash_boundary) (dash_boundary_of ctype) → IsLineDelimiter line_delimiter
+IsLineDelimiter-of line_delimiter ctype e =
+    let parts = line_delimiter_some line_delimiter (dash_boundary_of ctype) e in
+    let long = dash_boundary_of-length ctype (drop 1 line_delimiter) parts.0 in
     record { feed = parts.1; some = omega arith }
 
 -- Under the charsets that are known.
 module _ (known : Charsets) where
-  -- the reading of a message that may have parts, by what the code has of it
-  pub read_levels-whole : (levels : ℕ) (in_digest : Bool) (raw : List ℕ) (headers : List Header) (index : ℕ) (ctype : ContentType) (feed_and_dash_boundary : List ℕ) (digest : Bool) (end : ℕ)
+  -- the reading of a message that may have parts, in the terms of the code
+  pub read_levels-whole : (levels : ℕ) (in_digest : Bool) (raw : List ℕ) (headers : List Header) (index : ℕ) (ctype : ContentType) (line_delimiter : List ℕ) (digest : Bool) (end : ℕ)
       → 0 < levels → read_headers raw ≡ Ok (record { headers = headers; index = index }) → node_type known in_digest headers ≡ ctype
-      → Some feed_and_dash_boundary ≡ option_map (λ dash_boundary. 10 ∷ dash_boundary) (dash_boundary_of ctype) → digest ≡ is_digest ctype → end ≡ end_from (drop 1 feed_and_dash_boundary) raw index index
+      → Some line_delimiter ≡ option_map (λ dash_boundary. 10 ∷ dash_boundary) (dash_boundary_of ctype) → digest ≡ is_digest ctype → end ≡ end_from (drop 1 line_delimiter) raw index index
       → read_levels known levels in_digest raw
       ≡ read_map (tree (record { bytes = raw; block = take index raw; headers = headers; ctype = ctype; body = slice_range raw index end }))
-      (parts_from known (levels - 1) digest (drop 1 feed_and_dash_boundary) raw (first_part (drop 1 feed_and_dash_boundary) raw index))
-  read_levels-whole levels in_digest raw headers index ctype feed_and_dash_boundary digest end some read type made is ends =
-      let dash_boundary = drop 1 feed_and_dash_boundary in
-      read_levels-parts known levels in_digest raw headers index ctype dash_boundary some read type (feed_and_dash_boundary_some feed_and_dash_boundary (dash_boundary_of ctype) made).0
+      (parts_from known (levels - 1) digest (drop 1 line_delimiter) raw (first_part (drop 1 line_delimiter) raw index))
+  read_levels-whole levels in_digest raw headers index ctype line_delimiter digest end some read type made is ends =
+      let dash_boundary = drop 1 line_delimiter in
+      read_levels-parts known levels in_digest raw headers index ctype dash_boundary some read type (line_delimiter_some line_delimiter (dash_boundary_of ctype) made).0
       ∙ ap (λ (b : Bool). read_map (tree (record { bytes = raw; block = take index raw; headers = headers; ctype = ctype; body = slice_range raw index (end_from dash_boundary raw index index) }))
       (parts_from known (levels - 1) b dash_boundary raw (first_part dash_boundary raw index))) (sym is)
       ∙ ap (λ (n : ℕ). read_map (tree (record { bytes = raw; block = take index raw; headers = headers; ctype = ctype; body = slice_range raw index n }))

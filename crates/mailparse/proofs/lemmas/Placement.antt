@@ -1,4 +1,4 @@
--- Where a message and its parts stand: a message by itself, and its parts one after another.
+-- The ranges of a message and its parts: a message by itself, and its parts one after another.
 use Rattle.std.proofs.Common.{◌≡◌, ℕ, ◌+◌, ◌≤◌, List, [], ◌∷◌, ◌++◌, length, map, take, Option, Some, None, sym, ap, ◌∙◌, arith, append_assoc}
 use Rattle.std.specs.List.{flat_map}
 use Rattle.std.specs.Option.{option_map_or}
@@ -15,12 +15,12 @@ use Rattle.mailparse.specs.declared.mail.message.ParsedMail.{ParsedMail}
 use Rattle.mailparse.proofs.lemmas.Delimiters.{part_ranges, part_ranges-some}
 use Rattle.mailparse.proofs.lemmas.Mail.{forest_and, forest_and-push, forest_and-none}
 
--- a message that is cut so
+-- a message that is split this way
 abbrev pub placed : ℕ → List ℕ → Cut → Forest → List Placement
 placed offset raw cut parts =
     record { whole = record { start = offset; end = offset + length raw }; body = moved offset cut.body } ∷ placements_in offset cut.parts parts
 
--- a message by itself, whose block ends at a place
+-- a message by itself, whose block ends at an offset
 module _ (offset : ℕ) (raw : List ℕ) (headers : List Header) (index : ℕ) (ctype : ContentType) (body : List ℕ) (within : index ≤ length raw) where
   placed_by : (cut : Cut) (parts : Forest) → cut_of ctype raw index ≡ cut
       → placed offset raw cut parts ≡ placements offset (tree (record { bytes = raw; block = take index raw; headers = headers; ctype = ctype; body = body }) parts)
@@ -47,7 +47,7 @@ module _ (offset : ℕ) (raw : List ℕ) (headers : List Header) (index : ℕ) (
       placed_by (cut_parts dash_boundary raw index) parts
       (ap (λ o. option_map_or (λ dash_boundary. cut_parts dash_boundary raw index) o (record { body = record { start = index; end = length raw }; parts = [] })) some)
 
--- where some messages say that they and their parts stand, one after another
+-- the placements that some messages and their parts record, one after another
 abbrev pub all_placed : List ParsedMail → List Placement
 all_placed parts = flat_map (λ places. places) (map placements_of parts)
 
@@ -57,18 +57,18 @@ all_placed-push front part =
     ∙ flat_map-append (λ places. places) (map placements_of front) (placements_of part ∷ [])
     ∙ ap (λ places. all_placed front ++ places) (append-nil (placements_of part))
 
--- In a message that starts there and is cut by a dash-boundary.
+-- In a message at this offset that is split by a dash-boundary.
 module _ (offset : ℕ) (dash_boundary raw : List ℕ) where
   abbrev from : Option ℕ → Forest → List Placement
   from next parts = placements_in offset (part_ranges dash_boundary raw next) parts
 
-  -- the parts from the first on stand where those that were read say, and then those from the next on
+  -- the parts from the first on are placed as those that were read record, followed by those from the next on
   abbrev pub ArePlaced : Option ℕ → Option ℕ → List ParsedMail → Type 0
   ArePlaced first next front =
       (rest : Forest) → placements_in offset (part_ranges dash_boundary raw first) (forest_and (map tree_of front) rest)
       ≡ all_placed front ++ placements_in offset (part_ranges dash_boundary raw next) rest
 
-  -- a part more
+  -- one more part
   pub placed_step : (first : Option ℕ) (front : List ParsedMail) (s : ℕ) (after : Option ℕ) (part : ParsedMail) → after ≡ next_part dash_boundary raw s
       → placements_of part ≡ placements (offset + s) (tree_of part) → ArePlaced first (Some s) front → ArePlaced first after (front ++ part ∷ [])
   placed_step first front s after part next own before rest =

@@ -1,6 +1,5 @@
-//! A body of bytes that stand as they are.
+//! A body of bytes that are not encoded.
 ghost use Rattle.std.specs.Prelude.{◌≡◌};
-ghost use Rattle.mail_codec.specs.Tables.{charsets_with};
 ghost use Rattle.mailparse.specs.Body.{text_under, text_under_in};
 ghost use Rattle.mailparse.specs.BodyViews.{binary_content};
 ghost use Rattle.mailparse.specs.Outcome.{GivesText};
@@ -9,11 +8,11 @@ ghost use Rattle.mailparse.specs.Views.{content_type};
 use super::content::{BodyContent, text_under};
 use crate::content_type::ParsedContentType;
 use crate::error::MailParseError;
-use mail_codec::charset::{KnownCharsets, SingleByteTable};
+use mail_codec::charset::KnownCharsets;
 use std::alloc::Global;
 
 /// A body of bytes that are not encoded (RFC 2045, section 2.9).
-#[derive(Clone, Copy)]
+#[derive(Clone, Copy, Debug)]
 pub struct BinaryBody<'a> {
     pub(super) content: BodyContent<'a>,
 }
@@ -71,7 +70,7 @@ impl<'a> BinaryBody<'a> {
     ///
     /// # Errors
     ///
-    /// `MailParseError::Memory` where it runs out of memory.
+    /// `MailParseError::Memory` if it runs out of memory.
     ///
     /// # Examples
     ///
@@ -92,50 +91,14 @@ impl<'a> BinaryBody<'a> {
         self.get_as_string_in(alloc, &())
     }
 
-    /// Returns the text of the body as `get_as_string` does, but its charset may also be that of a
-    /// table (RFC 2046, section 4.1.2).
-    ///
-    /// The four built-in charsets take precedence over the tables; among the tables, the first
-    /// that has the label is used. Takes memory for the text.
-    ///
-    /// # Errors
-    ///
-    /// `MailParseError::Memory` where it runs out of memory.
-    ///
-    /// # Examples
-    ///
-    /// ```rust
-    /// use mailparse::body::Body;
-    /// use mailparse::{SingleByteTable, parse_mail};
-    ///
-    /// let tables = [SingleByteTable { labels: &["x-euro"], high: &['€'; 128] }];
-    /// let raw = b"Content-Type: text/plain; charset=x-euro\n\
-    ///     Content-Transfer-Encoding: binary\n\n5 \x80";
-    /// let mail = parse_mail(alloc, raw)?;
-    /// let Body::Binary(body) = mail.get_body_encoded(alloc)? else {
-    ///     return Err("another encoding".into());
-    /// };
-    /// assert_eq!(rt; body.get_as_string_with(alloc, &tables)?.as_str(), "5 €");
-    /// ```
-    pub fn get_as_string_with(
-        &self,
-        alloc: Global,
-        tables: &[SingleByteTable<'_>],
-    ) -> Result<String, MailParseError>
-        ensures { GivesText result (text_under_in (charsets_with tables.now)
-            (binary_content self.now).ctype.charset (binary_content self.now).raw) }
-    {
-        self.get_as_string_in(alloc, &tables)
-    }
-
-    /// Returns the text of the body as `get_as_string` does, in any charset that `known` knows (RFC
+    /// Returns the text of the body as `get_as_string` does, in any charset of `known` (RFC
     /// 2046, section 4.1.2).
     ///
     /// Takes memory for the text.
     ///
     /// # Errors
     ///
-    /// `MailParseError::Memory` where it runs out of memory.
+    /// `MailParseError::Memory` if it runs out of memory.
     ///
     /// # Examples
     ///

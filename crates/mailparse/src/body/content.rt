@@ -1,4 +1,4 @@
-//! What every body is made of.
+//! The content of a body, of whichever kind it is.
 ghost use Rattle.std.specs.Prelude.{◌≡◌, string_bytes, IfOk};
 ghost use Rattle.mailparse.specs.Body.{text_under_in};
 
@@ -6,14 +6,14 @@ use crate::content_type::ParsedContentType;
 use mail_codec::charset::{Decode, KnownCharsets, decode_ascii};
 use std::alloc::{AllocError, Global};
 
-/// The bytes of a body as they stand in the message, and the type of its content.
-#[derive(Clone, Copy)]
+/// The bytes of a body as they appear in the message, and its content type.
+#[derive(Clone, Copy, Debug)]
 pub(super) struct BodyContent<'a> {
     pub(super) raw: &'a [u8],
     pub(super) ctype: &'a ParsedContentType,
 }
 
-/// The text of bytes under the label of a charset.
+/// Decodes bytes in the charset with this label; if the label is unknown, as ASCII.
 #[tactic(auto, unfolding(crate::specs::Body::text_under_in))]
 pub(crate) fn text_under<K: KnownCharsets>(
     alloc: Global,

@@ -1,6 +1,5 @@
 //! A body that is encoded (RFC 2045, sections 6.7 and 6.8).
 ghost use Rattle.std.specs.Prelude.{◌≡◌};
-ghost use Rattle.mail_codec.specs.Tables.{charsets_with};
 ghost use Rattle.mailparse.specs.Body.{in_base64, decoded, decoded_text, decoded_text_in};
 ghost use Rattle.mailparse.specs.BodyViews.{encoded_content, encoded_kind};
 ghost use Rattle.mailparse.specs.Outcome.{ReadsBytes, ReadsText};
@@ -9,19 +8,19 @@ ghost use Rattle.mailparse.specs.Views.{content_type};
 use super::content::{BodyContent, text_under};
 use crate::content_type::ParsedContentType;
 use crate::error::{Base64Fault, MailParseError};
-use mail_codec::charset::{KnownCharsets, SingleByteTable};
+use mail_codec::charset::KnownCharsets;
 use mail_codec::transfer::{decode_base64_body, decode_quoted_printable};
 use std::alloc::Global;
 
 /// The transfer encoding of an encoded body.
-#[derive(Clone, Copy)]
+#[derive(Clone, Copy, Debug)]
 pub(super) enum Encoding {
     Base64,
     QuotedPrintable,
 }
 
 /// A body in Base64 or quoted-printable (RFC 2045, sections 6.7 and 6.8).
-#[derive(Clone, Copy)]
+#[derive(Clone, Copy, Debug)]
 pub struct EncodedBody<'a> {
     pub(super) encoding: Encoding,
     pub(super) content: BodyContent<'a>,
@@ -76,14 +75,14 @@ impl<'a> EncodedBody<'a> {
     /// Returns the decoded bytes of the body (RFC 2045, sections 6.7 and 6.8).
     ///
     /// In Base64, ASCII whitespace is ignored; in quoted-printable, any text is accepted. Takes
-    /// memory for the bytes, and more on the way, as `decode_base64_body` or
-    /// `decode_quoted_printable` of `mail_codec` does.
+    /// memory for the bytes, and temporary memory, as `decode_base64_body` and
+    /// `decode_quoted_printable` of `mail_codec` do.
     ///
     /// # Errors
     ///
-    /// `MailParseError::Base64DecodeError` where a body in Base64 is not Base64, with the index,
-    /// counted from 0, of the first invalid group of four; and `MailParseError::Memory` where it
-    /// runs out of memory.
+    /// `MailParseError::Base64DecodeError` if a body in Base64 is invalid, with the index, counted
+    /// from 0, of the first invalid group of four; and `MailParseError::Memory` if it runs out of
+    /// memory.
     ///
     /// # Examples
     ///
@@ -116,9 +115,9 @@ impl<'a> EncodedBody<'a> {
     ///
     /// # Errors
     ///
-    /// `MailParseError::Base64DecodeError` where a body in Base64 is not Base64, with the index,
-    /// counted from 0, of the first invalid group of four; and `MailParseError::Memory` where it
-    /// runs out of memory.
+    /// `MailParseError::Base64DecodeError` if a body in Base64 is invalid, with the index, counted
+    /// from 0, of the first invalid group of four; and `MailParseError::Memory` if it runs out of
+    /// memory.
     ///
     /// # Examples
     ///
@@ -140,55 +139,16 @@ impl<'a> EncodedBody<'a> {
         self.get_decoded_as_string_in(alloc, &())
     }
 
-    /// Returns the decoded text of the body as `get_decoded_as_string` does, but its charset may
-    /// also be that of a table (RFC 2045, sections 6.7 and 6.8; RFC 2046, section 4.1.2).
-    ///
-    /// The four built-in charsets take precedence over the tables; among the tables, the first
-    /// that has the label is used. Takes memory for the bytes and for the text.
-    ///
-    /// # Errors
-    ///
-    /// `MailParseError::Base64DecodeError` where a body in Base64 is not Base64, with the index,
-    /// counted from 0, of the first invalid group of four; and `MailParseError::Memory` where it
-    /// runs out of memory.
-    ///
-    /// # Examples
-    ///
-    /// ```rust
-    /// use mailparse::body::Body;
-    /// use mailparse::{SingleByteTable, parse_mail};
-    ///
-    /// let tables = [SingleByteTable { labels: &["x-euro"], high: &['€'; 128] }];
-    /// let raw = b"Content-Type: text/plain; charset=x-euro\n\
-    ///     Content-Transfer-Encoding: quoted-printable\n\n5 =80";
-    /// let mail = parse_mail(alloc, raw)?;
-    /// let Body::QuotedPrintable(body) = mail.get_body_encoded(alloc)? else {
-    ///     return Err("another encoding".into());
-    /// };
-    /// assert_eq!(rt; body.get_decoded_as_string_with(alloc, &tables)?.as_str(), "5 €");
-    /// ```
-    pub fn get_decoded_as_string_with(
-        &self,
-        alloc: Global,
-        tables: &[SingleByteTable<'_>],
-    ) -> Result<String, MailParseError>
-        ensures { ReadsText result (decoded_text_in (charsets_with tables.now)
-            (encoded_kind self.now) (encoded_content self.now).ctype.charset
-            (encoded_content self.now).raw) }
-    {
-        self.get_decoded_as_string_in(alloc, &tables)
-    }
-
-    /// Returns the decoded text of the body as `get_decoded_as_string` does, in any charset that
-    /// `known` knows (RFC 2045, sections 6.7 and 6.8; RFC 2046, section 4.1.2).
+    /// Returns the decoded text of the body as `get_decoded_as_string` does, in any charset of
+    /// `known` (RFC 2045, sections 6.7 and 6.8; RFC 2046, section 4.1.2).
     ///
     /// Takes memory for the bytes and for the text.
     ///
     /// # Errors
     ///
-    /// `MailParseError::Base64DecodeError` where a body in Base64 is not Base64, with the index,
-    /// counted from 0, of the first invalid group of four; and `MailParseError::Memory` where it
-    /// runs out of memory.
+    /// `MailParseError::Base64DecodeError` if a body in Base64 is invalid, with the index, counted
+    /// from 0, of the first invalid group of four; and `MailParseError::Memory` if it runs out of
+    /// memory.
     ///
     /// # Examples
     ///
@@ -221,7 +181,7 @@ impl<'a> EncodedBody<'a> {
     }
 }
 
-/// The bytes of a body in Base64.
+/// Decodes a body in Base64.
 #[tactic(auto, unfolding(crate::specs::Body::decoded))]
 fn base64_body(alloc: Global, body: &[u8]) -> Result<Vec<u8>, MailParseError>
     ensures { ReadsBytes result (decoded in_base64 body.now) }

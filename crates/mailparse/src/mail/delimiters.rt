@@ -1,57 +1,55 @@
-//! The delimiters that cut a body into parts, and where the parts stand (RFC 2046, section 5.1.1).
+//! Finds the delimiters between the parts of a body, and the ranges of the parts (RFC 2046, section
+//! 5.1.1).
 //!
-//! The dash-boundary, which is `--` and the boundary, is handed in with a LF before it.
+//! The dash-boundary is `--` and the boundary. A line delimiter is a LF and the dash-boundary.
 ghost use Rattle.std.specs.Prelude.{◌≡◌, ℕ, suc, ◌+◌, ◌<◌, ◌≤◌, List, [], ◌∷◌, length, drop, option_map, IfSome};
 ghost use Rattle.mail_codec.specs.Ascii.{line_feed};
 ghost use Rattle.mail_codec.specs.Places.{text_place};
 ghost use Rattle.mailparse.specs.Delimiters.{starts_line, is_delimiter, delimiter_from, line_after, is_close_delimiter};
 ghost use Rattle.mailparse.specs.Delimiters.{before_byte, before_line_end, end_from, first_part, next_part};
-ghost use Rattle.mailparse.specs.private.Delimiters.{IsFeedAndDashBoundary};
+ghost use Rattle.mailparse.specs.private.Delimiters.{IsLineDelimiter};
 
 use bstr::ByteSlice;
 use mail_codec::bytescan::{find_byte, find_pair};
 
-/// Where the preamble ends that starts at `start`, and where the first part starts, if there is
-/// one.
+/// Returns the end of the preamble that starts at `start`, and the start of the first part if there
+/// is one.
 pub(super) fn cut_preamble(
     raw: &[u8],
     start: usize,
-    feed_and_dash_boundary: &[u8],
+    line_delimiter: &[u8],
 ) -> (usize, Option<usize>)
-    requires feed_and_dash_boundary { IsFeedAndDashBoundary feed_and_dash_boundary.now }
+    requires line_delimiter { IsLineDelimiter line_delimiter.now }
     requires within { start ≤ length raw.now }
-    ensures end { result.0 ≡ end_from (drop 1 feed_and_dash_boundary.now) raw.now start start }
-    ensures first { result.1 ≡ first_part (drop 1 feed_and_dash_boundary.now) raw.now start }
+    ensures end { result.0 ≡ end_from (drop 1 line_delimiter.now) raw.now start start }
+    ensures first { result.1 ≡ first_part (drop 1 line_delimiter.now) raw.now start }
     ensures bounds { (start ≤ result.0) × (result.0 ≤ length raw.now)
         × IfSome result.1 (λ next. (start < next) × (next ≤ length raw.now)) }
 {
-    let Some(at) = find_delimiter(raw, start, feed_and_dash_boundary) else {
+    let Some(at) = find_delimiter(raw, start, line_delimiter) else {
         return (start, None);
     };
     let end = before_line_end(raw, start, at);
-    let first = line_after(raw, at + (feed_and_dash_boundary.len() - 1));
+    let first = line_after(raw, at + (line_delimiter.len() - 1));
     (end, first)
 }
 
-/// Where the part ends that starts at `start`, and where the next part starts, if there is one.
-pub(super) fn cut_part(
-    raw: &[u8],
-    start: usize,
-    feed_and_dash_boundary: &[u8],
-) -> (usize, Option<usize>)
-    requires feed_and_dash_boundary { IsFeedAndDashBoundary feed_and_dash_boundary.now }
+/// Returns the end of the part that starts at `start`, and the start of the next part if there is
+/// one.
+pub(super) fn cut_part(raw: &[u8], start: usize, line_delimiter: &[u8]) -> (usize, Option<usize>)
+    requires line_delimiter { IsLineDelimiter line_delimiter.now }
     requires within { start ≤ length raw.now }
     ensures end { result.0
-        ≡ end_from (drop 1 feed_and_dash_boundary.now) raw.now start (length raw.now) }
-    ensures next { result.1 ≡ next_part (drop 1 feed_and_dash_boundary.now) raw.now start }
+        ≡ end_from (drop 1 line_delimiter.now) raw.now start (length raw.now) }
+    ensures next { result.1 ≡ next_part (drop 1 line_delimiter.now) raw.now start }
     ensures bounds { (start ≤ result.0) × (result.0 ≤ length raw.now)
         × IfSome result.1 (λ next. (start < next) × (next ≤ length raw.now)) }
 {
-    let Some(at) = find_delimiter(raw, start, feed_and_dash_boundary) else {
+    let Some(at) = find_delimiter(raw, start, line_delimiter) else {
         return (raw.len(), None);
     };
     let end = before_line_end(raw, start, at);
-    let after = at + (feed_and_dash_boundary.len() - 1);
+    let after = at + (line_delimiter.len() - 1);
     if is_close_delimiter(raw, after) {
         return (end, None);
     }
@@ -71,19 +69,19 @@ fn is_close_delimiter(raw: &[u8], after: usize) -> bool
     raw[after..].starts_with(b"--")
 }
 
-/// The place of the first delimiter at or after `start`, where `start` counts as the start of a
-/// line.
+/// Returns the offset of the first delimiter at or after `start`, where `start` counts as the start
+/// of a line.
 ///
-/// A dash-boundary that holds a LF is sought with the LF before it, and not line by line: that
-/// takes no more time than the two are long together.
-fn find_delimiter(raw: &[u8], start: usize, feed_and_dash_boundary: &[u8]) -> Option<usize>
-    requires feed_and_dash_boundary { IsFeedAndDashBoundary feed_and_dash_boundary.now }
+/// A dash-boundary that contains a LF is searched for as a whole, with the LF before it, and not
+/// line by line, so that the time is linear in the two lengths.
+fn find_delimiter(raw: &[u8], start: usize, line_delimiter: &[u8]) -> Option<usize>
+    requires line_delimiter { IsLineDelimiter line_delimiter.now }
     requires within { start ≤ length raw.now }
-    ensures least { result ≡ delimiter_from (drop 1 feed_and_dash_boundary.now) raw.now start }
+    ensures least { result ≡ delimiter_from (drop 1 line_delimiter.now) raw.now start }
     ensures bounds { IfSome result (λ at.
-        (start ≤ at) × (at + length (drop 1 feed_and_dash_boundary.now) ≤ length raw.now)) }
+        (start ≤ at) × (at + length (drop 1 line_delimiter.now) ≤ length raw.now)) }
 {
-    let dash_boundary = &feed_and_dash_boundary[1..];
+    let dash_boundary = &line_delimiter[1..];
     if find_byte(dash_boundary, b'\n').is_none() {
         return find_delimiter_line(raw, start, dash_boundary);
     }
@@ -91,17 +89,15 @@ fn find_delimiter(raw: &[u8], start: usize, feed_and_dash_boundary: &[u8]) -> Op
     if rest.starts_with(dash_boundary) {
         return Some(start);
     }
-    let Some(place) = rest.find(feed_and_dash_boundary) else {
-        return None;
-    };
-    Some(start + place + 1)
+    let offset = rest.find(line_delimiter)?;
+    Some(start + offset + 1)
 }
 
-/// The place of the first line at or after `start` that begins with the dash-boundary, where `start`
-/// counts as the start of a line.
+/// Returns the offset of the first line at or after `start` that begins with the dash-boundary,
+/// where `start` counts as the start of a line.
 ///
-/// It goes from one line that begins with the first byte of the dash-boundary to the next: all
-/// others are passed over.
+/// Only lines that begin with the first byte of the dash-boundary are tested; all others are
+/// skipped.
 fn find_delimiter_line(raw: &[u8], start: usize, dash_boundary: &[u8]) -> Option<usize>
     requires some { 0 < length dash_boundary.now }
     requires within { start ≤ length raw.now }
@@ -111,23 +107,20 @@ fn find_delimiter_line(raw: &[u8], start: usize, dash_boundary: &[u8]) -> Option
 {
     let mut at = start;
     'lines: while !is_delimiter(raw, start, at, dash_boundary) {
-        let Some(next) = find_line_starting_with(raw, at, dash_boundary[0]) else {
-            return None;
-        };
-        at = next;
+        at = find_line_starting_with(raw, at, dash_boundary[0])?;
     }
     Some(at)
 }
 
-/// The first place after `start` where a line starts with that byte.
+/// Returns the offset of the first line after `start` that begins with `byte`.
 fn find_line_starting_with(raw: &[u8], start: usize, byte: u8) -> Option<usize>
     requires within { start ≤ length raw.now }
     ensures least { result ≡ option_map (λ k. suc (start + k))
         (text_place (drop start raw.now) (line_feed ∷ byte ∷ [])) }
     ensures bounds { IfSome result (λ at. (start < at) × (at < length raw.now)) }
 {
-    let place = find_pair(&raw[start..], b'\n', byte)?;
-    Some(start + place + 1)
+    let offset = find_pair(&raw[start..], b'\n', byte)?;
+    Some(start + offset + 1)
 }
 
 /// Whether a line starts at `at` and begins with the dash-boundary, where `start` counts as the
@@ -143,7 +136,7 @@ fn is_delimiter(raw: &[u8], start: usize, at: usize, dash_boundary: &[u8]) -> bo
     raw[at..].starts_with(dash_boundary)
 }
 
-/// Whether a line starts at `at`: it is `start`, or a LF stands before it.
+/// Whether a line starts at `at`: it is `start`, or follows a LF.
 fn starts_line(raw: &[u8], start: usize, at: usize) -> bool
     requires low { start ≤ at }
     requires within { at ≤ length raw.now }
@@ -155,17 +148,18 @@ fn starts_line(raw: &[u8], start: usize, at: usize) -> bool
     raw[at - 1] == b'\n'
 }
 
-/// The place after the next LF at or after `at`.
+/// Returns the offset after the first LF at or after `at`.
 fn line_after(raw: &[u8], at: usize) -> Option<usize>
     requires within { at ≤ length raw.now }
     ensures value { result ≡ line_after raw.now at }
     ensures bounds { IfSome result (λ next. (at < next) × (next ≤ length raw.now)) }
 {
-    let place = find_byte(&raw[at..], b'\n')?;
-    Some(at + place + 1)
+    let offset = find_byte(&raw[at..], b'\n')?;
+    Some(at + offset + 1)
 }
 
-/// The place `at`, less one LF and then one CR before it, but never before `start`.
+/// Returns `at`, or the start of the line end before it: one LF and then one CR are left out, but
+/// nothing before `start`.
 fn before_line_end(raw: &[u8], start: usize, at: usize) -> usize
     requires low { start ≤ at }
     requires within { at ≤ length raw.now }
@@ -175,7 +169,7 @@ fn before_line_end(raw: &[u8], start: usize, at: usize) -> usize
     before_byte(raw, start, before_byte(raw, start, at, b'\n'), b'\r')
 }
 
-/// The place `at`, less one where that byte stands between `start` and it.
+/// Returns `at`, or `at - 1` if the byte there is `byte` and not before `start`.
 fn before_byte(raw: &[u8], start: usize, at: usize, byte: u8) -> usize
     requires low { start ≤ at }
     requires within { at ≤ length raw.now }

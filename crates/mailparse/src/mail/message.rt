@@ -1,6 +1,5 @@
 //! A message, or a part of one, with its calls, and the iterator over it and its parts.
 ghost use Rattle.std.specs.Prelude.{◌≡◌, ◌<◌, ◌^◌, ◌++◌, length, map, IfErr, IfOk, Ok, OnOk};
-ghost use Rattle.mail_codec.specs.Tables.{charsets_with};
 ghost use Rattle.mailparse.specs.BodyViews.{IsBody, content_of};
 ghost use Rattle.mailparse.specs.Mail.{block_of, body_bytes, body_kind, body_text, body_text_in, root, shown_as, shown_as_in, trees_within};
 ghost use Rattle.mailparse.specs.Outcome.{AnswersOrMemory, IsMemory, ReadsText, ReadsBytes};
@@ -13,7 +12,7 @@ use crate::error::MailParseError;
 use crate::header::MailHeader;
 use crate::headers::Headers;
 use crate::headers::map::MailHeaderMap;
-use mail_codec::charset::{KnownCharsets, SingleByteTable};
+use mail_codec::charset::KnownCharsets;
 use std::alloc::{AllocError, Global};
 use std::fmt::{self, Debug, Formatter, Write};
 use std::ops::Range;
@@ -36,9 +35,9 @@ pub struct ParsedMail<'a> {
     pub(super) body_bytes: &'a [u8],
     /// Its parts (RFC 2046, section 5.1), in the order in which they appear.
     pub subparts: Vec<ParsedMail<'a>>,
-    /// Where its bytes stand in the mail that was parsed.
+    /// The range of its bytes in the mail that was parsed.
     pub(super) range: Range<usize>,
-    /// Where the bytes of its body stand there.
+    /// The range of the bytes of its body in the mail that was parsed.
     pub(super) body_range: Range<usize>,
 }
 
@@ -60,7 +59,7 @@ impl<'a> ParsedMail<'a> {
     /// Returns the range of the message's bytes in the mail that was parsed, counted from 0: for a
     /// part, that of the part (RFC 2046, section 5.1).
     ///
-    /// It is the range that was found by parsing, whatever `raw_bytes` is set to. Takes no memory.
+    /// It is the range found by parsing, whatever `raw_bytes` is set to later. Takes no memory.
     ///
     /// # Examples
     ///
@@ -101,8 +100,8 @@ impl<'a> ParsedMail<'a> {
         self.body_range.start..self.body_range.end
     }
 
-    /// Returns the header block (RFC 5322, section 2.2): its bytes, and the headers that `headers`
-    /// currently holds.
+    /// Returns the header block (RFC 5322, section 2.2): its bytes, and the headers that are
+    /// currently in `headers`.
     ///
     /// Takes no memory.
     ///
@@ -128,12 +127,12 @@ impl<'a> ParsedMail<'a> {
     /// Returns the body, still in the transfer encoding that the first `Content-Transfer-Encoding`
     /// header names (RFC 2045, section 6).
     ///
-    /// The name is compared ignoring ASCII case. By the crate's own rule, any other text, or no such
+    /// The name is compared ignoring ASCII case. By the crate's own rule, any other text, or no
     /// header, means `7bit`. Nothing is decoded yet. Takes memory for the name of the encoding.
     ///
     /// # Errors
     ///
-    /// `MailParseError::Memory` where it runs out of memory.
+    /// `MailParseError::Memory` if it runs out of memory.
     ///
     /// # Examples
     ///
@@ -163,7 +162,7 @@ impl<'a> ParsedMail<'a> {
     }
 
     /// Returns the body as text: its transfer encoding is undone, and the bytes are decoded in the
-    /// charset that `ctype` currently names (RFC 2045, section 6; RFC 2046, section 4.1.2).
+    /// charset of the current `ctype` (RFC 2045, section 6; RFC 2046, section 4.1.2).
     ///
     /// A byte order mark overrides that charset. If the label is unknown, each byte that is not
     /// ASCII becomes U+FFFD. Takes memory for the bytes and for the text. For a message with parts,
@@ -174,9 +173,9 @@ impl<'a> ParsedMail<'a> {
     ///
     /// # Errors
     ///
-    /// `MailParseError::Base64DecodeError` where a body in Base64 is not Base64, with the index,
-    /// counted from 0, of the first invalid group of four; and `MailParseError::Memory` where it
-    /// runs out of memory.
+    /// `MailParseError::Base64DecodeError` if a body in Base64 is invalid, with the index, counted
+    /// from 0, of the first invalid group of four; and `MailParseError::Memory` if it runs out of
+    /// memory.
     ///
     /// # Examples
     ///
@@ -192,44 +191,8 @@ impl<'a> ParsedMail<'a> {
         self.get_body_in(alloc, &())
     }
 
-    /// Returns the body as text, as `get_body` does, but its charset may also be that of a table
-    /// (RFC 2045, section 6; RFC 2046, section 4.1.2).
-    ///
-    /// The four built-in charsets take precedence over the tables; among the tables, the first
-    /// that has the label is used. Takes memory for the bytes and for the text.
-    ///
-    /// Control characters stay in the text, as with `get_body`: escape them before showing the text
-    /// on a terminal or writing it to a log.
-    ///
-    /// # Errors
-    ///
-    /// `MailParseError::Base64DecodeError` where a body in Base64 is not Base64, with the index,
-    /// counted from 0, of the first invalid group of four; and `MailParseError::Memory` where it
-    /// runs out of memory.
-    ///
-    /// # Examples
-    ///
-    /// ```rust
-    /// use mailparse::{SingleByteTable, parse_mail};
-    ///
-    /// let tables = [SingleByteTable { labels: &["x-euro"], high: &['€'; 128] }];
-    /// let mail = parse_mail(alloc, b"Content-Type: text/plain; charset=x-euro\n\n5 \x80")?;
-    /// assert_eq!(rt; mail.get_body_with(alloc, &tables)?.as_str(), "5 €");
-    /// assert_eq!(rt; mail.get_body(alloc)?.as_str(), "5 \u{FFFD}");
-    /// ```
-    pub fn get_body_with(
-        &self,
-        alloc: Global,
-        tables: &[SingleByteTable<'_>],
-    ) -> Result<String, MailParseError>
-        ensures { ReadsText result
-            (body_text_in (charsets_with tables.now) (root (tree_of self.now))) }
-    {
-        self.get_body_in(alloc, &tables)
-    }
-
-    /// Returns the body as text, as `get_body` does, in any charset that `known` knows (RFC 2045,
-    /// section 6; RFC 2046, section 4.1.2).
+    /// Returns the body as text, as `get_body` does, in any charset of `known` (RFC 2045, section
+    /// 6; RFC 2046, section 4.1.2).
     ///
     /// Takes memory for the bytes and for the text.
     ///
@@ -238,9 +201,9 @@ impl<'a> ParsedMail<'a> {
     ///
     /// # Errors
     ///
-    /// `MailParseError::Base64DecodeError` where a body in Base64 is not Base64, with the index,
-    /// counted from 0, of the first invalid group of four; and `MailParseError::Memory` where it
-    /// runs out of memory.
+    /// `MailParseError::Base64DecodeError` if a body in Base64 is invalid, with the index, counted
+    /// from 0, of the first invalid group of four; and `MailParseError::Memory` if it runs out of
+    /// memory.
     ///
     /// # Examples
     ///
@@ -273,9 +236,9 @@ impl<'a> ParsedMail<'a> {
     ///
     /// # Errors
     ///
-    /// `MailParseError::Base64DecodeError` where a body in Base64 is not Base64, with the index,
-    /// counted from 0, of the first invalid group of four; and `MailParseError::Memory` where it
-    /// runs out of memory.
+    /// `MailParseError::Base64DecodeError` if a body in Base64 is invalid, with the index, counted
+    /// from 0, of the first invalid group of four; and `MailParseError::Memory` if it runs out of
+    /// memory.
     ///
     /// # Examples
     ///
@@ -292,15 +255,15 @@ impl<'a> ParsedMail<'a> {
         Ok(body.decoded(alloc)?.into_owned(alloc)?)
     }
 
-    /// Returns how the message is to be shown: what its first `Content-Disposition` header says
-    /// (RFC 2183, section 2), or, by the crate's own rule, `Inline` without parameters if it has
-    /// none.
+    /// Returns how the message is to be shown: the disposition in its first `Content-Disposition`
+    /// header (RFC 2183, section 2) or, by the crate's own rule, `Inline` without parameters if it
+    /// has none.
     ///
     /// Takes memory for the text and the parameters.
     ///
     /// # Errors
     ///
-    /// `MailParseError::Memory` where it runs out of memory.
+    /// `MailParseError::Memory` if it runs out of memory.
     ///
     /// # Examples
     ///
@@ -322,48 +285,15 @@ impl<'a> ParsedMail<'a> {
         self.get_content_disposition_in(alloc, &())
     }
 
-    /// Returns how the message is to be shown, as `get_content_disposition` does, but encoded words
-    /// and extended parameters may also be in the charsets of some tables (RFC 2183, section 2; RFC
-    /// 2047, section 2; RFC 2231, section 4).
-    ///
-    /// The four built-in charsets take precedence over the tables; among the tables, the first
-    /// that has the label is used. Takes memory for the text and the parameters.
-    ///
-    /// # Errors
-    ///
-    /// `MailParseError::Memory` where it runs out of memory.
-    ///
-    /// # Examples
-    ///
-    /// ```rust
-    /// use mailparse::{SingleByteTable, parse_mail};
-    ///
-    /// let tables = [SingleByteTable { labels: &["x-euro"], high: &['€'; 128] }];
-    /// let raw = b"Content-Disposition: attachment; filename*=x-euro''5%80.txt\n\n";
-    /// let mail = parse_mail(alloc, raw)?;
-    /// let shown = mail.get_content_disposition_with(alloc, &tables)?;
-    /// assert_eq!(rt; shown.params.get("filename").ok_or("no name")?.as_str(), "5€.txt");
-    /// ```
-    pub fn get_content_disposition_with(
-        &self,
-        alloc: Global,
-        tables: &[SingleByteTable<'_>],
-    ) -> Result<ParsedContentDisposition, MailParseError>
-        ensures { AnswersOrMemory disposition result
-            (Ok (shown_as_in (charsets_with tables.now) (root (tree_of self.now)))) }
-    {
-        self.get_content_disposition_in(alloc, &tables)
-    }
-
-    /// Returns how the message is to be shown, as `get_content_disposition` does, but encoded words
-    /// and extended parameters may be in any charset that `known` knows (RFC 2183, section 2; RFC
-    /// 2047, section 2; RFC 2231, section 4).
+    /// Returns how the message is to be shown, as `get_content_disposition` does, with encoded
+    /// words and extended parameters in any charset of `known` (RFC 2183, section 2; RFC 2047,
+    /// section 2; RFC 2231, section 4).
     ///
     /// Takes memory for the text and the parameters.
     ///
     /// # Errors
     ///
-    /// `MailParseError::Memory` where it runs out of memory.
+    /// `MailParseError::Memory` if it runs out of memory.
     ///
     /// # Examples
     ///
@@ -396,11 +326,11 @@ impl<'a> ParsedMail<'a> {
     /// Returns an iterator over the message itself and then all its parts, each part before its own
     /// parts (RFC 2046, section 5.1).
     ///
-    /// Takes memory for the list of them.
+    /// Takes memory for the list.
     ///
     /// # Errors
     ///
-    /// `MailParseError::Memory` where it runs out of memory.
+    /// `MailParseError::Memory` if it runs out of memory.
     ///
     /// # Examples
     ///
@@ -430,11 +360,20 @@ impl<'a> ParsedMail<'a> {
 /// An iterator over a message and all its parts, each part before its own parts, as
 /// `ParsedMail::parts` returns it (RFC 2046, section 5.1).
 ///
-/// It holds the whole list; `next` takes no memory.
+/// It contains the whole list; `next` takes no memory.
 #[derive(Drop)]
 pub struct PartsIterator<'m, 'a> {
     parts: Vec<&'m ParsedMail<'a>>,
     index: usize,
+}
+
+/// Shows the number of parts that were returned.
+impl<'m, 'a> Debug for PartsIterator<'m, 'a> {
+    fn fmt<W: Write>(&self, f: &mut Formatter<W>) -> fmt::Result {
+        f.debug_struct("PartsIterator")
+            .field("index", &self.index)
+            .finish_non_exhaustive()
+    }
 }
 
 impl<'m, 'a> Iterator for PartsIterator<'m, 'a> {
@@ -458,7 +397,7 @@ impl<'m, 'a> Iterator for PartsIterator<'m, 'a> {
     }
 }
 
-/// Adds a message and its parts to a list, each before its own parts.
+/// Appends a message and its parts to a list, each before its own parts.
 fn push_parts<'m, 'a>(
     mail: &'m ParsedMail<'a>,
     found: &mut Vec<&'m ParsedMail<'a>>,

@@ -1,4 +1,4 @@
-//! The type of a message, and what it says of its parts.
+//! The type of a message, and what it implies for its parts.
 ghost use Rattle.std.specs.Prelude.{◌≡◌, ◌∷◌, option_map, IfOk};
 ghost use Rattle.mail_codec.specs.Ascii.{line_feed};
 ghost use Rattle.mailparse.specs.Mail.{dash_boundary_of, is_digest, node_type, part_type};
@@ -13,8 +13,8 @@ use mail_codec::charset::KnownCharsets;
 use std::alloc::{AllocError, Global};
 use std::collections::BTreeMap;
 
-/// The type of a message with these headers: what its first `Content-Type` says, and otherwise the
-/// type of a part without one.
+/// Returns the type of a message with these headers: that of its first `Content-Type`, otherwise
+/// the default.
 pub(super) fn node_type<K: KnownCharsets>(
     alloc: Global,
     headers: &Vec<MailHeader<'_>>,
@@ -33,7 +33,7 @@ pub(super) fn node_type<K: KnownCharsets>(
     }
 }
 
-/// The type of a part without one of its own: plain text, and a message in a digest.
+/// Returns the default type of a part: a message in a digest, otherwise plain text.
 fn part_type(alloc: Global, in_digest: bool) -> Result<ParsedContentType, AllocError>
     ensures { IfOk result (λ ctype. content_type ctype ≡ part_type in_digest) }
 {
@@ -49,16 +49,16 @@ fn part_type(alloc: Global, in_digest: bool) -> Result<ParsedContentType, AllocE
     })
 }
 
-/// Whether the parts of this type are messages where nothing else is said.
+/// Whether the default type of the parts is a message.
 pub(super) fn is_digest(ctype: &ParsedContentType) -> bool
     ensures { result ≡ is_digest (content_type ctype.now) }
 {
     ctype.mimetype.as_str() == "multipart/digest"
 }
 
-/// A LF and the dash-boundary of this type's parts, if there may be parts. The dash-boundary is
-/// `--` and the boundary.
-pub(super) fn feed_and_dash_boundary_of(
+/// Returns the line delimiter of the parts, a LF and the dash-boundary, or `None` if a message of
+/// this type has no parts.
+pub(super) fn line_delimiter_of(
     alloc: Global,
     ctype: &ParsedContentType,
 ) -> Result<Option<Vec<u8>>, AllocError>
@@ -72,8 +72,8 @@ pub(super) fn feed_and_dash_boundary_of(
     let Some(boundary) = ctype.params.get("boundary") else {
         return Ok(None);
     };
-    let mut feed_and_dash_boundary = Vec::with_capacity(alloc, 3 + boundary.len())?;
-    feed_and_dash_boundary.extend_from_slice(b"\n--")?;
-    feed_and_dash_boundary.extend_from_slice(boundary.as_bytes())?;
-    Ok(Some(feed_and_dash_boundary))
+    let mut line_delimiter = Vec::with_capacity(alloc, 3 + boundary.len())?;
+    line_delimiter.extend_from_slice(b"\n--")?;
+    line_delimiter.extend_from_slice(boundary.as_bytes())?;
+    Ok(Some(line_delimiter))
 }

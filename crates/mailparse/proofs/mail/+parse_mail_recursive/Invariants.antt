@@ -1,4 +1,4 @@
--- The parts that were read, and then what is read of the others, are all; and so they stand.
+-- The parts read so far, followed by those of the rest, are all parts; so are their placements.
 use Rattle.std.proofs.Common.{◌≡◌, ◌≤◌, ◌-◌, ℕ, suc, drop, length, map, Option, Some, None, IfSome}
 use Rattle.mailparse.specs.Delimiters.{first_part}
 use Rattle.mailparse.specs.Views.{tree_of}
@@ -9,7 +9,7 @@ use Rattle.mailparse.proofs.mail.«+parse_mail_recursive».Given as goal
 abbrev pub decreases-parse_mail_recursive : goal.decreases-parse_mail_recursive
 decreases-parse_mail_recursive g l = l.levels
 
--- how many bytes are left
+-- the number of bytes left
 abbrev left : ℕ → Option ℕ → ℕ
 left size None = 0
 left size (Some start) = suc (size - start)
@@ -17,9 +17,9 @@ left size (Some start) = suc (size - start)
 abbrev pub invariant-loop-next : goal.invariant-loop-next
 invariant-loop-next g l = record {
   within : IfSome l.next (λ s. s ≤ length l.raw);
-  all : with_trees (map tree_of l.subparts.items) (parts_from (g.K.KnownCharsets.known l.known) (l.levels - 1) l.is_digest (drop 1 l.feed_and_dash_boundary.items) l.raw l.next)
-      ≡ parts_from (g.K.KnownCharsets.known l.known) (l.levels - 1) l.is_digest (drop 1 l.feed_and_dash_boundary.items) l.raw (first_part (drop 1 l.feed_and_dash_boundary.items) l.raw l.index);
-  placed : ArePlaced l.offset (drop 1 l.feed_and_dash_boundary.items) l.raw (first_part (drop 1 l.feed_and_dash_boundary.items) l.raw l.index) l.next l.subparts.items;
+  all : with_trees (map tree_of l.subparts.items) (parts_from (g.K.KnownCharsets.known l.known) (l.levels - 1) l.is_digest (drop 1 l.line_delimiter.items) l.raw l.next)
+      ≡ parts_from (g.K.KnownCharsets.known l.known) (l.levels - 1) l.is_digest (drop 1 l.line_delimiter.items) l.raw (first_part (drop 1 l.line_delimiter.items) l.raw l.body_offset);
+  placed : ArePlaced l.offset (drop 1 l.line_delimiter.items) l.raw (first_part (drop 1 l.line_delimiter.items) l.raw l.body_offset) l.next l.subparts.items;
 }
 
 abbrev pub decreases-loop-next : goal.decreases-loop-next

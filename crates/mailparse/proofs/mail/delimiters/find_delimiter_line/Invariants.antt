@@ -1,4 +1,4 @@
--- No delimiter stands before the place that the search has come to.
+-- There is no delimiter before the offset that the search has reached.
 use Rattle.std.proofs.Common.{◌≤◌, ◌-◌, length}
 use Rattle.mailparse.proofs.lemmas.Delimiters.{NoDelimiter}
 use Rattle.mailparse.proofs.mail.delimiters.find_delimiter_line.Given as goal

@@ -6,7 +6,7 @@ use Rattle.mailparse.proofs.mail.delimiters.find_line_starting_with.Goals as goa
 
 pub returns-clause-bounds : goal.returns-clause-bounds
 returns-clause-bounds c =
-    let within = pair_within 10 c.args.byte c.in_ok-place.place (drop c.args.start c.args.raw.now)
-    (subst (λ (l : List ℕ). Some c.in_ok-place.place ≡ text_place l (10 ∷ c.args.byte ∷ [])) (take_rest c.args.raw.now c.args.start) c.in_ok-place.ensures) in
+    let within = pair_within 10 c.args.byte c.in_ok-offset.offset (drop c.args.start c.args.raw.now)
+    (subst (λ (l : List ℕ). Some c.in_ok-offset.offset ≡ text_place l (10 ∷ c.args.byte ∷ [])) (take_rest c.args.raw.now c.args.start) c.in_ok-offset.ensures) in
     let len = length-drop c.args.start c.args.raw.now in
     (omega arith, omega (arith, within, len))

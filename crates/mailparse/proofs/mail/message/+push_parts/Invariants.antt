@@ -1,4 +1,4 @@
--- The list so far, and then the parts that are left, are what was there and the whole message.
+-- The list so far, followed by the parts that are left, is the old list followed by the whole message.
 use Rattle.std.proofs.Common.{◌≡◌, ◌++◌, map, drop}
 use Rattle.mailparse.specs.Mail.{forest, trees_within, trees_in}
 use Rattle.mailparse.specs.Views.{tree_of}
