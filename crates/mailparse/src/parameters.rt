@@ -16,7 +16,7 @@ use segments::cut_segment;
 use std::alloc::{AllocError, Global};
 use std::collections::BTreeMap;
 
-/// The value of a text, without whitespace around it, and its parameters by name.
+/// Reads a text with parameters: returns its value, trimmed, and the parameters by name.
 pub(crate) fn parameters<'p, K: KnownCharsets>(
     alloc: Global,
     text: &'p str,

@@ -1,5 +1,5 @@
 //! The parameters of a value: its segments, its pairs and what they stand for.
-ghost use Rattle.std.specs.Prelude.{[], ◌++◌, ◌/◌, ◌==◌, ◌↔◌, ◌∷◌, ◌≡◌, ℕ, Contains, Decides, IsSome, List, None, codes, false, map, replicate};
+ghost use Rattle.std.specs.Prelude.{[], ◌++◌, ◌/◌, ◌==◌, ◌↔◌, ◌∷◌, ◌≡◌, ℕ, Contains, Decides, IsSome, List, codes, false, map, replicate};
 ghost use Rattle.std.specs.Cmp.Lexicographic.{slice_cmp};
 ghost use Rattle.std.specs.List.{list_any};
 ghost use Rattle.std.specs.Ordering.{is_lt, nat_cmp};
@@ -8,10 +8,10 @@ ghost use Rattle.mail_codec.specs.Ascii.{backslash};
 ghost use Rattle.mail_codec.specs.Charset.{Charsets};
 ghost use Rattle.mail_codec.specs.Places.{begins};
 ghost use Rattle.mailparse.specs.ContentType.{content_type_in};
-ghost use Rattle.mailparse.specs.Continuations.{joined, parameters_in, possible_names, walked_after};
+ghost use Rattle.mailparse.specs.Continuations.{joined, parameters_in, possible_names};
 ghost use Rattle.mailparse.specs.ExtendedValues.{candidates, charset_source, section_at, starred};
 ghost use Rattle.mailparse.specs.Pairs.{Texts, last_of, pairs_of};
-ghost use Rattle.mailparse.specs.Sections.{Section};
+ghost use Rattle.mailparse.specs.Sections.{Section, octets};
 ghost use Rattle.mailparse.specs.Segments.{AreSegments, segments, without_escapes};
 ghost use Rattle.mailparse.specs.Views.{kind};
 ghost use Rattle.mailparse.specs.contracts.disposition.DispositionTypePartialEq.TheImpl.{ghosts};
@@ -51,11 +51,11 @@ pub fn pairs_without_stars_are_parameters()
         (name : List ℕ) → parameters_in known pairs name ≡ last_of pairs name }
 {}
 
-/// The text that the sections of a value make is what one walk over them makes, which keeps the
-/// bytes of extended sections until a text or the end follows, and reads them then, in the charset
-/// of the last of them.
+/// The bytes of extended sections that follow one another are decoded together, in the charset of
+/// the last of them: two such sections make the same text as one with the bytes of both.
 pub fn runs_are_read_once()
-    ensures { (sections : List Section) → joined sections ≡ walked_after None [] sections }
+    ensures { (first last : List ℕ → List ℕ) (a b : List ℕ) (rest : List Section) →
+        joined (octets first a ∷ octets last b ∷ rest) ≡ joined (octets last (a ++ b) ∷ rest) }
 {}
 
 /// The candidates for the charset source of a name are exactly the names of this form: they end in

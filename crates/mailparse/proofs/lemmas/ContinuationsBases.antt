@@ -1,4 +1,4 @@
--- The bases, name by name, and what is left beside them.
+-- The bases, name by name, and the entries left beside them.
 use Rattle.std.proofs.Common.{◌≡◌, ℕ, Bool, true, false, not, ◌&&◌, ◌||◌, ◌==◌, cond, ltb, List, [], ◌∷◌, ◌++◌, length, Option, Some, None, is_some, option_map, refl, sym, ap, ◌∙◌}
 use Rattle.std.proofs.Math.Bool.{and-true, and_comm, and-or_distrib_left, or-true}
 use Rattle.std.proofs.lemmas.Bool.{and_left, and_right, cond-false, false≢true, true_from_ne_false}
@@ -39,7 +39,7 @@ hit_is at q name = go (numbered name)
     go None = and_right _ _ refl
     go (Some n) = pick n (bytes_eq n.0 q) refl
 
--- the bases of names where something stands
+-- the bases of names that have an entry
 pub holds_first : (at : List ℕ → Option Section) (names : List (List ℕ)) (q : List ℕ) → ((z : List ℕ) → holds_name names z ≡ true → is_some (at z) ≡ true)
     → holds_name (bases_of_sections_0 at names) q ≡ is_base at names q
 holds_first at [] q some = sym (and_right _ _ refl)
@@ -55,9 +55,9 @@ holds_first at (name ∷ names) q some =
     one None = refl
     one (Some b) = refl
 
--- ---- what is left
+-- ---- the entries that are left
 
--- what was joined is what was taken
+-- the entries that were joined are those that were removed
 pub taken_used : (at : List ℕ → Option Section) (names bases : List (List ℕ)) → ((z : List ℕ) → holds_name bases z ≡ is_base at names z) → (q : List ℕ)
     → is_taken at bases q ≡ is_used at names q
 taken_used at names bases same q = go (numbered q)
@@ -67,7 +67,7 @@ taken_used at names bases same q = go (numbered q)
     go None = refl
     go (Some n) = ap (λ b. b && (ltb n.1 (length (sections_of at n.0)) && bytes_eq q (section_name n.0 n.1))) (same n.0)
 
--- the texts in the end: those of the other sections, those that were left, those of the bases
+-- the final texts: those of the other sections, those that were left, those of the bases
 pub in_the_end : (at : List ℕ → Option Section) (names : List (List ℕ)) (q : List ℕ) (extended : Option Section) (text base given : Option (List ℕ))
     → ((z : List ℕ) → holds_name names z ≡ true → is_some (at z) ≡ true)
     → option_or extended (option_map words.text text) ≡ left_by at (bases_of_sections_0 at names) q → base ≡ joined_text at (bases_of_sections_0 at names) q
@@ -86,9 +86,9 @@ in_the_end at names q extended text base given some left joined_is made =
     over None (Some t) = refl
     over (Some e) t = refl
 
--- ---- texts that are written beside others
+-- ---- texts that are set beside others
 
--- a base where no text stands
+-- a base without a text
 pub base_put : (t b : List ℕ → Option (List ℕ)) (names : List (List ℕ)) (name text : List ℕ) (old : Option (List ℕ))
     → old ≡ filled (λ z. option_or (t z) (b z)) t names name → is_some old ≡ false → b name ≡ Some text → option_or (t name) (b name) ≡ Some text
 base_put t b names name text old before none is = go (t name) refl
@@ -101,7 +101,7 @@ base_put t b names name text old before none is = go (t name) refl
     go None e = ap (λ o. option_or o (b name)) e ∙ is
     go (Some v) e = let clash : false ≡ true = sym none ∙ ap is_some (before ∙ both v (holds_name names name) e) in absurd (cc)
 
--- one where a text stands
+-- one with a text
 pub base_kept : (t b : List ℕ → Option (List ℕ)) (names : List (List ℕ)) (name q : List ℕ) (old here : Option (List ℕ))
     → old ≡ filled (λ z. option_or (t z) (b z)) t names q → here ≡ filled (λ z. option_or (t z) (b z)) t names name → is_some here ≡ true
     → old ≡ filled (λ z. option_or (t z) (b z)) t (names ++ name ∷ []) q

@@ -1,17 +1,17 @@
 -- The sections of a base, one after the other.
-use Rattle.std.proofs.Common.{◌≡◌, ℕ, zero, suc, ◌+◌, ◌-◌, ◌<◌, ◌≤◌, Bool, true, false, not, is_some, List, [], ◌∷◌, ◌++◌, flat_map, append_assoc, append-nil, Option, Some, None, refl, sym, ap, ◌∙◌, arith}
+use Rattle.std.proofs.Common.{◌≡◌, ℕ, zero, suc, ◌+◌, ◌-◌, ◌<◌, ◌≤◌, Bool, true, false, not, is_some, List, [], ◌∷◌, ◌++◌, flat_map, append_assoc, Option, Some, None, refl, sym, ap, ◌∙◌, arith}
 use Rattle.std.proofs.lemmas.Bool.{cond-false, cond-true}
 use Rattle.std.specs.Option.{option_to_list}
 use Rattle.mail_codec.specs.Places.{least, values_below}
-use Rattle.mailparse.specs.Continuations.{Group, group_text, groups, is_missing, joined, most_sections, onto_run, run, sections_of, text_alone, walked_after}
-use Rattle.mailparse.specs.Sections.{Section, octets, section_name, text}
+use Rattle.mailparse.specs.Continuations.{Group, group_text, groups, is_missing, joined, most_sections, onto_run, run, sections_of, text_alone}
+use Rattle.mailparse.specs.Sections.{Section, octets, section_name}
 
 -- a section before others; without a section nothing
 abbrev pub cons_if_some : Option Section → List Section → List Section
 cons_if_some None rest = []
 cons_if_some (Some section) rest = section ∷ rest
 
--- the sections of a base at the numbers from one on, as far as there are any, and at most so many
+-- the sections of a base with the numbers from one on, up to the first that is missing, and at most `most`
 abbrev pub sections_from : (List ℕ → Option Section) → List ℕ → ℕ → ℕ → List Section
 sections_from at base zero number = []
 sections_from at base (suc most) number = cons_if_some (at (section_name base number)) (sections_from at base most (suc number))
@@ -20,12 +20,12 @@ pub most : most_sections ≡ 18446744073709551615
 unfolding most_sections
 most = refl
 
--- no section stands at the next number
+-- there is no section with the next number
 pub sections_none : (at : List ℕ → Option Section) (base : List ℕ) (n number : ℕ) → at (section_name base number) ≡ None → sections_from at base n number ≡ []
 sections_none at base zero number e = refl
 sections_none at base (suc n) number e = ap (λ o. cons_if_some o (sections_from at base n (suc number))) e
 
--- one does
+-- there is one
 pub sections_some : (at : List ℕ → Option Section) (base : List ℕ) (most number : ℕ) (section : Section) → number < most → at (section_name base number) ≡ Some section
     → sections_from at base (most - number) number ≡ section ∷ sections_from at base (most - (number + 1)) (number + 1)
 sections_some at base most number section below e =
@@ -42,7 +42,7 @@ sections_end at base most number full = let none : most - number ≡ 0 = omega a
 number_next : (number k : ℕ) → number + suc k ≡ suc number + k
 number_next number k = omega arith
 
--- the sections below the least number at which nothing stands are those from 0 on, as far as there are any
+-- the sections below the least number without one are those from 0 on, up to the first that is missing
 from_number : (at : List ℕ → Option Section) (base : List ℕ) (most number : ℕ) (test : ℕ → Bool) (f : ℕ → Option Section)
     → ((k : ℕ) → test k ≡ is_missing at base (number + k)) → ((k : ℕ) → f k ≡ at (section_name base (number + k)))
     → flat_map option_to_list (values_below (least test most) f) ≡ sections_from at base most number
@@ -81,24 +81,14 @@ sections_are at base = from_number at base most_sections 0 (is_missing at base) 
     zero_more : (k : ℕ) → k ≡ 0 + k
     zero_more k = omega arith
 
--- ---- a walk that keeps a run open makes the texts of the groups
+-- ---- runs
 
 -- two sections in front of groups
-pub onto_twice : (first second : List ℕ → List ℕ) (a b : List ℕ) (found : List Group) → onto_run second (a ++ b) found ≡ onto_run first a (onto_run second b found)
+onto_twice : (first second : List ℕ → List ℕ) (a b : List ℕ) (found : List Group) → onto_run first a (onto_run second b found) ≡ onto_run second (a ++ b) found
 onto_twice first second a b [] = refl
 onto_twice first second a b (text_alone t ∷ more) = refl
-onto_twice first second a b (run last others ∷ more) = ap (λ bytes. run last bytes ∷ more) (append_assoc a b others)
+onto_twice first second a b (run last others ∷ more) = ap (λ bytes. run last bytes ∷ more) (sym (append_assoc a b others))
 
--- after nothing, and after a run
-walked : (sections : List Section) → (walked_after None [] sections ≡ joined sections)
-    × ((reading : List ℕ → List ℕ) (bytes : List ℕ) → walked_after (Some reading) bytes sections ≡ flat_map group_text (onto_run reading bytes (groups sections)))
-walked [] = (refl, λ reading bytes. sym (append-nil (reading bytes)))
-walked (text t ∷ sections) =
-    let h = walked sections in
-    (ap (λ rest. t ++ rest) h.0, λ reading bytes. ap (λ rest. reading bytes ++ (t ++ rest)) h.0)
-walked (octets last more ∷ sections) =
-    let h = walked sections in
-    (h.1 last more, λ reading bytes. h.1 last (bytes ++ more) ∙ ap (flat_map group_text) (onto_twice reading last bytes more (groups sections)))
-
-pub joined_by_walk : (sections : List Section) → walked_after None [] sections ≡ joined sections
-joined_by_walk sections = (walked sections).0
+-- two sections of bytes, one after the other, join as one
+pub joined_run : (first second : List ℕ → List ℕ) (a b : List ℕ) (rest : List Section) → joined (octets first a ∷ octets second b ∷ rest) ≡ joined (octets second (a ++ b) ∷ rest)
+joined_run first second a b rest = ap (flat_map group_text) (onto_twice first second a b (groups rest))

@@ -75,7 +75,7 @@ joined_same at xs ys inx iny q =
     let same : is_base at xs ≡ is_base at ys = λ i b. base_names at xs ys inx iny b i in
     by_base at xs q ∙ ap (λ base. joined_by base at q) same ∙ sym (by_base at ys q)
 
--- ---- the names where something stands
+-- ---- the names that have an entry
 
 some_of : {A : Type 0} (o : Option A) → o ≡ None → is_some o ≡ true → ⊥
 some_of o e h = let clash : false ≡ true = sym (ap is_some e) ∙ h in cc
@@ -122,7 +122,7 @@ section_named known pairs q h = go (last_of pairs q) refl
 entry_named : {X : Type 0} (m : BTreeMap (String Global) X) (q : List ℕ) → is_some (get_by_text m q) ≡ true → holds_name (names_in m) q ≡ true
 entry_named m q h = true_from_ne_false _ (λ is. some_of _ (unnamed q m is) h)
 
--- the names of sections are those at which something stands
+-- the names of sections are those that have an entry
 holds_both : (xs ys : List (List ℕ)) (q : List ℕ) → holds_name (xs ++ ys) q ≡ (holds_name xs q || holds_name ys q)
 holds_both xs ys q = list_any-append (λ n. bytes_eq n q) xs ys
 

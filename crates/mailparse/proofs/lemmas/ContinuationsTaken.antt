@@ -1,4 +1,4 @@
--- The sections of bases, and what stands at the names once they are taken.
+-- The sections of bases, and the entries of the names after they are removed.
 use Rattle.std.proofs.Common.{◌≡◌, ℕ, zero, suc, ◌+◌, ◌<◌, ◌^◌, Bool, true, false, ◌&&◌, ◌||◌, cond, ltb, List, [], ◌∷◌, ◌++◌, length, Option, Some, None, is_some, refl, sym, ap, ◌∙◌, arith, ⊎_elim}
 use Rattle.std.proofs.Math.Bool.{and-false, and-or_distrib_right, and-true, or-false, or-true}
 use Rattle.std.proofs.lemmas.Bool.{and_left, cases_order, cond-false, cond-true, false_from_ne_true, false≢true, le-ltb, lt-ltb}
@@ -59,7 +59,7 @@ one_more base count q below = go (bytes_eq (section_name base count) q) refl
         ∙ sym (ap (λ b. is_section_below base count q || b) is ∙ or-true (is_section_below base count q))
     go false is = by_number is (numbered q) ∙ sym (ap (λ b. is_section_below base count q || b) is ∙ or-false (is_section_below base count q))
 
--- the next section is as it was
+-- the next section is unchanged
 pub next_stands : (at now : List ℕ → Option Section) (base : List ℕ) (count : ℕ) → count < 2 ^ 64 → ((q : List ℕ) → now q ≡ without_sections at base count q)
     → now (section_name base count) ≡ at (section_name base count)
 next_stands at now base count below before = before (section_name base count) ∙ cond-false _ _ _ (section_here base count count below ∙ le-ltb count count (omega arith))
@@ -70,7 +70,7 @@ taken_next at base count q old new below before step =
     step ∙ ap (cond (bytes_eq (section_name base count) q) None) before ∙ both_taken (bytes_eq (section_name base count) q) (is_section_below base count q) (at q)
     ∙ ap (λ b. cond b None (at q)) (sym (one_more base count q below))
 
--- no section was there to be taken
+-- there was no section to remove
 pub taken_none : (at : List ℕ → Option Section) (base : List ℕ) (count : ℕ) (q : List ℕ) (old new : Option Section) → old ≡ without_sections at base count q
     → at (section_name base count) ≡ None → new ≡ cond (bytes_eq (section_name base count) q) None old → new ≡ without_sections at base count q
 taken_none at base count q old new before none step = go (bytes_eq (section_name base count) q) refl
@@ -97,7 +97,7 @@ sections_same at bases base (suc n) number other below =
     ap (λ o. cons_if_some o (sections_from (left_by at bases) base n (suc number))) (left_here at bases base number other (omega arith))
     ∙ ap (cons_if_some (at (section_name base number))) (sections_same at bases base n (suc number) other (omega arith))
 
--- a base that was not yet joined has all its sections
+-- a base that was not joined yet has all its sections
 pub all_sections : (at now : List ℕ → Option Section) (bases : List (List ℕ)) (base : List ℕ) → holds_name bases base ≡ false → ((q : List ℕ) → now q ≡ left_by at bases q)
     → sections_of now base ≡ sections_of at base
 all_sections at now bases base other before =

@@ -1,29 +1,35 @@
--- What those that join sections hold; private to them.
-use Rattle.std.specs.Prelude.{ℕ, Bool, false, not, ◌&&◌, ◌==◌, nat_lt, List, ◌++◌, map, flat_map, Option, Some, None, option_map, option_to_list, String, string_bytes, if◌then◌else◌}
+-- The state of the functions that join sections; private to them.
+use Rattle.std.specs.Prelude.{ℕ, Bool, false, not, ◌&&◌, ◌==◌, nat_lt, List, [], ◌∷◌, ◌++◌, map, flat_map, Option, Some, None, option_to_list, String, string_bytes, if◌then◌else◌}
 use Rattle.std.specs.BTreeMap.{BTreeMap}
+use Rattle.std.specs.Global.{Vec}
 use Rattle.std.specs.List.{list_any}
 use Rattle.std.specs.Option.{option_map_or}
 use Rattle.std.specs.Str.{bytes_eq}
-use Rattle.mailparse.specs.Continuations.{is_section, joined, sections_of, walked_after}
+use Rattle.mailparse.specs.Continuations.{is_section, joined, sections_of}
 use Rattle.mailparse.specs.Options.{◌>>=◌}
-use Rattle.mailparse.specs.Sections.{Section, is_star, is_text, numbered, section_name}
+use Rattle.mailparse.specs.Sections.{Section, octets, is_star, is_text, numbered, section_name}
 use Rattle.mailparse.specs.private.Filled.{holds_name}
 use Rattle.mailparse.specs.declared.parameters.continuations.joining.Joining.{Joining}
 use Rattle.mailparse.specs.declared.parameters.sections.Sections.{Sections}
 
+-- an open run of bytes, as a section
+abbrev pub open_run : {C : Type 0} → (C → List ℕ → List ℕ) → Option (C × Vec ℕ) → List Section
+open_run reads None = []
+open_run reads (Some run) = octets (reads run.0) run.1.items ∷ []
+
 -- the text that is made when these sections follow
 abbrev pub joined_with : {C : Type 0} → (C → List ℕ → List ℕ) → Joining C → List Section → List ℕ
-joined_with reads joining sections = string_bytes joining.text ++ walked_after (option_map reads joining.charset) joining.run.items sections
+joined_with reads joining sections = string_bytes joining.text ++ joined (open_run reads joining.run ++ sections)
 
 -- the names of a map, in its order
 abbrev pub names_in : {Y X : Type 0} → BTreeMap (String Y) X → List (List ℕ)
 names_in m = map (λ e. string_bytes e.0) m.entries
 
--- a name holds a star
+-- a name contains a star
 abbrev pub has_star : List ℕ → Bool
 has_star name = list_any is_star name
 
--- the base of a name with the number 0, where no text stands
+-- the base of a name with the number 0, unless the entry of the base is a text
 abbrev pub base_of_section_0 : (List ℕ → Option Section) → List ℕ → Option (List ℕ)
 base_of_section_0 at name = do
   n ← numbered name
@@ -33,7 +39,7 @@ base_of_section_0 at name = do
 abbrev pub bases_of_sections_0 : (List ℕ → Option Section) → List (List ℕ) → List (List ℕ)
 bases_of_sections_0 at names = flat_map (λ name. option_to_list (base_of_section_0 at name)) names
 
--- the names at which something stands
+-- the names that have an entry
 abbrev pub names_of_sections : {C : Type 0} → Sections C → List (List ℕ)
 names_of_sections sections = names_in sections.texts ++ names_in sections.extended
 
@@ -42,7 +48,7 @@ abbrev pub is_section_below : List ℕ → ℕ → List ℕ → Bool
 is_section_below base count name =
     option_map_or (λ n. bytes_eq base n.0 && (nat_lt n.1 count && bytes_eq name (section_name n.0 n.1))) (numbered name) false
 
--- what stands at the names once the first sections of a base are taken
+-- the entries of the names after the first sections of a base are removed
 abbrev pub without_sections : (List ℕ → Option Section) → List ℕ → ℕ → List ℕ → Option Section
 without_sections at base count name = if is_section_below base count name then None else at name
 
@@ -55,6 +61,6 @@ abbrev pub is_taken : (List ℕ → Option Section) → List (List ℕ) → List
 is_taken at bases name =
     option_map_or (λ n. holds_name bases n.0 && is_section at name n) (numbered name) false
 
--- what stands at the names once the sections of these bases are taken
+-- the entries of the names after the sections of these bases are removed
 abbrev pub left_by : (List ℕ → Option Section) → List (List ℕ) → List ℕ → Option Section
 left_by at bases name = if is_taken at bases name then None else at name

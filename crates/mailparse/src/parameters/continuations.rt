@@ -1,7 +1,8 @@
-//! Values that are joined from their sections (RFC 2231, section 3).
-ghost use Rattle.std.specs.Prelude.{◌≡◌, ◌++◌, ℕ, List, not, length, map, option_map, IfOk, OnOk, string_bytes};
+//! Joins the values that are split into sections (RFC 2231, section 3).
+ghost use Rattle.std.specs.Prelude.{◌≡◌, ◌++◌, ℕ, List, Some, not, length, map, option_map, IfOk, OnOk, string_bytes, if◌then◌else◌};
 ghost use Rattle.std.specs.List.{list_any};
 ghost use Rattle.std.specs.Option.{option_or};
+ghost use Rattle.std.specs.Str.{bytes_eq};
 ghost use Rattle.mailparse.specs.Continuations.{joined, joined_at, parameters_in, sections_of};
 ghost use Rattle.mailparse.specs.Pairs.{last_of, text_at};
 ghost use Rattle.mailparse.specs.Sections.{alone};
@@ -18,7 +19,7 @@ use mail_codec::charset::{Decode, KnownCharsets};
 use std::alloc::{AllocError, Global};
 use std::collections::BTreeMap;
 
-/// Takes the sections of a base, and joins them.
+/// Removes the sections of a base, and joins them.
 fn join<C: Decode>(
     alloc: Global,
     sections: &mut Sections<C>,
@@ -37,13 +38,13 @@ fn join<C: Decode>(
         let Some(section) = sections.take(name.as_str()) else {
             return joining.finish(alloc);
         };
-        joining.push(alloc, &section)?;
+        joining.push(alloc, section)?;
         count += 1;
     }
     joining.finish(alloc)
 }
 
-/// The base of a name with the number 0, if no text stands there.
+/// Returns the base of a name with the number 0, unless the entry of the base is a text.
 fn base_of_section_0<'n, C: Decode>(sections: &Sections<C>, name: &'n str) -> Option<&'n str>
     ensures { option_map (λ base. base.now) result
         ≡ base_of_section_0 (stored_section C.text sections.now) name.now }
@@ -58,7 +59,7 @@ fn base_of_section_0<'n, C: Decode>(sections: &Sections<C>, name: &'n str) -> Op
     Some(base)
 }
 
-/// Adds the bases of the names of a map.
+/// Appends the bases of the names of a map.
 fn add_bases<C: Decode, X>(
     alloc: Global,
     sections: &Sections<C>,
@@ -76,7 +77,7 @@ fn add_bases<C: Decode, X>(
     Ok(())
 }
 
-/// The bases, some more than once.
+/// Returns the bases; some may occur more than once.
 fn bases_of<C: Decode>(alloc: Global, sections: &Sections<C>) -> Result<Vec<String>, AllocError>
     ensures { IfOk result (λ bases. map string_bytes bases.items
         ≡ bases_of_sections_0 (stored_section C.text sections.now) (names_of_sections sections.now)) }
@@ -87,7 +88,7 @@ fn bases_of<C: Decode>(alloc: Global, sections: &Sections<C>) -> Result<Vec<Stri
     Ok(bases)
 }
 
-/// Takes the sections of each base, and joins them.
+/// Removes the sections of each base, and joins them.
 fn joined_bases<C: Decode>(
     alloc: Global,
     sections: &mut Sections<C>,
@@ -102,13 +103,13 @@ fn joined_bases<C: Decode>(
     for base in bases {
         if !texts.contains_key(base.as_str()) {
             let text = join(alloc, sections, base.as_str())?;
-            texts.insert(base, text)?;
+            put_text(&mut texts, base, text)?;
         }
     }
     Ok(texts)
 }
 
-/// The text of a section alone.
+/// Returns the text of a section that is not joined.
 fn text_alone<C: Decode>(alloc: Global, section: Section<C>) -> Result<String, AllocError>
     ensures { IfOk result (λ text. string_bytes text ≡ alone (section_view C.text section)) }
 {
@@ -120,7 +121,20 @@ fn text_alone<C: Decode>(alloc: Global, section: Section<C>) -> Result<String, A
     }
 }
 
-/// Writes the texts of the bases where no text stands.
+/// Sets the text of a name.
+fn put_text(
+    texts: &mut BTreeMap<String, String>,
+    name: String,
+    text: String,
+) -> Result<(), AllocError>
+    ensures { OnOk result ((q : List ℕ) → text_at texts.new q ≡
+        (if bytes_eq (string_bytes name) q then Some (string_bytes text) else text_at texts.old q)) }
+{
+    texts.insert(name, text)?;
+    Ok(())
+}
+
+/// Sets the texts of the bases that have no text yet.
 fn put_joined(
     texts: &mut BTreeMap<String, String>,
     bases: BTreeMap<String, String>,
@@ -130,13 +144,13 @@ fn put_joined(
 {
     for (base, text) in bases {
         if !texts.contains_key(base.as_str()) {
-            texts.insert(base, text)?;
+            put_text(texts, base, text)?;
         }
     }
     Ok(())
 }
 
-/// Writes the texts of sections, over what stands at their names.
+/// Sets the texts of sections, and replaces those of the same names.
 fn put_extended<C: Decode>(
     alloc: Global,
     texts: &mut BTreeMap<String, String>,
@@ -146,12 +160,12 @@ fn put_extended<C: Decode>(
         ≡ option_or (option_map alone (sections_at C.text extended q)) (text_at texts.old q)) }
 {
     for (name, section) in extended {
-        texts.insert(name, text_alone(alloc, section)?)?;
+        put_text(texts, name, text_alone(alloc, section)?)?;
     }
     Ok(())
 }
 
-/// The texts of the bases, and those of the sections that were not joined.
+/// Returns the texts of the bases and of the sections that are not joined.
 fn left_and_joined<C: Decode>(
     alloc: Global,
     sections: Sections<C>,
@@ -171,14 +185,14 @@ fn left_and_joined<C: Decode>(
     Ok(texts)
 }
 
-/// Whether a name holds a star.
+/// Whether a name contains a star.
 fn has_star(name: &str) -> bool
     ensures { result ≡ has_star name.now }
 {
     find_byte(name.as_bytes(), b'*').is_some()
 }
 
-/// Whether no name of a map holds a star: then none is extended, and none has a number.
+/// Whether no name of a map contains a star: then none is extended, and none has a number.
 fn is_star_free(pairs: &BTreeMap<String, String>) -> bool
     ensures { result ≡ not (list_any has_star (names_in pairs.now)) }
 {
@@ -189,8 +203,8 @@ fn is_star_free(pairs: &BTreeMap<String, String>) -> bool
     !starred
 }
 
-/// The parameters that pairs of a key and a value give: extended values are read, and sections are
-/// joined. Where no key holds a star, they are the pairs.
+/// Returns the parameters of pairs of a key and a value: extended values are read, and sections are
+/// joined. If no key contains a star, the parameters are the pairs.
 pub(super) fn resolve<K: KnownCharsets>(
     alloc: Global,
     pairs: BTreeMap<String, String>,

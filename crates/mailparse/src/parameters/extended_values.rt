@@ -1,6 +1,7 @@
 //! Extended values, whose keys end in `*`: a charset, a language and percent pairs (RFC 2231,
 //! section 4).
 ghost use Rattle.std.specs.Prelude.{◌≡◌, ◌<◌, ℕ, List, length, map, option_map, IfOk, if◌then◌else◌};
+ghost use Rattle.std.specs.Cow.{cow_slice_items};
 ghost use Rattle.std.specs.List.{All};
 ghost use Rattle.std.specs.Option.{is_some};
 ghost use Rattle.mailparse.specs.ExtendedValues.{reading_of, section_at, text_in};
@@ -8,7 +9,6 @@ ghost use Rattle.mailparse.specs.Pairs.{text_at};
 ghost use Rattle.mailparse.specs.private.ExtendedValues.{IsReading, extended_section, extended_view, names_read, read_section, reading_by, reading_view};
 ghost use Rattle.mailparse.specs.private.Filled.{holds_name};
 ghost use Rattle.mailparse.specs.private.Sections.{section_view, stored_section};
-ghost use Rattle.percent_encoding.specs.Percent.{percent_decode};
 
 mod charset_sources;
 mod names;
@@ -19,9 +19,11 @@ use super::sections::{Section, Sections, numbered};
 use mail_codec::charset::{Decode, KnownCharsets};
 use percent_encoding::percent_decode;
 use std::alloc::{AllocError, Global};
+use std::borrow::CowSlice;
 use std::collections::BTreeMap;
 
-/// What stands after the first two apostrophes of an extended value; nothing where there are fewer.
+/// Returns the text after the first two apostrophes of an extended value, or `""` if there are
+/// fewer.
 fn text_in(value: &str) -> &str
     ensures { result.now ≡ text_in value.now }
 {
@@ -34,52 +36,44 @@ fn text_in(value: &str) -> &str
     }
 }
 
-/// The bytes that percent pairs write.
-fn octets_of(alloc: Global, encoded: &str) -> Result<Vec<u8>, AllocError>
-    ensures { IfOk result (λ bytes. bytes.items ≡ percent_decode encoded.now) }
-{
-    let mut bytes = Vec::new(alloc);
-    percent_decode(encoded.as_bytes()).append_to(&mut bytes)?;
-    Ok(bytes)
-}
-
-/// What stands at a name whose extended value has these bytes in this charset.
+/// Returns the section of a name whose extended value has these bytes in this charset.
 fn extended_section<C: Decode>(
     alloc: Global,
     name: &str,
     charset: C,
-    bytes: Vec<u8>,
+    bytes: CowSlice<'_, u8>,
 ) -> Result<Section<C>, AllocError>
     ensures { IfOk result (λ section. section_view C.text section
-        ≡ extended_section name.now (C.text charset) bytes.items) }
+        ≡ extended_section name.now (C.text charset) (cow_slice_items bytes.entry)) }
 {
     if numbered(name).is_some() {
-        return Ok(Section::Octets(charset, bytes));
+        return Ok(Section::Octets(charset, bytes.into_owned(alloc)?));
     }
     let text = charset.decode_without_bom_handling(alloc, bytes.as_slice())?;
     Ok(Section::Text(text))
 }
 
-/// The percent pairs of an extended value: where the name is its own charset source, without the
-/// label and the language.
+/// Returns the part of an extended value that is percent-encoded: if the name is its own charset
+/// source, the label and the language come before it.
 fn encoded_in(value: &str, is_own_source: bool) -> &str
     ensures { result.now ≡ (if is_own_source then text_in value.now else value.now) }
 {
     if is_own_source { text_in(value) } else { value }
 }
 
-/// How the extended value of a name is read.
+/// How to read the extended value of a name.
 #[derive(Drop)]
 struct Reading<C: Decode> {
     /// The name, without the star.
     name: String,
-    /// The charset that the value of its charset source names.
+    /// The charset named by the value of its charset source.
     charset: C,
     /// Whether the name is its own charset source.
     is_own_source: bool,
 }
 
-/// How the value of the name at a place is read, if the label of its charset source is known.
+/// Returns how to read the value of a name, or `None` if the label of its charset source is not
+/// known.
 fn reading_at<C: Decode>(
     alloc: Global,
     extended: &[ExtendedName<'_, C>],
@@ -101,7 +95,7 @@ fn reading_at<C: Decode>(
     }))
 }
 
-/// How the values of the extended names are read, as far as their labels are known.
+/// Returns how to read the values of the extended names, without those whose label is unknown.
 fn readings<K: KnownCharsets>(
     alloc: Global,
     pairs: &BTreeMap<String, String>,
@@ -127,7 +121,7 @@ fn readings<K: KnownCharsets>(
     Ok(found)
 }
 
-/// What an extended value gives at a name.
+/// Reads an extended value.
 fn read<C: Decode>(
     alloc: Global,
     name: &str,
@@ -138,12 +132,12 @@ fn read<C: Decode>(
     ensures { IfOk result (λ section. section_view C.text section
         ≡ read_section (name.now, C.text charset, is_own_source) value.now) }
 {
-    let bytes = octets_of(alloc, encoded_in(value, is_own_source))?;
+    let bytes = percent_decode(encoded_in(value, is_own_source).as_bytes()).into_cow(alloc)?;
     extended_section(alloc, name, charset, bytes)
 }
 
-/// What stands at each name once the extended values are read. A key that is read leaves the map
-/// before what it gives is written, so that no value is held twice.
+/// Reads the extended values, and returns the entry of each name. A value leaves the map before its
+/// section is inserted, so that it is not kept twice.
 pub(super) fn read_sections<K: KnownCharsets>(
     alloc: Global,
     pairs: BTreeMap<String, String>,

@@ -1,4 +1,4 @@
-//! The pairs of a key and a value that a text has (RFC 2045, section 5.1).
+//! The pairs of a key and a value in a text (RFC 2045, section 5.1).
 ghost use Rattle.std.specs.Prelude.{◌≡◌, IfOk, option_map};
 ghost use Rattle.mailparse.specs.Pairs.{HasTexts, last_of, pair_of, pairs_in};
 ghost use Rattle.mailparse.specs.private.Pairs.{pair_view};
@@ -9,7 +9,7 @@ use crate::ascii_case::lower_case;
 use std::alloc::{AllocError, Global};
 use std::collections::BTreeMap;
 
-/// The key and the value of a segment that holds `=`.
+/// Reads the key and the value of a segment, or returns `None` if it contains no `=`.
 fn pair(alloc: Global, segment: &str) -> Result<Option<(String, String)>, AllocError>
     ensures { IfOk result (λ found. option_map pair_view found ≡ pair_of segment.now) }
 {
@@ -20,8 +20,7 @@ fn pair(alloc: Global, segment: &str) -> Result<Option<(String, String)>, AllocE
     Ok(Some((key, unescape(alloc, value.trim())?)))
 }
 
-/// The pairs of the segments after a semicolon, if there is one, by key; of equal keys the last
-/// stays.
+/// Reads the pairs of the segments in `rest`, by key. Of equal keys the last is kept.
 pub(super) fn pairs(
     alloc: Global,
     rest: Option<&str>,

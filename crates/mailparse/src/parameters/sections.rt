@@ -1,5 +1,5 @@
-//! The sections of values that are cut into numbered ones (RFC 2231, section 3): what stands at a
-//! name, and which number the name has.
+//! The numbered sections into which a value may be split (RFC 2231, section 3), and the numbers in
+//! their names.
 ghost use Rattle.std.specs.Prelude.{◌≡◌, ℕ, List, None, option_map, if◌then◌else◌};
 ghost use Rattle.std.specs.Str.{bytes_eq};
 ghost use Rattle.mailparse.specs.Sections.{is_text, numbered};
@@ -8,26 +8,26 @@ ghost use Rattle.mailparse.specs.private.Sections.{section_view, stored_section}
 use mail_codec::charset::Decode;
 use std::collections::BTreeMap;
 
-/// What stands at a name once the extended values are read.
+/// The entry of a name, after the extended values are read.
 #[derive(Drop)]
 pub(super) enum Section<C: Decode> {
     /// A text.
     Text(String),
-    /// The bytes of an extended section, and the charset that reads them.
+    /// The bytes of an extended section, and their charset.
     Octets(C, Vec<u8>),
 }
 
-/// What stands at each name: what its extended value gives, otherwise its text.
+/// The entry of each name: that of its extended value, otherwise its text.
 #[derive(Drop)]
 pub(super) struct Sections<C: Decode> {
-    /// The texts that were written as they are, by key.
+    /// The texts of values that are not extended, by key.
     pub(super) texts: BTreeMap<String, String>,
-    /// What extended values give, by name.
+    /// The entries of extended values, by name.
     pub(super) extended: BTreeMap<String, Section<C>>,
 }
 
 impl<C: Decode> Sections<C> {
-    /// Whether a text stands at a name.
+    /// Whether the entry of a name is a text.
     pub(super) fn has_text(&self, name: &str) -> bool
         ensures { result ≡ is_text (stored_section C.text self.now name.now) }
     {
@@ -38,7 +38,7 @@ impl<C: Decode> Sections<C> {
         }
     }
 
-    /// Takes what stands at a name.
+    /// Removes the entry of a name and returns it.
     pub(super) fn take(&mut self, name: &str) -> Option<Section<C>>
         ensures taken { option_map (section_view C.text) result ≡ stored_section C.text self.old name.now }
         ensures left { (q : List ℕ) → stored_section C.text self.new q ≡
@@ -55,7 +55,8 @@ impl<C: Decode> Sections<C> {
     }
 }
 
-/// The base and the number of a name: what stands before its last star, and the number after it.
+/// Splits a name at its last star into the base before it and the number after it. Returns `None`
+/// if there is no star or no number.
 pub(super) fn numbered(name: &str) -> Option<(&str, u64)>
     ensures { option_map (λ n. (n.0.now, n.1)) result ≡ numbered name.now }
 {

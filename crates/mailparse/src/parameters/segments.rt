@@ -1,4 +1,4 @@
-//! The segments of a text that has parameters, and quoted texts (RFC 2045, section 5.1).
+//! Splits a text with parameters into segments, and reads quoted texts (RFC 2045, section 5.1).
 ghost use Rattle.std.specs.Prelude.{◌≡◌, ◌==◌, ◌∷◌, ◌<◌, ◌≤◌, false, true, length, IfOk, IfSome, MatchOption};
 ghost use Rattle.std.specs.Str.{chars, encode_utf8_all};
 ghost use Rattle.std.specs.String.{string_bytes};
@@ -9,7 +9,7 @@ ghost use Rattle.mailparse.specs.private.Segments.{plain_len, quote_state, segme
 use mail_codec::bytescan::find_byte;
 use std::alloc::{AllocError, Global};
 
-/// The state of a byte in a text.
+/// The state of a byte in a text with quoted runs.
 #[derive(Clone, Copy)]
 enum QuoteState {
     /// Outside of all quoted runs.
@@ -57,18 +57,18 @@ impl QuoteState {
     }
 }
 
-/// How many bytes stand before the first `byte`, or the length if it is absent.
+/// Returns the offset of the first `byte`, or the length if it is absent.
 fn length_before(bytes: &[u8], byte: u8) -> usize
     ensures least { result ≡ first_place (begins (λ b. b == byte)) bytes.now }
     ensures bounds { result ≤ length bytes.now }
 {
     match find_byte(bytes, byte) {
-        Some(place) => place,
+        Some(offset) => offset,
         None => bytes.len(),
     }
 }
 
-/// How many bytes at the front are neither a quote nor a semicolon.
+/// Returns the number of leading bytes that are neither a quote nor a semicolon.
 fn plain_len(bytes: &[u8]) -> usize
     ensures plain { result ≡ plain_len bytes.now }
     ensures bounds { result ≤ length bytes.now }
@@ -77,8 +77,7 @@ fn plain_len(bytes: &[u8]) -> usize
     length_before(&bytes[..end], b'"')
 }
 
-/// The first segment of a text, and what stands after its semicolon, if it has one. Takes no
-/// memory.
+/// Returns the first segment of a text, and the text after its semicolon if it ends in one.
 pub(super) fn cut_segment(text: &str) -> (&str, Option<&str>)
     ensures cut { segments text.now ≡ result.0.now ∷ segments_of_rest result.1 }
     ensures shorter { IfSome result.1 (λ rest. length rest.now < length text.now) }
@@ -94,25 +93,19 @@ pub(super) fn cut_segment(text: &str) -> (&str, Option<&str>)
     (text, None)
 }
 
-/// What stands between the quotes of a text that begins and ends with one.
+/// Returns the text between the quotes, or `None` if the text does not begin and end with one.
 fn inside_quotes(text: &str) -> Option<&str>
     ensures { MatchOption result (is_quoted text.now ≡ false)
         (λ inside. (is_quoted text.now ≡ true) × (inside.now ≡ inside_quotes text.now)) }
 {
-    if text.len() < 2 {
-        return None;
-    }
-    if !text.starts_with('"') {
-        return None;
-    }
-    if !text.ends_with('"') {
+    if text.len() < 2 || !text.starts_with('"') || !text.ends_with('"') {
         return None;
     }
     Some(&text[1..text.len() - 1])
 }
 
-/// The text that a text stands for: a quoted one for what stands between its quotes, without the
-/// backslashes that escape, any other text for itself.
+/// Returns the contents of a quoted text, without the backslashes that escape; any other text is
+/// returned as it is.
 #[tactic(auto, unfolding(crate::specs::Segments::unescape))]
 pub(super) fn unescape(alloc: Global, text: &str) -> Result<String, AllocError>
     ensures { IfOk result (λ plain. string_bytes plain ≡ unescape text.now) }
@@ -123,7 +116,7 @@ pub(super) fn unescape(alloc: Global, text: &str) -> Result<String, AllocError>
     }
 }
 
-/// A text without the backslashes that no backslash escapes.
+/// Returns a text without the backslashes that are not escaped themselves.
 fn without_escapes(alloc: Global, text: &str) -> Result<String, AllocError>
     ensures { IfOk result (λ plain.
         string_bytes plain ≡ encode_utf8_all (without_escapes 0 (chars text.now))) }

@@ -1,4 +1,4 @@
-//! The charset source of each extended name.
+//! Finds the charset source of each extended name.
 ghost use Rattle.std.specs.Prelude.{◌≡◌, ◌≤◌, ◌<◌, ◌-◌, ℕ, length, map, slice_index_or, IfOk, if◌then◌else◌};
 ghost use Rattle.mailparse.specs.private.CharsetSources.{AreInOrder, source_place, name_at, shared_len, shared_lens, is_candidate_for};
 ghost use Rattle.mailparse.specs.private.ExtendedValues.{names_of};
@@ -7,7 +7,7 @@ use super::names::ExtendedName;
 use mail_codec::charset::Decode;
 use std::alloc::{AllocError, Global};
 
-/// How many bytes two names share at the front.
+/// Returns the length of the common prefix of two names.
 fn shared_len(left: &[u8], right: &[u8]) -> usize
     ensures { result ≡ shared_len left.now right.now }
 {
@@ -17,8 +17,8 @@ fn shared_len(left: &[u8], right: &[u8]) -> usize
         .count()
 }
 
-/// How many bytes each name shares with the next, so that long names that begin alike are compared
-/// once and not for each candidate.
+/// Returns the length of the common prefix of each name and the next, so that long names with a
+/// common prefix are compared once and not for each candidate.
 fn shared_lens<C: Decode>(
     alloc: Global,
     extended: &[ExtendedName<'_, C>],
@@ -31,7 +31,8 @@ fn shared_lens<C: Decode>(
     Ok(shared)
 }
 
-/// The first place from which on, up to a place, each name shares so many bytes with the next.
+/// Returns the least index from which on, up to `place`, each name shares `len` bytes with the
+/// next.
 fn first_with(shared: &[usize], place: usize, len: usize) -> usize
     requires within { place ≤ length shared.now }
     ensures bounds { result ≤ place }
@@ -45,7 +46,8 @@ fn first_with(shared: &[usize], place: usize, len: usize) -> usize
     first
 }
 
-/// The last place up to which, from a place on, each name shares so many bytes with the next.
+/// Returns the greatest index up to which, from `place` on, each name shares `len` bytes with the
+/// next.
 fn last_with(shared: &[usize], place: usize, len: usize) -> usize
     requires within { place ≤ length shared.now }
     ensures bounds { (place ≤ result) × (result ≤ length shared.now) }
@@ -59,7 +61,7 @@ fn last_with(shared: &[usize], place: usize, len: usize) -> usize
     last
 }
 
-/// The list 0, 1 and so on up to `count - 1`: at first each name is its own source.
+/// Returns the list of 0 to `count - 1`: at first each name is its own source.
 fn own_places(alloc: Global, count: usize) -> Result<Vec<usize>, AllocError>
     ensures len { IfOk result (λ places. length places.items ≡ count) }
     ensures own { IfOk result (λ places. (k : ℕ) → k < count → slice_index_or places.items k 0
@@ -92,8 +94,8 @@ fn write_range(places: &mut Vec<usize>, first: usize, end: usize, place: usize)
     }
 }
 
-/// Where the name at a place is that of an initial section, offers it as the charset source of
-/// those that begin with it, less its last byte.
+/// If the name at `place` is that of an initial section, makes it the charset source of the names
+/// that begin with it, less its last byte.
 fn offer<C: Decode>(
     extended: &[ExtendedName<'_, C>],
     shared: &[usize],
@@ -102,7 +104,7 @@ fn offer<C: Decode>(
 )
     requires within { place < length extended.now }
     requires shared { shared.now ≡ shared_lens extended.now }
-    requires room { length places.old.items ≡ length extended.now }
+    requires capacity { length places.old.items ≡ length extended.now }
     ensures len { length places.new.items ≡ length places.old.items }
     ensures offered { AreInOrder (names_of extended.now) → (k : ℕ) → k < length extended.now →
         slice_index_or places.new.items k 0
@@ -120,7 +122,8 @@ fn offer<C: Decode>(
     write_range(places, first, last + 1, place);
 }
 
-/// The place of the charset source of each name: of its last candidate, otherwise its own.
+/// Returns the index of the charset source of each name: that of its last candidate, otherwise its
+/// own.
 pub(super) fn charset_sources<C: Decode>(
     alloc: Global,
     extended: &[ExtendedName<'_, C>],

@@ -16,21 +16,21 @@ use std::collections::BTreeMap;
 pub(super) struct ExtendedName<'a, C: Decode> {
     /// The name, without the star.
     pub(super) name: &'a str,
-    /// Its extended value, which stands at the starred key.
+    /// Its extended value, that of the starred key.
     pub(super) value: &'a str,
-    /// The charset that this value names.
+    /// The charset named by this value.
     pub(super) charset: Option<C>,
 }
 
-/// A key without the star that it ends in.
+/// Returns a key without the star at its end, or `None` if it does not end in one.
 fn without_star(key: &str) -> Option<&str>
     ensures { option_map (λ name. name.now) result ≡ star_taken key.now }
 {
     key.strip_suffix('*')
 }
 
-/// The charset whose label stands before the first apostrophe of a value, or is the whole value
-/// where it has none.
+/// Returns the charset whose label comes before the first apostrophe of a value; without an
+/// apostrophe, the whole value is the label.
 fn charset_in<K: KnownCharsets>(value: &str, known: &K) -> Option<K::Decoder>
     ensures { option_map K.Decoder.text result ≡ K.known known.now (label_in value.now) }
 {
@@ -41,7 +41,7 @@ fn charset_in<K: KnownCharsets>(value: &str, known: &K) -> Option<K::Decoder>
     known.for_label(label.as_bytes())
 }
 
-/// The extended names, in the order of their starred keys.
+/// Returns the extended names, in the order of their starred keys.
 pub(super) fn extended_names<'a, K: KnownCharsets>(
     alloc: Global,
     pairs: &'a BTreeMap<String, String>,

@@ -1,4 +1,4 @@
--- The bases of the names so far were added.
+-- The bases of the names so far were appended.
 use Rattle.std.proofs.Common.{◌≡◌, ◌++◌, map}
 use Rattle.std.specs.String.{string_bytes}
 use Rattle.mailparse.specs.private.Continuations.{bases_of_sections_0}

@@ -1,4 +1,4 @@
--- Whether one of the names so far holds a star.
+-- Whether one of the names so far contains a star.
 use Rattle.std.proofs.Common.{◌≡◌, map}
 use Rattle.std.specs.List.{list_any}
 use Rattle.mailparse.specs.private.Continuations.{has_star}

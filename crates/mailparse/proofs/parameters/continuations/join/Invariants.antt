@@ -1,4 +1,4 @@
--- The sections so far and those from the number on are all, and those so far were taken.
+-- The sections so far and those from the number on are all sections, and those so far were removed.
 use Rattle.std.proofs.Common.{◌≡◌, ◌≤◌, ◌-◌, ◌+◌, ℕ, List, length}
 use Rattle.mailparse.specs.Continuations.{joined, most_sections}
 use Rattle.mailparse.specs.private.Continuations.{joined_with, without_sections}

@@ -6,13 +6,12 @@ use Rattle.mailparse.specs.private.Continuations.{joined_text, left_by, without_
 use Rattle.mailparse.specs.private.Sections.{stored_section}
 use Rattle.mailparse.specs.Pairs.{text_at}
 use Rattle.mailparse.specs.private.Filled.{holds_name}
-use Rattle.mailparse.proofs.lemmas.Filled.{stored}
 use Rattle.mailparse.proofs.lemmas.ExtendedValues.{is_some_map}
 use Rattle.mailparse.proofs.lemmas.ContinuationsTaken.{all_sections, joined_again, joined_known, joined_next, left_again, left_next}
 use Rattle.mailparse.proofs.parameters.continuations.joined_bases.Goals as goal
 
-pub loop-base-preserved-in_ok-insert-2 : goal.loop-base-preserved-in_ok-insert-2
-loop-base-preserved-in_ok-insert-2 g c =
+pub loop-base-preserved-in-Continue-branch-2 : goal.loop-base-preserved-in-Continue-branch-2
+loop-base-preserved-in-Continue-branch-2 g c =
     let at = stored_section g.C.Decode.text c.args.sections.now in
     let now = stored_section g.C.Decode.text c.loop-base.sections in
     let base = string_bytes c.in-Some.base in
@@ -26,7 +25,7 @@ loop-base-preserved-in_ok-insert-2 g c =
       texts = λ q.
           joined_next at bases base q (string_bytes c.in_ok-text.text) (text_at c.loop-base.texts q) _ (c.loop-base.invariant.texts q)
           (c.in_ok-text.ensures.text ∙ ap (λ n. joined (sections_of now n)) key ∙ ap joined (all_sections at now bases base other c.loop-base.invariant.left))
-          (stored string_bytes base c.loop-base.texts c.insert.new.self c.in_ok-text.text c.in_ok-insert.ensures.updates q)
+          (c.in_ok-put_text.ensures q)
           ∙ ap (λ bs. joined_text at bs q) pushed;
       left = λ q.
           left_next at now bases base q _ other c.loop-base.invariant.left

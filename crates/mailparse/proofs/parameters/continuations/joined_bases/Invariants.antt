@@ -1,4 +1,4 @@
--- The sections of the bases so far were joined, and taken.
+-- The sections of the bases so far were joined, and removed.
 use Rattle.std.proofs.Common.{◌≡◌, ℕ, List, map}
 use Rattle.std.specs.String.{string_bytes}
 use Rattle.mailparse.specs.Pairs.{text_at}

@@ -12,27 +12,9 @@ use Rattle.mailparse.specs.private.Sections.{section_view, sections_at}
 use Rattle.mailparse.specs.Pairs.{text_at}
 use Rattle.mailparse.specs.private.Filled.{filled, holds_name}
 use Rattle.mailparse.specs.declared.parameters.sections.Section.{Section}
-use Rattle.mailparse.proofs.lemmas.Filled.{filled_all, filled_push, stored, taken_name}
+use Rattle.mailparse.proofs.lemmas.Filled.{filled_all, filled_push, taken_name}
 use Rattle.mailparse.proofs.lemmas.Sections.{names_taken, unnamed}
 use Rattle.mailparse.proofs.parameters.continuations.put_extended.Goals as goal
-
-pub loop-name-preserved-in_ok-insert : goal.loop-name-preserved-in_ok-insert
-loop-name-preserved-in_ok-insert g c = λ q.
-    let t = text_at c.args.texts.now in
-    let p = sections_at g.C.Decode.text c.args.extended in
-    let name = string_bytes c.in-Some.name in
-    let names = map taken_name c.loop-name.yielded in
-    let e : String Global × Section g.row.C.Denot = (c.in-Some.name, c.in-Some.section) in
-    let gives = c.into_iter-name-iterator.ensures.into_iter_gives in
-    let turn : get string_cmp c.args.extended c.in-Some.name ≡ Some c.in-Some.section =
-    All-turn (λ x. x) (λ (e : String Global × Section g.row.C.Denot). get string_cmp c.args.extended e.0 ≡ Some e.1) c.args.extended.entries c.loop-name.yielded _ _ _ _ _
-    (All-found string_cmp_total c.args.extended gives.5) gives.0 c.loop-name.yielded_by c.in-Some.is c.next.ensures.steps in
-    let is = ap (λ o. option_or (option_map alone (option_map (section_view g.C.Decode.text) o)) (t name)) turn in
-    filled_push (λ z. option_or (option_map alone (p z)) (t z)) t names name q (text_at c.loop-name.texts q) _ (c.loop-name.invariant q)
-    (stored string_bytes name c.loop-name.texts c.insert.new.self c.in_ok-text_alone.field-0 c.in_ok-insert.ensures.updates q
-    ∙ ap (λ v. cond (bytes_eq name q) (Some v) (text_at c.loop-name.texts q)) c.in_ok-text_alone.ensures
-    ∙ ap (λ o. cond (bytes_eq name q) o (text_at c.loop-name.texts q)) (sym is))
-    ∙ ap (λ ns. filled (λ z. option_or (option_map alone (p z)) (t z)) t ns q) (sym (map_push taken_name c.loop-name.yielded e))
 
 pub loop-name-preserved : goal.loop-name-preserved
 loop-name-preserved g c = λ q.
@@ -47,7 +29,7 @@ loop-name-preserved g c = λ q.
     (All-found string_cmp_total c.args.extended gives.5) gives.0 c.loop-name.yielded_by c.in-Some.is c.next.ensures.steps in
     let is = ap (λ o. option_or (option_map alone (option_map (section_view g.C.Decode.text) o)) (t name)) turn in
     filled_push (λ z. option_or (option_map alone (p z)) (t z)) t names name q (text_at c.loop-name.texts q) _ (c.loop-name.invariant q)
-    (stored string_bytes name c.loop-name.texts c.insert.new.self c.in_ok-text_alone.field-0 c.in_ok-insert.ensures.updates q
+    (c.in_ok-put_text.ensures q
     ∙ ap (λ v. cond (bytes_eq name q) (Some v) (text_at c.loop-name.texts q)) c.in_ok-text_alone.ensures
     ∙ ap (λ o. cond (bytes_eq name q) o (text_at c.loop-name.texts q)) (sym is))
     ∙ ap (λ ns. filled (λ z. option_or (option_map alone (p z)) (t z)) t ns q) (sym (map_push taken_name c.loop-name.yielded e))

@@ -10,13 +10,13 @@ use Rattle.std.specs.String.{string_bytes, string_cmp, string_cmp_total}
 use Rattle.mailparse.specs.Pairs.{text_at}
 use Rattle.mailparse.specs.private.Filled.{filled, holds_name}
 use Rattle.mailparse.proofs.lemmas.ContinuationsBases.{base_kept, base_put}
-use Rattle.mailparse.proofs.lemmas.Filled.{filled_all, filled_push, stored, taken_name}
+use Rattle.mailparse.proofs.lemmas.Filled.{filled_all, filled_push, taken_name}
 use Rattle.mailparse.proofs.lemmas.Sections.{names_taken, or_none, unnamed}
 use Rattle.mailparse.proofs.lemmas.ExtendedValues.{is_some_map}
 use Rattle.mailparse.proofs.parameters.continuations.put_joined.Goals as goal
 
-pub loop-base-preserved-in_ok-insert-2 : goal.loop-base-preserved-in_ok-insert-2
-loop-base-preserved-in_ok-insert-2 c = λ q.
+pub loop-base-preserved-in-Continue-1 : goal.loop-base-preserved-in-Continue-1
+loop-base-preserved-in-Continue-1 c = λ q.
     let t = text_at c.args.texts.now in
     let b = text_at c.args.bases in
     let name = string_bytes c.in-Some.base in
@@ -28,7 +28,7 @@ loop-base-preserved-in_ok-insert-2 c = λ q.
     (All-found string_cmp_total c.args.bases gives.5) gives.0 c.loop-base.yielded_by c.in-Some.is c.next.ensures.steps in
     let absent = ap (λ n. is_some (text_at c.loop-base.texts n)) (sym c.as_str.ensures.value) ∙ is_some_map string_bytes _ ∙ sym c.if-not-contains_key.ensures in
     filled_push (λ z. option_or (t z) (b z)) t names name q (text_at c.loop-base.texts q) _ (c.loop-base.invariant q)
-    (stored string_bytes name c.loop-base.texts c.insert.new.self c.in-Some.text c.in_ok-insert.ensures.updates q
+    (c.in_ok-put_text.ensures q
     ∙ ap (λ o. cond (bytes_eq name q) o (text_at c.loop-base.texts q)) (sym (base_put t b names name (string_bytes c.in-Some.text) _ (c.loop-base.invariant name) absent (ap (option_map string_bytes) turn))))
     ∙ ap (λ ns. filled (λ z. option_or (t z) (b z)) t ns q) (sym (map_push taken_name c.loop-base.yielded e))
 

@@ -1,4 +1,4 @@
--- The bases so far have their texts, where none stood.
+-- The bases so far have their texts, unless they had one before.
 use Rattle.std.proofs.Common.{◌≡◌, ℕ, List, map}
 use Rattle.std.specs.Option.{option_or}
 use Rattle.mailparse.specs.Pairs.{text_at}

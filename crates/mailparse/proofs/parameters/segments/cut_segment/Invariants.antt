@@ -1,4 +1,4 @@
--- The bytes before `at` stand in front of the first segment from there on.
+-- The bytes before `at` come before the first segment from there on.
 use Rattle.std.proofs.Common.{◌≤◌, length}
 use Rattle.mailparse.specs.private.Segments.{quote_state}
 use Rattle.mailparse.proofs.lemmas.Segments.{Reaches}

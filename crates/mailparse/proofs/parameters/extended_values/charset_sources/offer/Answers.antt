@@ -33,4 +33,4 @@ pub write_range-requires-clause-within : goal.write_range-requires-clause-within
 write_range-requires-clause-within g c =
     let same = ap length c.requires.shared in
     let long = long_shared c.args.extended.now in
-    omega (arith, c.last_with-last.ensures.bounds.1, same, long, c.requires.room, c.requires.within)
+    omega (arith, c.last_with-last.ensures.bounds.1, same, long, c.requires.capacity, c.requires.within)

@@ -1,4 +1,4 @@
--- The places so far stand at themselves.
+-- Each index so far is its own entry.
 use Rattle.std.proofs.Common.{◌≡◌, ◌≤◌, ◌<◌, ◌-◌, ℕ, length}
 use Rattle.std.specs.List.{slice_index_or}
 use Rattle.mailparse.proofs.parameters.extended_values.charset_sources.own_places.Given as goal

@@ -1,4 +1,4 @@
--- The place stands at those so far, and the others are as they were.
+-- The entries so far are `place`, and the others are unchanged.
 use Rattle.std.proofs.Common.{◌≡◌, ◌≤◌, ◌<◌, ◌-◌, ℕ, length}
 use Rattle.std.specs.List.{slice_index_or}
 use Rattle.mailparse.proofs.parameters.extended_values.charset_sources.write_range.Given as goal
