@@ -1,4 +1,4 @@
--- The body of a message: the transfer encoding that it is in (RFC 2045, section 6), its bytes and its text.
+-- The body of a message: its transfer encoding (RFC 2045, section 6), its bytes and its text.
 use Rattle.std.specs.Prelude.{ℕ, Bool, true, false, List, codes, Option, Some, None, Result, Ok, Err, if◌then◌else◌}
 use Rattle.std.specs.Option.{option_map_or}
 use Rattle.std.specs.Str.{bytes_eq}
@@ -12,7 +12,7 @@ use Rattle.mailparse.specs.Refusal.{◌>>=◌, Reads, base64_fault}
 pub data BodyKind : Type 0 where
   in_base64 in_quoted_printable in_7bit in_8bit in_binary : BodyKind
 
--- the encoding that a text names, exactly so and in lower case; any other text, and none, means 7bit
+-- the encoding with exactly this name, in lower case; any other name, or none, means 7bit
 unfoldable pub kind_named : Option (List ℕ) → BodyKind
 kind_named None = in_7bit
 kind_named (Some name) =
@@ -22,7 +22,7 @@ kind_named (Some name) =
     else (if bytes_eq name (codes "binary") then in_binary
     else in_7bit)))
 
--- the body is encoded: its bytes do not stand for themselves
+-- whether a body of this kind has to be decoded
 abbrev pub is_encoded : BodyKind → Bool
 is_encoded in_base64 = true
 is_encoded in_quoted_printable = true
@@ -30,12 +30,12 @@ is_encoded in_7bit = false
 is_encoded in_8bit = false
 is_encoded in_binary = false
 
--- what is read or refused as Base64
+-- the bytes decoded from Base64, or the refusal
 abbrev pub base64_bytes : Result (List ℕ) ℕ → Reads (List ℕ)
 base64_bytes (Ok bytes) = Ok bytes
 base64_bytes (Err group) = Err (base64_fault group)
 
--- the bytes that a body stands for: in Base64, where ASCII whitespace is ignored, in quoted-printable, or as it is
+-- the decoded bytes of a body: from Base64, where ASCII whitespace is ignored, from quoted-printable, or the body itself
 unfoldable pub decoded : BodyKind → List ℕ → Reads (List ℕ)
 decoded in_base64 body = base64_bytes (base64 (without_ascii_whitespace body))
 decoded in_quoted_printable body = Ok (quoted_printable body)
@@ -45,11 +45,11 @@ decoded in_binary body = Ok body
 
 -- Under the charsets that are known.
 module _ (known : Charsets) where
-  -- the text of bytes under the label of a charset: a byte order mark decides first; under an unknown label they are ASCII
+  -- the text of bytes in the charset with this label: a byte order mark takes precedence; under an unknown label they are ASCII
   unfoldable pub text_under_in : List ℕ → List ℕ → List ℕ
   text_under_in label bytes = option_map_or (λ reading. marked reading bytes) (known label) (ascii_text bytes)
 
-  -- the text of a body under the label of a charset
+  -- the text of a body in the charset with this label
   unfoldable pub decoded_text_in : BodyKind → List ℕ → List ℕ → Reads (List ℕ)
   decoded_text_in kind label body = do
     bytes ← decoded kind body

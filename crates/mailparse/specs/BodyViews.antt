@@ -1,4 +1,4 @@
--- What a contract sees of the bodies of the library.
+-- The bodies of the library, as contracts see them.
 use Rattle.std.specs.Prelude.{◌≡◌, ℕ, List, Option, Some, None, String}
 use Rattle.std.specs.String.{string_bytes}
 use Rattle.std.specs.Global.{Global}
@@ -15,25 +15,25 @@ use Rattle.mailparse.specs.declared.body.encoded.EncodedBody.{EncodedBody}
 use Rattle.mailparse.specs.declared.body.text.TextBody.{TextBody}
 use Rattle.mailparse.specs.declared.body.binary.BinaryBody.{BinaryBody}
 
--- what a body was made of: its bytes as they stand in the message, and the type of its content
+-- the content of a body: its bytes as they appear in the message, and its content type
 pub record Content : Type 0 where
   pub raw : List ℕ
   pub ctype : ContentType
 
--- what is the same in all bodies
+-- the content of the code, as the definitions have it
 abbrev pub content : BodyContent → Content
 content c = record { raw = c.raw.now; ctype = content_type c.ctype.now }
 
--- what the body of a message is made of
+-- the content of the body of a message
 abbrev pub content_of : Node → Content
 content_of node = record { raw = node.body; ctype = node.ctype }
 
--- the transfer encoding of the library's value for it
+-- the transfer encoding of an encoded body of the code
 abbrev pub encoding_kind : Encoding → BodyKind
 encoding_kind encoding.Base64 = in_base64
 encoding_kind encoding.QuotedPrintable = in_quoted_printable
 
--- the transfer encoding that an encoded body is in
+-- the transfer encoding of an encoded body
 abbrev pub encoded_kind : EncodedBody → BodyKind
 encoded_kind b = encoding_kind b.encoding
 
@@ -65,12 +65,12 @@ kind_of (SevenBit b) = in_7bit
 kind_of (EightBit b) = in_8bit
 kind_of (Binary b) = in_binary
 
--- the text that names a transfer encoding, if there is one
+-- the name of a transfer encoding, if there is one
 abbrev pub name_of : Option (String Global) → Option (List ℕ)
 name_of None = None
 name_of (Some name) = Some (string_bytes name)
 
--- a body is of this kind and has this content
+-- a body has this transfer encoding and this content
 abbrev pub IsBody : BodyKind → Content → Body → Type 0
 IsBody kind given (Base64 b) = (kind ≡ in_base64) × (encoded_kind b ≡ in_base64) × (encoded_content b ≡ given)
 IsBody kind given (QuotedPrintable b) = (kind ≡ in_quoted_printable) × (encoded_kind b ≡ in_quoted_printable) × (encoded_content b ≡ given)

@@ -1,4 +1,4 @@
--- The type of a message's content: RFC 2045, sections 5 and 5.2, as this crate reads it.
+-- The content type of a message: RFC 2045, sections 5 and 5.2, as this crate reads it.
 use Rattle.std.specs.Prelude.{ℕ, List, codes, unwrap_or}
 use Rattle.std.specs.Str.{str_to_ascii_lowercase}
 use Rattle.mail_codec.specs.Charset.{Charsets, four_charsets}
@@ -19,7 +19,7 @@ default_charset = codes "us-ascii"
 abbrev pub default_type : ContentType
 default_type = record { mimetype = codes "text/plain"; charset = default_charset; params = no_texts }
 
--- the charset that parameters name: the parameter of that name
+-- the charset of some parameters: the parameter `charset`
 abbrev pub charset_named : Texts → List ℕ
 charset_named params = unwrap_or (params (codes "charset")) default_charset
 
@@ -29,10 +29,10 @@ type_with mimetype params = record { mimetype = mimetype; charset = charset_name
 
 -- Under the charsets that are known.
 module _ (known : Charsets) where
-  -- the type that a text names: its value in lower case, and its parameters
+  -- the type in a text: its value in lower case, and its parameters
   unfoldable pub content_type_in : List ℕ → ContentType
   content_type_in text = type_with (str_to_ascii_lowercase (value_of text)) (parameters_in known (pairs_of text))
 
--- the type that a text names
+-- the same under the four charsets
 abbrev pub content_type_of : List ℕ → ContentType
 content_type_of text = content_type_in four_charsets text

@@ -1,7 +1,7 @@
--- The delimiters that cut the body of a message into parts, and the ranges of the parts (RFC 2046, section 5.1.1, read as
--- leniently as mail is written). The dash-boundary is `--` and the boundary; a line that begins with it is a delimiter, and what
--- else stands on the line counts only for which delimiter is the close-delimiter. The preamble stands before the first
--- delimiter; the epilogue follows the close-delimiter and is in no part. Places are counted from the first of the bytes.
+-- The delimiters between the parts of a message's body, and the ranges of the parts (RFC 2046, section 5.1.1, read as leniently
+-- as mail is written). The dash-boundary is `--` and the boundary; a line that begins with it is a delimiter, and the rest of the
+-- line matters only for which delimiter is the close-delimiter. The preamble comes before the first delimiter; the epilogue
+-- follows the close-delimiter and is in no part. Offsets are counted from the first byte.
 use Rattle.std.specs.Prelude.{ℕ, zero, suc, ◌+◌, ◌-◌, Bool, ◌||◌, ◌&&◌, ◌==◌, nat_lt, List, length, drop, map, filter_map, Option, Some, None, option_map, codes, if◌then◌else◌}
 use Rattle.std.specs.Option.{option_map_or}
 use Rattle.mail_codec.specs.Ascii.{line_feed, carriage_return}
@@ -10,17 +10,17 @@ use Rattle.mailparse.specs.Header.{is_line_feed}
 use Rattle.mailparse.specs.Options.{◌>>=◌}
 use Rattle.mailparse.specs.Ranges.{Range}
 
--- the least place at or after a start and before an end that passes the test, where there is one
+-- the least offset at or after a start and before an end that passes the test, if there is one
 abbrev pub least_from : (ℕ → Bool) → ℕ → ℕ → Option ℕ
 least_from test start end =
     let k = least (λ n. test (start + n)) (end - start) in
     if nat_lt k (end - start) then Some (start + k) else None
 
--- a line starts at p: p is the start itself, or a LF stands before it
+-- a line starts at p: p is the start itself, or a LF comes before it
 abbrev pub starts_line : List ℕ → ℕ → ℕ → Bool
 starts_line bytes start p = p == start || begins is_line_feed (drop (p - 1) bytes)
 
--- a delimiter stands at p: the dash-boundary stands there, and a line starts there
+-- a delimiter is at p: a line starts there, and begins with the dash-boundary
 abbrev pub is_delimiter : List ℕ → List ℕ → ℕ → ℕ → Bool
 is_delimiter dash_boundary bytes start p = starts_line bytes start p && has_prefix dash_boundary (drop p bytes)
 
@@ -28,11 +28,11 @@ is_delimiter dash_boundary bytes start p = starts_line bytes start p && has_pref
 unfoldable pub delimiter_from : List ℕ → List ℕ → ℕ → Option ℕ
 delimiter_from dash_boundary bytes start = least_from (is_delimiter dash_boundary bytes start) start (length bytes)
 
--- the place after the next LF at or after p
+-- the offset after the first LF at or after p
 abbrev pub line_after : List ℕ → ℕ → Option ℕ
 line_after bytes p = option_map (λ k. suc (p + k)) (byte_place (drop p bytes) line_feed)
 
--- where the part after the delimiter at p starts: on the line after it
+-- the start of the part after the delimiter at p: the line after it
 abbrev pub part_after : List ℕ → List ℕ → ℕ → Option ℕ
 part_after dash_boundary bytes p = line_after bytes (p + length dash_boundary)
 
@@ -42,42 +42,42 @@ is_close_delimiter dash_boundary bytes p =
     let rest = drop (p + length dash_boundary) bytes in
     nat_lt (length rest) 2 || has_prefix (codes "--") rest
 
--- where the first part starts that follows a preamble from i on: after the first delimiter, which may look like a close-delimiter
+-- the start of the first part after a preamble that starts at i: after the first delimiter, which may look like a close-delimiter
 abbrev pub first_part : List ℕ → List ℕ → ℕ → Option ℕ
 first_part dash_boundary bytes i = do
   p ← delimiter_from dash_boundary bytes i
   part_after dash_boundary bytes p
 
--- where the part starts that follows the part from s on: after its delimiter, unless that is the close-delimiter
+-- the start of the part after the one that starts at s: after its delimiter, unless that is the close-delimiter
 abbrev pub next_part : List ℕ → List ℕ → ℕ → Option ℕ
 next_part dash_boundary bytes s = do
   p ← delimiter_from dash_boundary bytes s
   if is_close_delimiter dash_boundary bytes p then None else part_after dash_boundary bytes p
 
--- where the part with this number starts, if there is one, by where the first one starts
+-- the start of the part with this number, if there is one, given the start of the first
 abbrev pub part_start : List ℕ → List ℕ → Option ℕ → ℕ → Option ℕ
 part_start dash_boundary bytes first zero = first
 part_start dash_boundary bytes first (suc j) = do
   s ← part_start dash_boundary bytes first j
   next_part dash_boundary bytes s
 
--- where the parts start, in order; no part has a number above the number of bytes
+-- the starts of the parts, in order; no part has a number above the number of bytes
 unfoldable pub part_starts : List ℕ → List ℕ → Option ℕ → List ℕ
 part_starts dash_boundary bytes first = filter_map (λ start. start) (values_below (suc (length bytes)) (part_start dash_boundary bytes first))
 
--- a place, or the one before it where that byte stands between a start and the place
+-- p, or p - 1 if the byte there is b and not before the start
 abbrev pub before_byte : ℕ → List ℕ → ℕ → ℕ → ℕ
 before_byte b bytes start p = if nat_lt start p && begins (λ x. x == b) (drop (p - 1) bytes) then p - 1 else p
 
--- a place, less one LF and then one CR before it, but never before a start
+-- p, without one LF and then one CR before it, but never before the start
 abbrev pub before_line_end : List ℕ → ℕ → ℕ → ℕ
 before_line_end bytes start p = before_byte carriage_return bytes start (before_byte line_feed bytes start p)
 
--- where what starts at s ends: before the line end before the next delimiter, otherwise at a given place
+-- the end of a part or preamble that starts at s: before the line end before the next delimiter, otherwise at the given offset
 abbrev pub end_from : List ℕ → List ℕ → ℕ → ℕ → ℕ
 end_from dash_boundary bytes s otherwise = option_map_or (before_line_end bytes s) (delimiter_from dash_boundary bytes s) otherwise
 
--- the range of the preamble from i on: up to the first delimiter; without a delimiter it is empty
+-- the range of the preamble that starts at i: up to the first delimiter; without a delimiter it is empty
 abbrev pub preamble_range : List ℕ → List ℕ → ℕ → Range
 preamble_range dash_boundary bytes i = record { start = i; end = end_from dash_boundary bytes i i }
 
@@ -90,7 +90,7 @@ pub record Cut : Type 0 where
   pub body : Range
   pub parts : List Range
 
--- how the bytes from i on are cut by delimiters: the body is the preamble, and the parts follow; without a delimiter there is neither
+-- how the delimiters split the bytes from i onwards: the body is the preamble, and the parts follow; without a delimiter there is neither
 unfoldable pub cut_parts : List ℕ → List ℕ → ℕ → Cut
 cut_parts dash_boundary bytes i = record {
   body = preamble_range dash_boundary bytes i;

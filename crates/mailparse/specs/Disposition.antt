@@ -6,7 +6,7 @@ use Rattle.mail_codec.specs.Places.{is_empty}
 use Rattle.mailparse.specs.Continuations.{parameters_in}
 use Rattle.mailparse.specs.Pairs.{Texts, no_texts, pairs_of, value_of}
 
--- the kinds of dispositions: the three that have names here, and any other text
+-- the kinds of dispositions: three that have names here, and any other text
 pub data Kind : Type 0 where
   inline attachment form_data : Kind
   extension : List ℕ → Kind
@@ -25,7 +25,7 @@ pub record Disposition : Type 0 where
 abbrev pub default_disposition : Disposition
 default_disposition = record { kind = inline; params = no_texts }
 
--- the kind that a text in lower case names; no text at all means `inline`
+-- the kind with this name, in lower case; an empty text means `inline`
 abbrev pub disposition_named : List ℕ → Kind
 disposition_named name =
     if is_empty name || bytes_eq name (codes "inline") then inline
@@ -35,11 +35,11 @@ disposition_named name =
 
 -- Under the charsets that are known.
 module _ (known : Charsets) where
-  -- the disposition that a text names: its value in lower case tells the kind
+  -- the disposition in a text: its value in lower case is the name of the kind
   unfoldable pub disposition_in : List ℕ → Disposition
   disposition_in text =
       record { kind = disposition_named (str_to_ascii_lowercase (value_of text)); params = parameters_in known (pairs_of text) }
 
--- the disposition that a text names
+-- the same under the four charsets
 abbrev pub disposition_of : List ℕ → Disposition
 disposition_of text = disposition_in four_charsets text

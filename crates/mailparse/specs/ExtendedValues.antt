@@ -1,5 +1,5 @@
--- Extended values, whose keys end in `*`: a charset, a language and percent pairs (RFC 2231, section 4). Which key says the charset
--- where a value is cut into sections is this project's own choice.
+-- Extended values, whose keys end in `*`: a charset, a language and a percent-encoded text (RFC 2231, section 4). Which key names
+-- the charset of a value that is split into sections is this project's own choice.
 use Rattle.std.specs.Prelude.{ℕ, ◌-◌, Bool, not, ◌&&◌, ◌==◌, List, [], ◌∷◌, ◌++◌, length, map, take, Option, Some, None, option_map, if◌then◌else◌}
 use Rattle.std.specs.Cmp.Lexicographic.{slice_cmp}
 use Rattle.std.specs.List.{before_first, after_first, filter}
@@ -12,7 +12,7 @@ use Rattle.mailparse.specs.Pairs.{Texts}
 use Rattle.mailparse.specs.Sections.{Section, text, octets, numbered}
 use Rattle.percent_encoding.specs.Percent.{percent_decode}
 
--- an apostrophe, which cuts an extended value
+-- an apostrophe, which separates the pieces of an extended value
 abbrev pub is_apostrophe : ℕ → Bool
 is_apostrophe b = b == apostrophe
 
@@ -36,38 +36,38 @@ is_extended keys name = is_some (keys (starred name)) && not (is_some (keys name
 abbrev pub extended_value : Texts → List ℕ → List ℕ
 extended_value keys name = unwrap_or (keys (starred name)) []
 
--- the label of an extended value: what stands before its first apostrophe, or the whole value
+-- the label of an extended value: the text before its first apostrophe, or the whole value
 abbrev pub label_in : List ℕ → List ℕ
 label_in value = before_first is_apostrophe value
 
--- what stands after the first two apostrophes of a value; nothing where there are fewer
+-- the text after the first two apostrophes of a value; empty if there are fewer
 abbrev pub text_in : List ℕ → List ℕ
 text_in value = after_first is_apostrophe (after_first is_apostrophe value)
 
--- the beginnings of a name that end in a star, the shortest first
+-- the prefixes of a name that end in a star, the shortest first
 abbrev pub starred_prefixes : List ℕ → List (List ℕ)
 starred_prefixes [] = []
 starred_prefixes (b ∷ name) = (if b == asterisk then (b ∷ []) ∷ [] else []) ++ map (λ prefix. b ∷ prefix) (starred_prefixes name)
 
--- the candidates for the charset source of a name: its beginnings that end in a star, with `0` after them, as far as they are extended
+-- the candidates for the charset source of a name: its prefixes that end in a star, followed by `0`, if they are extended
 abbrev pub candidates : Texts → List ℕ → List (List ℕ)
 candidates keys name = filter (is_extended keys) (map (λ prefix. prefix ++ digit_0 ∷ []) (starred_prefixes name))
 
--- of two names, the one whose starred key is the later in byte order
+-- of two names, the one whose starred key is later in byte order
 abbrev pub later : List ℕ → Option (List ℕ) → List ℕ
 later z None = z
 later z (Some w) = if is_lt (slice_cmp nat_cmp (starred z) (starred w)) then w else z
 
--- of some names, the one whose starred key is the last in byte order
+-- of some names, the one whose starred key is last in byte order
 abbrev pub last_starred : List (List ℕ) → Option (List ℕ)
 last_starred [] = None
 last_starred (z ∷ names) = Some (later z (last_starred names))
 
--- the charset source of a name, whose value has the label: of the candidates the last, otherwise the name itself
+-- the charset source of a name, whose value has the label: the last of the candidates, otherwise the name itself
 abbrev pub charset_source : Texts → List ℕ → List ℕ
 charset_source keys name = unwrap_or (last_starred (candidates keys name)) name
 
--- the bytes of an extended value: its percent pairs are decoded, without label and language where the name is its own charset source
+-- the bytes of an extended value, percent-decoded; without label and language if the name is its own charset source
 abbrev pub octets_of : Texts → List ℕ → List ℕ
 octets_of keys name =
     let value = extended_value keys name in
@@ -80,7 +80,7 @@ module _ (known : Charsets) where
   reading_of keys name =
       if is_extended keys name then known (label_in (extended_value keys (charset_source keys name))) else None
 
-  -- what stands at an extended name: a section where the name has a number, otherwise a text
+  -- the entry of an extended name: a section if the name has a number, otherwise a text
   abbrev pub extended_at : Texts → List ℕ → Option Section
   extended_at keys name =
       option_map (λ reading. if is_some (numbered name) then octets reading (octets_of keys name) else text (reading (octets_of keys name)))
@@ -90,6 +90,6 @@ module _ (known : Charsets) where
   abbrev pub has_left : Texts → List ℕ → Bool
   has_left keys key = is_starred key && is_some (reading_of keys (name_under key))
 
-  -- what stands at a name once the extended values are read
+  -- the entry of a name, after the extended values are read
   unfoldable pub section_at : Texts → List ℕ → Option Section
   section_at keys name = option_or (extended_at keys name) (if has_left keys name then None else option_map text (keys name))

@@ -1,5 +1,5 @@
--- The reading of a message: its block of headers, its type, its body and its parts, each part a message of its own
--- (RFC 5322, section 2.1; RFC 2046, section 5.1).
+-- Reading a message: its header block, its type, its body and its parts, each of which is a message itself (RFC 5322,
+-- section 2.1; RFC 2046, section 5.1).
 use Rattle.std.specs.Prelude.{ℕ, zero, suc, Bool, false, List, [], ◌∷◌, ◌++◌, length, take, map, Option, None, option_map, Ok, Err, codes, if◌then◌else◌}
 use Rattle.std.specs.Option.{option_map_or}
 use Rattle.std.specs.Str.{bytes_eq, str_to_ascii_lowercase}
@@ -16,12 +16,12 @@ use Rattle.mailparse.specs.Map.{first_with_key, first_value, first_value_in}
 use Rattle.mailparse.specs.Ranges.{slice}
 use Rattle.mailparse.specs.Value.{lenient_value_in}
 
--- a header block: its bytes, the blank line among them, and its headers
+-- a header block: its bytes, including the blank line, and its headers
 pub record HeaderBlock : Type 0 where
   pub bytes : List ℕ
   pub headers : List Header
 
--- one message by itself: all its bytes, those of its block with the blank line, its headers, its type, and the bytes of its body
+-- one message without its parts: all its bytes, those of its block with the blank line, its headers, its type, and its body
 pub record Node : Type 0 where
   pub bytes : List ℕ
   pub block : List ℕ
@@ -33,21 +33,21 @@ pub record Node : Type 0 where
 abbrev pub block_of : Node → HeaderBlock
 block_of node = record { bytes = node.block; headers = node.headers }
 
--- the transfer encoding of a message's body: what its first `Content-Transfer-Encoding` names, in lower case
+-- the transfer encoding of a message's body: that named by its first `Content-Transfer-Encoding`, in lower case
 abbrev pub body_kind : Node → BodyKind
 body_kind node = kind_named (option_map str_to_ascii_lowercase (first_value (codes "Content-Transfer-Encoding") node.headers))
 
--- the bytes that the body of a message stands for
+-- the decoded bytes of the body of a message
 abbrev pub body_bytes : Node → Reads (List ℕ)
 body_bytes node = decoded (body_kind node) node.body
 
 -- Under the charsets that are known.
 module _ (known : Charsets) where
-  -- the text that the body of a message stands for, under the charset of its type
+  -- the text of the body of a message, in the charset of its type
   abbrev pub body_text_in : Node → Reads (List ℕ)
   body_text_in node = decoded_text_in known (body_kind node) node.ctype.charset node.body
 
-  -- how a message is to be shown: what its first `Content-Disposition` says, otherwise in place
+  -- how a message is to be shown: the disposition in its first `Content-Disposition`, otherwise `inline`
   abbrev pub shown_as_in : Node → Disposition
   shown_as_in node =
       option_map_or (disposition_in known) (first_value_in known (codes "Content-Disposition") node.headers) default_disposition
@@ -81,12 +81,12 @@ abbrev pub forest : List Tree → Forest
 forest [] = no_parts
 forest (t ∷ ts) = part_and t (forest ts)
 
--- a message, then those of its parts, each before its own parts (preorder)
+-- a message, then its parts, each before its own parts (preorder)
 abbrev mutual
   pub trees_within : Tree → List Tree
   trees_within (tree node parts) = tree node parts ∷ trees_in parts
 
-  -- the same of each of some parts
+  -- the same for each of some parts
   pub trees_in : Forest → List Tree
   trees_in no_parts = []
   trees_in (part_and t ts) = trees_within t ++ trees_in ts
@@ -95,27 +95,27 @@ abbrev mutual
 abbrev pub nodes : Tree → List Node
 nodes t = map root (trees_within t)
 
--- the type of a part without a type of its own: plain text, and a message in a digest
+-- the default type of a part: a message in a digest, otherwise plain text
 abbrev pub part_type : Bool → ContentType
 part_type in_digest = if in_digest then record default_type { mimetype = codes "message/rfc822" } else default_type
 
--- the parts of this type are messages where nothing else is said
+-- the default type of the parts is a message
 abbrev pub is_digest : ContentType → Bool
 is_digest ctype = bytes_eq ctype.mimetype (codes "multipart/digest")
 
--- the dash-boundary of this type's parts, if there may be parts: `--` and the boundary
+-- the dash-boundary of this type, if it may have parts: `--` and the boundary
 abbrev pub dash_boundary_of : ContentType → Option (List ℕ)
 dash_boundary_of ctype =
     if has_prefix (codes "multipart") ctype.mimetype
     then option_map (λ boundary. codes "--" ++ boundary) (ctype.params (codes "boundary"))
     else None
 
--- how a message of this type is cut whose body starts at i: by its delimiters, and otherwise the body is all that follows
+-- how a message of this type is split whose body starts at i: at its delimiters; without a dash-boundary the body is all that follows
 abbrev pub cut_of : ContentType → List ℕ → ℕ → Cut
 cut_of ctype bytes i =
     option_map_or (λ dash_boundary. cut_parts dash_boundary bytes i) (dash_boundary_of ctype) (record { body = record { start = i; end = length bytes }; parts = [] })
 
--- the message with this block and this type that is cut so
+-- the message with this block and this type that is split this way
 abbrev pub node_with : List ℕ → HeaderList → ContentType → Cut → Node
 node_with bytes block ctype cut = record {
   bytes = bytes;
@@ -125,7 +125,7 @@ node_with bytes block ctype cut = record {
   body = slice bytes cut.body;
 }
 
--- what is read of each, in order; the first refusal refuses all
+-- the readings of all parts, in order; the first refusal refuses all
 abbrev pub read_each : (List ℕ → Reads Tree) → List (List ℕ) → Reads Forest
 read_each read [] = Ok no_parts
 read_each read (part ∷ parts) = do
@@ -135,31 +135,31 @@ read_each read (part ∷ parts) = do
 
 -- Under the charsets that are known.
 module _ (known : Charsets) where
-  -- the type of a message with these headers: what its first `Content-Type` says, otherwise what a part has without one
+  -- the type of a message with these headers: that in its first `Content-Type`, otherwise the default type of a part
   unfoldable pub node_type : Bool → List Header → ContentType
   node_type in_digest headers =
       option_map_or (λ h. content_type_in known (lenient_value_in known h.value))
       (first_with_key (codes "Content-Type") headers) (part_type in_digest)
 
-  -- the message of this type that has this block: its parts are read by a function that is told whether it is a digest
+  -- the message with this block and this type; `read` reads its parts, and is given whether it is a digest
   abbrev pub read_parts : (Bool → List ℕ → Reads Tree) → List ℕ → HeaderList → ContentType → Reads Tree
   read_parts read bytes block ctype = do
     let cut = cut_of ctype bytes block.index
     parts ← read_each (read (is_digest ctype)) (map (slice bytes) cut.parts)
     Ok (tree (node_with bytes block ctype cut) parts)
 
-  -- the message that the bytes are, where so many levels may stand, its own among them; it is refused where there is none, otherwise by
-  -- its own headers, otherwise by the first of its parts that is refused
+  -- the message in the bytes, with at most `levels` levels, including its own; it is refused if that is 0, otherwise for its own
+  -- headers, otherwise for the first of its parts that is refused
   unfoldable pub read_levels : ℕ → Bool → List ℕ → Reads Tree
   read_levels zero in_digest bytes = Err recursion_limit
   read_levels (suc levels) in_digest bytes = do
     block ← read_headers bytes
     read_parts (read_levels levels) bytes block (node_type in_digest block.headers)
 
-  -- the message that the bytes are, where parts may stand down to a greatest level; the message itself stands at level 0
+  -- the message in the bytes, with parts down to a greatest level; the message itself is at level 0
   unfoldable pub read_mail_in : ℕ → List ℕ → Reads Tree
   read_mail_in greatest bytes = read_levels (suc greatest) false bytes
 
--- the message that the bytes are, or the refusal that is met first: its parts may stand down to level 100
+-- the message in the bytes, with parts down to level 100, or the first refusal
 unfoldable pub read_mail : List ℕ → Reads Tree
 read_mail bytes = read_mail_in four_charsets 100 bytes

@@ -1,7 +1,7 @@
--- How a value follows from another, where there is one.
+-- A value computed from an optional one.
 use Rattle.std.specs.Prelude.{Option, option_and_then}
 
--- what follows from a value, where there is one
+-- what follows from the value, or `None` if there is no value
 infixl 10 ◌>>=◌
 abbrev pub ◌>>=◌ : {A B : Type 0} → Option A → (A → Option B) → Option B
 found >>= next = option_and_then next found

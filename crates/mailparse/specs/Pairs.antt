@@ -12,11 +12,11 @@ use Rattle.mailparse.specs.Segments.{segments, unescape}
 abbrev pub Texts : Type 0
 Texts = List ℕ → Option (List ℕ)
 
--- no text under any name
+-- no text at any name
 abbrev pub no_texts : Texts
 no_texts name = None
 
--- the text under a name in a map
+-- the text of a name in a map
 abbrev pub text_at : {Y Z : Type 0} → BTreeMap (String Y) (String Z) → Texts
 text_at m name = option_map string_bytes (get_by_text m name)
 
@@ -24,7 +24,7 @@ text_at m name = option_map string_bytes (get_by_text m name)
 abbrev pub HasTexts : {Y Z : Type 0} → BTreeMap (String Y) (String Z) → Texts → Type 0
 HasTexts m texts = (name : List ℕ) → text_at m name ≡ texts name
 
--- of equal keys the last pair stays
+-- of equal keys the last pair is kept
 abbrev pub last_of : List (List ℕ × List ℕ) → Texts
 last_of pairs = update_all bytes_eq no_texts pairs
 
@@ -32,8 +32,8 @@ last_of pairs = update_all bytes_eq no_texts pairs
 abbrev pub is_equals : ℕ → Bool
 is_equals b = b == equals_sign
 
--- the pair of a segment that holds `=`: what stands before the first one, without whitespace around it and in lower case, is the key;
--- what stands after it, without whitespace around it, stands for the value
+-- the pair of a segment that contains `=`: the key is the text before the first one, trimmed and in lower case; the value is the
+-- text after it, trimmed and unescaped
 unfoldable pub pair_of : List ℕ → Option (List ℕ × List ℕ)
 pair_of segment =
     if nat_lt (position_or_len is_equals segment) (length segment)
@@ -48,6 +48,6 @@ pairs_in segments = flat_map (λ segment. option_to_list (pair_of segment)) segm
 unfoldable pub pairs_of : List ℕ → List (List ℕ × List ℕ)
 pairs_of text = pairs_in (drop 1 (segments text))
 
--- the value of a text: its first segment, without whitespace around it
+-- the value of a text: its first segment, trimmed
 unfoldable pub value_of : List ℕ → List ℕ
 value_of text = trim (slice_index_or (segments text) 0 [])

@@ -1,21 +1,21 @@
--- Where a message and its parts stand in the mail that was parsed, counted from its first byte; the project's own words.
+-- The ranges of a message and its parts in the mail that was parsed, counted from its first byte; the project's own terms.
 use Rattle.std.specs.Prelude.{ℕ, ◌+◌, List, [], ◌∷◌, ◌++◌, length}
 use Rattle.mailparse.specs.Mail.{Tree, tree, Forest, no_parts, part_and, cut_of}
 use Rattle.mailparse.specs.Ranges.{Range, moved}
 
--- where one message stands: all its bytes, and those of its body
+-- the ranges of one message: of all its bytes, and of its body
 pub record Placement : Type 0 where
   pub whole : Range
   pub body : Range
 
 abbrev mutual
-  -- a message that starts there, then its parts, each before its own parts (preorder): its type says how it is cut
+  -- a message at this offset, then its parts, each before its own parts (preorder); its type determines how it is split
   pub placements : ℕ → Tree → List Placement
   placements start (tree node parts) =
       let cut = cut_of node.ctype node.bytes (length node.block) in
       record { whole = record { start = start; end = start + length node.bytes }; body = moved start cut.body } ∷ placements_in start cut.parts parts
 
-  -- the same of parts that stand at these ranges of the message that starts there
+  -- the same for parts at these ranges of a message at this offset
   pub placements_in : ℕ → List Range → Forest → List Placement
   placements_in start ranges no_parts = []
   placements_in start [] (part_and t ts) = []

@@ -1,5 +1,5 @@
--- The sections of values that are cut into numbered ones, `name*0`, `name*1` and so on (RFC 2231, section 3): their names, and what
--- stands at a name.
+-- The numbered sections into which a value may be split, `name*0`, `name*1` and so on (RFC 2231, section 3): their names and their
+-- contents.
 use Rattle.std.specs.Prelude.{ℕ, Bool, true, false, ◌&&◌, ◌==◌, ◌^◌, nat_lt, List, ◌∷◌, ◌++◌, length, Option, Some, None, option_map, if◌then◌else◌}
 use Rattle.std.specs.Fmt.{decimal}
 use Rattle.std.specs.List.{before_last, after_last, list_any}
@@ -11,7 +11,7 @@ use Rattle.mail_codec.specs.Ascii.{asterisk}
 abbrev pub is_star : ℕ → Bool
 is_star b = b == asterisk
 
--- the number that digits write, a plus before them or not, if it is a `u64`
+-- the number in decimal digits, with or without a plus before them, if it is a `u64`
 abbrev pub number_in : List ℕ → Option ℕ
 number_in text =
     let digits = without_leading_plus text in
@@ -19,7 +19,7 @@ number_in text =
     then Some (digits_value 10 digits)
     else None
 
--- the base and the number of a name: what stands before its last star, and the number after it, if there is one
+-- the base and the number of a name: the text before its last star, and the number after it, if there is one
 unfoldable pub numbered : List ℕ → Option (List ℕ × ℕ)
 numbered name = if list_any is_star name then option_map (λ number. (before_last is_star name, number)) (number_in (after_last is_star name)) else None
 
@@ -27,18 +27,18 @@ numbered name = if list_any is_star name then option_map (λ number. (before_las
 abbrev pub section_name : List ℕ → ℕ → List ℕ
 section_name base number = base ++ asterisk ∷ decimal number
 
--- what stands at a name: a text, or the bytes of an extended section with the charset that reads them
+-- the entry of a name: a text, or the bytes of an extended section with the reading of its charset
 pub data Section : Type 0 where
   text : List ℕ → Section
   octets : (List ℕ → List ℕ) → List ℕ → Section
 
--- what stands there is a text
+-- the entry is a text
 abbrev pub is_text : Option Section → Bool
 is_text None = false
 is_text (Some (text t)) = true
 is_text (Some (octets reading bytes)) = false
 
--- the text of a section alone
+-- the text of a section that is not joined
 abbrev pub alone : Section → List ℕ
 alone (text t) = t
 alone (octets reading bytes) = reading bytes

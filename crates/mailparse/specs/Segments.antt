@@ -1,6 +1,6 @@
--- The segments of a value that has parameters, and the text that a quoted one stands for: RFC 2045, section 5.1, as this crate
--- reads it. The text is cut at each `;` that stands outside of all quoted runs. A quoted run goes from a `"` to the next `"`
--- that no `\` escapes, or to the end of the text.
+-- The segments of a value that has parameters, and the contents of quoted texts: RFC 2045, section 5.1, as this crate reads it.
+-- The text is split at each `;` outside of all quoted runs. A quoted run goes from a `"` to the next `"` that no `\` escapes, or
+-- to the end of the text.
 use Rattle.std.specs.Prelude.{◌≡◌, ◌≢◌, ℕ, zero, suc, ◌-◌, Bool, true, false, not, ◌&&◌, ◌==◌, nat_lt, List, [], ◌∷◌, ◌++◌, length, slice_index, slice_range, if◌then◌else◌}
 use Rattle.std.specs.Str.{chars, encode_utf8_all}
 use Rattle.mail_codec.specs.Ascii.{quote, semicolon, backslash}
@@ -42,11 +42,11 @@ pub data AreSegments : List ℕ → List (List ℕ) → Type 0 where
 
 -- ---- the same as a function, which contracts cite; exactly this list fits the grammar, as the law `one_list_of_segments_fits` says
 
--- how a byte stands: outside of quoted runs, within one, or within one directly after a `\` that escapes it
+-- the state of a byte: outside of quoted runs, within one, or within one directly after a `\` that escapes it
 pub data QuoteState : Type 0 where
   outside quoted escaped : QuoteState
 
--- how the byte after this one stands
+-- the state of the next byte
 abbrev pub after : QuoteState → ℕ → QuoteState
 after outside b = if b == quote then quoted else outside
 after quoted b = if b == quote then outside else (if b == backslash then escaped else quoted)
@@ -63,7 +63,7 @@ abbrev pub with_front : List ℕ → List (List ℕ) → List (List ℕ)
 with_front front [] = front ∷ []
 with_front front (segment ∷ more) = (front ++ segment) ∷ more
 
--- the segments of what follows, where its first byte stands so
+-- the segments of a text whose first byte has this state
 abbrev pub segments_from : QuoteState → List ℕ → List (List ℕ)
 segments_from state [] = [] ∷ []
 segments_from state (b ∷ bytes) =
@@ -81,8 +81,8 @@ abbrev pub is_odd : ℕ → Bool
 is_odd zero = false
 is_odd (suc n) = not (is_odd n)
 
--- the characters that stay, where so many backslashes stand directly before the first of them: all but each backslash that is
--- not escaped; one is escaped if the run of backslashes directly before it has odd length
+-- the characters that stay, with `before` backslashes directly before the first of them: all but each backslash that is not
+-- escaped; one is escaped if the run of backslashes directly before it has odd length
 abbrev pub without_escapes : ℕ → List ℕ → List ℕ
 without_escapes before [] = []
 without_escapes before (c ∷ cs) =
@@ -93,11 +93,11 @@ without_escapes before (c ∷ cs) =
 abbrev pub is_quoted : List ℕ → Bool
 is_quoted text = nat_lt 1 (length text) && slice_index text 0 == quote && slice_index text (length text - 1) == quote
 
--- what stands between the first byte and the last
+-- the text between the first byte and the last
 abbrev pub inside_quotes : List ℕ → List ℕ
 inside_quotes text = slice_range text 1 (length text - 1)
 
--- the text that a text stands for: a quoted one for what stands between its quotes, without the backslashes that escape
--- and without a lone one at the end; any other text for itself
+-- the contents of a quoted text, without the backslashes that escape and without a lone one at the end; any other text is its own
+-- contents
 unfoldable pub unescape : List ℕ → List ℕ
 unescape text = if is_quoted text then encode_utf8_all (without_escapes 0 (chars (inside_quotes text))) else text

@@ -1,4 +1,4 @@
--- What a contract sees of the types of the library.
+-- The types of the library, as contracts see them.
 use Rattle.std.specs.Prelude.{ℕ, List, ◌∷◌, drop, map, string_bytes}
 use Rattle.std.specs.Global.{Vec}
 use Rattle.std.specs.List.{flat_map}
@@ -23,7 +23,7 @@ use Rattle.mailparse.specs.declared.mail.message.ParsedMail.TheViews.{out-Parsed
 abbrev pub header_list : Vec Header × ℕ → HeaderList
 header_list found = record { headers = found.0.items; index = found.1 }
 
--- the type of a message's content
+-- the content type of a message
 abbrev pub content_type : ParsedContentType → ContentType
 content_type c = record { mimetype = string_bytes c.mimetype; charset = string_bytes c.charset; params = text_at c.params }
 
@@ -48,29 +48,29 @@ tree_step m = tree (record {
   body = m.body_bytes.now;
 }) (forest m.subparts.items)
 
--- a message: its bytes, its block, the headers and the type that it has now, its body, and the parts that it has now
+-- a message: its bytes, its block, its current headers and type, its body, and its current parts
 abbrev pub tree_of : ParsedMail → Tree
 tree_of = fold-ParsedMail Tree tree_step
 
--- where a message with these fields says that it stands
+-- the placement in the fields of a message
 abbrev pub placement_step : {A : Type 0} → ParsedMail-F A → Placement
 placement_step m = record {
   whole = record { start = m.range.start; end = m.range.end };
   body = record { start = m.body_range.start; end = m.body_range.end };
 }
 
--- where a message says that it stands
+-- the placement that a message records
 abbrev pub placement_of : ParsedMail → Placement
 placement_of m = placement_step (out-ParsedMail m)
 
--- the same of a message and then of its parts
+-- the placements of a message and then of its parts
 abbrev pub placements_step : ParsedMail-F (List Placement) → List Placement
 placements_step m = placement_step m ∷ flat_map (λ places. places) m.subparts.items
 
--- where a message says that it stands, then where the parts that it has now say so, each before its own parts
+-- the placement that a message records, then those of its current parts, each before its own parts
 abbrev pub placements_of : ParsedMail → List Placement
 placements_of = fold-ParsedMail (List Placement) placements_step
 
--- the messages that an iterator over parts has still to give, each with its parts
+-- the messages that an iterator over parts has not returned yet, each with its parts
 abbrev pub trees_left : PartsIterator → List Tree
 trees_left iterator = map (λ m. tree_of m.now) (drop iterator.index iterator.parts.items)

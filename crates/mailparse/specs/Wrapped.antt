@@ -5,7 +5,7 @@ use Rattle.mailparse.specs.declared.error.MailParseError.TheVariants.{QuotedPrin
 use Rattle.mailparse.specs.declared.error.Wrapped.{Wrapped}
 use Rattle.mailparse.specs.declared.error.Wrapped.TheVariants as wrapped
 
--- an error of a decoder wraps its fault, and no other error wraps any
+-- an error of a decoder wraps its fault; no other error wraps one
 abbrev pub HasSource : MailParseError → Option Wrapped → Type 0
 HasSource (QuotedPrintableDecodeError fault) (Some (wrapped.QuotedPrintable found)) = found.now ≡ fault
 HasSource (QuotedPrintableDecodeError fault) _ = ⊥

@@ -141,7 +141,7 @@ module _ (known : Charsets) where
       by_block (Err refusal) read h ih = absurd (cc)
       by_block (Ok block) read h ih = by_parts block (node_type known in_digest block.headers) read _ refl h (ih (is_digest (node_type known in_digest block.headers)))
 
-  -- whatever charsets are known and however deep parts may stand
+  -- whatever charsets are known, and however deep parts may be nested
   pub read_mail_in-bounded : (greatest : ℕ) (bytes : List ℕ) (t : Tree) → read_mail_in known greatest bytes ≡ Ok t → IsBounded t (length bytes)
   unfolding read_mail_in
   read_mail_in-bounded greatest bytes t e = IsBounded-by_weight (length bytes) t (read_levels-fits (suc greatest) false bytes t e)

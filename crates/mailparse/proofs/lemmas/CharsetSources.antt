@@ -64,7 +64,7 @@ pub in_right : {A : Type 0} (z : A) (xs ys : List A) → In z ys → In z (xs ++
 in_right z [] ys h = h
 in_right z (x ∷ xs) ys h = inr (in_right z xs ys h)
 
--- ---- the beginnings that end in a star
+-- ---- the prefixes that end in a star
 
 in_prefixes : (name p : List ℕ) → In p (starred_prefixes name) → (starts_with nat_eq name p ≡ true) × ((front : List ℕ) × (p ≡ front ++ 42 ∷ []))
 in_prefixes [] p h = absurd h
@@ -200,7 +200,7 @@ last_is (x ∷ xs) z h least = ⊎_elim first (λ i. rest i (last_is xs z i (λ 
         go true is = cond-true _ _ _ is
         go false is = cond-false _ _ _ is ∙ same_place x z is (least x (inl refl))
 
--- ---- the charset source, by its place
+-- ---- the charset source, by its index
 
 abbrev HasSourcePlace : List (List ℕ) → ℕ → ℕ → Type 0
 HasSourcePlace names count k =

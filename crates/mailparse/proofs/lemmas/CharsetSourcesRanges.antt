@@ -1,4 +1,4 @@
--- The names that one name is a candidate for stand in a range.
+-- The names that have one name as a candidate are a range.
 use Rattle.std.proofs.Common.{◌≡◌, ℕ, zero, suc, ◌-◌, ◌+◌, ◌<◌, ◌≤◌, Bool, true, false, ◌&&◌, cond, eqb, List, [], ◌∷◌, ◌++◌, length, get_or, take, refl, sym, ap, subst, ◌∙◌, arith, nat_eq, ◌⊎◌, inl, inr, ⊎_elim}
 use Rattle.std.proofs.Math.ListN.{get_or-map}
 use Rattle.std.proofs.lemmas.Bool.{false_from_ne_true, and_from, and_left, and_parts, and_right, both_ways, cases_lt, cases_order, cond-false, cond-true, eq-eqb, eqb-true, le-ltb, ne_eqb}
@@ -66,7 +66,7 @@ between (p ∷ prefix) (a ∷ x) (b ∷ y) (c ∷ z) xy yz bx bz =
     (below_cases b c (y ++ 42 ∷ []) (z ++ 42 ∷ []) yz))
     (below_cases a b (x ++ 42 ∷ []) (y ++ 42 ∷ []) xy)
 
--- ---- the names that one is a candidate for stand together
+-- ---- the names that have one name as a candidate are adjacent
 
 own_beginning : (n : ℕ) (z : List ℕ) → starts_with nat_eq z (take n z) ≡ true
 own_beginning zero z = refl

@@ -11,7 +11,7 @@ use Rattle.mailparse.specs.Refusal.{Refusal}
 
 -- Under the charsets that are known.
 module _ (known : Charsets) where
-  -- a type is told by its value, its charset and its parameters
+  -- a type is determined by its value, its charset and its parameters
   pub type_is : (text value mimetype charset : List ℕ) (params : Texts) → value ≡ value_of text → mimetype ≡ str_to_ascii_lowercase value
       → ((name : List ℕ) → params name ≡ parameters_in known (pairs_of text) name)
       → charset ≡ charset_named params

@@ -1,4 +1,4 @@
--- The extended names: which they are, and that they stand in order.
+-- The extended names: which they are, and that they are in order.
 use Rattle.std.proofs.Common.{◌≡◌, ◌⊎◌, inl, inr, ℕ, zero, suc, ◌<◌, Bool, true, false, not, ◌&&◌, cond, List, [], ◌∷◌, ◌++◌, length, get_or, map, Option, Some, None, is_some, option_map, String, string_bytes, BTreeMap, refl, sym, ap, subst, ◌∙◌, arith, ⊎_elim}
 use Rattle.std.proofs.lemmas.Bool.{and_from, and_parts, cond-false, cond-true, not-true}
 use Rattle.std.proofs.lemmas.List.{length-map}
@@ -28,7 +28,7 @@ use Rattle.mailparse.proofs.lemmas.ExtendedValues.{equal_bytes, same_bytes}
 
 -- ---- the entries of a map
 
--- the keys stand in order, and what a map has at each name is what its entry says
+-- the keys are in order, and the value of each name in the map is that of its entry
 pub record IsMapOf (keys : Texts) (entries : List (List ℕ × List ℕ)) : Type 0 where
   pub holds : (e : List ℕ × List ℕ) → In e entries → keys e.0 ≡ Some e.1
   pub finds : (name value : List ℕ) → keys name ≡ Some value → In (name, value) entries

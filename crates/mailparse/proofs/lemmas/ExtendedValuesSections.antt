@@ -79,7 +79,7 @@ module _ (known : Charsets) where
       ∙ ap (λ n. percent_decode (cond (bytes_eq n w.0) (text_in w.1) w.1)) (sym is)
       ∙ ap (λ b. percent_decode (cond b (text_in w.1) w.1)) same)
 
-  -- what stands at the name at a place, where the one at another is its charset source
+  -- the entry of the name at an index, if the name at another index is its charset source
   abbrev extended_by : List Found → ℕ → ℕ → Option words.Section
   extended_by found place last =
       let one = found_by_place found place in

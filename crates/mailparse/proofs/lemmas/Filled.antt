@@ -30,12 +30,12 @@ any_push test names name = list_any-append test names (name ∷ []) ∙ ap (λ b
 pub holds_push : (names : List (List ℕ)) (name q : List ℕ) → holds_name (names ++ name ∷ []) q ≡ (holds_name names q || bytes_eq name q)
 holds_push names name q = any_push (λ n. bytes_eq n q) names name
 
--- a map of what is there or not
+-- a function over an optional entry
 pub mapped_unless : {X B : Type 0} (f : X → B) (b : Bool) (o : Option X) → option_map f (cond b None o) ≡ cond b None (option_map f o)
 mapped_unless f true o = refl
 mapped_unless f false o = refl
 
--- one more name was written
+-- the entry of one more name was set
 pub filled_push : {A : Type 0} (f g : List ℕ → Option A) (names : List (List ℕ)) (name q : List ℕ) (old new : Option A) → old ≡ filled f g names q
     → new ≡ cond (bytes_eq name q) (f name) old → new ≡ filled f g (names ++ name ∷ []) q
 filled_push {A = A} f g names name q old new before step = go (bytes_eq name q) refl
@@ -48,7 +48,7 @@ filled_push {A = A} f g names name q old new before step = go (bytes_eq name q) 
         step ∙ cond-false _ _ _ is ∙ before
         ∙ ap (λ b. cond b (f q) (g q)) (sym (holds_push names name q ∙ ap (λ b. holds_name names q || b) is ∙ or-false (holds_name names q)))
 
--- one more name was passed over, where both say the same
+-- one more name was skipped, for which both maps agree
 pub filled_skip : {A : Type 0} (f g : List ℕ → Option A) (names : List (List ℕ)) (name q : List ℕ) (old : Option A) → old ≡ filled f g names q
     → f name ≡ g name → old ≡ filled f g (names ++ name ∷ []) q
 filled_skip {A = A} f g names name q old before same = go (bytes_eq name q) refl
@@ -61,7 +61,7 @@ filled_skip {A = A} f g names name q old before same = go (bytes_eq name q) refl
     go true is = before ∙ here is (holds_name names q) ∙ sym (here is (holds_name (names ++ name ∷ []) q))
     go false is = before ∙ ap (λ b. cond b (f q) (g q)) (sym (holds_push names name q ∙ ap (λ b. holds_name names q || b) is ∙ or-false (holds_name names q)))
 
--- a name that is held already
+-- a name that is there already
 pub holds_again : (names : List (List ℕ)) (name q : List ℕ) → holds_name names name ≡ true → holds_name (names ++ name ∷ []) q ≡ holds_name names q
 holds_again names name q held = holds_push names name q ∙ go (bytes_eq name q) refl
   where
@@ -73,7 +73,7 @@ pub filled_again : {A : Type 0} (f g : List ℕ → Option A) (names : List (Lis
     → holds_name names name ≡ true → old ≡ filled f g (names ++ name ∷ []) q
 filled_again f g names name q old before held = before ∙ ap (λ b. cond b (f q) (g q)) (sym (holds_again names name q held))
 
--- all names that one says something of were passed
+-- all names for which the maps may differ were visited
 pub filled_all : {A : Type 0} (f g : List ℕ → Option A) (names : List (List ℕ)) (q : List ℕ) (old : Option A) → old ≡ filled f g names q
     → (holds_name names q ≡ false → f q ≡ g q) → old ≡ f q
 filled_all {A = A} f g names q old before same = go (holds_name names q) refl
@@ -82,13 +82,13 @@ filled_all {A = A} f g names q old before same = go (holds_name names q) refl
     go true is = before ∙ cond-true _ _ _ is
     go false is = before ∙ cond-false _ _ _ is ∙ sym (same is)
 
--- ---- what a write leaves at each name
+-- ---- the entries after one is set
 
 pub stored : {Y X B : Type 0} (f : X → B) (name : List ℕ) (old new : BTreeMap (String Y) X) (v : X) → UpdatesBy string_cmp (λ k. slice_cmp nat_cmp name (string_bytes k)) old new (Some v)
     → (q : List ℕ) → option_map f (get_by_text new q) ≡ cond (bytes_eq name q) (Some (f v)) (option_map f (get_by_text old q))
 stored f name old new v updates q = ap (option_map f) (btree_map_updates_text name old new (Some v) updates q) ∙ mapped f (bytes_eq name q) v (get_by_text old q)
 
--- what a removal leaves at each name
+-- the entries after one is removed
 pub removed : {Y X B : Type 0} (f : X → B) (name : List ℕ) (old new : BTreeMap (String Y) X) → UpdatesBy string_cmp (λ k. slice_cmp nat_cmp name (string_bytes k)) old new None
     → (q : List ℕ) → option_map f (get_by_text new q) ≡ cond (bytes_eq name q) None (option_map f (get_by_text old q))
 removed f name old new updates q = ap (option_map f) (btree_map_updates_text name old new None updates q) ∙ mapped_unless f (bytes_eq name q) (get_by_text old q)

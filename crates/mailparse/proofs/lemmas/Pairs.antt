@@ -1,4 +1,4 @@
--- Lemmas on the pairs of a text, and on the map that holds them.
+-- Lemmas on the pairs of a text, and on the map of them.
 use Rattle.std.proofs.Common.{◌≡◌, ℕ, suc, ◌<◌, Bool, true, false, cond, ltb, List, [], ◌∷◌, ◌++◌, length, drop, Option, Some, None, refl, sym, ap, ◌∙◌, arith}
 use Rattle.std.proofs.lemmas.Bool.{cond-true, cond-false, lt-ltb, le-ltb}
 use Rattle.std.proofs.lemmas.Map.Text.{btree_map_updates_text}
@@ -17,11 +17,11 @@ use Rattle.mailparse.specs.private.Pairs.{pair_view}
 
 -- ---- the map
 
--- what a map has after these pairs are put into it in turn
+-- the texts of a map after these pairs are inserted in turn
 abbrev pub stores : Texts → List (List ℕ × List ℕ) → Texts
 stores texts pairs = update_all bytes_eq texts pairs
 
--- what is left of a text, counted
+-- the length of the rest of a text
 abbrev pub rest_length : Option (Bor (List ℕ)) → ℕ
 rest_length None = 0
 rest_length (Some rest) = suc (length rest.now)
@@ -31,7 +31,7 @@ pub mapped : {X Y : Type 0} (f : X → Y) (t : Bool) (x : X) (o : Option X) → 
 mapped f true x o = refl
 mapped f false x o = refl
 
--- what a map has after a text is put into it
+-- the texts of a map after a text is inserted
 pub stored : (old new : BTreeMap (String Global) (String Global)) (key value : String Global)
     → UpdatesBy string_cmp (string_cmp key) old new (Some value)
     → text_at new ≡ update bytes_eq (text_at old) (string_bytes key) (Some (string_bytes value))

@@ -1,4 +1,4 @@
--- The parts of a message stand at ranges that lie apart, and so take no more bytes than there are.
+-- The parts of a message are disjoint ranges, and so have no more bytes than there are.
 use Rattle.std.proofs.Common.{◌≡◌, ℕ, zero, suc, ◌+◌, ◌-◌, ◌<◌, ◌≤◌, Bool, true, false, ◌&&◌, cond, List, [], ◌∷◌, length, drop, Option, Some, None, refl, sym, ap, subst, arith}
 use Rattle.std.specs.Prelude.{nat_eq, nat_lt, option_and_then}
 use Rattle.std.specs.List.{sum_by}
@@ -38,7 +38,7 @@ end_from-bounds dash_boundary bytes s otherwise low high = by_delimiter (delimit
         let bounds = before_line_end-bounds bytes s p least.low in
         (bounds.0, omega (arith, bounds.1, least.high))
 
--- a delimiter and its line end stand between a part and the next one
+-- a delimiter and its line end lie between a part and the next one
 after_delimiter : (dash_boundary bytes : List ℕ) (s otherwise p next : ℕ) → delimiter_from dash_boundary bytes s ≡ Some p → part_after dash_boundary bytes p ≡ Some next
     → (end_from dash_boundary bytes s otherwise + suc (length dash_boundary) ≤ next) × (next ≤ length bytes)
 after_delimiter dash_boundary bytes s otherwise p next e after =
@@ -112,7 +112,7 @@ cut_parts-start : (dash_boundary bytes : List ℕ) (i : ℕ) → (cut_parts dash
 unfolding cut_parts
 cut_parts-start dash_boundary bytes i = refl
 
--- a message of any type: before each part stand at least two bytes of a delimiter and its line end
+-- a message of any type: at least two bytes of a delimiter and its line end come before each part
 pub cut_of-apart : (ctype : ContentType) (bytes : List ℕ) (i : ℕ) → i ≤ length bytes
     → ((cut_of ctype bytes i).body.start ≡ i) × (i ≤ (cut_of ctype bytes i).body.end) × Apart 3 (cut_of ctype bytes i).body.end (cut_of ctype bytes i).parts (length bytes)
 cut_of-apart ctype bytes i within = by_delimiter (dash_boundary_of ctype) refl
@@ -129,7 +129,7 @@ cut_of-apart ctype bytes i within = by_delimiter (dash_boundary_of ctype) refl
         let apart = cut_parts-apart dash_boundary bytes i within in
         (start dash_boundary, apart.0, Apart-weaker (suc (length dash_boundary)) 3 (cut_parts dash_boundary bytes i).body.end (cut_parts dash_boundary bytes i).parts (length bytes) (omega arith) apart.1)
 
--- the bytes of the ranges, and those before each of them, are no more than stand between the two places
+-- the bytes of the ranges, and those before each of them, are no more than those between the two offsets
 pub Apart-sum : (gap from : ℕ) (rs : List Range) (to : ℕ) → Apart gap from rs to → from + sum_by (λ r. r.end - r.start + gap) rs ≤ to
 Apart-sum gap from [] to h = omega (arith, h)
 Apart-sum gap from (r ∷ rs) to h = let more = Apart-sum gap r.end rs to h.2 in omega (arith, h.0, h.1, more, sum_by-cons (λ (x : Range). x.end - x.start + gap) r rs)

@@ -1,4 +1,4 @@
--- What stands at each name once the extended values are read.
+-- The entry of each name after the extended values are read.
 use Rattle.std.proofs.Common.{◌≡◌, ℕ, Bool, true, false, ◌&&◌, ◌||◌, cond, List, [], ◌∷◌, ◌++◌, map, Option, Some, None, is_some, option_map, BTreeMap, String, string_bytes, refl, sym, ap, ◌∙◌}
 use Rattle.std.proofs.lemmas.List.{map-id}
 use Rattle.std.proofs.lemmas.Simd.{map-map}
@@ -83,7 +83,7 @@ value_there keys names name value is = go (holds_name names name) (is ∙ starre
     go true h = let clash : Some value ≡ None = h in absurd (cc)
     go false h = sym (ap (λ o. unwrap_or o []) h)
 
--- a key that is not there has left
+-- a missing key has left
 pub value_gone : (keys : Texts) (names : List (List ℕ)) (name : List ℕ) → is_some (keys (starred name)) ≡ true → None ≡ without_starred keys names (starred name)
     → holds_name names name ≡ true
 value_gone keys names name some is = true_from_ne_false _ (λ e. false≢true (sym (sym some ∙ ap is_some (sym ((is ∙ starred_at keys names name) ∙ cond-false _ _ _ e)))))
@@ -150,7 +150,7 @@ named q m h = lookup_named q m.entries h
 pub names_taken : {X : Type 0} (taken entries : List (String Global × X)) → map (λ e. e) taken ≡ entries → map taken_name taken ≡ map (λ e. string_bytes e.0) entries
 names_taken taken entries h = ap (map taken_name) (sym (map-id taken) ∙ h)
 
--- ---- what is taken from both maps
+-- ---- the entries that are removed from both maps
 
 pub taken_both : (b : Bool) (e new_e : Option words.Section) (t new_t : Option (List ℕ)) → new_e ≡ cond b None e → new_t ≡ cond b None t
     → option_or new_e (option_map words.text new_t) ≡ cond b None (option_or e (option_map words.text t))

@@ -176,7 +176,7 @@ with_front-nil w (b ∷ bytes) = go (ends w b) refl
         ap (with_front []) (at_byte w b bytes e) ∙ with_front-append [] (b ∷ []) (segments_from (after w b) bytes)
         ∙ sym (at_byte w b bytes e)
 
--- the bytes up to a place stand in front of the first segment that is there
+-- the bytes up to an offset come before the first segment there
 abbrev pub Reaches : List ℕ → ℕ → QuoteState → Type 0
 Reaches text at w = segments text ≡ with_front (take at text) (segments_from w (drop at text))
 

@@ -1,4 +1,4 @@
--- Lemmas on the text that a quoted text stands for.
+-- Lemmas on the contents of a quoted text.
 use lib.Utf8.{encode}
 use Rattle.std.proofs.Common.{◌≡◌, ◌≢◌, ℕ, suc, Bool, true, false, not, cond, eqb, ◌&&◌, None, List, [], ◌∷◌, ◌++◌, refl, sym, ap, subst, ◌∙◌, append_assoc}
 use Rattle.std.proofs.lemmas.Bool.{cond-true, cond-false, and_right, eq-eqb, eqb-true, false_from_ne_true, false≢true, ne_eqb}
@@ -16,7 +16,7 @@ abbrev pub stays_after : Bool → List ℕ → List ℕ
 stays_after escaped [] = []
 stays_after escaped (c ∷ cs) = cond (eqb c backslash && not escaped) (stays_after true cs) (c ∷ stays_after false cs)
 
--- the flag tells whether the run of backslashes has odd length
+-- the flag says whether the run of backslashes has odd length
 stays_by : (before c : ℕ) (cs : List ℕ) (t : Bool) → eqb c backslash ≡ t → (o : Bool) → is_odd before ≡ o
     → stays_after (not o) cs ≡ without_escapes (suc before) cs → stays_after false cs ≡ without_escapes 0 cs
     → stays_after (is_odd before) (c ∷ cs) ≡ without_escapes before (c ∷ cs)

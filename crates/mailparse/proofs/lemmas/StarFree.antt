@@ -1,4 +1,4 @@
--- Where no key holds a star, the parameters are the pairs.
+-- If no key contains a star, the parameters are the pairs.
 use Rattle.std.proofs.Common.{◌≡◌, ℕ, Bool, true, false, cond, not, ◌&&◌, ◌||◌, eqb, ltb, List, [], ◌∷◌, ◌++◌, length, map, Option, Some, None, BTreeMap, String, refl, sym, ap, ◌∙◌}
 use Rattle.mailparse.proofs.lemmas.ExtendedValues.{is_some_where}
 use Rattle.std.proofs.lemmas.List.Folds.{list_any-append}
@@ -41,7 +41,7 @@ not_held (key ∷ names) name free some =
     let parts = or_parts _ _ free in
     or_from _ _ (another_key key name parts.0 some) (not_held names name parts.1 some)
 
--- a map whose names hold no star has nothing at a name with one
+-- a map whose names contain no star has nothing at a name with one
 pub nothing_starred : (m : BTreeMap (String Global) (String Global)) (name : List ℕ) → list_any has_star (names_in m) ≡ false → has_star name ≡ true → text_at m name ≡ None
 nothing_starred m name free some = ap (option_map string_bytes) (unnamed name m (not_held (names_in m) name free some))
 

@@ -1,4 +1,4 @@
--- What the readers of extended values hold; private to them.
+-- The state of the functions that read extended values; private to them.
 use Rattle.std.specs.Prelude.{◌≡◌, ℕ, true, Bool, not, ◌&&◌, ◌==◌, List, [], ◌∷◌, map, slice_index_or, Option, Some, None, option_map, string_bytes, if◌then◌else◌}
 use Rattle.std.specs.List.{flat_map}
 use Rattle.std.specs.Option.{is_some}
@@ -10,19 +10,19 @@ use Rattle.mailparse.specs.declared.parameters.extended_values.Reading.{Reading}
 use Rattle.mailparse.specs.declared.parameters.extended_values.names.ExtendedName.{ExtendedName}
 use Rattle.percent_encoding.specs.Percent.{percent_decode}
 
--- what stands at a name whose extended value has these bytes
+-- the entry of a name whose extended value has these bytes
 abbrev pub extended_section : List ℕ → (List ℕ → List ℕ) → List ℕ → Section
 extended_section name reading bytes = if is_some (numbered name) then octets reading bytes else text (reading bytes)
 
--- an extended name, by its bytes: the name, its extended value and how the charset that this names is read
+-- an extended name, by its bytes: the name, its extended value and the reading of the charset that this names
 abbrev pub Found : Type 0
 Found = List ℕ × List ℕ × Option (List ℕ → List ℕ)
 
--- an extended name of the code, by its bytes and by how its charset reads
+-- an extended name of the code, as the definitions have it
 abbrev pub extended_view : {C : Type 0} → (C → List ℕ → List ℕ) → ExtendedName C → Found
 extended_view reads n = (n.name.now, n.value.now, option_map reads n.charset)
 
--- a key less the star that it ends in
+-- a key without the star at its end
 abbrev pub star_taken : List ℕ → Option (List ℕ)
 star_taken key = if is_starred key then Some (name_under key) else None
 
@@ -43,7 +43,7 @@ module _ (known : Charsets) where
 abbrev pub names_of : {C : Type 0} → List (ExtendedName C) → List (List ℕ)
 names_of extended = map (λ n. n.name.now) extended
 
--- the name at a place among those that were found
+-- the name at an index of a list
 abbrev pub found_by_place : List Found → ℕ → Found
 found_by_place found place = slice_index_or found place ([], [], None)
 
@@ -51,7 +51,7 @@ found_by_place found place = slice_index_or found place ([], [], None)
 abbrev pub Read : Type 0
 Read = List ℕ × (List ℕ → List ℕ) × Bool
 
--- a reading of the code, by its bytes and by how its charset reads
+-- a reading of the code, as the definitions have it
 abbrev pub reading_view : {C : Type 0} → (C → List ℕ → List ℕ) → Reading C → Read
 reading_view reads r = (string_bytes r.name, reads r.charset, r.is_own_source)
 
@@ -59,15 +59,15 @@ reading_view reads r = (string_bytes r.name, reads r.charset, r.is_own_source)
 abbrev pub names_read : {C : Type 0} → List (Reading C) → List (List ℕ)
 names_read readings = map (λ r. string_bytes r.name) readings
 
--- what a value gives that is read so
+-- the entry of a value that is read this way
 abbrev pub read_section : Read → List ℕ → Section
 read_section r value = extended_section r.0 r.1 (percent_decode (if r.2 then text_in value else value))
 
--- how the value of the name at a place is read, where the one at another is its charset source
+-- how the value of the name at an index is read if the name at another index is its charset source
 abbrev pub reading_by : List Found → ℕ → ℕ → Option Read
 reading_by found place source = option_map (λ reading. ((found_by_place found place).0, reading, source == place)) (found_by_place found source).2
 
--- the name has an extended value, and what stands at it is what this gives, read so
+-- the name has an extended value, and its entry is that of the value, read this way
 pub record IsReading (known : Charsets) (keys : Texts) (r : Read) : Type 0 where
   pub valued : is_some (keys (starred r.0)) ≡ true
   pub gives : extended_at known keys r.0 ≡ Some (read_section r (extended_value keys r.0))

@@ -7,6 +7,6 @@ use Rattle.std.specs.Str.{bytes_eq}
 abbrev pub holds_name : List (List ℕ) → List ℕ → Bool
 holds_name names q = list_any (λ name. bytes_eq name q) names
 
--- what stands at a name: what one map says of the names so far, and another of all others
+-- the entry of a name: in one map for the names so far, and in another for all others
 abbrev pub filled : {A : Type 0} → (List ℕ → Option A) → (List ℕ → Option A) → List (List ℕ) → List ℕ → Option A
 filled f g names q = if holds_name names q then f q else g q

@@ -1,4 +1,4 @@
--- The state of a byte in the code, the segments of what is left of a text, and its bytes before all quotes and semicolons.
+-- The state of a byte in the code, the segments of the rest of a text, and the bytes before all quotes and semicolons.
 use Rattle.std.specs.Prelude.{ℕ, suc, ◌||◌, ◌==◌, List, [], ◌∷◌, Option, Some, None, if◌then◌else◌}
 use Rattle.std.specs.Borrow.{Bor}
 use Rattle.mail_codec.specs.Ascii.{quote, semicolon}
@@ -12,12 +12,12 @@ quote_state code.Outside = outside
 quote_state code.Quoted = quoted
 quote_state code.Escaped = escaped
 
--- the segments after a semicolon, and none where there is no semicolon
+-- the segments after a semicolon; none if there is no semicolon
 abbrev pub segments_of_rest : Option (Bor (List ℕ)) → List (List ℕ)
 segments_of_rest None = []
 segments_of_rest (Some rest) = segments rest.now
 
--- how many bytes at the front are neither a quote nor a semicolon
+-- the number of leading bytes that are neither a quote nor a semicolon
 abbrev pub plain_len : List ℕ → ℕ
 plain_len [] = 0
 plain_len (b ∷ bytes) = if b == semicolon || b == quote then 0 else suc (plain_len bytes)
